@@ -1,0 +1,75 @@
+-- Laws of the cut.
+use Rattle.std.proofs.Common.{◌≡◌, ◌≢◌, ℕ, ◌+◌, ◌<◌, ◌≤◌, List, [], ◌∷◌, ◌++◌, length, refl, sym, ap, subst, ◌∙◌, append_assoc, cond, eqb, ltb, Bool, true, false, Option, Some, None, ◌⊎◌, inl, inr, arith}
+use Rattle.std.proofs.lemmas.List.{append-nil}
+use Rattle.std.proofs.lemmas.Bool.{cases_Bool, eqb-true}
+use Rattle.ov_specs.specs.Balance.{is_space, is_balanced}
+use Rattle.ov_specs.specs.Cut.{Cut, Damage, Stray, TooLong, Next, between, whole, damaged, cut_from, goes_on, next, next_between, next_within, with_message, with_messages, follows, and_then, cut, max_message}
+use Rattle.ov_specs.specs.Cut as cuts
+
+message_follows : (message : List ℕ) (messages : List (List ℕ)) (rest : List ℕ) (d : Option Damage) (go : List ℕ → Cut) → with_message message (follows messages rest d go) ≡ follows (message ∷ messages) rest d go
+message_follows message messages rest None go = refl
+message_follows message messages rest (Some d) go = refl
+
+append_step : (most at : ℕ) (s t : List ℕ) (end : ℕ) → (at + 1) + length s ≡ end
+    → ((b : List ℕ) → cut_from most (at + 1) b (s ++ t) ≡ and_then (cut_from most (at + 1) b s) (λ rest. cut_from most (at + 1 + length s) rest t))
+    → (n : Next) → goes_on n (λ b. cut_from most (at + 1) b (s ++ t)) ≡ and_then (goes_on n (λ b. cut_from most (at + 1) b s)) (λ rest. cut_from most end rest t)
+append_step most at s t end e again between = again [] ∙ ap (λ n. and_then (cut_from most (at + 1) [] s) (λ rest. cut_from most n rest t)) e
+append_step most at s t end e again (cuts.more b) = again b ∙ ap (λ n. and_then (cut_from most (at + 1) b s) (λ rest. cut_from most n rest t)) e
+append_step most at s t end e again (whole message) =
+    let c = cut_from most (at + 1) [] s in
+    ap (with_message message) (again [] ∙ ap (λ n. and_then c (λ rest. cut_from most n rest t)) e) ∙ message_follows message c.messages c.rest c.damage _
+append_step most at s t end e again (damaged d) = refl
+
+pub cut_append : (most at : ℕ) (begun s t : List ℕ) → cut_from most at begun (s ++ t) ≡ and_then (cut_from most at begun s) (λ rest. cut_from most (at + length s) rest t)
+cut_append most at begun [] t = let e : at ≡ at + 0 = omega arith in ap (λ n. cut_from most n begun t) e
+cut_append most at begun (x ∷ s) t = append_step most at s t (at + length (x ∷ s)) (omega arith) (λ b. cut_append most (at + 1) b s t) (next most at begun x)
+
+-- what is read anew as a rest
+abbrev pub IsRest : ℕ → List ℕ → Type 0
+IsRest most rest = (at : ℕ) → cut_from most at [] rest ≡ record { messages = []; rest = rest; damage = None }
+
+-- a rest that is kept is looked at again from its front
+pub restart : (most at : ℕ) (rest t : List ℕ) → IsRest most rest → cut_from most at [] (rest ++ t) ≡ cut_from most (at + length rest) rest t
+restart most at rest t h = cut_append most at [] rest t ∙ ap (λ c. and_then c (λ r. cut_from most (at + length rest) r t)) (h at)
+
+one_more : (most : ℕ) (begun : List ℕ) (x : ℕ) → IsRest most begun → ((at : ℕ) → next most at begun x ≡ cuts.more (begun ++ x ∷ [])) → IsRest most (begun ++ x ∷ [])
+one_more most begun x h e at = restart most at begun (x ∷ []) h ∙ ap (λ n. goes_on n (λ b. cut_from most (at + length begun + 1) b [])) (e (at + length begun))
+
+-- what a byte that does not end a message does
+pub data Tells (most : ℕ) (begun : List ℕ) (x : ℕ) : Next → Type 0 where
+  at_gap : begun ≡ [] → Tells most begun x between
+  at_more : ((at : ℕ) → next most at begun x ≡ cuts.more (begun ++ x ∷ [])) → Tells most begun x (cuts.more (begun ++ x ∷ []))
+  at_whole : (message : List ℕ) → Tells most begun x (whole message)
+  at_damage : (d : Damage) → Tells most begun x (damaged d)
+
+tells_between : (most at x : ℕ) (b c : Bool) → is_space x ≡ b → eqb x 123 ≡ c → Tells most [] x (next_between at x)
+tells_between most at x true c p q = rw p (at_gap refl)
+tells_between most at x false true p q = let e : x ≡ 123 = eqb-true x 123 q in
+    let same : (n : ℕ) → next_between n x ≡ cuts.more ([] ++ x ∷ []) = λ n. rw (p, q) (ap (λ y. cuts.more (y ∷ [])) (sym e)) in
+    subst (Tells most [] x) (sym (same at)) (at_more same)
+tells_between most at x false false p q = rw (p, q) (at_damage _)
+
+tells_within : (most x : ℕ) (b : ℕ) (begun : List ℕ) (long balanced : Bool) → ltb most (length (b ∷ begun ++ x ∷ [])) ≡ long → is_balanced (b ∷ begun ++ x ∷ []) ≡ balanced → Tells most (b ∷ begun) x (next_within most (b ∷ begun ++ x ∷ []))
+tells_within most x b begun true balanced p q = rw p (at_damage _)
+tells_within most x b begun false true p q = rw (p, q) (at_whole _)
+tells_within most x b begun false false p q =
+    let same : next_within most (b ∷ begun ++ x ∷ []) ≡ cuts.more (b ∷ begun ++ x ∷ []) = rw (p, q) refl in
+    subst (Tells most (b ∷ begun) x) (sym same) (at_more (λ at. same))
+
+tells : (most at : ℕ) (begun : List ℕ) (x : ℕ) → Tells most begun x (next most at begun x)
+tells most at [] x = tells_between most at x (is_space x) (eqb x 123) refl refl
+tells most at (b ∷ begun) x = tells_within most x b begun (ltb most (length (b ∷ begun ++ x ∷ []))) (is_balanced (b ∷ begun ++ x ∷ [])) refl refl
+
+again_step : (most at : ℕ) (begun : List ℕ) (x : ℕ) (s : List ℕ) → IsRest most begun
+    → ((cut_from most (at + 1) [] s).damage ≡ None → IsRest most (cut_from most (at + 1) [] s).rest)
+    → (((n : ℕ) → next most n begun x ≡ cuts.more (begun ++ x ∷ [])) → (cut_from most (at + 1) (begun ++ x ∷ []) s).damage ≡ None → IsRest most (cut_from most (at + 1) (begun ++ x ∷ []) s).rest)
+    → (n : Next) → Tells most begun x n → (goes_on n (λ b. cut_from most (at + 1) b s)).damage ≡ None → IsRest most (goes_on n (λ b. cut_from most (at + 1) b s)).rest
+again_step most at begun x s h anew on between t d = anew d
+again_step most at begun x s h anew on (cuts.more b) (at_more same) d = on same d
+again_step most at begun x s h anew on (whole message) t d = anew d
+again_step most at begun x s h anew on (damaged e) t d = cc
+
+-- the rest of a cut is read anew as such
+pub rest_again : (most at : ℕ) (begun s : List ℕ) → IsRest most begun → (cut_from most at begun s).damage ≡ None → IsRest most (cut_from most at begun s).rest
+rest_again most at begun [] h d = h
+rest_again most at begun (x ∷ s) h d = again_step most at begun x s h (rest_again most (at + 1) [] s (λ n. refl)) (λ same. rest_again most (at + 1) (begun ++ x ∷ []) s (one_more most begun x h same)) (next most at begun x) (tells most at begun x) d

@@ -1,0 +1,4 @@
+mod Rows
+pub mod Cuts
+pub mod Trees
+pub mod Expanding

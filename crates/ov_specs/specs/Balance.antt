@@ -1,0 +1,43 @@
+-- Which texts are messages on a byte stream: JSON objects, told by their braces alone (own; RFC 7047, 4 sends JSON-RPC objects without framing).
+use Rattle.std.specs.Prelude.{◌≡◌, ℕ, ◌<◌, ◌≤◌, ◌==◌, ◌||◌, List, [], ◌∷◌, length, take, Bool, true, false, if◌then◌else◌, count_by, Option, Some, None, option_map, slice_get}
+
+-- white space: space, tab, line feed, carriage return (RFC 8259, 2)
+abbrev pub is_space : ℕ → Bool
+is_space x = (x == 32) || ((x == 9) || ((x == 10) || (x == 13)))
+
+-- The text with its literals taken out, found from left to right; None where a quote is left over. A literal is a quote,
+-- then units that are one byte other than a quote and a backslash, or a backslash and one byte, then a quote (RFC 8259, 7).
+abbrev mutual
+  pub bare : List ℕ → Option (List ℕ)
+  bare [] = Some []
+  bare (x ∷ text) = if x == 34 then behind_quote text else option_map (λ rest. x ∷ rest) (bare text)
+
+  -- inside a literal: up to its quote; a backslash takes the byte after it along
+  pub behind_quote : List ℕ → Option (List ℕ)
+  behind_quote [] = None
+  behind_quote (x ∷ text) = if x == 34 then bare text else (if x == 92 then behind_backslash text else behind_quote text)
+
+  -- behind a backslash inside a literal
+  pub behind_backslash : List ℕ → Option (List ℕ)
+  behind_backslash [] = None
+  behind_backslash (x ∷ text) = behind_quote text
+
+-- as many opening braces as closing ones; a text with a quote left over has no count (own)
+abbrev pub has_equal_braces : Option (List ℕ) → Bool
+has_equal_braces None = false
+has_equal_braces (Some text) = count_by (λ x. x == 123) text == count_by (λ x. x == 125) text
+
+-- as many opening braces as closing ones, those inside literals aside (own)
+abbrev pub is_balanced : List ℕ → Bool
+is_balanced text = has_equal_braces (bare text)
+
+-- a message begins with a brace, and is balanced as no shorter front of it is, the empty one aside (own)
+pub record IsMessage (text : List ℕ) : Type 0 where
+  pub begins : slice_get text 0 ≡ Some 123
+  pub balanced : is_balanced text ≡ true
+  pub shortest : (n : ℕ) → 0 < n → n < length text → is_balanced (take n text) ≡ false
+
+-- a message that has begun and has not ended (own)
+pub record IsBegun (text : List ℕ) : Type 0 where
+  pub begins : slice_get text 0 ≡ Some 123
+  pub unclosed : (n : ℕ) → 0 < n → n ≤ length text → is_balanced (take n text) ≡ false

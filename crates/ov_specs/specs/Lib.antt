@@ -1,0 +1,10 @@
+pub mod Balance
+pub mod Cut
+pub mod Tree
+pub mod TreeCode
+pub mod Message
+pub mod Frame
+pub mod Method
+pub mod Machine
+pub mod History
+pub mod Streams
