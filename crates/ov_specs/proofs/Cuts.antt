@@ -1,7 +1,6 @@
 -- Laws of the cut.
-use Rattle.std.proofs.Common.{◌≡◌, ◌≢◌, ℕ, ◌+◌, ◌<◌, ◌≤◌, List, [], ◌∷◌, ◌++◌, length, refl, sym, ap, subst, ◌∙◌, append_assoc, cond, eqb, ltb, Bool, true, false, Option, Some, None, ◌⊎◌, inl, inr, arith}
-use Rattle.std.proofs.lemmas.List.{append-nil}
-use Rattle.std.proofs.lemmas.Bool.{cases_Bool, eqb-true}
+use Rattle.std.proofs.Common.{◌≡◌, ℕ, ◌+◌, List, [], ◌∷◌, ◌++◌, length, refl, sym, ap, subst, ◌∙◌, eqb, ltb, Bool, true, false, Option, Some, None, arith}
+use Rattle.std.proofs.lemmas.Bool.{eqb-true}
 use Rattle.ov_specs.specs.Balance.{is_space, is_balanced}
 use Rattle.ov_specs.specs.Cut.{Cut, Damage, Stray, TooLong, Next, between, whole, damaged, cut_from, goes_on, next, next_between, next_within, with_message, with_messages, follows, and_then, cut, max_message}
 use Rattle.ov_specs.specs.Cut as cuts

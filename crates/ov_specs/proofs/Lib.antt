@@ -1,4 +1,8 @@
-mod Rows
+mod CutRows
+mod MessageRows
+mod MachineRows
 pub mod Cuts
 pub mod Trees
 pub mod Expanding
+pub mod CutLaw
+pub mod Turns

@@ -1,5 +1,5 @@
 -- How a byte stream is cut into messages: as a relation for the reader, and as a program (own; RFC 7047, 4 sends JSON-RPC objects without framing).
-use Rattle.std.specs.Prelude.{◌≡◌, ◌≢◌, ℕ, ◌+◌, ◌<◌, ◌≤◌, ◌==◌, ◌⊎◌, ◌++◌, List, [], ◌∷◌, length, take, Bool, true, false, if◌then◌else◌, nat_lt, All, Option, Some, None}
+use Rattle.std.specs.Prelude.{◌≡◌, ◌≢◌, ℕ, ◌+◌, ◌<◌, ◌≤◌, ◌==◌, ◌⊎◌, ◌++◌, List, [], ◌∷◌, length, take, true, false, if◌then◌else◌, nat_lt, All, Option, Some, None}
 use Rattle.ov_specs.specs.Balance.{is_space, is_balanced, IsMessage, IsBegun}
 
 -- the longest message, in bytes (own)

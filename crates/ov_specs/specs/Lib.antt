@@ -7,4 +7,5 @@ pub mod Frame
 pub mod Method
 pub mod Machine
 pub mod History
+pub mod Lines
 pub mod Streams

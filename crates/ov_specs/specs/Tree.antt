@@ -1,6 +1,6 @@
 -- Which JSON trees have reals (own).
-use Rattle.std.specs.Prelude.{◌||◌, Bool, true, false, is_none}
-use Rattle.serde_json.specs.Data.{Num, unsigned, negative, float, Data, null, boolean, number, string, array, object, Items, no_items, item, Members, no_members, member}
+use Rattle.std.specs.Prelude.{◌||◌, Bool, false, is_none}
+use Rattle.serde_json.specs.Data.{Num, Data, null, boolean, number, string, array, object, Items, no_items, item, Members, no_members, member}
 use Rattle.serde_json.specs.Find.{as_i64}
 
 -- a number that is no integer from -2^63 to 2^63-1 (own; RFC 7047, 3.1 has reals, which this server leaves out)
