@@ -1,0 +1,72 @@
+ghost use Rattle.std.specs.Prelude.{◌≡◌, IfOk, false};
+ghost use Rattle.serde_json.specs.Written.{compact_text};
+ghost use Rattle.serde_json.specs.View.{view};
+ghost use Rattle.ov_specs.specs.Tree.{has_real};
+
+use crate::bytes::Bytes;
+use serde_json::Value;
+use std::alloc::{AllocError, Global};
+use std::marker::Model;
+
+/// A JSON tree without reals.
+#[derive(Drop)]
+pub struct Tree {
+    value: Value,
+}
+
+impl Model for Tree {
+    ghost use Rattle.std.specs.Prelude.{◌≡◌, false};
+    ghost use Rattle.serde_json.specs.Data.{Data};
+    ghost use Rattle.serde_json.specs.View.{view as data_of};
+    ghost use Rattle.ov_specs.specs.Tree.{has_real};
+    ghost use Rattle.ov_specs.specs.TreeCode.{tree_code};
+
+    ghost Value = { Data };
+
+    ghost coded = { tree_code };
+
+    ghost view = { λ t. data_of t.value };
+
+    ghost invariant = { λ t. has_real (data_of t.value) ≡ false };
+}
+
+impl Tree {
+    /// The same tree, not copied. Ask `has_real` first.
+    pub fn new(value: Value) -> Tree
+        requires { has_real (view value) ≡ false }
+        ensures { result ≡ view value }
+    {
+        Tree { value }
+    }
+
+    /// The text that is sent: compact, with the members of each object in ascending order of their names' bytes.
+    pub fn to_bytes(&self, alloc: Global) -> Result<Bytes, AllocError>
+        ensures { IfOk result (λ b. b ≡ compact_text self.now) }
+    {
+        Ok(Bytes::from_vec(self.value.to_vec(alloc)?))
+    }
+
+    /// A copy of the whole tree.
+    pub fn copy(&self) -> Result<Tree, AllocError>
+        ensures { IfOk result (λ t. t ≡ self.now) }
+    {
+        Ok(Tree::new(self.value.clone()?))
+    }
+
+    /// The same tree, lent.
+    pub fn as_value(&self) -> &Value
+        ensures same { view result.now ≡ self.now }
+        ensures plain { has_real self.now ≡ false }
+    {
+        &self.value
+    }
+
+    /// The same tree, not copied.
+    pub fn into_value(self) -> Value
+        ensures same { view result ≡ self }
+        ensures plain { has_real (view result) ≡ false }
+    {
+        let Tree { value } = self;
+        value
+    }
+}

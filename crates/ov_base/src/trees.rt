@@ -1,0 +1,68 @@
+ghost use Rattle.std.specs.Prelude.{◌≡◌, IfOk, false};
+ghost use Rattle.serde_json.specs.Data.{array};
+ghost use Rattle.serde_json.specs.View.{items_view};
+ghost use Rattle.ov_specs.specs.Tree.{items_have_real};
+
+use crate::tree::Tree;
+use serde_json::Value;
+use std::alloc::{AllocError, Global};
+use std::marker::Model;
+
+/// JSON trees without reals, in order.
+#[derive(Drop)]
+pub struct Trees {
+    items: Vec<Value>,
+}
+
+impl Model for Trees {
+    ghost use Rattle.std.specs.Prelude.{◌≡◌, false};
+    ghost use Rattle.serde_json.specs.Data.{Items};
+    ghost use Rattle.serde_json.specs.View.{items_view};
+    ghost use Rattle.ov_specs.specs.Tree.{items_have_real};
+    ghost use Rattle.ov_specs.specs.TreeCode.{items_code};
+
+    ghost Value = { Items };
+
+    ghost coded = { items_code };
+
+    ghost view = { λ t. items_view t.items.items };
+
+    ghost invariant = { λ t. items_have_real (items_view t.items.items) ≡ false };
+}
+
+impl Trees {
+    /// The same trees, not copied. Ask `has_real` of each first.
+    pub fn new(items: Vec<Value>) -> Trees
+        requires { items_have_real (items_view items.items) ≡ false }
+        ensures { result ≡ items_view items.items }
+    {
+        Trees { items }
+    }
+
+    /// The trees, to be read.
+    pub fn as_slice(&self) -> &[Value]
+        ensures same { items_view result.now ≡ self.now }
+        ensures plain { items_have_real self.now ≡ false }
+    {
+        self.items.as_slice()
+    }
+
+    /// The array of these, copied.
+    pub fn copy_as_tree(&self, alloc: Global) -> Result<Tree, AllocError>
+        ensures { IfOk result (λ t. t ≡ array self.now) }
+    {
+        let mut items = Vec::new(alloc);
+        for item in &self.items {
+            items.push(item.clone()?)?;
+        }
+        Ok(Tree::new(Value::Array(items)))
+    }
+
+    /// The array of these, not copied.
+    pub fn into_tree(self) -> Tree
+        ensures { result ≡ array self }
+    {
+        let Trees { items } = self;
+        Tree::new(Value::Array(items))
+    }
+}
