@@ -1,0 +1,301 @@
+-- What is kept of each session while events come: its requests are what its stream asks for.
+use Rattle.std.proofs.Common.{◌≡◌, ◌≢◌, ℕ, ◌+◌, ◌<◌, ◌≤◌, List, [], ◌∷◌, ◌++◌, refl, sym, ap, subst, ◌∙◌, append_assoc, cond, eqb, Bool, true, false, Option, Some, None, inl, inr, arith}
+use Rattle.std.specs.Prelude.{◌||◌, MatchBool}
+use Rattle.std.proofs.lemmas.List.{append-nil}
+use Rattle.std.proofs.lemmas.Bool.{cases_Bool, cases_eq, cases_lt, eq-eqb, ne_eqb, false≢true, MatchBool-at_true, MatchBool-at_false}
+use Rattle.ov_specs.specs.Cut.{cut}
+use Rattle.ov_specs.specs.Message.{Message, asked}
+use Rattle.ov_specs.specs.Machine.{State, Entry, Open, Close, Cause, InputEnded, Damaged, Memory, Stepped, is_open, opening}
+use Rattle.ov_specs.specs.History.{requests, closed_by, or_else}
+use Rattle.ov_specs.specs.Streams.{StreamEvent, Opens, Feed, Finish, Passes, Streams, no_streams, fed, Enters, Feeds, Expands, ExpandsTimed}
+use Rattle.ov_specs.proofs.Turns.{Turn, or_else_none, requests_more, closed_by_more, turn_open, turn_tick, turn_close, turn_close_other, turn_take, turn_take_other}
+use Rattle.ov_laws.specs.Requests.{AreAskedFor}
+
+-- Of a session, by whether it is open, the serial of the next one, its stream, what was taken of it and why it was closed: one
+-- that is still to come has nothing, an open one has all that its stream asks for, a closed one keeps the law.
+pub record Keeps (n : ℕ) (stream : List ℕ) (open' : Bool) (next : ℕ) (taken : List Message) (cause : Option Cause) : Type 0 where
+  pub to_come : next ≤ n → (open' ≡ false) × (stream ≡ []) × (taken ≡ []) × (cause ≡ None)
+  pub going : open' ≡ true → (cause ≡ None) × (taken ≡ (asked stream).messages) × ((asked stream).damaged ≡ false)
+  pub gone : open' ≡ false → AreAskedFor cause taken (asked stream).messages
+
+-- the same of a session in a state, after a history
+abbrev pub KeepsAt : ℕ → List ℕ → State → List Entry → Type 0
+KeepsAt n stream s h = Keeps n stream (is_open s n) s.next (requests h n) (closed_by h n)
+
+-- ---- one entry
+
+-- values that are the same keep the same
+keeps_same : (n : ℕ) (stream : List ℕ) {a b : Bool} {i j : ℕ} {x y : List Message} {c d : Option Cause} → a ≡ b → i ≡ j → x ≡ y → c ≡ d → Keeps n stream a i x c → Keeps n stream b j y d
+keeps_same n stream {a} {b} {i} {j} {x} {y} {c} {d} p q r t k =
+    subst (λ (v : Option Cause). Keeps n stream b j y v) t
+    (subst (λ (v : List Message). Keeps n stream b j v c) r
+    (subst (λ (v : ℕ). Keeps n stream b v x c) q
+    (subst (λ (v : Bool). Keeps n stream v i x c) p k)))
+
+-- what one entry makes of a session
+turned : (n : ℕ) (stream : List ℕ) (h : List Entry) (e : Entry) (t : State) (o : Bool) (next : ℕ) (taken : List Message) (cause : Option Cause) → Turn n e t o next taken cause
+    → Keeps n stream o next (requests h n ++ taken) (or_else (closed_by h n) cause) → KeepsAt n stream t (h ++ e ∷ [])
+turned n stream h e t o next taken cause turn k =
+    let r : requests (h ++ e ∷ []) n ≡ requests h n ++ taken = requests_more h e n ∙ ap (λ l. requests h n ++ l) turn.taken_is in
+    let c : closed_by (h ++ e ∷ []) n ≡ or_else (closed_by h n) cause = closed_by_more h e n ∙ ap (or_else (closed_by h n)) turn.cause_is in
+    keeps_same n stream (sym turn.open_is) (sym turn.next_is) (sym r) (sym c) k
+
+-- an entry that is nothing to the session
+aside : (n : ℕ) (stream : List ℕ) (s : State) (h : List Entry) (e : Entry) (t : State) → Turn n e t (is_open s n) s.next [] None → KeepsAt n stream s h → KeepsAt n stream t (h ++ e ∷ [])
+aside n stream s h e t turn k = turned n stream h e t (is_open s n) s.next [] None turn (keeps_same n stream refl refl (sym (append-nil (requests h n))) (sym (or_else_none (closed_by h n))) k)
+
+-- a session that goes on is not one to come
+opened_before : (n : ℕ) (stream : List ℕ) (o : Bool) (next : ℕ) (taken : List Message) (cause : Option Cause) → Keeps n stream o next taken cause → o ≡ true → n < next
+opened_before n stream o next taken cause k there = elim (cases_lt n next) [
+  | inl low ↦ low
+  | inr high ↦ absurd (false≢true (sym (k.to_come high).0 ∙ there))
+]
+
+-- a session that is closed by this entry
+shut : (n : ℕ) (stream : List ℕ) (s : State) (h : List Entry) (e : Entry) (t : State) (taken : List Message) (cause : Cause) → Turn n e t false s.next taken (Some cause) → n < s.next → closed_by h n ≡ None
+    → AreAskedFor (Some cause) (requests h n ++ taken) (asked stream).messages → KeepsAt n stream t (h ++ e ∷ [])
+shut n stream s h e t taken cause turn low none law =
+    let c : Some cause ≡ or_else (closed_by h n) (Some cause) = ap (λ o. or_else o (Some cause)) (sym none) in
+    turned n stream h e t false s.next taken (Some cause) turn (keeps_same n stream refl refl refl c (record {
+      to_come = λ high. absurd (omega arith);
+      going = λ there. absurd (false≢true there);
+      gone = λ _. law;
+    }))
+
+-- ---- a piece of the session's own stream
+
+module _ (at n : ℕ) (stream : List ℕ) where
+  -- a piece brings these messages and no more
+  all_taken : (s : State) (h : List Entry) → is_open s n ≡ true → n < s.next → closed_by h n ≡ None → requests h n ++ [] ≡ (asked stream).messages → (asked stream).damaged ≡ false → KeepsAt n stream s h
+  all_taken s h there low none is whole = record {
+    to_come = λ high. absurd (omega arith);
+    going = λ _. (none, sym (append-nil (requests h n)) ∙ is, whole);
+    gone = λ away. absurd (false≢true (sym away ∙ there));
+  }
+
+  -- want of memory closes it, with these messages still to be taken
+  by_memory : (s : State) (h : List Entry) (messages : List Message) (e : Entry) (t : Stepped) → n < s.next → closed_by h n ≡ None → requests h n ++ messages ≡ (asked stream).messages → Enters at s (Close n Memory) e t → KeepsAt n stream t.state (h ++ e ∷ [])
+  by_memory s h messages e t low none is enters =
+      shut n stream s h e t.state [] Memory (turn_close n s e t enters.step Memory enters.event) low none (messages, ap (λ l. l ++ messages) (append-nil (requests h n)) ∙ is)
+
+  -- damage closes it, behind the last message
+  by_damage : (s : State) (h : List Entry) (e : Entry) (t : Stepped) → n < s.next → closed_by h n ≡ None → requests h n ++ [] ≡ (asked stream).messages → Enters at s (Close n Damaged) e t → KeepsAt n stream t.state (h ++ e ∷ [])
+  by_damage s h e t low none is enters = shut n stream s h e t.state [] Damaged (turn_close n s e t enters.step Damaged enters.event) low none is
+
+  -- its own entries keep it
+  feeds_own : (s : State) (h : List Entry) (messages : List Message) (damaged : Bool) (entries : List Entry) (new : State) → is_open s n ≡ true → n < s.next → closed_by h n ≡ None
+      → requests h n ++ messages ≡ (asked stream).messages → (asked stream).damaged ≡ damaged → Feeds at s n messages damaged entries new → KeepsAt n stream new (h ++ entries)
+  feeds_own s h [] false [] new there low none is d same = subst (λ (v : State). KeepsAt n stream v (h ++ [])) (sym same) (subst (KeepsAt n stream s) (sym (append-nil h)) (all_taken s h there low none is d))
+  feeds_own s h [] true [] new there low none is d f = absurd f
+  feeds_own s h [] false (e ∷ []) new there low none is d (t, inl enters, same) = subst (λ (v : State). KeepsAt n stream v (h ++ e ∷ [])) (sym same) (by_memory s h [] e t low none is enters)
+  feeds_own s h [] false (e ∷ []) new there low none is d (t, inr (bad, enters), same) = absurd (false≢true bad)
+  feeds_own s h [] true (e ∷ []) new there low none is d (t, inl enters, same) = subst (λ (v : State). KeepsAt n stream v (h ++ e ∷ [])) (sym same) (by_memory s h [] e t low none is enters)
+  feeds_own s h [] true (e ∷ []) new there low none is d (t, inr (bad, enters), same) = subst (λ (v : State). KeepsAt n stream v (h ++ e ∷ [])) (sym same) (by_damage s h e t low none is enters)
+  feeds_own s h [] false (e ∷ f ∷ entries) new there low none is d k = absurd k
+  feeds_own s h [] true (e ∷ f ∷ entries) new there low none is d k = absurd k
+  feeds_own s h (message ∷ messages) damaged [] new there low none is d k = absurd k
+  feeds_own s h (message ∷ messages) damaged (e ∷ entries) new there low none is d (t, inl (enters, no_more, same)) =
+      subst (λ (v : State). KeepsAt n stream v (h ++ e ∷ entries)) (sym same) (subst (λ (l : List Entry). KeepsAt n stream t.state (h ++ e ∷ l)) (sym no_more) (by_memory s h (message ∷ messages) e t low none is enters))
+  feeds_own s h (message ∷ messages) damaged (e ∷ entries) new there low none is d (t, inr (enters, on)) =
+      let is' : (requests h n ++ message ∷ []) ++ messages ≡ (asked stream).messages = append_assoc (requests h n) (message ∷ []) messages ∙ is in
+      elim (turn_take n s e t enters.step message enters.event) [
+        | inl turn ↦
+            let there' : is_open t.state n ≡ true = turn.open_is ∙ there in
+            let on' : Feeds at t.state n messages damaged entries new = MatchBool-at_true (Feeds at t.state n messages damaged entries new) ((entries ≡ []) × (new ≡ t.state)) there' on in
+            let r : requests (h ++ e ∷ []) n ≡ requests h n ++ message ∷ [] = requests_more h e n ∙ ap (λ l. requests h n ++ l) turn.taken_is in
+            let c : closed_by (h ++ e ∷ []) n ≡ None = closed_by_more h e n ∙ (ap (or_else (closed_by h n)) turn.cause_is ∙ (or_else_none (closed_by h n) ∙ none)) in
+            let low' : n < t.state.next = omega (arith, turn.next_is) in
+            subst (KeepsAt n stream new) (append_assoc h (e ∷ []) entries) (feeds_own t.state (h ++ e ∷ []) messages damaged entries new there' low' c (ap (λ l. l ++ messages) r ∙ is') d on')
+        | inr turn ↦
+            let last : (entries ≡ []) × (new ≡ t.state) = MatchBool-at_false (Feeds at t.state n messages damaged entries new) ((entries ≡ []) × (new ≡ t.state)) turn.open_is on in
+            subst (λ (v : State). KeepsAt n stream v (h ++ e ∷ entries)) (sym last.1) (subst (λ (l : List Entry). KeepsAt n stream t.state (h ++ e ∷ l)) (sym last.0)
+            (shut n stream s h e t.state (message ∷ []) Memory turn low none (messages, is')))
+      ]
+
+-- ---- a piece of another session's stream
+
+module _ (at n : ℕ) (stream : List ℕ) (m : ℕ) (other : m ≢ n) where
+  -- the other session is closed
+  closes_other : (s : State) (h : List Entry) (cause : Cause) (e : Entry) (t : Stepped) → Enters at s (Close m cause) e t → KeepsAt n stream s h → KeepsAt n stream t.state (h ++ e ∷ [])
+  closes_other s h cause e t enters k = aside n stream s h e t.state (turn_close_other n s e t enters.step m cause other enters.event) k
+
+  -- its entries keep this one
+  feeds_other : (s : State) (h : List Entry) (messages : List Message) (damaged : Bool) (entries : List Entry) (new : State) → KeepsAt n stream s h → Feeds at s m messages damaged entries new → KeepsAt n stream new (h ++ entries)
+  feeds_other s h [] false [] new k same = subst (λ (v : State). KeepsAt n stream v (h ++ [])) (sym same) (subst (KeepsAt n stream s) (sym (append-nil h)) k)
+  feeds_other s h [] true [] new k f = absurd f
+  feeds_other s h [] false (e ∷ []) new k (t, inl enters, same) = subst (λ (v : State). KeepsAt n stream v (h ++ e ∷ [])) (sym same) (closes_other s h Memory e t enters k)
+  feeds_other s h [] false (e ∷ []) new k (t, inr (bad, enters), same) = absurd (false≢true bad)
+  feeds_other s h [] true (e ∷ []) new k (t, inl enters, same) = subst (λ (v : State). KeepsAt n stream v (h ++ e ∷ [])) (sym same) (closes_other s h Memory e t enters k)
+  feeds_other s h [] true (e ∷ []) new k (t, inr (bad, enters), same) = subst (λ (v : State). KeepsAt n stream v (h ++ e ∷ [])) (sym same) (closes_other s h Damaged e t enters k)
+  feeds_other s h [] false (e ∷ f ∷ entries) new k x = absurd x
+  feeds_other s h [] true (e ∷ f ∷ entries) new k x = absurd x
+  feeds_other s h (message ∷ messages) damaged [] new k x = absurd x
+  feeds_other s h (message ∷ messages) damaged (e ∷ entries) new k (t, inl (enters, no_more, same)) =
+      subst (λ (v : State). KeepsAt n stream v (h ++ e ∷ entries)) (sym same) (subst (λ (l : List Entry). KeepsAt n stream t.state (h ++ e ∷ l)) (sym no_more) (closes_other s h Memory e t enters k))
+  feeds_other s h (message ∷ messages) damaged (e ∷ entries) new k (t, inr (enters, on)) =
+      let k' : KeepsAt n stream t.state (h ++ e ∷ []) = aside n stream s h e t.state (turn_take_other n s e t enters.step m message other enters.event) k in
+      elim (cases_Bool (is_open t.state m)) [
+        | inl there ↦
+            let on' : Feeds at t.state m messages damaged entries new = MatchBool-at_true (Feeds at t.state m messages damaged entries new) ((entries ≡ []) × (new ≡ t.state)) there on in
+            subst (KeepsAt n stream new) (append_assoc h (e ∷ []) entries) (feeds_other t.state (h ++ e ∷ []) messages damaged entries new k' on')
+        | inr away ↦
+            let last : (entries ≡ []) × (new ≡ t.state) = MatchBool-at_false (Feeds at t.state m messages damaged entries new) ((entries ≡ []) × (new ≡ t.state)) away on in
+            subst (λ (v : State). KeepsAt n stream v (h ++ e ∷ entries)) (sym last.1) (subst (λ (l : List Entry). KeepsAt n stream t.state (h ++ e ∷ l)) (sym last.0) k')
+      ]
+
+-- ---- one stream event
+
+-- nothing comes of the event
+nothing : (n : ℕ) (s : State) (streams : Streams) (h k : List Entry) (new : State) (after : Streams) → (k ≡ []) × (new ≡ s) × (after ≡ streams) → KeepsAt n (streams n) s h → KeepsAt n (after n) new (h ++ k)
+nothing n s streams h k new after (none, state, same) keeps =
+    subst (λ (f : Streams). KeepsAt n (f n) new (h ++ k)) (sym same)
+    (subst (λ (v : State). KeepsAt n (streams n) v (h ++ k)) (sym state)
+    (subst (λ (l : List Entry). KeepsAt n (streams n) s (h ++ l)) (sym none) (subst (KeepsAt n (streams n) s) (sym (append-nil h)) keeps)))
+
+-- one entry comes of the event
+single : (n : ℕ) (streams : Streams) (h k : List Entry) (e : Entry) (t : Stepped) (new : State) (after : Streams) → k ≡ e ∷ [] → new ≡ t.state → after ≡ streams → KeepsAt n (streams n) t.state (h ++ e ∷ []) → KeepsAt n (after n) new (h ++ k)
+single n streams h k e t new after one state same keeps =
+    subst (λ (f : Streams). KeepsAt n (f n) new (h ++ k)) (sym same)
+    (subst (λ (v : State). KeepsAt n (streams n) v (h ++ k)) (sym state)
+    (subst (λ (l : List Entry). KeepsAt n (streams n) t.state (h ++ l)) (sym one) keeps))
+
+-- the empty stream asks for nothing
+pub asked_nothing : (asked [] ≡ record { messages = []; damaged = false })
+unfolding asked cut
+asked_nothing = refl
+
+-- a session that opens has asked for nothing
+opens_own : (n : ℕ) (stream : List ℕ) (s : State) (h : List Entry) (e : Entry) (t : State) → Turn n e t (is_open s n || eqb s.next n) (s.next + 1) [] None → s.next ≡ n → KeepsAt n stream s h → KeepsAt n stream t (h ++ e ∷ [])
+opens_own n stream s h e t turn is k =
+    let (away, none_fed, none_taken, none) = k.to_come (omega arith) in
+    let nothing_asked : asked stream ≡ record { messages = []; damaged = false } = ap asked none_fed ∙ asked_nothing in
+    turned n stream h e t (is_open s n || eqb s.next n) (s.next + 1) [] None turn (record {
+      to_come = λ high. absurd (omega arith);
+      going = λ _. (or_else_none (closed_by h n) ∙ none, append-nil (requests h n) ∙ (none_taken ∙ sym (ap (λ a. a.messages) nothing_asked)), ap (λ a. a.damaged) nothing_asked);
+      gone = λ no_way. absurd (false≢true (sym no_way ∙ (ap (λ b. is_open s n || b) (eq-eqb s.next n is) ∙ ap (λ b. b || true) away)));
+    })
+
+-- another session opens
+opens_other : (n : ℕ) (stream : List ℕ) (s : State) (h : List Entry) (e : Entry) (t : State) → Turn n e t (is_open s n || eqb s.next n) (s.next + 1) [] None → s.next ≢ n → KeepsAt n stream s h → KeepsAt n stream t (h ++ e ∷ [])
+opens_other n stream s h e t turn ne k =
+    let o : is_open s n ≡ (is_open s n || eqb s.next n) = sym (ap (λ b. is_open s n || b) (ne_eqb s.next n ne) ∙ or_false (is_open s n)) in
+    let later : Keeps n stream (is_open s n) (s.next + 1) (requests h n) (closed_by h n) = record { to_come = λ high. k.to_come (omega arith); going = k.going; gone = k.gone } in
+    turned n stream h e t (is_open s n || eqb s.next n) (s.next + 1) [] None turn (keeps_same n stream o refl (sym (append-nil (requests h n))) (sym (or_else_none (closed_by h n))) later)
+  where
+    or_false : (b : Bool) → (b || false) ≡ b
+    or_false true = refl
+    or_false false = refl
+
+-- what comes of an event that is nothing to a state
+abbrev Stays : State → Streams → List Entry → State → Streams → Type 0
+Stays s streams entries new after = (entries ≡ []) × (new ≡ s) × (after ≡ streams)
+
+-- what comes of the end of an open session's bytes
+abbrev Ended : ℕ → State → Streams → ℕ → List Entry → State → Streams → Type 0
+Ended at s streams m entries new after = (e : Entry) × (t : Stepped) × (entries ≡ e ∷ []) × Enters at s (Close m InputEnded) e t × (new ≡ t.state) × (after ≡ streams)
+
+-- what comes of bytes of an open session
+abbrev Pieces : ℕ → State → Streams → ℕ → List ℕ → List Entry → State → Streams → Type 0
+Pieces at s streams m bytes entries new after =
+    (messages : List Message) × ((asked (streams m ++ bytes)).messages ≡ (asked (streams m)).messages ++ messages)
+    × Feeds at s m messages (asked (streams m ++ bytes)).damaged entries new × (after ≡ fed streams m bytes)
+
+module _ (at n : ℕ) (s : State) (streams : Streams) (h k : List Entry) (new : State) (after : Streams) (keeps : KeepsAt n (streams n) s h) where
+  -- a session opens
+  expands_open : (e : Entry) (t : Stepped) → k ≡ e ∷ [] → Enters at s Open e t → new ≡ t.state → after ≡ streams → KeepsAt n (after n) new (h ++ k)
+  expands_open e t one enters state same = single n streams h k e t new after one state same (elim (cases_eq s.next n) [
+    | inl is ↦ opens_own n (streams n) s h e t.state (turn_open n s e t enters.step enters.event) is keeps
+    | inr ne ↦ opens_other n (streams n) s h e t.state (turn_open n s e t enters.step enters.event) ne keeps
+  ])
+
+  -- the bytes of the session end
+  ended_own : is_open s n ≡ true → Ended at s streams n k new after → KeepsAt n (after n) new (h ++ k)
+  ended_own there (e, t, one, enters, state, same) =
+      let low : n < s.next = opened_before n (streams n) (is_open s n) s.next (requests h n) (closed_by h n) keeps there in
+      let (none, taken, whole) = keeps.going there in
+      single n streams h k e t new after one state same
+      (shut n (streams n) s h e t.state [] InputEnded (turn_close n s e t enters.step InputEnded enters.event) low none (append-nil (requests h n) ∙ taken))
+
+  -- the bytes of another session end
+  ended_other : (m : ℕ) → m ≢ n → Ended at s streams m k new after → KeepsAt n (after n) new (h ++ k)
+  ended_other m ne (e, t, one, enters, state, same) = single n streams h k e t new after one state same (closes_other at n (streams n) m ne s h InputEnded e t enters keeps)
+
+  -- bytes of the session come
+  pieces_own : (bytes : List ℕ) → is_open s n ≡ true → Pieces at s streams n bytes k new after → KeepsAt n (after n) new (h ++ k)
+  pieces_own bytes there (messages, split, feeds, same) =
+      let low : n < s.next = opened_before n (streams n) (is_open s n) s.next (requests h n) (closed_by h n) keeps there in
+      let (none, taken, whole) = keeps.going there in
+      let then_is : after n ≡ streams n ++ bytes = ap (λ (f : Streams). f n) same ∙ ap (λ b. cond b (streams n ++ bytes) (streams n)) (eq-eqb n n refl) in
+      subst (λ (l : List ℕ). KeepsAt n l new (h ++ k)) (sym then_is)
+      (feeds_own at n (streams n ++ bytes) s h messages (asked (streams n ++ bytes)).damaged k new there low none (ap (λ l. l ++ messages) taken ∙ sym split) refl feeds)
+
+  -- bytes of another session come
+  pieces_other : (m : ℕ) (bytes : List ℕ) → m ≢ n → Pieces at s streams m bytes k new after → KeepsAt n (after n) new (h ++ k)
+  pieces_other m bytes ne (messages, split, feeds, same) =
+      let then_is : after n ≡ streams n = ap (λ (f : Streams). f n) same ∙ ap (λ b. cond b (streams n ++ bytes) (streams n)) (ne_eqb n m (λ e. ne (sym e))) in
+      subst (λ (l : List ℕ). KeepsAt n l new (h ++ k)) (sym then_is) (feeds_other at n (streams n) m ne s h messages (asked (streams m ++ bytes)).damaged k new keeps feeds)
+
+  -- the bytes of a session end
+  expands_finish : (m : ℕ) → MatchBool (is_open s m) (Ended at s streams m k new after) (Stays s streams k new after) → KeepsAt n (after n) new (h ++ k)
+  expands_finish m x = elim (cases_Bool (is_open s m)) [
+    | inl there ↦
+        let y : Ended at s streams m k new after = MatchBool-at_true (Ended at s streams m k new after) (Stays s streams k new after) there x in
+        elim (cases_eq m n) [
+          | inl is ↦ ended_own (ap (is_open s) (sym is) ∙ there) (subst (λ (v : ℕ). Ended at s streams v k new after) is y)
+          | inr ne ↦ ended_other m ne y
+        ]
+    | inr away ↦ nothing n s streams h k new after (MatchBool-at_false (Ended at s streams m k new after) (Stays s streams k new after) away x) keeps
+  ]
+
+  -- bytes of a session come
+  expands_feed : (m : ℕ) (bytes : List ℕ) → MatchBool (is_open s m) (Pieces at s streams m bytes k new after) (Stays s streams k new after) → KeepsAt n (after n) new (h ++ k)
+  expands_feed m bytes x = elim (cases_Bool (is_open s m)) [
+    | inl there ↦
+        let y : Pieces at s streams m bytes k new after = MatchBool-at_true (Pieces at s streams m bytes k new after) (Stays s streams k new after) there x in
+        elim (cases_eq m n) [
+          | inl is ↦ pieces_own bytes (ap (is_open s) (sym is) ∙ there) (subst (λ (v : ℕ). Pieces at s streams v bytes k new after) is y)
+          | inr ne ↦ pieces_other m bytes ne y
+        ]
+    | inr away ↦ nothing n s streams h k new after (MatchBool-at_false (Pieces at s streams m bytes k new after) (Stays s streams k new after) away x) keeps
+  ]
+
+-- a stream event keeps it
+expands : (at n : ℕ) (s : State) (streams : Streams) (event : StreamEvent) (h k : List Entry) (new : State) (after : Streams) → KeepsAt n (streams n) s h → Expands at s streams event k new after → KeepsAt n (after n) new (h ++ k)
+expands at n s streams Opens h k new after keeps (e, t, one, enters, state, same) = expands_open at n s streams h k new after keeps e t one enters state same
+expands at n s streams (Feed m bytes) h k new after keeps x = expands_feed at n s streams h k new after keeps m bytes x
+expands at n s streams (Finish m) h k new after keeps x = expands_finish at n s streams h k new after keeps m x
+expands at n s streams (Passes ms) h k new after keeps (e, t, one, enters, state, same) =
+    single n streams h k e t new after one state same (aside n (streams n) s h e t.state (turn_tick n s e t enters.step enters.event) keeps)
+
+-- ---- all stream events
+
+-- a list of stream events keeps it
+expands_all : (n : ℕ) (s : State) (streams : Streams) (events : List (ℕ × StreamEvent)) (h k : List Entry) (new : State) (after : Streams) → KeepsAt n (streams n) s h → ExpandsTimed s streams events k new after → KeepsAt n (after n) new (h ++ k)
+expands_all n s streams [] h k new after keeps x = nothing n s streams h k new after x keeps
+expands_all n s streams (event ∷ events) h k new after keeps (front, rest, mid, between, parts, one, others) =
+    subst (KeepsAt n (after n) new) (append_assoc h front rest ∙ ap (λ (l : List Entry). h ++ l) (sym parts))
+    (expands_all n mid between events (h ++ front) rest new after (expands event.0 n s streams event.1 h front mid between keeps one) others)
+
+-- before any event
+at_first : (name : List ℕ) (n : ℕ) → KeepsAt n [] (opening name) []
+at_first name n = record {
+  to_come = λ high. (refl, refl, refl, refl);
+  going = λ there. absurd (false≢true there);
+  gone = λ away. sym (ap (λ a. a.messages) asked_nothing);
+}
+
+-- what was taken of a session is what its stream asks for
+pub requests_are_asked_for : (name : List ℕ) (events : List (ℕ × StreamEvent)) (h : List Entry) (s : State) (streams : Streams) (n : ℕ) → ExpandsTimed (opening name) no_streams events h s streams
+    → AreAskedFor (closed_by h n) (requests h n) (asked (streams n)).messages
+requests_are_asked_for name events h s streams n x =
+    let keeps : KeepsAt n (streams n) s h = expands_all n (opening name) no_streams events [] h s streams (at_first name n) x in
+    elim (cases_Bool (is_open s n)) [
+      | inl there ↦
+          let (none, taken, whole) = keeps.going there in
+          subst (λ (o : Option Cause). AreAskedFor o (requests h n) (asked (streams n)).messages) (sym none) taken
+      | inr away ↦ keeps.gone away
+    ]
+
+-- a session that is not opened yet has no stream
+pub not_fed_yet : (name : List ℕ) (events : List (ℕ × StreamEvent)) (h : List Entry) (s : State) (streams : Streams) (n : ℕ) → ExpandsTimed (opening name) no_streams events h s streams → s.next ≤ n → streams n ≡ []
+not_fed_yet name events h s streams n x high = ((expands_all n (opening name) no_streams events [] h s streams (at_first name n) x).to_come high).1
