@@ -1,0 +1,6 @@
+pub mod Naming
+pub mod Views
+pub mod Keeping
+pub mod Drawing
+pub mod Opening
+pub mod ListKeeper

@@ -1,0 +1,84 @@
+use thiserror::Error;
+
+/// Why a keeper refuses.
+#[derive(Clone, Copy, Debug, PartialEq, Eq, Error)]
+pub enum KeepFault {
+    /// A growth was refused. Nothing is changed.
+    #[error("out of memory")]
+    Memory,
+    /// The device failed. What is held is as before or has all of the changes: open it again.
+    #[error("the device failed")]
+    Device,
+    /// What is there is no database of this program. Only an open finds this.
+    #[error("not a database of this program")]
+    NotOurs,
+    /// The database has another format, or a line that is none. Only an open finds this.
+    #[error("another format")]
+    Format,
+    /// The changes are too large to be stored. Nothing is changed.
+    #[error("too large to be stored")]
+    TooLarge,
+}
+
+/// Why a database is not opened.
+#[derive(Clone, Copy, Debug, PartialEq, Eq, Error)]
+pub enum OpenFault {
+    /// The stored schema has another text.
+    #[error("the stored schema is another one")]
+    SchemaDiffers,
+    /// A stored line is no row of the schema. For now every line is none.
+    #[error("a stored row does not fit the schema")]
+    BadBody,
+    /// The stored rows break a rule of commits.
+    #[error("the stored rows break a constraint")]
+    Broken,
+    /// The keeper refused.
+    #[error("{0}")]
+    Keeping(KeepFault),
+}
+
+/// Why a schema is refused.
+#[derive(Clone, Copy, Debug, PartialEq, Eq, Error)]
+pub enum SchemaFault {
+    /// A member is missing or of a wrong kind.
+    #[error("the schema is built wrong")]
+    Syntax,
+    /// A growth was refused.
+    #[error("out of memory")]
+    Memory,
+}
+
+/// The error of an operation (RFC 7047, 3.1 and 5.2). The texts are those that a client is sent.
+#[derive(Clone, Copy, Debug, PartialEq, Eq, Error)]
+pub enum OpError {
+    #[error("syntax error")]
+    Syntax,
+    #[error("unknown table")]
+    UnknownTable,
+    #[error("unknown column")]
+    UnknownColumn,
+    #[error("unknown operation")]
+    UnknownOperation,
+    #[error("duplicate uuid-name")]
+    DuplicateUuidName,
+    #[error("duplicate uuid")]
+    DuplicateUuid,
+    #[error("constraint violation")]
+    Constraint,
+    #[error("domain error")]
+    Domain,
+    #[error("range error")]
+    Range,
+    #[error("timed out")]
+    TimedOut,
+    #[error("aborted")]
+    Aborted,
+    #[error("not owner")]
+    NotOwner,
+    #[error("referential integrity violation")]
+    ReferentialIntegrity,
+    #[error("resources exhausted")]
+    ResourcesExhausted,
+    #[error("I/O error")]
+    InputOutput,
+}

@@ -1,0 +1,19 @@
+//! Kinds that stand here until the crates that will own them exist: the schema, the source of identifiers, lines and
+//! their keeper, and their faults.
+#![tactic(auto)]
+
+mod draws;
+mod fault;
+mod keeper;
+mod line;
+mod list;
+mod schema;
+#[cfg(test)]
+mod tests;
+
+pub use draws::Draws;
+pub use fault::{KeepFault, OpError, OpenFault, SchemaFault};
+pub use keeper::{Keeper, Loaded};
+pub use line::{Change, Line};
+pub use list::ListKeeper;
+pub use schema::Schema;
