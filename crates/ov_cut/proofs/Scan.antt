@@ -1,0 +1,168 @@
+-- How the scan goes on by one byte.
+use Rattle.std.proofs.Common.{◌≡◌, ◌≢◌, ℕ, ◌+◌, ◌-◌, ◌<◌, ◌≤◌, List, [], ◌∷◌, ◌++◌, length, get_or, take, drop, refl, sym, ap, ◌∙◌, append_assoc, cond, eqb, Bool, true, false, ◌&&◌, Option, Some, None, option_map, inl, inr, arith, subst}
+use Rattle.std.specs.Prelude.{count_by, slice_get}
+use Rattle.std.proofs.lemmas.Bool.Decides.{nat_tests}
+use Rattle.std.proofs.lemmas.Bool.{eq-eqb, ne_eqb, le-ltb, lt-ltb, cases_eq, and_from, and_right}
+use Rattle.std.proofs.lemmas.List.Sums.{sum_by-append}
+use Rattle.std.proofs.lemmas.List.{append-nil, take_more, drop_more, length_push, length-take}
+use Rattle.ov_specs.specs.Balance.{bare, behind_quote, behind_backslash, has_equal_braces, is_balanced}
+use Rattle.ov_specs.specs.Cut.{cut_from, next, next_within, with_message, TooLong}
+use Rattle.ov_cut.specs.declared.message.Mode.{Mode}
+use Rattle.ov_cut.specs.declared.message.Mode.TheVariants.{Outside, InLiteral, Escaped}
+use Rattle.ov_cut.specs.Message.{step_of, goes_on_in, Leaves}
+
+-- ---- one more byte of a message
+
+count_push : (p : ℕ → Bool) (xs : List ℕ) (x : ℕ) → count_by p (xs ++ x ∷ []) ≡ count_by p xs + cond (p x) 1 0
+count_push p xs x = omega (arith, sum_by-append (λ y. cond (p y) 1 0) xs (x ∷ []))
+
+in_literal : (b c : Bool) (depth : ℕ) (more : List ℕ) → cond b (bare more) (cond c (behind_backslash more) (behind_quote more)) ≡ goes_on_in (cond {A = Mode × ℕ} b (Outside, depth) (cond c (Escaped, depth) (InLiteral, depth))).0 more
+in_literal true c depth more = refl
+in_literal false true depth more = refl
+in_literal false false depth more = refl
+
+same_depth : (b c : Bool) (depth : ℕ) → (cond {A = Mode × ℕ} b (Outside, depth) (cond c (Escaped, depth) (InLiteral, depth))).1 ≡ depth
+same_depth true c depth = refl
+same_depth false true depth = refl
+same_depth false false depth = refl
+
+map_kept : (kept : List ℕ) (x : ℕ) (o : Option (List ℕ)) → option_map (λ rest. kept ++ rest) (option_map (λ rest. x ∷ rest) o) ≡ option_map (λ rest. (kept ++ x ∷ []) ++ rest) o
+map_kept kept x None = refl
+map_kept kept x (Some rest) = ap Some (sym (append_assoc kept (x ∷ []) rest))
+
+-- outside a literal, by which byte it is
+outside_quote : (text : List ℕ) (depth x : ℕ) → x ≡ 34 → Leaves text Outside depth → Leaves (text ++ x ∷ []) InLiteral depth
+outside_quote text depth x e l = record {
+  kept = l.kept;
+  reads = λ more. ap bare (append_assoc text (x ∷ []) more) ∙ (l.reads (x ∷ more) ∙ rw e refl);
+  braces = l.braces;
+}
+
+outside_other : (text : List ℕ) (depth depth' x : ℕ) → x ≢ 34 → depth' + cond (eqb x 125) 1 0 ≡ depth + cond (eqb x 123) 1 0 → Leaves text Outside depth → Leaves (text ++ x ∷ []) Outside depth'
+outside_other text depth depth' x ne e l = record {
+  kept = l.kept ++ x ∷ [];
+  reads = λ more. ap bare (append_assoc text (x ∷ []) more) ∙ (l.reads (x ∷ more) ∙ (ap (λ b. option_map (λ rest. l.kept ++ rest) (cond b (behind_quote more) (option_map (λ rest. x ∷ rest) (bare more)))) (ne_eqb x 34 ne) ∙ map_kept l.kept x (bare more)));
+  braces = omega (arith, l.braces, e, count_push (λ y. eqb y 123) l.kept x, count_push (λ y. eqb y 125) l.kept x);
+}
+
+at_step : (text : List ℕ) (mode mode' : Mode) (depth depth' x : ℕ) → step_of mode depth x ≡ (mode', depth') → Leaves (text ++ x ∷ []) mode' depth' → Leaves (text ++ x ∷ []) (step_of mode depth x).0 (step_of mode depth x).1
+at_step text mode mode' depth depth' x e l = let P : Mode × ℕ → Type 0 = λ p. Leaves (text ++ x ∷ []) p.0 p.1 in subst P (sym e) l
+
+outside : (text : List ℕ) (depth x : ℕ) → 0 < depth → Leaves text Outside depth → Leaves (text ++ x ∷ []) (step_of Outside depth x).0 (step_of Outside depth x).1
+outside text depth x low l = elim (cases_eq x 34) [
+  | inl e ↦ at_step text Outside InLiteral depth depth x (ap (step_of Outside depth) e) (outside_quote text depth x e l)
+  | inr n ↦ elim (cases_eq x 123) [
+    | inl e ↦ at_step text Outside Outside depth (depth + 1) x (ap (step_of Outside depth) e) (outside_other text depth (depth + 1) x n (rw e (omega arith)) l)
+    | inr m ↦ elim (cases_eq x 125) [
+      | inl e ↦ at_step text Outside Outside depth (depth - 1) x (ap (step_of Outside depth) e) (outside_other text depth (depth - 1) x n (rw e (omega arith)) l)
+      | inr k ↦ at_step text Outside Outside depth depth x (rw (ne_eqb x 34 n, ne_eqb x 123 m, ne_eqb x 125 k) refl) (outside_other text depth depth x n (rw (ne_eqb x 123 m, ne_eqb x 125 k) refl) l)
+    ]
+  ]
+]
+
+pub leaves_more : (text : List ℕ) (mode : Mode) (depth x : ℕ) → 0 < depth → Leaves text mode depth → Leaves (text ++ x ∷ []) (step_of mode depth x).0 (step_of mode depth x).1
+leaves_more text Escaped depth x low l = record {
+  kept = l.kept;
+  reads = λ more. ap bare (append_assoc text (x ∷ []) more) ∙ l.reads (x ∷ more);
+  braces = l.braces;
+}
+leaves_more text InLiteral depth x low l = record {
+  kept = l.kept;
+  reads = λ more. ap bare (append_assoc text (x ∷ []) more) ∙ (l.reads (x ∷ more) ∙ ap (option_map (λ rest. l.kept ++ rest)) (in_literal (eqb x 34) (eqb x 92) depth more));
+  braces = l.braces ∙ ap (λ d. count_by (λ y. eqb y 125) l.kept + d) (sym (same_depth (eqb x 34) (eqb x 92) depth));
+}
+leaves_more text Outside depth x low l = outside text depth x low l
+
+outside_high : (b c d : Bool) (depth : ℕ) → (cond {A = Mode × ℕ} b (InLiteral, depth) (cond c (Outside, depth + 1) (cond d (Outside, depth - 1) (Outside, depth)))).1 ≤ depth + 1
+outside_high true c d depth = omega arith
+outside_high false true d depth = omega arith
+outside_high false false true depth = omega arith
+outside_high false false false depth = omega arith
+
+pub step_high : (mode : Mode) (depth x : ℕ) → (step_of mode depth x).1 ≤ depth + 1
+step_high Escaped depth x = omega arith
+step_high InLiteral depth x = omega (arith, same_depth (eqb x 34) (eqb x 92) depth)
+step_high Outside depth x = outside_high (eqb x 34) (eqb x 123) (eqb x 125) depth
+
+-- ---- whether the text is balanced
+
+abbrev pub is_outside : Mode → Bool
+is_outside Outside = true
+is_outside InLiteral = false
+is_outside Escaped = false
+
+after_other : (b c d : Bool) (depth : ℕ) → b ≡ false → is_outside (cond {A = Mode × ℕ} b (InLiteral, depth) (cond c (Outside, depth + 1) (cond d (Outside, depth - 1) (Outside, depth)))).0 ≡ true
+after_other true c d depth h = cc
+after_other false true d depth h = refl
+after_other false false true depth h = refl
+after_other false false false depth h = refl
+
+pub balanced_by : (text : List ℕ) (mode : Mode) (depth : ℕ) → Leaves text mode depth → is_balanced text ≡ (is_outside mode && eqb depth 0)
+balanced_by text Outside depth l =
+    ap has_equal_braces (ap bare (sym (append-nil text)) ∙ l.reads [])
+    ∙ (rw append-nil (let b = l.braces in grind (arith, nat_tests, b)))
+balanced_by text InLiteral depth l = ap has_equal_braces (ap bare (sym (append-nil text)) ∙ l.reads [])
+balanced_by text Escaped depth l = ap has_equal_braces (ap bare (sym (append-nil text)) ∙ l.reads [])
+
+-- the last brace closes outside a literal
+pub closes_outside : (mode : Mode) (depth x : ℕ) → 0 < depth → (step_of mode depth x).1 ≡ 0 → is_outside (step_of mode depth x).0 ≡ true
+closes_outside Escaped depth x low h = absurd (omega arith)
+closes_outside InLiteral depth x low h = let e = same_depth (eqb x 34) (eqb x 92) depth in absurd (omega arith)
+closes_outside Outside depth x low h = elim (cases_eq x 34) [
+  | inl e ↦ let s : (step_of Outside depth x).1 ≡ depth = ap (λ y. (step_of Outside depth y).1) e in absurd (omega arith)
+  | inr ne ↦ after_other (eqb x 34) (eqb x 123) (eqb x 125) depth (ne_eqb x 34 ne)
+]
+
+-- ---- one more byte of the cut
+
+pub next_is : (most at : ℕ) (begun : List ℕ) (x : ℕ) → 0 < length begun → next most at begun x ≡ next_within most (begun ++ x ∷ [])
+next_is most at [] x h = absurd (omega arith)
+next_is most at (b ∷ begun) x h = refl
+
+-- the byte with which a message has more bytes than it may
+pub run_long : (most at : ℕ) (begun : List ℕ) (x : ℕ) (s : List ℕ) → 0 < length begun → most < length (begun ++ x ∷ []) → cut_from most at begun (x ∷ s) ≡ record { messages = []; rest = []; damage = Some TooLong }
+run_long most at begun x s some long = rw (next_is most at begun x some, lt-ltb most _ long) refl
+
+-- the byte that ends a message
+pub run_whole : (most at : ℕ) (begun : List ℕ) (x : ℕ) (s : List ℕ) → 0 < length begun → length (begun ++ x ∷ []) ≤ most → is_balanced (begun ++ x ∷ []) ≡ true → cut_from most at begun (x ∷ s) ≡ with_message (begun ++ x ∷ []) (cut_from most (at + 1) [] s)
+run_whole most at begun x s some short balanced = rw (next_is most at begun x some, le-ltb most _ short, balanced) refl
+
+-- a byte that ends none
+pub run_more : (most at : ℕ) (begun : List ℕ) (x : ℕ) (s : List ℕ) → 0 < length begun → length (begun ++ x ∷ []) ≤ most → is_balanced (begun ++ x ∷ []) ≡ false → cut_from most at begun (x ∷ s) ≡ cut_from most (at + 1) (begun ++ x ∷ []) s
+run_more most at begun x s some short unbalanced = rw (next_is most at begun x some, le-ltb most _ short, unbalanced) refl
+
+-- ---- what the loop needs
+
+pub start_run : (most at : ℕ) (text : List ℕ) → slice_get text 0 ≡ Some 123 → cut_from most at [] text ≡ cut_from most (at + 1) (take 1 text) (drop 1 text)
+start_run most at [] h = cc
+start_run most at (x ∷ text) h = let e : x ≡ 123 = cc in rw e refl
+
+pub start_leaves : (text : List ℕ) → slice_get text 0 ≡ Some 123 → Leaves (take 1 text) Outside 1
+start_leaves [] h = cc
+start_leaves (x ∷ text) h = let e : x ≡ 123 = cc in rw e (record { kept = 123 ∷ []; reads = λ more. refl; braces = refl })
+
+module _ (text : List ℕ) (i : ℕ) (mode : Mode) (depth : ℕ) (p : Mode × ℕ) (within : i < length text) (some : 0 < i) (is : p ≡ step_of mode depth (get_or text i 0)) (l : Leaves (take i text) mode depth) (low : 0 < depth) where
+  pub scan_leaves : Leaves (take (i + 1) text) p.0 p.1
+  scan_leaves = rw (take_more text i 0 within, is) (leaves_more (take i text) mode depth (get_or text i 0) low l)
+
+  balanced : is_balanced (take i text ++ get_or text i 0 ∷ []) ≡ (is_outside p.0 && eqb p.1 0)
+  balanced = ap is_balanced (sym (take_more text i 0 within)) ∙ balanced_by (take (i + 1) text) p.0 p.1 scan_leaves
+
+  len : length (take i text ++ get_or text i 0 ∷ []) ≡ i + 1
+  len = simp (length_push, length-take) (omega arith)
+
+  at_more : (at : ℕ) → (at + i) + 1 ≡ at + (i + 1)
+  at_more at = omega arith
+
+  pub scan_more : (most at : ℕ) → i < most → 0 < p.1 → cut_from most (at + i) (take i text) (drop i text) ≡ cut_from most (at + (i + 1)) (take (i + 1) text) (drop (i + 1) text)
+  scan_more most at short deep = rw (drop_more text i 0 within, take_more text i 0 within, ← at_more at)
+      (run_more most (at + i) (take i text) (get_or text i 0) (drop (i + 1) text) (rw length-take (omega arith)) (rw len (omega arith)) (balanced ∙ and_right _ _ (ne_eqb p.1 0 (λ e. omega arith))))
+
+  pub scan_whole : (most at : ℕ) → i < most → p.1 ≡ 0 → cut_from most (at + i) (take i text) (drop i text) ≡ with_message (take (i + 1) text) (cut_from most (at + (i + 1)) [] (drop (i + 1) text))
+  scan_whole most at short zero = rw (drop_more text i 0 within, take_more text i 0 within, ← at_more at)
+      (run_whole most (at + i) (take i text) (get_or text i 0) (drop (i + 1) text) (rw length-take (omega arith)) (rw len (omega arith))
+      (balanced ∙ and_from _ _ (ap (λ (q : Mode × ℕ). is_outside q.0) is ∙ closes_outside mode depth (get_or text i 0) low (ap (λ (q : Mode × ℕ). q.1) (sym is) ∙ zero)) (eq-eqb p.1 0 zero)))
+
+  pub scan_long : (most at : ℕ) → most ≤ i → cut_from most (at + i) (take i text) (drop i text) ≡ record { messages = []; rest = []; damage = Some TooLong }
+  scan_long most at long = rw (drop_more text i 0 within)
+      (run_long most (at + i) (take i text) (get_or text i 0) (drop (i + 1) text) (rw length-take (omega arith)) (rw len (omega arith)))

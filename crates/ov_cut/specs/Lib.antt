@@ -1,0 +1,5 @@
+pub mod Message
+pub mod Front
+pub mod Taking
+pub mod Cutting
+pub mod Settled
