@@ -1,0 +1,24 @@
+use std::alloc::AllocError;
+use thiserror::Error;
+
+/// Why a text gave no message.
+#[derive(Clone, Copy, Debug, PartialEq, Eq, Error)]
+pub enum RpcFault {
+    /// The text is not UTF-8, no JSON, or no call and no notification.
+    #[error("the text is no message")]
+    Unreadable,
+    /// The allocator refused.
+    #[error("out of memory")]
+    Memory,
+}
+
+impl From<AllocError> for RpcFault {
+    ghost use Rattle.std.specs.Prelude.{◌≡◌};
+    ghost use Rattle.ov_rpc.specs.declared.fault.RpcFault.TheVariants.{Memory};
+
+    ghost from_gives = { λ _ e. e ≡ Memory };
+
+    fn from(_refused: AllocError) -> RpcFault {
+        RpcFault::Memory
+    }
+}

@@ -1,0 +1,13 @@
+//! Messages and frames of JSON-RPC 1.0: which request a text is, and the bytes of what is sent.
+#![tactic(auto)]
+
+mod fault;
+mod frame;
+mod message;
+mod request;
+#[cfg(test)]
+mod tests;
+
+pub use fault::RpcFault;
+pub use frame::{failure, note, reply};
+pub use message::{BadKind, Message};

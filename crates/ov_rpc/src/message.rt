@@ -1,0 +1,61 @@
+ghost use Rattle.std.specs.Prelude.{◌≡◌, Some, None, IfOk};
+ghost use Rattle.ov_specs.specs.Message.{message_in};
+ghost use Rattle.ov_rpc.specs.Message.{message_view};
+
+use crate::fault::RpcFault;
+use crate::request::message_of;
+use ov_base::{Text, Tree, Trees};
+use serde_json::Value;
+use std::alloc::Global;
+
+/// Why a request can't be taken.
+#[derive(Clone, Copy, Debug, PartialEq, Eq)]
+pub enum BadKind {
+    /// It isn't built as a request.
+    Syntax,
+    /// It has a number that is no 64-bit integer.
+    Reals,
+}
+
+/// What a peer sends (JSON-RPC 1.0, 1).
+#[derive(Drop)]
+pub enum Message {
+    /// A request that wants an answer (JSON-RPC 1.0, 1.1).
+    Call {
+        id: Tree,
+        method: Text,
+        params: Trees,
+    },
+    /// A notification: its id is null or absent (JSON-RPC 1.0, 1.3).
+    Note {
+        method: Text,
+        params: Trees,
+    },
+    /// An answer to a request of ours (JSON-RPC 1.0, 1.2).
+    Answer,
+    /// A request that is answered with an error.
+    Bad {
+        id: Tree,
+        kind: BadKind,
+    },
+}
+
+impl Message {
+    /// The message that a text is. Calls and notifications are read, and all else is unreadable.
+    ///
+    /// A text nests at most 127 levels deep, the message's own object among them: one that goes deeper is unreadable.
+    pub fn read(alloc: Global, text: &[u8]) -> Result<Message, RpcFault>
+        ensures message { IfOk result (λ m. message_in text.now ≡ Some (message_view m)) }
+        ensures unreadable { result ≡ Err RpcFault.Unreadable → message_in text.now ≡ None }
+    {
+        let value = match Value::from_slice(alloc, text) {
+            Ok(value) => value,
+            Err(error) if error.is_memory() => return Err(RpcFault::Memory),
+            Err(_) => return Err(RpcFault::Unreadable),
+        };
+        match message_of(value) {
+            Some(message) => Ok(message),
+            None => Err(RpcFault::Unreadable),
+        }
+    }
+}
