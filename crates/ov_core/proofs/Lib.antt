@@ -1,0 +1,4 @@
+pub mod Queueing
+pub mod Steps
+pub mod Answered
+pub mod Opened

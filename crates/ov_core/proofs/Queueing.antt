@@ -1,0 +1,95 @@
+-- What waits for sessions, by what the map of queues has at their serials.
+use Rattle.std.proofs.Common.{◌≡◌, ◌≢◌, ℕ, List, [], ◌∷◌, ◌++◌, Bool, true, false, cond, eqb, Option, Some, None, option_map, refl, sym, ap, ◌∙◌, inl, inr, arith, length}
+use Rattle.std.specs.Prelude.{unwrap_or, MatchBool, MatchOption, IfNone}
+use Rattle.std.specs.declared.alloc.Global.{Global}
+use Rattle.std.specs.declared.collections.VecDeque.{VecDeque}
+use Rattle.std.specs.Map.{lookup}
+use Rattle.std.specs.BTreeMap.{BTreeMap, is_at, get}
+use Rattle.std.specs.Ordering.{nat_cmp, is_eq}
+use Rattle.std.specs.declared.cmp.Ordering.TheVariants.{Less, Equal, Greater}
+use Rattle.std.specs.Cmp.{nat_cmp_is}
+use Rattle.std.proofs.lemmas.List.{append-nil}
+use Rattle.std.proofs.lemmas.Bool.{eqb-true, eq-eqb, ne_eqb, cases_order}
+use Rattle.ov_core.specs.Waiting.{Queues, waiting_for, queues_of, Adds, WaitsSame}
+
+abbrev Deque : Type 0
+Deque = VecDeque (List ℕ) Global
+
+abbrev Queued : Type 0
+Queued = BTreeMap ℕ Deque
+
+-- what a queue has, where there is one
+abbrev pub frames_in : Option Deque → List (List ℕ)
+frames_in o = unwrap_or (option_map (λ q. q.items) o) []
+
+look_more : (b : Bool) (d : Deque) (o : Option (List (List ℕ))) (p : Option Deque) → o ≡ option_map (λ q. q.items) p → cond b (Some d.items) o ≡ option_map (λ q. q.items) (cond b (Some d) p)
+look_more true d o p again = refl
+look_more false d o p again = again
+
+look : (test : ℕ → Bool) (es : List (ℕ × Deque)) → lookup test (queues_of es) ≡ option_map (λ q. q.items) (lookup test es)
+look test [] = refl
+look test (e ∷ es) = look_more (test e.0) e.1 (lookup test (queues_of es)) (lookup test es) (look test es)
+
+-- what waits is what the map has at the serial
+pub waiting_in : (m : Queued) (s : ℕ) → waiting_for s (queues_of m.entries) ≡ frames_in (get nat_cmp m s)
+waiting_in m s = ap (λ o. unwrap_or o []) (look (is_at (nat_cmp s)) m.entries)
+
+same_test : (a b : ℕ) → is_at (nat_cmp a) b ≡ eqb b a
+same_test a b = elim (cases_order a b) [
+  | inl e ↦ ap is_eq (sym (nat_cmp_is a b Equal e)) ∙ sym (eq-eqb b a (sym e))
+  | inr other ↦ elim other [
+    | inl less ↦ ap is_eq (sym (nat_cmp_is a b Less less)) ∙ sym (ne_eqb b a (λ e. omega arith))
+    | inr more ↦ ap is_eq (sym (nat_cmp_is a b Greater more)) ∙ sym (ne_eqb b a (λ e. omega arith))
+  ]
+]
+
+-- what waits after the map was updated at one serial
+pub waiting_after : (m n : Queued) (s : ℕ) (w : Option Deque) → ((q : ℕ) → get nat_cmp n q ≡ cond (is_at (nat_cmp s) q) w (get nat_cmp m q))
+    → (other : ℕ) → waiting_for other (queues_of n.entries) ≡ cond (eqb other s) (frames_in w) (waiting_for other (queues_of m.entries))
+waiting_after m n s w h other =
+    waiting_in n other ∙ (ap frames_in (h other ∙ ap (λ b. cond b w (get nat_cmp m other)) (same_test s other)) ∙ (by_test (eqb other s)
+    ∙ ap (cond (eqb other s) (frames_in w)) (sym (waiting_in m other))))
+  where
+    by_test : (b : Bool) → frames_in (cond b w (get nat_cmp m other)) ≡ cond b (frames_in w) (frames_in (get nat_cmp m other))
+    by_test true = refl
+    by_test false = refl
+
+-- a frame was put behind the others of its session, where there was memory for it
+pub pushed : (s : ℕ) (frame : List ℕ) (old new : Queues) (b : Bool) (before after : List (List ℕ)) → waiting_for s old ≡ before → after ≡ cond b (before ++ frame ∷ []) before
+    → ((other : ℕ) → waiting_for other new ≡ cond (eqb other s) after (waiting_for other old)) → MatchBool b (Adds s frame old new) (WaitsSame old new)
+pushed s frame old new true before after is more h = λ other. h other ∙ here other (eqb other s) refl
+  where
+    here : (other : ℕ) (b : Bool) → eqb other s ≡ b → cond b after (waiting_for other old) ≡ waiting_for other old ++ cond b (frame ∷ []) []
+    here other true e = more ∙ ap (λ fs. fs ++ frame ∷ []) (sym is ∙ ap (λ n. waiting_for n old) (sym (eqb-true other s e)))
+    here other false e = sym (append-nil (waiting_for other old))
+pushed s frame old new false before after is more h = λ other. h other ∙ here other (eqb other s) refl
+  where
+    here : (other : ℕ) (b : Bool) → eqb other s ≡ b → cond b after (waiting_for other old) ≡ waiting_for other old
+    here other true e = more ∙ (sym is ∙ ap (λ n. waiting_for n old) (sym (eqb-true other s e)))
+    here other false e = refl
+
+-- a session's queue was given up, or nothing was done
+pub same_where_empty : (s : ℕ) (old new : Queues) → waiting_for s old ≡ [] → ((other : ℕ) → waiting_for other new ≡ cond (eqb other s) [] (waiting_for other old)) → WaitsSame old new
+same_where_empty s old new is h other = h other ∙ here (eqb other s) refl
+  where
+    here : (b : Bool) → eqb other s ≡ b → cond b [] (waiting_for other old) ≡ waiting_for other old
+    here true e = sym (ap (λ n. waiting_for n old) (eqb-true other s e) ∙ is)
+    here false e = refl
+
+-- another session's frames
+pub others_wait : (s other : ℕ) (after waits : List (List ℕ)) → other ≢ s → cond (eqb other s) after waits ≡ waits
+others_wait s other after waits differ = rw (ne_eqb other s differ) refl
+
+-- the session's own frames
+pub its_own : (s : ℕ) (after waits : List (List ℕ)) → cond (eqb s s) after waits ≡ after
+its_own s after waits = rw (eq-eqb s s refl) refl
+
+-- a list of no length is empty
+pub no_items : {A : Type 0} (xs : List A) → length xs ≡ 0 → xs ≡ []
+no_items [] h = refl
+no_items (x ∷ xs) h = absurd (omega arith)
+
+-- where no frame was taken out, none waited
+pub nothing_popped : (o : Option (List ℕ)) (n : ℕ) (P : Type 0) (Q : List ℕ → Type 0) (items waits : List (List ℕ)) → MatchOption o ((n ≡ 0) × P) Q → n ≡ length items → waits ≡ items → IfNone o (waits ≡ [])
+nothing_popped None n P Q items waits none counts is = is ∙ no_items items (sym counts ∙ none.0)
+nothing_popped (Some frame) n P Q items waits none counts is = tt

@@ -1,0 +1,16 @@
+use Rattle.std.proofs.Common.{◌≡◌, ◌≤◌, None, refl, arith, rules}
+use Rattle.ov_core.proofs.Steps.{opened, nothing_chosen, entry_of, not_full}
+use Rattle.ov_specs.specs.Machine.{Open}
+use Rattle.ov_core.proofs.machine.Core.open_session.Goals as goal
+
+pub returns : goal.returns
+returns g c =
+    let low : c.self.inside.moment ≤ c.args.moment = search rules in
+    let none : c.self.inside.session ≡ None = search rules in
+    rw (← c.self.view_is) (record {
+      entry = entry_of Open (nothing_chosen c.args.moment);
+      tells = (refl, refl, omega arith, not_full c.self.inside.session c.self.inside.next none (search rules) (omega arith));
+      moment = refl;
+      drawn = refl;
+      moves = opened _ c.args.moment c.quiet.result _ _ low (rw (← c.reserve.ensures.items) c.push_back_reserved.ensures.items) c.quiet.ensures (rw none refl);
+    })

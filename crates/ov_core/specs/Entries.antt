@@ -1,0 +1,48 @@
+-- Events and entries of the code as those of the machine.
+use Rattle.std.specs.Prelude.{map}
+use Rattle.ov_rpc.specs.Message.{message_view}
+use Rattle.ov_specs.specs.Machine as machine
+use Rattle.ov_core.specs.declared.event.Cause.{Cause}
+use Rattle.ov_core.specs.declared.event.Cause.TheVariants.{InputEnded, ReadFault, WriteFault, Damaged, Overrun, Memory}
+use Rattle.ov_core.specs.declared.event.Event.{Event}
+use Rattle.ov_core.specs.declared.event.Event.TheVariants.{Open, Take, Close, Tick}
+use Rattle.ov_core.specs.declared.event.Outcome.{Outcome}
+use Rattle.ov_core.specs.declared.event.Outcome.TheVariants.{Kept, Exhausted, Failed, NoMemory}
+use Rattle.ov_core.specs.declared.event.Attempt.{Attempt}
+use Rattle.ov_core.specs.declared.event.Choice.{Choice}
+use Rattle.ov_core.specs.declared.event.Entry.{Entry}
+
+-- a cause (own)
+abbrev pub cause_view : Cause → machine.Cause
+cause_view InputEnded = machine.InputEnded
+cause_view ReadFault = machine.ReadFault
+cause_view WriteFault = machine.WriteFault
+cause_view Damaged = machine.Damaged
+cause_view Overrun = machine.Overrun
+cause_view Memory = machine.Memory
+
+-- an event: the machine knows sessions by their serials (own)
+abbrev pub event_view : Event → machine.Event
+event_view Open = machine.Open
+event_view (Take session message) = machine.Take session.serial (message_view message)
+event_view (Close session cause) = machine.Close session.serial (cause_view cause)
+event_view Tick = machine.Tick
+
+-- an outcome (own)
+abbrev pub outcome_view : Outcome → machine.Outcome
+outcome_view Kept = machine.Kept
+outcome_view Exhausted = machine.Exhausted
+outcome_view Failed = machine.Failed
+outcome_view NoMemory = machine.NoMemory
+
+-- an attempt (own)
+abbrev pub attempt_view : Attempt → machine.Attempt
+attempt_view a = record { number = a.number; outcome = outcome_view a.outcome }
+
+-- a choice (own)
+abbrev pub choice_view : Choice → machine.Choice
+choice_view c = record { moment = c.moment; draws = c.draws.items; outcomes = map attempt_view c.outcomes.items }
+
+-- an entry (own)
+abbrev pub entry_view : Entry → machine.Entry
+entry_view e = record { event = event_view e.event; choice = choice_view e.choice }

@@ -1,0 +1,111 @@
+use ov_rpc::Message;
+use thiserror::Error;
+use uuid::Uuid;
+
+/// A session (own).
+#[derive(Clone, Copy, Debug, PartialEq, Eq)]
+pub struct Session {
+    /// Its place in the core, from 0 on.
+    pub key: usize,
+    /// From 1 on, in the order of opening. It is never used again.
+    pub serial: u64,
+}
+
+/// Why a session is closed (own).
+#[derive(Clone, Copy, Debug, PartialEq, Eq)]
+pub enum Cause {
+    /// Its input ended.
+    InputEnded,
+    /// Its input could not be read.
+    ReadFault,
+    /// Its output could not be written.
+    WriteFault,
+    /// What it sent is no stream of messages.
+    Damaged,
+    /// It did not take what was sent to it.
+    Overrun,
+    /// Memory was refused while its request was worked on.
+    Memory,
+}
+
+/// What happens to the machine (own).
+#[derive(Drop)]
+pub enum Event {
+    /// A session opens, with the next serial.
+    Open,
+    /// A message of a session is taken, and answered at once if it is answered (RFC 7047, 4.1).
+    Take(Session, Message),
+    /// A session is closed. What waits for it still waits.
+    Close(Session, Cause),
+    /// Time has come to the moment.
+    Tick,
+}
+
+/// What came of an attempt that asked the store, or that was refused memory (own). No attempt asks the store yet.
+#[derive(Clone, Copy, Debug, PartialEq, Eq)]
+pub enum Outcome {
+    /// The store kept its changes.
+    Kept,
+    /// The store had no room for its changes.
+    Exhausted,
+    /// The store failed.
+    Failed,
+    /// Memory was refused, and the session at work was closed.
+    NoMemory,
+}
+
+/// An attempt (own).
+#[derive(Clone, Copy, Debug, PartialEq, Eq)]
+pub struct Attempt {
+    /// Its number in its event, from 1 on.
+    pub number: u64,
+    /// What came of it.
+    pub outcome: Outcome,
+}
+
+/// What the outside chose for an event (own).
+#[derive(Drop)]
+pub struct Choice {
+    /// In milliseconds; not below that of the entry before.
+    pub moment: u64,
+    /// The identifiers that were drawn, in order.
+    pub draws: Vec<Uuid>,
+    /// The attempts that asked the store or were refused memory, in order.
+    pub outcomes: Vec<Attempt>,
+}
+
+/// One entry of the history (own).
+#[derive(Drop)]
+pub struct Entry {
+    /// What happened.
+    pub event: Event,
+    /// What the outside chose for it.
+    pub choice: Choice,
+}
+
+/// Why a step is refused (own). A refused step changes nothing.
+#[derive(Clone, Copy, Debug, PartialEq, Eq, Error)]
+pub enum StepFault {
+    /// A session is open already, or no serial is left: the last one is 2^64-2.
+    #[error("too many sessions")]
+    TooMany,
+    /// A growth was refused.
+    #[error("out of memory")]
+    Memory,
+    /// The session is not open.
+    #[error("the session is not open")]
+    NotOpen,
+}
+
+/// What a step answers (own).
+#[derive(Clone, Copy, Debug, PartialEq, Eq)]
+pub enum Stepped {
+    /// The session that was opened.
+    Opened(Session),
+    /// The event is entered; the session of a `Take` is open.
+    Done,
+    /// The session of the `Take` was closed and is sent nothing for it, since memory was refused.
+    Closed,
+    /// Nothing is changed.
+    Refused(StepFault),
+}

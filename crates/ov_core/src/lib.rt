@@ -1,0 +1,16 @@
+//! The ordered machine of the server (own, over RFC 7047, 4): events in, frames out, and the history that says which of
+//! them there were. It knows no socket, no clock and no thread: moments and identifiers come in as values.
+#![tactic(auto)]
+
+mod answer;
+mod entry;
+mod event;
+mod machine;
+mod opening;
+#[cfg(test)]
+mod tests;
+mod waiting;
+
+pub use event::{Attempt, Cause, Choice, Entry, Event, Outcome, Session, StepFault, Stepped};
+pub use machine::Core;
+pub use ov_early as early;

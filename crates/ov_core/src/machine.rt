@@ -1,0 +1,289 @@
+ghost use Rattle.std.specs.Prelude.{◌≡◌, ◌≢◌, ◌≤◌, ◌++◌, ℕ, List, [], max, false, MatchBool, IfOk, IfErr, IfNone, OnOk, OnErr, option_to_list};
+ghost use Rattle.serde_json.specs.Written.{compact_text};
+ghost use Rattle.ov_specs.specs.Lines.{Contents};
+ghost use Rattle.ov_specs.specs.History.{joined};
+ghost use Rattle.ov_specs.specs.Machine.{State, opening, is_open, Open as SpecOpen, Tick as SpecTick, Take as SpecTake, Entry as SpecEntry};
+ghost use Rattle.ov_rpc.specs.Message.{message_view};
+ghost use Rattle.ov_early.specs.Keeping.{Keeps};
+ghost use Rattle.ov_early.specs.Opening.{CanOpen, RefusesOpen};
+ghost use Rattle.ov_core.specs.Entries.{event_view, cause_view};
+ghost use Rattle.ov_core.specs.Waiting.{waiting_for};
+ghost use Rattle.ov_core.specs.Following.{Follows, none_given, and_handed, and_all_handed};
+ghost use Rattle.ov_core.specs.Stepping.{StepIs, Closes};
+
+use crate::answer::answer;
+use crate::entry::{chosen, first_attempt, quiet};
+use crate::event::{Attempt, Cause, Entry, Event, Outcome, Session, StepFault, Stepped};
+use crate::opening::test_contents;
+use crate::waiting::Waiting;
+use ov_base::Bytes;
+use ov_early::{Draws, KeepFault, Keeper, OpenFault, Schema};
+use ov_rpc::Message;
+use std::alloc::{AllocError, Global};
+use std::collections::VecDeque;
+use std::marker::Model;
+
+/// The machine over a keeper, with its history (own, over RFC 7047, 4). One session may be open at a time.
+#[derive(Drop)]
+pub struct Core<K: Keeper, D> {
+    keeper: K,
+    source: D,
+    schema: Schema,
+    session: Option<u64>,
+    next: u64,
+    moment: u64,
+    history: VecDeque<Entry>,
+    waiting: Waiting,
+    alloc: Global,
+}
+
+impl<K: Keeper, D> Model for Core<K, D> {
+    ghost use Rattle.std.specs.Prelude.{◌≡◌, ◌+◌, ◌≤◌, length, option_to_list};
+    ghost use Rattle.std.specs.VecDeque.{deque_len, deque_capacity};
+    ghost use Rattle.std.specs.Coded.{codes};
+    ghost use Rattle.ov_early.specs.Naming.{named_code};
+    ghost use Rattle.serde_json.specs.Written.{compact_text};
+    ghost use Rattle.ov_specs.specs.Lines.{Contents};
+    ghost use Rattle.ov_specs.specs.TreeCode.{tree_code, items_code};
+    ghost use Rattle.ov_early.specs.Opening.{CanOpen};
+    ghost use Rattle.ov_core.specs.Following.{Running};
+
+    ghost Value = { Running K D };
+
+    ghost coded = { Prim.hlevel (codes, named_code, tree_code, items_code, K.code, D.code) };
+
+    ghost view = { λ c. record {
+      schema = c.schema;
+      state = record { name = c.schema.name; sessions = option_to_list c.session; next = c.next; moment = c.moment };
+      kept = c.history.items;
+      waiting = c.waiting;
+      keeper = c.keeper;
+      source = c.source;
+    } };
+
+    // The entry of the open session's closing has room. An open now, also after a crash, finds a database that can be opened again.
+    ghost invariant = { λ c. (deque_len c.history + length (option_to_list c.session) ≤ deque_capacity c.history)
+        × (K.Keeper.is_honest c.keeper → (held : Contents) → K.Keeper.leaves c.keeper held → CanOpen (compact_text c.schema.tree) held) };
+}
+
+impl<K: Keeper + Drop, D: Draws + Drop> Core<K, D> {
+    /// A core without history, over what the keeper holds: no session is open, the last moment is 0 and the next serial 1.
+    ///
+    /// It is refused as `SchemaDiffers` where the keeper holds another text than the schema's (RFC 7047, 3.2), as `BadBody`
+    /// where it holds a row, since a database that holds one can't be opened yet, and with the keeper's fault. Memory that
+    /// is refused is the keeper's fault `Memory`. What the keeper holds is not changed.
+    pub fn open(alloc: Global, keeper: K, schema: Schema, draws: D) -> Result<Core<K, D>, OpenFault>
+        ensures start { IfOk result (λ core. Follows (opening schema.name) [] none_given core) }
+        ensures schema { IfOk result (λ core. core.schema ≡ schema) }
+        ensures source { IfOk result (λ core. core.source ≡ draws) }
+        // The keeper held an empty database under this schema.
+        ensures held { IfOk result (λ core. K.is_honest core.keeper → (held : Contents) → K.leaves keeper held → CanOpen (compact_text schema.tree) held) }
+        // Of an honest keeper an open finds nothing now that it might not have found before.
+        ensures same { IfOk result (λ core. K.is_honest core.keeper → Keeps (K.leaves keeper) (K.leaves core.keeper)) }
+        ensures honest { IfOk result (λ core. K.is_honest core.keeper → K.is_honest keeper) }
+        // A fault is the first that applies to what the keeper held, where its device was honest to the end of the call.
+        ensures fault { IfErr result (λ fault. (later : K) × (K.is_honest later → (held : Contents) → K.leaves keeper held → RefusesOpen (compact_text schema.tree) held fault)) }
+    {
+        let mut keeper = keeper;
+        let Ok(text) = schema.tree().to_bytes(alloc) else {
+            return Err(OpenFault::Keeping(KeepFault::Memory));
+        };
+        let loaded = match keeper.load(alloc) {
+            Ok(loaded) => loaded,
+            Err(fault) => return Err(OpenFault::Keeping(fault)),
+        };
+        if let Err(fault) = test_contents(&loaded, text.as_slice()) {
+            return Err(fault);
+        }
+        Ok(Core {
+            keeper,
+            source: draws,
+            schema,
+            session: None,
+            next: 1,
+            moment: 0,
+            history: VecDeque::new(alloc),
+            waiting: Waiting::new(alloc),
+            alloc,
+        })
+    }
+
+    /// Enters an event at a moment in milliseconds, or at the last one if that is later.
+    ///
+    /// An `Open` is refused as `TooMany` while a session is open and where no serial is left, a `Take` or a `Close` as
+    /// `NotOpen` where its session is not open, and an `Open` or a `Tick` as `Memory` where memory is refused. A `Take` for
+    /// which memory is refused closes its session. A refused step changes nothing.
+    pub fn step(&mut self, alloc: Global, moment: u64, event: Event) -> Stepped
+        ensures { StepIs D.draws (max moment self.old.state.moment) (event_view event) self.old result self.new }
+    {
+        let moment = moment.max(self.moment);
+        match event {
+            Event::Open => self.open_session(moment),
+            Event::Take(session, message) => self.take(alloc, moment, session, message),
+            Event::Close(session, cause) => {
+                if self.close_at(moment, session, cause) {
+                    Stepped::Done
+                } else {
+                    Stepped::Refused(StepFault::NotOpen)
+                }
+            }
+            Event::Tick => self.tick(moment),
+        }
+    }
+
+    /// Closes the session at the last moment; false where it is not open, and then nothing is changed. What waits for it
+    /// still waits. It takes no memory.
+    pub fn close(&mut self, session: Session, cause: Cause) -> bool
+        ensures { MatchBool result
+            (Closes self.old.state.moment session.serial (cause_view cause) self.old self.new)
+            ((self.new ≡ self.old) × (is_open self.old.state session.serial ≡ false)) }
+    {
+        let moment = self.moment;
+        self.close_at(moment, session, cause)
+    }
+
+    /// Whether the session is open.
+    pub fn is_open(&self, session: Session) -> bool
+        ensures { result ≡ is_open self.now.state session.serial }
+    {
+        match self.session {
+            Some(serial) => serial == session.serial,
+            None => false,
+        }
+    }
+
+    /// The whole history since the core was opened, oldest entry first (own).
+    pub fn history(&self) -> &VecDeque<Entry>
+        ensures { result.now.items ≡ self.now.kept }
+    {
+        &self.history
+    }
+
+    /// Hands out the oldest frame that waits for the session, also for a closed one; None where nothing waits for it.
+    pub fn next_frame(&mut self, session: Session) -> Option<Bytes>
+        ensures handed { (before : State) (history : List SpecEntry) (given : ℕ → List (List ℕ)) → Follows before history given self.old
+            → Follows before history (and_handed given session.serial result) self.new }
+        ensures oldest { waiting_for session.serial self.old.waiting ≡ option_to_list result ++ waiting_for session.serial self.new.waiting }
+        ensures none { IfNone result (waiting_for session.serial self.old.waiting ≡ []) }
+        ensures others { (other : ℕ) → other ≢ session.serial → waiting_for other self.new.waiting ≡ waiting_for other self.old.waiting }
+        ensures same { self.new ≡ record self.old { waiting = self.new.waiting } }
+    {
+        let frame = self.waiting.pop(session.serial);
+        if !self.is_open(session) {
+            self.waiting.forget(session.serial);
+        }
+        frame
+    }
+
+    /// Hands out all frames that wait for the session, one behind the other with nothing between, also for a closed one. No
+    /// bytes where nothing waits for it.
+    pub fn take_output(&mut self, alloc: Global, session: Session) -> Result<Bytes, AllocError>
+        ensures all { IfOk result (λ b. b ≡ joined (waiting_for session.serial self.old.waiting)) }
+        ensures none_left { OnOk result (waiting_for session.serial self.new.waiting ≡ []) }
+        ensures others { OnOk result ((other : ℕ) → other ≢ session.serial → waiting_for other self.new.waiting ≡ waiting_for other self.old.waiting) }
+        ensures handed { OnOk result ((before : State) (history : List SpecEntry) (given : ℕ → List (List ℕ)) → Follows before history given self.old
+            → Follows before history (and_all_handed given session.serial (waiting_for session.serial self.old.waiting)) self.new) }
+        ensures same { OnOk result (self.new ≡ record self.old { waiting = self.new.waiting }) }
+        // Where memory is refused, nothing was handed out.
+        ensures refused { OnErr result (self.new ≡ self.old) }
+    {
+        let output = self.waiting.joined_for(alloc, session.serial)?;
+        self.waiting.clear(session.serial);
+        Ok(output)
+    }
+
+    /// What a crash now leaves, which each core keeps true of itself: a database that can be opened again. It does nothing.
+    pub fn left(&self)
+        ensures { K.is_honest self.now.keeper → (held : Contents) → K.leaves self.now.keeper held → CanOpen (compact_text self.now.schema.tree) held }
+    {
+        let _keeper = &self.keeper;
+    }
+
+    fn open_session(&mut self, moment: u64) -> Stepped
+        requires { self.old.state.moment ≤ moment }
+        ensures { StepIs D.draws moment SpecOpen self.old result self.new }
+    {
+        if self.session.is_some() || self.next == u64::MAX {
+            return Stepped::Refused(StepFault::TooMany);
+        }
+        if self.history.reserve(2).is_err() {
+            return Stepped::Refused(StepFault::Memory);
+        }
+        self.history
+            .push_back_reserved(quiet(self.alloc, moment, Event::Open));
+        let serial = self.next;
+        self.session = Some(serial);
+        self.next = serial + 1;
+        self.moment = moment;
+        Stepped::Opened(Session { key: 0, serial })
+    }
+
+    fn tick(&mut self, moment: u64) -> Stepped
+        requires { self.old.state.moment ≤ moment }
+        ensures { StepIs D.draws moment SpecTick self.old result self.new }
+    {
+        if self.history.reserve(2).is_err() {
+            return Stepped::Refused(StepFault::Memory);
+        }
+        self.history
+            .push_back_reserved(quiet(self.alloc, moment, Event::Tick));
+        self.moment = moment;
+        Stepped::Done
+    }
+
+    fn close_at(&mut self, moment: u64, session: Session, cause: Cause) -> bool
+        requires { self.old.state.moment ≤ moment }
+        ensures { MatchBool result
+            (Closes moment session.serial (cause_view cause) self.old self.new)
+            ((self.new ≡ self.old) × (is_open self.old.state session.serial ≡ false)) }
+    {
+        if !self.is_open(session) {
+            return false;
+        }
+        self.history
+            .push_back_reserved(quiet(self.alloc, moment, Event::Close(session, cause)));
+        self.session = None;
+        self.moment = moment;
+        self.waiting.forget(session.serial);
+        true
+    }
+
+    fn take(&mut self, alloc: Global, moment: u64, session: Session, message: Message) -> Stepped
+        requires { self.old.state.moment ≤ moment }
+        ensures { StepIs D.draws moment (SpecTake session.serial (message_view message)) self.old result self.new }
+    {
+        if !self.is_open(session) {
+            return Stepped::Refused(StepFault::NotOpen);
+        }
+        let Ok(room) = Vec::with_capacity(alloc, 1) else {
+            let _ = self.close_at(moment, session, Cause::Memory);
+            return Stepped::Closed;
+        };
+        if self.history.reserve(2).is_err() {
+            let _ = self.close_at(moment, session, Cause::Memory);
+            return Stepped::Closed;
+        }
+        if answer(
+            &mut self.waiting,
+            alloc,
+            self.schema.name(),
+            session.serial,
+            &message,
+        ) {
+            self.history
+                .push_back_reserved(quiet(alloc, moment, Event::Take(session, message)));
+            self.moment = moment;
+            return Stepped::Done;
+        }
+        let outcomes = first_attempt(room, Outcome::NoMemory);
+        self.history.push_back_reserved(chosen(
+            alloc,
+            moment,
+            Event::Take(session, message),
+            outcomes,
+        ));
+        self.session = None;
+        self.moment = moment;
+        Stepped::Closed
+    }
+}
