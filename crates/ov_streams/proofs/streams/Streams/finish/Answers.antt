@@ -1,0 +1,14 @@
+use Rattle.std.proofs.Common.{◌≡◌, refl, true, false, rules}
+use Rattle.ov_specs.specs.Machine.{is_open}
+use Rattle.ov_streams.proofs.Suiting.{finished, not_finished, it_closed}
+use Rattle.ov_streams.proofs.streams.Streams.finish.Goals as goal
+
+pub returns-then-is_open : goal.returns-then-is_open
+returns-then-is_open g c =
+    let there : is_open c.self.inside.core.state c.args.session ≡ true = search rules in
+    rw (← c.self.view_is) (finished c.args.session _ _ refl there (it_closed c.close.result _ _ _ c.close.ensures there))
+
+pub returns-else-is_open : goal.returns-else-is_open
+returns-else-is_open g c =
+    let away : is_open c.self.inside.core.state c.args.session ≡ false = search rules in
+    rw (← c.self.view_is) (not_finished c.args.session _ _ refl away)

@@ -1,0 +1,3 @@
+pub mod Feeding
+pub mod Entering
+pub mod Running

@@ -1,0 +1,103 @@
+ghost use Rattle.std.specs.Prelude.{◌≡◌, ℕ, List, true};
+ghost use Rattle.ov_specs.specs.Machine.{is_open};
+ghost use Rattle.ov_core.specs.Entries.{cause_view};
+ghost use Rattle.ov_streams.specs.Feeding.{IsFed, Brings};
+ghost use Rattle.ov_streams.specs.Entering.{EntersAll, EntersOne, Shuts, cause_of_fault};
+
+use ov_base::Bytes;
+use ov_core::early::{Draws, Keeper};
+use ov_core::{Cause, Core, Event, Session};
+use ov_cut::{CutFault, Cutter};
+use ov_rpc::{Message, RpcFault};
+use std::alloc::Global;
+
+/// Enters the messages that a piece of the open session's stream ends, at the moment or at the last one if that is later, and
+/// then closes the session as Damaged where the stream is damaged. It is closed as Memory where memory is refused.
+pub fn feed_session<K: Keeper + Drop, D: Draws + Drop>(
+    core: &mut Core<K, D>,
+    alloc: Global,
+    moment: u64,
+    session: Session,
+    cutter: &mut Cutter,
+    piece: &[u8],
+)
+    requires { is_open core.old.state session.serial ≡ true }
+    ensures { (stream : List ℕ) → IsFed stream cutter.old → Brings moment session.serial stream piece.now core.old core.new cutter.new }
+{
+    let fed = cutter.feed(alloc, piece);
+    enter_all(core, alloc, moment, session, &fed.messages);
+    if !core.is_open(session) {
+        return;
+    }
+    let Some(fault) = fed.fault else {
+        return;
+    };
+    close_at(core, alloc, moment, session, cause_of(fault));
+}
+
+/// Why a session is closed whose stream can't be cut.
+fn cause_of(fault: CutFault) -> Cause
+    ensures { cause_view result ≡ cause_of_fault fault }
+{
+    match fault {
+        CutFault::Damaged(_) | CutFault::TooLong => Cause::Damaged,
+        CutFault::Memory => Cause::Memory,
+    }
+}
+
+/// Enters these messages, and closes the session as Damaged at the first that is unreadable.
+fn enter_all<K: Keeper + Drop, D: Draws + Drop>(
+    core: &mut Core<K, D>,
+    alloc: Global,
+    moment: u64,
+    session: Session,
+    texts: &[Bytes],
+)
+    requires { is_open core.old.state session.serial ≡ true }
+    ensures { EntersAll moment session.serial texts.now core.old core.new }
+{
+    for text in texts {
+        enter_one(core, alloc, moment, session, text.as_slice());
+        if !core.is_open(session) {
+            return;
+        }
+    }
+}
+
+/// Enters one message, or closes the session as Damaged where it is unreadable.
+fn enter_one<K: Keeper + Drop, D: Draws + Drop>(
+    core: &mut Core<K, D>,
+    alloc: Global,
+    moment: u64,
+    session: Session,
+    text: &[u8],
+)
+    requires { is_open core.old.state session.serial ≡ true }
+    ensures { EntersOne moment session.serial text.now core.old core.new }
+{
+    match Message::read(alloc, text) {
+        Ok(message) => {
+            let _ = core.step(alloc, moment, Event::Take(session, message));
+        }
+        Err(RpcFault::Unreadable) => {
+            close_at(core, alloc, moment, session, Cause::Damaged);
+        }
+        Err(RpcFault::Memory) => {
+            close_at(core, alloc, moment, session, Cause::Memory);
+        }
+    }
+}
+
+/// Closes the open session at the moment, or at the last one if that is later.
+fn close_at<K: Keeper + Drop, D: Draws + Drop>(
+    core: &mut Core<K, D>,
+    alloc: Global,
+    moment: u64,
+    session: Session,
+    cause: Cause,
+)
+    requires { is_open core.old.state session.serial ≡ true }
+    ensures { Shuts moment session.serial (cause_view cause) core.old core.new }
+{
+    let _ = core.step(alloc, moment, Event::Close(session, cause));
+}

@@ -1,0 +1,11 @@
+//! Lists of stream events, entered into the core: each session's bytes, in whatever pieces they come, become messages taken.
+#![tactic(auto)]
+
+mod event;
+mod feed;
+pub mod lane;
+mod streams;
+
+pub use event::{Ran, StreamEvent};
+pub use feed::feed_session;
+pub use streams::Streams;

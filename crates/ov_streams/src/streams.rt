@@ -1,0 +1,188 @@
+ghost use Rattle.std.specs.Prelude.{◌≡◌, ◌≤◌, ◌++◌, ℕ, List, [], ◌∷◌, MatchResult, IfOk, OnErr, IfSome, IfNone, length, take, slice_get, Some};
+ghost use Rattle.ov_specs.specs.Machine.{Entry, opening};
+ghost use Rattle.ov_specs.specs.History.{joined};
+ghost use Rattle.ov_specs.specs.Streams.{StreamEvent as SpecEvent};
+ghost use Rattle.ov_core.specs.Following.{Follows, none_given, and_all_handed};
+ghost use Rattle.ov_core.specs.Waiting.{waiting_for};
+ghost use Rattle.ov_streams.specs.Running.{Suits, Serves, MayBeRefused, event_view, events_view};
+
+use crate::event::{Ran, StreamEvent};
+use crate::feed::feed_session;
+use crate::lane::Lane;
+use ov_base::Bytes;
+use ov_core::early::{Draws, Keeper};
+use ov_core::{Cause, Core, Event, Session, StepFault, Stepped};
+use ov_cut::Cutter;
+use std::alloc::{AllocError, Global};
+use std::marker::Model;
+
+/// A core with the streams of its sessions.
+#[derive(Drop)]
+pub struct Streams<K: Keeper, D> {
+    core: Core<K, D>,
+    lane: Option<Lane>,
+}
+
+impl<K: Keeper, D> Model for Streams<K, D> {
+    ghost use Rattle.std.specs.Coded.{codes};
+    ghost use Rattle.ov_early.specs.Naming.{named_code};
+    ghost use Rattle.ov_specs.specs.TreeCode.{tree_code, items_code};
+    ghost use Rattle.ov_streams.specs.Running.{Streaming};
+
+    ghost Value = { Streaming K D };
+
+    ghost coded = { Prim.hlevel (codes, named_code, tree_code, items_code, K.code, D.code) };
+
+    ghost view = { λ s. record { core = s.core; lane = s.lane } };
+}
+
+impl<K: Keeper + Drop, D: Draws + Drop> Streams<K, D> {
+    /// Streams over a core without history.
+    pub fn new(core: Core<K, D>) -> Streams<K, D>
+        ensures same { result.core ≡ core }
+        // The empty list of events suits it.
+        ensures none { (name : List ℕ) → Follows (opening name) [] none_given core → Suits name [] [] none_given result }
+    {
+        Streams { core, lane: None }
+    }
+
+    /// The core.
+    pub fn core(&self) -> &Core<K, D>
+        ensures { result.now ≡ self.now.core }
+    {
+        &self.core
+    }
+
+    /// Serves the events in order, up to an opening or a passing of time that is refused.
+    pub fn run(&mut self, alloc: Global, events: Vec<StreamEvent>) -> Ran
+        ensures served { result.served ≤ length events.items }
+        // Whatever list suited before, it suits now with the events that were served behind it.
+        ensures suits { Serves (events_view (take result.served events.items)) self.old self.new }
+        ensures whole { IfNone result.refused (result.served ≡ length events.items) }
+        ensures refused { IfSome result.refused (λ fault. IfSome (slice_get events.items result.served) MayBeRefused) }
+    {
+        let mut served = 0;
+        for event in &events {
+            if let Err(fault) = self.serve(alloc, event) {
+                return Ran {
+                    served,
+                    refused: Some(fault),
+                };
+            }
+            served += 1;
+        }
+        Ran {
+            served,
+            refused: None,
+        }
+    }
+
+    /// Hands out and joins the frames that wait for session n; none where memory is refused.
+    pub fn output(&mut self, alloc: Global, session: u64) -> Result<Bytes, AllocError>
+        ensures all { IfOk result (λ b. b ≡ joined (waiting_for session self.old.core.waiting)) }
+        ensures handed { IfOk result (λ b. (name : List ℕ) (list : List SpecEvent) (history : List Entry) (given : ℕ → List (List ℕ)) → Suits name list history given self.old
+            → Suits name list history (and_all_handed given session (waiting_for session self.old.core.waiting)) self.new) }
+        ensures refused { OnErr result (self.new ≡ self.old) }
+    {
+        self.core.take_output(
+            alloc,
+            Session {
+                key: 0,
+                serial: session,
+            },
+        )
+    }
+
+    /// Serves one event.
+    fn serve(&mut self, alloc: Global, event: &StreamEvent) -> Result<(), StepFault>
+        ensures { MatchResult result
+            (λ _. Serves (event_view event.now ∷ []) self.old self.new)
+            (λ _. (self.new ≡ self.old) × MayBeRefused event.now) }
+    {
+        match event {
+            StreamEvent::Open => self.open(alloc),
+            StreamEvent::Feed(session, bytes) => {
+                self.feed(alloc, *session, bytes.as_slice());
+                Ok(())
+            }
+            StreamEvent::Finish(session) => {
+                self.finish(*session);
+                Ok(())
+            }
+            StreamEvent::Tick(moment) => self.tick(alloc, *moment),
+        }
+    }
+
+    /// Opens a session with a cutter of its own.
+    fn open(&mut self, alloc: Global) -> Result<(), StepFault>
+        ensures { MatchResult result (λ _. Serves (event_view StreamEvent.Open ∷ []) self.old self.new) (λ _. self.new ≡ self.old) }
+    {
+        match self.core.step(alloc, 0, Event::Open) {
+            Stepped::Opened(session) => {
+                self.lane = Some(Lane {
+                    session,
+                    cutter: Cutter::new(alloc),
+                });
+                Ok(())
+            }
+            Stepped::Refused(fault) => Err(fault),
+            Stepped::Done | Stepped::Closed => unreachable!(),
+        }
+    }
+
+    /// Lets time pass.
+    fn tick(&mut self, alloc: Global, moment: u64) -> Result<(), StepFault>
+        ensures { MatchResult result (λ _. Serves (event_view (StreamEvent.Tick moment) ∷ []) self.old self.new) (λ _. self.new ≡ self.old) }
+    {
+        match self.core.step(alloc, moment, Event::Tick) {
+            Stepped::Done => Ok(()),
+            Stepped::Refused(fault) => Err(fault),
+            Stepped::Opened(_) | Stepped::Closed => unreachable!(),
+        }
+    }
+
+    /// Closes the session, whose bytes ended, if it is open.
+    fn finish(&mut self, session: u64)
+        ensures { Serves (event_view (StreamEvent.Finish session) ∷ []) self.old self.new }
+    {
+        let session = Session {
+            key: 0,
+            serial: session,
+        };
+        if self.core.is_open(session) {
+            let _ = self.core.close(session, Cause::InputEnded);
+        }
+    }
+
+    /// Feeds the session, if it is open.
+    fn feed(&mut self, alloc: Global, session: u64, bytes: &[u8])
+        ensures { Serves (event_view (StreamEvent.Feed session bytes.now) ∷ []) self.old self.new }
+    {
+        let Some(lane) = self.lane.take() else {
+            return;
+        };
+        let Lane {
+            session: owner,
+            mut cutter,
+        } = lane;
+        if owner.serial != session {
+            self.lane = Some(Lane {
+                session: owner,
+                cutter,
+            });
+            return;
+        }
+        if !self.core.is_open(owner) {
+            self.lane = Some(Lane {
+                session: owner,
+                cutter,
+            });
+            return;
+        }
+        feed_session(&mut self.core, alloc, 0, owner, &mut cutter, bytes);
+        self.lane = Some(Lane {
+            session: owner,
+            cutter,
+        });
+    }
+}
