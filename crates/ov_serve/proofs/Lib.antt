@@ -1,0 +1,3 @@
+pub mod Goings
+pub mod Servings
+pub mod Starts

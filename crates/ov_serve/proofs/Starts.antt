@@ -1,0 +1,52 @@
+-- What a session begins with.
+use Rattle.std.proofs.Common.{◌≡◌, ℕ, [], ◌∷◌, false, refl, sym, max, append-nil}
+use Rattle.ov_specs.specs.Cut.{cut}
+use Rattle.ov_specs.specs.Message.{asked}
+use Rattle.ov_specs.specs.Machine as machine
+use Rattle.ov_specs.specs.Machine.{State, Uuid}
+use Rattle.ov_specs.specs.Streams as streams
+use Rattle.ov_specs.specs.Streams.{Opens, no_streams, Expands, ExpandsTimed}
+use Rattle.ov_specs.proofs.Expanding.{one_event}
+use Rattle.ov_cut.specs.Cutting.{Cutting, StandsFor}
+use Rattle.ov_core.specs.declared.event.Session.{Session}
+use Rattle.ov_core.specs.declared.event.Stepped.TheVariants as answer
+use Rattle.ov_core.specs.Following.{Running}
+use Rattle.ov_core.specs.Stepping.{IsEntered}
+use Rattle.ov_streams.specs.Feeding.{IsFed}
+use Rattle.ov_serve.specs.Serving.{Around, ServingOn}
+use Rattle.ov_serve.proofs.Goings.{goes_by_entries}
+
+nothing_damaged : (asked []).damaged ≡ false
+unfolding asked cut
+nothing_damaged = refl
+
+-- a cutter of which nothing was asked yet
+fed_nothing : (cutter : Cutting) → StandsFor [] [] cutter → IsFed [] cutter
+fed_nothing cutter stands = record {
+  given = [];
+  stands = stands;
+  whole = nothing_damaged;
+}
+
+-- a session that was opened
+pub serving_opened : {K D C : Type 0} (draws : D → Uuid → D → Type 0) (tells : C → ℕ → C → Type 0) (session : Session) (old new : Running K D) (from : Around C) (cutter : Cutting) → StandsFor [] [] cutter
+    → IsEntered draws (max 0 old.state.moment) machine.Open old (answer.Opened session) new → ServingOn tells session.serial old from new from cutter
+serving_opened {K} {D} {C} draws tells session old new from cutter stands entered =
+    let t : machine.Stepped = record { state = new.state; sent = entered.moves.sent } in
+    let enters : streams.Enters 0 old.state machine.Open entered.entry t = record { event = entered.tells.0; moment = entered.moment; step = entered.moves.stepped } in
+    let expands : Expands 0 old.state no_streams Opens (entered.entry ∷ []) new.state no_streams = (entered.entry, t, refl, enters, refl, refl) in
+    record {
+      done = record {
+        entries = entered.entry ∷ [];
+        frames = [];
+        pieces = [];
+        streams = no_streams;
+        goes = goes_by_entries session.serial old new (entered.entry ∷ []) entered.moves.follows;
+        read = sym (append-nil from.read);
+        written = sym (append-nil from.written);
+        expands = one_event 0 old.state no_streams Opens (entered.entry ∷ []) new.state no_streams expands;
+        stream = refl;
+        moments = refl;
+      };
+      fed = λ _. fed_nothing cutter stands;
+    }

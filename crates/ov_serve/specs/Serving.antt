@@ -1,0 +1,156 @@
+-- What a session's serving makes of a core and of what stands around it.
+use Rattle.std.specs.Prelude.{◌≡◌, ◌⊎◌, ℕ, ◌==◌, List, [], ◌∷◌, ◌++◌, map, Bool, true, false, if◌then◌else◌}
+use Rattle.std.specs.List.{flat_map}
+use Rattle.ov_specs.specs.Machine as machine
+use Rattle.ov_specs.specs.Machine.{State, is_open}
+use Rattle.ov_specs.specs.History.{joined}
+use Rattle.ov_specs.specs.Streams as streams
+use Rattle.ov_specs.specs.Streams.{StreamEvent, Opens, Feed, Streams, no_streams, ExpandsTimed}
+use Rattle.ov_cut.specs.Cutting.{Cutting}
+use Rattle.ov_core.specs.declared.event.Cause.{Cause}
+use Rattle.ov_core.specs.declared.event.Cause.TheVariants.{InputEnded, ReadFault, WriteFault, Damaged, Overrun, Memory}
+use Rattle.ov_core.specs.Following.{Running, Follows}
+use Rattle.ov_streams.specs.Feeding.{IsFed}
+use Rattle.ov_serve.specs.Ends.{one_more}
+
+-- what stands around a core: the bytes that were read and written so far, and the clock (own)
+pub record Around (C : Type 0) : Type 0 where
+  pub read : List ℕ
+  pub written : List ℕ
+  pub clock : C
+
+-- these bytes and this clock (own)
+abbrev pub around : {C : Type 0} → List ℕ → List ℕ → C → Around C
+around read written clock = record { read = read; written = written; clock = clock }
+
+-- ---- frames handed out
+
+-- the frames were handed out of the session behind the others (own)
+abbrev pub and_all_handed : (ℕ → List (List ℕ)) → ℕ → List (List ℕ) → ℕ → List (List ℕ)
+and_all_handed given session frames other = given other ++ (if other == session then frames else [])
+
+-- Whatever history and frames the core has followed, it follows the history with these entries behind it, and these frames of
+-- the session were handed out on the way (own).
+abbrev pub Goes : {K D : Type 0} → ℕ → Running K D → List machine.Entry → List (List ℕ) → Running K D → Type 0
+Goes n old entries frames new =
+    (before : State) (history : List machine.Entry) (given : ℕ → List (List ℕ)) → Follows before history given old
+    → Follows before (history ++ entries) (and_all_handed given n frames) new
+
+-- the bytes are the first of those, and others may follow (own)
+abbrev pub BeginsAs : List ℕ → List ℕ → Type 0
+BeginsAs some all = (others : List ℕ) × (some ++ others ≡ all)
+
+-- all of the bytes were written, or a beginning of them (own)
+abbrev pub WritesOf : Bool → List ℕ → List ℕ → List ℕ → Type 0
+WritesOf true bytes old new = new ≡ old ++ bytes
+WritesOf false bytes old new = (written : List ℕ) × (new ≡ old ++ written) × BeginsAs written bytes
+
+-- failures were counted: one where the call failed (own)
+abbrev pub Counts : Bool → ℕ → ℕ → Type 0
+Counts true old new = new ≡ old
+Counts false old new = new ≡ one_more old
+
+-- These frames were handed out of the session and written, or a beginning of them (own).
+pub record Sends {K D : Type 0} (n : ℕ) (is_whole : Bool) (old new : Running K D) (said said' : List ℕ) : Type 0 where
+  pub frames : List (List ℕ)
+  pub goes : Goes n old [] frames new
+  pub written : WritesOf is_whole (joined frames) said said'
+
+-- ---- what was read
+
+-- pieces, each with the moment at which it came (own)
+abbrev pub Pieces : Type 0
+Pieces = List (ℕ × List ℕ)
+
+-- the bytes of the pieces (own)
+abbrev pub bytes_of : Pieces → List ℕ
+bytes_of pieces = flat_map (λ p. p.1) pieces
+
+-- the stream events of a session: it opens at the last moment, and then its pieces come, each at its own (own)
+abbrev pub events_of : ℕ → Pieces → List (ℕ × StreamEvent)
+events_of n pieces = (0, Opens) ∷ map (λ p. (p.0, Feed n p.1)) pieces
+
+-- the clock told the moments of the pieces, one after another (own)
+abbrev pub ToldBy : {C : Type 0} → (C → ℕ → C → Type 0) → C → Pieces → C → Type 0
+ToldBy tells old [] new = new ≡ old
+ToldBy {C} tells old (p ∷ pieces) new = (mid : C) × tells old p.0 mid × ToldBy tells mid pieces new
+
+-- ---- a session
+
+-- What was done since the core was `old`: the session was opened, these pieces of it were read and entered, and all of these
+-- frames were written, or a beginning of them (own).
+pub record Serving {K D C : Type 0} (tells : C → ℕ → C → Type 0) (n : ℕ) (is_whole : Bool) (old : Running K D) (from : Around C) (new : Running K D) (to : Around C) : Type 0 where
+  pub entries : List machine.Entry
+  pub frames : List (List ℕ)
+  pub pieces : Pieces
+  pub streams : Streams
+  pub goes : Goes n old entries frames new
+  pub read : to.read ≡ from.read ++ bytes_of pieces
+  pub written : WritesOf is_whole (joined frames) from.written to.written
+  pub expands : ExpandsTimed old.state no_streams (events_of n pieces) entries new.state streams
+  pub stream : streams n ≡ bytes_of pieces
+  pub moments : ToldBy tells from.clock pieces to.clock
+
+-- the same, where the cutter was given what was read, while the session is open (own)
+pub record ServingOn {K D C : Type 0} (tells : C → ℕ → C → Type 0) (n : ℕ) (old : Running K D) (from : Around C) (new : Running K D) (to : Around C) (cutter : Cutting) : Type 0 where
+  pub done : Serving tells n true old from new to
+  pub fed : is_open new.state n ≡ true → IsFed (bytes_of done.pieces) cutter
+
+-- one entry closes the session for this cause, at the last moment (own)
+abbrev pub ClosesAfter : ℕ → machine.Cause → State → List machine.Entry → State → Type 0
+ClosesAfter n cause mid last new =
+    (entry : machine.Entry) × (t : machine.Stepped) × (last ≡ entry ∷ []) × streams.Enters 0 mid (machine.Close n cause) entry t × (new ≡ t.state)
+
+-- the session was closed by what was read, and no entry follows (own)
+abbrev pub ClosesWithin : ℕ → State → List machine.Entry → State → Type 0
+ClosesWithin n mid last new = (is_open mid n ≡ false) × (last ≡ []) × (new ≡ mid)
+
+-- how the session was closed, by the cause that is told (own)
+abbrev pub ClosesFor : ℕ → Cause → State → List machine.Entry → State → Type 0
+ClosesFor n InputEnded mid last new = ClosesAfter n machine.InputEnded mid last new
+ClosesFor n ReadFault mid last new = ClosesAfter n machine.ReadFault mid last new
+ClosesFor n WriteFault mid last new = ClosesWithin n mid last new ⊎ ClosesAfter n machine.WriteFault mid last new
+ClosesFor n Damaged mid last new = ClosesWithin n mid last new
+ClosesFor n Memory mid last new = ClosesWithin n mid last new
+ClosesFor n Overrun mid last new = ⊥
+
+-- no write failed (own)
+abbrev pub is_written : Cause → Bool
+is_written InputEnded = true
+is_written ReadFault = true
+is_written WriteFault = false
+is_written Damaged = true
+is_written Overrun = true
+is_written Memory = true
+
+-- What was done from the opening of the session to its closing (own).
+pub record Served {K D C : Type 0} (tells : C → ℕ → C → Type 0) (n : ℕ) (old : Running K D) (from : Around C) (cause : Cause) (new : Running K D) (to : Around C) : Type 0 where
+  -- what the core entered, what it handed out, and what was read
+  pub entries : List machine.Entry
+  pub frames : List (List ℕ)
+  pub pieces : Pieces
+  pub goes : Goes n old entries frames new
+  pub read : to.read ≡ from.read ++ bytes_of pieces
+  pub moments : ToldBy tells from.clock pieces to.clock
+  -- the entries are those of the stream events, and then perhaps a closing
+  pub front : List machine.Entry
+  pub last : List machine.Entry
+  pub mid : State
+  pub streams : Streams
+  pub parts : entries ≡ front ++ last
+  pub expands : ExpandsTimed old.state no_streams (events_of n pieces) front mid streams
+  pub stream : streams n ≡ bytes_of pieces
+  pub closes : ClosesFor n cause mid last new.state
+  pub shut : is_open new.state n ≡ false
+  -- all that was sent was written, or a beginning of it where a write failed
+  pub written : WritesOf (is_written cause) (joined frames) from.written to.written
+
+-- What the ends tell of a cause: the input ended only where the reader met its end, and a failure is counted where one is told
+-- and nowhere else (own).
+abbrev pub Tells : Cause → Bool → ℕ → ℕ → ℕ → ℕ → Type 0
+Tells InputEnded at_end reads reads' writes writes' = (at_end ≡ true) × (reads' ≡ reads) × (writes' ≡ writes)
+Tells ReadFault at_end reads reads' writes writes' = (reads' ≡ one_more reads) × (writes' ≡ writes)
+Tells WriteFault at_end reads reads' writes writes' = (reads' ≡ reads) × (writes' ≡ one_more writes)
+Tells Damaged at_end reads reads' writes writes' = (reads' ≡ reads) × (writes' ≡ writes)
+Tells Memory at_end reads reads' writes writes' = (reads' ≡ reads) × (writes' ≡ writes)
+Tells Overrun at_end reads reads' writes writes' = ⊥

@@ -1,0 +1,13 @@
+//! One session at a time, served over a reader, a writer and a clock.
+#![tactic(auto)]
+
+mod ends;
+mod send;
+mod serve;
+#[cfg(test)]
+mod tests;
+mod watched;
+
+pub use ends::{Clock, Sink, Source};
+pub use serve::serve_one;
+pub use watched::Watched;

@@ -1,0 +1,117 @@
+ghost use Rattle.std.specs.Prelude.{◌≡◌, ◌⊎◌, ◌<◌, ℕ, List, true, false, length, IfOk, IfErr};
+ghost use Rattle.ov_specs.specs.Machine.{is_open};
+ghost use Rattle.ov_core.specs.Following.{Running};
+ghost use Rattle.ov_core.specs.Stepping.{Refusal};
+ghost use Rattle.ov_streams.specs.Feeding.{IsFed, Brings};
+ghost use Rattle.ov_serve.specs.Serving.{Around, around, ServingOn, Served, Tells};
+
+use crate::ends::{Clock, Sink, Source};
+use crate::send::write_waiting;
+use ov_core::early::{Draws, Keeper};
+use ov_core::{Cause, Core, Entry, Event, Session, StepFault, Stepped};
+use ov_cut::Cutter;
+use ov_streams::feed_session;
+use std::alloc::Global;
+use std::collections::VecDeque;
+use std::sync::Wait;
+
+/// The most bytes that are read at once.
+const PIECE_BYTES: usize = 4096;
+
+/// Serves one session: reads its stream piece by piece, each at the moment that the clock tells behind it, and writes what is sent to it
+/// before it reads on. It ends with the cause for which the session was closed, or with `WriteFault` where the writer failed.
+/// A session that can't be opened reads and writes nothing.
+pub fn serve_one<R: Wait, K: Keeper + Drop, D: Draws + Drop, S: Source, W: Sink, C: Clock>(
+    rt: &R,
+    core: &mut Core<K, D>,
+    alloc: Global,
+    reader: &mut S,
+    writer: &mut W,
+    clock: &mut C,
+) -> Result<Cause, StepFault>
+    ensures served { IfOk result (λ cause. Served C.tells core.old.state.next core.old (around (S.told reader.old) (W.told writer.old) clock.old)
+        cause core.new (around (S.told reader.new) (W.told writer.new) clock.new)) }
+    ensures ends { IfOk result (λ cause. Tells cause (S.at_end reader.new) (S.faults reader.old) (S.faults reader.new) (W.faults writer.old) (W.faults writer.new)) }
+    ensures refused { IfErr result (λ fault. core.new ≡ core.old) }
+    ensures untouched { IfErr result (λ fault. (reader.new ≡ reader.old) × (writer.new ≡ writer.old) × (clock.new ≡ clock.old)) }
+{
+    let session = match core.step(alloc, 0, Event::Open) {
+        Stepped::Opened(session) => session,
+        Stepped::Refused(fault) => return Err(fault),
+        Stepped::Done | Stepped::Closed => unreachable!(),
+    };
+    let mut cutter = Cutter::new(alloc);
+    Ok(serve_session(rt, core, alloc, session, &mut cutter, reader, writer, clock))
+}
+
+/// Serves a session that was opened, up to its closing.
+fn serve_session<R: Wait, K: Keeper + Drop, D: Draws + Drop, S: Source, W: Sink, C: Clock>(
+    rt: &R,
+    core: &mut Core<K, D>,
+    alloc: Global,
+    session: Session,
+    cutter: &mut Cutter,
+    reader: &mut S,
+    writer: &mut W,
+    clock: &mut C,
+) -> Cause
+    ensures served { (first : Running K D) (from : Around C)
+        → ServingOn C.tells session.serial first from core.old (around (S.told reader.old) (W.told writer.old) clock.old) cutter.old
+        → Served C.tells session.serial first from result core.new (around (S.told reader.new) (W.told writer.new) clock.new) }
+    ensures ends { Tells result (S.at_end reader.new) (S.faults reader.old) (S.faults reader.new) (W.faults writer.old) (W.faults writer.new) }
+{
+    let mut piece = [0u8; PIECE_BYTES];
+    for _ in rt.forever() {
+        if !write_waiting(core, session, writer) {
+            let _ = core.close(session, Cause::WriteFault);
+            return Cause::WriteFault;
+        }
+        if !core.is_open(session) {
+            return cause_of_closing(core.history());
+        }
+        match reader.read(&mut piece) {
+            Some(0) => {
+                let _ = core.close(session, Cause::InputEnded);
+                return Cause::InputEnded;
+            }
+            Some(n) => serve_piece(core, alloc, session, cutter, clock, &piece[..n]),
+            None => {
+                let _ = core.close(session, Cause::ReadFault);
+                return Cause::ReadFault;
+            }
+        }
+    }
+    unreachable!()
+}
+
+/// Enters a piece of the open session's stream, at the moment that the clock tells.
+fn serve_piece<K: Keeper + Drop, D: Draws + Drop, C: Clock>(
+    core: &mut Core<K, D>,
+    alloc: Global,
+    session: Session,
+    cutter: &mut Cutter,
+    clock: &mut C,
+    piece: &[u8],
+)
+    requires { is_open core.old.state session.serial ≡ true }
+    ensures { (stream : List ℕ) → IsFed stream cutter.old
+        → (at : ℕ) × C.tells clock.old at clock.new × Brings at session.serial stream piece.now core.old core.new cutter.new }
+{
+    let at = clock.now();
+    feed_session(core, alloc, at, session, cutter, piece);
+}
+
+/// Why the session that was closed last was closed, where its stream closed it: by damage, or for want of memory.
+fn cause_of_closing(history: &VecDeque<Entry>) -> Cause
+    ensures { (result ≡ Cause.Damaged) ⊎ (result ≡ Cause.Memory) }
+{
+    match history.back() {
+        Some(
+            Entry {
+                event: Event::Close(_, Cause::Damaged),
+                ..
+            },
+        ) => Cause::Damaged,
+        _ => Cause::Memory,
+    }
+}

@@ -1,0 +1,112 @@
+ghost use Rattle.std.specs.Prelude.{◌≡◌, [], false};
+ghost use Rattle.ov_serve.specs.Ends.{one_more};
+
+use crate::ends::{Sink, Source};
+use ov_base::Told;
+use std::io::{Read, Write};
+
+/// A reader or a writer of std's as a source or a sink. An interrupted call counts as a failure, and so does a write of no
+/// byte.
+#[derive(Drop)]
+pub struct Watched<T> {
+    inner: T,
+    told: Told,
+    ended: bool,
+    failures: u64,
+}
+
+impl<T> Watched<T> {
+    /// It was asked for nothing yet.
+    pub fn new(inner: T) -> Watched<T>
+        ensures inner { result.inner ≡ inner }
+        ensures told { result.told.bytes ≡ [] }
+        ensures ended { result.ended ≡ false }
+        ensures failures { result.failures ≡ 0 }
+    {
+        Watched {
+            inner,
+            told: Told::new(),
+            ended: false,
+            failures: 0,
+        }
+    }
+
+    /// What it watched.
+    pub fn into_inner(self) -> T
+        ensures { result ≡ self.inner }
+    {
+        let Watched { inner, .. } = self;
+        inner
+    }
+
+    fn count_failure(&mut self)
+        ensures { self.new ≡ record self.old { failures = one_more self.old.failures } }
+    {
+        self.failures = self.failures.saturating_add(1);
+    }
+}
+
+impl<R: Read> Source for Watched<R> {
+    ghost told = { λ w. w.told.bytes };
+
+    ghost at_end = { λ w. w.ended };
+
+    ghost faults = { λ w. w.failures };
+
+    fn read(&mut self, piece: &mut [u8]) -> Option<usize> {
+        match self.inner.read(piece) {
+            Ok(n) => {
+                self.told.add(&piece[..n]);
+                if n == 0 && !piece.is_empty() {
+                    self.ended = true;
+                }
+                Some(n)
+            }
+            Err(_) => {
+                self.count_failure();
+                None
+            }
+        }
+    }
+
+    fn ended(&self) -> bool {
+        self.ended
+    }
+
+    fn failures(&self) -> u64 {
+        self.failures
+    }
+}
+
+impl<W: Write> Sink for Watched<W> {
+    ghost told = { λ w. w.told.bytes };
+
+    ghost faults = { λ w. w.failures };
+
+    fn write(&mut self, bytes: &[u8]) -> Option<usize> {
+        match self.inner.write(bytes) {
+            Ok(n) if n > 0 || bytes.is_empty() => {
+                self.told.add(&bytes[..n]);
+                Some(n)
+            }
+            _ => {
+                self.count_failure();
+                None
+            }
+        }
+    }
+
+    fn flush(&mut self) -> bool {
+        match self.inner.flush() {
+            Ok(()) => true,
+            Err(_) => {
+                self.count_failure();
+                false
+            }
+        }
+    }
+
+    fn failures(&self) -> u64 {
+        self.failures
+    }
+}
