@@ -1,0 +1,65 @@
+ghost use Rattle.std.specs.Prelude.{◌≡◌, [], Some, IfSome, codes};
+ghost use Rattle.serde_json.specs.Read.{read};
+ghost use Rattle.serde_json.specs.Written.{compact_text};
+ghost use Rattle.ov_specs.specs.Machine.{opening};
+ghost use Rattle.ov_core.specs.Following.{Follows, none_given};
+
+use ov_base::{Text, Tree, has_real};
+use ov_core::Core;
+use ov_core::early::{Draws, ListKeeper, Schema};
+use serde_json::Value;
+use std::alloc::Global;
+
+/// The schema that is served: one table, of switches.
+const SCHEMA: &str =
+    "{\"name\":\"Net\",\"tables\":{\"Switch\":{\"columns\":{\"load\":{\"type\":\"integer\"},\"name\":{\"type\":\"string\"}}}},\"version\":\"1.0.0\"}";
+
+/// An empty database in memory, under the schema that is served. None where memory is refused.
+pub fn open_database<D: Draws + Drop>(alloc: Global, draws: D) -> Option<Core<ListKeeper, D>>
+    ensures start { IfSome result (λ core. Follows (opening (codes "Net")) [] none_given core) }
+    ensures schema { IfSome result (λ core. read SCHEMA.now ≡ Some core.schema.tree) }
+    ensures source { IfSome result (λ core. core.source ≡ draws) }
+{
+    let schema = served_schema(alloc)?;
+    let keeper = ListKeeper::new(alloc, text_of(alloc, &schema)?);
+    match Core::open(alloc, keeper, schema, draws) {
+        Ok(core) => Some(core),
+        Err(_) => None,
+    }
+}
+
+/// The schema that is served.
+fn served_schema(alloc: Global) -> Option<Schema>
+    ensures name { IfSome result (λ schema. schema.name ≡ codes "Net") }
+    ensures tree { IfSome result (λ schema. read SCHEMA.now ≡ Some schema.tree) }
+{
+    let tree = tree_of(alloc, SCHEMA)?;
+    match Schema::read(alloc, tree) {
+        Ok(schema) => Some(schema),
+        Err(_) => None,
+    }
+}
+
+/// The tree that a text is, where it has no reals.
+fn tree_of(alloc: Global, text: &str) -> Option<Tree>
+    ensures { IfSome result (λ tree. read text.now ≡ Some tree) }
+{
+    let value = Value::from_str(alloc, text).ok()?;
+    if has_real(&value) {
+        return None;
+    }
+    Some(Tree::new(value))
+}
+
+/// The text of a schema, compact.
+fn text_of(alloc: Global, schema: &Schema) -> Option<Text>
+    ensures { IfSome result (λ text. text ≡ compact_text schema.now.tree) }
+{
+    let Ok(bytes) = schema.tree().to_bytes(alloc) else {
+        return None;
+    };
+    match String::from_utf8(bytes.into_vec()) {
+        Ok(text) => Some(Text::from_string(text)),
+        Err(_) => None,
+    }
+}
