@@ -1,13 +1,13 @@
 -- What a core entered and handed out, one part after another.
 use Rattle.std.proofs.Common.{◌≡◌, ℕ, List, [], ◌∷◌, ◌++◌, Bool, true, false, cond, eqb, Option, Some, None, sym, ap, subst, ◌∙◌, append_assoc}
-use Rattle.std.specs.Prelude.{option_to_list}
+use Rattle.std.specs.Prelude.{option_to_list, IfNone}
 use Rattle.std.proofs.lemmas.List.{append-nil}
 use Rattle.std.proofs.lemmas.Grind.{flat_map-append}
 use Rattle.ov_specs.specs.Machine.{State, Entry}
 use Rattle.ov_specs.specs.History.{joined}
 use Rattle.ov_core.specs.Waiting.{waiting_for}
-use Rattle.ov_core.specs.Following.{Running, Follows, Enters, and_handed}
-use Rattle.ov_serve.specs.Serving.{and_all_handed, Goes, WritesOf, Sends}
+use Rattle.ov_core.specs.Following.{Running, Follows, Enters, and_handed, and_all_handed}
+use Rattle.ov_serve.specs.Serving.{Goes, WritesOf, Sends}
 
 -- the same frames were given
 given_same : {K D : Type 0} (before : State) (history : List Entry) (given given' : ℕ → List (List ℕ)) (core : Running K D) → ((s : ℕ) → given s ≡ given' s) → Follows before history given core → Follows before history given' core
@@ -84,14 +84,19 @@ module _ {K D : Type 0} (n : ℕ) (a b c : Running K D) (frames : List (List ℕ
       (writes_on is_whole (joined frames) frame before told after written (subst (λ (all : List ℕ). WritesOf is_whole all told after) same writes))
 
   -- no frame was left, and what was written was handed on, or not
-  pub sends-last : (is_whole : Bool) (frame : Option (List ℕ)) (after : List ℕ) → frame ≡ None → ((s : State) (history : List Entry) (given : ℕ → List (List ℕ)) → Follows s history given b → Follows s history (and_handed given n frame) c) → after ≡ told → Sends n is_whole a c before after
-  sends-last is_whole frame after none handed same = record {
+  pub sends-last : (is_whole : Bool) (frame : Option (List ℕ)) (after : List ℕ) → frame ≡ None → waiting_for n b.waiting ≡ option_to_list frame ++ waiting_for n c.waiting → IfNone frame (waiting_for n b.waiting ≡ []) → ((s : State) (history : List Entry) (given : ℕ → List (List ℕ)) → Follows s history given b → Follows s history (and_handed given n frame) c) → after ≡ told → Sends n is_whole a c before after
+  sends-last is_whole frame after none oldest empty handed same = record {
     frames = frames;
     goes = subst (λ (xs : List (List ℕ)). Goes n a [] xs c) (append-nil frames)
         (goes_on_handing n a b c [] frames [] goes (subst (λ (o : Option (List ℕ)). Goes n b [] (option_to_list o) c) none (goes_by_frame n b c frame handed)));
     written = all_or_some is_whole;
+    none_left = λ whole. left_none frame none oldest empty;
   }
     where
+      left_none : (o : Option (List ℕ)) → o ≡ None → waiting_for n b.waiting ≡ option_to_list o ++ waiting_for n c.waiting → IfNone o (waiting_for n b.waiting ≡ []) → waiting_for n c.waiting ≡ []
+      left_none None is oldest' empty' = sym oldest' ∙ empty'
+      left_none (Some frame') is oldest' empty' = cc
+
       all_or_some : (w : Bool) → WritesOf w (joined frames) before after
       all_or_some true = same ∙ written
       all_or_some false = (joined frames, same ∙ written, ([], append-nil (joined frames)))

@@ -1,3 +1,5 @@
+pub mod Unopened
+pub mod Closings
 pub mod Goings
 pub mod Servings
 pub mod Starts

@@ -1,19 +1,25 @@
 -- What a session begins with.
-use Rattle.std.proofs.Common.{◌≡◌, ℕ, [], ◌∷◌, false, refl, sym, max, append-nil}
+use Rattle.std.proofs.Common.{◌≡◌, ℕ, ◌≤◌, List, [], ◌∷◌, length, Bool, true, false, Option, None, refl, sym, ap, ◌∙◌, max, append-nil}
+use Rattle.std.specs.Prelude.{◌||◌}
+use Rattle.std.proofs.lemmas.List.Elements.{All-nil}
+use Rattle.std.proofs.lemmas.Bool.{eq-eqb}
 use Rattle.ov_specs.specs.Cut.{cut}
 use Rattle.ov_specs.specs.Message.{asked}
 use Rattle.ov_specs.specs.Machine as machine
-use Rattle.ov_specs.specs.Machine.{State, Uuid}
+use Rattle.ov_specs.specs.Machine.{State, Uuid, is_open, listed}
+use Rattle.ov_specs.specs.History.{closes, or_else}
 use Rattle.ov_specs.specs.Streams as streams
 use Rattle.ov_specs.specs.Streams.{Opens, no_streams, Expands, ExpandsTimed}
 use Rattle.ov_specs.proofs.Expanding.{one_event}
+use Rattle.ov_specs.proofs.Turns.{turn_open}
 use Rattle.ov_cut.specs.Cutting.{Cutting, StandsFor}
 use Rattle.ov_core.specs.declared.event.Session.{Session}
 use Rattle.ov_core.specs.declared.event.Stepped.TheVariants as answer
 use Rattle.ov_core.specs.Following.{Running}
 use Rattle.ov_core.specs.Stepping.{IsEntered}
 use Rattle.ov_streams.specs.Feeding.{IsFed}
-use Rattle.ov_serve.specs.Serving.{Around, ServingOn}
+use Rattle.ov_serve.specs.Serving.{Around, most_piece_bytes, ServingOn}
+use Rattle.ov_serve.proofs.Closings.{stands_open}
 use Rattle.ov_serve.proofs.Goings.{goes_by_entries}
 
 nothing_damaged : (asked []).damaged ≡ false
@@ -28,6 +34,15 @@ fed_nothing cutter stands = record {
   whole = nothing_damaged;
 }
 
+-- the second of two
+or_true : (b : Bool) → (b || true) ≡ true
+or_true true = refl
+or_true false = refl
+
+-- an entry that closes nothing
+none_behind : (o : Option machine.Cause) → o ≡ None → or_else o None ≡ None
+none_behind o is = ap (λ v. or_else v None) is
+
 -- a session that was opened
 pub serving_opened : {K D C : Type 0} (draws : D → Uuid → D → Type 0) (tells : C → ℕ → C → Type 0) (session : Session) (old new : Running K D) (from : Around C) (cutter : Cutting) → StandsFor [] [] cutter
     → IsEntered draws (max 0 old.state.moment) machine.Open old (answer.Opened session) new → ServingOn tells session.serial old from new from cutter
@@ -35,6 +50,8 @@ serving_opened {K} {D} {C} draws tells session old new from cutter stands entere
     let t : machine.Stepped = record { state = new.state; sent = entered.moves.sent } in
     let enters : streams.Enters 0 old.state machine.Open entered.entry t = record { event = entered.tells.0; moment = entered.moment; step = entered.moves.stepped } in
     let expands : Expands 0 old.state no_streams Opens (entered.entry ∷ []) new.state no_streams = (entered.entry, t, refl, enters, refl, refl) in
+    let turn = turn_open session.serial old.state entered.entry t entered.moves.stepped entered.tells.0 in
+    let there : is_open new.state session.serial ≡ true = turn.open_is ∙ rw (eq-eqb old.state.next session.serial (sym entered.tells.1)) (or_true (is_open old.state session.serial)) in
     record {
       done = record {
         entries = entered.entry ∷ [];
@@ -46,7 +63,10 @@ serving_opened {K} {D} {C} draws tells session old new from cutter stands entere
         written = sym (append-nil from.written);
         expands = one_event 0 old.state no_streams Opens (entered.entry ∷ []) new.state no_streams expands;
         stream = refl;
+        sizes = All-nil (λ (p : ℕ × List ℕ). length p.1 ≤ most_piece_bytes);
         moments = refl;
+        serial = entered.tells.1;
+        stands = stands_open session.serial new.state (entered.entry ∷ []) there (none_behind (closes session.serial entered.entry.event (listed 1 entered.entry.choice.outcomes)) turn.cause_is);
       };
       fed = λ _. fed_nothing cutter stands;
     }

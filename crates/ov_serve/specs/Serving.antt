@@ -1,15 +1,16 @@
 -- What a session's serving makes of a core and of what stands around it.
-use Rattle.std.specs.Prelude.{◌≡◌, ◌⊎◌, ℕ, ◌==◌, List, [], ◌∷◌, ◌++◌, map, Bool, true, false, if◌then◌else◌}
-use Rattle.std.specs.List.{flat_map}
+use Rattle.std.specs.Prelude.{◌≡◌, ◌⊎◌, ◌≤◌, ℕ, List, [], ◌∷◌, ◌++◌, map, length, Bool, true, false, Option, Some, None, MatchBool}
+use Rattle.std.specs.List.{All, flat_map}
 use Rattle.ov_specs.specs.Machine as machine
-use Rattle.ov_specs.specs.Machine.{State, is_open}
-use Rattle.ov_specs.specs.History.{joined}
+use Rattle.ov_specs.specs.Machine.{State, is_open, opening}
+use Rattle.ov_specs.specs.History.{run, joined, out, closed_by}
 use Rattle.ov_specs.specs.Streams as streams
 use Rattle.ov_specs.specs.Streams.{StreamEvent, Opens, Feed, Streams, no_streams, ExpandsTimed}
 use Rattle.ov_cut.specs.Cutting.{Cutting}
 use Rattle.ov_core.specs.declared.event.Cause.{Cause}
 use Rattle.ov_core.specs.declared.event.Cause.TheVariants.{InputEnded, ReadFault, WriteFault, Damaged, Overrun, Memory}
-use Rattle.ov_core.specs.Following.{Running, Follows}
+use Rattle.ov_core.specs.Waiting.{waiting_for}
+use Rattle.ov_core.specs.Following.{Running, Follows, and_all_handed}
 use Rattle.ov_streams.specs.Feeding.{IsFed}
 use Rattle.ov_serve.specs.Ends.{one_more}
 
@@ -24,10 +25,6 @@ abbrev pub around : {C : Type 0} → List ℕ → List ℕ → C → Around C
 around read written clock = record { read = read; written = written; clock = clock }
 
 -- ---- frames handed out
-
--- the frames were handed out of the session behind the others (own)
-abbrev pub and_all_handed : (ℕ → List (List ℕ)) → ℕ → List (List ℕ) → ℕ → List (List ℕ)
-and_all_handed given session frames other = given other ++ (if other == session then frames else [])
 
 -- Whatever history and frames the core has followed, it follows the history with these entries behind it, and these frames of
 -- the session were handed out on the way (own).
@@ -50,17 +47,26 @@ abbrev pub Counts : Bool → ℕ → ℕ → Type 0
 Counts true old new = new ≡ old
 Counts false old new = new ≡ one_more old
 
--- These frames were handed out of the session and written, or a beginning of them (own).
+-- These frames were handed out of the session and written, and no other waits; or a beginning of them was written (own).
 pub record Sends {K D : Type 0} (n : ℕ) (is_whole : Bool) (old new : Running K D) (said said' : List ℕ) : Type 0 where
   pub frames : List (List ℕ)
   pub goes : Goes n old [] frames new
   pub written : WritesOf is_whole (joined frames) said said'
+  pub none_left : is_whole ≡ true → waiting_for n new.waiting ≡ []
 
 -- ---- what was read
 
 -- pieces, each with the moment at which it came (own)
 abbrev pub Pieces : Type 0
 Pieces = List (ℕ × List ℕ)
+
+-- the most bytes of a piece (own)
+abbrev pub most_piece_bytes : ℕ
+most_piece_bytes = 4096
+
+-- no piece is longer (own)
+abbrev pub ArePieces : Pieces → Type 0
+ArePieces pieces = All (λ p. length p.1 ≤ most_piece_bytes) pieces
 
 -- the bytes of the pieces (own)
 abbrev pub bytes_of : Pieces → List ℕ
@@ -74,6 +80,33 @@ events_of n pieces = (0, Opens) ∷ map (λ p. (p.0, Feed n p.1)) pieces
 abbrev pub ToldBy : {C : Type 0} → (C → ℕ → C → Type 0) → C → Pieces → C → Type 0
 ToldBy tells old [] new = new ≡ old
 ToldBy {C} tells old (p ∷ pieces) new = (mid : C) × tells old p.0 mid × ToldBy tells mid pieces new
+
+-- ---- why a session was closed
+
+-- why a session was closed by its stream, by the event that closed it: damage, or want of memory (own)
+abbrev pub stream_cause : machine.Event → machine.Cause
+stream_cause (machine.Close session machine.Damaged) = machine.Damaged
+stream_cause event = machine.Memory
+
+-- the last of these entries closed the session, by its stream (own)
+pub record IsShut (n : ℕ) (entries : List machine.Entry) : Type 0 where
+  pub front : List machine.Entry
+  pub last : machine.Entry
+  pub parts : entries ≡ front ++ last ∷ []
+  pub cause : closed_by entries n ≡ Some (stream_cause last.event)
+
+-- the session is open and none of the entries closed it, or the last of them did, by its stream (own)
+abbrev pub StandsAfter : ℕ → State → List machine.Entry → Type 0
+StandsAfter n s entries = MatchBool (is_open s n) (closed_by entries n ≡ None) (IsShut n entries)
+
+-- The cause that is told is that of the history. Where a write failed, the stream may have closed the session before (own).
+abbrev pub IsTold : Cause → Option machine.Cause → Type 0
+IsTold InputEnded closed = closed ≡ Some machine.InputEnded
+IsTold ReadFault closed = closed ≡ Some machine.ReadFault
+IsTold WriteFault closed = (closed ≡ Some machine.WriteFault) ⊎ ((closed ≡ Some machine.Damaged) ⊎ (closed ≡ Some machine.Memory))
+IsTold Damaged closed = closed ≡ Some machine.Damaged
+IsTold Memory closed = closed ≡ Some machine.Memory
+IsTold Overrun closed = ⊥
 
 -- ---- a session
 
@@ -89,7 +122,10 @@ pub record Serving {K D C : Type 0} (tells : C → ℕ → C → Type 0) (n : �
   pub written : WritesOf is_whole (joined frames) from.written to.written
   pub expands : ExpandsTimed old.state no_streams (events_of n pieces) entries new.state streams
   pub stream : streams n ≡ bytes_of pieces
+  pub sizes : ArePieces pieces
   pub moments : ToldBy tells from.clock pieces to.clock
+  pub serial : n ≡ old.state.next
+  pub stands : StandsAfter n new.state entries
 
 -- the same, where the cutter was given what was read, while the session is open (own)
 pub record ServingOn {K D C : Type 0} (tells : C → ℕ → C → Type 0) (n : ℕ) (old : Running K D) (from : Around C) (new : Running K D) (to : Around C) (cutter : Cutting) : Type 0 where
@@ -123,6 +159,15 @@ is_written Damaged = true
 is_written Overrun = true
 is_written Memory = true
 
+-- What a history from an opening says of a session at its end, by the bytes that were written before it and behind it: all
+-- that the history sends the session was written, or a beginning of that where a write failed; and the history closes the
+-- session for the cause that is told (own).
+pub record EndsAs (n : ℕ) (cause : Cause) (name : List ℕ) (history : List machine.Entry) (said said' : List ℕ) : Type 0 where
+  pub reached : machine.Stepped
+  pub legal : run (opening name) history ≡ Some reached
+  pub written : WritesOf (is_written cause) (out n reached.sent) said said'
+  pub told : IsTold cause (closed_by history n)
+
 -- What was done from the opening of the session to its closing (own).
 pub record Served {K D C : Type 0} (tells : C → ℕ → C → Type 0) (n : ℕ) (old : Running K D) (from : Around C) (cause : Cause) (new : Running K D) (to : Around C) : Type 0 where
   -- what the core entered, what it handed out, and what was read
@@ -131,6 +176,7 @@ pub record Served {K D C : Type 0} (tells : C → ℕ → C → Type 0) (n : ℕ
   pub pieces : Pieces
   pub goes : Goes n old entries frames new
   pub read : to.read ≡ from.read ++ bytes_of pieces
+  pub sizes : ArePieces pieces
   pub moments : ToldBy tells from.clock pieces to.clock
   -- the entries are those of the stream events, and then perhaps a closing
   pub front : List machine.Entry
@@ -142,8 +188,12 @@ pub record Served {K D C : Type 0} (tells : C → ℕ → C → Type 0) (n : ℕ
   pub stream : streams n ≡ bytes_of pieces
   pub closes : ClosesFor n cause mid last new.state
   pub shut : is_open new.state n ≡ false
-  -- all that was sent was written, or a beginning of it where a write failed
+  -- the frames were written, and none is left waiting; or a beginning of them where a write failed
   pub written : WritesOf (is_written cause) (joined frames) from.written to.written
+  pub none_left : is_written cause ≡ true → waiting_for n new.waiting ≡ []
+  -- whatever history the core has followed from its opening, this is what it says of the session with the entries behind it
+  pub ends : (name : List ℕ) (history : List machine.Entry) (given : ℕ → List (List ℕ)) → Follows (opening name) history given old
+      → EndsAs n cause name (history ++ entries) from.written to.written
 
 -- What the ends tell of a cause: the input ended only where the reader met its end, and a failure is counted where one is told
 -- and nowhere else (own).

@@ -1,9 +1,10 @@
-ghost use Rattle.std.specs.Prelude.{◌≡◌, ◌⊎◌, ◌<◌, ℕ, List, true, false, length, IfOk, IfErr};
-ghost use Rattle.ov_specs.specs.Machine.{is_open};
+ghost use Rattle.std.specs.Prelude.{◌≡◌, ◌⊎◌, ◌++◌, ℕ, List, [], ◌∷◌, map, true, IfOk, IfErr};
+ghost use Rattle.ov_specs.specs.Machine.{is_open, Entry as SpecEntry, Open as SpecOpen};
+ghost use Rattle.ov_core.specs.Entries.{cause_view, event_view, entry_view};
 ghost use Rattle.ov_core.specs.Following.{Running};
 ghost use Rattle.ov_core.specs.Stepping.{Refusal};
 ghost use Rattle.ov_streams.specs.Feeding.{IsFed, Brings};
-ghost use Rattle.ov_serve.specs.Serving.{Around, around, ServingOn, Served, Tells};
+ghost use Rattle.ov_serve.specs.Serving.{Around, around, stream_cause, ServingOn, Served, Tells};
 
 use crate::ends::{Clock, Sink, Source};
 use crate::send::write_waiting;
@@ -18,9 +19,12 @@ use std::sync::Wait;
 /// The most bytes that are read at once.
 const PIECE_BYTES: usize = 4096;
 
-/// Serves one session: reads its stream piece by piece, each at the moment that the clock tells behind it, and writes what is sent to it
-/// before it reads on. It ends with the cause for which the session was closed, or with `WriteFault` where the writer failed.
-/// A session that can't be opened reads and writes nothing.
+/// Serves one session: reads its stream in pieces of at most 4,096 bytes, each at the moment in milliseconds that the clock
+/// tells behind it, and writes what is sent to it before it reads on (own, over RFC 7047, 4).
+///
+/// It ends with the cause for which the history closed the session, and then all that was sent to it is written. With
+/// `WriteFault`, where the writer failed, a beginning of that is written, and the stream may have closed the session before.
+/// Where an `Open` is refused nothing is read or written, and the fault is that of `Core::step`.
 pub fn serve_one<R: Wait, K: Keeper + Drop, D: Draws + Drop, S: Source, W: Sink, C: Clock>(
     rt: &R,
     core: &mut Core<K, D>,
@@ -32,7 +36,7 @@ pub fn serve_one<R: Wait, K: Keeper + Drop, D: Draws + Drop, S: Source, W: Sink,
     ensures served { IfOk result (λ cause. Served C.tells core.old.state.next core.old (around (S.told reader.old) (W.told writer.old) clock.old)
         cause core.new (around (S.told reader.new) (W.told writer.new) clock.new)) }
     ensures ends { IfOk result (λ cause. Tells cause (S.at_end reader.new) (S.faults reader.old) (S.faults reader.new) (W.faults writer.old) (W.faults writer.new)) }
-    ensures refused { IfErr result (λ fault. core.new ≡ core.old) }
+    ensures refused { IfErr result (λ fault. (core.new ≡ core.old) × Refusal SpecOpen core.old.state fault) }
     ensures untouched { IfErr result (λ fault. (reader.new ≡ reader.old) × (writer.new ≡ writer.old) × (clock.new ≡ clock.old)) }
 {
     let session = match core.step(alloc, 0, Event::Open) {
@@ -103,15 +107,22 @@ fn serve_piece<K: Keeper + Drop, D: Draws + Drop, C: Clock>(
 
 /// Why the session that was closed last was closed, where its stream closed it: by damage, or for want of memory.
 fn cause_of_closing(history: &VecDeque<Entry>) -> Cause
-    ensures { (result ≡ Cause.Damaged) ⊎ (result ≡ Cause.Memory) }
+    ensures one_of { (result ≡ Cause.Damaged) ⊎ (result ≡ Cause.Memory) }
+    ensures found { (front : List SpecEntry) (last : SpecEntry) → map entry_view history.now.items ≡ front ++ last ∷ [] → cause_view result ≡ stream_cause last.event }
 {
     match history.back() {
-        Some(
-            Entry {
-                event: Event::Close(_, Cause::Damaged),
-                ..
-            },
-        ) => Cause::Damaged,
+        Some(entry) => cause_by(&entry.event),
+        None => Cause::Memory,
+    }
+}
+
+/// Why a stream closed its session, by the event that did.
+fn cause_by(event: &Event) -> Cause
+    ensures one_of { (result ≡ Cause.Damaged) ⊎ (result ≡ Cause.Memory) }
+    ensures is { cause_view result ≡ stream_cause (event_view event.now) }
+{
+    match event {
+        Event::Close(_, Cause::Damaged) => Cause::Damaged,
         _ => Cause::Memory,
     }
 }

@@ -1,4 +1,5 @@
 use Rattle.std.proofs.Common.{true, false, [], ◌∷◌, ◌++◌, append-nil, refl, sym, ap, ◌∙◌}
+use Rattle.std.proofs.lemmas.Bool.{false≢true}
 use Rattle.ov_core.specs.Following.{Running}
 use Rattle.ov_serve.proofs.Goings.{goes_nowhere, goes-more, writes-more, sends-last}
 use Rattle.ov_serve.proofs.send.write_waiting.Goals as goal
@@ -15,6 +16,7 @@ returns-then-not-write_frame-clause-sends g c =
       frames = was.0 ++ c.in-Some.frame ∷ [];
       goes = goes-more c.args.session.serial c.args.core.now c.loop-frame.core c.next_frame.new.self was.0 (g.W.Sink.told c.args.writer.now) (g.W.Sink.told c.loop-frame.writer) was.1 was.2 c.in-Some.frame c.in-Some.ensures.handed;
       written = writes-more c.args.session.serial c.args.core.now c.loop-frame.core c.next_frame.new.self was.0 (g.W.Sink.told c.args.writer.now) (g.W.Sink.told c.loop-frame.writer) was.1 was.2 false c.in-Some.frame c.as_slice.result.now (g.W.Sink.told c.write_frame.new.writer) c.as_slice.ensures c.if-not-write_frame.ensures.written;
+      none_left = λ whole. absurd (false≢true whole);
     }
 
 pub loop-frame-preserved : goal.loop-frame-preserved
@@ -31,4 +33,4 @@ pub returns-clause-sends : goal.returns-clause-sends
 returns-clause-sends g c =
     let was = c.loop-frame.invariant in
     sends-last c.args.session.serial c.args.core.now c.loop-frame.core c.next_frame.new.self was.0 (g.W.Sink.told c.args.writer.now) (g.W.Sink.told c.loop-frame.writer) was.1 was.2
-    c.flush.result c.next_frame.result (g.W.Sink.told c.flush.new.self) c.in_default.is c.next_frame.ensures.handed c.flush.ensures.told
+    c.flush.result c.next_frame.result (g.W.Sink.told c.flush.new.self) c.in_default.is c.next_frame.ensures.oldest c.next_frame.ensures.none c.next_frame.ensures.handed c.flush.ensures.told

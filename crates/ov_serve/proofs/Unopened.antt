@@ -1,0 +1,230 @@
+-- What a history does to sessions that are not open.
+use Rattle.std.proofs.Common.{◌≡◌, ◌≢◌, ℕ, ◌+◌, ◌≤◌, List, [], ◌∷◌, ◌++◌, map, refl, sym, ap, ◌∙◌, eqb, leb, Bool, true, false, Option, Some, None, inl, inr, arith}
+use Rattle.std.specs.Prelude.{◌&&◌, option_map, option_and_then}
+use Rattle.std.proofs.lemmas.List.{map-append}
+use Rattle.std.proofs.lemmas.List.Elements.{filter-append}
+use Rattle.std.proofs.lemmas.Bool.{cases_eq, and_parts, ne_eqb, false≢true}
+use Rattle.serde_json.specs.Data.{Data}
+use Rattle.ov_specs.specs.Frame.{frame}
+use Rattle.ov_specs.specs.Message.{Message}
+use Rattle.ov_specs.specs.Machine.{State, Sent, Entry, Event, Open, Take, Close, Tick, Cause, Outcome, NoMemory, Kept, Exhausted, Failed, Listed, listed, Stepped, step, happens, takes, attempted, closed, when, is_open, is_quiet, replies_to, to_session, none_listed, none_drawn, opening}
+use Rattle.ov_specs.specs.History.{run, then_sends, frames_to, closes, closed_by, or_else}
+use Rattle.ov_specs.proofs.Turns.{turn_open, turn_tick, turn_close, turn_close_other, turn_take, turn_take_other}
+use Rattle.ov_core.proofs.Answered.{frames_to-to_session}
+
+-- ---- what a step sends
+
+-- what is sent in two parts
+frames_to-append : (n : ℕ) (xs ys : List Sent) → frames_to n (xs ++ ys) ≡ frames_to n xs ++ frames_to n ys
+frames_to-append n xs ys = ap (map (λ (t : Sent). frame t.tree)) (filter-append (λ (t : Sent). eqb t.session n) xs ys) ∙ map-append _ _ _
+
+-- a choice that suits
+suits : {A : Type 0} (b : Bool) (o : Option A) (x : A) → when b o ≡ Some x → (b ≡ true) × (o ≡ Some x)
+suits true o x h = (refl, h)
+suits false o x h = cc
+
+-- what a step makes is one
+the_same : {A : Type 0} (x y : A) → Some x ≡ Some y → x ≡ y
+the_same x y h = cc
+
+-- the state at the moment of the entry
+abbrev now : State → Entry → State
+now s e = record s { moment = e.choice.moment }
+
+-- a step is what the event makes happen
+happened : (s : State) (e : Entry) (t : Stepped) (what : Event) → e.event ≡ what → step s e ≡ Some t → happens (now s e) e.choice what ≡ Some t
+happened s e t what is h = (suits (leb s.moment e.choice.moment) (happens (now s e) e.choice what) t (sym (ap (λ v. when (leb s.moment e.choice.moment) (happens (now s e) e.choice v)) is) ∙ h)).1
+
+-- an attempt sends nothing to another session
+attempt_aside : (s : State) (m : ℕ) (trees : List Data) (o : Option Outcome) (t : Stepped) → attempted s m trees o ≡ Some t → (n : ℕ) → n ≢ m → frames_to n t.sent ≡ []
+attempt_aside s m trees None t h n other =
+    ap (λ (v : Stepped). frames_to n v.sent) (sym (the_same (record { state = s; sent = to_session m trees }) t h)) ∙ (frames_to-to_session m n trees ∙ rw (ne_eqb n m other) refl)
+attempt_aside s m trees (Some NoMemory) t h n other = ap (λ (v : Stepped). frames_to n v.sent) (sym (the_same (closed s m) t h))
+attempt_aside s m trees (Some Kept) t h n other = cc
+attempt_aside s m trees (Some Exhausted) t h n other = cc
+attempt_aside s m trees (Some Failed) t h n other = cc
+
+module _ (s : State) (e : Entry) (t : Stepped) (h : step s e ≡ Some t) where
+  -- an opening sends nothing
+  open_sends : e.event ≡ Open → t.sent ≡ []
+  open_sends is =
+      let x : Stepped = record { state = record (now s e) { sessions = s.sessions ++ s.next ∷ []; next = s.next + 1 }; sent = [] } in
+      ap (λ (v : Stepped). v.sent) (sym (the_same x t (suits (is_quiet e.choice) (Some x) t (happened s e t Open is h)).1))
+
+  -- time sends nothing
+  tick_sends : e.event ≡ Tick → t.sent ≡ []
+  tick_sends is =
+      let x : Stepped = record { state = now s e; sent = [] } in
+      ap (λ (v : Stepped). v.sent) (sym (the_same x t (suits (is_quiet e.choice) (Some x) t (happened s e t Tick is h)).1))
+
+  -- what a closing makes, of an open session
+  closing_makes : (m : ℕ) (cause : Cause) → e.event ≡ Close m cause → ((is_quiet e.choice && is_open s m) ≡ true) × (Some (closed (now s e) m) ≡ Some t)
+  closing_makes m cause is = suits (is_quiet e.choice && is_open s m) (Some (closed (now s e) m)) t (happened s e t (Close m cause) is h)
+
+  -- a closing sends nothing
+  pub close_sends : (m : ℕ) (cause : Cause) → e.event ≡ Close m cause → t.sent ≡ []
+  close_sends m cause is = ap (λ (v : Stepped). v.sent) (sym (the_same (closed (now s e) m) t (closing_makes m cause is).1))
+
+  -- an open session is closed
+  pub close_of_open : (m : ℕ) (cause : Cause) → e.event ≡ Close m cause → is_open s m ≡ true
+  close_of_open m cause is = (and_parts (is_quiet e.choice) (is_open s m) (closing_makes m cause is).0).1
+
+  -- what taking a message makes, of an open session
+  taking_makes : (m : ℕ) (message : Message) → e.event ≡ Take m message → (is_open s m ≡ true) × (takes (now s e) e.choice m message (listed 1 e.choice.outcomes) ≡ Some t)
+  taking_makes m message is = suits (is_open s m) (takes (now s e) e.choice m message (listed 1 e.choice.outcomes)) t (happened s e t (Take m message) is h)
+
+  -- another session is sent nothing for a message
+  take_aside : (m : ℕ) (message : Message) → e.event ≡ Take m message → (n : ℕ) → n ≢ m → frames_to n t.sent ≡ []
+  take_aside m message is =
+      let first : Listed = listed 1 e.choice.outcomes in
+      let trees : List Data = replies_to (now s e) message in
+      attempt_aside (now s e) m trees first.outcome t
+      (suits (none_listed first.others && none_drawn e.choice) (attempted (now s e) m trees first.outcome) t (taking_makes m message is).1).1
+
+-- ---- a session that is still to come
+
+-- a session whose serial is still to come is not open
+abbrev pub ToCome : ℕ → State → Type 0
+ToCome n s = s.next ≤ n → is_open s n ≡ false
+
+-- What a step leaves of a session that may be still to come. Where it is after the step, nothing was done to it.
+pub record Awaits (n : ℕ) (s : State) (e : Entry) (t : Stepped) : Type 0 where
+  pub grows : s.next ≤ t.state.next
+  pub to_come : ToCome n t.state
+  pub silent : s.next ≤ n → frames_to n t.sent ≡ []
+  pub no_cause : s.next ≤ n → closes n e.event (listed 1 e.choice.outcomes) ≡ None
+
+module _ (n : ℕ) (s : State) (e : Entry) (t : Stepped) (h : step s e ≡ Some t) (to_come : ToCome n s) where
+  awaits_open : e.event ≡ Open → Awaits n s e t
+  awaits_open is =
+      let turn = turn_open n s e t h is in
+      record {
+        grows = omega (arith, turn.next_is);
+        to_come = λ high.
+            let low : s.next ≤ n = omega (arith, turn.next_is) in
+            let other : s.next ≢ n = λ same. omega (arith, turn.next_is) in
+            turn.open_is ∙ rw (to_come low, ne_eqb s.next n other) refl;
+        silent = λ low. ap (frames_to n) (open_sends s e t h is);
+        no_cause = λ low. turn.cause_is;
+      }
+
+  awaits_tick : e.event ≡ Tick → Awaits n s e t
+  awaits_tick is =
+      let turn = turn_tick n s e t h is in
+      record {
+        grows = omega (arith, turn.next_is);
+        to_come = λ high. turn.open_is ∙ to_come (omega (arith, turn.next_is));
+        silent = λ low. ap (frames_to n) (tick_sends s e t h is);
+        no_cause = λ low. turn.cause_is;
+      }
+
+  awaits_close_own : (cause : Cause) → e.event ≡ Close n cause → Awaits n s e t
+  awaits_close_own cause is =
+      let turn = turn_close n s e t h cause is in
+      record {
+        grows = omega (arith, turn.next_is);
+        to_come = λ high. turn.open_is;
+        silent = λ low. ap (frames_to n) (close_sends s e t h n cause is);
+        no_cause = λ low. absurd (false≢true (sym (to_come low) ∙ close_of_open s e t h n cause is));
+      }
+
+  awaits_close_other : (m : ℕ) (cause : Cause) → m ≢ n → e.event ≡ Close m cause → Awaits n s e t
+  awaits_close_other m cause other is =
+      let turn = turn_close_other n s e t h m cause other is in
+      record {
+        grows = omega (arith, turn.next_is);
+        to_come = λ high. turn.open_is ∙ to_come (omega (arith, turn.next_is));
+        silent = λ low. ap (frames_to n) (close_sends s e t h m cause is);
+        no_cause = λ low. turn.cause_is;
+      }
+
+  awaits_take_own : (message : Message) → e.event ≡ Take n message → Awaits n s e t
+  awaits_take_own message is =
+      let there : is_open s n ≡ true = (taking_makes s e t h n message is).0 in
+      elim (turn_take n s e t h message is) [
+        | inl turn ↦ record {
+          grows = omega (arith, turn.next_is);
+          to_come = λ high. turn.open_is ∙ to_come (omega (arith, turn.next_is));
+          silent = λ low. absurd (false≢true (sym (to_come low) ∙ there));
+          no_cause = λ low. absurd (false≢true (sym (to_come low) ∙ there));
+        }
+        | inr turn ↦ record {
+          grows = omega (arith, turn.next_is);
+          to_come = λ high. turn.open_is;
+          silent = λ low. absurd (false≢true (sym (to_come low) ∙ there));
+          no_cause = λ low. absurd (false≢true (sym (to_come low) ∙ there));
+        }
+      ]
+
+  awaits_take_other : (m : ℕ) (message : Message) → m ≢ n → e.event ≡ Take m message → Awaits n s e t
+  awaits_take_other m message other is =
+      let turn = turn_take_other n s e t h m message other is in
+      record {
+        grows = omega (arith, turn.next_is);
+        to_come = λ high. turn.open_is ∙ to_come (omega (arith, turn.next_is));
+        silent = λ low. take_aside s e t h m message is n (λ same. other (sym same));
+        no_cause = λ low. turn.cause_is;
+      }
+
+  awaits_by : (what : Event) → e.event ≡ what → Awaits n s e t
+  awaits_by Open is = awaits_open is
+  awaits_by Tick is = awaits_tick is
+  awaits_by (Close m cause) is = elim (cases_eq m n) [
+    | inl same ↦ awaits_close_own cause (is ∙ ap (λ k. Close k cause) same)
+    | inr other ↦ awaits_close_other m cause other is
+  ]
+  awaits_by (Take m message) is = elim (cases_eq m n) [
+    | inl same ↦ awaits_take_own message (is ∙ ap (λ k. Take k message) same)
+    | inr other ↦ awaits_take_other m message other is
+  ]
+
+-- ---- whole histories
+
+-- the first step of a run, and the others
+pub record Runs (s : State) (e : Entry) (h : List Entry) (t : Stepped) : Type 0 where
+  pub first : Stepped
+  pub rest : Stepped
+  pub stepped : step s e ≡ Some first
+  pub runs : run first.state h ≡ Some rest
+  pub state : rest.state ≡ t.state
+  pub sent : first.sent ++ rest.sent ≡ t.sent
+
+run_parts : (s : State) (e : Entry) (h : List Entry) (t : Stepped) → run s (e ∷ h) ≡ Some t → Runs s e h t
+run_parts s e h t r = first_part (step s e) refl r
+  where
+    second_part : (u : Stepped) → step s e ≡ Some u → (o : Option Stepped) → run u.state h ≡ o → option_map (then_sends u.sent) o ≡ Some t → Runs s e h t
+    second_part u is None k p = cc
+    second_part u is (Some w) k p =
+        let same : then_sends u.sent w ≡ t = the_same (then_sends u.sent w) t p in
+        record { first = u; rest = w; stepped = is; runs = k; state = ap (λ (v : Stepped). v.state) same; sent = ap (λ (v : Stepped). v.sent) same }
+
+    first_part : (o : Option Stepped) → step s e ≡ o → option_and_then (λ u. option_map (then_sends u.sent) (run u.state h)) o ≡ Some t → Runs s e h t
+    first_part None is p = cc
+    first_part (Some u) is p = second_part u is (run u.state h) refl p
+
+-- a session that is still to come after a history was sent nothing by it, and was not closed
+pub record Unopened (n : ℕ) (s : State) (h : List Entry) (t : Stepped) : Type 0 where
+  pub low : s.next ≤ n
+  pub silent : frames_to n t.sent ≡ []
+  pub no_cause : closed_by h n ≡ None
+
+pub unopened : (n : ℕ) (s : State) (h : List Entry) (t : Stepped) → ToCome n s → run s h ≡ Some t → t.state.next ≤ n → Unopened n s h t
+unopened n s [] t to_come r high =
+    let same : record { state = s; sent = [] } ≡ t = the_same (record { state = s; sent = [] }) t r in
+    let next : s.next ≡ t.state.next = ap (λ (v : Stepped). v.state.next) same in
+    record { low = omega arith; silent = ap (λ (v : Stepped). frames_to n v.sent) (sym same); no_cause = refl }
+unopened n s (e ∷ h) t to_come r high =
+    let parts = run_parts s e h t r in
+    let one = awaits_by n s e parts.first parts.stepped to_come e.event refl in
+    let next : parts.rest.state.next ≡ t.state.next = ap (λ (v : State). v.next) parts.state in
+    let others = unopened n parts.first.state h parts.rest one.to_come parts.runs (omega arith) in
+    let low : s.next ≤ n = omega (arith, one.grows, others.low) in
+    record {
+      low = low;
+      silent = ap (frames_to n) (sym parts.sent) ∙ (frames_to-append n parts.first.sent parts.rest.sent ∙ (ap (λ (fs : List (List ℕ)). fs ++ frames_to n parts.rest.sent) (one.silent low) ∙ others.silent));
+      no_cause = ap (λ (o : Option Cause). or_else o (closed_by h n)) (one.no_cause low) ∙ others.no_cause;
+    }
+
+-- a history from its opening says nothing of the next session
+pub next_is_unopened : (name : List ℕ) (h : List Entry) (t : Stepped) (n : ℕ) → n ≡ t.state.next → run (opening name) h ≡ Some t → Unopened n (opening name) h t
+next_is_unopened name h t n is r = unopened n (opening name) h t (λ low. refl) r (omega arith)
