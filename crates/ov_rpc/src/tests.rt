@@ -99,9 +99,18 @@ fn a_number_in_an_id_is_an_integer_of_64_bits(rt: HostRuntime) -> Result<(), Fai
     Ok(())
 }
 
+/// Each text is the message of these words.
+fn are_read(rt: &impl Abort, alloc: Global, cases: &[(&str, &str)]) -> Result<(), Fail> {
+    for (text, want) in cases {
+        let said = words(alloc, text.as_bytes())?;
+        assert_eq!(rt; said.as_slice(), want.as_bytes(), "at {text}");
+    }
+    Ok(())
+}
+
 #[test]
 fn a_text_is_read_as_its_members_say(rt: HostRuntime) -> Result<(), Fail> {
-    for (text, want) in [
+    let cases = [
         // an escaped quote
         (
             "{\"id\":0,\"method\":\"echo\",\"params\":[\"a\\\"b}\"]}",
@@ -119,7 +128,13 @@ fn a_text_is_read_as_its_members_say(rt: HostRuntime) -> Result<(), Fail> {
             "{\"\\u0069d\":1,\"method\":\"\\ud83d\\ude00\",\"params\":[]}",
             "call 1 \u{1f600} []",
         ),
-        // the last of several members of one name counts
+    ];
+    are_read(&rt, rt.alloc(), &cases)
+}
+
+#[test]
+fn the_last_of_several_members_of_one_name_counts(rt: HostRuntime) -> Result<(), Fail> {
+    let cases = [
         (
             "{\"id\":1.5,\"method\":7,\"params\":{},\"id\":2,\"method\":\"m\",\"params\":[]}",
             "call 2 m []",
@@ -128,7 +143,13 @@ fn a_text_is_read_as_its_members_say(rt: HostRuntime) -> Result<(), Fail> {
             "{\"id\":2,\"method\":\"m\",\"params\":[],\"id\":null}",
             "note m []",
         ),
-        // not built as a request
+    ];
+    are_read(&rt, rt.alloc(), &cases)
+}
+
+#[test]
+fn an_object_that_is_not_built_as_a_request_is_unreadable(rt: HostRuntime) -> Result<(), Fail> {
+    let cases = [
         ("{\"id\":1,\"params\":[]}", "unreadable"),
         ("{\"id\":1,\"method\":\"m\"}", "unreadable"),
         ("{\"id\":1,\"method\":7,\"params\":[]}", "unreadable"),
@@ -140,7 +161,13 @@ fn a_text_is_read_as_its_members_say(rt: HostRuntime) -> Result<(), Fail> {
             "{\"id\":1,\"method\":\"m\",\"params\":[],\"x\":0.5}",
             "unreadable",
         ),
-        // no object, no JSON, and more than one
+    ];
+    are_read(&rt, rt.alloc(), &cases)
+}
+
+#[test]
+fn a_text_that_is_no_object_of_json_is_unreadable(rt: HostRuntime) -> Result<(), Fail> {
+    let cases = [
         ("[]", "unreadable"),
         ("", "unreadable"),
         ("{\"id\":1,\"method\":\"m\",\"params\":[]}{}", "unreadable"),
@@ -154,14 +181,8 @@ fn a_text_is_read_as_its_members_say(rt: HostRuntime) -> Result<(), Fail> {
             "{\"id\":1,\"method\":\"m\",\"params\":[\"\\udc00\\ud800\"]}",
             "unreadable",
         ),
-    ] {
-        assert_eq!(rt;
-            words(rt.alloc(), text.as_bytes())?.as_slice(),
-            want.as_bytes(),
-            "at {text}"
-        );
-    }
-    Ok(())
+    ];
+    are_read(&rt, rt.alloc(), &cases)
 }
 
 #[test]
