@@ -35,6 +35,9 @@ pub trait Sink {
     /// The bytes that were written so far. A writer that gathers bytes may still hold some of them, until a flush.
     ghost told: { Self → List ℕ };
 
+    /// The last call of `write` or `flush` was a flush that succeeded, so nothing that was written is still held.
+    ghost is_flushed: { Self → Bool };
+
     /// How many writes and flushes failed; it stays at 2^64-1.
     ghost faults: { Self → ℕ };
 
@@ -43,12 +46,14 @@ pub trait Sink {
         ensures within { IfSome result (λ n. n ≤ length bytes.now) }
         ensures some { IfSome result (λ n. 0 < length bytes.now → 0 < n) }
         ensures told { IfSome result (λ n. told self.new ≡ told self.old ++ take n bytes.now) }
+        ensures held { is_flushed self.new ≡ false }
         ensures good { IfSome result (λ n. faults self.new ≡ faults self.old) }
         ensures none { IfNone result ((told self.new ≡ told self.old) × (faults self.new ≡ one_more (faults self.old))) };
 
     /// Hands on what was written and is still held. False is an error.
     fn flush(&mut self) -> bool
         ensures told { told self.new ≡ told self.old }
+        ensures flushed { is_flushed self.new ≡ result }
         ensures good { result ≡ true → faults self.new ≡ faults self.old }
         ensures bad { result ≡ false → faults self.new ≡ one_more (faults self.old) };
 

@@ -1,4 +1,4 @@
-ghost use Rattle.std.specs.Prelude.{◌≡◌};
+ghost use Rattle.std.specs.Prelude.{◌≡◌, true};
 ghost use Rattle.ov_serve.specs.Serving.{WritesOf, Counts, Sends};
 
 use crate::ends::Sink;
@@ -13,6 +13,7 @@ pub(crate) fn write_waiting<K: Keeper + Drop, D: Draws + Drop, W: Sink>(
 ) -> bool
     ensures sends { Sends session.serial result core.old core.new (W.told writer.old) (W.told writer.new) }
     ensures state { core.new.state ≡ core.old.state }
+    ensures flushed { result ≡ true → W.is_flushed writer.new ≡ true }
     ensures faults { Counts result (W.faults writer.old) (W.faults writer.new) }
 {
     while let Some(frame) = core.next_frame(session) {

@@ -4,7 +4,7 @@ ghost use Rattle.ov_core.specs.Entries.{cause_view, event_view, entry_view};
 ghost use Rattle.ov_core.specs.Following.{Running};
 ghost use Rattle.ov_core.specs.Stepping.{Refusal};
 ghost use Rattle.ov_streams.specs.Feeding.{IsFed, Brings};
-ghost use Rattle.ov_serve.specs.Serving.{Around, around, stream_cause, ServingOn, Served, Tells};
+ghost use Rattle.ov_serve.specs.Serving.{Around, around, stream_cause, ServingOn, Served, is_written, Tells};
 
 use crate::ends::{Clock, Sink, Source};
 use crate::send::write_waiting;
@@ -22,7 +22,7 @@ const PIECE_BYTES: usize = 4096;
 /// Serves one session: reads its stream in pieces of at most 4,096 bytes, each at the moment in milliseconds that the clock
 /// tells behind it, and writes what is sent to it before it reads on (own, over RFC 7047, 4).
 ///
-/// It ends with the cause for which the history closed the session, and then all that was sent to it is written. With
+/// It ends with the cause for which the history closed the session, and then all that was sent to it is written and flushed. With
 /// `WriteFault`, where the writer failed, a beginning of that is written, and the stream may have closed the session before.
 /// Where an `Open` is refused nothing is read or written, and the fault is that of `Core::step`.
 pub fn serve_one<R: Wait, K: Keeper + Drop, D: Draws + Drop, S: Source, W: Sink, C: Clock>(
@@ -35,6 +35,7 @@ pub fn serve_one<R: Wait, K: Keeper + Drop, D: Draws + Drop, S: Source, W: Sink,
 ) -> Result<Cause, StepFault>
     ensures served { IfOk result (λ cause. Served C.tells core.old.state.next core.old (around (S.told reader.old) (W.told writer.old) clock.old)
         cause core.new (around (S.told reader.new) (W.told writer.new) clock.new)) }
+    ensures flushed { IfOk result (λ cause. is_written cause ≡ true → W.is_flushed writer.new ≡ true) }
     ensures ends { IfOk result (λ cause. Tells cause (S.at_end reader.new) (S.faults reader.old) (S.faults reader.new) (W.faults writer.old) (W.faults writer.new)) }
     ensures refused { IfErr result (λ fault. (core.new ≡ core.old) × Refusal SpecOpen core.old.state fault) }
     ensures untouched { IfErr result (λ fault. (reader.new ≡ reader.old) × (writer.new ≡ writer.old) × (clock.new ≡ clock.old)) }
@@ -62,6 +63,7 @@ fn serve_session<R: Wait, K: Keeper + Drop, D: Draws + Drop, S: Source, W: Sink,
     ensures served { (first : Running K D) (from : Around C)
         → ServingOn C.tells session.serial first from core.old (around (S.told reader.old) (W.told writer.old) clock.old) cutter.old
         → Served C.tells session.serial first from result core.new (around (S.told reader.new) (W.told writer.new) clock.new) }
+    ensures flushed { is_written result ≡ true → W.is_flushed writer.new ≡ true }
     ensures ends { Tells result (S.at_end reader.new) (S.faults reader.old) (S.faults reader.new) (W.faults writer.old) (W.faults writer.new) }
 {
     let mut piece = [0u8; PIECE_BYTES];

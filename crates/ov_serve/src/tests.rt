@@ -95,6 +95,20 @@ impl Write for SlowWriter {
     }
 }
 
+/// A writer that takes every byte, and can't hand them on.
+#[derive(Drop)]
+struct StuckWriter;
+
+impl Write for StuckWriter {
+    fn write(&mut self, buf: &[u8]) -> io::Result<usize> {
+        Ok(buf.len())
+    }
+
+    fn flush(&mut self) -> io::Result<()> {
+        Err(io::Error::from(ErrorKind::Other))
+    }
+}
+
 fn core_of(alloc: Global) -> Result<Core<ListKeeper, Counter>, Fail> {
     let value = Value::from_str(alloc, SCHEMA)?;
     if has_real(&value) {
@@ -196,5 +210,12 @@ fn a_writer_gets_all_or_the_session_ends(rt: HostRuntime) -> Result<(), Fail> {
             "at {most} and {left}"
         );
     }
+    Ok(())
+}
+
+#[test]
+fn a_flush_that_fails_is_a_write_fault(rt: HostRuntime) -> Result<(), Fail> {
+    let (cause, _) = served(&rt, rt.alloc(), REQUEST, StuckWriter)?;
+    assert_eq!(rt; cause, Cause::WriteFault);
     Ok(())
 }

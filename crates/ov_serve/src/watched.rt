@@ -12,6 +12,7 @@ pub struct Watched<T> {
     inner: T,
     told: Told,
     ended: bool,
+    flushed: bool,
     failures: u64,
 }
 
@@ -21,12 +22,14 @@ impl<T> Watched<T> {
         ensures inner { result.inner ≡ inner }
         ensures told { result.told.bytes ≡ [] }
         ensures ended { result.ended ≡ false }
+        ensures flushed { result.flushed ≡ false }
         ensures failures { result.failures ≡ 0 }
     {
         Watched {
             inner,
             told: Told::new(),
             ended: false,
+            flushed: false,
             failures: 0,
         }
     }
@@ -81,9 +84,12 @@ impl<R: Read> Source for Watched<R> {
 impl<W: Write> Sink for Watched<W> {
     ghost told = { λ w. w.told.bytes };
 
+    ghost is_flushed = { λ w. w.flushed };
+
     ghost faults = { λ w. w.failures };
 
     fn write(&mut self, bytes: &[u8]) -> Option<usize> {
+        self.flushed = false;
         match self.inner.write(bytes) {
             Ok(n) if n > 0 || bytes.is_empty() => {
                 self.told.add(&bytes[..n]);
@@ -97,13 +103,11 @@ impl<W: Write> Sink for Watched<W> {
     }
 
     fn flush(&mut self) -> bool {
-        match self.inner.flush() {
-            Ok(()) => true,
-            Err(_) => {
-                self.count_failure();
-                false
-            }
+        self.flushed = self.inner.flush().is_ok();
+        if !self.flushed {
+            self.count_failure();
         }
+        self.flushed
     }
 
     fn failures(&self) -> u64 {
