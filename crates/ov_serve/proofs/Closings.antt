@@ -7,7 +7,7 @@ use Rattle.ov_specs.specs.Machine.{State, Entry, Event, Open, Take, Close, Tick,
 use Rattle.ov_specs.specs.History.{closed_by, closes, or_else}
 use Rattle.ov_specs.specs.Streams.{Enters, Feeds}
 use Rattle.ov_specs.proofs.Turns.{Turn, or_else_none, closed_by_more, turn_close, turn_take}
-use Rattle.ov_serve.specs.Serving.{stream_cause, IsShut, StandsAfter}
+use Rattle.ov_serve.specs.Going.{stream_cause, IsShut, StandsAfter}
 
 -- a session that is open, and was not closed
 pub stands_open : (n : ℕ) (s : State) (h : List Entry) → is_open s n ≡ true → closed_by h n ≡ None → StandsAfter n s h

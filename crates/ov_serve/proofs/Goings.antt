@@ -7,7 +7,8 @@ use Rattle.ov_specs.specs.Machine.{State, Entry}
 use Rattle.ov_specs.specs.History.{joined}
 use Rattle.ov_core.specs.Waiting.{waiting_for}
 use Rattle.ov_core.specs.Following.{Running, Follows, Enters, and_handed, and_all_handed}
-use Rattle.ov_serve.specs.Serving.{Goes, WritesOf, Sends}
+use Rattle.ov_serve.specs.Serving.{Goes, WritesOf}
+use Rattle.ov_serve.specs.Going.{Sends}
 
 -- the same frames were given
 given_same : {K D : Type 0} (before : State) (history : List Entry) (given given' : ℕ → List (List ℕ)) (core : Running K D) → ((s : ℕ) → given s ≡ given' s) → Follows before history given core → Follows before history given' core

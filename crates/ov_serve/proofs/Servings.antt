@@ -19,7 +19,8 @@ use Rattle.ov_core.specs.Waiting.{waiting_for}
 use Rattle.ov_core.specs.Following.{Running, Follows, Enters, and_all_handed}
 use Rattle.ov_core.specs.Stepping.{closing, Closes}
 use Rattle.ov_streams.specs.Feeding.{IsFed, Brings}
-use Rattle.ov_serve.specs.Serving.{Around, around, Goes, Sends, Pieces, most_piece_bytes, bytes_of, events_of, ToldBy, stream_cause, IsShut, StandsAfter, IsTold, Serving, ServingOn, ClosesAfter, ClosesFor, is_written, EndsAs, Served, WritesOf}
+use Rattle.ov_serve.specs.Serving.{Around, around, Goes, Pieces, most_piece_bytes, bytes_of, events_of, ToldBy, IsTold, ClosesAfter, ClosesFor, is_written, EndsAs, Served, WritesOf}
+use Rattle.ov_serve.specs.Going.{Sends, stream_cause, IsShut, StandsAfter, Serving, ServingOn}
 use Rattle.ov_serve.proofs.Unopened.{close_sends, close_of_open, next_is_unopened}
 use Rattle.ov_serve.proofs.Closings.{not_closed, is_shut, closed_by-append, closed_by_closing, feeds_stand, stream_cause_is}
 use Rattle.ov_serve.proofs.Goings.{goes_on_entering, goes_on_handing, joined-append, writes_on}

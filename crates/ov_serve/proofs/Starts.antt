@@ -18,7 +18,8 @@ use Rattle.ov_core.specs.declared.event.Stepped.TheVariants as answer
 use Rattle.ov_core.specs.Following.{Running}
 use Rattle.ov_core.specs.Stepping.{IsEntered}
 use Rattle.ov_streams.specs.Feeding.{IsFed}
-use Rattle.ov_serve.specs.Serving.{Around, most_piece_bytes, ServingOn}
+use Rattle.ov_serve.specs.Serving.{Around, most_piece_bytes}
+use Rattle.ov_serve.specs.Going.{ServingOn}
 use Rattle.ov_serve.proofs.Closings.{stands_open}
 use Rattle.ov_serve.proofs.Goings.{goes_by_entries}
 

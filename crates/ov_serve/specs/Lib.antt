@@ -1,2 +1,3 @@
 pub mod Ends
 pub mod Serving
+pub mod Going

@@ -1,17 +1,15 @@
 -- What a session's serving makes of a core and of what stands around it.
-use Rattle.std.specs.Prelude.{◌≡◌, ◌⊎◌, ◌≤◌, ℕ, List, [], ◌∷◌, ◌++◌, map, length, Bool, true, false, Option, Some, None, MatchBool}
+use Rattle.std.specs.Prelude.{◌≡◌, ◌⊎◌, ◌≤◌, ℕ, List, [], ◌∷◌, ◌++◌, map, length, Bool, true, false, Option, Some}
 use Rattle.std.specs.List.{All, flat_map}
 use Rattle.ov_specs.specs.Machine as machine
 use Rattle.ov_specs.specs.Machine.{State, is_open, opening}
 use Rattle.ov_specs.specs.History.{run, joined, out, closed_by}
 use Rattle.ov_specs.specs.Streams as streams
 use Rattle.ov_specs.specs.Streams.{StreamEvent, Opens, Feed, Streams, no_streams, ExpandsTimed}
-use Rattle.ov_cut.specs.Cutting.{Cutting}
 use Rattle.ov_core.specs.declared.event.Cause.{Cause}
 use Rattle.ov_core.specs.declared.event.Cause.TheVariants.{InputEnded, ReadFault, WriteFault, Damaged, Overrun, Memory}
 use Rattle.ov_core.specs.Waiting.{waiting_for}
 use Rattle.ov_core.specs.Following.{Running, Follows, and_all_handed}
-use Rattle.ov_streams.specs.Feeding.{IsFed}
 use Rattle.ov_serve.specs.Ends.{one_more}
 
 -- what stands around a core: the bytes that were read and written so far, and the clock (own)
@@ -42,18 +40,6 @@ abbrev pub WritesOf : Bool → List ℕ → List ℕ → List ℕ → Type 0
 WritesOf true bytes old new = new ≡ old ++ bytes
 WritesOf false bytes old new = (written : List ℕ) × (new ≡ old ++ written) × BeginsAs written bytes
 
--- failures were counted: one where the call failed (own)
-abbrev pub Counts : Bool → ℕ → ℕ → Type 0
-Counts true old new = new ≡ old
-Counts false old new = new ≡ one_more old
-
--- These frames were handed out of the session and written, and no other waits; or a beginning of them was written (own).
-pub record Sends {K D : Type 0} (n : ℕ) (is_whole : Bool) (old new : Running K D) (said said' : List ℕ) : Type 0 where
-  pub frames : List (List ℕ)
-  pub goes : Goes n old [] frames new
-  pub written : WritesOf is_whole (joined frames) said said'
-  pub none_left : is_whole ≡ true → waiting_for n new.waiting ≡ []
-
 -- ---- what was read
 
 -- pieces, each with the moment at which it came (own)
@@ -83,22 +69,6 @@ ToldBy {C} tells old (p ∷ pieces) new = (mid : C) × tells old p.0 mid × Told
 
 -- ---- why a session was closed
 
--- why a session was closed by its stream, by the event that closed it: damage, or want of memory (own)
-abbrev pub stream_cause : machine.Event → machine.Cause
-stream_cause (machine.Close session machine.Damaged) = machine.Damaged
-stream_cause event = machine.Memory
-
--- the last of these entries closed the session, by its stream (own)
-pub record IsShut (n : ℕ) (entries : List machine.Entry) : Type 0 where
-  pub front : List machine.Entry
-  pub last : machine.Entry
-  pub parts : entries ≡ front ++ last ∷ []
-  pub cause : closed_by entries n ≡ Some (stream_cause last.event)
-
--- the session is open and none of the entries closed it, or the last of them did, by its stream (own)
-abbrev pub StandsAfter : ℕ → State → List machine.Entry → Type 0
-StandsAfter n s entries = MatchBool (is_open s n) (closed_by entries n ≡ None) (IsShut n entries)
-
 -- The cause that is told is that of the history. Where a write failed, the stream may have closed the session before (own).
 abbrev pub IsTold : Cause → Option machine.Cause → Type 0
 IsTold InputEnded closed = closed ≡ Some machine.InputEnded
@@ -107,30 +77,6 @@ IsTold WriteFault closed = (closed ≡ Some machine.WriteFault) ⊎ ((closed ≡
 IsTold Damaged closed = closed ≡ Some machine.Damaged
 IsTold Memory closed = closed ≡ Some machine.Memory
 IsTold Overrun closed = ⊥
-
--- ---- a session
-
--- What was done since the core was `old`: the session was opened, these pieces of it were read and entered, and all of these
--- frames were written, or a beginning of them (own).
-pub record Serving {K D C : Type 0} (tells : C → ℕ → C → Type 0) (n : ℕ) (is_whole : Bool) (old : Running K D) (from : Around C) (new : Running K D) (to : Around C) : Type 0 where
-  pub entries : List machine.Entry
-  pub frames : List (List ℕ)
-  pub pieces : Pieces
-  pub streams : Streams
-  pub goes : Goes n old entries frames new
-  pub read : to.read ≡ from.read ++ bytes_of pieces
-  pub written : WritesOf is_whole (joined frames) from.written to.written
-  pub expands : ExpandsTimed old.state no_streams (events_of n pieces) entries new.state streams
-  pub stream : streams n ≡ bytes_of pieces
-  pub sizes : ArePieces pieces
-  pub moments : ToldBy tells from.clock pieces to.clock
-  pub serial : n ≡ old.state.next
-  pub stands : StandsAfter n new.state entries
-
--- the same, where the cutter was given what was read, while the session is open (own)
-pub record ServingOn {K D C : Type 0} (tells : C → ℕ → C → Type 0) (n : ℕ) (old : Running K D) (from : Around C) (new : Running K D) (to : Around C) (cutter : Cutting) : Type 0 where
-  pub done : Serving tells n true old from new to
-  pub fed : is_open new.state n ≡ true → IsFed (bytes_of done.pieces) cutter
 
 -- one entry closes the session for this cause, at the last moment (own)
 abbrev pub ClosesAfter : ℕ → machine.Cause → State → List machine.Entry → State → Type 0
@@ -149,6 +95,8 @@ ClosesFor n WriteFault mid last new = ClosesWithin n mid last new ⊎ ClosesAfte
 ClosesFor n Damaged mid last new = ClosesWithin n mid last new
 ClosesFor n Memory mid last new = ClosesWithin n mid last new
 ClosesFor n Overrun mid last new = ⊥
+
+-- ---- a session
 
 -- no write failed (own)
 abbrev pub is_written : Cause → Bool

@@ -1,5 +1,6 @@
 ghost use Rattle.std.specs.Prelude.{◌≡◌, true};
-ghost use Rattle.ov_serve.specs.Serving.{WritesOf, Counts, Sends};
+ghost use Rattle.ov_serve.specs.Serving.{WritesOf};
+ghost use Rattle.ov_serve.specs.Going.{Counts, Sends};
 
 use crate::ends::Sink;
 use ov_core::early::{Draws, Keeper};

@@ -4,7 +4,8 @@ ghost use Rattle.ov_core.specs.Entries.{cause_view, event_view, entry_view};
 ghost use Rattle.ov_core.specs.Following.{Running};
 ghost use Rattle.ov_core.specs.Stepping.{Refusal};
 ghost use Rattle.ov_streams.specs.Feeding.{IsFed, Brings};
-ghost use Rattle.ov_serve.specs.Serving.{Around, around, stream_cause, ServingOn, Served, is_written, Tells};
+ghost use Rattle.ov_serve.specs.Serving.{Around, around, Served, is_written, Tells};
+ghost use Rattle.ov_serve.specs.Going.{stream_cause, ServingOn};
 
 use crate::ends::{Clock, Sink, Source};
 use crate::send::write_waiting;

@@ -1,6 +1,7 @@
 use Rattle.std.proofs.Common.{◌≡◌}
 use Rattle.ov_core.specs.Following.{Running}
-use Rattle.ov_serve.specs.Serving.{Around, around, ServingOn}
+use Rattle.ov_serve.specs.Serving.{Around, around}
+use Rattle.ov_serve.specs.Going.{ServingOn}
 use Rattle.ov_serve.proofs.serve.serve_session.Given as goal
 
 abbrev pub invariant-loop : goal.invariant-loop
