@@ -6,7 +6,8 @@ use Rattle.std.proofs.lemmas.List.{append-nil, map-append}
 use Rattle.std.proofs.lemmas.List.Elements.{filter-append}
 use Rattle.std.proofs.lemmas.Bool.{le-leb, lt-leb, false≢true}
 use Rattle.ov_specs.specs.Machine as machine
-use Rattle.ov_specs.specs.Machine.{State, Sent, Stepped, Uuid, step}
+use Rattle.ov_specs.specs.Machine.{State, Sent, Stepped, step}
+use Rattle.ov_specs.specs.Uuid.{Uuid}
 use Rattle.ov_specs.specs.History.{run, frames_to, then_sends}
 use Rattle.ov_specs.specs.Frame.{frame}
 use Rattle.ov_specs.specs.Message.{Message}

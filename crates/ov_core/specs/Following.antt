@@ -1,7 +1,7 @@
 -- Which histories a core has followed, and which frames were handed out of it.
 use Rattle.std.specs.Prelude.{◌≡◌, ℕ, ◌==◌, ◌++◌, List, [], ◌∷◌, map, if◌then◌else◌, Option, Some, option_to_list}
 use Rattle.ov_specs.specs.Machine as machine
-use Rattle.ov_specs.specs.Machine.{State, Sent, Uuid}
+use Rattle.ov_specs.specs.Machine.{State, Sent}
 use Rattle.ov_specs.specs.History.{run, frames_to}
 use Rattle.ov_early.specs.Naming.{Named}
 use Rattle.ov_core.specs.declared.event.Entry.{Entry}

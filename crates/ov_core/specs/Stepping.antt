@@ -1,7 +1,8 @@
 -- What one step of a core promises.
 use Rattle.std.specs.Prelude.{◌≡◌, ◌⊎◌, ℕ, ◌-◌, ◌^◌, ◌<◌, ◌||◌, nat_le, [], length, Bool, true, false}
 use Rattle.ov_specs.specs.Machine as machine
-use Rattle.ov_specs.specs.Machine.{State, Uuid, is_open}
+use Rattle.ov_specs.specs.Machine.{State, is_open}
+use Rattle.ov_specs.specs.Uuid.{Uuid}
 use Rattle.ov_early.specs.Drawing.{DrawsFrom}
 use Rattle.ov_core.specs.declared.event.StepFault.{StepFault}
 use Rattle.ov_core.specs.declared.event.StepFault.TheVariants as fault

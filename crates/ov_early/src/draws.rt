@@ -1,4 +1,4 @@
-ghost use Rattle.ov_specs.specs.Machine.{Uuid as Bytes16};
+ghost use Rattle.ov_specs.specs.Uuid.{Uuid as Bytes16};
 
 use uuid::Uuid;
 

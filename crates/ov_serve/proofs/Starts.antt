@@ -6,7 +6,8 @@ use Rattle.std.proofs.lemmas.Bool.{eq-eqb}
 use Rattle.ov_specs.specs.Cut.{cut}
 use Rattle.ov_specs.specs.Message.{asked}
 use Rattle.ov_specs.specs.Machine as machine
-use Rattle.ov_specs.specs.Machine.{State, Uuid, is_open, listed}
+use Rattle.ov_specs.specs.Machine.{State, is_open, listed}
+use Rattle.ov_specs.specs.Uuid.{Uuid}
 use Rattle.ov_specs.specs.History.{closes, or_else}
 use Rattle.ov_specs.specs.Streams as streams
 use Rattle.ov_specs.specs.Streams.{Opens, no_streams, Expands, ExpandsTimed}

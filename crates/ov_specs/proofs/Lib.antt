@@ -3,6 +3,17 @@ mod MessageRows
 mod MachineRows
 pub mod Cuts
 pub mod Trees
+pub mod Uuids
+pub mod Order
+pub mod Inserting
+pub mod Clashing
+pub mod ReadingBack
+pub mod OfKinds
+pub mod DatumOrder
+pub mod SchemaLaws
+mod ValueRows
+mod SchemaRows
+mod TransactionRows
 pub mod Expanding
 pub mod CutLaw
 pub mod Turns

@@ -4,7 +4,7 @@ use Rattle.std.specs.declared.cmp.Ordering.{Ordering}
 use Rattle.std.specs.Ordering.{nat_cmp, ordering_then}
 use Rattle.std.specs.Cmp.Lexicographic.{slice_cmp}
 use Rattle.std.specs.FinMap.{FinMap, insert, remove}
-use Rattle.ov_specs.specs.Machine.{Uuid}
+use Rattle.ov_specs.specs.Uuid.{Uuid}
 
 -- a table's name, and a row's identifier (own)
 abbrev pub LineKey : Type 0

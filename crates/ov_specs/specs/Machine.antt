@@ -5,6 +5,7 @@ use Rattle.serde_json.specs.Data.{Data}
 use Rattle.ov_specs.specs.Message.{Message, Call, Note, Answer, Bad}
 use Rattle.ov_specs.specs.Frame.{failure_tree}
 use Rattle.ov_specs.specs.Method.{reply_to, bad_text}
+use Rattle.ov_specs.specs.Uuid.{Uuid}
 
 -- ---- what happens, and what the outside chose
 
@@ -35,10 +36,6 @@ pub data Outcome : Type 0 where
 pub record Attempt : Type 0 where
   pub number : ℕ
   pub outcome : Outcome
-
--- the sixteen bytes of an identifier, greatest first (RFC 4122, 4.1.2)
-abbrev pub Uuid : Type 0
-Uuid = List ℕ
 
 -- The moment in milliseconds, the identifiers drawn, and what came of the attempts that are listed: an attempt that is not
 -- listed made no store call and was refused no memory (own).

@@ -5,7 +5,8 @@ use Rattle.std.proofs.lemmas.List.{append-nil, drop_more}
 use Rattle.std.proofs.lemmas.Bool.{false≢true}
 use Rattle.ov_specs.specs.Message.{Message, Asked, asked_of, with_asked, message_in}
 use Rattle.ov_specs.specs.Machine as machine
-use Rattle.ov_specs.specs.Machine.{State, Entry, Stepped, Uuid, is_open}
+use Rattle.ov_specs.specs.Machine.{State, Entry, Stepped, is_open}
+use Rattle.ov_specs.specs.Uuid.{Uuid}
 use Rattle.ov_specs.specs.Streams as streams
 use Rattle.ov_specs.specs.Streams.{Feeds}
 use Rattle.ov_specs.proofs.Turns.{turn_close}

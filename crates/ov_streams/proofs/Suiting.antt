@@ -7,7 +7,8 @@ use Rattle.std.proofs.lemmas.Option.{slice_get_cases}
 use Rattle.std.proofs.lemmas.Bool.{false≢true, cases_Bool, cases_eq, le-leb, eq-eqb, ne_eqb, eqb-true, MatchBool-at_true, MatchBool-at_false}
 use Rattle.ov_specs.specs.Message.{Message, asked}
 use Rattle.ov_specs.specs.Machine as machine
-use Rattle.ov_specs.specs.Machine.{State, Entry, Stepped, Uuid, is_open, opening}
+use Rattle.ov_specs.specs.Machine.{State, Entry, Stepped, is_open, opening}
+use Rattle.ov_specs.specs.Uuid.{Uuid}
 use Rattle.ov_specs.specs.Streams as streams
 use Rattle.ov_specs.specs.Streams.{Streams, no_streams, fed, Feeds, Expands}
 use Rattle.ov_specs.proofs.Expanding.{one_more}

@@ -1,0 +1,81 @@
+-- The database: rows by their tables and identifiers, and the lines that they are stored as.
+use Rattle.std.specs.Prelude.{◌≡◌, ℕ, ◌&&◌, Bool, false, List, [], ◌∷◌, map, Option, option_map}
+use Rattle.std.specs.Cmp.Lexicographic.{pointwise}
+use Rattle.std.specs.FinMap.{FinMap, get, keys, entries}
+use Rattle.std.specs.Ordering.{eq_by_cmp}
+use Rattle.serde_json.specs.Data.{Data, object, Members, no_members, put}
+use Rattle.ov_specs.specs.Frame.{frame}
+use Rattle.ov_specs.specs.Lines.{LineKey, LineBody, line_cmp, Lines}
+use Rattle.ov_specs.specs.Method.{is_text}
+use Rattle.ov_specs.specs.SchemaTypes.{name_cmp}
+use Rattle.ov_specs.specs.Uuid.{Uuid}
+use Rattle.ov_specs.specs.Value.{Atom, atom_cmp, Datum, Atoms, Pairs}
+use Rattle.ov_specs.specs.Writing.{tree}
+
+-- the values of a row, by the names of its columns (RFC 7047, 5.1, <row>)
+abbrev pub Columns : Type 0
+Columns = FinMap name_cmp Datum
+
+-- a row: its version, and its columns but `_uuid` and `_version` (RFC 7047, 3.2)
+pub record Row : Type 0 where
+  pub version : Uuid
+  pub columns : Columns
+
+-- the rows, by the name of their table and their identifier (own)
+abbrev pub Database : Type 0
+Database = FinMap line_cmp Row
+
+-- ---- what is stored of it
+
+-- the members, each put at the place of its name (own)
+abbrev pub placed : Members → List (List ℕ × Data) → Members
+placed members [] = members
+placed members (m ∷ ms) = placed (put m.0 m.1 members) ms
+
+-- the object of these members, in ascending order of their names (own)
+abbrev pub object_of : List (List ℕ × Data) → Data
+object_of members = object (placed no_members members)
+
+-- a column with its written value (RFC 7047, 5.1, <row>)
+abbrev pub written : List ℕ × Datum → List ℕ × Data
+written column = (column.0, tree column.1)
+
+-- a row as it is stored: its version, and the compact text of all columns' written values (own)
+abbrev pub line_of : Row → LineBody
+line_of row = (row.version, frame (object_of (map written (entries row.columns))))
+
+-- the lines are those of the database's rows (own)
+abbrev pub AreLinesOf : Database → Lines → Type 0
+AreLinesOf database lines = (key : LineKey) → get lines key ≡ option_map line_of (get database key)
+
+-- ---- whether two databases are one
+
+-- the same atom (RFC 7047, 5.1, <atom>)
+abbrev pub is_atom : Atom → Atom → Bool
+is_atom a b = eq_by_cmp atom_cmp a b
+
+-- the same pair (RFC 7047, 5.1, <pair>)
+abbrev pub is_pair : Atom × Atom → Atom × Atom → Bool
+is_pair p q = is_atom p.0 q.0 && is_atom p.1 q.1
+
+-- the same set or map (RFC 7047, 5.1, <value>)
+abbrev pub is_datum : Datum → Datum → Bool
+is_datum (Atoms a) (Atoms b) = pointwise is_atom (keys a) (keys b)
+is_datum (Pairs a) (Pairs b) = pointwise is_pair (entries a) (entries b)
+is_datum a b = false
+
+-- the same values in the same columns (RFC 7047, 5.1, <row>)
+abbrev pub are_columns : List (List ℕ × Datum) → List (List ℕ × Datum) → Bool
+are_columns a b = pointwise (λ c d. is_text c.0 d.0 && is_datum c.1 d.1) a b
+
+-- the same version and columns (own)
+abbrev pub is_row : Row → Row → Bool
+is_row a b = is_text a.version b.version && are_columns (entries a.columns) (entries b.columns)
+
+-- the same key (own)
+abbrev pub is_key : LineKey → LineKey → Bool
+is_key a b = is_text a.0 b.0 && is_text a.1 b.1
+
+-- the same rows at the same keys (own)
+abbrev pub is_database : Database → Database → Bool
+is_database a b = pointwise (λ r s. is_key r.0 s.0 && is_row r.1 s.1) (entries a) (entries b)

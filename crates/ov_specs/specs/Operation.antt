@@ -1,0 +1,235 @@
+-- One operation of a transaction: what it makes of the rows, and its result (RFC 7047, 5.2).
+use Rattle.std.specs.Prelude.{ℕ, ◌&&◌, ◌||◌, not, List, [], ◌∷◌, map, filter, Bool, true, false, if◌then◌else◌, Option, Some, None, option_and_then, option_map, option_to_list, is_some, codes, Result, Ok, Err}
+use Rattle.std.specs.List.{list_any, list_all, flat_map}
+use Rattle.std.specs.FinMap.{FinMap, empty, get, contains_key, insert, keys, entries}
+use Rattle.serde_json.specs.Data.{Data, object, string, array, Items, no_items, item, Members, no_members, member}
+use Rattle.serde_json.specs.Find.{as_str, as_array, as_object}
+use Rattle.serde_json.specs.Find as find
+use Rattle.serde_json.specs.View.{items_of}
+use Rattle.ov_specs.specs.Database.{Columns, Row, Database, object_of, written, are_columns}
+use Rattle.ov_specs.specs.Fitting.{fits, default_of}
+use Rattle.ov_specs.specs.Lines.{LineKey}
+use Rattle.ov_specs.specs.Message.{has}
+use Rattle.ov_specs.specs.Method.{is_text}
+use Rattle.ov_specs.specs.Reading.{Reading, Reads, Syntax, Clash, reads, list_read}
+use Rattle.ov_specs.specs.SchemaTypes.{Column, Table, Schema, name_cmp, kinds_of}
+use Rattle.ov_specs.specs.Uuid.{Uuid, Names}
+use Rattle.ov_specs.specs.Value as value
+use Rattle.ov_specs.specs.Value.{Datum, Atoms, set_of}
+use Rattle.ov_specs.specs.Writing.{atom_tree}
+
+-- ---- errors
+
+-- why an operation, or the commit, fails (RFC 7047, 3.1, <error>, and 5.2)
+pub data OpError : Type 0 where
+  SyntaxError : OpError
+  UnknownTable : OpError
+  UnknownColumn : OpError
+  UnknownOperation : OpError
+  DuplicateUuid : OpError
+  ConstraintViolation : OpError
+  ResourcesExhausted : OpError
+  InputOutput : OpError
+
+-- the text that the client is sent (RFC 7047, 3.1, <error>; "unknown .." and "duplicate uuid" are own)
+abbrev pub error_text : OpError → List ℕ
+error_text SyntaxError = codes "syntax error"
+error_text UnknownTable = codes "unknown table"
+error_text UnknownColumn = codes "unknown column"
+error_text UnknownOperation = codes "unknown operation"
+error_text DuplicateUuid = codes "duplicate uuid"
+error_text ConstraintViolation = codes "constraint violation"
+error_text ResourcesExhausted = codes "resources exhausted"
+error_text InputOutput = codes "I/O error"
+
+-- the result of what failed (RFC 7047, 4.1.3)
+abbrev pub error_tree : OpError → Data
+error_tree error = object_of ((codes "error", string (error_text error)) ∷ [])
+
+-- ---- what an operation does
+
+-- the rows as the operations so far have made them, and the identifiers that are left for inserts (own)
+pub record Staged : Type 0 where
+  pub rows : Database
+  pub draws : List Uuid
+
+-- an operation has a result, or an error (RFC 7047, 4.1.3)
+pub data Did : Type 0 where
+  Does : (result : Data) (staged : Staged) → Did
+  Refuses : (error : OpError) → Did
+
+-- with what was found, or else refused (own)
+abbrev pub or_refuses : {A : Type 0} → Option A → OpError → (A → Did) → Did
+or_refuses None error next = Refuses error
+or_refuses (Some a) error next = next a
+
+-- with what came out, or else refused (own)
+abbrev pub unless_fails : {A : Type 0} → Result A OpError → (A → Did) → Did
+unless_fails (Err error) next = Refuses error
+unless_fails (Ok a) next = next a
+
+-- the text at a member (own)
+abbrev pub text_at : List ℕ → Data → Option (List ℕ)
+text_at name d = option_and_then as_str (find.get name d)
+
+-- the array at a member (own)
+abbrev pub array_at : List ℕ → Data → Option Items
+array_at name d = option_and_then as_array (find.get name d)
+
+-- The table that the operation names: "table" is a text (a syntax error), and a table of the schema (RFC 7047, 5.2).
+abbrev pub on_table : Schema → Data → (List ℕ → Table → Did) → Did
+on_table schema d next = or_refuses (text_at (codes "table") d) SyntaxError (λ name. or_refuses (get schema.tables name) UnknownTable (λ table. next name table))
+
+-- ---- insert
+
+-- a column that each row has by itself (RFC 7047, 3.2)
+abbrev pub is_own : List ℕ → Bool
+is_own name = is_text name (codes "_uuid") || is_text name (codes "_version")
+
+-- no name stands for a row (own)
+abbrev pub no_names : Names
+no_names name = None
+
+-- The value fits its column; a key with two values is a value that fits none (RFC 7047, 5.1).
+abbrev pub fitting : Column → Reading Datum → Result Datum OpError
+fitting column Syntax = Err SyntaxError
+fitting column Clash = Err ConstraintViolation
+fitting column (Reads datum) = if fits column.type_of datum then Ok datum else Err ConstraintViolation
+
+-- the value that a tree gives a column (RFC 7047, 5.1, <value>)
+abbrev pub value_given : Column → Data → Result Datum OpError
+value_given column d = fitting column (reads no_names (kinds_of column.type_of) d)
+
+-- The value given to a column, which the table has, and which is not one that rows have by themselves (RFC 7047, 5.2.1).
+abbrev pub column_given : List ℕ → Option Column → Data → Result Datum OpError
+column_given name None d = Err UnknownColumn
+column_given name (Some column) d = if is_own name then Err ConstraintViolation else value_given column d
+
+-- one column more, and then the rest; or the fault of this one (own)
+abbrev pub with_column : Result Datum OpError → (Datum → Result Columns OpError) → Result Columns OpError
+with_column (Err error) next = Err error
+with_column (Ok datum) next = next datum
+
+-- The columns given beside those there are, in ascending order of their names, as a tree has its members; or the fault of
+-- the first that has one (RFC 7047, 5.2.1, <row>).
+abbrev pub columns_given : Table → Members → Columns → Result Columns OpError
+columns_given table no_members columns = Ok columns
+columns_given table (member name d members) columns =
+    with_column (column_given name (get table.columns name) d) (λ datum. columns_given table members (insert columns name datum))
+
+-- the default of a column, where it fits (RFC 7047, 5.2.1; that a default may not fit is own)
+abbrev pub default_given : Column → Result Datum OpError
+default_given column = if fits column.type_of (default_of column.type_of) then Ok (default_of column.type_of) else Err ConstraintViolation
+
+-- the columns with the defaults of those that were not given (RFC 7047, 5.2.1)
+abbrev pub with_defaults : List (List ℕ × Column) → Columns → Result Columns OpError
+with_defaults [] columns = Ok columns
+with_defaults (c ∷ cs) columns =
+    if is_own c.0 || contains_key columns c.0 then with_defaults cs columns
+    else with_column (default_given c.1) (λ datum. with_defaults cs (insert columns c.0 datum))
+
+-- the columns, where there is no fault, and then the rest (own)
+abbrev pub and_then_columns : Result Columns OpError → (Columns → Result Columns OpError) → Result Columns OpError
+and_then_columns (Err error) next = Err error
+and_then_columns (Ok columns) next = next columns
+
+-- all columns of a new row (RFC 7047, 5.2.1)
+abbrev pub new_columns : Table → Members → Result Columns OpError
+new_columns table members = and_then_columns (columns_given table members empty) (λ columns. with_defaults (entries table.columns) columns)
+
+-- the result of an insert: the identifier of its row (RFC 7047, 5.2.1)
+abbrev pub insert_result : Uuid → Data
+insert_result id = object_of ((codes "uuid", atom_tree (value.Uuid id)) ∷ [])
+
+-- the row under an identifier that no row of the table has yet, the others left for the inserts that follow (RFC 7047, 5.2.1)
+abbrev pub put_under : Uuid → Database → List ℕ → Columns → List Uuid → Did
+put_under version rows table columns [] = Refuses ResourcesExhausted
+put_under version rows table columns (id ∷ draws) =
+    if contains_key rows (table, id) then Refuses DuplicateUuid
+    else Does (insert_result id) (record { rows = insert rows (table, id) (record { version = version; columns = columns }); draws = draws })
+
+-- The row is put under the next draw. As many draws are made as there are inserts, so one is always left (own).
+abbrev pub put_row : Uuid → Staged → List ℕ → Columns → Did
+put_row version g table columns = put_under version g.rows table columns g.draws
+
+-- A row is made of "row", and put. Its identifier can't be chosen, and it can't be given a name yet: "uuid" and "uuid-name"
+-- are syntax errors (RFC 7047, 5.2.1).
+abbrev pub insert_row : Schema → Uuid → Staged → Data → Did
+insert_row schema version g d = on_table schema d (λ name table.
+    if has (codes "uuid") d || has (codes "uuid-name") d then Refuses SyntaxError
+    else or_refuses (option_and_then as_object (find.get (codes "row") d)) SyntaxError (λ members.
+    unless_fails (new_columns table members) (λ columns. put_row version g name columns)))
+
+-- ---- select
+
+-- the rows of a table, in ascending order of their identifiers (own)
+abbrev pub rows_of : Database → List ℕ → List (LineKey × Row)
+rows_of rows table = filter (λ r. is_text r.0.0 table) (entries rows)
+
+-- a set of one identifier (RFC 7047, 5.1, <uuid>)
+abbrev pub one_uuid : Uuid → Datum
+one_uuid id = Atoms (set_of (value.Uuid id ∷ []))
+
+-- the value of a row's column, `_uuid` and `_version` too (RFC 7047, 3.2)
+abbrev pub column_of : LineKey × Row → List ℕ → Option Datum
+column_of r name =
+    if is_text name (codes "_uuid") then Some (one_uuid r.0.1)
+    else (if is_text name (codes "_version") then Some (one_uuid r.1.version)
+    else get r.1.columns name)
+
+-- these columns of a row, with their names (RFC 7047, 5.2.2)
+abbrev pub columns_of : List (List ℕ) → LineKey × Row → List (List ℕ × Datum)
+columns_of names r = flat_map (λ name. option_to_list (option_map (λ datum. (name, datum)) (column_of r name))) names
+
+-- of rows that are equal in all chosen columns the first alone (RFC 7047, 5.2.2)
+abbrev pub without_repeats : List (List (List ℕ × Datum)) → List (List (List ℕ × Datum))
+without_repeats [] = []
+without_repeats (row ∷ rows) = row ∷ filter (λ other. not (are_columns row other)) (without_repeats rows)
+
+-- a row as it is shown (RFC 7047, 5.1, <row>)
+abbrev pub shown : List (List ℕ × Datum) → Data
+shown columns = object_of (map written columns)
+
+-- the result of a select (RFC 7047, 5.2.2)
+abbrev pub select_result : List (List (List ℕ × Datum)) → Data
+select_result rows = object_of ((codes "rows", array (items_of (map shown rows))) ∷ [])
+
+-- the table's columns that are named, in ascending order (own)
+abbrev pub columns_named : Table → List (List ℕ) → List (List ℕ)
+columns_named table names = filter (λ name. list_any (is_text name) names) (keys table.columns)
+
+-- Each name is one of a column of the table; a name may stand twice (RFC 7047, 5.2.2).
+abbrev pub known_columns : Table → List (List ℕ) → Result (List (List ℕ)) OpError
+known_columns table names = if list_all (contains_key table.columns) names then Ok (columns_named table names) else Err UnknownColumn
+
+-- the names of "columns", which is an array of texts (RFC 7047, 5.2.2)
+abbrev pub listed_columns : Table → Option (List (List ℕ)) → Result (List (List ℕ)) OpError
+listed_columns table None = Err SyntaxError
+listed_columns table (Some names) = known_columns table names
+
+-- the columns that are chosen; without "columns" all of them (RFC 7047, 5.2.2)
+abbrev pub chosen_columns : Table → Option Data → Result (List (List ℕ)) OpError
+chosen_columns table None = Ok (keys table.columns)
+chosen_columns table (Some d) = listed_columns table (list_read as_str d)
+
+-- "where" has no condition: one is a syntax error as yet (own; RFC 7047, 5.2.2)
+abbrev pub is_everywhere : Items → Bool
+is_everywhere no_items = true
+is_everywhere (item d ds) = false
+
+-- The chosen columns of all rows of the table (RFC 7047, 5.2.2).
+abbrev pub select_rows : Schema → Staged → Data → Did
+select_rows schema g d = on_table schema d (λ name table.
+    or_refuses (array_at (codes "where") d) SyntaxError (λ conditions.
+    if not (is_everywhere conditions) then Refuses SyntaxError
+    else unless_fails (chosen_columns table (find.get (codes "columns") d)) (λ names.
+    Does (select_result (without_repeats (map (columns_of names) (rows_of g.rows name)))) g)))
+
+-- ---- any operation
+
+-- "op" names the operation (RFC 7047, 5.2; the others are still unknown)
+abbrev pub operation : Schema → Uuid → Staged → Data → Did
+operation schema version g d = or_refuses (text_at (codes "op") d) SyntaxError (λ op.
+    if is_text op (codes "insert") then insert_row schema version g d
+    else (if is_text op (codes "select") then select_rows schema g d
+    else Refuses UnknownOperation))
