@@ -1,0 +1,209 @@
+ghost use Rattle.std.specs.Prelude.{◌≡◌, ◌∷◌, [], IfOk, option_map, if◌then◌else◌, Some, None};
+ghost use Rattle.ov_specs.specs.Value as value;
+ghost use Rattle.ov_specs.specs.Reading.{has_clash};
+ghost use Rattle.ov_atoms.specs.Views.{atom_view, kinds_view, atoms_view, pairs_view};
+
+use crate::atom::Atom;
+use crate::kind::Kinds;
+use std::alloc::{AllocError, Global};
+use std::collections::{BTreeMap, BTreeSet};
+use std::marker::Model;
+
+/// A value of a column: a finite set of atoms or a finite map (RFC 7047, 5.1, `<value>`). A scalar is a set of one.
+#[derive(Drop)]
+pub struct Datum {
+    pub(crate) parts: Parts,
+}
+
+/// Atoms, or pairs by their keys, ascending and without repeats.
+#[derive(Drop)]
+pub(crate) enum Parts {
+    Atoms(Vec<Atom>),
+    Pairs(Vec<(Atom, Atom)>),
+}
+
+impl Model for Datum {
+    ghost use Rattle.ov_specs.specs.Value as value;
+    ghost use Rattle.ov_atoms.specs.Views.{parts_view, IsAscending};
+
+    ghost Value = { value.Datum };
+
+    ghost coded = { value.datum_code };
+
+    ghost view = { λ d. parts_view d.parts };
+
+    ghost invariant = { λ d. IsAscending d.parts };
+}
+
+impl Datum {
+    /// The set of this one atom: a scalar.
+    pub fn of_atom(alloc: Global, atom: Atom) -> Result<Datum, AllocError>
+        ensures { IfOk result (λ d. d ≡ value.Atoms (value.set_of (atom_view atom ∷ []))) }
+    {
+        let mut atoms = Vec::new(alloc);
+        atoms.push(atom)?;
+        Ok(Datum {
+            parts: Parts::Atoms(atoms),
+        })
+    }
+
+    /// The set of these atoms, in whatever order. Equal ones merge.
+    pub fn of_atoms(alloc: Global, atoms: Vec<Atom>) -> Result<Datum, AllocError>
+        ensures { IfOk result (λ d. d ≡ value.Atoms (value.set_of (atoms_view atoms.items))) }
+    {
+        let mut ascending = Vec::new(alloc);
+        for atom in merge_atoms(alloc, atoms)? {
+            ascending.push(atom)?;
+        }
+        Ok(Datum {
+            parts: Parts::Atoms(ascending),
+        })
+    }
+
+    /// The map of these pairs, in whatever order, or none where one key has two values. Equal pairs merge.
+    pub fn of_pairs(alloc: Global, pairs: Vec<(Atom, Atom)>) -> Result<Option<Datum>, AllocError>
+        ensures { IfOk result (λ o. o ≡ (if has_clash (pairs_view pairs.items) then None else Some (value.Pairs (value.map_of (pairs_view pairs.items))))) }
+    {
+        let Some(merged) = merge_pairs(alloc, pairs)? else {
+            return Ok(None);
+        };
+        let mut ascending = Vec::new(alloc);
+        for pair in merged {
+            ascending.push(pair)?;
+        }
+        Ok(Some(Datum {
+            parts: Parts::Pairs(ascending),
+        }))
+    }
+
+    /// The empty set or the empty map: the default of a column whose `min` is 0 (RFC 7047, 5.2.1).
+    pub fn nothing_of(alloc: Global, kinds: Kinds) -> Datum
+        ensures { result ≡ value.nothing_of (kinds_view kinds) }
+    {
+        match kinds {
+            Kinds::Single(_) => Datum {
+                parts: Parts::Atoms(Vec::new(alloc)),
+            },
+            Kinds::Pair(_, _) => Datum {
+                parts: Parts::Pairs(Vec::new(alloc)),
+            },
+        }
+    }
+
+    /// One default atom, or one pair of two: the default of a column whose `min` is 1 (RFC 7047, 5.2.1).
+    pub fn one_default_of(alloc: Global, kinds: Kinds) -> Result<Datum, AllocError>
+        ensures { IfOk result (λ d. d ≡ value.one_default_of (kinds_view kinds)) }
+    {
+        match kinds {
+            Kinds::Single(kind) => Datum::of_atom(alloc, Atom::default_of(alloc, kind)),
+            Kinds::Pair(key, value) => {
+                let mut pairs = Vec::new(alloc);
+                pairs.push((Atom::default_of(alloc, key), Atom::default_of(alloc, value)))?;
+                Ok(Datum {
+                    parts: Parts::Pairs(pairs),
+                })
+            }
+        }
+    }
+
+    /// The atoms of a set, ascending, or none where it is a map.
+    pub fn atoms(&self) -> Option<&[Atom]>
+        ensures { option_map (λ xs. atoms_view xs.now) result ≡ value.atoms_in self.now }
+    {
+        match &self.parts {
+            Parts::Atoms(atoms) => Some(atoms.as_slice()),
+            Parts::Pairs(_) => None,
+        }
+    }
+
+    /// The pairs of a map, ascending by their keys, or none where it is a set.
+    pub fn pairs(&self) -> Option<&[(Atom, Atom)]>
+        ensures { option_map (λ ps. pairs_view ps.now) result ≡ value.pairs_in self.now }
+    {
+        match &self.parts {
+            Parts::Atoms(_) => None,
+            Parts::Pairs(pairs) => Some(pairs.as_slice()),
+        }
+    }
+
+    /// How many atoms or pairs there are.
+    pub fn count(&self) -> usize
+        ensures { result ≡ value.count self.now }
+    {
+        match &self.parts {
+            Parts::Atoms(atoms) => atoms.as_slice().len(),
+            Parts::Pairs(pairs) => pairs.as_slice().len(),
+        }
+    }
+
+    /// The same value once more.
+    pub fn copy(&self, alloc: Global) -> Result<Datum, AllocError>
+        ensures { IfOk result (λ d. d ≡ self.now) }
+    {
+        match &self.parts {
+            Parts::Atoms(atoms) => {
+                let atoms = copy_atoms(alloc, atoms.as_slice())?;
+                Ok(Datum {
+                    parts: Parts::Atoms(atoms),
+                })
+            }
+            Parts::Pairs(pairs) => {
+                let pairs = copy_pairs(alloc, pairs.as_slice())?;
+                Ok(Datum {
+                    parts: Parts::Pairs(pairs),
+                })
+            }
+        }
+    }
+}
+
+/// The atoms in order. A list would be looked through at each insertion, and messages are long.
+fn merge_atoms(alloc: Global, atoms: Vec<Atom>) -> Result<BTreeSet<Atom>, AllocError>
+    ensures { IfOk result (λ s. value.set_of (atoms_view s.keys) ≡ value.set_of (atoms_view atoms.items)) }
+{
+    let mut set = BTreeSet::new(alloc);
+    for atom in atoms {
+        set.insert(atom)?;
+    }
+    Ok(set)
+}
+
+/// The pairs in order of their keys, or none where one key has two values.
+fn merge_pairs(
+    alloc: Global,
+    pairs: Vec<(Atom, Atom)>,
+) -> Result<Option<BTreeMap<Atom, Atom>>, AllocError>
+    ensures { IfOk result (λ o. option_map (λ m. value.map_of (pairs_view m.entries)) o ≡ (if has_clash (pairs_view pairs.items) then None else Some (value.map_of (pairs_view pairs.items)))) }
+{
+    let mut map = BTreeMap::new(alloc);
+    for (key, value) in pairs {
+        if let Some(former) = map.get(&key) {
+            if *former != value {
+                return Ok(None);
+            }
+        } else {
+            map.insert(key, value)?;
+        }
+    }
+    Ok(Some(map))
+}
+
+fn copy_atoms(alloc: Global, atoms: &[Atom]) -> Result<Vec<Atom>, AllocError>
+    ensures { IfOk result (λ v. atoms_view v.items ≡ atoms_view atoms.now) }
+{
+    let mut copies = Vec::new(alloc);
+    for atom in atoms {
+        copies.push(atom.copy(alloc)?)?;
+    }
+    Ok(copies)
+}
+
+fn copy_pairs(alloc: Global, pairs: &[(Atom, Atom)]) -> Result<Vec<(Atom, Atom)>, AllocError>
+    ensures { IfOk result (λ v. pairs_view v.items ≡ pairs_view pairs.now) }
+{
+    let mut copies = Vec::new(alloc);
+    for pair in pairs {
+        copies.push((pair.0.copy(alloc)?, pair.1.copy(alloc)?))?;
+    }
+    Ok(copies)
+}

@@ -1,0 +1,29 @@
+//! Atoms and values, and their JSON form (RFC 7047, 5.1).
+//!
+//! A value is read from a JSON tree by the kinds of its column alone, or refused, and is written as the one tree that
+//! stands for it. What a column allows besides is no matter of this crate.
+#![tactic(auto)]
+
+mod atom;
+mod datum;
+mod fault;
+mod id;
+mod identifier;
+mod kind;
+mod names;
+mod order;
+mod read;
+#[cfg(test)]
+mod tests;
+mod two;
+mod write;
+
+pub use atom::Atom;
+pub use datum::Datum;
+pub use fault::AtomFault;
+pub use id::is_id;
+pub use identifier::has_sixteen_bytes;
+pub use kind::{AtomKind, Kinds};
+pub use names::{Names, NoNames};
+pub use read::{read_atom, read_datum};
+pub use write::write_datum;
