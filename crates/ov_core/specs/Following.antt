@@ -3,14 +3,14 @@ use Rattle.std.specs.Prelude.{◌≡◌, ℕ, ◌==◌, ◌++◌, List, [], ◌�
 use Rattle.ov_specs.specs.Machine as machine
 use Rattle.ov_specs.specs.Machine.{State, Sent}
 use Rattle.ov_specs.specs.History.{run, frames_to}
-use Rattle.ov_early.specs.Naming.{Named}
+use Rattle.ov_specs.specs.SchemaTypes.{Schema}
 use Rattle.ov_core.specs.declared.event.Entry.{Entry}
 use Rattle.ov_core.specs.Entries.{entry_view}
 use Rattle.ov_core.specs.Waiting.{Queues, waiting_for}
 
 -- what contracts see of a core: its schema, its state, the entries that it keeps, the frames that wait, its keeper and its source of draws (own)
 pub record Running (K D : Type 0) : Type 0 where
-  pub schema : Named
+  pub schema : Schema
   pub state : State
   pub kept : List Entry
   pub waiting : Queues

@@ -41,7 +41,7 @@ impl<K: Keeper, D> Model for Core<K, D> {
     ghost use Rattle.std.specs.Prelude.{◌≡◌, ◌+◌, ◌≤◌, length, option_to_list};
     ghost use Rattle.std.specs.VecDeque.{deque_len, deque_capacity};
     ghost use Rattle.std.specs.Coded.{codes};
-    ghost use Rattle.ov_early.specs.Naming.{named_code};
+    ghost use Rattle.ov_specs.specs.SchemaTypes.{schema_code};
     ghost use Rattle.serde_json.specs.Written.{compact_text};
     ghost use Rattle.ov_specs.specs.Lines.{Contents};
     ghost use Rattle.ov_specs.specs.TreeCode.{tree_code, items_code};
@@ -50,7 +50,7 @@ impl<K: Keeper, D> Model for Core<K, D> {
 
     ghost Value = { Running K D };
 
-    ghost coded = { Prim.hlevel (codes, named_code, tree_code, items_code, K.code, D.code) };
+    ghost coded = { Prim.hlevel (codes, schema_code, tree_code, items_code, K.code, D.code) };
 
     ghost view = { λ c. record {
       schema = c.schema;

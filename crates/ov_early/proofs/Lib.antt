@@ -1,1 +1,5 @@
 pub mod LineLemmas
+pub mod NamedLemmas
+pub mod MemberLemmas
+pub mod FittingLemmas
+mod SchemaRows

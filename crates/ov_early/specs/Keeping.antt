@@ -31,6 +31,14 @@ Refuses changes old new TooLarge = Keeps old new
 Refuses changes old new NotOurs = ⊥
 Refuses changes old new Format = ⊥
 
+-- a commit is refused for want of memory, by the device, or for changes that are too large; the others only an open can find (own)
+abbrev pub IsCommitFault : KeepFault → Type 0
+IsCommitFault Memory = Unit {0}
+IsCommitFault Device = Unit {0}
+IsCommitFault TooLarge = Unit {0}
+IsCommitFault NotOurs = ⊥
+IsCommitFault Format = ⊥
+
 -- the contents that were loaded
 abbrev pub loaded_contents : Loaded → Contents
 loaded_contents loaded = record { schema = loaded.schema; lines = from_entries (map line_entry loaded.lines.items) }

@@ -1,4 +1,5 @@
-pub mod Naming
+pub mod SchemaReading
+pub mod NamedViews
 pub mod Views
 pub mod Keeping
 pub mod Drawing

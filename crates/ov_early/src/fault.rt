@@ -40,7 +40,7 @@ pub enum OpenFault {
 /// Why a schema is refused.
 #[derive(Clone, Copy, Debug, PartialEq, Eq, Error)]
 pub enum SchemaFault {
-    /// A member is missing or of a wrong kind.
+    /// A member is missing or of a wrong kind, or a column has a type that is not read today.
     #[error("the schema is built wrong")]
     Syntax,
     /// A growth was refused.

@@ -1,7 +1,7 @@
 ghost use Rattle.std.specs.Prelude.{◌≡◌, ◌⊎◌, ◌<◌, ◌≤◌, ◌-◌, ◌^◌, ℕ, IfOk, IfErr, OnOk};
 ghost use Rattle.ov_specs.specs.Lines.{Contents};
 ghost use Rattle.ov_early.specs.Views.{changes_view};
-ghost use Rattle.ov_early.specs.Keeping.{Keeps, Changes, Refuses, loaded_contents};
+ghost use Rattle.ov_early.specs.Keeping.{Keeps, Changes, Refuses, IsCommitFault, loaded_contents};
 
 use crate::fault::KeepFault;
 use crate::line::{Change, Line};
@@ -41,6 +41,7 @@ pub trait Keeper {
     fn commit(&mut self, alloc: Global, changes: &[Change]) -> Result<(), KeepFault>
         ensures ok { is_honest self.new → OnOk result (Changes (changes_view changes.now) (leaves self.old) (leaves self.new)) }
         ensures err { is_honest self.new → IfErr result (Refuses (changes_view changes.now) (leaves self.old) (leaves self.new)) }
+        ensures kinds { IfErr result IsCommitFault }
         // A failure of the device has a cause: its count rises, where it is not at its greatest.
         ensures cause { result ≡ Err KeepFault.Device → (failed self.old < failed self.new) ⊎ (failed self.old ≡ 2 ^ 64 - 1) }
         ensures counts { failed self.old ≤ failed self.new }

@@ -6,6 +6,7 @@ use std::test::Fail;
 use uuid::Uuid;
 
 mod failing;
+mod reading;
 
 const SCHEMA: &str = "{\"name\":\"Net\",\"tables\":{}}";
 

@@ -25,13 +25,13 @@ pub struct Streams<K: Keeper, D> {
 
 impl<K: Keeper, D> Model for Streams<K, D> {
     ghost use Rattle.std.specs.Coded.{codes};
-    ghost use Rattle.ov_early.specs.Naming.{named_code};
+    ghost use Rattle.ov_specs.specs.SchemaTypes.{schema_code};
     ghost use Rattle.ov_specs.specs.TreeCode.{tree_code, items_code};
     ghost use Rattle.ov_streams.specs.Running.{Streaming};
 
     ghost Value = { Streaming K D };
 
-    ghost coded = { Prim.hlevel (codes, named_code, tree_code, items_code, K.code, D.code) };
+    ghost coded = { Prim.hlevel (codes, schema_code, tree_code, items_code, K.code, D.code) };
 
     ghost view = { λ s. record { core = s.core; lane = s.lane } };
 }
