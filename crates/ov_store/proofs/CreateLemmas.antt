@@ -1,0 +1,60 @@
+-- What a CREATE TABLE does.
+use Rattle.std.proofs.Common.{◌≡◌, ℕ, List, [], ◌∷◌, true, false, Some, None, Ok, Err, Result, refl, sym, ap, subst, ◌∙◌}
+use Rattle.std.specs.Fmt.{digits}
+use Rattle.sqlite.specs.Order.{Row}
+use Rattle.sqlite.specs.Table.{Table}
+use Rattle.sqlite.specs.Schema.{Schema}
+use Rattle.sqlite.specs.Command.TheVariants.{CreateTable}
+use Rattle.sqlite.specs.Compile.{table_defined_by}
+use Rattle.sqlite.specs.Change.{created, next_tree, KeepsRows}
+use Rattle.sqlite.specs.Does.{Tally, Does, lacks_sequence}
+use Rattle.sqlite_tied.specs.Compute.{everything}
+use Rattle.sqlite.specs.Listing.{understood}
+use Rattle.sqlite.specs.Effect.{Database}
+use Rattle.sqlite.specs.State.{State, Writes, Executes}
+use Rattle.sqlite.proofs.Callers.{IsPlain, command_of, statement_of, runs_as}
+use Rattle.ov_store.specs.Tables.{meta_table, line_table, no_schema, meta_schema, line_schema, create_meta, create_line}
+use Rattle.ov_store.proofs.Texts.{meta_is, line_is}
+use Rattle.ov_store.proofs.DeleteLemmas.{went, same_value}
+
+pub meta_plain : IsPlain (understood no_schema create_meta)
+unfolding understood everything
+meta_plain = (refl, refl)
+
+pub line_plain : IsPlain (understood meta_schema create_line)
+unfolding understood everything
+line_plain = (refl, refl)
+
+pub record Creates (before after : Schema) (tree : ℕ) (old new : State) : Type 0 where
+  pub schema : new.now.schema ≡ after
+  pub empty : new.now.trees tree ≡ []
+  pub others : KeepsRows before.tables old.now.trees new.now.trees
+
+module _ (text : List ℕ) (before : Schema) (table : Table) (command : command_of (understood before text) ≡ CreateTable) (whole : statement_of text (understood before text) ≡ text)
+    (defined : table_defined_by text ≡ Ok table) (plain : IsPlain (understood before text)) (uncounted : lacks_sequence (created before table) ≡ false) where
+  pub creates : (old new : State) (count : ℕ) → old.now.schema ≡ before → Executes text [] old new (Ok count) → Creates before (created before table) (next_tree before) old new
+  creates old new count has h =
+      let w = subst (λ t. Writes old new None CreateTable t [] count) whole (runs_as text [] old new before has CreateTable command plain count h) in
+      let all = went w.changed in
+      let first = went all.1 in
+      let made = first.1 in
+      let both : Ok made.table ≡ Ok table = sym made.defined ∙ defined in
+      let same : made.table ≡ table = cc in
+      let schema : first.0.schema ≡ created before table = made.is ∙ ap (λ s. created s made.table) has ∙ ap (created before) same in
+      let quiet : lacks_sequence first.0.schema ≡ false = ap lacks_sequence schema ∙ uncounted in
+      let now : new.now ≡ first.0 = ap (λ (p : Tally × Database). p.1) (same_value all.2) ∙ same_value (rw quiet at first.2) in
+      record {
+        schema = ap (λ (d : Database). d.schema) now ∙ schema;
+        empty = subst (λ s. new.now.trees (next_tree s) ≡ []) has (ap (λ (d : Database). d.trees (next_tree old.now.schema)) now ∙ made.empty);
+        others = subst (λ (d : Database). KeepsRows before.tables old.now.trees d.trees) (sym now) (subst (λ (s : Schema). KeepsRows s.tables old.now.trees first.0.trees) has made.others);
+      }
+
+pub creates_meta : (old new : State) (count : ℕ) → old.now.schema ≡ no_schema → Executes create_meta [] old new (Ok count) → Creates no_schema meta_schema 0 old new
+creates_meta = creates create_meta no_schema meta_table meta_is.0 meta_is.1 meta_is.2 meta_plain refl
+
+made_line : created meta_schema (record line_table { tree = 0 }) ≡ line_schema
+unfolding digits
+made_line = refl
+
+pub creates_line : (old new : State) (count : ℕ) → old.now.schema ≡ meta_schema → Executes create_line [] old new (Ok count) → Creates meta_schema line_schema 2 old new
+creates_line old new count has ran = subst (λ s. Creates meta_schema s 2 old new) made_line (creates create_line meta_schema (record line_table { tree = 0 }) line_is.0 line_is.1 line_is.2 line_plain refl old new count has ran)

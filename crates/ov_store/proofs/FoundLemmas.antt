@@ -1,0 +1,78 @@
+-- From what a write leaves of the connection to what an open may find.
+use Rattle.std.proofs.Common.{◌≡◌, ◌⊎◌, inl, inr, ℕ, List, [], ◌∷◌, length, refl, sym, ap, subst, ◌∙◌, arith, IsTrue, zero, suc, true, ◌==◌}
+use Rattle.std.proofs.lemmas.Bool.Decides.{nat_tests}
+use Rattle.sqlite.specs.Store.{Ghosts}
+use Rattle.sqlite.specs.Tree.{Trees}
+use Rattle.sqlite.specs.Effect.{Database}
+use Rattle.sqlite.specs.State.{HasCleanDisk, Survives, KeepsCommit, IsUnchanged}
+use Rattle.sqlite.specs.Held.{Held as Connected, state}
+use Rattle.ov_specs.specs.Lines.{Contents, LineChange, Lines, after_changes}
+use Rattle.ov_early.specs.Keeping.{Keeps, Changes, MayChange, Refuses, changed}
+use Rattle.ov_early.specs.declared.fault.KeepFault.{KeepFault}
+use Rattle.ov_early.specs.declared.fault.KeepFault.TheVariants.{Memory, TooLarge}
+use Rattle.ov_store.specs.Format.{held, stored_schema, stored_lines, IsMeta}
+use Rattle.ov_store.specs.Changing.{MayBeStored, Stores, IsMade}
+use Rattle.ov_store.specs.StoreState.{MayFind}
+use Rattle.ov_store.specs.Making.{IsNew}
+use Rattle.ov_store.proofs.OpenLemmas.{schema_is}
+use Rattle.std.specs.FinMap.{empty}
+
+pub nothing_left : {X : Type 0} (xs : List X) → length xs ≡ 0 → xs ≡ []
+nothing_left [] e = refl
+nothing_left (x ∷ xs) e = absurd (omega arith)
+
+pub is_zero : (n : ℕ) → true ≡ (n == 0) → n ≡ 0
+is_zero n e = grind (arith, nat_tests)
+
+pub refused : (changes : List LineChange) (A B : Contents → Type 0) (fault : KeepFault) → (fault ≡ Memory) ⊎ (fault ≡ TooLarge) → Keeps A B → Refuses changes A B fault
+refused changes A B fault (inl e) kept = rw e kept
+refused changes A B fault (inr e) kept = rw e kept
+
+-- the same rows of `meta`, and lines that are changed
+pub held_changed : (changes : List LineChange) (before after : Trees) → after 0 ≡ before 0 → stored_lines (after 2) ≡ after_changes changes (stored_lines (before 2)) → held after ≡ changed changes (held before)
+held_changed changes before after meta lines = λ i. record { schema = stored_schema (meta i); lines = lines i }
+
+pub same_text : (lines : Lines) (t u : List ℕ) → t ≡ u → ◌≡◌ {A = Contents} (record { schema = t; lines = lines }) (record { schema = u; lines = lines })
+same_text lines t u e = λ i. record { schema = e i; lines = lines }
+
+pub held_is : (text : List ℕ) (trees : Trees) (lines : Lines) → IsMeta text (trees 0) → stored_lines (trees 2) ≡ lines → held trees ≡ record { schema = text; lines = lines }
+held_is text trees lines meta is = λ i. record { schema = schema_is text (trees 0) meta i; lines = is i }
+
+module _ {S : Type 0} (g : Ghosts S) (settled : (s : S) (db : Trees) → IsTrue (g.view s).is_open → g.recovers s db → db ≡ (g.view s).committed)
+    (stays : (s : S) → IsTrue (g.view s).is_open → g.recovers s (g.view s).committed) where
+  pub was_found : (c : Connected S) → IsTrue (state g c).is_open → (state g c).now ≡ (state g c).committed → MayFind g c (held (state g c).now.trees)
+  was_found c up same = ((g.view c.store).committed, stays c.store up, ap (λ (d : Database). held d.trees) same)
+
+  pub stores_changes : (text : List ℕ) (changes : List LineChange) (old new : Connected S) → Stores text (after_changes changes) (state g old) (state g new) → Changes changes (MayFind g old) (MayFind g new)
+  stores_changes text changes old new done h found =
+      let trees : found.0 ≡ (g.view new.store).committed = settled new.store found.0 done.is_open found.1 in (
+        held (state g old).now.trees,
+        was_found old done.was_open done.was_settled,
+        found.2 ∙ ap held trees ∙ sym (ap (λ (d : Database). held d.trees) done.is_settled) ∙ held_changed changes (state g old).now.trees (state g new).now.trees done.meta done.lines_are,
+      )
+
+  pub crash_changes : (text : List ℕ) (changes : List LineChange) (old new : Connected S) → HasCleanDisk (state g new) → MayBeStored text (state g old)
+      → Survives (state g old) (state g new) (λ trees. (text : List ℕ) → MayBeStored text (state g old) → IsMade (after_changes changes) (state g old) trees) → MayChange changes (MayFind g old) (MayFind g new)
+  crash_changes text changes old new clean may s h found = elim (s.crash clean found.0 found.1) [
+    | inl before ↦ inl (found.0, before, found.2)
+    | inr made ↦ let it = made text may in inr (held (state g old).now.trees, was_found old it.was_open it.was_settled, found.2 ∙ held_changed changes (state g old).now.trees found.0 it.meta it.lines_are)
+  ]
+
+  -- a call that was refused, and left the connection open
+  pub kept_found : (old mid new : Connected S) → HasCleanDisk (state g new) → KeepsCommit (state g old) (state g mid) → IsUnchanged (state g mid) (state g new) → Keeps (MayFind g old) (MayFind g new)
+  kept_found old mid new clean kept same h found =
+      let trees : found.0 ≡ (g.view new.store).committed = settled new.store found.0 same.0.is_open found.1 in
+      let before : found.0 ≡ (g.view old.store).committed =
+      trees ∙ ap (λ (d : Database). d.trees) (same.0.committed_is ∙ kept.committed same.0.was_open) in
+      (found.0, subst (g.recovers old.store) (sym before) (stays old.store (kept.was_open same.0.was_open)), found.2)
+
+  -- a call that commits nothing
+  pub survives_found : (old new : Connected S) → HasCleanDisk (state g new) → Survives (state g old) (state g new) (λ _. ⊥) → Keeps (MayFind g old) (MayFind g new)
+  survives_found old new clean s h found = elim (s.crash clean found.0 found.1) [ inl before ↦ (found.0, before, found.2) | inr none ↦ absurd none ]
+
+  pub found_is : (c : Connected S) → IsTrue (state g c).is_open → (state g c).now ≡ (state g c).committed → (contents : Contents) → MayFind g c contents → contents ≡ held (state g c).now.trees
+  found_is c up same contents found = found.2 ∙ ap held (settled c.store found.0 up found.1) ∙ sym (ap (λ (d : Database). held d.trees) same)
+
+  pub new_found : (text : List ℕ) (c : Connected S) → IsNew text (state g c) → (contents : Contents) → MayFind g c contents → contents ≡ record { schema = text; lines = empty }
+  new_found text c new contents found =
+      found_is c new.is_open new.settled contents found ∙ held_is text (state g c).now.trees empty new.stored.format.meta (ap stored_lines new.no_line)

@@ -1,0 +1,15 @@
+pub mod Texts
+pub mod EntryLemmas
+pub mod RowLemmas
+pub mod DeleteLemmas
+pub mod RemoveLemmas
+pub mod InsertLemmas
+pub mod PutLemmas
+pub mod RunLemmas
+pub mod FoundLemmas
+pub mod ReadLemmas
+pub mod CreateLemmas
+pub mod MetaLemmas
+pub mod OpenLemmas
+pub mod NumberLemmas
+pub mod KeyLemmas

@@ -1,0 +1,76 @@
+-- What the INSERT into `meta` does, and what the rows of `meta` give.
+use Rattle.std.proofs.Common.{◌≡◌, ◌⊎◌, inl, inr, ℕ, ℤ, List, [], ◌∷◌, map, Bool, true, false, not, cond, ◌&&◌, ◌||◌, Some, None, Ok, Err, Result, refl, sym, ap, subst, ◌∙◌, arith, codes, IsUtf8, length, All}
+use Rattle.std.specs.declared.cmp.Ordering.{Ordering}
+use Rattle.std.specs.declared.cmp.Ordering.TheVariants.{Less, Equal, Greater}
+use Rattle.std.specs.Ordering.{is_eq, match_ordering}
+use Rattle.std.specs.List.Sorted.{IsPermutation}
+use Rattle.std.proofs.lemmas.List.Sorted.{length_permutation, All-permutation, IsPermutation-sym}
+use Rattle.sqlite.specs.declared.types.Value.TheVariants.{Null, Int, Text, Blob}
+use Rattle.sqlite.specs.Order.{Row, column, value_cmp}
+use Rattle.sqlite.specs.Ops.{unary}
+use Rattle.sqlite.specs.Kind.TheVariants.{Integer}
+use Rattle.sqlite.specs.Cast.{cast}
+use Rattle.sqlite.specs.Source.TheVariants.{Values}
+use Rattle.sqlite.specs.Command.TheVariants.{Insert}
+use Rattle.sqlite.specs.Edit.{Edit, edit_of, edited}
+use Rattle.sqlite_rules.specs.Edit.{next_rowid, are_fresh, is_taken}
+use Rattle.sqlite_rules.specs.declared.error.Rowids.TheVariants.{Chosen}
+use Rattle.sqlite.specs.Does.{Tally, Does}
+use Rattle.sqlite.specs.Rows.{Written}
+use Rattle.sqlite_trees.specs.Tree.{Trees, rowid, put_row}
+use Rattle.sqlite.specs.Listing.{understood}
+use Rattle.sqlite.specs.Effect.{Database}
+use Rattle.sqlite.specs.State.{State, mode_of, Executes}
+use Rattle.sqlite.proofs.Callers.{statement_of, runs_as, one_step}
+use Rattle.ov_store.specs.Tables.{meta_table, line_schema, meta_insert_text}
+use Rattle.ov_store.specs.Format.{IsMeta, IsFormatRow, IsSchemaRow, stored_schema, is_schema_row}
+use Rattle.ov_store.specs.Making.{meta_row}
+use Rattle.ov_store.proofs.Texts.{meta_terms, meta_insert_is, meta_insert_plain}
+use Rattle.ov_store.proofs.DeleteLemmas.{went, same_value}
+use Rattle.ov_store.proofs.InsertLemmas.{cast_null}
+
+pub record InsertsMeta (k v : List ℕ) (old new : State) : Type 0 where
+  pub schema : new.now.schema ≡ line_schema
+  pub lines : new.now.trees 2 ≡ old.now.trees 2
+  pub number : ℤ
+  pub rows : new.now.trees 0 ≡ put_row (meta_row number k v) (old.now.trees 0)
+  pub fresh : are_fresh (old.now.trees 0) (meta_row number k v ∷ []) ≡ true
+
+pub inserts_meta : (old new : State) (k v : List ℕ) (count : ℕ) → old.now.schema ≡ line_schema → Executes meta_insert_text (Text k ∷ Blob v ∷ []) old new (Ok count) → InsertsMeta k v old new
+inserts_meta old new k v count has h =
+    let params = Text k ∷ Blob v ∷ [] in
+    let db = old.now.trees in
+    let command = Insert 0 (Values meta_terms 3) in
+    let w = runs_as meta_insert_text params old new line_schema has command meta_insert_is meta_insert_plain count h in
+    let text = statement_of meta_insert_text (understood line_schema meta_insert_text) in
+    let done = went (subst (λ s. Does old.step_limit (mode_of old) params (record old.now { schema = s }) text None command (Ok (w.tally, new.now))) has w.changed) in
+    let now = ap (λ (p : Tally × Database). p.1) (same_value (went (went done.2).2).2) in
+    let given = went done.1 in
+    let written = went (went given.2).2 in
+    let counted = went written.2 in
+    let trees : done.0.trees ≡ written.0 = ap (λ (it : Written). it.trees) (same_value counted.2) ∙ same_value counted.1 in
+    let step = one_step line_schema _ db written.0 (edit_of db meta_table [] Chosen 0 given.0) refl written.1 in
+    let n = next_rowid (db 0) in
+    let news : (edit_of db meta_table [] Chosen 0 given.0).news ≡ meta_row n k v ∷ [] = ap (λ all. (edit_of db meta_table [] Chosen 0 all).news) given.1.1 ∙ rw cast_null in
+    record {
+      schema = ap (λ (d : Database). d.schema) now;
+      lines = ap (λ (d : Database). d.trees 2) now ∙ ap (λ (t : Trees). t 2) trees ∙ step.tables.1.0 (λ e. absurd (omega arith));
+      number = n;
+      rows = ap (λ (d : Database). d.trees 0) now ∙ ap (λ (t : Trees). t 0) trees ∙ step.rows ∙ ap (λ all. Rattle.sqlite_rules.specs.Edit.put_all (db 0) all) news;
+      fresh = ap (are_fresh (db 0)) (sym news) ∙ step.fresh;
+    }
+
+-- the two rows, put one after the other
+pub filled : (n m : ℤ) (text : List ℕ) (rows : List Row) → IsUtf8 text → rows ≡ put_row (meta_row n (codes "format") (49 ∷ [])) []
+    → are_fresh rows (meta_row m (codes "schema") text ∷ []) ≡ true → IsMeta text (put_row (meta_row m (codes "schema") text) rows)
+filled n m text rows utf8 is fresh =
+    let f = meta_row n (codes "format") (49 ∷ []) in
+    let s = meta_row m (codes "schema") text in
+    let format : IsFormatRow f = record { key = refl; value = refl } in
+    let schema : IsSchemaRow text s = record { key = refl; value = refl; utf8 = utf8 } in
+    let P = λ (o : Ordering). (not (is_eq o || false) && true) ≡ true → IsMeta text (match_ordering o (f ∷ s ∷ []) (s ∷ []) (s ∷ f ∷ [])) in
+    rw is (elim (value_cmp (Int n) (Int m)) as P [
+      | Less ↦ λ e. record { first = f; second = s; all = refl; are = inl (format, schema) }
+      | Equal ↦ λ e. absurd cc
+      | Greater ↦ λ e. record { first = s; second = f; all = refl; are = inr (schema, format) }
+    ] (rw is at fresh))

@@ -1,0 +1,73 @@
+-- Runs of changes.
+use Rattle.std.proofs.Common.{◌≡◌, ℕ, suc, zero, ◌+◌, ◌<◌, List, [], ◌∷◌, ◌++◌, length, take, get_or, refl, sym, ap, ◌∙◌, arith, add-one, IsTrue, inl, inr, ◌⊎◌, Result, Ok, Err, OnOk, IfOk, IfErr, subst}
+use Rattle.sqlite.specs.State.{State, Survives, KeepsCommit, IsUnchanged, IsRolledBack, ExecutesInside, IsNotRun}
+use Rattle.sqlite.specs.Order.{Row}
+use Rattle.sqlite.specs.declared.error.Error.{Error}
+use Rattle.sqlite_trees.specs.Tree.{Trees}
+use Rattle.sqlite.proofs.StateLemmas.{survives_then}
+use Rattle.ov_specs.specs.Lines.{Lines}
+use Rattle.ov_store.specs.Changing.{IsStored, MayBeStored, Makes}
+
+pub makes_none : (text : List ℕ) (f : Lines → Lines) (s : State) → IsTrue s.in_transaction → MayBeStored text s → ((m : Lines) → f m ≡ m) → Makes text f s s
+makes_none text f s mode stored same = record { mode = mode; opens = λ up. up; stored = stored; lines_are = sym (same _); meta = refl; committed = refl }
+
+pub makes_then : (text : List ℕ) (f g h : Lines → Lines) (a b c : State) → ((m : Lines) → h m ≡ g (f m)) → Makes text f a b → Makes text g b c → Makes text h a c
+makes_then text f g h a b c is one two = record {
+  mode = two.mode;
+  opens = λ up. one.opens (two.opens up);
+  stored = two.stored;
+  lines_are = two.lines_are ∙ ap g one.lines_are ∙ sym (is _);
+  meta = two.meta ∙ one.meta;
+  committed = two.committed ∙ one.committed;
+}
+
+pub nothing_then : (a b c : State) → Survives a b (λ _. ⊥) → Survives b c (λ _. ⊥) → Survives a c (λ _. ⊥)
+nothing_then a b c = survives_then a b c (λ _. ⊥) (λ _. ⊥) (λ _. ⊥) (λ _ db none. none) (λ _ db none. none)
+
+pub nothing_now : (s : State) → Survives s s (λ _. ⊥)
+nothing_now s = record { clean = omega arith; shield = λ h. h; counts = omega arith; limit = refl; closes = λ _ up. inl up; crash = λ _ db h. inl h }
+
+pub keeps_then : (a b c : State) → KeepsCommit a b → KeepsCommit b c → KeepsCommit a c
+keeps_then a b c one two = record {
+  was_open = λ up. one.was_open (two.was_open up);
+  committed = λ up. two.committed up ∙ one.committed (two.was_open up);
+}
+
+pub keeps_now : (s : State) → KeepsCommit s s
+keeps_now s = record { was_open = λ up. up; committed = λ _. refl }
+
+pub unchanged_keeps : (a b : State) → IsUnchanged a b → KeepsCommit a b
+unchanged_keeps a b same = record { was_open = λ _. same.0.was_open; committed = λ _. same.0.committed_is }
+
+pub rolled_keeps : (a b : State) → IsRolledBack a b → KeepsCommit a b
+rolled_keeps a b back = record { was_open = back.was_open; committed = λ up. (back.undone up).1 }
+
+-- a statement within a transaction commits nothing
+pub inside_keeps : (sql : List ℕ) (params : Row) (a b : State) (r : Result ℕ Error) → ExecutesInside 0 sql params a b r → KeepsCommit a b
+inside_keeps sql params a b (Ok count) h = record { was_open = λ _. h.1.was_open; committed = λ _. h.1.committed_is }
+inside_keeps sql params a b (Err e) (inl (ran, inl same)) = unchanged_keeps a b same
+inside_keeps sql params a b (Err e) (inl (ran, inr back)) = rolled_keeps a b back
+inside_keeps sql params a b (Err e) (inr ends) = unchanged_keeps a b ends.2
+
+pub inside_opens : (sql : List ℕ) (params : Row) (a b : State) (r : Result ℕ Error) → ExecutesInside 0 sql params a b r → OnOk r (IsTrue a.is_open)
+inside_opens sql params a b (Ok count) h = h.1.was_open
+inside_opens sql params a b (Err e) h = tt
+
+-- after a rollback it is as the last commit left it
+pub stored_again : (text : List ℕ) (a b c : State) → MayBeStored text a → (IsTrue a.is_open → a.now ≡ a.committed) → KeepsCommit a b → IsRolledBack b c → MayBeStored text c
+stored_again text a b c may settled kept back up =
+    let was = back.was_open up in
+    subst (IsStored text) (sym ((back.undone up).0 ∙ kept.committed was ∙ sym (settled (kept.was_open was)))) (may (kept.was_open was))
+
+pub unchanged_stored : (text : List ℕ) (a b : State) → IsUnchanged a b → MayBeStored text a → MayBeStored text b
+unchanged_stored text a b same may up = subst (IsStored text) (sym same.0.now_is) (may same.0.was_open)
+
+pub not_run_stored : (text : List ℕ) (a b : State) (sql : List ℕ) (params : Row) (e : Error) → IsNotRun a b sql params e → MayBeStored text a → (IsTrue a.is_open → a.now ≡ a.committed) → MayBeStored text b
+unfolding IsNotRun
+not_run_stored text a b sql params e (inl refused) may settled = unchanged_stored text a b refused.1 may
+not_run_stored text a b sql params e (inr fails) may settled = stored_again text a a b may settled (keeps_now a) fails.3
+
+pub prepared_stored : {T : Type 0} (text : List ℕ) (P : T → Type 0) (a b : State) (sql : List ℕ) (r : Result T Error) → IfOk r (λ s. P s × IsUnchanged a b) → IfErr r (λ e. (params : Row) → IsNotRun a b sql params e)
+    → MayBeStored text a → (IsTrue a.is_open → a.now ≡ a.committed) → MayBeStored text b
+prepared_stored text P a b sql (Ok s) ok err may settled = unchanged_stored text a b ok.1 may
+prepared_stored text P a b sql (Err e) ok err may settled = not_run_stored text a b sql [] e (err []) may settled

@@ -1,0 +1,58 @@
+-- What a statement makes of the lines (own).
+use Rattle.std.specs.Prelude.{◌≡◌, ◌⊎◌, ℕ, List, [], ◌∷◌, map, IsTrue, None}
+use Rattle.std.specs.List.{AllByRecursion}
+use Rattle.std.specs.FinMap.{get, insert}
+use Rattle.sqlite.specs.Order.{Row, column}
+use Rattle.sqlite.specs.Tree.{Trees}
+use Rattle.sqlite.specs.Effect.{Database}
+use Rattle.sqlite.specs.State.{State}
+use Rattle.ov_specs.specs.Lines.{LineKey, LineBody, Lines}
+use Rattle.ov_store.specs.Format.{IsFormat, entry, held, stored_lines}
+
+-- rows with one number are one line (own)
+abbrev pub IsNumbered : List Row → Type 0
+IsNumbered rows = AllByRecursion (λ r. AllByRecursion (λ s. column s 0 ≡ column r 0 → entry s ≡ entry r) rows) rows
+
+-- stored format 1, in which a number names one line (own)
+pub record IsStored (text : List ℕ) (db : Database) : Type 0 where
+  pub format : IsFormat text db
+  pub numbered : IsNumbered (db.trees 2)
+
+-- it is so while the connection is open (own)
+abbrev pub MayBeStored : List ℕ → State → Type 0
+MayBeStored text s = IsTrue s.is_open → IsStored text s.now
+
+-- in a transaction that goes on the lines became what f makes of them, and nothing was committed (own)
+pub record Makes (text : List ℕ) (f : Lines → Lines) (old new : State) : Type 0 where
+  pub mode : IsTrue new.in_transaction
+  pub opens : IsTrue new.is_open → IsTrue old.is_open
+  pub stored : MayBeStored text new
+  pub lines_are : stored_lines (new.now.trees 2) ≡ f (stored_lines (old.now.trees 2))
+  pub meta : new.now.trees 0 ≡ old.now.trees 0
+  pub committed : new.committed ≡ old.committed
+
+-- one line was added, where its key had none (own)
+pub record Adds (text : List ℕ) (k : LineKey) (v : LineBody) (old new : State) : Type 0 where
+  pub mode : IsTrue new.in_transaction
+  pub opens : IsTrue new.is_open → IsTrue old.is_open
+  pub stored : MayBeStored text new
+  pub lines_are : get (stored_lines (old.now.trees 2)) k ≡ None → stored_lines (new.now.trees 2) ≡ insert (stored_lines (old.now.trees 2)) k v
+  pub meta : new.now.trees 0 ≡ old.now.trees 0
+  pub committed : new.committed ≡ old.committed
+
+-- the changes are committed (own)
+pub record Stores (text : List ℕ) (f : Lines → Lines) (old new : State) : Type 0 where
+  pub was_open : IsTrue old.is_open
+  pub is_open : IsTrue new.is_open
+  pub was_settled : old.now ≡ old.committed
+  pub is_settled : new.now ≡ new.committed
+  pub stored : IsStored text new.now
+  pub lines_are : stored_lines (new.now.trees 2) ≡ f (stored_lines (old.now.trees 2))
+  pub meta : new.now.trees 0 ≡ old.now.trees 0
+
+-- what the commit writes to the disk, if it gets that far (own)
+pub record IsMade (f : Lines → Lines) (old : State) (trees : Trees) : Type 0 where
+  pub was_open : IsTrue old.is_open
+  pub was_settled : old.now ≡ old.committed
+  pub lines_are : stored_lines (trees 2) ≡ f (stored_lines (old.now.trees 2))
+  pub meta : trees 0 ≡ old.now.trees 0

@@ -1,0 +1,10 @@
+pub mod Tables
+pub mod Format
+pub mod Changing
+pub mod Stop
+pub mod StoreState
+pub mod Found
+pub mod Reading
+pub mod Querying
+pub mod Parts
+pub mod Making

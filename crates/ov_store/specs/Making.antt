@@ -1,0 +1,50 @@
+-- A database on its way to the two tables (own).
+use Rattle.std.specs.Prelude.{◌≡◌, ℕ, ℤ, List, [], ◌∷◌, IsTrue, true}
+use Rattle.sqlite.specs.declared.types.Value.TheVariants.{Int, Text, Blob}
+use Rattle.sqlite.specs.Order.{Row}
+use Rattle.sqlite.specs.Schema.{Schema}
+use Rattle.sqlite.specs.State.{State}
+use Rattle.sqlite_trees.specs.Tree.{put_row}
+use Rattle.sqlite_rules.specs.Edit.{are_fresh}
+use Rattle.ov_store.specs.Tables.{meta_schema, line_schema}
+use Rattle.ov_store.specs.Format.{IsMeta}
+use Rattle.ov_store.specs.Changing.{IsStored}
+
+-- while it is open it has this schema (own)
+abbrev pub HasSchema : Schema → State → Type 0
+HasSchema schema s = IsTrue s.is_open → s.now.schema ≡ schema
+
+-- the first table is made (own)
+pub record HasMeta (s : State) : Type 0 where
+  pub mode : IsTrue s.in_transaction
+  pub schema : s.now.schema ≡ meta_schema
+  pub meta : s.now.trees 0 ≡ []
+
+-- both tables are made, and there is no line (own)
+pub record HasTables (s : State) : Type 0 where
+  pub mode : IsTrue s.in_transaction
+  pub schema : s.now.schema ≡ line_schema
+  pub lines : s.now.trees 2 ≡ []
+
+-- a row of `meta` with its number (own)
+abbrev pub meta_row : ℤ → List ℕ → List ℕ → Row
+meta_row n k v = Int n ∷ Text k ∷ Blob v ∷ []
+
+-- a row with a new number is added to `meta` (own)
+pub record AddsMeta (k v : List ℕ) (old new : State) : Type 0 where
+  pub tables : HasTables new
+  pub number : ℤ
+  pub rows : new.now.trees 0 ≡ put_row (meta_row number k v) (old.now.trees 0)
+  pub fresh : are_fresh (old.now.trees 0) (meta_row number k v ∷ []) ≡ true
+
+-- `meta` is filled (own)
+pub record IsFilled (text : List ℕ) (s : State) : Type 0 where
+  pub tables : HasTables s
+  pub meta : IsMeta text (s.now.trees 0)
+
+-- the database is stored format 1 with no line, and an open finds just that (own)
+pub record IsNew (text : List ℕ) (s : State) : Type 0 where
+  pub is_open : IsTrue s.is_open
+  pub settled : s.now ≡ s.committed
+  pub stored : IsStored text s.now
+  pub no_line : s.now.trees 2 ≡ []

@@ -1,0 +1,39 @@
+use crate::store::Store;
+use ov_base::Text;
+use ov_early::{Change, KeepFault, Keeper, Loaded};
+use sqlite::Alter;
+use std::alloc::Global;
+
+impl<S: Alter> Keeper for Store<S> {
+    ghost use Rattle.sqlite.specs.State.{HasCleanDisk};
+    ghost use Rattle.sqlite.specs.Held.{state};
+    ghost use Rattle.ov_store.specs.StoreState.{MayFind};
+    ghost use Rattle.ov_store.specs.Found.{found_something};
+
+    ghost is_honest = { λ s. HasCleanDisk (state S.Store s.connection) };
+
+    ghost leaves = { λ s. MayFind S.Store s.connection };
+
+    ghost failed = { λ s. s.failures };
+
+    ghost something = { λ s clean. found_something _ (S.Store.survives s.connection.store clean) };
+
+    fn failures(&self) -> u64 {
+        self.failures()
+    }
+
+    fn load(&mut self, alloc: Global) -> Result<Loaded, KeepFault> {
+        let lines = match self.load_all(alloc) {
+            Ok(lines) => lines,
+            Err(fault) => return Err(fault),
+        };
+        match Text::from_str(alloc, self.schema_text().as_str()) {
+            Ok(schema) => Ok(Loaded { schema, lines }),
+            Err(_) => Err(KeepFault::Memory),
+        }
+    }
+
+    fn commit(&mut self, _alloc: Global, changes: &[Change]) -> Result<(), KeepFault> {
+        self.commit(changes)
+    }
+}

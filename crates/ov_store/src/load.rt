@@ -1,0 +1,41 @@
+ghost use Rattle.std.specs.Prelude.{◌≡◌, ◌≢◌, ◌≤◌, IfOk, Err};
+ghost use Rattle.sqlite.specs.State.{HasCleanDisk};
+ghost use Rattle.sqlite.specs.Held.{state};
+ghost use Rattle.ov_early.specs.Keeping.{Keeps};
+ghost use Rattle.ov_early.specs.ListKeeper.{lines_of};
+ghost use Rattle.ov_store.specs.StoreState.{MayFind};
+
+use crate::commit::refusal;
+use crate::query::line_rows;
+use crate::rows;
+use crate::store::Store;
+use ov_early::{KeepFault, Line};
+use sqlite::Alter;
+use std::alloc::Global;
+
+impl<S: Alter> Store<S> {
+    /// All lines.
+    pub fn load_all(&mut self, alloc: Global) -> Result<Vec<Line>, KeepFault>
+        ensures ok { HasCleanDisk (state S.Store self.new.connection) → IfOk result (λ lines. (contents : _) → MayFind S.Store self.old.connection contents → contents ≡ record { schema = self.old.schema; lines = lines_of lines.items }) }
+        ensures same { HasCleanDisk (state S.Store self.new.connection) → Keeps (MayFind S.Store self.old.connection) (MayFind S.Store self.new.connection) }
+        ensures honest { HasCleanDisk (state S.Store self.new.connection) → HasCleanDisk (state S.Store self.old.connection) }
+        ensures counts { self.old.failures ≤ self.new.failures }
+        ensures schema { self.new.schema ≡ self.old.schema }
+        ensures ours { result ≢ Err KeepFault.NotOurs }
+        ensures format { result ≢ Err KeepFault.Format }
+    {
+        let rows = match line_rows(&mut self.connection) {
+            Ok(rows) => rows,
+            Err(error) => match refusal(&error) {
+                Some(fault) => return Err(fault),
+                None => return Err(self.count_failure()),
+            },
+        };
+        match rows::lines_of(alloc, rows.as_slice()) {
+            Ok(Some(lines)) => Ok(lines),
+            // A line was changed behind this store, or read wrongly.
+            Ok(None) => Err(self.count_failure()),
+            Err(_) => Err(KeepFault::Memory),
+        }
+    }
+}

@@ -1,0 +1,83 @@
+//! Making the two tables.
+
+ghost use Rattle.std.specs.Prelude.{◌≡◌, false, [], IsTrue, IfOk, IfErr, OnOk};
+ghost use Rattle.sqlite.specs.State.{HasCleanDisk, Survives};
+ghost use Rattle.sqlite.specs.Held.{state};
+ghost use Rattle.ov_store.specs.Tables.{no_schema};
+ghost use Rattle.ov_store.specs.Making.{HasSchema, HasMeta, HasTables, AddsMeta, IsFilled, IsNew};
+
+use ov_base::Text;
+use sqlite::types::ValueRef;
+use sqlite::{Alter, Connection, Error, Transaction};
+
+fn make_meta<S: Alter>(tx: &mut Transaction<'_, S>) -> Result<(), Error>
+    ensures same_reference { tx.new.conn.ghost_name ≡ tx.old.conn.ghost_name }
+    ensures ok { HasCleanDisk (state S.Store tx.new.conn.now) → IsTrue (state S.Store tx.old.conn.now).in_transaction → HasSchema no_schema (state S.Store tx.old.conn.now)
+        → OnOk result (HasMeta (state S.Store tx.new.conn.now)) }
+    ensures survives { Survives (state S.Store tx.old.conn.now) (state S.Store tx.new.conn.now) (λ _. ⊥) }
+{
+    tx.execute("CREATE TABLE meta(k TEXT PRIMARY KEY, v BLOB)", &[])?;
+    Ok(())
+}
+
+fn make_line<S: Alter>(tx: &mut Transaction<'_, S>) -> Result<(), Error>
+    ensures same_reference { tx.new.conn.ghost_name ≡ tx.old.conn.ghost_name }
+    ensures ok { HasCleanDisk (state S.Store tx.new.conn.now) → IsTrue (state S.Store tx.old.conn.now).in_transaction → HasMeta (state S.Store tx.old.conn.now)
+        → OnOk result (HasTables (state S.Store tx.new.conn.now) × ((state S.Store tx.new.conn.now).now.trees 0 ≡ [])) }
+    ensures survives { Survives (state S.Store tx.old.conn.now) (state S.Store tx.new.conn.now) (λ _. ⊥) }
+{
+    tx.execute(
+        "CREATE TABLE line(tbl TEXT, id BLOB, ver BLOB, body BLOB, PRIMARY KEY(tbl,id))",
+        &[],
+    )?;
+    Ok(())
+}
+
+fn insert_meta<S: Alter>(tx: &mut Transaction<'_, S>, key: &str, value: &[u8]) -> Result<(), Error>
+    ensures same_reference { tx.new.conn.ghost_name ≡ tx.old.conn.ghost_name }
+    ensures ok { HasCleanDisk (state S.Store tx.new.conn.now) → IsTrue (state S.Store tx.old.conn.now).in_transaction → HasTables (state S.Store tx.old.conn.now)
+        → OnOk result (AddsMeta key.now value.now (state S.Store tx.old.conn.now) (state S.Store tx.new.conn.now)) }
+    ensures survives { Survives (state S.Store tx.old.conn.now) (state S.Store tx.new.conn.now) (λ _. ⊥) }
+{
+    tx.execute(
+        "INSERT INTO meta(k,v) VALUES(?1,?2)",
+        &[ValueRef::Text(key.as_bytes()), ValueRef::Blob(value)],
+    )?;
+    Ok(())
+}
+
+/// Writes the two rows of `meta`.
+fn fill_meta<S: Alter>(tx: &mut Transaction<'_, S>, schema: &Text) -> Result<(), Error>
+    ensures same_reference { tx.new.conn.ghost_name ≡ tx.old.conn.ghost_name }
+    ensures ok { HasCleanDisk (state S.Store tx.new.conn.now) → IsTrue (state S.Store tx.old.conn.now).in_transaction → HasTables (state S.Store tx.old.conn.now) → (state S.Store tx.old.conn.now).now.trees 0 ≡ []
+        → OnOk result (IsFilled schema.now (state S.Store tx.new.conn.now)) }
+    ensures survives { Survives (state S.Store tx.old.conn.now) (state S.Store tx.new.conn.now) (λ _. ⊥) }
+{
+    insert_meta(tx, "format", b"1")?;
+    insert_meta(tx, "schema", schema.as_str().as_bytes())?;
+    Ok(())
+}
+
+/// Makes both tables and fills `meta`.
+fn make_all<S: Alter>(tx: &mut Transaction<'_, S>, schema: &Text) -> Result<(), Error>
+    ensures same_reference { tx.new.conn.ghost_name ≡ tx.old.conn.ghost_name }
+    ensures ok { HasCleanDisk (state S.Store tx.new.conn.now) → IsTrue (state S.Store tx.old.conn.now).in_transaction → HasSchema no_schema (state S.Store tx.old.conn.now)
+        → OnOk result (IsFilled schema.now (state S.Store tx.new.conn.now)) }
+    ensures survives { Survives (state S.Store tx.old.conn.now) (state S.Store tx.new.conn.now) (λ _. ⊥) }
+{
+    make_meta(tx)?;
+    make_line(tx)?;
+    fill_meta(tx, schema)
+}
+
+/// Makes the database of a schema's text and no line, in one transaction.
+pub(crate) fn make<S: Alter>(conn: &mut Connection<S>, schema: &Text) -> Result<(), Error>
+    requires { conn.old.in_transaction ≡ false }
+    ensures mode { conn.new.in_transaction ≡ false }
+    ensures ok { HasCleanDisk (state S.Store conn.new) → HasSchema no_schema (state S.Store conn.old) → OnOk result (IsNew schema.now (state S.Store conn.new)) }
+    ensures honest { HasCleanDisk (state S.Store conn.new) → HasCleanDisk (state S.Store conn.old) }
+{
+    let mut tx = conn.transaction();
+    make_all(&mut tx, schema)?;
+    tx.commit()
+}

@@ -1,0 +1,155 @@
+ghost use Rattle.std.specs.Prelude.{◌≡◌, ◌≢◌, ◌↔◌, false, IfOk, IfErr, OnOk, IsTrue, Err};
+ghost use Rattle.std.specs.List.{AllByRecursion};
+ghost use Rattle.std.specs.FinMap.{empty};
+ghost use Rattle.sqlite.specs.State.{HasCleanDisk, Survives};
+ghost use Rattle.sqlite.specs.Held.{state};
+ghost use Rattle.ov_store.specs.Tables.{no_schema, line_schema};
+ghost use Rattle.ov_store.specs.Format.{IsLine, IsMeta, IsFormat};
+ghost use Rattle.ov_store.specs.Changing.{IsNumbered, IsStored};
+ghost use Rattle.ov_store.specs.Querying.{IsAsBefore};
+ghost use Rattle.ov_store.specs.StoreState.{MayFind};
+
+use crate::commit::refusal;
+use crate::make::make;
+use crate::meta::schema_of;
+use crate::query::{line_rows, meta_rows};
+use crate::rows::test_rows;
+use crate::schema::{is_blank, is_ours};
+use crate::store::Store;
+use crate::unopened::Unopened;
+use ov_base::Text;
+use ov_early::KeepFault;
+use sqlite::{Alter, Connection, Error};
+use std::alloc::Global;
+
+/// What an error of SQLite is where the device is to blame for what is neither memory nor size.
+fn fault_of(error: &Error) -> KeepFault
+    ensures format { result ≢ KeepFault.Format }
+    ensures ours { result ≢ KeepFault.NotOurs }
+{
+    refusal(error).unwrap_or(KeepFault::Device)
+}
+
+/// The schema's text, read from `meta`.
+fn read_meta<S: Alter>(alloc: Global, conn: &mut Connection<S>) -> Result<Text, KeepFault>
+    requires { conn.old.in_transaction ≡ false }
+    ensures mode { conn.new.in_transaction ≡ false }
+    ensures ok { HasCleanDisk (state S.Store conn.new) → (state S.Store conn.old).now.schema ≡ line_schema
+        → IfOk result (λ text. IsTrue (state S.Store conn.old).is_open × IsMeta text ((state S.Store conn.old).now.trees 0)) }
+    ensures format { HasCleanDisk (state S.Store conn.new) → (state S.Store conn.old).now.schema ≡ line_schema
+        → result ≡ Err KeepFault.Format → (text : _) → ¬ IsMeta text ((state S.Store conn.old).now.trees 0) }
+    ensures ours { result ≢ Err KeepFault.NotOurs }
+    ensures same { HasCleanDisk (state S.Store conn.new) → IsAsBefore (state S.Store conn.old) (state S.Store conn.new) }
+    ensures survives { Survives (state S.Store conn.old) (state S.Store conn.new) (λ _. ⊥) }
+{
+    let rows = match meta_rows(conn) {
+        Ok(rows) => rows,
+        Err(error) => return Err(fault_of(&error)),
+    };
+    let Some(text) = schema_of(rows.as_slice()) else {
+        return Err(KeepFault::Format);
+    };
+    match Text::from_str(alloc, text) {
+        Ok(text) => Ok(text),
+        Err(_) => Err(KeepFault::Memory),
+    }
+}
+
+/// Tests the rows of `line`.
+fn test_lines<S: Alter>(conn: &mut Connection<S>) -> Result<(), KeepFault>
+    requires { conn.old.in_transaction ≡ false }
+    ensures mode { conn.new.in_transaction ≡ false }
+    ensures ok { HasCleanDisk (state S.Store conn.new) → (IsTrue (state S.Store conn.old).is_open → (state S.Store conn.old).now.schema ≡ line_schema)
+        → OnOk result (IsTrue (state S.Store conn.old).is_open × AllByRecursion IsLine ((state S.Store conn.old).now.trees 2) × IsNumbered ((state S.Store conn.old).now.trees 2)) }
+    ensures format { HasCleanDisk (state S.Store conn.new) → (IsTrue (state S.Store conn.old).is_open → (state S.Store conn.old).now.schema ≡ line_schema)
+        → result ≡ Err KeepFault.Format → IsTrue (state S.Store conn.old).is_open × (¬ AllByRecursion IsLine ((state S.Store conn.old).now.trees 2)) }
+    ensures ours { result ≢ Err KeepFault.NotOurs }
+    ensures same { HasCleanDisk (state S.Store conn.new) → IsAsBefore (state S.Store conn.old) (state S.Store conn.new) }
+    ensures survives { Survives (state S.Store conn.old) (state S.Store conn.new) (λ _. ⊥) }
+{
+    match line_rows(conn) {
+        Ok(rows) => test_rows(rows.as_slice()),
+        Err(error) => Err(fault_of(&error)),
+    }
+}
+
+/// Tests all rows, and gives the schema's text.
+fn test_format<S: Alter>(alloc: Global, conn: &mut Connection<S>) -> Result<Text, KeepFault>
+    requires { conn.old.in_transaction ≡ false }
+    ensures mode { conn.new.in_transaction ≡ false }
+    ensures ok { HasCleanDisk (state S.Store conn.new) → (state S.Store conn.old).now.schema ≡ line_schema
+        → IfOk result (λ text. IsTrue (state S.Store conn.old).is_open × IsStored text (state S.Store conn.old).now) }
+    ensures format { HasCleanDisk (state S.Store conn.new) → (state S.Store conn.old).now.schema ≡ line_schema
+        → result ≡ Err KeepFault.Format → (text : _) → ¬ IsFormat text (state S.Store conn.old).now }
+    ensures ours { result ≢ Err KeepFault.NotOurs }
+    ensures same { HasCleanDisk (state S.Store conn.new) → IsAsBefore (state S.Store conn.old) (state S.Store conn.new) }
+    ensures survives { Survives (state S.Store conn.old) (state S.Store conn.new) (λ _. ⊥) }
+{
+    let text = match read_meta(alloc, conn) {
+        Ok(text) => text,
+        Err(fault) => return Err(fault),
+    };
+    match test_lines(conn) {
+        Ok(()) => Ok(text),
+        Err(fault) => Err(fault),
+    }
+}
+
+impl<S: Alter + Drop> Store<S> {
+    /// Makes the tables of stored format 1 with this text of a schema and no line, in a database that has nothing:
+    /// `NotOurs` where it has a table, an index or a view.
+    pub fn create(mut connection: Connection<S>, schema: Text) -> Result<Store<S>, Unopened<S>>
+        requires { connection.in_transaction ≡ false }
+        ensures ok { IfOk result (λ s. HasCleanDisk (state S.Store s.connection) → (contents : _) → MayFind S.Store s.connection contents → contents ≡ record { schema = schema; lines = empty }) }
+        ensures fresh { IfOk result (λ s. (s.schema ≡ schema) × (s.failures ≡ 0)) }
+        ensures blank { IfOk result (λ s. connection.schema ≡ no_schema) }
+        ensures ours { IfErr result (λ e. (e.fault ≡ KeepFault.NotOurs) ↔ (connection.schema ≢ no_schema)) }
+        ensures format { IfErr result (λ e. e.fault ≢ KeepFault.Format) }
+    {
+        if !is_blank(connection.schema()) {
+            return Err(Unopened {
+                fault: KeepFault::NotOurs,
+                connection,
+            });
+        }
+        match make(&mut connection, &schema) {
+            Ok(()) => Ok(Store {
+                connection,
+                schema,
+                failures: 0,
+            }),
+            Err(error) => Err(Unopened {
+                fault: fault_of(&error),
+                connection,
+            }),
+        }
+    }
+
+    /// The store of a database that has stored format 1. `NotOurs` where its tables, indexes and views are not just those
+    /// of that format, `Format` where a row of `meta` or of `line` is not as there. Each row is read once.
+    pub fn open(alloc: Global, mut connection: Connection<S>) -> Result<Store<S>, Unopened<S>>
+        requires { connection.in_transaction ≡ false }
+        ensures ok { IfOk result (λ s. HasCleanDisk (state S.Store s.connection) → IsFormat s.schema (state S.Store connection).now) }
+        ensures same { IfOk result (λ s. HasCleanDisk (state S.Store s.connection) → IsAsBefore (state S.Store connection) (state S.Store s.connection)) }
+        ensures survives { IfOk result (λ s. Survives (state S.Store connection) (state S.Store s.connection) (λ _. ⊥)) }
+        ensures fresh { IfOk result (λ s. s.failures ≡ 0) }
+        ensures tables { IfOk result (λ s. connection.schema ≡ line_schema) }
+        ensures ours { IfErr result (λ e. (e.fault ≡ KeepFault.NotOurs) ↔ (connection.schema ≢ line_schema)) }
+        ensures format { IfErr result (λ e. HasCleanDisk (state S.Store e.connection) → e.fault ≡ KeepFault.Format → (text : _) → ¬ IsFormat text (state S.Store connection).now) }
+    {
+        if !is_ours(connection.schema()) {
+            return Err(Unopened {
+                fault: KeepFault::NotOurs,
+                connection,
+            });
+        }
+        match test_format(alloc, &mut connection) {
+            Ok(schema) => Ok(Store {
+                connection,
+                schema,
+                failures: 0,
+            }),
+            Err(fault) => Err(Unopened { fault, connection }),
+        }
+    }
+}

@@ -1,0 +1,70 @@
+ghost use Rattle.std.specs.Prelude.{◌≡◌, ◌⊎◌, ◌<◌, ◌≤◌, ◌-◌, ◌^◌};
+ghost use Rattle.ov_early.specs.Keeping.{IsCommitFault};
+ghost use Rattle.ov_store.specs.StoreState.{StoreState, store_code, IsAtRest};
+
+use ov_base::Text;
+use ov_early::KeepFault;
+use sqlite::{Alter, Connection};
+use std::marker::Model;
+
+/// Lines in the two tables of stored format 1, over a connection.
+#[derive(Drop)]
+pub struct Store<S: Alter> {
+    pub(crate) connection: Connection<S>,
+    pub(crate) schema: Text,
+    pub(crate) failures: u64,
+}
+
+impl<S: Alter> Model for Store<S> {
+    ghost use Rattle.ov_store.specs.StoreState.{StoreState, store_code, IsAtRest};
+
+    ghost Value = { StoreState S };
+
+    ghost coded = { store_code S.code };
+
+    ghost view = { λ s. record { connection = s.connection; schema = s.schema; failures = s.failures } };
+
+    ghost invariant = { λ s. IsAtRest S.Store s.schema s.connection };
+}
+
+impl<S: Alter> Store<S> {
+    /// The compact text of the schema.
+    pub fn schema_text(&self) -> &Text
+        ensures { result.now ≡ self.now.schema }
+    {
+        &self.schema
+    }
+
+    /// How often the device has failed since the store was opened; it stays at 2^64-1.
+    pub fn failures(&self) -> u64
+        ensures { result ≡ self.now.failures }
+    {
+        self.failures
+    }
+
+    /// Counts a failure of the device.
+    pub(crate) fn count_failure(&mut self) -> KeepFault
+        ensures fault { result ≡ KeepFault.Device }
+        ensures kind { IsCommitFault result }
+        ensures same { (self.new.connection ≡ self.old.connection) × (self.new.schema ≡ self.old.schema) }
+        ensures count { (self.old.failures < self.new.failures) ⊎ (self.old.failures ≡ 2 ^ 64 - 1) }
+        ensures rises { self.old.failures ≤ self.new.failures }
+    {
+        self.failures = self.failures.saturating_add(1);
+        KeepFault::Device
+    }
+}
+
+impl<S: Alter + Drop> Store<S> {
+    /// Gives the connection back.
+    pub fn close(self) -> Connection<S>
+        ensures { result ≡ self.connection }
+    {
+        let Store {
+            connection,
+            schema: _,
+            failures: _,
+        } = self;
+        connection
+    }
+}
