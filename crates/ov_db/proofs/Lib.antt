@@ -1,0 +1,6 @@
+pub mod Maps
+pub mod Names
+pub mod Added
+pub mod Stored
+pub mod Same
+pub mod Residing

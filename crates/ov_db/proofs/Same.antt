@@ -1,0 +1,72 @@
+-- Two databases are one where they have the same rows, and only where they have as many.
+use Rattle.std.proofs.Common.{◌≡◌, ◌≢◌, ℕ, ◌+◌, ◌<◌, List, [], ◌∷◌, length, Bool, true, false, ◌&&◌, ◌==◌, refl, sym, ap, ◌∙◌, arith, nat_eq}
+use Rattle.std.specs.Cmp.{eq_by_cmp_equiv, nat_eq_equiv}
+use Rattle.std.specs.Cmp.Lexicographic.{pointwise}
+use Rattle.std.specs.FinMap.{entries, keys, len, len-entries}
+use Rattle.std.proofs.lemmas.Bool.{and_parts, and_from}
+use Rattle.std.proofs.lemmas.Bool.Decides.{nat_tests}
+use Rattle.ov_specs.specs.Database.{Database, Row, is_atom, is_pair, is_datum, are_columns, is_row, is_key, is_database}
+use Rattle.ov_specs.specs.Lines.{LineKey}
+use Rattle.ov_specs.specs.Method.{is_text}
+use Rattle.ov_specs.specs.Value.{Atom, Datum, Atoms, Pairs}
+use Rattle.ov_specs.proofs.Order.{atom_cmp_total}
+use Rattle.ov_db.specs.Adding.{without}
+
+pointwise-same : {A : Type 0} (f : A → A → Bool) → ((a : A) → f a a ≡ true) → (xs : List A) → pointwise f xs xs ≡ true
+pointwise-same f h [] = refl
+pointwise-same f h (x ∷ xs) = and_from (f x x) (pointwise f xs xs) (h x) (pointwise-same f h xs)
+
+pointwise-length : {A : Type 0} (f : A → A → Bool) (xs ys : List A) → pointwise f xs ys ≡ true → length xs ≡ length ys
+pointwise-length f [] [] h = refl
+pointwise-length f [] (y ∷ ys) h = cc
+pointwise-length f (x ∷ xs) [] h = cc
+pointwise-length f (x ∷ xs) (y ∷ ys) h =
+    let rest = pointwise-length f xs ys (and_parts (f x y) (pointwise f xs ys) h).1 in
+    omega (arith, rest)
+
+number-same : (n : ℕ) → nat_eq n n ≡ true
+number-same n = nat_eq_equiv.refl n
+
+text-same : (bytes : List ℕ) → is_text bytes bytes ≡ true
+text-same bytes = pointwise-same nat_eq number-same bytes
+
+atom-same : (a : Atom) → is_atom a a ≡ true
+atom-same a = (eq_by_cmp_equiv atom_cmp_total).refl a
+
+pair-same : (p : Atom × Atom) → is_pair p p ≡ true
+pair-same p = and_from (is_atom p.0 p.0) (is_atom p.1 p.1) (atom-same p.0) (atom-same p.1)
+
+datum-same : (d : Datum) → is_datum d d ≡ true
+datum-same (Atoms atoms) = pointwise-same is_atom atom-same (keys atoms)
+datum-same (Pairs pairs) = pointwise-same is_pair pair-same (entries pairs)
+
+columns-same : (cs : List (List ℕ × Datum)) → are_columns cs cs ≡ true
+columns-same cs = pointwise-same (λ c d. is_text c.0 d.0 && is_datum c.1 d.1) (λ c. and_from (is_text c.0 c.0) (is_datum c.1 c.1) (text-same c.0) (datum-same c.1)) cs
+
+row-same : (r : Row) → is_row r r ≡ true
+row-same r = and_from (is_text r.version r.version) (are_columns (entries r.columns) (entries r.columns)) (text-same r.version) (columns-same (entries r.columns))
+
+key-same : (k : LineKey) → is_key k k ≡ true
+key-same k = and_from (is_text k.0 k.0) (is_text k.1 k.1) (text-same k.0) (text-same k.1)
+
+pub database-same : (db : Database) → is_database db db ≡ true
+database-same db = pointwise-same (λ r s. is_key r.0 s.0 && is_row r.1 s.1) (λ e. and_from (is_key e.0 e.0) (is_row e.1 e.1) (key-same e.0) (row-same e.1)) (entries db)
+
+as_many : (a b : Database) → is_database a b ≡ true → len a ≡ len b
+as_many a b h = len-entries a ∙ pointwise-length _ (entries a) (entries b) h ∙ sym (len-entries b)
+
+not_true : (b : Bool) → b ≢ true → b ≡ false
+not_true true h = absurd (h refl)
+not_true false h = refl
+
+-- rows were added
+pub changed : (ks : List LineKey) (db : Database) → 0 < length ks → len (without ks db) + length ks ≡ len db → is_database (without ks db) db ≡ false
+changed ks db some counted = not_true _ (λ h. let same : len (without ks db) ≡ len db = as_many (without ks db) db h in omega (arith, same))
+
+not_zero : (n : ℕ) → 0 < n → (n == 0) ≡ false
+not_zero n h = grind (arith, nat_tests)
+
+-- the test of whether no key is listed is that of whether nothing is changed
+pub same_where_none : (n : ℕ) (ks : List LineKey) (db : Database) → n ≡ length ks → len (without ks db) + length ks ≡ len db → (n == 0) ≡ is_database (without ks db) db
+same_where_none n [] db e counted = ap (λ m. m == 0) e ∙ sym (database-same db)
+same_where_none n (k ∷ ks) db e counted = not_zero n (omega arith) ∙ sym (changed (k ∷ ks) db (omega arith) counted)

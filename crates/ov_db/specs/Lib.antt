@@ -1,0 +1,4 @@
+pub mod Adding
+pub mod Named
+pub mod Resident
+pub mod Committing

@@ -1,0 +1,15 @@
+-- The columns of the code as those of the definitions.
+use Rattle.std.specs.Prelude.{ℕ, List, map, String, string_bytes}
+use Rattle.std.specs.declared.alloc.Global.{Global}
+use Rattle.std.specs.FinMap.{from_sorted}
+use Rattle.ov_specs.specs.Database.{Columns}
+use Rattle.ov_specs.specs.SchemaTypes.{name_cmp}
+use Rattle.ov_specs.specs.Value.{Datum}
+
+-- values in a list, each with the bytes of its column's name
+abbrev pub named : {X : Type 0} → List (String Global × X) → List (List ℕ × X)
+named = map (λ e. (string_bytes e.0, e.1))
+
+-- the columns of an ascending list
+abbrev pub columns_of : List (String Global × Datum) → Columns
+columns_of es = from_sorted {R = name_cmp} (named es)
