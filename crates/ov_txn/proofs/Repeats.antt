@@ -1,0 +1,162 @@
+-- Rows that are shown once: the first of those that are equal, as a walk from the front keeps them.
+use Rattle.std.proofs.Common.{◌≡◌, ℕ, List, [], ◌∷◌, ◌++◌, Bool, true, false, not, ◌||◌, ◌&&◌, cond, if◌then◌else◌, filter, map, refl, sym, ap, ◌∙◌, append_assoc, append-nil}
+use Rattle.std.proofs.lemmas.Bool.{and_parts, and_from, false≢true}
+use Rattle.std.proofs.lemmas.List.Folds.{list_any-append}
+use Rattle.std.specs.List.{list_any}
+use Rattle.std.specs.Cmp.{eq_by_cmp_equiv, partial_equiv_from_equiv}
+use Rattle.std.specs.Cmp.Lexicographic.{pointwise, nat_list_eq_equiv}
+use Rattle.std.specs.FinMap.{keys, entries}
+use Rattle.ov_specs.specs.Database.{Row, is_atom, is_pair, is_datum, are_columns}
+use Rattle.ov_specs.specs.Method.{is_text}
+use Rattle.ov_specs.specs.Lines.{LineKey}
+use Rattle.ov_specs.specs.Operation.{columns_of, without_repeats}
+use Rattle.ov_specs.specs.Value.{Atom, Datum, Atoms, Pairs}
+use Rattle.ov_specs.proofs.Order.{atom_cmp_total}
+
+abbrev pub Shown : Type 0
+Shown = List (List ℕ × Datum)
+
+-- ---- equality is passed on
+
+abbrev PassesOn : {A : Type 0} → (A → A → Bool) → Type 0
+PassesOn {A} E = (x y z : A) → E x y ≡ true → E y z ≡ true → E x z ≡ true
+
+module _ {A : Type 0} (E : A → A → Bool) (on : PassesOn E) where
+  pointwise_passes : PassesOn (pointwise E)
+  pointwise_passes [] [] zs h k = k
+  pointwise_passes [] (y ∷ ys) zs h k = absurd (false≢true h)
+  pointwise_passes (x ∷ xs) [] zs h k = absurd (false≢true h)
+  pointwise_passes (x ∷ xs) (y ∷ ys) [] h k = absurd (false≢true k)
+  pointwise_passes (x ∷ xs) (y ∷ ys) (z ∷ zs) h k =
+      let a = and_parts (E x y) (pointwise E xs ys) h in
+      let b = and_parts (E y z) (pointwise E ys zs) k in
+      and_from (E x z) (pointwise E xs zs) (on x y z a.0 b.0) (pointwise_passes xs ys zs a.1 b.1)
+
+text_passes : PassesOn is_text
+text_passes = (partial_equiv_from_equiv nat_list_eq_equiv).trans
+
+atom_passes : PassesOn is_atom
+atom_passes = (partial_equiv_from_equiv (eq_by_cmp_equiv atom_cmp_total)).trans
+
+pair_passes : PassesOn is_pair
+pair_passes p q r h k =
+    let a = and_parts (is_atom p.0 q.0) (is_atom p.1 q.1) h in
+    let b = and_parts (is_atom q.0 r.0) (is_atom q.1 r.1) k in
+    and_from (is_atom p.0 r.0) (is_atom p.1 r.1) (atom_passes p.0 q.0 r.0 a.0 b.0) (atom_passes p.1 q.1 r.1 a.1 b.1)
+
+datum_passes : PassesOn is_datum
+datum_passes (Atoms a) (Atoms b) (Atoms c) h k = pointwise_passes is_atom atom_passes (keys a) (keys b) (keys c) h k
+datum_passes (Atoms a) (Atoms b) (Pairs c) h k = absurd (false≢true k)
+datum_passes (Atoms a) (Pairs b) z h k = absurd (false≢true h)
+datum_passes (Pairs a) (Atoms b) z h k = absurd (false≢true h)
+datum_passes (Pairs a) (Pairs b) (Atoms c) h k = absurd (false≢true k)
+datum_passes (Pairs a) (Pairs b) (Pairs c) h k = pointwise_passes is_pair pair_passes (entries a) (entries b) (entries c) h k
+
+abbrev is_cell : List ℕ × Datum → List ℕ × Datum → Bool
+is_cell c d = is_text c.0 d.0 && is_datum c.1 d.1
+
+cell_passes : PassesOn is_cell
+cell_passes x y z h k =
+    let a = and_parts (is_text x.0 y.0) (is_datum x.1 y.1) h in
+    let b = and_parts (is_text y.0 z.0) (is_datum y.1 z.1) k in
+    and_from (is_text x.0 z.0) (is_datum x.1 z.1) (text_passes x.0 y.0 z.0 a.0 b.0) (datum_passes x.1 y.1 z.1 a.1 b.1)
+
+columns_pass : PassesOn are_columns
+columns_pass = pointwise_passes is_cell cell_passes
+
+-- ---- the walk from the front
+
+or_true : (b : Bool) → (b || true) ≡ true
+or_true true = refl
+or_true false = refl
+
+or_false : (b : Bool) → (b || false) ≡ b
+or_false true = refl
+or_false false = refl
+
+filter-all : {A : Type 0} (xs : List A) → filter (λ x. true) xs ≡ xs
+filter-all [] = refl
+filter-all (x ∷ xs) = ap (λ ys. x ∷ ys) (filter-all xs)
+
+module _ {A : Type 0} where
+  split : (p : A → Bool) (y : A) (ys : List A) (a b : Bool) → p y ≡ not a → cond (not (a || b)) (y ∷ filter p ys) (filter p ys) ≡ filter p (cond (not b) (y ∷ ys) ys)
+  split p y ys true true e = refl
+  split p y ys true false e = rw e refl
+  split p y ys false true e = refl
+  split p y ys false false e = rw e refl
+
+  drop_one : (p : A → Bool) (y : A) (kept ys : List A) (b : Bool) → (b ≡ true → p y ≡ false) → filter p kept ≡ filter p ys → filter p (cond (not b) (y ∷ kept) kept) ≡ cond (p y) (y ∷ filter p ys) (filter p ys)
+  drop_one p y kept ys true apart e = rw (apart refl) e
+  drop_one p y kept ys false apart e = ap (λ zs. cond (p y) (y ∷ zs) zs) e
+
+module _ {A : Type 0} (E : A → A → Bool) where
+  -- one that is equal is kept
+  abbrev pub among : List A → A → Bool
+  among kept x = list_any (λ k. E k x) kept
+
+  -- none that is equal is kept
+  abbrev fresh : List A → A → Bool
+  fresh kept x = not (among kept x)
+
+  -- what is kept, with those of the others that are new
+  abbrev pub kept_with : List A → List A → List A
+  kept_with kept [] = kept
+  kept_with kept (x ∷ xs) = if among kept x then kept_with kept xs else kept_with (kept ++ x ∷ []) xs
+
+  -- the first of those that are equal
+  abbrev once : List A → List A
+  once [] = []
+  once (x ∷ xs) = x ∷ filter (λ y. not (E x y)) (once xs)
+
+  among-push : (kept : List A) (x y : A) → among (kept ++ x ∷ []) y ≡ (among kept y || E x y)
+  among-push kept x y = list_any-append (λ k. E k y) kept (x ∷ []) ∙ ap (λ b. among kept y || b) (or_false (E x y))
+
+  filter-both : (kept : List A) (x : A) (ys : List A) → filter (fresh (kept ++ x ∷ [])) ys ≡ filter (fresh kept) (filter (λ y. not (E x y)) ys)
+  filter-both kept x [] = refl
+  filter-both kept x (y ∷ ys) = rw (among-push kept x y, filter-both kept x ys) (split (fresh kept) y (filter (λ z. not (E x z)) ys) (among kept y) (E x y) refl)
+
+  among-passes : PassesOn E → (kept : List A) (x y : A) → among kept x ≡ true → E x y ≡ true → among kept y ≡ true
+  among-passes on [] x y h e = absurd (false≢true h)
+  among-passes on (k ∷ kept) x y h e =
+      elim (E k x) as (λ b. E k x ≡ b → (b || among kept x) ≡ true → (E k y || among kept y) ≡ true) [
+        | true ↦ λ is g. rw (on k x y is e) refl
+        | false ↦ λ is g. rw (among-passes on kept x y g e) (or_true (E k y))
+      ] refl h
+
+  absorbed : PassesOn E → (kept : List A) (x : A) → among kept x ≡ true → (ys : List A) → filter (fresh kept) (filter (λ y. not (E x y)) ys) ≡ filter (fresh kept) ys
+  absorbed on kept x h [] = refl
+  absorbed on kept x h (y ∷ ys) = drop_one (fresh kept) y (filter (λ z. not (E x z)) ys) ys (E x y) (λ e. ap not (among-passes on kept x y h e)) (absorbed on kept x h ys)
+
+  kept_with-once : PassesOn E → (kept xs : List A) → kept_with kept xs ≡ kept ++ filter (fresh kept) (once xs)
+  kept_with-once on kept [] = sym (append-nil kept)
+  kept_with-once on kept (x ∷ xs) =
+      let others : List A = filter (fresh kept) (filter (λ y. not (E x y)) (once xs)) in
+      elim (among kept x) as (λ b. among kept x ≡ b → (if b then kept_with kept xs else kept_with (kept ++ x ∷ []) xs) ≡ kept ++ cond (not b) (x ∷ others) others) [
+        | true ↦ λ h. kept_with-once on kept xs ∙ ap (λ zs. kept ++ zs) (sym (absorbed on kept x h (once xs)))
+        | false ↦ λ h. kept_with-once on (kept ++ x ∷ []) xs ∙ (append_assoc kept (x ∷ []) _ ∙ ap (λ zs. kept ++ (x ∷ zs)) (filter-both kept x (once xs)))
+      ] refl
+
+without_repeats-once : (rows : List Shown) → without_repeats rows ≡ once are_columns rows
+without_repeats-once [] = refl
+without_repeats-once (row ∷ rows) = ap (λ others. row ∷ filter (λ other. not (are_columns row other)) others) (without_repeats-once rows)
+
+-- of the rows that are equal the first alone, found by one walk from the front
+pub without_repeats-kept : (rows : List Shown) → without_repeats rows ≡ kept_with are_columns [] rows
+without_repeats-kept rows = without_repeats-once rows ∙ sym (kept_with-once are_columns columns_pass [] rows ∙ filter-all (once are_columns rows))
+
+-- ---- the rows of a table
+
+-- what is kept, with what is shown of the table's rows among these
+abbrev pub shown_with : List (List ℕ) → List ℕ → List Shown → List (LineKey × Row) → List Shown
+shown_with names table kept rows = kept_with are_columns kept (map (columns_of names) (filter (λ r. is_text r.0.0 table) rows))
+
+module _ (names : List (List ℕ)) (table : List ℕ) (kept : List Shown) (r : LineKey × Row) (rest : List (LineKey × Row)) where
+  pub shown-new : is_text r.0.0 table ≡ true → among are_columns kept (columns_of names r) ≡ false
+      → shown_with names table kept (r ∷ rest) ≡ shown_with names table (kept ++ columns_of names r ∷ []) rest
+  shown-new h k = rw (h, k) refl
+
+  pub shown-again : is_text r.0.0 table ≡ true → among are_columns kept (columns_of names r) ≡ true → shown_with names table kept (r ∷ rest) ≡ shown_with names table kept rest
+  shown-again h k = rw (h, k) refl
+
+  pub shown-other : is_text r.0.0 table ≡ false → shown_with names table kept (r ∷ rest) ≡ shown_with names table kept rest
+  shown-other h = rw h refl

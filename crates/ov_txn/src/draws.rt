@@ -1,0 +1,54 @@
+ghost use Rattle.std.specs.Prelude.{◌≡◌, length, IfOk, OnErr};
+ghost use Rattle.serde_json.specs.View.{view, items_view};
+ghost use Rattle.ov_specs.specs.Transaction.{is_insert, inserts, draws_wanted};
+ghost use Rattle.ov_early.specs.Drawing.{DrawsFrom};
+
+use crate::member::text_at;
+use ov_base::Trees;
+use ov_early::Draws;
+use serde_json::Value;
+use std::alloc::{AllocError, Global};
+use uuid::Uuid;
+
+fn is_insert(operation: &Value) -> bool
+    ensures { result ≡ is_insert (view operation.now) }
+{
+    match text_at(operation, "op") {
+        Some(op) => op == "insert",
+        None => false,
+    }
+}
+
+fn count_inserts(operations: &[Value]) -> usize
+    ensures { result ≡ inserts (items_view operations.now) }
+{
+    let mut count: usize = 0;
+    for operation in operations {
+        if is_insert(operation) {
+            count += 1;
+        }
+    }
+    count
+}
+
+/// Draws what a transaction uses: the version of the rows that it changes, and then an identifier for each operation that
+/// is an object whose `op` is `insert`, also for one that will be refused (RFC 7047, 5.2.1; the order is own). Refused for
+/// memory, it has drawn nothing.
+pub fn draws_for<D: Draws>(
+    alloc: Global,
+    operations: &Trees,
+    source: &mut D,
+) -> Result<Vec<Uuid>, AllocError>
+    ensures count { IfOk result (λ draws. length draws.items ≡ draws_wanted operations.now) }
+    ensures drawn { IfOk result (λ draws. DrawsFrom D.draws source.old draws.items source.new) }
+    ensures err { OnErr result (source.new ≡ source.old) }
+{
+    let Some(wanted) = count_inserts(operations.as_slice()).checked_add(1) else {
+        return Err(AllocError);
+    };
+    let mut draws = Vec::with_capacity(alloc, wanted)?;
+    for _made in 0..wanted {
+        draws.push_reserved(source.draw());
+    }
+    Ok(draws)
+}

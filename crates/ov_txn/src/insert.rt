@@ -1,0 +1,93 @@
+ghost use Rattle.std.specs.Prelude.{◌≡◌, IfOk};
+ghost use Rattle.serde_json.specs.View.{view};
+ghost use Rattle.ov_specs.specs.Operation as spec;
+ghost use Rattle.ov_specs.specs.Value as value;
+ghost use Rattle.ov_specs.specs.Writing.{atom_tree};
+ghost use Rattle.ov_txn.specs.Staging.{staged, IsDone};
+
+use crate::fault::{OpError, Stop};
+use crate::given::new_columns;
+use crate::member::text_at;
+use ov_base::Tree;
+use ov_db::{Columns, Row, RowKey, Rows};
+use ov_early::Schema;
+use serde_json::{Value, json};
+use std::alloc::{AllocError, Global};
+use uuid::Uuid;
+
+fn uuid_value(alloc: Global, id: Uuid) -> Result<Value, AllocError>
+    ensures { IfOk result (λ v. view v ≡ atom_tree (value.Uuid id)) }
+{
+    let mut buffer = Uuid::encode_buffer();
+    let text: &str = id.hyphenated().encode_lower(&mut buffer);
+    json!(in alloc; ["uuid", text])
+}
+
+fn insert_value(alloc: Global, id: Uuid) -> Result<Value, AllocError>
+    ensures { IfOk result (λ v. view v ≡ spec.insert_result id) }
+{
+    let uuid = uuid_value(alloc, id)?;
+    json!(in alloc; {"uuid": uuid})
+}
+
+/// The result of an insert: the identifier of its row (RFC 7047, 5.2.1).
+fn insert_result(alloc: Global, id: Uuid) -> Result<Tree, AllocError>
+    ensures { IfOk result (λ t. t ≡ spec.insert_result id) }
+{
+    Ok(Tree::new(insert_value(alloc, id)?))
+}
+
+/// The row under the next draw, which is used up.
+fn put_row(
+    alloc: Global,
+    version: Uuid,
+    draws: &[Uuid],
+    used: &mut usize,
+    rows: &mut Rows,
+    table: &str,
+    columns: Columns,
+) -> Result<Tree, Stop>
+    ensures done { IsDone (spec.put_row version (staged rows.old.now draws.now used.old) table.now columns) result (staged rows.new.now draws.now used.new) }
+    ensures frame { rows.new ≡ record rows.old { now = rows.new.now } }
+{
+    let Some(id) = draws.get(*used).copied() else {
+        return Err(Stop::Refused(OpError::ResourcesExhausted));
+    };
+    let key = RowKey::new(alloc, table, id)?;
+    if rows.contains(&key) {
+        return Err(Stop::Refused(OpError::DuplicateUuid));
+    }
+    let tree = insert_result(alloc, id)?;
+    rows.insert(alloc, key, Row { version, columns })?;
+    *used += 1;
+    Ok(tree)
+}
+
+/// A row is made of `row`, and put. Its identifier can't be chosen, and it can't be given a name yet.
+pub(crate) fn insert_row(
+    alloc: Global,
+    schema: &Schema,
+    version: Uuid,
+    draws: &[Uuid],
+    used: &mut usize,
+    rows: &mut Rows,
+    operation: &Value,
+) -> Result<Tree, Stop>
+    ensures done { IsDone (spec.insert_row schema.now version (staged rows.old.now draws.now used.old) (view operation.now)) result (staged rows.new.now draws.now used.new) }
+    ensures frame { rows.new ≡ record rows.old { now = rows.new.now } }
+{
+    let Some(name) = text_at(operation, "table") else {
+        return Err(Stop::Refused(OpError::Syntax));
+    };
+    let Some(table) = schema.table(name) else {
+        return Err(Stop::Refused(OpError::UnknownTable));
+    };
+    if operation.get("uuid").is_some() || operation.get("uuid-name").is_some() {
+        return Err(Stop::Refused(OpError::Syntax));
+    }
+    let Some(members) = operation.get("row").and_then(Value::as_object) else {
+        return Err(Stop::Refused(OpError::Syntax));
+    };
+    let columns = new_columns(alloc, table, members)?;
+    put_row(alloc, version, draws, used, rows, name, columns)
+}

@@ -1,0 +1,20 @@
+//! One transaction: its operations in order, each on the rows that those before it left (RFC 7047, 4.1.3 and 5.2).
+#![tactic(auto)]
+
+mod choose;
+mod draws;
+mod fault;
+mod given;
+mod insert;
+mod member;
+mod operation;
+mod results;
+mod select;
+mod shown;
+#[cfg(test)]
+mod tests;
+mod transaction;
+
+pub use draws::draws_for;
+pub use results::{exhausted, failed};
+pub use transaction::perform;

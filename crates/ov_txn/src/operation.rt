@@ -1,0 +1,38 @@
+ghost use Rattle.std.specs.Prelude.{◌≡◌};
+ghost use Rattle.serde_json.specs.View.{view};
+ghost use Rattle.ov_specs.specs.Operation as spec;
+ghost use Rattle.ov_txn.specs.Staging.{staged, IsDone};
+
+use crate::fault::{OpError, Stop};
+use crate::insert::insert_row;
+use crate::member::text_at;
+use crate::select::select_rows;
+use ov_base::Tree;
+use ov_db::Rows;
+use ov_early::Schema;
+use serde_json::Value;
+use std::alloc::Global;
+use uuid::Uuid;
+
+/// One operation, which `op` names (RFC 7047, 5.2). Only an insert that has a result changes the rows.
+pub(crate) fn operate(
+    alloc: Global,
+    schema: &Schema,
+    version: Uuid,
+    draws: &[Uuid],
+    used: &mut usize,
+    rows: &mut Rows,
+    operation: &Value,
+) -> Result<Tree, Stop>
+    ensures done { IsDone (spec.operation schema.now version (staged rows.old.now draws.now used.old) (view operation.now)) result (staged rows.new.now draws.now used.new) }
+    ensures frame { rows.new ≡ record rows.old { now = rows.new.now } }
+{
+    match text_at(operation, "op") {
+        None => Err(Stop::Refused(OpError::Syntax)),
+        Some(op) if op == "insert" => {
+            insert_row(alloc, schema, version, draws, used, rows, operation)
+        }
+        Some(op) if op == "select" => select_rows(alloc, schema, rows, operation),
+        Some(_) => Err(Stop::Refused(OpError::UnknownOperation)),
+    }
+}

@@ -1,0 +1,121 @@
+ghost use Rattle.std.specs.Prelude.{◌≡◌, IfOk, OnOk};
+ghost use Rattle.serde_json.specs.Data.{no_items};
+ghost use Rattle.serde_json.specs.View.{view, items_view};
+ghost use Rattle.ov_specs.specs.Operation as spec;
+ghost use Rattle.ov_specs.specs.Transaction.{and_item, and_error};
+ghost use Rattle.ov_specs.specs.Transaction as transaction;
+ghost use Rattle.ov_txn.specs.Errors.{error_view};
+ghost use Rattle.ov_txn.specs.Going.{nulls_after};
+
+use crate::fault::OpError;
+use ov_base::{Tree, Trees};
+use serde_json::{Value, json};
+use std::alloc::{AllocError, Global};
+use std::marker::Model;
+
+/// Results, one for each operation so far (RFC 7047, 4.1.3).
+#[derive(Drop)]
+pub(crate) struct Results {
+    items: Vec<Value>,
+}
+
+impl Model for Results {
+    ghost use Rattle.std.specs.Prelude.{◌≡◌, false};
+    ghost use Rattle.serde_json.specs.Data.{Items};
+    ghost use Rattle.serde_json.specs.View.{items_view};
+    ghost use Rattle.ov_specs.specs.Tree.{items_have_real};
+    ghost use Rattle.ov_specs.specs.TreeCode.{items_code};
+
+    ghost Value = { Items };
+
+    ghost coded = { items_code };
+
+    ghost view = { λ r. items_view r.items.items };
+
+    ghost invariant = { λ r. items_have_real (items_view r.items.items) ≡ false };
+}
+
+impl Results {
+    /// None yet.
+    pub(crate) fn new(alloc: Global) -> Results
+        ensures { result ≡ no_items }
+    {
+        Results {
+            items: Vec::new(alloc),
+        }
+    }
+
+    /// A copy of these.
+    fn copy_of(alloc: Global, trees: &Trees) -> Result<Results, AllocError>
+        ensures { IfOk result (λ r. r ≡ trees.now) }
+    {
+        let mut items = Vec::new(alloc);
+        for tree in trees.as_slice() {
+            items.push(tree.clone()?)?;
+        }
+        Ok(Results { items })
+    }
+
+    /// One more, behind the others.
+    pub(crate) fn push(&mut self, tree: Tree) -> Result<(), AllocError>
+        ensures { OnOk result (self.new ≡ and_item self.old tree) }
+    {
+        self.items.push(tree.into_value())?;
+        Ok(())
+    }
+
+    /// null for each of the operations that were not tried.
+    pub(crate) fn push_nulls(&mut self, operations: &[Value]) -> Result<(), AllocError>
+        ensures { OnOk result (self.new ≡ nulls_after self.old (items_view operations.now)) }
+    {
+        for _operation in operations {
+            self.push(Tree::new(Value::Null))?;
+        }
+        Ok(())
+    }
+
+    /// The same results, not copied.
+    pub(crate) fn into_trees(self) -> Trees
+        ensures { result ≡ self }
+    {
+        let Results { items } = self;
+        Trees::new(items)
+    }
+}
+
+fn error_value(alloc: Global, error: OpError) -> Result<Value, AllocError>
+    ensures { IfOk result (λ v. view v ≡ spec.error_tree (error_view error)) }
+{
+    let text = error.text();
+    json!(in alloc; {"error": text})
+}
+
+/// The result of what failed (RFC 7047, 4.1.3).
+pub(crate) fn error_tree(alloc: Global, error: OpError) -> Result<Tree, AllocError>
+    ensures { IfOk result (λ t. t ≡ spec.error_tree (error_view error)) }
+{
+    Ok(Tree::new(error_value(alloc, error)?))
+}
+
+fn and_error(alloc: Global, results: &Trees, error: OpError) -> Result<Trees, AllocError>
+    ensures { IfOk result (λ t. t ≡ and_error results.now (error_view error)) }
+{
+    let mut all = Results::copy_of(alloc, results)?;
+    all.push(error_tree(alloc, error)?)?;
+    Ok(all.into_trees())
+}
+
+/// What is answered where the store has no room for the changes: a copy of the results with `resources exhausted` behind
+/// them (own).
+pub fn exhausted(alloc: Global, results: &Trees) -> Result<Trees, AllocError>
+    ensures { IfOk result (λ t. t ≡ transaction.exhausted results.now) }
+{
+    and_error(alloc, results, OpError::ResourcesExhausted)
+}
+
+/// What is answered where the store fails: a copy of the results with `I/O error` behind them (RFC 7047, 4.1.3).
+pub fn failed(alloc: Global, results: &Trees) -> Result<Trees, AllocError>
+    ensures { IfOk result (λ t. t ≡ transaction.failed results.now) }
+{
+    and_error(alloc, results, OpError::InputOutput)
+}

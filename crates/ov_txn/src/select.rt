@@ -1,0 +1,117 @@
+ghost use Rattle.std.specs.Prelude.{◌≡◌, ◌∷◌, [], ℕ, List, IfOk, map, false, codes};
+ghost use Rattle.std.specs.List.{list_any};
+ghost use Rattle.serde_json.specs.Data.{array};
+ghost use Rattle.serde_json.specs.View.{view, items_view};
+ghost use Rattle.ov_specs.specs.Database.{are_columns, object_of};
+ghost use Rattle.ov_specs.specs.Operation as spec;
+ghost use Rattle.ov_specs.specs.Tree.{items_have_real};
+ghost use Rattle.ov_specs.specs.Uuid.{Uuid};
+ghost use Rattle.ov_txn.specs.Staging.{staged, IsDone};
+
+use crate::choose::chosen_columns;
+use crate::fault::{OpError, Stop};
+use crate::member::text_at;
+use crate::shown::ShownRow;
+use ov_base::{Text, Tree};
+use ov_db::Rows;
+use ov_early::Schema;
+use serde_json::{Value, json};
+use std::alloc::{AllocError, Global};
+
+/// Whether an equal one is among the rows.
+fn is_among(rows: &[ShownRow], shown: &ShownRow) -> bool
+    ensures { result ≡ list_any (λ row. are_columns row shown.now) rows.now }
+{
+    for row in rows {
+        if row.is_same(shown) {
+            return true;
+        }
+    }
+    false
+}
+
+/// The chosen columns of the table's rows, in ascending order of the identifiers; of equal ones the first alone (RFC 7047,
+/// 5.2.2).
+fn shown_rows(
+    alloc: Global,
+    rows: &Rows,
+    table: &str,
+    names: &[Text],
+) -> Result<Vec<ShownRow>, AllocError>
+    ensures { IfOk result (λ v. v.items ≡ spec.without_repeats (map (spec.columns_of names.now) (spec.rows_of rows.now.now table.now))) }
+{
+    let mut shown = Vec::new(alloc);
+    for (key, row) in rows.map() {
+        if key.table() == table {
+            let chosen = ShownRow::of(alloc, names, key, row)?;
+            if !is_among(shown.as_slice(), &chosen) {
+                shown.push(chosen)?;
+            }
+        }
+    }
+    Ok(shown)
+}
+
+fn trees_of(alloc: Global, rows: &[ShownRow]) -> Result<Vec<Value>, AllocError>
+    ensures trees { IfOk result (λ v. map view v.items ≡ map spec.shown rows.now) }
+    ensures plain { IfOk result (λ v. items_have_real (items_view v.items) ≡ false) }
+{
+    let mut trees = Vec::new(alloc);
+    for row in rows {
+        trees.push(row.tree(alloc)?.into_value())?;
+    }
+    Ok(trees)
+}
+
+fn rows_value(alloc: Global, items: Vec<Value>) -> Result<Value, AllocError>
+    ensures { IfOk result (λ v. view v ≡ object_of ((codes "rows", array (items_view items.items)) ∷ [])) }
+{
+    let array = Value::Array(items);
+    json!(in alloc; {"rows": array})
+}
+
+/// The result of a select (RFC 7047, 5.2.2).
+fn select_result(
+    alloc: Global,
+    rows: &Rows,
+    table: &str,
+    names: &[Text],
+) -> Result<Tree, AllocError>
+    ensures { IfOk result (λ t. t ≡ spec.select_result (spec.without_repeats (map (spec.columns_of names.now) (spec.rows_of rows.now.now table.now)))) }
+{
+    let shown = shown_rows(alloc, rows, table, names)?;
+    let items = trees_of(alloc, shown.as_slice())?;
+    Ok(Tree::new(rows_value(alloc, items)?))
+}
+
+/// `where` has no condition.
+fn is_everywhere(conditions: &[Value]) -> bool
+    ensures { result ≡ spec.is_everywhere (items_view conditions.now) }
+{
+    conditions.is_empty()
+}
+
+/// The chosen columns of all rows of the table. A condition in `where` is a syntax error as yet.
+pub(crate) fn select_rows(
+    alloc: Global,
+    schema: &Schema,
+    rows: &Rows,
+    operation: &Value,
+) -> Result<Tree, Stop>
+    ensures { (draws : List Uuid) (used : ℕ) → IsDone (spec.select_rows schema.now (staged rows.now.now draws used) (view operation.now)) result (staged rows.now.now draws used) }
+{
+    let Some(name) = text_at(operation, "table") else {
+        return Err(Stop::Refused(OpError::Syntax));
+    };
+    let Some(table) = schema.table(name) else {
+        return Err(Stop::Refused(OpError::UnknownTable));
+    };
+    let Some(conditions) = operation.get("where").and_then(Value::as_array) else {
+        return Err(Stop::Refused(OpError::Syntax));
+    };
+    if !is_everywhere(conditions.as_slice()) {
+        return Err(Stop::Refused(OpError::Syntax));
+    }
+    let names = chosen_columns(alloc, table, operation.get("columns"))?;
+    Ok(select_result(alloc, rows, name, names.as_slice())?)
+}

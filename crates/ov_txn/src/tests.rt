@@ -1,0 +1,225 @@
+ghost use Rattle.std.specs.Prelude.{◌≡◌, IfOk, false};
+ghost use Rattle.serde_json.specs.View.{view};
+ghost use Rattle.ov_specs.specs.Tree.{has_real};
+
+use super::*;
+use ov_base::{Tree, Trees, has_real};
+use ov_db::Rows;
+use ov_early::{Draws, Schema};
+use serde_json::Value;
+use std::alloc::Global;
+use std::test::Fail;
+use uuid::Uuid;
+
+const SCHEMA: &str =
+    "{\"name\":\"Net\",\"tables\":{\"Switch\":{\"columns\":{\"load\":{\"type\":\"integer\"},\"name\":{\"type\":\"string\"}}}}}";
+
+const INSERT: &str =
+    "{\"op\":\"insert\",\"table\":\"Switch\",\"row\":{\"load\":4,\"name\":\"s1\"}}";
+
+const INSERTED: &str = "{\"uuid\":[\"uuid\",\"00000000-0000-0000-0000-000000000002\"]}";
+
+/// Draws the identifiers 1, 2, 3 and so on.
+#[derive(Drop)]
+struct Counter {
+    drawn: u64,
+}
+
+impl Draws for Counter {
+    ghost draws = { λ _ _ _. Unit {0} };
+
+    fn draw(&mut self) -> Uuid {
+        self.drawn = self.drawn.saturating_add(1);
+        Uuid::from_u128(self.drawn as u128)
+    }
+}
+
+fn value(alloc: Global, text: &str) -> Result<Value, Fail>
+    ensures { IfOk result (λ v. has_real (view v) ≡ false) }
+{
+    let value = Value::from_str(alloc, text)?;
+    if has_real(&value) {
+        return Err(Fail::new("a real"));
+    }
+    Ok(value)
+}
+
+fn array_of(value: Value) -> Option<Trees>
+    requires { has_real (view value) ≡ false }
+{
+    let Value::Array(items) = value else {
+        return None;
+    };
+    Some(Trees::new(items))
+}
+
+fn trees(alloc: Global, text: &str) -> Result<Trees, Fail> {
+    let Some(trees) = array_of(value(alloc, text)?) else {
+        return Err(Fail::new("no array"));
+    };
+    Ok(trees)
+}
+
+/// The text of the results of a transaction on an empty database, and how many rows it leaves.
+fn performed(alloc: Global, draws: &[Uuid], operations: &Trees) -> Result<(String, usize), Fail> {
+    let schema = Schema::read(alloc, Tree::new(value(alloc, SCHEMA)?))?;
+    let mut rows = Rows::new(alloc);
+    let results = perform(alloc, &schema, &mut rows, draws, operations)?;
+    let text = results.into_tree().into_value().to_string(alloc)?;
+    Ok((text, rows.map().len()))
+}
+
+/// The same with fresh draws.
+fn answered(alloc: Global, operations: &str) -> Result<(String, usize), Fail> {
+    let operations = trees(alloc, operations)?;
+    let mut source = Counter { drawn: 0 };
+    let draws = draws_for(alloc, &operations, &mut source)?;
+    performed(alloc, draws.as_slice(), &operations)
+}
+
+#[test]
+fn insert_then_select(rt: HostRuntime) -> Result<(), Fail> {
+    let alloc = rt.alloc();
+    let select = "{\"op\":\"select\",\"table\":\"Switch\",\"where\":[]}";
+    let (text, rows) = answered(alloc, format!(in alloc; "[{INSERT},{select}]")?.as_str())?;
+    let row =
+        "{\"_uuid\":[\"uuid\",\"00000000-0000-0000-0000-000000000002\"],\"_version\":[\"uuid\",\"00000000-0000-0000-0000-000000000001\"],\"load\":4,\"name\":\"s1\"}";
+    let wanted = format!(in alloc; "[{INSERTED},{{\"rows\":[{row}]}}]")?;
+    assert_eq!(rt; text.as_str(), wanted.as_str());
+    assert_eq!(rt; rows, 1);
+    Ok(())
+}
+
+#[test]
+fn refused_transaction_changes_nothing(rt: HostRuntime) -> Result<(), Fail> {
+    let alloc = rt.alloc();
+    let wrong = "{\"op\":\"select\",\"table\":\"Swich\",\"where\":[]}";
+    let (text, rows) = answered(
+        alloc,
+        format!(in alloc; "[{INSERT},{wrong},{INSERT}]")?.as_str(),
+    )?;
+    let wanted = format!(in alloc; "[{INSERTED},{{\"error\":\"unknown table\"}},null]")?;
+    assert_eq!(rt; text.as_str(), wanted.as_str());
+    assert_eq!(rt; rows, 0);
+    Ok(())
+}
+
+#[test]
+fn repeats_merge_and_defaults_are_given(rt: HostRuntime) -> Result<(), Fail> {
+    let alloc = rt.alloc();
+    let empty = "{\"op\":\"insert\",\"table\":\"Switch\",\"row\":{}}";
+    let select =
+        "{\"op\":\"select\",\"table\":\"Switch\",\"where\":[],\"columns\":[\"name\",\"load\",\"name\"]}";
+    let (text, rows) = answered(
+        alloc,
+        format!(in alloc; "[{empty},{empty},{select}]")?.as_str(),
+    )?;
+    assert!(rt;
+        text.as_str()
+            .ends_with(",{\"rows\":[{\"load\":0,\"name\":\"\"}]}]")
+    );
+    assert_eq!(rt; rows, 2);
+    Ok(())
+}
+
+#[test]
+fn identifiers_are_not_used_twice(rt: HostRuntime) -> Result<(), Fail> {
+    let alloc = rt.alloc();
+    let operations = trees(alloc, format!(in alloc; "[{INSERT},{INSERT}]")?.as_str())?;
+    let draws = [Uuid::from_u128(1), Uuid::from_u128(2), Uuid::from_u128(2)];
+    let (text, rows) = performed(alloc, draws.as_slice(), &operations)?;
+    let wanted = format!(in alloc; "[{INSERTED},{{\"error\":\"duplicate uuid\"}}]")?;
+    assert_eq!(rt; text.as_str(), wanted.as_str());
+    assert_eq!(rt; rows, 0);
+    Ok(())
+}
+
+#[test]
+fn a_failed_commit_is_answered_behind_the_results(rt: HostRuntime) -> Result<(), Fail> {
+    let alloc = rt.alloc();
+    let results = trees(alloc, "[{}]")?;
+    let text = exhausted(alloc, &results)?
+        .into_tree()
+        .into_value()
+        .to_string(alloc)?;
+    assert_eq!(rt; text.as_str(), "[{},{\"error\":\"resources exhausted\"}]");
+    let text = failed(alloc, &results)?
+        .into_tree()
+        .into_value()
+        .to_string(alloc)?;
+    assert_eq!(rt; text.as_str(), "[{},{\"error\":\"I/O error\"}]");
+    Ok(())
+}
+
+/// An operation that is refused, and its error.
+const REFUSED: [(&str, &str); 18] = [
+    ("{\"table\":\"Switch\"}", "syntax error"),
+    (
+        "{\"op\":\"mutate\",\"table\":\"Switch\"}",
+        "unknown operation",
+    ),
+    ("{\"op\":\"insert\",\"row\":{}}", "syntax error"),
+    (
+        "{\"op\":\"insert\",\"table\":\"Swich\",\"uuid-name\":\"a\"}",
+        "unknown table",
+    ),
+    (
+        "{\"op\":\"insert\",\"table\":\"Switch\",\"uuid-name\":\"a\",\"row\":{\"colour\":1}}",
+        "syntax error",
+    ),
+    (
+        "{\"op\":\"insert\",\"table\":\"Switch\",\"uuid\":0,\"row\":{\"colour\":1}}",
+        "syntax error",
+    ),
+    ("{\"op\":\"insert\",\"table\":\"Switch\"}", "syntax error"),
+    (
+        "{\"op\":\"insert\",\"table\":\"Switch\",\"row\":{\"colour\":1}}",
+        "unknown column",
+    ),
+    (
+        "{\"op\":\"insert\",\"table\":\"Switch\",\"row\":{\"_uuid\":0}}",
+        "constraint violation",
+    ),
+    (
+        "{\"op\":\"insert\",\"table\":\"Switch\",\"row\":{\"load\":\"s1\"}}",
+        "syntax error",
+    ),
+    (
+        "{\"op\":\"insert\",\"table\":\"Switch\",\"row\":{\"load\":[\"set\",[]]}}",
+        "constraint violation",
+    ),
+    ("{\"op\":\"select\",\"where\":[]}", "syntax error"),
+    ("{\"op\":\"select\",\"table\":\"Swich\"}", "unknown table"),
+    (
+        "{\"op\":\"select\",\"table\":\"Switch\",\"where\":{}}",
+        "syntax error",
+    ),
+    (
+        "{\"op\":\"select\",\"table\":\"Switch\",\"where\":[true]}",
+        "syntax error",
+    ),
+    (
+        "{\"op\":\"select\",\"table\":\"Switch\",\"where\":[],\"columns\":\"load\"}",
+        "syntax error",
+    ),
+    (
+        "{\"op\":\"select\",\"table\":\"Switch\",\"where\":[],\"columns\":[\"colour\",1]}",
+        "syntax error",
+    ),
+    (
+        "{\"op\":\"select\",\"table\":\"Switch\",\"where\":[],\"columns\":[\"colour\"]}",
+        "unknown column",
+    ),
+];
+
+#[test]
+fn each_refusal_has_its_error(rt: HostRuntime) -> Result<(), Fail> {
+    let alloc = rt.alloc();
+    for (operation, error) in &REFUSED {
+        let (text, rows) = answered(alloc, format!(in alloc; "[{operation}]")?.as_str())?;
+        let wanted = format!(in alloc; "[{{\"error\":\"{error}\"}}]")?;
+        assert_eq!(rt; text.as_str(), wanted.as_str(), "{operation}");
+        assert_eq!(rt; rows, 0);
+    }
+    Ok(())
+}
