@@ -1,5 +1,5 @@
 //! A load driver for the server: starts the program, sends requests over its standard input, and compares each reply on its
-//! standard output with the one that is wanted, byte by byte.
+//! standard output with the one that is wanted, byte by byte; where an identifier is drawn, any one will do.
 //!
 //! It prints a line for each figure. Every figure has a process of the server for itself. Plain Rust, std only; `bench/run`
 //! builds and starts it.
@@ -13,6 +13,16 @@ type Outcome<T> = Result<T, String>;
 
 /// The longest message that the server takes, in bytes.
 const LONGEST: usize = 1_048_576;
+
+/// Stands in a wanted reply for each byte of an identifier that the server draws.
+const DRAWN: u8 = 0;
+
+/// The tables that inserts are measured on, by their rows, and how many inserts are measured on each.
+const TABLES: [usize; 3] = [100, 1_000, 10_000];
+const INSERTS: usize = 500;
+
+/// How many rows one transaction inserts while a table is filled.
+const FILLED_AT_ONCE: usize = 100;
 
 /// A request, and the reply that is wanted.
 struct Exchange {
@@ -54,7 +64,7 @@ impl Server {
             }
             self.unread.extend_from_slice(&self.chunk[..n]);
         }
-        if &self.unread[..reply.len()] != reply {
+        if !is_wanted(&self.unread[..reply.len()], reply) {
             let seen = &self.unread[..reply.len().min(200)];
             return Err(format!("a wrong reply: {}", String::from_utf8_lossy(seen)));
         }
@@ -105,6 +115,11 @@ impl Server {
     }
 }
 
+fn is_wanted(seen: &[u8], wanted: &[u8]) -> bool {
+    let is_of_an_id = |byte: u8| byte == b'-' || byte.is_ascii_hexdigit();
+    seen.iter().zip(wanted).all(|(&s, &w)| s == w || w == DRAWN && is_of_an_id(s))
+}
+
 fn list_dbs() -> Exchange {
     Exchange {
         request: b"{\"id\":0,\"method\":\"list_dbs\",\"params\":[]}".to_vec(),
@@ -129,6 +144,22 @@ fn longest_echo() -> Exchange {
     }
 }
 
+/// One transaction that inserts so many rows.
+fn inserts(id: u64, rows: usize) -> Exchange {
+    let drawn = String::from_utf8(vec![DRAWN; 36]).unwrap_or_default();
+    let insert = format!(",{{\"op\":\"insert\",\"table\":\"Switch\",\"row\":{{\"load\":{id},\"name\":\"switch {id}\"}}}}");
+    let result = vec![format!("{{\"uuid\":[\"uuid\",\"{drawn}\"]}}"); rows].join(",");
+    Exchange {
+        request: format!("{{\"id\":{id},\"method\":\"transact\",\"params\":[\"Net\"{}]}}", insert.repeat(rows)).into_bytes(),
+        reply: format!("{{\"error\":null,\"id\":{id},\"result\":[{result}]}}").into_bytes(),
+    }
+}
+
+/// Brings a new server's table to so many rows.
+fn fill(server: &mut Server, rows: usize) -> Outcome<()> {
+    (0..rows / FILLED_AT_ONCE).try_for_each(|_| server.ask(&inserts(0, FILLED_AT_ONCE)))
+}
+
 fn median(times: &mut [Duration]) -> Duration {
     times.sort();
     times.get(times.len() / 2).copied().unwrap_or_default()
@@ -140,18 +171,26 @@ struct Measured {
     whole: Duration,
 }
 
-/// Keeps up to `depth` small echoes under way for as long as the limit says. New ones are sent when half of them are answered.
-fn pipelined(server: &mut Server, depth: usize, limit: Duration) -> Outcome<Measured> {
+/// Keeps up to `depth` requests under way, as many as the count says or the limit allows. New ones are sent when half of
+/// them are answered.
+fn pipelined(
+    server: &mut Server,
+    make: impl Fn(u64) -> Exchange,
+    depth: usize,
+    count: usize,
+    limit: Duration,
+) -> Outcome<Measured> {
     let begin = Instant::now();
     let mut times = Vec::new();
     let mut sent: VecDeque<(Instant, Vec<u8>)> = VecDeque::new();
     let mut batch = Vec::new();
     let mut id = 0;
     loop {
-        if sent.len() <= depth / 2 && begin.elapsed() < limit {
+        let made = times.len() + sent.len();
+        if sent.len() <= depth / 2 && made < count && begin.elapsed() < limit {
             batch.clear();
-            while sent.len() < depth {
-                let Exchange { request, reply } = small_echo(id);
+            for _ in sent.len()..depth.min(count - times.len()) {
+                let Exchange { request, reply } = make(id);
                 batch.extend_from_slice(&request);
                 sent.push_back((Instant::now(), reply));
                 id += 1;
@@ -178,14 +217,16 @@ fn one_by_one(server: &mut Server, exchange: &Exchange, count: usize, limit: Dur
     Ok(Measured { times, whole: begin.elapsed() })
 }
 
-/// Measures one figure with a server of its own, and prints its line.
+/// Measures one figure with a server of its own, whose table has so many rows, and prints its line.
 fn figure(
     program: &str,
     name: &str,
+    rows: usize,
     measure: impl FnOnce(&mut Server) -> Outcome<Measured>,
 ) -> Outcome<()> {
     let mut server = Server::start(program)?;
     server.ask(&list_dbs())?;
+    fill(&mut server, rows)?;
     let resident_before = server.resident()?;
     let used_before = server.processor_time()?;
     let Measured { mut times, whole } = measure(&mut server)?;
@@ -195,7 +236,7 @@ fn figure(
     let seconds = whole.as_secs_f64();
     writeln!(
         std::io::stdout(),
-        "{name:<22} {:>9.0} per second  {:>10.1} us median  {:>5.2} cores  {:>7} requests  {:>7} KiB resident before, {:>8} KiB after",
+        "{name:<28} {:>9.0} per second  {:>10.1} us median  {:>5.2} cores  {:>7} requests  {:>7} KiB resident before, {:>8} KiB after",
         times.len() as f64 / seconds,
         median(&mut times).as_secs_f64() * 1e6,
         used.as_secs_f64() / seconds,
@@ -208,9 +249,19 @@ fn figure(
 
 fn all_figures(program: &str, limit: Duration) -> Outcome<()> {
     for depth in [1, 32] {
-        figure(program, &format!("small echo, depth {depth}"), |server| pipelined(server, depth, limit))?;
+        figure(program, &format!("small echo, depth {depth}"), 0, |server| {
+            pipelined(server, small_echo, depth, usize::MAX, limit)
+        })?;
     }
-    figure(program, "1 MiB echo", |server| one_by_one(server, &longest_echo(), 50, limit))
+    figure(program, "1 MiB echo", 0, |server| one_by_one(server, &longest_echo(), 50, limit))?;
+    for rows in TABLES {
+        for depth in [1, 32] {
+            figure(program, &format!("insert, depth {depth}, {rows} rows"), rows, |server| {
+                pipelined(server, |id| inserts(id, 1), depth, INSERTS, limit)
+            })?;
+        }
+    }
+    Ok(())
 }
 
 fn main() -> ExitCode {

@@ -47,6 +47,18 @@ impl Trees {
         self.items.as_slice()
     }
 
+    /// A copy of trees that have no reals.
+    pub fn from_slice(alloc: Global, trees: &[Value]) -> Result<Trees, AllocError>
+        requires { items_have_real (items_view trees.now) ≡ false }
+        ensures { IfOk result (λ t. t ≡ items_view trees.now) }
+    {
+        let mut items = Vec::new(alloc);
+        for tree in trees {
+            items.push(tree.clone()?)?;
+        }
+        Ok(Trees::new(items))
+    }
+
     /// The array of these, copied.
     pub fn copy_as_tree(&self, alloc: Global) -> Result<Tree, AllocError>
         ensures { IfOk result (λ t. t ≡ array self.now) }

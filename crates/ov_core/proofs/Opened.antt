@@ -1,8 +1,12 @@
 -- What a keeper holds, by the lines that were loaded.
-use Rattle.std.proofs.Common.{◌≡◌, ◌≢◌, List, [], ◌∷◌, map, length, refl, ap, ◌∙◌, Option, Some, None, arith}
+use Rattle.std.proofs.Common.{◌≡◌, ◌≢◌, ℕ, List, [], ◌∷◌, map, length, refl, ap, sym, ◌∙◌, inl, Option, Some, None, arith}
+use Rattle.std.specs.Prelude.{option_map}
 use Rattle.std.specs.Cmp.{eq_by_cmp_equiv}
 use Rattle.std.specs.FinMap.{from_entries, empty, get, get-from_entries, get-empty, find}
-use Rattle.ov_specs.specs.Lines.{LineKey, LineBody, line_cmp}
+use Rattle.ov_specs.specs.Database.{Database, line_of}
+use Rattle.ov_specs.specs.Lines.{Contents, LineKey, LineBody, line_cmp}
+use Rattle.ov_db.specs.Committing.{IsHeld}
+use Rattle.ov_early.specs.Opening.{CanOpen}
 use Rattle.ov_early.specs.declared.line.Line.{Line}
 use Rattle.ov_early.specs.Views.{line_entry}
 use Rattle.ov_early.proofs.LineLemmas.{key_total}
@@ -26,3 +30,8 @@ lines_held (line ∷ lines) some h =
 pub no_lines_held : (lines : List Line) → length lines ≡ 0 → from_entries {R = line_cmp} (map line_entry lines) ≡ empty
 no_lines_held [] none = refl
 no_lines_held (line ∷ lines) none = absurd (omega arith)
+
+-- what can be opened holds a database without rows
+pub held_empty : (text : List ℕ) (database : Database) (sealed : Option Database) (held : Contents) → database ≡ empty → CanOpen text held → IsHeld text database sealed held
+held_empty text database sealed held none can =
+    (can.same_schema, inl (λ key. ap (λ lines. get lines key) can.no_lines ∙ (get-empty line_cmp key ∙ sym (ap (λ d. option_map line_of (get d key)) none ∙ ap (option_map line_of) (get-empty line_cmp key)))))

@@ -1,6 +1,6 @@
 -- What waits for sessions, by what the map of queues has at their serials.
 use Rattle.std.proofs.Common.{◌≡◌, ◌≢◌, ℕ, List, [], ◌∷◌, ◌++◌, Bool, true, false, cond, eqb, Option, Some, None, option_map, refl, sym, ap, ◌∙◌, inl, inr, arith, length}
-use Rattle.std.specs.Prelude.{unwrap_or, MatchBool, MatchOption, IfNone}
+use Rattle.std.specs.Prelude.{unwrap_or, is_some, MatchBool, MatchOption, IfNone}
 use Rattle.std.specs.declared.alloc.Global.{Global}
 use Rattle.std.specs.declared.collections.VecDeque.{VecDeque}
 use Rattle.std.specs.Map.{lookup}
@@ -9,7 +9,7 @@ use Rattle.std.specs.Ordering.{nat_cmp, is_eq}
 use Rattle.std.specs.declared.cmp.Ordering.TheVariants.{Less, Equal, Greater}
 use Rattle.std.specs.Cmp.{nat_cmp_is}
 use Rattle.std.proofs.lemmas.List.{append-nil}
-use Rattle.std.proofs.lemmas.Bool.{eqb-true, eq-eqb, ne_eqb, cases_order}
+use Rattle.std.proofs.lemmas.Bool.{eqb-true, eq-eqb, ne_eqb, cases_order, false≢true}
 use Rattle.ov_core.specs.Waiting.{Queues, waiting_for, queues_of, Adds, WaitsSame}
 
 abbrev Deque : Type 0
@@ -93,3 +93,52 @@ no_items (x ∷ xs) h = absurd (omega arith)
 pub nothing_popped : (o : Option (List ℕ)) (n : ℕ) (P : Type 0) (Q : List ℕ → Type 0) (items waits : List (List ℕ)) → MatchOption o ((n ≡ 0) × P) Q → n ≡ length items → waits ≡ items → IfNone o (waits ≡ [])
 nothing_popped None n P Q items waits none counts is = is ∙ no_items items (sym counts ∙ none.0)
 nothing_popped (Some frame) n P Q items waits none counts is = tt
+
+-- a list with one behind it is not empty
+pub not_empty : {A : Type 0} (xs : List A) (x : A) → [] ≡ xs ++ x ∷ [] → ⊥
+not_empty [] x h = cc
+not_empty (y ∷ xs) x h = cc
+
+-- the fronts of lists with one behind each
+pub same_front : {A : Type 0} (xs ys : List A) (x y : A) → xs ++ x ∷ [] ≡ ys ++ y ∷ [] → xs ≡ ys
+same_front [] [] x y h = refl
+same_front [] (b ∷ []) x y h = cc
+same_front [] (b ∷ c ∷ ys) x y h = cc
+same_front (a ∷ []) [] x y h = cc
+same_front (a ∷ c ∷ xs) [] x y h = cc
+same_front (a ∷ xs) (b ∷ ys) x y h =
+    let head : a ≡ b = cc in
+    let tail : xs ++ x ∷ [] ≡ ys ++ y ∷ [] = cc in
+    let rest : xs ≡ ys = same_front xs ys x y tail in
+    cc
+
+-- what was added waits
+its_frame : (s : ℕ) (former : List ℕ) (before old : Queues) → Adds s former before old → waiting_for s old ≡ waiting_for s before ++ former ∷ []
+its_frame s former before old added = added s ∙ ap (λ b. waiting_for s before ++ cond b (former ∷ []) []) (eq-eqb s s refl)
+
+-- where a frame was added, some frame waits
+pub some_waits : (s : ℕ) (former : List ℕ) (before old : Queues) → Adds s former before old → waiting_for s old ≡ [] → ⊥
+some_waits s former before old added none = not_empty (waiting_for s before) former (sym none ∙ its_frame s former before old added)
+
+-- another frame stands in place of the newest
+pub replaced : (s : ℕ) (frame popped : List ℕ) (kept after : List (List ℕ)) (old new : Queues) → waiting_for s old ≡ kept ++ popped ∷ [] → after ≡ kept ++ frame ∷ []
+    → ((other : ℕ) → waiting_for other new ≡ cond (eqb other s) after (waiting_for other old))
+    → (before : Queues) (former : List ℕ) → Adds s former before old → Adds s frame before new
+replaced s frame popped kept after old new was is h before former added other = h other ∙ here (eqb other s) refl
+  where
+    front : kept ≡ waiting_for s before
+    front = same_front kept (waiting_for s before) popped former (sym was ∙ its_frame s former before old added)
+
+    here : (b : Bool) → eqb other s ≡ b → cond b after (waiting_for other old) ≡ waiting_for other before ++ cond b (frame ∷ []) []
+    here true e = is ∙ ap (λ fs. fs ++ frame ∷ []) (front ∙ ap (λ n. waiting_for n before) (sym (eqb-true other s e)))
+    here false e = added other ∙ ap (λ b. waiting_for other before ++ cond b (former ∷ []) []) e
+
+-- a frame was taken out
+pub popped_some : (o : Option (List ℕ)) → is_some o ≡ true → (popped : List ℕ) × (o ≡ Some popped)
+popped_some (Some popped) h = (popped, refl)
+popped_some None h = absurd (false≢true h)
+
+-- none was taken out of an empty queue
+pub popped_none : (o : Option (List ℕ)) (n : ℕ) (P : Type 0) (Q : List ℕ → Type 0) (items : List (List ℕ)) → MatchOption o ((n ≡ 0) × P) Q → is_some o ≡ false → n ≡ length items → items ≡ []
+popped_none None n P Q items cases none counts = no_items items (sym counts ∙ cases.0)
+popped_none (Some popped) n P Q items cases none counts = absurd (false≢true (sym none))

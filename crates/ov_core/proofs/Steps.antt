@@ -12,9 +12,12 @@ use Rattle.ov_specs.specs.History.{run, frames_to, then_sends}
 use Rattle.ov_specs.specs.Frame.{frame}
 use Rattle.ov_specs.specs.Message.{Message}
 use Rattle.ov_core.specs.declared.event.Entry.{Entry}
-use Rattle.ov_core.specs.Entries.{entry_view}
+use Rattle.ov_core.specs.declared.event.Outcome.{Outcome}
+use Rattle.ov_core.specs.declared.event.Outcome.TheVariants as outcome
+use Rattle.ov_core.specs.declared.work.Worked.{Worked}
+use Rattle.ov_core.specs.Entries.{entry_view, listed_attempts, is_closing}
 use Rattle.ov_core.specs.Waiting.{Queues, waiting_for, WaitsSame}
-use Rattle.ov_core.specs.Answering.{Answers}
+use Rattle.ov_core.specs.Working.{Kept, over, left_by, listed_first, Comes}
 use Rattle.ov_core.specs.Following.{Running, Moves}
 use Rattle.ov_core.specs.Stepping.{closing, most_sessions, Closes, IsEntered}
 use Rattle.ov_core.specs.declared.event.Stepped.TheVariants as answer
@@ -55,8 +58,8 @@ run_more s (d ∷ h) e t u p q = first h e t u (step s d) p q (λ v w r k. run_m
 
 -- an entry that is a step of the machine, is kept, and whose frames wait
 pub moves_with : {K D : Type 0} (old new : Running K D) (e : machine.Entry) (x : Entry) (sent : List Sent) → step old.state e ≡ Some (record { state = new.state; sent = sent }) → new.kept ≡ old.kept ++ x ∷ [] → entry_view x ≡ e
-    → new.schema ≡ old.schema → new.keeper ≡ old.keeper → ((s : ℕ) → waiting_for s new.waiting ≡ waiting_for s old.waiting ++ frames_to s sent) → Moves old e new
-moves_with old new e x sent stepped kept is schema keeper waits = record {
+    → ((s : ℕ) → waiting_for s new.waiting ≡ waiting_for s old.waiting ++ frames_to s sent) → Moves old e new
+moves_with old new e x sent stepped kept is waits = record {
   sent = sent;
   stepped = stepped;
   waits = waits;
@@ -66,14 +69,12 @@ moves_with old new e x sent stepped kept is schema keeper waits = record {
     kept = ap (map entry_view) kept ∙ (map-append entry_view old.kept (x ∷ []) ∙ (ap (λ (y : machine.Entry). map entry_view old.kept ++ y ∷ []) is ∙ ap (λ (h : List machine.Entry). h ++ e ∷ []) f.kept));
     issued = λ s. frames_to-append s f.sent sent ∙ (ap (λ (fs : List (List ℕ)). fs ++ frames_to s sent) (f.issued s) ∙ (append_assoc (given s) (waiting_for s old.waiting) (frames_to s sent) ∙ ap (λ (fs : List (List ℕ)). given s ++ fs) (sym (waits s))));
   };
-  schema = schema;
-  keeper = keeper;
 }
 
 -- a step that sends nothing
 pub moves_silent : {K D : Type 0} (old new : Running K D) (e : machine.Entry) (x : Entry) → step old.state e ≡ Some (record { state = new.state; sent = [] }) → new.kept ≡ old.kept ++ x ∷ [] → entry_view x ≡ e
-    → new.schema ≡ old.schema → new.keeper ≡ old.keeper → WaitsSame old.waiting new.waiting → Moves old e new
-moves_silent old new e x stepped kept is schema keeper same = moves_with old new e x [] stepped kept is schema keeper (λ s. same s ∙ sym (append-nil (waiting_for s old.waiting)))
+    → WaitsSame old.waiting new.waiting → Moves old e new
+moves_silent old new e x stepped kept is same = moves_with old new e x [] stepped kept is (λ s. same s ∙ sym (append-nil (waiting_for s old.waiting)))
 
 -- at a moment that is not below the last one
 step_at : (s : State) (event : machine.Event) (c : machine.Choice) → s.moment ≤ c.moment → step s (record { event = event; choice = c }) ≡ machine.happens (record s { moment = c.moment }) c event
@@ -83,26 +84,23 @@ step_at s event c h = rw (le-leb s.moment c.moment h) refl
 abbrev pub nothing_chosen : ℕ → machine.Choice
 nothing_chosen m = record { moment = m; draws = []; outcomes = [] }
 
--- attempt 1 was refused memory
-abbrev pub refused_memory : ℕ → machine.Choice
-refused_memory m = record { moment = m; draws = []; outcomes = record { number = 1; outcome = machine.NoMemory } ∷ [] }
-
+-- an event with its choice
 abbrev pub entry_of : machine.Event → machine.Choice → machine.Entry
 entry_of event choice = record { event = event; choice = choice }
 
 pub ticked : {K D : Type 0} (old : Running K D) (m : ℕ) (x : Entry) (kept : List Entry) → old.state.moment ≤ m → kept ≡ old.kept ++ x ∷ [] → entry_view x ≡ entry_of machine.Tick (nothing_chosen m)
     → Moves old (entry_of machine.Tick (nothing_chosen m)) (record old { state = record old.state { moment = m }; kept = kept })
-ticked old m x kept low added is = moves_silent old _ _ x (step_at old.state machine.Tick (nothing_chosen m) low) added is refl refl (λ s. refl)
+ticked old m x kept low added is = moves_silent old _ _ x (step_at old.state machine.Tick (nothing_chosen m) low) added is (λ s. refl)
 
 pub opened : {K D : Type 0} (old : Running K D) (m : ℕ) (x : Entry) (kept : List Entry) (sessions : List ℕ) → old.state.moment ≤ m → kept ≡ old.kept ++ x ∷ [] → entry_view x ≡ entry_of machine.Open (nothing_chosen m)
     → sessions ≡ old.state.sessions ++ old.state.next ∷ []
     → Moves old (entry_of machine.Open (nothing_chosen m)) (record old { state = record old.state { moment = m; sessions = sessions; next = old.state.next + 1 }; kept = kept })
-opened old m x kept sessions low added is grown = moves_silent old _ _ x (step_at old.state machine.Open (nothing_chosen m) low ∙ rw grown refl) added is refl refl (λ s. refl)
+opened old m x kept sessions low added is grown = moves_silent old _ _ x (step_at old.state machine.Open (nothing_chosen m) low ∙ rw grown refl) added is (λ s. refl)
 
 pub closed : {K D : Type 0} (old : Running K D) (m : ℕ) (s : ℕ) (cause : machine.Cause) (x : Entry) (kept : List Entry) (sessions : List ℕ) (waiting : Queues) → old.state.moment ≤ m → machine.is_open old.state s ≡ true → kept ≡ old.kept ++ x ∷ [] → entry_view x ≡ closing m s cause
     → sessions ≡ (machine.without s old.state).sessions → WaitsSame old.waiting waiting
     → Moves old (closing m s cause) (record old { state = record old.state { moment = m; sessions = sessions }; kept = kept; waiting = waiting })
-closed old m s cause x kept sessions waiting low there added is left same = moves_silent old _ _ x (step_at old.state (machine.Close s cause) (nothing_chosen m) low ∙ rw (there, left) refl) added is refl refl same
+closed old m s cause x kept sessions waiting low there added is left same = moves_silent old _ _ x (step_at old.state (machine.Close s cause) (nothing_chosen m) low ∙ rw (there, left) refl) added is same
 
 -- the one session
 pub alone : (o : Option ℕ) (s : ℕ) → list_any (λ n. eqb n s) (option_to_list o) ≡ true → [] ≡ filter (λ n. not (eqb n s)) (option_to_list o)
@@ -113,17 +111,75 @@ alone (Some n) s h = last (eqb n s) h
     last true k = refl
     last false k = cc
 
-pub taken : {K D : Type 0} (old : Running K D) (m s : ℕ) (message : Message) (x : Entry) (kept : List Entry) (waiting : Queues) → old.state.moment ≤ m → machine.is_open old.state s ≡ true → kept ≡ old.kept ++ x ∷ [] → entry_view x ≡ entry_of (machine.Take s message) (nothing_chosen m)
-    → Answers old.state.name s message old.waiting waiting
-    → Moves old (entry_of (machine.Take s message) (nothing_chosen m)) (record old { state = record old.state { moment = m }; kept = kept; waiting = waiting })
-taken old m s message x kept waiting low there added is waits =
-    let now : State = record old.state { moment = m } in
-    moves_with old _ _ x (machine.to_session s (machine.replies_to now message)) (step_at old.state (machine.Take s message) (nothing_chosen m) low ∙ rw there refl) added is refl refl (waits now refl)
+-- ---- a message that was taken
 
-pub gave_up : {K D : Type 0} (old : Running K D) (m s : ℕ) (message : Message) (x : Entry) (kept : List Entry) (sessions : List ℕ) (waiting : Queues) → old.state.moment ≤ m → machine.is_open old.state s ≡ true → kept ≡ old.kept ++ x ∷ [] → entry_view x ≡ entry_of (machine.Take s message) (refused_memory m)
-    → sessions ≡ (machine.without s old.state).sessions → WaitsSame old.waiting waiting
-    → Moves old (entry_of (machine.Take s message) (refused_memory m)) (record old { state = record old.state { moment = m; sessions = sessions }; kept = kept; waiting = waiting })
-gave_up old m s message x kept sessions waiting low there added is left same = moves_silent old _ _ x (step_at old.state (machine.Take s message) (refused_memory m) low ∙ rw (there, left) refl) added is refl refl same
+-- the database of a core
+abbrev pub kept_of : {K D : Type 0} → Running K D → Kept K
+kept_of core = record { schema = core.state.schema; committed = core.state.database; sealed = core.state.sealed; keeper = core.keeper }
+
+-- the entry of a message, with what was drawn for it and what is listed of it
+abbrev pub taking : ℕ → ℕ → Message → List Uuid → Option Outcome → machine.Entry
+taking m s message draws o = entry_of (machine.Take s message) (record { moment = m; draws = draws; outcomes = listed_attempts o })
+
+-- the entry of the code is the machine's
+pub entered_as : (m n : ℕ) (message : Message) (draws : List Uuid) (o : Option Outcome) (outcomes : List machine.Attempt) (x : Entry)
+    → entry_view x ≡ entry_of (machine.Take n message) (record { moment = m; draws = draws; outcomes = outcomes }) → outcomes ≡ listed_attempts o → entry_view x ≡ taking m n message draws o
+entered_as m n message draws o outcomes x is are = is ∙ ap (λ (os : List machine.Attempt). entry_of (machine.Take n message) (record { moment = m; draws = draws; outcomes = os })) are
+
+-- what is listed of attempt 1, and no more
+listed_alone : (o : Option Outcome) → machine.listed 1 (listed_attempts o) ≡ record { outcome = listed_first o; others = [] }
+listed_alone None = refl
+listed_alone (Some o) = refl
+
+-- the work on a message is a step
+taking_step : (s : State) (m n : ℕ) (message : Message) (draws : List Uuid) (o : Option Outcome) → s.moment ≤ m → machine.is_open s n ≡ true
+    → step s (taking m n message draws o) ≡ machine.works (record s { moment = m }) n draws (listed_first o) (machine.work_of (record s { moment = m }) message)
+taking_step s m n message draws o low there =
+    step_at s (machine.Take n message) (taking m n message draws o).choice low
+    ∙ rw there (ap (λ l. machine.takes (record s { moment = m }) (taking m n message draws o).choice n message l) (listed_alone o))
+
+-- where memory was refused, the session is left out
+left_closing : (n : ℕ) (o : Option Outcome) (s : State) → is_closing o ≡ true → left_by n o s ≡ machine.without n s
+left_closing n None s h = absurd (false≢true h)
+left_closing n (Some outcome.NoMemory) s h = refl
+left_closing n (Some outcome.Kept) s h = absurd (false≢true h)
+left_closing n (Some outcome.Exhausted) s h = absurd (false≢true h)
+left_closing n (Some outcome.Failed) s h = absurd (false≢true h)
+
+-- and these sessions are left
+pub left_without : (n : ℕ) (o : Option Outcome) (s : State) (sessions : List ℕ) → is_closing o ≡ true → sessions ≡ (machine.without n s).sessions → left_by n o s ≡ record s { sessions = sessions }
+left_without n o s sessions closing are = left_closing n o s closing ∙ ap (λ (ss : List ℕ). record s { sessions = ss }) (sym are)
+
+-- and else the state stays
+pub left_open : (n : ℕ) (o : Option Outcome) (s : State) → is_closing o ≡ false → left_by n o s ≡ s
+left_open n None s h = refl
+left_open n (Some outcome.NoMemory) s h = absurd (false≢true (sym h))
+left_open n (Some outcome.Kept) s h = refl
+left_open n (Some outcome.Exhausted) s h = refl
+left_open n (Some outcome.Failed) s h = refl
+
+-- the core after the work, at the moment, with these sessions
+abbrev pub after_work : {K D : Type 0} → Running K D → ℕ → List ℕ → List Entry → Queues → Kept K → D → Running K D
+after_work old m sessions entries waiting kept source = record {
+  state = record old.state { schema = kept.schema; database = kept.committed; sealed = kept.sealed; sessions = sessions; moment = m };
+  kept = entries;
+  waiting = waiting;
+  keeper = kept.keeper;
+  source = source;
+}
+
+-- the work was entered
+pub taken : {K D : Type 0} (old : Running K D) (m n : ℕ) (message : Message) (worked : Worked) (x : Entry) (entries : List Entry) (sessions : List ℕ) (waiting : Queues) (kept : Kept K) (source : D)
+    → old.state.moment ≤ m → machine.is_open old.state n ≡ true → entries ≡ old.kept ++ x ∷ [] → entry_view x ≡ taking m n message worked.draws.items worked.outcome
+    → left_by n worked.outcome (over (record old.state { moment = m }) kept) ≡ (after_work old m sessions entries waiting kept source).state
+    → Comes n (λ s. machine.work_of s message) (kept_of old) old.waiting worked kept waiting
+    → Moves old (taking m n message worked.draws.items worked.outcome) (after_work old m sessions entries waiting kept source)
+taken old m n message worked x entries sessions waiting kept source low there added is left comes =
+    let now : State = record old.state { moment = m } in
+    let came = comes now in
+    moves_with old (after_work old m sessions entries waiting kept source) (taking m n message worked.draws.items worked.outcome) x (machine.to_session n came.0)
+    (taking_step old.state m n message worked.draws.items worked.outcome low there ∙ (came.1 ∙ ap (λ (s : State). Some (record { state = s; sent = machine.to_session n came.0 })) left))
+    added is came.2
 
 -- there is a place, and a serial
 pub not_full : (o : Option ℕ) (n : ℕ) → o ≡ None → n ≢ 2 ^ 64 - 1 → n < 2 ^ 64 → (leb most_sessions (length (option_to_list o)) || leb (2 ^ 64 - 1) n) ≡ false

@@ -1,5 +1,5 @@
 -- Events and entries of the code as those of the machine.
-use Rattle.std.specs.Prelude.{map}
+use Rattle.std.specs.Prelude.{List, [], ◌∷◌, map, Bool, true, false, Option, Some, None}
 use Rattle.ov_rpc.specs.Message.{message_view}
 use Rattle.ov_specs.specs.Machine as machine
 use Rattle.ov_core.specs.declared.event.Cause.{Cause}
@@ -46,3 +46,16 @@ choice_view c = record { moment = c.moment; draws = c.draws.items; outcomes = ma
 -- an entry (own)
 abbrev pub entry_view : Entry → machine.Entry
 entry_view e = record { event = event_view e.event; choice = choice_view e.choice }
+
+-- what is listed of the first attempt (own)
+abbrev pub listed_attempts : Option Outcome → List machine.Attempt
+listed_attempts None = []
+listed_attempts (Some o) = record { number = 1; outcome = outcome_view o } ∷ []
+
+-- want of memory closes the session at work (own)
+abbrev pub is_closing : Option Outcome → Bool
+is_closing None = false
+is_closing (Some NoMemory) = true
+is_closing (Some Kept) = false
+is_closing (Some Exhausted) = false
+is_closing (Some Failed) = false

@@ -3,14 +3,12 @@ use Rattle.std.specs.Prelude.{◌≡◌, ℕ, ◌==◌, ◌++◌, List, [], ◌�
 use Rattle.ov_specs.specs.Machine as machine
 use Rattle.ov_specs.specs.Machine.{State, Sent}
 use Rattle.ov_specs.specs.History.{run, frames_to}
-use Rattle.ov_specs.specs.SchemaTypes.{Schema}
 use Rattle.ov_core.specs.declared.event.Entry.{Entry}
 use Rattle.ov_core.specs.Entries.{entry_view}
 use Rattle.ov_core.specs.Waiting.{Queues, waiting_for}
 
--- what contracts see of a core: its schema, its state, the entries that it keeps, the frames that wait, its keeper and its source of draws (own)
+-- what contracts see of a core: its state, the entries that it keeps, the frames that wait, its keeper and its source of draws (own)
 pub record Running (K D : Type 0) : Type 0 where
-  pub schema : Schema
   pub state : State
   pub kept : List Entry
   pub waiting : Queues
@@ -46,12 +44,9 @@ and_all_handed given session frames other = given other ++ (if other == session 
 abbrev pub and_handed : (ℕ → List (List ℕ)) → ℕ → Option (List ℕ) → ℕ → List (List ℕ)
 and_handed given session frame = and_all_handed given session (option_to_list frame)
 
--- One entry was entered: it is a step of the machine, what it sends waits behind what waited, and the core follows it. The
--- schema stays, and the keeper is not asked (own).
+-- One entry was entered: it is a step of the machine, what it sends waits behind what waited, and the core follows it (own).
 pub record Moves {K D : Type 0} (old : Running K D) (entry : machine.Entry) (new : Running K D) : Type 0 where
   pub sent : List Sent
   pub stepped : machine.step old.state entry ≡ Some (record { state = new.state; sent = sent })
   pub waits : (session : ℕ) → waiting_for session new.waiting ≡ waiting_for session old.waiting ++ frames_to session sent
   pub follows : Enters old (entry ∷ []) new
-  pub schema : new.schema ≡ old.schema
-  pub keeper : new.keeper ≡ old.keeper

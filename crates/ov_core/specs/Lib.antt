@@ -1,5 +1,7 @@
 pub mod Entries
 pub mod Waiting
-pub mod Answering
+pub mod Working
+pub mod Preparing
 pub mod Following
 pub mod Stepping
+pub mod Leaving

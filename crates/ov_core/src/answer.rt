@@ -1,17 +1,26 @@
-ghost use Rattle.std.specs.Prelude.{◌≡◌, IfOk, MatchBool, map, option_to_list};
+ghost use Rattle.std.specs.Prelude.{◌≡◌, IfOk};
 ghost use Rattle.serde_json.specs.View.{view};
 ghost use Rattle.ov_specs.specs.Frame.{frame};
 ghost use Rattle.ov_specs.specs.Method.{names, reply_to, bad_text};
-ghost use Rattle.ov_specs.specs.Machine.{State, replies_to};
+ghost use Rattle.std.specs.Prelude.{Some};
+ghost use Rattle.ov_specs.specs.Machine.{State, work_of, call_of, transact_of, schema_of, schema_on, refused};
 ghost use Rattle.ov_rpc.specs.Message.{message_view, kind_view};
-ghost use Rattle.ov_core.specs.Waiting.{WaitsSame};
-ghost use Rattle.ov_core.specs.Answering.{Answers};
+ghost use Rattle.ov_core.specs.Working.{IsWork};
 
-use crate::waiting::Waiting;
 use ov_base::{Bytes, Text, Tree, Trees};
 use ov_rpc::{BadKind, Message, failure, reply};
+use ov_schema::Schema;
 use serde_json::{Value, json};
 use std::alloc::{AllocError, Global};
+
+/// What a message asks for (RFC 7047, 4.1).
+#[derive(Drop)]
+pub(crate) enum Work {
+    /// To be answered at once by this frame, if it is answered.
+    Answer(Option<Bytes>),
+    /// A transaction of these operations, with the id that it is answered under.
+    Transact(Tree, Trees),
+}
 
 /// The names of the databases (RFC 7047, 4.1.1).
 fn names_of(alloc: Global, name: &Text) -> Result<Value, AllocError>
@@ -20,7 +29,7 @@ fn names_of(alloc: Global, name: &Text) -> Result<Value, AllocError>
     json!(in alloc; [name.as_str()])
 }
 
-/// The reply to a call, method by method (RFC 7047, 4.1).
+/// The reply to a call that is answered at once, method by method (RFC 7047, 4.1).
 fn call_frame(
     alloc: Global,
     name: &Text,
@@ -49,32 +58,87 @@ fn text_of(kind: BadKind) -> &'static str
     }
 }
 
-/// The frame that a message is answered with at once, if it is answered.
-fn frame_of(alloc: Global, name: &Text, message: &Message) -> Result<Option<Bytes>, AllocError>
-    ensures { IfOk result (λ o. (s : State) → s.name ≡ name.now → map frame (replies_to s (message_view message.now)) ≡ option_to_list o) }
+/// An error in place of a result.
+fn refused_work(alloc: Global, id: Tree, text: &str) -> Result<Work, AllocError>
+    ensures { IfOk result (λ w. IsWork (refused id text.now) w) }
 {
-    match message {
-        Message::Call { id, method, params } => {
-            Ok(Some(call_frame(alloc, name, id.copy()?, method.as_str(), params)?))
+    Ok(Work::Answer(Some(failure(alloc, id, text)?)))
+}
+
+/// What a call of "transact" asks for: its params are the database's name, and then the operations (RFC 7047, 4.1.3).
+fn transact_work(alloc: Global, name: &Text, id: Tree, params: &Trees) -> Result<Work, AllocError>
+    ensures { IfOk result (λ w. (s : State) → s.schema.name ≡ name.now → IsWork (transact_of s id params.now) w) }
+{
+    let items = params.as_slice();
+    if items.is_empty() {
+        return refused_work(alloc, id, "syntax error");
+    }
+    let (_first, operations) = items.split_at(1);
+    match items[0].as_str() {
+        None => refused_work(alloc, id, "syntax error"),
+        Some(text) => {
+            if text == name.as_str() {
+                Ok(Work::Transact(id, Trees::from_slice(alloc, operations)?))
+            } else {
+                refused_work(alloc, id, "unknown database")
+            }
         }
-        Message::Bad { id, kind } => Ok(Some(failure(alloc, id.copy()?, text_of(*kind))?)),
-        Message::Note { .. } | Message::Answer => Ok(None),
     }
 }
 
-/// Puts what a message is answered with behind what waits, where there is memory for it.
-pub(crate) fn answer(
-    waiting: &mut Waiting,
-    alloc: Global,
-    name: &Text,
-    session: u64,
-    message: &Message,
-) -> bool
-    ensures { MatchBool result (Answers name.now session (message_view message.now) waiting.old waiting.new) (WaitsSame waiting.old waiting.new) }
+/// The schema, where its database is named.
+fn schema_named(alloc: Global, schema: &Schema, id: Tree, name: &str) -> Result<Work, AllocError>
+    ensures { IfOk result (λ w. (s : State) → s.schema ≡ schema.now → IsWork (schema_on s id (Some name.now)) w) }
 {
-    match frame_of(alloc, name, message) {
-        Ok(None) => true,
-        Ok(Some(frame)) => waiting.push(alloc, session, frame),
-        Err(_) => false,
+    if name != schema.name().as_str() {
+        return refused_work(alloc, id, "unknown database");
+    }
+    Ok(Work::Answer(Some(reply(alloc, id, schema.tree().copy()?)?)))
+}
+
+/// What a call of "get_schema" asks for: its only param is the database's name (RFC 7047, 4.1.2).
+fn schema_work(alloc: Global, schema: &Schema, id: Tree, params: &Trees) -> Result<Work, AllocError>
+    ensures { IfOk result (λ w. (s : State) → s.schema ≡ schema.now → IsWork (schema_of s id params.now) w) }
+{
+    let items = params.as_slice();
+    if items.len() != 1 {
+        return refused_work(alloc, id, "syntax error");
+    }
+    match items[0].as_str() {
+        Some(name) => schema_named(alloc, schema, id, name),
+        None => refused_work(alloc, id, "syntax error"),
+    }
+}
+
+/// What a call asks for, method by method (RFC 7047, 4.1).
+fn call_work(
+    alloc: Global,
+    schema: &Schema,
+    id: Tree,
+    method: &str,
+    params: &Trees,
+) -> Result<Work, AllocError>
+    ensures { IfOk result (λ w. (s : State) → s.schema ≡ schema.now → IsWork (call_of s id method.now params.now) w) }
+{
+    if method == "transact" {
+        transact_work(alloc, schema.name(), id, params)
+    } else if method == "get_schema" {
+        schema_work(alloc, schema, id, params)
+    } else {
+        let frame = call_frame(alloc, schema.name(), id, method, params)?;
+        Ok(Work::Answer(Some(frame)))
+    }
+}
+
+/// What a message asks for, where the database has this schema.
+pub(crate) fn work_of(alloc: Global, schema: &Schema, message: &Message) -> Result<Work, AllocError>
+    ensures { IfOk result (λ w. (s : State) → s.schema ≡ schema.now → IsWork (work_of s (message_view message.now)) w) }
+{
+    match message {
+        Message::Call { id, method, params } => {
+            call_work(alloc, schema, id.copy()?, method.as_str(), params)
+        }
+        Message::Bad { id, kind } => refused_work(alloc, id.copy()?, text_of(*kind)),
+        Message::Note { .. } | Message::Answer => Ok(Work::Answer(None)),
     }
 }

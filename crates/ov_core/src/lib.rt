@@ -3,14 +3,16 @@
 #![tactic(auto)]
 
 mod answer;
+mod database;
 mod entry;
 mod event;
+mod frames;
 mod machine;
 mod opening;
-#[cfg(test)]
-mod tests;
 mod waiting;
+mod work;
 
 pub use event::{Attempt, Cause, Choice, Entry, Event, Outcome, Session, StepFault, Stepped};
 pub use machine::Core;
 pub use ov_early as early;
+pub use ov_schema::{Schema, SchemaFault};

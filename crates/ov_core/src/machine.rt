@@ -10,15 +10,18 @@ ghost use Rattle.ov_core.specs.Entries.{event_view, cause_view};
 ghost use Rattle.ov_core.specs.Waiting.{waiting_for};
 ghost use Rattle.ov_core.specs.Following.{Follows, none_given, and_handed, and_all_handed};
 ghost use Rattle.ov_core.specs.Stepping.{StepIs, Closes};
+ghost use Rattle.ov_core.specs.Leaving.{LeavesItsOwn};
+ghost use Rattle.std.specs.FinMap.{empty};
 
-use crate::answer::answer;
-use crate::entry::{chosen, first_attempt, quiet};
-use crate::event::{Attempt, Cause, Entry, Event, Outcome, Session, StepFault, Stepped};
-use crate::opening::test_contents;
+use crate::database::Database;
+use crate::entry::{chosen, is_closing, listed, quiet};
+use crate::event::{Cause, Entry, Event, Session, StepFault, Stepped};
 use crate::waiting::Waiting;
+use crate::work::{Worked, work};
 use ov_base::Bytes;
-use ov_early::{Draws, KeepFault, Keeper, OpenFault, Schema};
+use ov_early::{Draws, Keeper, OpenFault};
 use ov_rpc::Message;
+use ov_schema::Schema;
 use std::alloc::{AllocError, Global};
 use std::collections::VecDeque;
 use std::marker::Model;
@@ -26,9 +29,8 @@ use std::marker::Model;
 /// The machine over a keeper, with its history (own, over RFC 7047, 4). One session may be open at a time.
 #[derive(Drop)]
 pub struct Core<K: Keeper, D> {
-    keeper: K,
+    database: Database<K>,
     source: D,
-    schema: Schema,
     session: Option<u64>,
     next: u64,
     moment: u64,
@@ -41,29 +43,25 @@ impl<K: Keeper, D> Model for Core<K, D> {
     ghost use Rattle.std.specs.Prelude.{◌≡◌, ◌+◌, ◌≤◌, length, option_to_list};
     ghost use Rattle.std.specs.VecDeque.{deque_len, deque_capacity};
     ghost use Rattle.std.specs.Coded.{codes};
-    ghost use Rattle.ov_specs.specs.SchemaTypes.{schema_code};
-    ghost use Rattle.serde_json.specs.Written.{compact_text};
-    ghost use Rattle.ov_specs.specs.Lines.{Contents};
     ghost use Rattle.ov_specs.specs.TreeCode.{tree_code, items_code};
-    ghost use Rattle.ov_early.specs.Opening.{CanOpen};
+    ghost use Rattle.ov_specs.specs.SchemaTypes.{schema_code};
+    ghost use Rattle.ov_db.specs.Resident.{database_code};
     ghost use Rattle.ov_core.specs.Following.{Running};
 
     ghost Value = { Running K D };
 
-    ghost coded = { Prim.hlevel (codes, schema_code, tree_code, items_code, K.code, D.code) };
+    ghost coded = { Prim.hlevel (codes, schema_code, database_code, tree_code, items_code, K.code, D.code) };
 
     ghost view = { λ c. record {
-      schema = c.schema;
-      state = record { name = c.schema.name; sessions = option_to_list c.session; next = c.next; moment = c.moment };
+      state = record { schema = c.database.schema; database = c.database.committed; sealed = c.database.sealed; sessions = option_to_list c.session; next = c.next; moment = c.moment };
       kept = c.history.items;
       waiting = c.waiting;
-      keeper = c.keeper;
+      keeper = c.database.keeper;
       source = c.source;
     } };
 
-    // The entry of the open session's closing has room. An open now, also after a crash, finds a database that can be opened again.
-    ghost invariant = { λ c. (deque_len c.history + length (option_to_list c.session) ≤ deque_capacity c.history)
-        × (K.Keeper.is_honest c.keeper → (held : Contents) → K.Keeper.leaves c.keeper held → CanOpen (compact_text c.schema.tree) held) };
+    // The entry of the open session's closing has room.
+    ghost invariant = { λ c. deque_len c.history + length (option_to_list c.session) ≤ deque_capacity c.history };
 }
 
 impl<K: Keeper + Drop, D: Draws + Drop> Core<K, D> {
@@ -73,8 +71,8 @@ impl<K: Keeper + Drop, D: Draws + Drop> Core<K, D> {
     /// where it holds a row, since a database that holds one can't be opened yet, and with the keeper's fault. Memory that
     /// is refused is the keeper's fault `Memory`. What the keeper holds is not changed.
     pub fn open(alloc: Global, keeper: K, schema: Schema, draws: D) -> Result<Core<K, D>, OpenFault>
-        ensures start { IfOk result (λ core. Follows (opening schema.name) [] none_given core) }
-        ensures schema { IfOk result (λ core. core.schema ≡ schema) }
+        ensures start { IfOk result (λ core. Follows (opening schema empty) [] none_given core) }
+        ensures schema { IfOk result (λ core. core.state.schema ≡ schema) }
         ensures source { IfOk result (λ core. core.source ≡ draws) }
         // The keeper held an empty database under this schema.
         ensures held { IfOk result (λ core. K.is_honest core.keeper → (held : Contents) → K.leaves keeper held → CanOpen (compact_text schema.tree) held) }
@@ -84,21 +82,10 @@ impl<K: Keeper + Drop, D: Draws + Drop> Core<K, D> {
         // A fault is the first that applies to what the keeper held, where its device was honest to the end of the call.
         ensures fault { IfErr result (λ fault. (later : K) × (K.is_honest later → (held : Contents) → K.leaves keeper held → RefusesOpen (compact_text schema.tree) held fault)) }
     {
-        let mut keeper = keeper;
-        let Ok(text) = schema.tree().to_bytes(alloc) else {
-            return Err(OpenFault::Keeping(KeepFault::Memory));
-        };
-        let loaded = match keeper.load(alloc) {
-            Ok(loaded) => loaded,
-            Err(fault) => return Err(OpenFault::Keeping(fault)),
-        };
-        if let Err(fault) = test_contents(&loaded, text.as_slice()) {
-            return Err(fault);
-        }
+        let database = Database::open(alloc, keeper, schema)?;
         Ok(Core {
-            keeper,
+            database,
             source: draws,
-            schema,
             session: None,
             next: 1,
             moment: 0,
@@ -192,11 +179,12 @@ impl<K: Keeper + Drop, D: Draws + Drop> Core<K, D> {
         Ok(output)
     }
 
-    /// What a crash now leaves, which each core keeps true of itself: a database that can be opened again. It does nothing.
+    /// What a crash now leaves, which each core keeps true of itself: the lines of the machine's database, or after a commit
+    /// that failed also those of the database that it would have made. It does nothing.
     pub fn left(&self)
-        ensures { K.is_honest self.now.keeper → (held : Contents) → K.leaves self.now.keeper held → CanOpen (compact_text self.now.schema.tree) held }
+        ensures { K.is_honest self.now.keeper → (held : Contents) → K.leaves self.now.keeper held → LeavesItsOwn self.now.state held }
     {
-        let _keeper = &self.keeper;
+        self.database.left();
     }
 
     fn open_session(&mut self, moment: u64) -> Stepped
@@ -263,27 +251,22 @@ impl<K: Keeper + Drop, D: Draws + Drop> Core<K, D> {
             let _ = self.close_at(moment, session, Cause::Memory);
             return Stepped::Closed;
         }
-        if answer(
-            &mut self.waiting,
+        let Worked { draws, outcome } = work(
             alloc,
-            self.schema.name(),
+            &mut self.database,
+            &mut self.source,
+            &mut self.waiting,
             session.serial,
             &message,
-        ) {
-            self.history
-                .push_back_reserved(quiet(alloc, moment, Event::Take(session, message)));
-            self.moment = moment;
-            return Stepped::Done;
-        }
-        let outcomes = first_attempt(room, Outcome::NoMemory);
-        self.history.push_back_reserved(chosen(
-            alloc,
-            moment,
-            Event::Take(session, message),
-            outcomes,
-        ));
-        self.session = None;
+        );
+        let event = Event::Take(session, message);
+        self.history
+            .push_back_reserved(chosen(moment, event, draws, listed(room, outcome)));
         self.moment = moment;
-        Stepped::Closed
+        if is_closing(outcome) {
+            self.session = None;
+            return Stepped::Closed;
+        }
+        Stepped::Done
     }
 }

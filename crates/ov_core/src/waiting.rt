@@ -1,7 +1,9 @@
-ghost use Rattle.std.specs.Prelude.{◌≡◌, ◌≢◌, ◌++◌, ℕ, [], ◌∷◌, IfOk, IfNone, OnOk, MatchBool, option_to_list};
+ghost use Rattle.std.specs.Prelude.{◌≡◌, ◌≢◌, ◌++◌, ℕ, List, [], ◌∷◌, IfOk, IfNone, OnOk, MatchBool, option_to_list};
 ghost use Rattle.ov_specs.specs.History.{joined};
-ghost use Rattle.ov_core.specs.Waiting.{waiting_for, Adds, Clears, WaitsSame};
+ghost use Rattle.ov_core.specs.Waiting.{Queues, waiting_for, Adds, Clears, WaitsSame};
+ghost use Rattle.ov_core.specs.Working.{Waits};
 
+use crate::event::Outcome;
 use ov_base::Bytes;
 use std::alloc::{AllocError, Global};
 use std::collections::{BTreeMap, VecDeque};
@@ -47,6 +49,18 @@ impl Waiting {
         }
     }
 
+    /// Puts a frame in place of the newest of its session. It takes no memory.
+    pub fn replace_newest(&mut self, session: u64, frame: Bytes)
+        ensures { (before : Queues) (former : List ℕ) → Adds session former before self.old → Adds session frame before self.new }
+    {
+        let Some(queue) = self.queues.get_mut(&session) else {
+            return;
+        };
+        if queue.pop_back().is_some() {
+            queue.push_back_reserved(frame);
+        }
+    }
+
     /// Takes out the oldest frame of the session.
     pub fn pop(&mut self, session: u64) -> Option<Bytes>
         ensures session { waiting_for session self.old ≡ option_to_list result ++ waiting_for session self.new }
@@ -86,6 +100,25 @@ impl Waiting {
         ensures { Clears session self.old self.new }
     {
         self.queues.remove(&session);
+    }
+}
+
+/// Lets the frame wait, if there is one. `NoMemory` where memory is refused, and then nothing more waits.
+pub(crate) fn send(
+    alloc: Global,
+    waiting: &mut Waiting,
+    session: u64,
+    frame: Option<Bytes>,
+) -> Option<Outcome>
+    ensures { Waits session frame waiting.old result waiting.new }
+{
+    let Some(frame) = frame else {
+        return None;
+    };
+    if waiting.push(alloc, session, frame) {
+        None
+    } else {
+        Some(Outcome::NoMemory)
     }
 }
 

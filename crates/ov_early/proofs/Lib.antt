@@ -1,5 +1,1 @@
 pub mod LineLemmas
-pub mod NamedLemmas
-pub mod MemberLemmas
-pub mod FittingLemmas
-mod SchemaRows

@@ -1,5 +1,3 @@
-pub mod SchemaReading
-pub mod NamedViews
 pub mod Views
 pub mod Keeping
 pub mod Drawing

@@ -1,12 +1,10 @@
 use super::*;
-use ov_base::{Bytes, Text, Tree, has_real};
-use serde_json::Value;
+use ov_base::{Bytes, Text};
 use std::alloc::{AllocError, Global};
 use std::test::Fail;
 use uuid::Uuid;
 
 mod failing;
-mod reading;
 
 const SCHEMA: &str = "{\"name\":\"Net\",\"tables\":{}}";
 
@@ -92,39 +90,9 @@ fn a_line_takes_the_place_of_the_one_with_its_key(rt: HostRuntime) -> Result<(),
     Ok(())
 }
 
-fn tree(alloc: Global, text: &str) -> Result<Tree, Fail> {
-    let value = Value::from_str(alloc, text)?;
-    if has_real(&value) {
-        return Err(Fail::new("a real"));
-    }
-    Ok(Tree::new(value))
-}
-
-#[test]
-fn a_schema_is_named_by_a_text(rt: HostRuntime) -> Result<(), Fail> {
-    let alloc = rt.alloc();
-    let schema = Schema::read(alloc, tree(alloc, SCHEMA)?)?;
-    assert_eq!(rt; schema.name().as_str(), "Net");
-    assert_eq!(rt;
-        schema.tree().to_bytes(alloc)?.as_slice(),
-        SCHEMA.as_bytes()
-    );
-    for text in ["{\"tables\":{}}", "{\"name\":7}", "[\"name\",\"Net\"]"] {
-        let refused = Schema::read(alloc, tree(alloc, text)?).err();
-        assert_eq!(rt; refused, Some(SchemaFault::Syntax), "at {text}");
-    }
-    Ok(())
-}
-
 #[test]
 fn a_fault_is_told_in_words(rt: HostRuntime) -> Result<(), Fail> {
     let alloc = rt.alloc();
-    let told = format!(in alloc;
-        "{}; {}",
-        OpError::ReferentialIntegrity,
-        OpError::InputOutput
-    )?;
-    assert_eq!(rt; told.as_str(), "referential integrity violation; I/O error");
     let told = format!(in alloc; "{}", OpenFault::Keeping(KeepFault::Device))?;
     assert_eq!(rt; told.as_str(), "the device failed");
     Ok(())

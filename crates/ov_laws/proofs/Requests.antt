@@ -7,6 +7,8 @@ use Rattle.ov_specs.specs.Cut.{cut}
 use Rattle.ov_specs.specs.Message.{Message, asked}
 use Rattle.ov_specs.specs.Machine.{State, Entry, Open, Close, Cause, InputEnded, Damaged, Memory, Stepped, is_open, opening}
 use Rattle.ov_specs.specs.History.{requests, closed_by, or_else}
+use Rattle.ov_specs.specs.SchemaTypes.{Schema}
+use Rattle.ov_specs.specs.Database.{Database}
 use Rattle.ov_specs.specs.Streams.{StreamEvent, Opens, Feed, Finish, Passes, Streams, no_streams, fed, Enters, Feeds, Expands, ExpandsTimed}
 use Rattle.ov_specs.proofs.Turns.{Turn, or_else_none, requests_more, closed_by_more, turn_open, turn_tick, turn_close, turn_close_other, turn_take, turn_take_other}
 use Rattle.ov_laws.specs.Requests.{AreAskedFor}
@@ -277,18 +279,18 @@ expands_all n s streams (event ∷ events) h k new after keeps (front, rest, mid
     (expands_all n mid between events (h ++ front) rest new after (expands event.0 n s streams event.1 h front mid between keeps one) others)
 
 -- before any event
-at_first : (name : List ℕ) (n : ℕ) → KeepsAt n [] (opening name) []
-at_first name n = record {
+at_first : (schema : Schema) (database : Database) (n : ℕ) → KeepsAt n [] (opening schema database) []
+at_first schema database n = record {
   to_come = λ high. (refl, refl, refl, refl);
   going = λ there. absurd (false≢true there);
   gone = λ away. sym (ap (λ a. a.messages) asked_nothing);
 }
 
 -- what was taken of a session is what its stream asks for
-pub requests_are_asked_for : (name : List ℕ) (events : List (ℕ × StreamEvent)) (h : List Entry) (s : State) (streams : Streams) (n : ℕ) → ExpandsTimed (opening name) no_streams events h s streams
+pub requests_are_asked_for : (schema : Schema) (database : Database) (events : List (ℕ × StreamEvent)) (h : List Entry) (s : State) (streams : Streams) (n : ℕ) → ExpandsTimed (opening schema database) no_streams events h s streams
     → AreAskedFor (closed_by h n) (requests h n) (asked (streams n)).messages
-requests_are_asked_for name events h s streams n x =
-    let keeps : KeepsAt n (streams n) s h = expands_all n (opening name) no_streams events [] h s streams (at_first name n) x in
+requests_are_asked_for schema database events h s streams n x =
+    let keeps : KeepsAt n (streams n) s h = expands_all n (opening schema database) no_streams events [] h s streams (at_first schema database n) x in
     elim (cases_Bool (is_open s n)) [
       | inl there ↦
           let (none, taken, whole) = keeps.going there in
@@ -297,5 +299,5 @@ requests_are_asked_for name events h s streams n x =
     ]
 
 -- a session that is not opened yet has no stream
-pub not_fed_yet : (name : List ℕ) (events : List (ℕ × StreamEvent)) (h : List Entry) (s : State) (streams : Streams) (n : ℕ) → ExpandsTimed (opening name) no_streams events h s streams → s.next ≤ n → streams n ≡ []
-not_fed_yet name events h s streams n x high = ((expands_all n (opening name) no_streams events [] h s streams (at_first name n) x).to_come high).1
+pub not_fed_yet : (schema : Schema) (database : Database) (events : List (ℕ × StreamEvent)) (h : List Entry) (s : State) (streams : Streams) (n : ℕ) → ExpandsTimed (opening schema database) no_streams events h s streams → s.next ≤ n → streams n ≡ []
+not_fed_yet schema database events h s streams n x high = ((expands_all n (opening schema database) no_streams events [] h s streams (at_first schema database n) x).to_come high).1

@@ -1,12 +1,17 @@
 //! Laws of the definitions. Each function has an empty body, and its contract is a law.
 #![tactic(auto)]
 
-ghost use Rattle.std.specs.Prelude.{◌≡◌, ◌↔◌, ◌++◌, ◌-◌, ℕ, List, [], Some, None, length};
+ghost use Rattle.std.specs.Prelude.{◌≡◌, ◌↔◌, ◌++◌, ◌-◌, ℕ, List, [], Option, Some, None, true, length};
+ghost use Rattle.serde_json.specs.Data.{Data, Items};
 ghost use Rattle.ov_specs.specs.Cut.{Cut, cut, cut_from, IsCut, and_then, with_messages, max_message};
 ghost use Rattle.ov_specs.specs.Message.{asked};
-ghost use Rattle.ov_specs.specs.Machine.{State, Entry, opening};
+ghost use Rattle.ov_specs.specs.Machine.{State, Entry, Stepped, Outcome, Transact, works, to_session, results_of, opening};
+ghost use Rattle.ov_specs.specs.SchemaTypes.{Schema};
+ghost use Rattle.ov_specs.specs.Database.{Database};
 ghost use Rattle.ov_specs.specs.History.{requests, closed_by};
 ghost use Rattle.ov_specs.specs.Streams.{StreamEvent, Streams, no_streams, ExpandsTimed};
+ghost use Rattle.ov_specs.specs.Uuid.{Uuid};
+ghost use Rattle.ov_laws.specs.Refused.{has_error};
 ghost use Rattle.ov_laws.specs.Requests.{AreAskedFor};
 
 /// The relation and the program tell of the same cuts, of every stream.
@@ -27,7 +32,15 @@ pub fn cut_starts_again()
 /// What was taken of a session is what its stream asks for, however the stream came in pieces; want of memory
 /// leaves the first of it.
 pub fn requests_are_asked_for()
-    ensures { (name : List ℕ) (events : List (ℕ × StreamEvent)) (history : List Entry) (s : State) (streams : Streams) (session : ℕ)
-        → ExpandsTimed (opening name) no_streams events history s streams
+    ensures { (schema : Schema) (database : Database) (events : List (ℕ × StreamEvent)) (history : List Entry) (s : State) (streams : Streams) (session : ℕ)
+        → ExpandsTimed (opening schema database) no_streams events history s streams
         → AreAskedFor (closed_by history session) (requests history session) (asked (streams session)).messages }
+{}
+
+/// A refused transaction changes nothing (RFC 7047, 4.1.3): whatever was drawn and whatever the store answered, where the
+/// reply has an error among its results, the database is as before.
+pub fn a_refused_transaction_changes_nothing()
+    ensures { (s : State) (session : ℕ) (draws : List Uuid) (outcome : Option Outcome) (id : Data) (operations results : Items) (stepped : Stepped)
+        → works s session draws outcome (Transact id operations) ≡ Some stepped
+        → stepped.sent ≡ to_session session (results_of id results) → has_error results ≡ true → stepped.state.database ≡ s.database }
 {}

@@ -14,7 +14,7 @@ use Rattle.serde_json.specs.View.{view, members_view}
 use Rattle.serde_json.specs.declared.value.Value.{Value, Object}
 use Rattle.serde_json.proofs.Views.{view-Object}
 use Rattle.ov_specs.specs.Tree.{has_real, members_have_real}
-use Rattle.ov_specs.specs.Message.{tree_of, message_in, message_of, call_or_note}
+use Rattle.ov_specs.specs.Message.{tree_of, message_in, message_of}
 use Rattle.ov_specs.proofs.Trees.{or_false}
 
 member_case : (o : Ordering) (e f : Data) (rest : Option Data) → match_ordering o rest (Some e) rest ≡ Some f → has_real e ≡ false → (rest ≡ Some f → has_real f ≡ false) → has_real f ≡ false
@@ -46,6 +46,6 @@ unfolding message_in
 no_message text h = rw (no_tree text (is_utf8 text) refl h) refl
 
 -- a text that is a tree is the tree's message
-pub message_by : (text : List ℕ) (d : Data) → IsUtf8 text → read text ≡ Some d → message_in text ≡ option_and_then call_or_note (message_of d)
+pub message_by : (text : List ℕ) (d : Data) → IsUtf8 text → read text ≡ Some d → message_in text ≡ message_of d
 unfolding message_in
 message_by text d u h = rw (is_utf8-from_IsUtf8 text u, h) refl

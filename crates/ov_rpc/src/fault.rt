@@ -4,7 +4,7 @@ use thiserror::Error;
 /// Why a text gave no message.
 #[derive(Clone, Copy, Debug, PartialEq, Eq, Error)]
 pub enum RpcFault {
-    /// The text is not UTF-8, no JSON, or no call and no notification.
+    /// The text is not UTF-8, no JSON, or its id has a number that is no 64-bit integer.
     #[error("the text is no message")]
     Unreadable,
     /// The allocator refused.

@@ -41,8 +41,10 @@ pub enum Message {
 }
 
 impl Message {
-    /// The message that a text is. Calls and notifications are read, and all else is unreadable.
+    /// The message that a text is. It is unreadable where it is not UTF-8 or no JSON, and where its id has a number
+    /// that is no 64-bit integer.
     ///
+    /// A request that can't be taken is `Bad` where it has an id, and `Answer`, which gets no reply, where it has none.
     /// A text nests at most 127 levels deep, the message's own object among them: one that goes deeper is unreadable.
     pub fn read(alloc: Global, text: &[u8]) -> Result<Message, RpcFault>
         ensures message { IfOk result (λ m. message_in text.now ≡ Some (message_view m)) }

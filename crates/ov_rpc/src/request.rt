@@ -1,42 +1,90 @@
-ghost use Rattle.std.specs.Prelude.{◌≡◌, ◌≢◌, ℕ, List, Some, option_map, option_and_then, false};
+ghost use Rattle.std.specs.Prelude.{◌≡◌, ◌≢◌, ℕ, List, None, option_map, option_and_then, false};
 ghost use Rattle.std.specs.Option.{ForSome};
 ghost use Rattle.serde_json.specs.View.{view, members_view};
-ghost use Rattle.serde_json.specs.Find.{get_member};
+ghost use Rattle.serde_json.specs.Find.{get_member, as_str, as_array};
 ghost use Rattle.ov_specs.specs.Tree.{has_real};
-ghost use Rattle.ov_specs.specs.Message.{message_of, call_or_note, not_null, request};
-ghost use Rattle.ov_rpc.specs.Message.{message_view};
+ghost use Rattle.ov_specs.specs.Message as rpc;
+ghost use Rattle.ov_specs.specs.Message.{not_null};
+ghost use Rattle.ov_rpc.specs.Message.{kind_view, message_view};
 
-use crate::message::Message;
+use crate::message::{BadKind, Message};
 use ov_base::{Text, Tree, Trees, has_real};
 use serde_json::{Map, Value};
 
-/// The call or the notification that a tree is.
+/// The message that a tree is: the first case that applies decides. What the tree has is moved and not copied.
 pub(crate) fn message_of(value: Value) -> Option<Message>
-    ensures { option_map message_view result ≡ option_and_then call_or_note (message_of (view value)) }
+    ensures { option_map message_view result ≡ rpc.message_of (view value) }
 {
-    if has_real(&value) {
+    if has_real_id(&value) {
         None
+    } else if has_real(&value) {
+        Some(bad(asker_of(value), BadKind::Reals))
+    } else if is_answer(&value) {
+        Some(Message::Answer)
     } else {
-        plain_message_of(value)
+        Some(request_of(value))
     }
 }
 
-/// The same of a tree without reals. What it has is moved and not copied.
-fn plain_message_of(value: Value) -> Option<Message>
-    requires { has_real (view value) ≡ false }
-    ensures { option_map message_view result ≡ option_and_then call_or_note (message_of (view value)) }
+/// A number inside the id that is no 64-bit integer.
+fn has_real_id(value: &Value) -> bool
+    ensures { result ≡ rpc.has_real_id (view value.now) }
+{
+    match value.get("id") {
+        Some(id) => has_real(id),
+        None => false,
+    }
+}
+
+/// A result or an error, and no method.
+fn is_answer(value: &Value) -> bool
+    ensures { result ≡ rpc.is_answer (view value.now) }
+{
+    value.get("method").is_none() && (value.get("result").is_some() || value.get("error").is_some())
+}
+
+/// Who asks, where the id has no reals.
+fn asker_of(value: Value) -> Option<Tree>
+    requires { rpc.has_real_id (view value) ≡ false }
+    ensures { result ≡ rpc.asker_of (view value) }
 {
     let Value::Object(mut members) = value else {
         return None;
     };
-    let Some(Value::String(method)) = taken(&mut members, "method") else {
-        return None;
+    asker(taken(&mut members, "id"))
+}
+
+/// A call, a notification, or a request that is built wrong: what a tree is that has no reals and is no answer.
+fn request_of(value: Value) -> Message
+    requires { has_real (view value) ≡ false }
+    ensures { message_view result ≡ rpc.request_in (view value) }
+{
+    let Value::Object(mut members) = value else {
+        return Message::Answer;
     };
-    let Some(Value::Array(params)) = taken(&mut members, "params") else {
-        return None;
-    };
-    let id = asker(taken(&mut members, "id"));
-    Some(request(id, Text::from_string(method), Trees::new(params)))
+    let method = text_of(taken(&mut members, "method"));
+    let params = items_of(taken(&mut members, "params"));
+    let asker = asker(taken(&mut members, "id"));
+    request(method, params, asker)
+}
+
+fn text_of(value: Option<Value>) -> Option<Text>
+    ensures { result ≡ option_and_then as_str (option_map view value) }
+{
+    match value {
+        Some(Value::String(text)) => Some(Text::from_string(text)),
+        _ => None,
+    }
+}
+
+fn items_of(value: Option<Value>) -> Option<Trees>
+    requires { ForSome value (λ v. has_real (view v) ≡ false) }
+    ensures { result ≡ option_and_then as_array (option_map view value) }
+{
+    match value {
+        Some(Value::Array(items)) => Some(Trees::new(items)),
+        _ => None,
+    }
 }
 
 /// Who asks, by the member `id`: nobody where it is null or absent.
@@ -50,12 +98,25 @@ fn asker(id: Option<Value>) -> Option<Tree>
     }
 }
 
-fn request(id: Option<Tree>, method: Text, params: Trees) -> Message
-    ensures { message_view result ≡ request (Some method) (Some params) id }
+fn request(method: Option<Text>, params: Option<Trees>, asker: Option<Tree>) -> Message
+    ensures { message_view result ≡ rpc.request method params asker }
 {
-    match id {
+    let (Some(method), Some(params)) = (method, params) else {
+        return bad(asker, BadKind::Syntax);
+    };
+    match asker {
         Some(id) => Message::Call { id, method, params },
         None => Message::Note { method, params },
+    }
+}
+
+/// What is wrong is told to who asked; where nobody did, nothing is.
+fn bad(asker: Option<Tree>, kind: BadKind) -> Message
+    ensures { message_view result ≡ rpc.bad asker (kind_view kind) }
+{
+    match asker {
+        Some(id) => Message::Bad { id, kind },
+        None => Message::Answer,
     }
 }
 

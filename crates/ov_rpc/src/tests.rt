@@ -1,11 +1,11 @@
-use crate::{Message, RpcFault, failure, note, reply};
+use crate::{BadKind, Message, RpcFault, failure, note, reply};
 use ov_base::{Text, Tree, Trees, has_real};
 use serde_json::{Value, json};
 use std::alloc::{AllocError, Global};
 use std::process::Abort;
 use std::test::Fail;
 
-/// The message of a text in words: `call ID METHOD PARAMS`, `note METHOD PARAMS` or `unreadable`.
+/// The message of a text in words: `call ID METHOD PARAMS`, `note METHOD PARAMS`, `answer`, `bad ID KIND` or `unreadable`.
 fn words(alloc: Global, text: &[u8]) -> Result<Vec<u8>, AllocError> {
     let message = match Message::read(alloc, text) {
         Ok(message) => message,
@@ -25,10 +25,14 @@ fn words(alloc: Global, text: &[u8]) -> Result<Vec<u8>, AllocError> {
             say(alloc, &mut out, &method, &params)?;
         }
         Message::Answer => out.extend_from_slice(b"answer")?,
-        Message::Bad {
-            id: _id,
-            kind: _kind,
-        } => out.extend_from_slice(b"bad")?,
+        Message::Bad { id, kind } => {
+            out.extend_from_slice(b"bad ")?;
+            out.extend_from_slice(id.to_bytes(alloc)?.as_slice())?;
+            out.extend_from_slice(match kind {
+                BadKind::Syntax => b" syntax",
+                BadKind::Reals => b" reals",
+            })?;
+        }
     }
     Ok(out)
 }
@@ -148,28 +152,83 @@ fn the_last_of_several_members_of_one_name_counts(rt: HostRuntime) -> Result<(),
 }
 
 #[test]
-fn an_object_that_is_not_built_as_a_request_is_unreadable(rt: HostRuntime) -> Result<(), Fail> {
+fn a_request_that_is_built_wrong_is_told_to_who_asked(rt: HostRuntime) -> Result<(), Fail> {
     let cases = [
-        ("{\"id\":1,\"params\":[]}", "unreadable"),
-        ("{\"id\":1,\"method\":\"m\"}", "unreadable"),
-        ("{\"id\":1,\"method\":7,\"params\":[]}", "unreadable"),
-        ("{\"id\":1,\"method\":\"m\",\"params\":{}}", "unreadable"),
-        ("{\"id\":1,\"result\":[],\"error\":null}", "unreadable"),
-        // a real outside the id
-        ("{\"id\":1,\"method\":\"m\",\"params\":[0.5]}", "unreadable"),
+        ("{\"id\":1,\"params\":[]}", "bad 1 syntax"),
+        ("{\"id\":1,\"method\":\"m\"}", "bad 1 syntax"),
+        ("{\"id\":1,\"method\":7,\"params\":[]}", "bad 1 syntax"),
         (
-            "{\"id\":1,\"method\":\"m\",\"params\":[],\"x\":0.5}",
-            "unreadable",
+            "{\"id\":[\"a\"],\"method\":\"m\",\"params\":{}}",
+            "bad [\"a\"] syntax",
+        ),
+        // a method that is null is there, so a result beside it makes no answer
+        (
+            "{\"id\":1,\"method\":null,\"params\":[],\"result\":0}",
+            "bad 1 syntax",
+        ),
+        // nobody asked
+        ("{\"method\":7,\"params\":[]}", "answer"),
+        ("{\"id\":null,\"method\":\"m\",\"params\":null}", "answer"),
+        ("{}", "answer"),
+        ("[]", "answer"),
+    ];
+    are_read(&rt, rt.alloc(), &cases)
+}
+
+#[test]
+fn a_result_or_an_error_without_a_method_is_an_answer(rt: HostRuntime) -> Result<(), Fail> {
+    let cases = [
+        ("{\"id\":1,\"result\":[],\"error\":null}", "answer"),
+        ("{\"error\":\"x\"}", "answer"),
+        ("{\"id\":1,\"result\":null,\"params\":[]}", "answer"),
+    ];
+    are_read(&rt, rt.alloc(), &cases)
+}
+
+#[test]
+fn a_real_outside_the_id_is_told_to_who_asked(rt: HostRuntime) -> Result<(), Fail> {
+    let cases = [
+        (
+            "{\"id\":1,\"method\":\"m\",\"params\":[0.5]}",
+            "bad 1 reals",
+        ),
+        (
+            "{\"id\":1,\"method\":\"m\",\"params\":[{\"a\":[-0]}]}",
+            "bad 1 reals",
+        ),
+        (
+            "{\"id\":1,\"method\":\"m\",\"params\":[9223372036854775808]}",
+            "bad 1 reals",
+        ),
+        (
+            "{\"id\":\"a\",\"method\":\"m\",\"params\":[],\"x\":1e0}",
+            "bad \"a\" reals",
+        ),
+        // also where the text is built wrong, or is an answer
+        ("{\"id\":1,\"params\":0.5}", "bad 1 reals"),
+        ("{\"id\":1,\"result\":0.5}", "bad 1 reals"),
+        // nobody asked
+        ("{\"method\":\"m\",\"params\":[0.5]}", "answer"),
+        ("{\"id\":null,\"method\":\"m\",\"params\":[0.5]}", "answer"),
+        ("[0.5]", "answer"),
+        // a later member of the same name replaces it
+        (
+            "{\"id\":1,\"method\":\"m\",\"params\":[0.5],\"params\":[]}",
+            "call 1 m []",
         ),
     ];
     are_read(&rt, rt.alloc(), &cases)
 }
 
 #[test]
-fn a_text_that_is_no_object_of_json_is_unreadable(rt: HostRuntime) -> Result<(), Fail> {
+fn a_text_that_is_no_json_is_unreadable(rt: HostRuntime) -> Result<(), Fail> {
     let cases = [
-        ("[]", "unreadable"),
         ("", "unreadable"),
+        // a number that no value is read of
+        (
+            "{\"id\":1,\"method\":\"m\",\"params\":[1e999]}",
+            "unreadable",
+        ),
         ("{\"id\":1,\"method\":\"m\",\"params\":[]}{}", "unreadable"),
         ("{\"id\":1,\"method\":\"m\",\"params\":[],}", "unreadable"),
         // surrogates that stand alone

@@ -8,6 +8,8 @@ use Rattle.std.proofs.lemmas.Bool.{eq-eqb, false≢true}
 use Rattle.ov_specs.specs.Message.{Message, asked}
 use Rattle.ov_specs.specs.Machine as machine
 use Rattle.ov_specs.specs.Machine.{State, Sent, is_open, opening}
+use Rattle.ov_specs.specs.SchemaTypes.{Schema}
+use Rattle.ov_specs.specs.Database.{Database}
 use Rattle.ov_specs.specs.History.{joined, frames_to, closed_by}
 use Rattle.ov_specs.specs.Streams.{StreamEvent, Opens, Feed, Streams, no_streams, fed, Feeds, Expands, ExpandsTimed}
 use Rattle.ov_specs.proofs.Expanding.{one_after_another, one_event}
@@ -62,11 +64,11 @@ writes_of_all false frames waits all said said' is none (some, told, (others, be
     (some, told, (others ++ joined waits, sym (append_assoc some others (joined waits)) ∙ (ap (λ (bytes : List ℕ). bytes ++ joined waits) begins ∙ (sym (joined-append frames waits) ∙ ap joined (sym is)))))
 
 -- what a history from an opening says, by the frames that were handed out
-ends_as : {K D : Type 0} (n : ℕ) (cause : Cause) (old new : Running K D) (name : List ℕ) (history entries : List machine.Entry) (given : ℕ → List (List ℕ)) (frames : List (List ℕ)) (said said' : List ℕ) → n ≡ old.state.next
-    → Follows (opening name) history given old → Follows (opening name) (history ++ entries) (and_all_handed given n frames) new → WritesOf (is_written cause) (joined frames) said said' → (is_written cause ≡ true → waiting_for n new.waiting ≡ [])
-    → IsTold cause (closed_by entries n) → EndsAs n cause name (history ++ entries) said said'
-ends_as n cause old new name history entries given frames said said' serial f f' written none_left told =
-    let to_come = next_is_unopened name history (record { state = old.state; sent = f.sent }) n serial f.legal in
+ends_as : {K D : Type 0} (n : ℕ) (cause : Cause) (old new : Running K D) (schema : Schema) (database : Database) (history entries : List machine.Entry) (given : ℕ → List (List ℕ)) (frames : List (List ℕ)) (said said' : List ℕ) → n ≡ old.state.next
+    → Follows (opening schema database) history given old → Follows (opening schema database) (history ++ entries) (and_all_handed given n frames) new → WritesOf (is_written cause) (joined frames) said said' → (is_written cause ≡ true → waiting_for n new.waiting ≡ [])
+    → IsTold cause (closed_by entries n) → EndsAs n cause schema database (history ++ entries) said said'
+ends_as n cause old new schema database history entries given frames said said' serial f f' written none_left told =
+    let to_come = next_is_unopened schema database history (record { state = old.state; sent = f.sent }) n serial f.legal in
     let none : given n ≡ [] = first_empty (given n) (waiting_for n old.waiting) (sym (f.issued n) ∙ to_come.silent) in
     record {
       reached = record { state = new.state; sent = f'.sent };
@@ -155,9 +157,9 @@ module _ {K D C : Type 0} (tells : C → ℕ → C → Type 0) (n : ℕ) (old : 
     shut = shut;
     written = done.written;
     none_left = none_left;
-    ends = λ name history given f.
-        ends_as n cause old b name history (done.entries ++ last) given done.frames from.written to.written done.serial f (goes_on_entering n old a b done.entries last done.frames done.goes enters (opening name) history given f) done.written none_left
-        (told (opening name) history given f);
+    ends = λ schema database history given f.
+        ends_as n cause old b schema database history (done.entries ++ last) given done.frames from.written to.written done.serial f (goes_on_entering n old a b done.entries last done.frames done.goes enters (opening schema database) history given f) done.written none_left
+        (told (opening schema database) history given f);
   }
 
 -- no entry was entered

@@ -1,5 +1,5 @@
 -- What a history does to sessions that are not open.
-use Rattle.std.proofs.Common.{◌≡◌, ◌≢◌, ℕ, ◌+◌, ◌≤◌, List, [], ◌∷◌, ◌++◌, map, refl, sym, ap, ◌∙◌, eqb, leb, Bool, true, false, Option, Some, None, inl, inr, arith}
+use Rattle.std.proofs.Common.{◌≡◌, ◌≢◌, ℕ, ◌+◌, ◌≤◌, List, [], ◌∷◌, ◌++◌, length, map, refl, sym, ap, ◌∙◌, cond, eqb, leb, Bool, true, false, Option, Some, None, inl, inr, arith}
 use Rattle.std.specs.Prelude.{◌&&◌, option_map, option_and_then}
 use Rattle.std.proofs.lemmas.List.{map-append}
 use Rattle.std.proofs.lemmas.List.Elements.{filter-append}
@@ -7,7 +7,11 @@ use Rattle.std.proofs.lemmas.Bool.{cases_eq, and_parts, ne_eqb, false≢true}
 use Rattle.serde_json.specs.Data.{Data}
 use Rattle.ov_specs.specs.Frame.{frame}
 use Rattle.ov_specs.specs.Message.{Message}
-use Rattle.ov_specs.specs.Machine.{State, Sent, Entry, Event, Open, Take, Close, Tick, Cause, Outcome, NoMemory, Kept, Exhausted, Failed, Listed, listed, Stepped, step, happens, takes, attempted, closed, when, is_open, is_quiet, replies_to, to_session, none_listed, none_drawn, opening}
+use Rattle.ov_specs.specs.Machine.{State, Sent, Entry, Event, Open, Take, Close, Tick, Cause, Outcome, NoMemory, Kept, Exhausted, Failed, Listed, listed, Stepped, step, happens, takes, attempted, closed, when, is_open, is_quiet, to_session, none_listed, opening, Work, Answers, Transact, work_of, works, transacts, changes, commits, answers, results_of, suits_draws}
+use Rattle.ov_specs.specs.Database.{Database, is_database}
+use Rattle.ov_specs.specs.SchemaTypes.{Schema}
+use Rattle.ov_specs.specs.Transaction.{draws_wanted, Transacted, transaction, exhausted, failed}
+use Rattle.ov_specs.specs.Uuid.{Uuid}
 use Rattle.ov_specs.specs.History.{run, then_sends, frames_to, closes, closed_by, or_else}
 use Rattle.ov_specs.proofs.Turns.{turn_open, turn_tick, turn_close, turn_close_other, turn_take, turn_take_other}
 use Rattle.ov_core.proofs.Answered.{frames_to-to_session}
@@ -35,14 +39,43 @@ now s e = record s { moment = e.choice.moment }
 happened : (s : State) (e : Entry) (t : Stepped) (what : Event) → e.event ≡ what → step s e ≡ Some t → happens (now s e) e.choice what ≡ Some t
 happened s e t what is h = (suits (leb s.moment e.choice.moment) (happens (now s e) e.choice what) t (sym (ap (λ v. when (leb s.moment e.choice.moment) (happens (now s e) e.choice v)) is) ∙ h)).1
 
+-- what is sent to one session is nothing to another
+sends_aside : (x t : Stepped) (m : ℕ) (trees : List Data) → x.sent ≡ to_session m trees → Some x ≡ Some t → (n : ℕ) → n ≢ m → frames_to n t.sent ≡ []
+sends_aside x t m trees sent h n other =
+    ap (λ (v : Stepped). frames_to n v.sent) (sym (the_same x t h)) ∙ (ap (frames_to n) sent ∙ (frames_to-to_session m n trees ∙ rw (ne_eqb n m other) refl))
+
 -- an attempt sends nothing to another session
 attempt_aside : (s : State) (m : ℕ) (trees : List Data) (o : Option Outcome) (t : Stepped) → attempted s m trees o ≡ Some t → (n : ℕ) → n ≢ m → frames_to n t.sent ≡ []
-attempt_aside s m trees None t h n other =
-    ap (λ (v : Stepped). frames_to n v.sent) (sym (the_same (record { state = s; sent = to_session m trees }) t h)) ∙ (frames_to-to_session m n trees ∙ rw (ne_eqb n m other) refl)
+attempt_aside s m trees None t h n other = sends_aside (record { state = s; sent = to_session m trees }) t m trees refl h n other
 attempt_aside s m trees (Some NoMemory) t h n other = ap (λ (v : Stepped). frames_to n v.sent) (sym (the_same (closed s m) t h))
 attempt_aside s m trees (Some Kept) t h n other = cc
 attempt_aside s m trees (Some Exhausted) t h n other = cc
 attempt_aside s m trees (Some Failed) t h n other = cc
+
+-- nor does a commit
+commit_aside : (s : State) (m : ℕ) (id : Data) (r : Transacted) (o : Option Outcome) (t : Stepped) → commits s m id r o ≡ Some t → (n : ℕ) → n ≢ m → frames_to n t.sent ≡ []
+commit_aside s m id r None t h n other = cc
+commit_aside s m id r (Some Kept) t h n other = sends_aside (answers (record s { database = r.database }) m id r.results) t m (results_of id r.results) refl h n other
+commit_aside s m id r (Some Exhausted) t h n other = sends_aside (answers s m id (exhausted r.results)) t m (results_of id (exhausted r.results)) refl h n other
+commit_aside s m id r (Some Failed) t h n other = sends_aside (answers (record s { sealed = Some r.database }) m id (failed r.results)) t m (results_of id (failed r.results)) refl h n other
+commit_aside s m id r (Some NoMemory) t h n other = ap (λ (v : Stepped). frames_to n v.sent) (sym (the_same (closed s m) t h))
+
+-- nor does a transaction that would change the database
+change_aside : (s : State) (m : ℕ) (id : Data) (r : Transacted) (sealed : Option Database) (o : Option Outcome) (t : Stepped) → changes s m id r sealed o ≡ Some t → (n : ℕ) → n ≢ m → frames_to n t.sent ≡ []
+change_aside s m id r None o t h n other = commit_aside s m id r o t h n other
+change_aside s m id r (Some d) o t h n other = attempt_aside s m (results_of id (failed r.results)) o t h n other
+
+-- nor does any transaction
+transact_aside : (s : State) (m : ℕ) (id : Data) (r : Transacted) (o : Option Outcome) (t : Stepped) (b : Bool) → cond b (attempted s m (results_of id r.results) o) (changes s m id r s.sealed o) ≡ Some t → (n : ℕ) → n ≢ m → frames_to n t.sent ≡ []
+transact_aside s m id r o t true h n other = attempt_aside s m (results_of id r.results) o t h n other
+transact_aside s m id r o t false h n other = change_aside s m id r s.sealed o t h n other
+
+-- nor does any work
+work_aside : (s : State) (m : ℕ) (draws : List Uuid) (o : Option Outcome) (w : Work) (t : Stepped) → works s m draws o w ≡ Some t → (n : ℕ) → n ≢ m → frames_to n t.sent ≡ []
+work_aside s m draws o (Answers trees) t h n other = attempt_aside s m trees o t (suits (suits_draws o (length draws) 0) (attempted s m trees o) t h).1 n other
+work_aside s m draws o (Transact id operations) t h n other =
+    let r : Transacted = transaction s.schema s.database draws operations in
+    transact_aside s m id r o t (is_database s.database r.database) (suits (suits_draws o (length draws) (draws_wanted operations)) (transacts s m id r o) t h).1 n other
 
 module _ (s : State) (e : Entry) (t : Stepped) (h : step s e ≡ Some t) where
   -- an opening sends nothing
@@ -77,9 +110,9 @@ module _ (s : State) (e : Entry) (t : Stepped) (h : step s e ≡ Some t) where
   take_aside : (m : ℕ) (message : Message) → e.event ≡ Take m message → (n : ℕ) → n ≢ m → frames_to n t.sent ≡ []
   take_aside m message is =
       let first : Listed = listed 1 e.choice.outcomes in
-      let trees : List Data = replies_to (now s e) message in
-      attempt_aside (now s e) m trees first.outcome t
-      (suits (none_listed first.others && none_drawn e.choice) (attempted (now s e) m trees first.outcome) t (taking_makes m message is).1).1
+      let work : Option Stepped = works (now s e) m e.choice.draws first.outcome (work_of (now s e) message) in
+      work_aside (now s e) m e.choice.draws first.outcome (work_of (now s e) message) t
+      (suits (none_listed first.others) work t (taking_makes m message is).1).1
 
 -- ---- a session that is still to come
 
@@ -226,5 +259,5 @@ unopened n s (e ∷ h) t to_come r high =
     }
 
 -- a history from its opening says nothing of the next session
-pub next_is_unopened : (name : List ℕ) (h : List Entry) (t : Stepped) (n : ℕ) → n ≡ t.state.next → run (opening name) h ≡ Some t → Unopened n (opening name) h t
-next_is_unopened name h t n is r = unopened n (opening name) h t (λ low. refl) r (omega arith)
+pub next_is_unopened : (schema : Schema) (database : Database) (h : List Entry) (t : Stepped) (n : ℕ) → n ≡ t.state.next → run (opening schema database) h ≡ Some t → Unopened n (opening schema database) h t
+next_is_unopened schema database h t n is r = unopened n (opening schema database) h t (λ low. refl) r (omega arith)

@@ -3,6 +3,8 @@ use Rattle.std.specs.Prelude.{◌≡◌, ◌⊎◌, ◌≤◌, ℕ, List, [], �
 use Rattle.std.specs.List.{All, flat_map}
 use Rattle.ov_specs.specs.Machine as machine
 use Rattle.ov_specs.specs.Machine.{State, is_open, opening}
+use Rattle.ov_specs.specs.SchemaTypes.{Schema}
+use Rattle.ov_specs.specs.Database.{Database}
 use Rattle.ov_specs.specs.History.{run, joined, out, closed_by}
 use Rattle.ov_specs.specs.Streams as streams
 use Rattle.ov_specs.specs.Streams.{StreamEvent, Opens, Feed, Streams, no_streams, ExpandsTimed}
@@ -110,9 +112,9 @@ is_written Memory = true
 -- What a history from an opening says of a session at its end, by the bytes that were written before it and behind it: all
 -- that the history sends the session was written, or a beginning of that where a write failed; and the history closes the
 -- session for the cause that is told (own).
-pub record EndsAs (n : ℕ) (cause : Cause) (name : List ℕ) (history : List machine.Entry) (said said' : List ℕ) : Type 0 where
+pub record EndsAs (n : ℕ) (cause : Cause) (schema : Schema) (database : Database) (history : List machine.Entry) (said said' : List ℕ) : Type 0 where
   pub reached : machine.Stepped
-  pub legal : run (opening name) history ≡ Some reached
+  pub legal : run (opening schema database) history ≡ Some reached
   pub written : WritesOf (is_written cause) (out n reached.sent) said said'
   pub told : IsTold cause (closed_by history n)
 
@@ -140,8 +142,8 @@ pub record Served {K D C : Type 0} (tells : C → ℕ → C → Type 0) (n : ℕ
   pub written : WritesOf (is_written cause) (joined frames) from.written to.written
   pub none_left : is_written cause ≡ true → waiting_for n new.waiting ≡ []
   -- whatever history the core has followed from its opening, this is what it says of the session with the entries behind it
-  pub ends : (name : List ℕ) (history : List machine.Entry) (given : ℕ → List (List ℕ)) → Follows (opening name) history given old
-      → EndsAs n cause name (history ++ entries) from.written to.written
+  pub ends : (schema : Schema) (database : Database) (history : List machine.Entry) (given : ℕ → List (List ℕ)) → Follows (opening schema database) history given old
+      → EndsAs n cause schema database (history ++ entries) from.written to.written
 
 -- What the ends tell of a cause: the input ended only where the reader met its end, and a failure is counted where one is told
 -- and nowhere else (own).

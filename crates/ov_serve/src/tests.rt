@@ -1,7 +1,7 @@
 use super::*;
 use ov_base::{Text, Tree, has_real};
-use ov_core::early::{Draws, ListKeeper, Schema};
-use ov_core::{Cause, Core};
+use ov_core::early::{Draws, ListKeeper};
+use ov_core::{Cause, Core, Schema};
 use serde_json::Value;
 use std::alloc::Global;
 use std::io;

@@ -1,23 +1,25 @@
 ghost use Rattle.std.specs.Prelude.{◌≡◌, [], Some, IfSome, codes};
+ghost use Rattle.std.specs.FinMap.{empty};
 ghost use Rattle.serde_json.specs.Read.{read};
 ghost use Rattle.serde_json.specs.Written.{compact_text};
 ghost use Rattle.ov_specs.specs.Machine.{opening};
 ghost use Rattle.ov_core.specs.Following.{Follows, none_given};
 
 use ov_base::{Text, Tree, has_real};
-use ov_core::Core;
-use ov_core::early::{Draws, ListKeeper, Schema};
+use ov_core::early::{Draws, ListKeeper};
+use ov_core::{Core, Schema};
 use serde_json::Value;
 use std::alloc::Global;
 
-/// The schema that is served: one table, of switches.
+/// The schema that is served: switches and their ports.
 const SCHEMA: &str =
-    "{\"name\":\"Net\",\"tables\":{\"Switch\":{\"columns\":{\"load\":{\"type\":\"integer\"},\"name\":{\"type\":\"string\"}}}},\"version\":\"1.0.0\"}";
+    "{\"name\":\"Net\",\"tables\":{\"Port\":{\"columns\":{\"name\":{\"type\":\"string\"},\"peer\":{\"type\":{\"key\":{\"refTable\":\"Port\",\"type\":\"uuid\"},\"max\":1,\"min\":0}},\"tag\":{\"type\":{\"key\":{\"maxInteger\":4095,\"minInteger\":0,\"type\":\"integer\"},\"max\":1,\"min\":0}}}},\"Switch\":{\"columns\":{\"load\":{\"type\":\"integer\"},\"main\":{\"type\":{\"key\":{\"refTable\":\"Port\",\"refType\":\"weak\",\"type\":\"uuid\"},\"max\":1,\"min\":0}},\"name\":{\"type\":\"string\"},\"ports\":{\"type\":{\"key\":{\"refTable\":\"Port\",\"type\":\"uuid\"},\"max\":\"unlimited\",\"min\":0}}},\"indexes\":[[\"name\"]],\"isRoot\":true}},\"version\":\"1.0.0\"}";
 
 /// An empty database in memory, under the schema that is served. None where memory is refused.
 pub fn open_database<D: Draws + Drop>(alloc: Global, draws: D) -> Option<Core<ListKeeper, D>>
-    ensures start { IfSome result (λ core. Follows (opening (codes "Net")) [] none_given core) }
-    ensures schema { IfSome result (λ core. read SCHEMA.now ≡ Some core.schema.tree) }
+    ensures start { IfSome result (λ core. Follows (opening core.state.schema empty) [] none_given core) }
+    ensures name { IfSome result (λ core. core.state.schema.name ≡ codes "Net") }
+    ensures schema { IfSome result (λ core. read SCHEMA.now ≡ Some core.state.schema.tree) }
     ensures source { IfSome result (λ core. core.source ≡ draws) }
 {
     let schema = served_schema(alloc)?;

@@ -14,6 +14,8 @@ pub mod SchemaLaws
 mod ValueRows
 mod SchemaRows
 mod TransactionRows
+mod ConditionRows
+mod MutatorRows
 pub mod Expanding
 pub mod CutLaw
 pub mod Turns

@@ -2,14 +2,21 @@
 use Rattle.std.proofs.Common.{◌≡◌, ◌∷◌, [], List, ℕ, codes, Option, Some, None, refl, option_map}
 use Rattle.std.specs.Fmt.{digits}
 use Rattle.serde_json.proofs.OnLiterals.{serde_json_on_literals}
-use Rattle.serde_json.specs.Data.{number, unsigned, string, object, no_members, item, no_items}
+use Rattle.std.specs.FinMap.{empty}
+use Rattle.ov_specs.specs.SchemaTypes.{Schema}
+use Rattle.serde_json.specs.Data.{null, number, unsigned, string, object, no_members, item, no_items}
 use Rattle.ov_specs.specs.Message.{Message, Call, Note}
 use Rattle.ov_specs.specs.Frame.{frame, note_tree}
 use Rattle.ov_specs.specs.Machine.{State, Event, Open, Take, Close, Tick, InputEnded, Memory, NoMemory, Kept, Entry, step, opening}
 use Rattle.ov_specs.specs.History.{run, out, requests, closed_by}
 
+-- a schema of this name, without tables
+abbrev net_schema : Schema
+net_schema = record { name = codes "Net"; version = None; tables = empty; tree = null }
+
+-- before any event, without rows
 abbrev net : State
-net = opening (codes "Net")
+net = opening net_schema empty
 
 -- with session 1 open
 abbrev with_session : State

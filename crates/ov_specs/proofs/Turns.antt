@@ -1,5 +1,5 @@
 -- What one entry makes of one session.
-use Rattle.std.proofs.Common.{◌≡◌, ◌≢◌, ℕ, ◌+◌, List, [], ◌∷◌, ◌++◌, refl, sym, ap, ◌∙◌, append_assoc, cond, eqb, leb, Bool, true, false, Option, Some, None, ◌⊎◌, inl, inr}
+use Rattle.std.proofs.Common.{◌≡◌, ◌≢◌, ℕ, ◌+◌, List, [], ◌∷◌, ◌++◌, length, refl, sym, ap, ◌∙◌, append_assoc, cond, eqb, leb, Bool, true, false, Option, Some, None, ◌⊎◌, inl, inr}
 use Rattle.std.specs.Prelude.{not, ◌||◌, ◌&&◌, filter}
 use Rattle.std.specs.List.{list_any}
 use Rattle.std.proofs.lemmas.List.{append-nil}
@@ -7,7 +7,10 @@ use Rattle.std.proofs.lemmas.List.Folds.{list_any-append}
 use Rattle.std.proofs.lemmas.Map.Views.{any-filter_same}
 use Rattle.std.proofs.lemmas.Bool.{eq-eqb, eqb-true, ne_eqb, not_from_true, not_from_false}
 use Rattle.ov_specs.specs.Message.{Message}
-use Rattle.ov_specs.specs.Machine.{State, Entry, Event, Open, Take, Close, Tick, Cause, Memory, Outcome, NoMemory, Kept, Exhausted, Failed, Listed, listed, Stepped, step, happens, takes, attempted, closed, when, is_open, is_quiet, without, replies_to, to_session, none_listed, none_drawn}
+use Rattle.ov_specs.specs.Database.{Database, is_database}
+use Rattle.ov_specs.specs.Transaction.{draws_wanted, Transacted, transaction, exhausted, failed}
+use Rattle.ov_specs.specs.Uuid.{Uuid}
+use Rattle.ov_specs.specs.Machine.{State, Entry, Event, Open, Take, Close, Tick, Cause, Memory, Outcome, NoMemory, Kept, Exhausted, Failed, Listed, listed, Stepped, step, happens, takes, attempted, closed, when, is_open, is_quiet, without, to_session, none_listed, Work, Answers, Transact, work_of, works, transacts, changes, commits, answers, results_of, suits_draws}
 use Rattle.ov_specs.specs.History.{requests, taken_by, closes, closed_by, or_else, gives_up}
 use Rattle.serde_json.specs.Data.{Data}
 
@@ -133,26 +136,57 @@ module _ (n : ℕ) (s : State) (e : Entry) (t : Stepped) (h : step s e ≡ Some 
         cause_is = ap (λ v. closes n v (listed 1 e.choice.outcomes)) is ∙ ap (λ b. cond b (Some cause) None) (ne_eqb m n ne);
       }
 
--- what is left of the work on a message: the session is closed for want of memory, or nothing changes
+-- what is left of the work on a message: the session is closed for want of memory, or the sessions stay
 abbrev Worked : State → ℕ → Option Outcome → State → Type 0
-Worked s m o t = ((t ≡ s) × (gives_up o ≡ None)) ⊎ ((t ≡ without m s) × (gives_up o ≡ Some Memory))
+Worked s m o t = ((t.sessions ≡ s.sessions) × (t.next ≡ s.next) × (gives_up o ≡ None)) ⊎ ((t ≡ without m s) × (gives_up o ≡ Some Memory))
+
+-- an answer at once
+stays : (s : State) (m : ℕ) (o : Option Outcome) (x t : Stepped) → x.state.sessions ≡ s.sessions → x.state.next ≡ s.next → gives_up o ≡ None → Some x ≡ Some t → Worked s m o t.state
+stays s m o x t sessions next gives h =
+    let same : x ≡ t = the_same x t h in
+    inl (ap (λ (v : Stepped). v.state.sessions) (sym same) ∙ sessions, ap (λ (v : Stepped). v.state.next) (sym same) ∙ next, gives)
 
 -- an attempt leaves so much
 worked : (s : State) (m : ℕ) (trees : List Data) (o : Option Outcome) (t : Stepped) → attempted s m trees o ≡ Some t → Worked s m o t.state
-worked s m trees None t h = inl (ap (λ (v : Stepped). v.state) (sym (the_same (record { state = s; sent = to_session m trees }) t h)), refl)
+worked s m trees None t h = stays s m None (record { state = s; sent = to_session m trees }) t refl refl refl h
 worked s m trees (Some NoMemory) t h = inr (ap (λ (v : Stepped). v.state) (sym (the_same (closed s m) t h)), refl)
 worked s m trees (Some Kept) t h = cc
 worked s m trees (Some Exhausted) t h = cc
 worked s m trees (Some Failed) t h = cc
+
+-- a commit leaves so much
+committed : (s : State) (m : ℕ) (id : Data) (r : Transacted) (o : Option Outcome) (t : Stepped) → commits s m id r o ≡ Some t → Worked s m o t.state
+committed s m id r None t h = cc
+committed s m id r (Some Kept) t h = stays s m (Some Kept) (answers (record s { database = r.database }) m id r.results) t refl refl refl h
+committed s m id r (Some Exhausted) t h = stays s m (Some Exhausted) (answers s m id (exhausted r.results)) t refl refl refl h
+committed s m id r (Some Failed) t h = stays s m (Some Failed) (answers (record s { sealed = Some r.database }) m id (failed r.results)) t refl refl refl h
+committed s m id r (Some NoMemory) t h = inr (ap (λ (v : Stepped). v.state) (sym (the_same (closed s m) t h)), refl)
+
+-- a transaction that would change the database leaves so much
+changed : (s : State) (m : ℕ) (id : Data) (r : Transacted) (sealed : Option Database) (o : Option Outcome) (t : Stepped) → changes s m id r sealed o ≡ Some t → Worked s m o t.state
+changed s m id r None o t h = committed s m id r o t h
+changed s m id r (Some d) o t h = worked s m (results_of id (failed r.results)) o t h
+
+-- a transaction leaves so much
+transacted : (s : State) (m : ℕ) (id : Data) (r : Transacted) (o : Option Outcome) (t : Stepped) (b : Bool) → cond b (attempted s m (results_of id r.results) o) (changes s m id r s.sealed o) ≡ Some t → Worked s m o t.state
+transacted s m id r o t true h = worked s m (results_of id r.results) o t h
+transacted s m id r o t false h = changed s m id r s.sealed o t h
+
+-- the work on a message leaves so much
+any_work : (s : State) (m : ℕ) (draws : List Uuid) (o : Option Outcome) (w : Work) (t : Stepped) → works s m draws o w ≡ Some t → Worked s m o t.state
+any_work s m draws o (Answers trees) t h = worked s m trees o t (suits (suits_draws o (length draws) 0) (attempted s m trees o) t h)
+any_work s m draws o (Transact id operations) t h =
+    let r : Transacted = transaction s.schema s.database draws operations in
+    transacted s m id r o t (is_database s.database r.database) (suits (suits_draws o (length draws) (draws_wanted operations)) (transacts s m id r o) t h)
 
 module _ (n : ℕ) (s : State) (e : Entry) (t : Stepped) (h : step s e ≡ Some t) where
   -- the state after the work on a message
   after_take : (m : ℕ) (message : Message) → e.event ≡ Take m message → Worked (now s e) m (listed 1 e.choice.outcomes).outcome t.state
   after_take m message is =
       let first : Listed = listed 1 e.choice.outcomes in
-      let work : Option Stepped = attempted (now s e) m (replies_to (now s e) message) first.outcome in
+      let work : Option Stepped = works (now s e) m e.choice.draws first.outcome (work_of (now s e) message) in
       let k = suits (is_open s m) (takes (now s e) e.choice m message first) t (stepped s e t (Take m message) is h) in
-      worked (now s e) m (replies_to (now s e) message) first.outcome t (suits (none_listed first.others && none_drawn e.choice) work t k)
+      any_work (now s e) m e.choice.draws first.outcome (work_of (now s e) message) t (suits (none_listed first.others) work t k)
 
   -- a message of the session is taken, and may close it
   pub turn_take : (message : Message) → e.event ≡ Take n message → Turn n e t.state (is_open s n) s.next (message ∷ []) None ⊎ Turn n e t.state false s.next (message ∷ []) (Some Memory)
@@ -162,7 +196,7 @@ module _ (n : ℕ) (s : State) (e : Entry) (t : Stepped) (h : step s e ≡ Some 
       let o : Option Outcome = (listed 1 e.choice.outcomes).outcome in
       let cause : closes n e.event (listed 1 e.choice.outcomes) ≡ gives_up o = ap (λ v. closes n v (listed 1 e.choice.outcomes)) is ∙ ap (λ b. cond b (gives_up o) None) own in
       elim (after_take n message is) [
-        | inl w ↦ inl (record { open_is = ap (λ (v : State). is_open v n) w.0; next_is = ap (λ (v : State). v.next) w.0; taken_is = taken; cause_is = cause ∙ w.1 })
+        | inl w ↦ inl (record { open_is = ap (λ xs. list_any (λ k. eqb k n) xs) w.0; next_is = w.1; taken_is = taken; cause_is = cause ∙ w.2 })
         | inr w ↦ inr (record { open_is = ap (λ (v : State). is_open v n) w.0 ∙ none_left n s.sessions; next_is = ap (λ (v : State). v.next) w.0; taken_is = taken; cause_is = cause ∙ w.1 })
       ]
 
@@ -174,6 +208,6 @@ module _ (n : ℕ) (s : State) (e : Entry) (t : Stepped) (h : step s e ≡ Some 
       let o : Option Outcome = (listed 1 e.choice.outcomes).outcome in
       let cause : closes n e.event (listed 1 e.choice.outcomes) ≡ None = ap (λ v. closes n v (listed 1 e.choice.outcomes)) is ∙ ap (λ b. cond b (gives_up o) None) other in
       elim (after_take m message is) [
-        | inl w ↦ record { open_is = ap (λ (v : State). is_open v n) w.0; next_is = ap (λ (v : State). v.next) w.0; taken_is = taken; cause_is = cause }
+        | inl w ↦ record { open_is = ap (λ xs. list_any (λ k. eqb k n) xs) w.0; next_is = w.1; taken_is = taken; cause_is = cause }
         | inr w ↦ record { open_is = ap (λ (v : State). is_open v n) w.0 ∙ others_left n m s.sessions ne; next_is = ap (λ (v : State). v.next) w.0; taken_is = taken; cause_is = cause }
       ]

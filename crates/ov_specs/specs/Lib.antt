@@ -16,6 +16,8 @@ pub mod Method
 pub mod Lines
 pub mod Database
 pub mod Operation
+pub mod Conditions
+pub mod Mutators
 pub mod Transaction
 pub mod Machine
 pub mod History

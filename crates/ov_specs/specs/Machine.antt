@@ -1,10 +1,14 @@
 -- The machine: what one event makes of its state and what it sends, given what the outside chose (own, over RFC 7047, 4).
-use Rattle.std.specs.Prelude.{ℕ, ◌+◌, ◌==◌, ◌&&◌, not, nat_le, List, [], ◌∷◌, ◌++◌, length, map, filter, Bool, if◌then◌else◌, Option, Some, None}
+use Rattle.std.specs.Prelude.{◌≡◌, ◌⊎◌, ℕ, ◌+◌, ◌==◌, ◌&&◌, not, nat_le, List, [], ◌∷◌, ◌++◌, length, map, filter, Bool, if◌then◌else◌, Option, Some, None, codes}
 use Rattle.std.specs.List.{list_any}
-use Rattle.serde_json.specs.Data.{Data}
+use Rattle.serde_json.specs.Data.{Data, array, Items, no_items, item}
+use Rattle.serde_json.specs.Find.{as_str}
+use Rattle.ov_specs.specs.Database.{Database, is_database}
 use Rattle.ov_specs.specs.Message.{Message, Call, Note, Answer, Bad}
-use Rattle.ov_specs.specs.Frame.{failure_tree}
-use Rattle.ov_specs.specs.Method.{reply_to, bad_text}
+use Rattle.ov_specs.specs.Frame.{reply_tree, failure_tree}
+use Rattle.ov_specs.specs.Method.{is_text, reply_to, bad_text}
+use Rattle.ov_specs.specs.SchemaTypes.{Schema}
+use Rattle.ov_specs.specs.Transaction.{draws_wanted, Transacted, transaction, exhausted, failed}
 use Rattle.ov_specs.specs.Uuid.{Uuid}
 
 -- ---- what happens, and what the outside chose
@@ -53,14 +57,20 @@ pub record Entry : Type 0 where
 
 -- what the machine knows between two events (own)
 pub record State : Type 0 where
-  pub name : List ℕ  -- of the database
+  pub schema : Schema  -- of the database
+  pub database : Database  -- as it was committed
+  pub sealed : Option Database  -- after a commit that failed, the database that it would have made: nothing is committed any more
   pub sessions : List ℕ  -- the open sessions by their serials, in order of opening
   pub next : ℕ  -- the serial of the next session
   pub moment : ℕ  -- the last one
 
--- before any event: no session is open, serials begin with 1 (own)
-abbrev pub opening : List ℕ → State
-opening name = record { name = name; sessions = []; next = 1; moment = 0 }
+-- before any event: the database as it was opened, no session is open, serials begin with 1 (own)
+abbrev pub opening : Schema → Database → State
+opening schema database = record { schema = schema; database = database; sealed = None; sessions = []; next = 1; moment = 0 }
+
+-- What a crash may leave: the database as it was committed, or the one that a failed commit would have made (own).
+abbrev pub Left : State → Database → Type 0
+Left s d = (d ≡ s.database) ⊎ (s.sealed ≡ Some d)
 
 -- the session is open (own)
 abbrev pub is_open : State → ℕ → Bool
@@ -84,10 +94,54 @@ pub record Stepped : Type 0 where
 
 -- what a message is answered at once: a call has one reply, what can't be taken an error, a notification and an answer nothing (JSON-RPC 1.0, 1)
 abbrev pub replies_to : State → Message → List Data
-replies_to s (Call id method params) = reply_to s.name id method params ∷ []
+replies_to s (Call id method params) = reply_to s.schema.name id method params ∷ []
 replies_to s (Note method params) = []
 replies_to s Answer = []
 replies_to s (Bad id kind) = failure_tree id (bad_text kind) ∷ []
+
+-- what a message asks for: to be answered at once, or a transaction (RFC 7047, 4.1)
+pub data Work : Type 0 where
+  Answers : (trees : List Data) → Work
+  Transact : (id : Data) (operations : Items) → Work
+
+-- an error in place of a result (JSON-RPC 1.0, 1.2)
+abbrev pub refused : Data → List ℕ → Work
+refused id text = Answers (failure_tree id text ∷ [])
+
+-- a transaction on the database that is named, which is the one that is served (RFC 7047, 4.1.3)
+abbrev pub transact_on : State → Data → Option (List ℕ) → Items → Work
+transact_on s id None operations = refused id (codes "syntax error")
+transact_on s id (Some name) operations = if is_text name s.schema.name then Transact id operations else refused id (codes "unknown database")
+
+-- the params of "transact": the name of a database, and then the operations (RFC 7047, 4.1.3)
+abbrev pub transact_of : State → Data → Items → Work
+transact_of s id no_items = refused id (codes "syntax error")
+transact_of s id (item d operations) = transact_on s id (as_str d) operations
+
+-- the schema of the database that is named, which is the one that is served, as it was read (RFC 7047, 4.1.2)
+abbrev pub schema_on : State → Data → Option (List ℕ) → Work
+schema_on s id None = refused id (codes "syntax error")
+schema_on s id (Some name) = if is_text name s.schema.name then Answers (reply_tree id s.schema.tree ∷ []) else refused id (codes "unknown database")
+
+-- the params of "get_schema": the name of a database, and no more (RFC 7047, 4.1.2)
+abbrev pub schema_of : State → Data → Items → Work
+schema_of s id no_items = refused id (codes "syntax error")
+schema_of s id (item d no_items) = schema_on s id (as_str d)
+schema_of s id (item d (item e items)) = refused id (codes "syntax error")
+
+-- the work on a call: one of "transact" is a transaction, all else is answered at once (RFC 7047, 4.1)
+abbrev pub call_of : State → Data → List ℕ → Items → Work
+call_of s id method params =
+    if is_text method (codes "transact") then transact_of s id params
+    else (if is_text method (codes "get_schema") then schema_of s id params
+    else Answers (replies_to s (Call id method params)))
+
+-- the work on a message (RFC 7047, 4.1)
+abbrev pub work_of : State → Message → Work
+work_of s (Call id method params) = call_of s id method params
+work_of s (Note method params) = Answers (replies_to s (Note method params))
+work_of s Answer = Answers (replies_to s Answer)
+work_of s (Bad id kind) = Answers (replies_to s (Bad id kind))
 
 -- these trees, sent to the session (own)
 abbrev pub to_session : ℕ → List Data → List Sent
@@ -116,6 +170,44 @@ attempted s session trees (Some Kept) = None
 attempted s session trees (Some Exhausted) = None
 attempted s session trees (Some Failed) = None
 
+-- ---- a transaction
+
+-- the results of a transaction, as they are sent (RFC 7047, 4.1.3)
+abbrev pub results_of : Data → Items → List Data
+results_of id results = reply_tree id (array results) ∷ []
+
+-- the results, sent from this state (own)
+abbrev pub answers : State → ℕ → Data → Items → Stepped
+answers s session id results = record { state = s; sent = to_session session (results_of id results) }
+
+-- A transaction that changes the database asks the store. Where the store keeps the change, the database is the new one; where
+-- it has no room, nothing is changed; where it fails, the database stays and is sealed (own).
+abbrev pub commits : State → ℕ → Data → Transacted → Option Outcome → Option Stepped
+commits s session id t None = None
+commits s session id t (Some Kept) = Some (answers (record s { database = t.database }) session id t.results)
+commits s session id t (Some Exhausted) = Some (answers s session id (exhausted t.results))
+commits s session id t (Some Failed) = Some (answers (record s { sealed = Some t.database }) session id (failed t.results))
+commits s session id t (Some NoMemory) = Some (closed s session)
+
+-- a transaction that would change the database; a sealed one asks the store no more, and answers as where it fails (own)
+abbrev pub changes : State → ℕ → Data → Transacted → Option Database → Option Outcome → Option Stepped
+changes s session id t None outcome = commits s session id t outcome
+changes s session id t (Some sealed) outcome = attempted s session (results_of id (failed t.results)) outcome
+
+-- what comes of a transaction: where it leaves the database as it was, the store is not asked (RFC 7047, 4.1.3)
+abbrev pub transacts : State → ℕ → Data → Transacted → Option Outcome → Option Stepped
+transacts s session id t outcome =
+    if is_database s.database t.database then attempted s session (results_of id t.results) outcome
+    else changes s session id t s.sealed outcome
+
+-- As many identifiers are drawn as are wanted, or fewer where memory was refused on the way (own).
+abbrev pub suits_draws : Option Outcome → ℕ → ℕ → Bool
+suits_draws (Some NoMemory) drawn wanted = nat_le drawn wanted
+suits_draws (Some Kept) drawn wanted = drawn == wanted
+suits_draws (Some Exhausted) drawn wanted = drawn == wanted
+suits_draws (Some Failed) drawn wanted = drawn == wanted
+suits_draws None drawn wanted = drawn == wanted
+
 -- ---- one step
 
 -- no attempt is listed (own)
@@ -134,9 +226,15 @@ is_quiet c = none_listed c.outcomes && none_drawn c
 abbrev pub when : {A : Type 0} → Bool → Option A → Option A
 when suits answer = if suits then answer else None
 
+-- the work, with the identifiers that were drawn for it and what is listed of it (own)
+abbrev pub works : State → ℕ → List Uuid → Option Outcome → Work → Option Stepped
+works s session draws outcome (Answers trees) = when (suits_draws outcome (length draws) 0) (attempted s session trees outcome)
+works s session draws outcome (Transact id operations) =
+    when (suits_draws outcome (length draws) (draws_wanted operations)) (transacts s session id (transaction s.schema s.database draws operations) outcome)
+
 -- the work on a message is attempt 1 of its event, and nothing else is tried (own)
 abbrev pub takes : State → Choice → ℕ → Message → Listed → Option Stepped
-takes s c session message first = when (none_listed first.others && none_drawn c) (attempted s session (replies_to s message) first.outcome)
+takes s c session message first = when (none_listed first.others) (works s session c.draws first.outcome (work_of s message))
 
 -- the event, at a moment that is the state's (own)
 abbrev pub happens : State → Choice → Event → Option Stepped

@@ -56,28 +56,25 @@ request (Some method) (Some params) None = Note method params
 request (Some method) None asker = bad asker Syntax
 request None params asker = bad asker Syntax
 
+-- the request that a tree is, by its three members (JSON-RPC 1.0, 1.1 and 1.3)
+abbrev pub request_in : Data → Message
+request_in d = request (option_and_then as_str (get (codes "method") d)) (option_and_then as_array (get (codes "params") d)) (asker_of d)
+
 -- The message that a tree is, or None where it is unreadable: the first case that applies decides (own, over JSON-RPC 1.0, 1).
 abbrev pub message_of : Data → Option Message
 message_of d =
     if has_real_id d then None
     else (if has_real d then Some (bad (asker_of d) Reals)
     else (if is_answer d then Some Answer
-    else Some (request (option_and_then as_str (get (codes "method") d)) (option_and_then as_array (get (codes "params") d)) (asker_of d))))
+    else Some (request_in d)))
 
 -- the tree of a text, or None where it is not UTF-8 or no JSON (RFC 8259, 8.1)
 abbrev pub tree_of : List ℕ → Option Data
 tree_of text = if is_utf8 text then read text else None
 
--- The kinds that are read today: calls and notifications. All else is unreadable (own).
-abbrev pub call_or_note : Message → Option Message
-call_or_note (Call id method params) = Some (Call id method params)
-call_or_note (Note method params) = Some (Note method params)
-call_or_note Answer = None
-call_or_note (Bad id kind) = None
-
 -- the message that a text is, or None where it is unreadable (own)
 unfoldable pub message_in : List ℕ → Option Message
-message_in text = option_and_then call_or_note (option_and_then message_of (tree_of text))
+message_in text = option_and_then message_of (tree_of text)
 
 -- what a stream asks for, and whether it is damaged (own)
 pub record Asked : Type 0 where

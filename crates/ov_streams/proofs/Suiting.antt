@@ -9,6 +9,8 @@ use Rattle.ov_specs.specs.Message.{Message, asked}
 use Rattle.ov_specs.specs.Machine as machine
 use Rattle.ov_specs.specs.Machine.{State, Entry, Stepped, is_open, opening}
 use Rattle.ov_specs.specs.Uuid.{Uuid}
+use Rattle.ov_specs.specs.SchemaTypes.{Schema}
+use Rattle.ov_specs.specs.Database.{Database}
 use Rattle.ov_specs.specs.Streams as streams
 use Rattle.ov_specs.specs.Streams.{Streams, no_streams, fed, Feeds, Expands}
 use Rattle.ov_specs.proofs.Expanding.{one_more}
@@ -28,12 +30,12 @@ max_zero : (m : ℕ) → max 0 m ≡ m
 max_zero m = omega arith
 
 -- one event more, by its entries
-suits_more : {K D : Type 0} (name : List ℕ) (list : List streams.StreamEvent) (h : List Entry) (given : ℕ → List (List ℕ)) (old new : Streaming K D) (s : Suits name list h given old) (e : streams.StreamEvent) (k : List Entry) (after : Streams)
-    → Enters old.core k new.core → Expands 0 old.core.state s.fed e k new.core.state after → ((n : ℕ) → is_open new.core.state n ≡ true → HasLane n (after n) new.lane) → Suits name (list ++ e ∷ []) (h ++ k) given new
-suits_more name list h given old new s e k after enters x lanes = record {
+suits_more : {K D : Type 0} (schema : Schema) (database : Database) (list : List streams.StreamEvent) (h : List Entry) (given : ℕ → List (List ℕ)) (old new : Streaming K D) (s : Suits schema database list h given old) (e : streams.StreamEvent) (k : List Entry) (after : Streams)
+    → Enters old.core k new.core → Expands 0 old.core.state s.fed e k new.core.state after → ((n : ℕ) → is_open new.core.state n ≡ true → HasLane n (after n) new.lane) → Suits schema database (list ++ e ∷ []) (h ++ k) given new
+suits_more schema database list h given old new s e k after enters x lanes = record {
   fed = after;
-  follows = enters (opening name) h given s.follows;
-  expands = one_more (opening name) no_streams list h old.core.state s.fed e k new.core.state after s.expands x;
+  follows = enters (opening schema database) h given s.follows;
+  expands = one_more (opening schema database) no_streams list h old.core.state s.fed e k new.core.state after s.expands x;
   lanes = lanes;
 }
 
@@ -52,21 +54,21 @@ enters_none core before history given h = subst (λ (k : List Entry). Follows be
 -- ---- time passes, a session ends
 
 pub passed : {K D : Type 0} (draws : D → Uuid → D → Type 0) (ms : ℕ) (old new : Streaming K D) → new.lane ≡ old.lane → IsEntered draws (max ms old.core.state.moment) machine.Tick old.core answer.Done new.core → Serves (streams.Passes ms ∷ []) old new
-passed draws ms old new same e name list h given s =
+passed draws ms old new same e schema database list h given s =
     let t : Stepped = record { state = new.core.state; sent = e.moves.sent } in (
       e.entry ∷ [],
-      suits_more name list h given old new s (streams.Passes ms) (e.entry ∷ []) s.fed e.moves.follows
+      suits_more schema database list h given old new s (streams.Passes ms) (e.entry ∷ []) s.fed e.moves.follows
           (e.entry, t, refl, record { event = e.tells; moment = e.moment; step = e.moves.stepped }, refl, refl)
           (λ n there. subst (HasLane n (s.fed n)) (sym same) (s.lanes n (sym (turn_tick n old.core.state e.entry t e.moves.stepped e.tells).open_is ∙ there))),
     )
 
 module _ {K D : Type 0} (n : ℕ) (old new : Streaming K D) where
   pub finished : new.lane ≡ old.lane → is_open old.core.state n ≡ true → Closes old.core.state.moment n machine.InputEnded old.core new.core → Serves (streams.Finish n ∷ []) old new
-  finished same there c name list h given s =
+  finished same there c schema database list h given s =
       let e = closing old.core.state.moment n machine.InputEnded in
       let t : Stepped = record { state = new.core.state; sent = c.moves.sent } in (
         e ∷ [],
-        suits_more name list h given old new s (streams.Finish n) (e ∷ []) s.fed c.moves.follows
+        suits_more schema database list h given old new s (streams.Finish n) (e ∷ []) s.fed c.moves.follows
             (at_true (is_open old.core.state n) _ _ there (e, t, refl, record { event = refl; moment = sym (max_zero old.core.state.moment); step = c.moves.stepped }, refl, refl))
             (λ m still. subst (HasLane m (s.fed m)) (sym same) (s.lanes m (elim (cases_eq n m) [
               | inl is ↦ absurd (false≢true (sym c.shut ∙ (ap (is_open new.core.state) is ∙ still)))
@@ -75,10 +77,10 @@ module _ {K D : Type 0} (n : ℕ) (old new : Streaming K D) where
       )
 
   pub not_finished : new ≡ old → is_open old.core.state n ≡ false → Serves (streams.Finish n ∷ []) old new
-  not_finished same away name list h given s = (
+  not_finished same away schema database list h given s = (
     [],
-    subst (λ (x : Streaming K D). Suits name (list ++ streams.Finish n ∷ []) (h ++ []) given x) (sym same)
-        (suits_more name list h given old old s (streams.Finish n) [] s.fed (enters_none old.core) (at_false (is_open old.core.state n) _ _ away (refl, refl, refl)) s.lanes),
+    subst (λ (x : Streaming K D). Suits schema database (list ++ streams.Finish n ∷ []) (h ++ []) given x) (sym same)
+        (suits_more schema database list h given old old s (streams.Finish n) [] s.fed (enters_none old.core) (at_false (is_open old.core.state n) _ _ away (refl, refl, refl)) s.lanes),
   )
 
 -- ---- a session opens
@@ -102,16 +104,16 @@ first_fed stream cutter none stands = record {
 
 pub opened : {K D : Type 0} (draws : D → Uuid → D → Type 0) (session : Session) (cutter : Cutting) (old new : Streaming K D) → new.lane ≡ Some (record { session = session; cutter = cutter }) → StandsFor [] [] cutter
     → IsEntered draws (max 0 old.core.state.moment) machine.Open old.core (answer.Opened session) new.core → Serves (streams.Opens ∷ []) old new
-opened draws session cutter old new lane stands e name list h given s =
+opened draws session cutter old new lane stands e schema database list h given s =
     let t : Stepped = record { state = new.core.state; sent = e.moves.sent } in (
       e.entry ∷ [],
-      suits_more name list h given old new s streams.Opens (e.entry ∷ []) s.fed e.moves.follows
+      suits_more schema database list h given old new s streams.Opens (e.entry ∷ []) s.fed e.moves.follows
           (e.entry, t, refl, record { event = e.tells.0; moment = e.moment; step = e.moves.stepped }, refl, refl)
           (λ n there.
           let turned : (is_open old.core.state n || eqb old.core.state.next n) ≡ true = sym (turn_open n old.core.state e.entry t e.moves.stepped e.tells.0).open_is ∙ there in
           let own : eqb old.core.state.next n ≡ true = only (is_open old.core.state n) (eqb old.core.state.next n) (none_open old.core.state e.tells.3 n) turned in
           let is : old.core.state.next ≡ n = eqb-true old.core.state.next n own in
-          subst (HasLane n (s.fed n)) (sym lane) (e.tells.1 ∙ is, first_fed (s.fed n) cutter (not_fed_yet name _ h old.core.state s.fed n s.expands (omega (arith, is))) stands)),
+          subst (HasLane n (s.fed n)) (sym lane) (e.tells.1 ∙ is, first_fed (s.fed n) cutter (not_fed_yet schema database _ h old.core.state s.fed n s.expands (omega (arith, is))) stands)),
     )
   where
     only : (a b : Bool) → a ≡ false → (a || b) ≡ true → b ≡ true
@@ -148,10 +150,10 @@ fed_own x n bytes = ap (λ b. cond b (x n ++ bytes) (x n)) (eq-eqb n n refl)
 -- the session's cutter was given its bytes
 pub was_fed : {K D : Type 0} (n : ℕ) (bytes : List ℕ) (session : Session) (before after : Cutting) (old new : Streaming K D) → session.serial ≡ n → old.lane ≡ Some (record { session = session; cutter = before }) → new.lane ≡ Some (record { session = session; cutter = after })
     → is_open old.core.state n ≡ true → ((stream : List ℕ) → IsFed stream before → Brings 0 n stream bytes old.core new.core after) → Serves (streams.Feed n bytes ∷ []) old new
-was_fed n bytes session before after old new own lane then there brings name list h given s =
+was_fed n bytes session before after old new own lane then there brings schema database list h given s =
     let b = brings (s.fed n) (subst (HasLane n (s.fed n)) lane (s.lanes n there)).1 in (
       b.entries,
-      suits_more name list h given old new s (streams.Feed n bytes) b.entries (fed s.fed n bytes) b.enters
+      suits_more schema database list h given old new s (streams.Feed n bytes) b.entries (fed s.fed n bytes) b.enters
           (at_true (is_open old.core.state n) _ _ there (b.messages, b.more, b.feeds, refl))
           (λ m still. elim (cases_eq m n) [
             | inl is ↦
@@ -166,14 +168,14 @@ was_fed n bytes session before after old new own lane then there brings name lis
 
 -- the session is not open
 pub not_fed : {K D : Type 0} (n : ℕ) (bytes : List ℕ) (old new : Streaming K D) → new ≡ old → (is_open old.core.state n ≡ true → (stream : List ℕ) → HasLane n stream old.lane → ⊥) → Serves (streams.Feed n bytes ∷ []) old new
-not_fed n bytes old new same away name list h given s =
+not_fed n bytes old new same away schema database list h given s =
     let shut : is_open old.core.state n ≡ false = elim (cases_Bool (is_open old.core.state n)) [
       | inl there ↦ absurd (away there (s.fed n) (s.lanes n there))
       | inr shut ↦ shut
     ] in (
       [],
-      subst (λ (x : Streaming _ _). Suits name (list ++ streams.Feed n bytes ∷ []) (h ++ []) given x) (sym same)
-          (suits_more name list h given old old s (streams.Feed n bytes) [] s.fed (enters_none old.core) (at_false (is_open old.core.state n) _ _ shut (refl, refl, refl)) s.lanes),
+      subst (λ (x : Streaming _ _). Suits schema database (list ++ streams.Feed n bytes ∷ []) (h ++ []) given x) (sym same)
+          (suits_more schema database list h given old old s (streams.Feed n bytes) [] s.fed (enters_none old.core) (at_false (is_open old.core.state n) _ _ shut (refl, refl, refl)) s.lanes),
     )
 
 -- no session has a cutter, or another one
@@ -195,14 +197,14 @@ over core lane = record { core = core; lane = lane }
 -- ---- lists of events
 
 pub serves_none : {K D : Type 0} (now : Streaming K D) → Serves [] now now
-serves_none now name list h given s =
-    ([], subst (λ (l : List streams.StreamEvent). Suits name l (h ++ []) given now) (sym (append-nil list)) (subst (λ (k : List Entry). Suits name list k given now) (sym (append-nil h)) s))
+serves_none now schema database list h given s =
+    ([], subst (λ (l : List streams.StreamEvent). Suits schema database l (h ++ []) given now) (sym (append-nil list)) (subst (λ (k : List Entry). Suits schema database list k given now) (sym (append-nil h)) s))
 
 pub serves_more : {K D : Type 0} (xs ys : List streams.StreamEvent) (old mid new : Streaming K D) → Serves xs old mid → Serves ys mid new → Serves (xs ++ ys) old new
-serves_more xs ys old mid new one two name list h given s =
-    let a = one name list h given s in
-    let b = two name (list ++ xs) (h ++ a.0) given a.1 in
-    (a.0 ++ b.0, subst (λ (l : List streams.StreamEvent). Suits name l (h ++ (a.0 ++ b.0)) given new) (append_assoc list xs ys) (subst (λ (k : List Entry). Suits name ((list ++ xs) ++ ys) k given new) (append_assoc h a.0 b.0) b.1))
+serves_more xs ys old mid new one two schema database list h given s =
+    let a = one schema database list h given s in
+    let b = two schema database (list ++ xs) (h ++ a.0) given a.1 in
+    (a.0 ++ b.0, subst (λ (l : List streams.StreamEvent). Suits schema database l (h ++ (a.0 ++ b.0)) given new) (append_assoc list xs ys) (subst (λ (k : List Entry). Suits schema database ((list ++ xs) ++ ys) k given new) (append_assoc h a.0 b.0) b.1))
 
 -- what may be refused is said beside
 pub and_may : {X E : Type 0} (P Q : Type 0) (r : Result X E) → MatchResult r (λ _. P) (λ _. Q) → MatchResult r (λ _. P) (λ _. Q × Unit {0})

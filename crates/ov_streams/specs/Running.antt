@@ -1,6 +1,8 @@
 -- Which lists of stream events a core with its streams has followed.
 use Rattle.std.specs.Prelude.{◌≡◌, ℕ, ◌++◌, List, [], ◌∷◌, map, take, Option, Some, None, IsSomeAnd, true}
 use Rattle.ov_specs.specs.Machine.{Entry, State, opening, is_open}
+use Rattle.ov_specs.specs.SchemaTypes.{Schema}
+use Rattle.ov_specs.specs.Database.{Database}
 use Rattle.ov_specs.specs.Streams as streams
 use Rattle.ov_specs.specs.Streams.{Streams, no_streams, ExpandsAll}
 use Rattle.ov_core.specs.declared.event.StepFault.{StepFault}
@@ -32,17 +34,17 @@ HasLane n stream lane = IsSomeAnd lane (λ l. (l.session.serial ≡ n) × IsFed 
 
 -- The list of events expands to the history that the core has followed from its opening, and each open session has a cutter that
 -- was given its stream (own).
-pub record Suits {K D : Type 0} (name : List ℕ) (list : List streams.StreamEvent) (history : List Entry) (given : ℕ → List (List ℕ)) (now : Streaming K D) : Type 0 where
+pub record Suits {K D : Type 0} (schema : Schema) (database : Database) (list : List streams.StreamEvent) (history : List Entry) (given : ℕ → List (List ℕ)) (now : Streaming K D) : Type 0 where
   pub fed : Streams
-  pub follows : Follows (opening name) history given now.core
-  pub expands : ExpandsAll (opening name) no_streams list history now.core.state fed
+  pub follows : Follows (opening schema database) history given now.core
+  pub expands : ExpandsAll (opening schema database) no_streams list history now.core.state fed
   pub lanes : (n : ℕ) → is_open now.core.state n ≡ true → HasLane n (fed n) now.lane
 
 -- whatever list the streams suited before, they suit it with these events behind it (own)
 abbrev pub Serves : {K D : Type 0} → List streams.StreamEvent → Streaming K D → Streaming K D → Type 0
 Serves events old new =
-    (name : List ℕ) (list : List streams.StreamEvent) (history : List Entry) (given : ℕ → List (List ℕ)) → Suits name list history given old
-    → (entries : List Entry) × Suits name (list ++ events) (history ++ entries) given new
+    (schema : Schema) (database : Database) (list : List streams.StreamEvent) (history : List Entry) (given : ℕ → List (List ℕ)) → Suits schema database list history given old
+    → (entries : List Entry) × Suits schema database (list ++ events) (history ++ entries) given new
 
 -- only an opening and a passing of time are refused (own)
 abbrev pub MayBeRefused : StreamEvent → Type 0

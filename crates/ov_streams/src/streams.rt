@@ -1,5 +1,7 @@
 ghost use Rattle.std.specs.Prelude.{◌≡◌, ◌≤◌, ◌++◌, ℕ, List, [], ◌∷◌, MatchResult, IfOk, OnErr, IfSome, IfNone, length, take, slice_get, Some};
 ghost use Rattle.ov_specs.specs.Machine.{Entry, opening};
+ghost use Rattle.ov_specs.specs.SchemaTypes.{Schema};
+ghost use Rattle.ov_specs.specs.Database.{Database};
 ghost use Rattle.ov_specs.specs.History.{joined};
 ghost use Rattle.ov_specs.specs.Streams.{StreamEvent as SpecEvent};
 ghost use Rattle.ov_core.specs.Following.{Follows, none_given, and_all_handed};
@@ -26,12 +28,13 @@ pub struct Streams<K: Keeper, D> {
 impl<K: Keeper, D> Model for Streams<K, D> {
     ghost use Rattle.std.specs.Coded.{codes};
     ghost use Rattle.ov_specs.specs.SchemaTypes.{schema_code};
+    ghost use Rattle.ov_db.specs.Resident.{database_code};
     ghost use Rattle.ov_specs.specs.TreeCode.{tree_code, items_code};
     ghost use Rattle.ov_streams.specs.Running.{Streaming};
 
     ghost Value = { Streaming K D };
 
-    ghost coded = { Prim.hlevel (codes, schema_code, tree_code, items_code, K.code, D.code) };
+    ghost coded = { Prim.hlevel (codes, schema_code, database_code, tree_code, items_code, K.code, D.code) };
 
     ghost view = { λ s. record { core = s.core; lane = s.lane } };
 }
@@ -41,7 +44,7 @@ impl<K: Keeper + Drop, D: Draws + Drop> Streams<K, D> {
     pub fn new(core: Core<K, D>) -> Streams<K, D>
         ensures same { result.core ≡ core }
         // The empty list of events suits it.
-        ensures none { (name : List ℕ) → Follows (opening name) [] none_given core → Suits name [] [] none_given result }
+        ensures none { (schema : Schema) (database : Database) → Follows (opening schema database) [] none_given core → Suits schema database [] [] none_given result }
     {
         Streams { core, lane: None }
     }
@@ -80,8 +83,8 @@ impl<K: Keeper + Drop, D: Draws + Drop> Streams<K, D> {
     /// Hands out and joins the frames that wait for session n; none where memory is refused.
     pub fn output(&mut self, alloc: Global, session: u64) -> Result<Bytes, AllocError>
         ensures all { IfOk result (λ b. b ≡ joined (waiting_for session self.old.core.waiting)) }
-        ensures handed { IfOk result (λ b. (name : List ℕ) (list : List SpecEvent) (history : List Entry) (given : ℕ → List (List ℕ)) → Suits name list history given self.old
-            → Suits name list history (and_all_handed given session (waiting_for session self.old.core.waiting)) self.new) }
+        ensures handed { IfOk result (λ b. (schema : Schema) (database : Database) (list : List SpecEvent) (history : List Entry) (given : ℕ → List (List ℕ)) → Suits schema database list history given self.old
+            → Suits schema database list history (and_all_handed given session (waiting_for session self.old.core.waiting)) self.new) }
         ensures refused { OnErr result (self.new ≡ self.old) }
     {
         self.core.take_output(

@@ -1,50 +1,34 @@
-use ov_base::{Bytes, Text, Tree, has_real};
+use crate::support::{Counter, SCHEMA, keeper, schema};
+use ov_base::Bytes;
 use ov_core::Core;
-use ov_core::early::{Draws, ListKeeper, Schema};
+use ov_core::early::{FailingKeeper, ListKeeper};
 use ov_streams::{StreamEvent, Streams};
-use serde_json::Value;
 use std::alloc::Global;
 use std::test::Fail;
-use uuid::Uuid;
-
-const SCHEMA: &str = "{\"name\":\"Net\",\"tables\":{}}";
-
-/// Draws the identifiers 1, 2, 3 and so on.
-#[derive(Drop)]
-pub(crate) struct Counter {
-    drawn: u64,
-}
-
-impl Draws for Counter {
-    ghost draws = { λ _ _ _. Unit {0} };
-
-    fn draw(&mut self) -> Uuid {
-        self.drawn = self.drawn.saturating_add(1);
-        Uuid::from_u128(self.drawn as u128)
-    }
-}
 
 /// Streams over an empty database Net. Its calls have no contract, so that a test's own proof stays small.
 #[derive(Drop)]
 pub(crate) struct Bench {
-    streams: Streams<ListKeeper, Counter>,
+    streams: Streams<FailingKeeper<ListKeeper>, Counter>,
     alloc: Global,
 }
 
-fn tree(alloc: Global) -> Result<Tree, Fail> {
-    let value = Value::from_str(alloc, SCHEMA)?;
-    if has_real(&value) {
-        return Err(Fail::new("a real"));
-    }
-    Ok(Tree::new(value))
-}
-
 impl Bench {
-    /// With session 1 open.
+    /// With session 1 open, over a keeper that keeps all.
     pub(crate) fn new(alloc: Global) -> Result<Bench, Fail> {
-        let schema = Schema::read(alloc, tree(alloc)?)?;
-        let keeper = ListKeeper::new(alloc, Text::from_str(alloc, SCHEMA)?);
-        let core = Core::open(alloc, keeper, schema, Counter { drawn: 0 })?;
+        Bench::over(alloc, 0, false)
+    }
+
+    /// With session 1 open, over a keeper whose device fails at the next `bad` commits, or which has no room for the next.
+    pub(crate) fn over(alloc: Global, bad: u64, is_too_large: bool) -> Result<Bench, Fail> {
+        let keeper = FailingKeeper {
+            inner: keeper(alloc, SCHEMA)?,
+            is_too_large,
+            good: 0,
+            bad,
+            failures: 0,
+        };
+        let core = Core::open(alloc, keeper, schema(alloc)?, Counter::new())?;
         let mut bench = Bench {
             streams: Streams::new(core),
             alloc,
@@ -70,6 +54,22 @@ impl Bench {
     /// What session 1 was sent since the last call.
     pub(crate) fn output(&mut self) -> Result<Bytes, Fail> {
         Ok(self.streams.output(self.alloc, 1)?)
+    }
+
+    /// The first line of a conversation that is not as it says: a line is a request behind `>`, or what is sent behind `<`.
+    pub(crate) fn first_wrong(&mut self, conversation: &str) -> Result<String, Fail> {
+        for line in conversation.lines() {
+            if let Some(request) = line.strip_prefix(">") {
+                self.feed(request.as_bytes())?;
+            }
+            if let Some(reply) = line.strip_prefix("<") {
+                let sent = self.output()?;
+                if sent.as_slice() != reply.as_bytes() {
+                    return Ok(String::from_str(self.alloc, line)?);
+                }
+            }
+        }
+        Ok(String::new(self.alloc))
     }
 
     /// How many entries the history has.

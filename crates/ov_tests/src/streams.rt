@@ -1,18 +1,31 @@
 use crate::bench::{Bench, answers};
 use ov_streams::StreamEvent;
+use std::alloc::Global;
 use std::test::Fail;
 
-const BOTH: &[u8] =
-    b"{\"id\":0,\"method\":\"list_dbs\",\"params\":[]}{\"id\":\"x\",\"method\":\"echo\",\"params\":[\"a\\\"}\",{}]}";
+const CONVERSATION: &str =
+    r#"{"id":0,"method":"list_dbs","params":[]}{"id":"x","method":"echo","params":["a\"}",{}]}{"id":1,"method":"transact","params":["Net",{"op":"insert","table":"Switch","row":{"name":"s1"}}]}{"id":2,"method":"transact","params":["Net",{"op":"select","table":"Switch","where":[]}]}"#;
 
-const BOTH_ANSWERED: &[u8] =
-    b"{\"error\":null,\"id\":0,\"result\":[\"Net\"]}{\"error\":null,\"id\":\"x\",\"result\":[\"a\\\"}\",{}]}";
+const ANSWERED: &str =
+    r#"{"error":null,"id":0,"result":["Net"]}{"error":null,"id":"x","result":["a\"}",{}]}{"error":null,"id":1,"result":[{"uuid":["uuid","00000000-0000-4000-8000-000000000002"]}]}{"error":null,"id":2,"result":[{"rows":[{"_uuid":["uuid","00000000-0000-4000-8000-000000000002"],"_version":["uuid","00000000-0000-4000-8000-000000000001"],"load":0,"main":["set",[]],"name":"s1","ports":["set",[]]}]}]}"#;
+
+/// How many entries the history then has and what is sent, and the input: damage, an unfinished message, a real in an id, an
+/// unknown method, a notification, requests that are built wrong, a request, and nothing.
+const SMALL: &str =
+    r#"3 {"error":null,"id":0,"result":["Net"]} <= {"id":0,"method":"list_dbs","params":[]}] {"id":0,"method":"list_dbs","params":[]}
+1  <= {"id":0,"method":"echo","params":[
+2  <= {"id":1.5,"method":"echo","params":[]}
+2 {"error":"unknown method","id":1,"result":null} <= {"id":1,"method":"get_server_id","params":[]}
+2  <= {"id":null,"method":"list_dbs","params":[]}
+4 {"error":"syntax error","id":1,"result":null}{"error":"reals not supported","id":2,"result":null} <= {"id":1,"method":"echo"}{"id":2,"method":"echo","params":[0.5]}{"id":3,"result":true}
+2 {"error":null,"id":0,"result":["Net"]} <= {"id":0,"method":"list_dbs","params":[]}
+1  <= "#;
 
 #[test]
 fn cut_at_every_place(rt: HostRuntime) -> Result<(), Fail> {
-    for place in 0..BOTH.len() + 1 {
-        let got = answers(rt.alloc(), BOTH, place)?;
-        assert_eq!(rt; got.as_slice(), BOTH_ANSWERED, "cut at {place}");
+    for place in 0..CONVERSATION.len() + 1 {
+        let got = answers(rt.alloc(), CONVERSATION.as_bytes(), place)?;
+        assert_eq!(rt; got.as_slice(), ANSWERED.as_bytes(), "cut at {place}");
     }
     Ok(())
 }
@@ -20,62 +33,47 @@ fn cut_at_every_place(rt: HostRuntime) -> Result<(), Fail> {
 #[test]
 fn answered_byte_by_byte(rt: HostRuntime) -> Result<(), Fail> {
     let mut bench = Bench::new(rt.alloc())?;
-    for byte in BOTH {
+    for byte in CONVERSATION.as_bytes() {
         bench.feed(&[*byte])?;
     }
-    assert_eq!(rt; bench.output()?.as_slice(), BOTH_ANSWERED);
-    assert_eq!(rt; bench.output()?.as_slice(), b"".as_slice());
+    assert_eq!(rt; bench.output()?.as_slice(), ANSWERED.as_bytes());
+    assert_eq!(rt; bench.output()?.as_slice().len(), 0);
     Ok(())
+}
+
+/// What comes of an input, as a line of `SMALL` begins.
+fn made(alloc: Global, input: &str) -> Result<String, Fail> {
+    let mut bench = Bench::new(alloc)?;
+    bench.feed(input.as_bytes())?;
+    let output = String::from_utf8(bench.output()?.into_vec())?;
+    Ok(format!(in alloc; "{} {output}", bench.entries())?)
 }
 
 #[test]
 fn small_inputs(rt: HostRuntime) -> Result<(), Fail> {
-    let list = "{\"id\":0,\"method\":\"list_dbs\",\"params\":[]}";
-    let listed = "{\"error\":null,\"id\":0,\"result\":[\"Net\"]}";
-    // The input, what is sent, and how many entries the history then has.
-    for (input, output, entries) in [
-        // A stray bracket behind a request closes the session, and nothing behind it is taken.
-        (
-            "{\"id\":0,\"method\":\"list_dbs\",\"params\":[]}] {\"id\":0,\"method\":\"list_dbs\",\"params\":[]}",
-            listed,
-            3,
-        ),
-        // An unfinished message is not taken.
-        ("{\"id\":0,\"method\":\"echo\",\"params\":[", "", 1),
-        // An id that is no integer closes the session.
-        ("{\"id\":1.5,\"method\":\"echo\",\"params\":[]}", "", 2),
-        // A method that is not known.
-        (
-            "{\"id\":1,\"method\":\"get_server_id\",\"params\":[]}",
-            "{\"error\":\"unknown method\",\"id\":1,\"result\":null}",
-            2,
-        ),
-        // A notification is taken, and not answered.
-        ("{\"id\":null,\"method\":\"list_dbs\",\"params\":[]}", "", 2),
-        (list, listed, 2),
-        ("", "", 1),
-        (" \t\r\n", "", 1),
-    ] {
-        let mut bench = Bench::new(rt.alloc())?;
-        bench.feed(input.as_bytes())?;
-        assert_eq!(rt; bench.output()?.as_slice(), output.as_bytes(), "{input}");
-        assert_eq!(rt; bench.entries(), entries, "{input}");
+    for line in SMALL.lines() {
+        let (want, input) = line.split_once(" <= ").ok_or("no input")?;
+        let made = made(rt.alloc(), input)?;
+        assert_eq!(rt; made.as_str(), want);
     }
     Ok(())
 }
 
+/// How many bytes an echo of so many letters is answered with.
+fn echoed(alloc: Global, letters: usize) -> Result<usize, Fail> {
+    let mut input = Vec::new(alloc);
+    input.extend_from_slice(b"{\"id\":0,\"method\":\"echo\",\"params\":[\"")?;
+    for _ in 0..letters {
+        input.push(b'a')?;
+    }
+    input.extend_from_slice(b"\"]}")?;
+    Ok(answers(alloc, input.as_slice(), 0)?.as_slice().len())
+}
+
 #[test]
 fn longest_message(rt: HostRuntime) -> Result<(), Fail> {
-    for (letters, answer) in [(1_048_538usize, 1_048_573usize), (1_048_539, 0)] {
-        let mut input = Vec::new(rt.alloc());
-        input.extend_from_slice(b"{\"id\":0,\"method\":\"echo\",\"params\":[\"")?;
-        for _ in 0..letters {
-            input.push(b'a')?;
-        }
-        input.extend_from_slice(b"\"]}")?;
-        let got = answers(rt.alloc(), input.as_slice(), 0)?;
-        assert_eq!(rt; got.as_slice().len(), answer, "{letters} letters");
-    }
+    assert_eq!(rt; echoed(rt.alloc(), 1_048_538)?, 1_048_573);
+    assert_eq!(rt; echoed(rt.alloc(), 1_048_539)?, 0);
     Ok(())
 }
 

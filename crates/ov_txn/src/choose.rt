@@ -11,7 +11,7 @@ ghost use Rattle.ov_txn.specs.Errors.{IsGiven};
 
 use crate::fault::{OpError, Stop};
 use ov_base::Text;
-use ov_early::Table;
+use ov_schema::Table;
 use serde_json::Value;
 use std::alloc::{AllocError, Global};
 

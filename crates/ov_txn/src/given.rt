@@ -10,7 +10,7 @@ use crate::fault::{OpError, Stop};
 use crate::member::is_own;
 use ov_atoms::{AtomFault, Datum, NoNames, read_datum};
 use ov_db::Columns;
-use ov_early::{Column, Table};
+use ov_schema::{Column, Table};
 use serde_json::{Map, Value};
 use std::alloc::Global;
 

@@ -10,7 +10,7 @@ use crate::given::new_columns;
 use crate::member::text_at;
 use ov_base::Tree;
 use ov_db::{Columns, Row, RowKey, Rows};
-use ov_early::Schema;
+use ov_schema::Schema;
 use serde_json::{Value, json};
 use std::alloc::{AllocError, Global};
 use uuid::Uuid;

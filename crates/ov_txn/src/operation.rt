@@ -9,7 +9,7 @@ use crate::member::text_at;
 use crate::select::select_rows;
 use ov_base::Tree;
 use ov_db::Rows;
-use ov_early::Schema;
+use ov_schema::Schema;
 use serde_json::Value;
 use std::alloc::Global;
 use uuid::Uuid;

@@ -14,7 +14,7 @@ use crate::member::text_at;
 use crate::shown::ShownRow;
 use ov_base::{Text, Tree};
 use ov_db::Rows;
-use ov_early::Schema;
+use ov_schema::Schema;
 use serde_json::{Value, json};
 use std::alloc::{AllocError, Global};
 

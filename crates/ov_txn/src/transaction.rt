@@ -6,7 +6,7 @@ use crate::operation::operate;
 use crate::results::{Results, error_tree};
 use ov_base::Trees;
 use ov_db::Rows;
-use ov_early::Schema;
+use ov_schema::Schema;
 use std::alloc::{AllocError, Global};
 use uuid::Uuid;
 

@@ -1,57 +1,14 @@
 use super::*;
-use ov_early::{Change, KeepFault, Loaded};
-
-/// A keeper whose device fails once its good commits are used up. Its next commit may be too large.
-#[derive(Drop)]
-struct FailingKeeper<K: Keeper> {
-    inner: K,
-    good: u64,
-    is_too_large: bool,
-    failures: u64,
-}
-
-impl<K: Keeper> Keeper for FailingKeeper<K> {
-    ghost is_honest = { λ k. K.is_honest k.inner };
-
-    ghost leaves = { λ k held. K.leaves k.inner held };
-
-    ghost failed = { λ k. k.failures };
-
-    ghost something = { λ k honest. K.something k.inner honest };
-
-    fn failures(&self) -> u64 {
-        self.failures
-    }
-
-    fn load(&mut self, alloc: Global) -> Result<Loaded, KeepFault> {
-        self.inner.load(alloc)
-    }
-
-    fn commit(&mut self, alloc: Global, changes: &[Change]) -> Result<(), KeepFault> {
-        if self.is_too_large {
-            self.is_too_large = false;
-            return Err(KeepFault::TooLarge);
-        }
-        if self.good == 0 {
-            self.failures = self.failures.saturating_add(1);
-            return Err(KeepFault::Device);
-        }
-        self.good -= 1;
-        let answer = self.inner.commit(alloc, changes);
-        if answer == Err(KeepFault::Device) {
-            self.failures = self.failures.saturating_add(1);
-        }
-        answer
-    }
-}
+use ov_early::FailingKeeper;
 
 #[test]
 fn device_fails_at_commit(rt: HostRuntime) -> Result<(), Fail> {
     let alloc = rt.alloc();
     let mut keeper = FailingKeeper {
         inner: list_keeper(alloc)?,
-        good: 1,
         is_too_large: false,
+        good: 1,
+        bad: 1,
         failures: 0,
     };
     let mut rows = Rows::new(alloc);
@@ -81,8 +38,9 @@ fn a_commit_that_is_too_large_leaves_the_committed_rows(rt: HostRuntime) -> Resu
     let alloc = rt.alloc();
     let mut keeper = FailingKeeper {
         inner: list_keeper(alloc)?,
-        good: 2,
         is_too_large: true,
+        good: 0,
+        bad: 0,
         failures: 0,
     };
     let mut rows = Rows::new(alloc);

@@ -1,21 +1,52 @@
-use Rattle.std.proofs.Common.{◌≡◌, ◌∙◌, ℕ, List, Option, Some, None, codes, option_and_then, option_map, ap, sym}
+use Rattle.std.proofs.Common.{◌≡◌, ◌∙◌, ℕ, List, Bool, true, false, cond, Option, Some, None, codes, option_and_then, ap, sym, refl}
+use Rattle.std.specs.Prelude.{Result, Ok, Err}
 use Rattle.std.proofs.lemmas.Option.{same_Some}
-use Rattle.std.specs.FinMap.{FinMap}
 use Rattle.serde_json.specs.Data.{Data}
+use Rattle.serde_json.specs.Find.{get, as_str}
 use Rattle.serde_json.proofs.OnLiterals.{serde_json_on_literals}
-use Rattle.ov_specs.specs.SchemaTypes.{Schema, Table, name_cmp}
-use Rattle.ov_early.specs.SchemaReading.{name_read, tables_read, schema_of, schema_read}
+use Rattle.ov_specs.specs.Schema.{Refusal, RealNotSupported, accepted, judged, refused_or, schema_of, refusal_of_shape}
+use Rattle.ov_specs.specs.SchemaShape.{SchemaShape, TableShape, given, optional, named_parts, table_shape, schema_shape}
+use Rattle.ov_specs.specs.SchemaTypes.{Schema}
+use Rattle.ov_specs.specs.Tree.{has_real}
 use Rattle.ov_server.proofs.database.served_schema.Goals as goal
 
--- a schema that was read has the name that was read
-name_is : (name : Option (List ℕ)) (tables : Option (FinMap name_cmp Table)) (tree : Data) (s : Schema) → option_and_then (λ n. option_map (λ t. schema_of n t tree) tables) name ≡ Some s → name ≡ Some s.name
-name_is None tables tree s h = cc
-name_is (Some n) None tree s h = cc
-name_is (Some n) (Some t) tree s h = ap (λ (k : Schema). Some k.name) (same_Some (schema_of n t tree) s h)
+-- the name that a tree gives
+abbrev name_at : Data → Option (List ℕ)
+name_at d = option_and_then as_str (get (codes "name") d)
+
+-- the members that a schema has
+abbrev shape_of : List ℕ → Option (List ℕ) → List (List ℕ × TableShape) → SchemaShape
+shape_of name version tables = record { name = name; version = version; tables = tables }
+
+-- the members have that name
+shape_name : (n : Option (List ℕ)) (v c : Option (Option (List ℕ))) (t : Option (List (List ℕ × TableShape))) (shape : SchemaShape)
+    → given n (λ name. given v (λ version. given c (λ cksum. given t (λ tables. Some (shape_of name version tables))))) ≡ Some shape → n ≡ Some shape.name
+shape_name None v c t shape h = cc
+shape_name (Some n) None c t shape h = cc
+shape_name (Some n) (Some v) None t shape h = cc
+shape_name (Some n) (Some v) (Some c) None shape h = cc
+shape_name (Some n) (Some v) (Some c) (Some t) shape h = ap (λ (s : SchemaShape). Some s.name) (same_Some (shape_of n v t) shape h)
+
+-- a schema that is not refused is the one of the members
+not_refused : (built s : Schema) (o : Option Refusal) → refused_or built o ≡ Ok s → built.name ≡ s.name
+not_refused built s None h = cc
+not_refused built s (Some refusal) h = cc
+
+-- and so has the schema that is accepted
+accepted_name : (d : Data) (s : Schema) → accepted d ≡ Ok s → name_at d ≡ Some s.name
+accepted_name d s h = by_real (has_real d) h
+  where
+    by_shape : (o : Option SchemaShape) → schema_shape d ≡ o → judged d o ≡ Ok s → name_at d ≡ Some s.name
+    by_shape None is h = cc
+    by_shape (Some shape) is h = shape_name (name_at d) (optional as_str (get (codes "version") d)) (optional as_str (get (codes "cksum") d)) (option_and_then (named_parts table_shape) (get (codes "tables") d)) shape is ∙ ap Some (not_refused (schema_of d shape) s (refusal_of_shape shape) h)
+
+    by_real : (b : Bool) → cond b (Err RealNotSupported) (judged d (schema_shape d)) ≡ Ok s → name_at d ≡ Some s.name
+    by_real true h = cc
+    by_real false h = by_shape (schema_shape d) refl h
 
 -- the text is read and its name computed
 pub returns-in-Ok-clause-name : goal.returns-in-Ok-clause-name
 unfolding serde_json_on_literals
 returns-in-Ok-clause-name c =
-    let named : name_read c.in_ok-tree.tree ≡ Some (codes "Net") = ap (option_and_then name_read) (sym c.in_ok-tree.ensures) in
-    same_Some c.in-Ok.schema.name (codes "Net") (sym (name_is (name_read c.in_ok-tree.tree) (tables_read c.in_ok-tree.tree) c.in_ok-tree.tree c.in-Ok.schema c.in-Ok.ensures.ok) ∙ named)
+    let named : name_at c.in_ok-tree.tree ≡ Some (codes "Net") = ap (option_and_then name_at) (sym c.in_ok-tree.ensures) in
+    same_Some c.in-Ok.schema.name (codes "Net") (sym (accepted_name c.in_ok-tree.tree c.in-Ok.schema c.in-Ok.ensures.ok) ∙ named)

@@ -1,7 +1,8 @@
-use Rattle.std.proofs.Common.{◌≡◌, ◌≤◌, refl, true, rules, inl}
-use Rattle.ov_core.proofs.Steps.{taken, gave_up, alone, it_closed, stood_in, nothing_chosen, refused_memory, entry_of}
+use Rattle.std.proofs.Common.{◌≡◌, ◌≤◌, List, [], refl, true, false, rules, inl, sym, ◌∙◌, ap}
+use Rattle.ov_core.proofs.Steps.{taken, taking, entry_of, entered_as, alone, it_closed, stood_in, left_without, left_open}
+use Rattle.ov_core.specs.Working.{over}
 use Rattle.ov_rpc.specs.Message.{message_view}
-use Rattle.ov_specs.specs.Machine.{is_open, Take}
+use Rattle.ov_specs.specs.Machine.{is_open}
 use Rattle.ov_core.proofs.machine.Core.take.Goals as goal
 
 pub returns-in_default : goal.returns-in_default
@@ -15,17 +16,21 @@ returns-then-is_err g c =
     let here = rw (← c.self.view_is) at there in
     rw (← c.self.view_is, ← c.reserve.ensures.items) (stood_in _ _ _ _ _ _ (it_closed c.close_at-then-is_err.result _ _ _ c.close_at-then-is_err.ensures here))
 
-pub returns-then-answer : goal.returns-then-answer
-returns-then-answer g c =
+pub returns-then-is_closing : goal.returns-then-is_closing
+returns-then-is_closing g c =
     let low : c.self.inside.moment ≤ c.args.moment = search rules in
     let there : is_open c.args.self.now.state c.args.session.serial ≡ true = search rules in
     let here = rw (← c.self.view_is) at there in
     rw (← c.self.view_is) (record {
-      entry = entry_of (Take c.args.session.serial (message_view c.args.message)) (nothing_chosen c.args.moment);
-      tells = (refl, here);
+      entry = taking c.args.moment c.args.session.serial (message_view c.args.message) c.work-draws.result.draws.items c.work-draws.result.outcome;
+      tells = (inl refl, refl);
       moment = refl;
-      drawn = refl;
-      moves = taken _ c.args.moment c.args.session.serial (message_view c.args.message) c.quiet.result _ _ low here (rw (← c.reserve.ensures.items) c.push_back_reserved.ensures.items) c.quiet.ensures (rw c.name.ensures at c.if-answer.ensures);
+      drawn = c.work-draws.ensures.drawn;
+      moves = taken _ c.args.moment c.args.session.serial (message_view c.args.message) c.work-draws.result c.chosen.result c.push_back_reserved.new.self.items [] c.work-draws.new.waiting c.work-draws.new.database c.work-draws.new.source low here
+          (rw (← c.reserve.ensures.items) c.push_back_reserved.ensures.items)
+          (entered_as c.args.moment c.args.session.serial (message_view c.args.message) c.work-draws.result.draws.items c.work-draws.result.outcome _ c.chosen.result c.chosen.ensures c.listed.ensures)
+          (left_without c.args.session.serial c.work-draws.result.outcome _ [] (sym c.is_closing.ensures ∙ c.if-is_closing.true) (alone c.self.inside.session c.args.session.serial here))
+          c.work-draws.ensures.comes;
     })
 
 pub returns : goal.returns
@@ -34,10 +39,13 @@ returns g c =
     let there : is_open c.args.self.now.state c.args.session.serial ≡ true = search rules in
     let here = rw (← c.self.view_is) at there in
     rw (← c.self.view_is) (record {
-      entry = entry_of (Take c.args.session.serial (message_view c.args.message)) (refused_memory c.args.moment);
-      tells = (inl refl, refl);
+      entry = taking c.args.moment c.args.session.serial (message_view c.args.message) c.work-draws.result.draws.items c.work-draws.result.outcome;
+      tells = (refl, here);
       moment = refl;
-      drawn = refl;
-      moves = gave_up _ c.args.moment c.args.session.serial (message_view c.args.message) c.chosen.result _ _ _ low here (rw (← c.reserve.ensures.items) c.push_back_reserved-2.ensures.items) (rw (← c.first_attempt-outcomes.ensures) c.chosen.ensures)
-          (alone c.self.inside.session c.args.session.serial here) c.if-answer.ensures;
+      drawn = c.work-draws.ensures.drawn;
+      moves = taken _ c.args.moment c.args.session.serial (message_view c.args.message) c.work-draws.result c.chosen.result c.push_back_reserved.new.self.items _ c.work-draws.new.waiting c.work-draws.new.database c.work-draws.new.source low here
+          (rw (← c.reserve.ensures.items) c.push_back_reserved.ensures.items)
+          (entered_as c.args.moment c.args.session.serial (message_view c.args.message) c.work-draws.result.draws.items c.work-draws.result.outcome _ c.chosen.result c.chosen.ensures c.listed.ensures)
+          (left_open c.args.session.serial c.work-draws.result.outcome _ (sym c.is_closing.ensures ∙ c.if-is_closing.false))
+          c.work-draws.ensures.comes;
     })

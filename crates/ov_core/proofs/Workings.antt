@@ -1,0 +1,247 @@
+-- What comes of the work on a message.
+use Rattle.std.proofs.Common.{◌≡◌, ℕ, ◌≤◌, List, [], ◌∷◌, ◌++◌, length, map, refl, sym, ap, ◌∙◌, cond, Bool, true, false, Option, Some, None, arith, inl, inr, ◌⊎◌}
+use Rattle.std.specs.Prelude.{option_to_list, not, is_some}
+use Rattle.std.proofs.lemmas.List.{append-nil}
+use Rattle.std.proofs.lemmas.Bool.{eq-eqb, le-leb}
+use Rattle.serde_json.specs.Data.{Data, Items, array}
+use Rattle.serde_json.specs.Written.{compact_text}
+use Rattle.ov_specs.specs.Database.{Database, is_database, AreLinesOf}
+use Rattle.ov_specs.specs.Frame.{frame, reply_tree}
+use Rattle.ov_specs.specs.History.{frames_to}
+use Rattle.ov_specs.specs.Lines.{Contents}
+use Rattle.ov_specs.specs.Machine as machine
+use Rattle.ov_specs.specs.Machine.{State, Stepped, Work, Answers, Transact, works, transacts, changes, attempted, closed, without, to_session, results_of, suits_draws}
+use Rattle.ov_specs.specs.Transaction.{Transacted, transaction, draws_wanted, exhausted, failed}
+use Rattle.ov_specs.specs.Uuid.{Uuid}
+use Rattle.ov_specs.specs.SchemaTypes.{Schema}
+use Rattle.ov_db.specs.Committing.{IsHeld}
+use Rattle.ov_db.specs.Resident.{Resident}
+use Rattle.ov_core.proofs.Answered.{adds_sent, nothing_sent}
+use Rattle.ov_core.specs.declared.answer.Work as code
+use Rattle.ov_core.specs.declared.answer.Work.TheVariants as kinds
+use Rattle.ov_core.specs.declared.event.Outcome.{Outcome}
+use Rattle.ov_core.specs.declared.event.Outcome.TheVariants as outcome
+use Rattle.ov_core.specs.declared.frames.Frames.{Frames}
+use Rattle.ov_core.specs.Leaving.{LeavesItsOwn}
+use Rattle.ov_core.specs.Preparing.{AreFrames}
+use Rattle.ov_core.specs.Waiting.{Queues, waiting_for, Adds, WaitsSame}
+use Rattle.ov_core.specs.Working.{IsWork, Waits, Commits, Kept, over, left_by, listed_first, Goes, IsAttempt}
+
+-- ---- want of memory
+
+-- whatever would be changed
+changes_memory : (s : State) (n : ℕ) (id : Data) (t : Transacted) (sealed : Option Database) → changes s n id t sealed (Some machine.NoMemory) ≡ Some (closed s n)
+changes_memory s n id t None = refl
+changes_memory s n id t (Some d) = refl
+
+-- whatever the transaction does
+transacts_memory : (s : State) (n : ℕ) (id : Data) (t : Transacted) → transacts s n id t (Some machine.NoMemory) ≡ Some (closed s n)
+transacts_memory s n id t = by_test (is_database s.database t.database)
+  where
+    by_test : (b : Bool) → cond b (attempted s n (results_of id t.results) (Some machine.NoMemory)) (changes s n id t s.sealed (Some machine.NoMemory)) ≡ Some (closed s n)
+    by_test true = refl
+    by_test false = changes_memory s n id t s.sealed
+
+-- before anything was drawn
+pub works_memory : (s : State) (n : ℕ) (w : Work) → works s n [] (Some machine.NoMemory) w ≡ Some (closed s n)
+works_memory s n (Answers trees) = refl
+works_memory s n (Transact id operations) = rw (le-leb 0 (draws_wanted operations) (omega arith)) (transacts_memory s n id (transaction s.schema s.database [] operations))
+
+-- the session at work is closed, and nothing else is changed
+pub gave_up : {K : Type 0} (n : ℕ) (go : State → Option Stepped) (old new : Kept K) (waited waits : Queues) → ((s : State) → go (over s old) ≡ Some (closed (over s old) n)) → ((s : State) → over s new ≡ over s old) → WaitsSame waited waits
+    → Goes n go old waited (Some outcome.NoMemory) new waits
+gave_up n go old new waited waits h same silent s =
+    ([], h s ∙ ap (λ (k : State). Some (record { state = without n k; sent = [] })) (sym (same s)), λ other. silent other ∙ sym (append-nil (waiting_for other waited)))
+
+-- an attempt for which memory was refused
+pub attempt_gave_up : {K : Type 0} (n : ℕ) (id : Data) (draws : List Uuid) (operations : Items) (old new : Kept K) (waited waits : Queues) → ((s : State) → over s new ≡ over s old) → WaitsSame waited waits
+    → IsAttempt n id draws operations old waited (Some outcome.NoMemory) new waits
+attempt_gave_up n id draws operations old new waited waits same silent =
+    gave_up n (λ s. transacts s n id (transaction s.schema s.database draws operations) (Some machine.NoMemory)) old new waited waits
+    (λ s. transacts_memory (over s old) n id (transaction old.schema old.committed draws operations)) same silent
+
+-- ---- one tree is sent
+
+pub sent_one : {K : Type 0} (n : ℕ) (go : State → Option Stepped) (old new : Kept K) (o : Option Outcome) (waited waits : Queues) (tree : Data)
+    → ((s : State) → go (over s old) ≡ Some (record { state = left_by n o (over s new); sent = to_session n (tree ∷ []) })) → Adds n (frame tree) waited waits → Goes n go old waited o new waits
+sent_one n go old new o waited waits tree h added s = (tree ∷ [], h s, adds_sent n (frame tree) (tree ∷ []) waited waits refl added)
+
+-- the results are sent, and nothing is asked of the store
+pub answered : {K : Type 0} (n : ℕ) (id : Data) (results : Items) (go : Option machine.Outcome → State → Option Stepped) (old new : Kept K) (o : Option Outcome) (waited waits : Queues)
+    → ((s : State) (c : Option machine.Outcome) → go c (over s old) ≡ attempted (over s old) n (results_of id results) c) → new ≡ old → Waits n (Some (frame (reply_tree id (array results)))) waited o waits
+    → Goes n (go (listed_first o)) old waited o new waits
+answered n id results go old new None waited waits h same added =
+    sent_one n (go None) old new None waited waits (reply_tree id (array results)) (λ s. h s None ∙ ap (λ k. Some (record { state = over s k; sent = to_session n (results_of id results) })) (sym same)) added
+answered n id results go old new (Some outcome.NoMemory) waited waits h same silent =
+    gave_up n (go (Some machine.NoMemory)) old new waited waits (λ s. h s (Some machine.NoMemory)) (λ s. ap (over s) same) silent
+answered n id results go old new (Some outcome.Kept) waited waits h same never = absurd never
+answered n id results go old new (Some outcome.Exhausted) waited waits h same never = absurd never
+answered n id results go old new (Some outcome.Failed) waited waits h same never = absurd never
+
+-- a transaction that changes nothing
+pub unchanged : {K : Type 0} (n : ℕ) (id : Data) (draws : List Uuid) (operations : Items) (old new : Kept K) (o : Option Outcome) (waited waits : Queues)
+    → is_database old.committed (transaction old.schema old.committed draws operations).database ≡ true → new ≡ old
+    → Waits n (Some (frame (reply_tree id (array (transaction old.schema old.committed draws operations).results)))) waited o waits
+    → IsAttempt n id draws operations old waited o new waits
+unchanged n id draws operations old new o waited waits e same waiting =
+    answered n id (transaction old.schema old.committed draws operations).results (λ c s. transacts s n id (transaction s.schema s.database draws operations) c) old new o waited waits (λ s c. rw e refl) same waiting
+
+-- a transaction that would change a sealed database
+pub on_sealed : {K : Type 0} (n : ℕ) (id : Data) (draws : List Uuid) (operations : Items) (old new : Kept K) (d : Database) (o : Option Outcome) (waited waits : Queues)
+    → is_database old.committed (transaction old.schema old.committed draws operations).database ≡ false → old.sealed ≡ Some d → new ≡ old
+    → Waits n (Some (frame (reply_tree id (array (failed (transaction old.schema old.committed draws operations).results))))) waited o waits
+    → IsAttempt n id draws operations old waited o new waits
+on_sealed n id draws operations old new d o waited waits e sealed same waiting =
+    answered n id (failed (transaction old.schema old.committed draws operations).results) (λ c s. transacts s n id (transaction s.schema s.database draws operations) c) old new o waited waits (λ s c. rw (e, sealed) refl) same waiting
+
+-- ---- a commit
+
+pub committed : {K : Type 0} (n : ℕ) (id : Data) (draws : List Uuid) (operations : Items) (old new : Kept K) (frames : Frames) (now after : Resident) (o : Option Outcome) (waited waits : Queues)
+    → is_database old.committed (transaction old.schema old.committed draws operations).database ≡ false → old.sealed ≡ None
+    → now ≡ record { committed = old.committed; now = (transaction old.schema old.committed draws operations).database; sealed = None }
+    → AreFrames id (transaction old.schema old.committed draws operations).results frames → Commits n frames now waited o after waits
+    → new.schema ≡ old.schema → new.committed ≡ after.committed → new.sealed ≡ after.sealed
+    → IsAttempt n id draws operations old waited o new waits
+committed n id draws operations old new frames now after None waited waits e unsealed is are never schema database sealed = absurd never
+committed n id draws operations old new frames now after (Some outcome.Kept) waited waits e unsealed is are (made, added) schema database sealed =
+    let t = transaction old.schema old.committed draws operations in
+    let d : new.committed ≡ t.database = database ∙ (ap (λ (r : Resident). r.committed) made ∙ ap (λ (r : Resident). r.now) is) in
+    let k : new.sealed ≡ None = sealed ∙ (ap (λ (r : Resident). r.sealed) made ∙ ap (λ (r : Resident). r.sealed) is) in
+    sent_one n (λ s. transacts s n id (transaction s.schema s.database draws operations) (Some machine.Kept)) old new (Some outcome.Kept) waited waits (reply_tree id (array t.results)) (λ s. rw (e, unsealed, schema, d, k) refl) (rw (← are.kept) added)
+committed n id draws operations old new frames now after (Some outcome.Exhausted) waited waits e unsealed is are (made, added) schema database sealed =
+    let t = transaction old.schema old.committed draws operations in
+    let d : new.committed ≡ old.committed = database ∙ (ap (λ (r : Resident). r.committed) made ∙ ap (λ (r : Resident). r.committed) is) in
+    let k : new.sealed ≡ None = sealed ∙ (ap (λ (r : Resident). r.sealed) made ∙ ap (λ (r : Resident). r.sealed) is) in
+    sent_one n (λ s. transacts s n id (transaction s.schema s.database draws operations) (Some machine.Exhausted)) old new (Some outcome.Exhausted) waited waits (reply_tree id (array (exhausted t.results))) (λ s. rw (e, unsealed, schema, d, k) refl) (rw (← are.exhausted) added)
+committed n id draws operations old new frames now after (Some outcome.Failed) waited waits e unsealed is are (made, added) schema database sealed =
+    let t = transaction old.schema old.committed draws operations in
+    let d : new.committed ≡ old.committed = database ∙ (ap (λ (r : Resident). r.committed) made ∙ ap (λ (r : Resident). r.committed) is) in
+    let k : new.sealed ≡ Some t.database = sealed ∙ (ap (λ (r : Resident). r.sealed) made ∙ ap (λ (r : Resident). Some r.now) is) in
+    sent_one n (λ s. transacts s n id (transaction s.schema s.database draws operations) (Some machine.Failed)) old new (Some outcome.Failed) waited waits (reply_tree id (array (failed t.results))) (λ s. rw (e, unsealed, schema, d, k) refl) (rw (← are.failed) added)
+committed n id draws operations old new frames now after (Some outcome.NoMemory) waited waits e unsealed is are (made, silent) schema database sealed =
+    let d : new.committed ≡ old.committed = database ∙ (ap (λ (r : Resident). r.committed) made ∙ ap (λ (r : Resident). r.committed) is) in
+    let k : new.sealed ≡ None = sealed ∙ (ap (λ (r : Resident). r.sealed) made ∙ ap (λ (r : Resident). r.sealed) is) in
+    attempt_gave_up n id draws operations old new waited waits (λ s. rw (unsealed, schema, d, k) refl) silent
+
+-- ---- any work
+
+-- the draws suit
+pub suits_all : (o : Option machine.Outcome) (a b : ℕ) → a ≡ b → suits_draws o a b ≡ true
+suits_all None a b e = eq-eqb a b e
+suits_all (Some machine.Kept) a b e = eq-eqb a b e
+suits_all (Some machine.Exhausted) a b e = eq-eqb a b e
+suits_all (Some machine.Failed) a b e = eq-eqb a b e
+suits_all (Some machine.NoMemory) a b e = le-leb a b (omega arith)
+
+-- an attempt is the work on a transaction
+pub attempt_works : {K : Type 0} (n : ℕ) (id : Data) (draws : List Uuid) (operations : Items) (old new : Kept K) (o : Option Outcome) (waited waits : Queues) → length draws ≡ draws_wanted operations
+    → IsAttempt n id draws operations old waited o new waits → Goes n (λ s. works s n draws (listed_first o) (Transact id operations)) old waited o new waits
+attempt_works n id draws operations old new o waited waits many tried s =
+    let came = tried s in
+    (came.0, rw (suits_all (listed_first o) (length draws) (draws_wanted operations) many) came.1, came.2)
+
+-- a frame that waits is what is sent
+waits_sent : (n : ℕ) (bytes : Option (List ℕ)) (trees : List Data) (old new : Queues) → map frame trees ≡ option_to_list bytes → Waits n bytes old None new
+    → (other : ℕ) → waiting_for other new ≡ waiting_for other old ++ frames_to other (to_session n trees)
+waits_sent n (Some bytes) trees old new is added = adds_sent n bytes trees old new is added
+waits_sent n None trees old new is silent = λ other. silent other ∙ nothing_sent n trees old is other
+
+-- nothing more waits
+silent_of : (n : ℕ) (bytes : Option (List ℕ)) (old new : Queues) → Waits n bytes old (Some outcome.NoMemory) new → WaitsSame old new
+silent_of n (Some bytes) old new silent = silent
+silent_of n None old new silent = silent
+
+-- nothing else comes of an answer
+no_other : (n : ℕ) (bytes : Option (List ℕ)) (old new : Queues) (o : Outcome) → Waits n bytes old (Some o) new → o ≡ outcome.NoMemory
+no_other n bytes old new outcome.NoMemory w = refl
+no_other n (Some bytes) old new outcome.Kept w = absurd w
+no_other n None old new outcome.Kept w = absurd w
+no_other n (Some bytes) old new outcome.Exhausted w = absurd w
+no_other n None old new outcome.Exhausted w = absurd w
+no_other n (Some bytes) old new outcome.Failed w = absurd w
+no_other n None old new outcome.Failed w = absurd w
+
+-- answered at once
+at_once : (s : State) (n : ℕ) (w : Work) (bytes : Option (List ℕ)) (old new : Queues) → IsWork w (kinds.Answer bytes) → Waits n bytes old None new
+    → (trees : List Data) × (works s n [] None w ≡ Some (record { state = s; sent = to_session n trees })) × ((other : ℕ) → waiting_for other new ≡ waiting_for other old ++ frames_to other (to_session n trees))
+at_once s n (Answers trees) bytes old new is waits = (trees, refl, waits_sent n bytes trees old new is waits)
+at_once s n (Transact id operations) bytes old new is waits = absurd is
+
+-- the work that is answered at once
+pub answers_work : {K : Type 0} (n : ℕ) (asked : State → Work) (bytes : Option (List ℕ)) (draws : List Uuid) (old : Kept K) (o : Option Outcome) (waited waits : Queues) → draws ≡ []
+    → ((s : State) → IsWork (asked (over s old)) (kinds.Answer bytes)) → Waits n bytes waited o waits → Goes n (λ s. works s n draws (listed_first o) (asked s)) old waited o old waits
+answers_work n asked bytes draws old None waited waits none is waiting = λ s.
+    let came = at_once (over s old) n (asked (over s old)) bytes waited waits (is s) waiting in
+    (came.0, rw none came.1, came.2)
+answers_work n asked bytes draws old (Some o) waited waits none is waiting =
+    let refused : o ≡ outcome.NoMemory = no_other n bytes waited waits o waiting in
+    rw (refused, none) (gave_up n (λ s. works s n [] (Some machine.NoMemory) (asked s)) old old waited waits (λ s. works_memory (over s old) n (asked (over s old))) (λ s. refl) (silent_of n bytes waited waits (rw refused at waiting)))
+
+-- the work that is a transaction
+pub transact_work : (w : Work) (id : Data) (operations : Items) → IsWork w (kinds.Transact id operations) → w ≡ Transact id operations
+transact_work (Answers trees) id operations is = absurd is
+transact_work (Transact i o) id operations is = rw (is.0, is.1) refl
+
+-- rows that were under way and are undone
+pub undone : (rows mid new : Resident) (d : Database) → rows.now ≡ rows.committed → mid ≡ record rows { now = d } → new ≡ record mid { now = mid.committed } → new ≡ rows
+undone rows mid new d at was is = is ∙ (ap (λ (r : Resident). record r { now = r.committed }) was ∙ ap (λ (n : Database). record rows { now = n }) (sym at))
+
+-- want of memory before anything was tried
+pub nothing_drawn : {K : Type 0} (n : ℕ) (asked : State → Work) (old : Kept K) (draws : List Uuid) (waits : Queues) → draws ≡ [] → Goes n (λ s. works s n draws (Some machine.NoMemory) (asked s)) old waits (Some outcome.NoMemory) old waits
+nothing_drawn n asked old draws waits none =
+    rw none (gave_up n (λ s. works s n [] (Some machine.NoMemory) (asked s)) old old waits waits (λ s. works_memory (over s old) n (asked (over s old))) (λ s. refl) (λ other. refl))
+
+-- a transaction that left the rows as they were
+pub same_database : (rows mid : Resident) (d : Database) → mid ≡ record rows { now = d } → false ≡ not (is_database mid.committed mid.now) → is_database rows.committed d ≡ true
+same_database rows mid d was h = sym (ap (λ (r : Resident). is_database r.committed r.now) was) ∙ by_test (is_database mid.committed mid.now) h
+  where
+    by_test : (b : Bool) → false ≡ not b → b ≡ true
+    by_test true h = refl
+    by_test false h = cc
+
+-- one that did not
+pub other_database : (rows mid : Resident) (d : Database) → mid ≡ record rows { now = d } → true ≡ not (is_database mid.committed mid.now) → is_database rows.committed d ≡ false
+other_database rows mid d was h = sym (ap (λ (r : Resident). is_database r.committed r.now) was) ∙ by_test (is_database mid.committed mid.now) h
+  where
+    by_test : (b : Bool) → true ≡ not b → b ≡ false
+    by_test false h = refl
+    by_test true h = cc
+
+-- a database that is sealed
+pub is_sealed_by : (rows mid : Resident) (d : Database) → mid ≡ record rows { now = d } → true ≡ is_some mid.sealed → (e : Database) × (rows.sealed ≡ Some e)
+is_sealed_by rows mid d was h = by_sealed rows.sealed (h ∙ ap (λ (r : Resident). is_some r.sealed) was)
+  where
+    by_sealed : (o : Option Database) → true ≡ is_some o → (e : Database) × (o ≡ Some e)
+    by_sealed (Some e) h = (e, refl)
+    by_sealed None h = cc
+
+-- and one that is not
+pub not_sealed : (rows mid : Resident) (d : Database) → mid ≡ record rows { now = d } → false ≡ is_some mid.sealed → rows.sealed ≡ None
+not_sealed rows mid d was h = by_sealed rows.sealed (h ∙ ap (λ (r : Resident). is_some r.sealed) was)
+  where
+    by_sealed : (o : Option Database) → false ≡ is_some o → o ≡ None
+    by_sealed None h = refl
+    by_sealed (Some e) h = cc
+
+-- a database of these parts
+abbrev pub kept_by : {K : Type 0} → Schema → Resident → K → Kept K
+kept_by schema rows keeper = record { schema = schema; committed = rows.committed; sealed = rows.sealed; keeper = keeper }
+
+-- after a commit no row is under way
+pub settled : (n : ℕ) (frames : Frames) (now after : Resident) (o : Option Outcome) (waited waits : Queues) → Commits n frames now waited o after waits → after.now ≡ after.committed
+settled n frames now after (Some outcome.Kept) waited waits (made, added) = ap (λ (r : Resident). r.now) made ∙ sym (ap (λ (r : Resident). r.committed) made)
+settled n frames now after (Some outcome.Exhausted) waited waits (made, added) = ap (λ (r : Resident). r.now) made ∙ sym (ap (λ (r : Resident). r.committed) made)
+settled n frames now after (Some outcome.Failed) waited waits (made, added) = ap (λ (r : Resident). r.now) made ∙ sym (ap (λ (r : Resident). r.committed) made)
+settled n frames now after (Some outcome.NoMemory) waited waits (made, silent) = ap (λ (r : Resident). r.now) made ∙ sym (ap (λ (r : Resident). r.committed) made)
+settled n frames now after None waited waits never = absurd never
+
+-- rows under way of a database that is not sealed
+pub under_way : (rows mid : Resident) (d : Database) → mid ≡ record rows { now = d } → rows.sealed ≡ None → mid ≡ record { committed = rows.committed; now = d; sealed = None }
+under_way rows mid d was unsealed = was ∙ ap (λ (o : Option Database). record rows { now = d; sealed = o }) unsealed
+
+-- ---- what a crash leaves
+
+-- what is held of a database is what a crash may leave of a state over it
+pub its_own : (s : State) (held : Contents) → IsHeld (compact_text s.schema.tree) s.database s.sealed held → LeavesItsOwn s held
+its_own s held (schema, inl lines) = (schema, (s.database, inl refl, lines))
+its_own s held (schema, inr (d, sealed, lines)) = (schema, (d, inr sealed, lines))

@@ -1,0 +1,77 @@
+ghost use Rattle.std.specs.Prelude.{◌≡◌, Some, None};
+ghost use Rattle.ov_rpc.specs.Message.{message_view};
+ghost use Rattle.ov_specs.specs.Machine as spec;
+ghost use Rattle.ov_early.specs.Drawing.{DrawsFrom};
+ghost use Rattle.ov_core.specs.Working.{Comes};
+
+use crate::answer::{Work, work_of};
+use crate::database::Database;
+use crate::event::Outcome;
+use crate::waiting::{Waiting, send};
+use ov_base::{Tree, Trees};
+use ov_early::{Draws, Keeper};
+use ov_rpc::Message;
+use ov_txn::draws_for;
+use std::alloc::Global;
+use uuid::Uuid;
+
+/// What came of the work on a message: the identifiers that were drawn for it, and what is listed of its attempt.
+#[derive(Drop)]
+pub(crate) struct Worked {
+    pub draws: Vec<Uuid>,
+    pub outcome: Option<Outcome>,
+}
+
+/// Memory was refused.
+fn out_of_memory(draws: Vec<Uuid>) -> Worked
+    ensures { result ≡ record { draws = draws; outcome = Some Outcome.NoMemory } }
+{
+    Worked {
+        draws,
+        outcome: Some(Outcome::NoMemory),
+    }
+}
+
+/// A transaction, with the identifiers that are drawn for it.
+fn transact<K: Keeper + Drop, D: Draws>(
+    alloc: Global,
+    database: &mut Database<K>,
+    source: &mut D,
+    waiting: &mut Waiting,
+    session: u64,
+    id: &Tree,
+    operations: &Trees,
+) -> Worked
+    ensures comes { Comes session (λ s. spec.Transact id.now operations.now) database.old waiting.old result database.new waiting.new }
+    ensures drawn { DrawsFrom D.draws source.old result.draws.items source.new }
+{
+    let Ok(draws) = draws_for(alloc, operations, source) else {
+        return out_of_memory(Vec::new(alloc));
+    };
+    let outcome = database.attempt(alloc, waiting, session, id, draws.as_slice(), operations);
+    Worked { draws, outcome }
+}
+
+/// The work on a message of a session, which is the first attempt of its event.
+pub(crate) fn work<K: Keeper + Drop, D: Draws>(
+    alloc: Global,
+    database: &mut Database<K>,
+    source: &mut D,
+    waiting: &mut Waiting,
+    session: u64,
+    message: &Message,
+) -> Worked
+    ensures comes { Comes session (λ s. spec.work_of s (message_view message.now)) database.old waiting.old result database.new waiting.new }
+    ensures drawn { DrawsFrom D.draws source.old result.draws.items source.new }
+{
+    match work_of(alloc, database.schema(), message) {
+        Err(_) => out_of_memory(Vec::new(alloc)),
+        Ok(Work::Answer(frame)) => Worked {
+            draws: Vec::new(alloc),
+            outcome: send(alloc, waiting, session, frame),
+        },
+        Ok(Work::Transact(id, operations)) => {
+            transact(alloc, database, source, waiting, session, &id, &operations)
+        }
+    }
+}

@@ -1,0 +1,6 @@
+pub mod MemberLemmas
+pub mod ChoiceLemmas
+pub mod NamedLemmas
+pub mod RefusalLemmas
+pub mod FittingLemmas
+pub mod BuildingLemmas

@@ -1,0 +1,160 @@
+ghost use Rattle.std.specs.Prelude.{◌≡◌, IfOk};
+ghost use Rattle.std.specs.List.{list_any};
+ghost use Rattle.std.specs.FinMap.{contains_key};
+ghost use Rattle.std.specs.Ordering.{eq_by_cmp};
+ghost use Rattle.ov_specs.specs.Value.{atom_cmp};
+ghost use Rattle.ov_specs.specs.Schema.{kind_named, base_of, reference_of};
+ghost use Rattle.ov_specs.specs.Fitting.{in_range, atom_fits};
+ghost use Rattle.ov_atoms.specs.Views.{kind_view, atom_view, atoms_view};
+ghost use Rattle.ov_schema.specs.ShapeViews.{name_view, base_view};
+ghost use Rattle.ov_schema.specs.Sets.{set_in};
+
+use crate::base_shape::{BaseShape, TypeName};
+use crate::choices::read_choices;
+use crate::limits::{char_count, is_between};
+use ov_atoms::{Atom, AtomKind, Datum};
+use ov_base::Text;
+use std::alloc::{AllocError, Global};
+use std::marker::Model;
+
+/// The table that an identifier refers to (RFC 7047, 3.2, `<base-type>`).
+#[derive(Drop)]
+pub(crate) struct Reference {
+    table: Text,
+    is_strong: bool,
+}
+
+impl Model for Reference {
+    ghost use Rattle.ov_specs.specs.SchemaTypes as types;
+
+    ghost Value = { types.Reference };
+
+    ghost coded = { types.reference_code };
+
+    ghost view = { λ r. record { table = r.table; is_strong = r.is_strong } };
+}
+
+/// An atomic type with its constraints (RFC 7047, 3.2, `<base-type>`).
+#[derive(Drop)]
+pub(crate) struct BaseType {
+    kind: AtomKind,
+    choices: Option<Datum>,
+    least: Option<i64>,
+    greatest: Option<i64>,
+    shortest: Option<i64>,
+    longest: Option<i64>,
+    refers: Option<Reference>,
+}
+
+impl Model for BaseType {
+    ghost use Rattle.std.specs.Prelude.{option_map};
+    ghost use Rattle.ov_specs.specs.SchemaTypes as types;
+    ghost use Rattle.ov_atoms.specs.Views.{kind_view};
+    ghost use Rattle.ov_schema.specs.Sets.{set_in};
+
+    ghost Value = { types.BaseType };
+
+    ghost coded = { types.base_type_code };
+
+    ghost view = { λ b. record { kind = kind_view b.kind; choices = option_map set_in b.choices; least = b.least; greatest = b.greatest; shortest = b.shortest; longest = b.longest; refers = b.refers } };
+}
+
+impl TypeName {
+    /// The atomic type of the name; no schema that is accepted has "real".
+    fn kind(self) -> AtomKind
+        ensures { kind_view result ≡ kind_named (name_view self) }
+    {
+        match self {
+            TypeName::Kind(kind) => kind,
+            TypeName::Real => AtomKind::Integer,
+        }
+    }
+}
+
+impl BaseType {
+    /// The base type of these members.
+    pub(crate) fn build(alloc: Global, shape: &BaseShape<'_>) -> Result<BaseType, AllocError>
+        ensures { IfOk result (λ b. b ≡ base_of (base_view shape.now)) }
+    {
+        let choices = read_choices(alloc, shape.of, shape.choices)?;
+        let refers = reference_of(alloc, shape)?;
+        Ok(BaseType {
+            kind: shape.of.kind(),
+            choices,
+            least: shape.least,
+            greatest: shape.greatest,
+            shortest: shape.shortest,
+            longest: shape.longest,
+            refers,
+        })
+    }
+
+    /// The kind of its atoms.
+    pub(crate) fn kind(&self) -> AtomKind
+        ensures { kind_view result ≡ self.now.kind }
+    {
+        self.kind
+    }
+
+    /// Whether an atom is one of the choices, and in its range.
+    pub(crate) fn atom_fits(&self, atom: &Atom) -> bool
+        ensures { result ≡ atom_fits self.now (atom_view atom.now) }
+    {
+        let is_chosen = match &self.choices {
+            Some(choices) => is_in(choices, atom),
+            None => true,
+        };
+        is_chosen && self.has_in_range(atom)
+    }
+
+    /// Whether a number, or the length of a text in characters, is in its range.
+    fn has_in_range(&self, atom: &Atom) -> bool
+        ensures { result ≡ in_range self.now (atom_view atom.now) }
+    {
+        match atom {
+            Atom::Integer(number) => is_between(self.least, self.greatest, i128::from(*number)),
+            Atom::Text(text) => {
+                is_between(
+                    self.shortest,
+                    self.longest,
+                    char_count(text.as_str()) as i128,
+                )
+            }
+            Atom::Boolean(_) => true,
+            Atom::Uuid(_) => true,
+        }
+    }
+}
+
+fn reference_of(alloc: Global, shape: &BaseShape<'_>) -> Result<Option<Reference>, AllocError>
+    ensures { IfOk result (λ o. o ≡ reference_of (base_view shape.now)) }
+{
+    match shape.ref_table {
+        Some(table) => Ok(Some(Reference {
+            table: Text::from_str(alloc, table)?,
+            is_strong: shape.is_strong(),
+        })),
+        None => Ok(None),
+    }
+}
+
+/// Whether a set has the atom. Lists of choices are short, so they are looked through.
+fn is_in(set: &Datum, atom: &Atom) -> bool
+    ensures { result ≡ contains_key (set_in set.now) (atom_view atom.now) }
+{
+    match set.atoms() {
+        Some(atoms) => has_atom(atoms, atom),
+        None => false,
+    }
+}
+
+fn has_atom(atoms: &[Atom], atom: &Atom) -> bool
+    ensures { result ≡ list_any (eq_by_cmp atom_cmp (atom_view atom.now)) (atoms_view atoms.now) }
+{
+    for other in atoms {
+        if atom == other {
+            return true;
+        }
+    }
+    false
+}

@@ -1,0 +1,94 @@
+ghost use Rattle.std.specs.Prelude.{◌≡◌, IfOk};
+ghost use Rattle.ov_specs.specs.Fitting.{fits, default_of};
+ghost use Rattle.ov_specs.specs.Schema.{column_of, own_column};
+ghost use Rattle.ov_specs.specs.SchemaTypes.{kinds_of};
+ghost use Rattle.ov_atoms.specs.Views.{kinds_view};
+ghost use Rattle.ov_schema.specs.ShapeViews.{column_view};
+
+use crate::base_shape::{BaseShape, TypeName};
+use crate::column_type::ColumnType;
+use crate::type_shape::{ColumnShape, TypeShape};
+use ov_atoms::{AtomKind, Datum, Kinds};
+use std::alloc::{AllocError, Global};
+use std::marker::Model;
+
+/// A column of a table (RFC 7047, 3.2, `<column-schema>`).
+#[derive(Drop)]
+pub struct Column {
+    type_of: ColumnType,
+    is_ephemeral: bool,
+    is_mutable: bool,
+}
+
+impl Model for Column {
+    ghost use Rattle.ov_specs.specs.SchemaTypes as types;
+
+    ghost Value = { types.Column };
+
+    ghost coded = { types.column_code };
+
+    ghost view = { λ c. record { type_of = c.type_of; is_ephemeral = c.is_ephemeral; is_mutable = c.is_mutable } };
+}
+
+impl Column {
+    /// The column of these members.
+    pub(crate) fn build(alloc: Global, shape: &ColumnShape<'_>) -> Result<Column, AllocError>
+        ensures { IfOk result (λ c. c ≡ column_of (column_view shape.now)) }
+    {
+        Ok(Column {
+            type_of: ColumnType::build(alloc, &shape.type_of)?,
+            is_ephemeral: shape.is_ephemeral,
+            is_mutable: shape.is_mutable || shape.type_of.is_weak(),
+        })
+    }
+
+    /// `_uuid` or `_version`: one identifier, which clients don't change.
+    pub(crate) fn own(alloc: Global) -> Result<Column, AllocError>
+        ensures { IfOk result (λ c. c ≡ own_column) }
+    {
+        let shape = ColumnShape {
+            type_of: TypeShape::plain(BaseShape::plain(TypeName::Kind(AtomKind::Uuid))),
+            is_ephemeral: false,
+            is_mutable: false,
+        };
+        Column::build(alloc, &shape)
+    }
+
+    /// What the column holds: atoms of one kind, or pairs of two (RFC 7047, 3.2, `<type>`).
+    pub fn kinds(&self) -> Kinds
+        ensures { kinds_view result ≡ kinds_of self.now.type_of }
+    {
+        self.type_of.kinds()
+    }
+
+    /// Whether a value of the column's kinds meets its constraints (RFC 7047, 3.2, `<type>`): its count lies between
+    /// `min` and `max`, and each atom is in its `enum` and its range. The length of a text is counted in characters.
+    pub fn fits(&self, datum: &Datum) -> bool
+        ensures { result ≡ fits self.now.type_of datum.now }
+    {
+        self.type_of.fits(datum)
+    }
+
+    /// The value that a new row has where none is given: nothing where `min` is 0, else one 0, false, empty text or
+    /// zero UUID, or a pair of two of these (RFC 7047, 5.2.1).
+    pub fn default_of(&self, alloc: Global) -> Result<Datum, AllocError>
+        ensures { IfOk result (λ d. d ≡ default_of self.now.type_of) }
+    {
+        self.type_of.default_of(alloc)
+    }
+
+    /// Whether clients may change it in a row that is there. A column of weak references is changed by the server
+    /// itself, so it is mutable whatever its schema says (own).
+    pub fn is_mutable(&self) -> bool
+        ensures { result ≡ self.now.is_mutable }
+    {
+        self.is_mutable
+    }
+
+    /// Whether its values are not kept when the server ends (RFC 7047, 3.2, `<column-schema>`).
+    pub fn is_ephemeral(&self) -> bool
+        ensures { result ≡ self.now.is_ephemeral }
+    {
+        self.is_ephemeral
+    }
+}

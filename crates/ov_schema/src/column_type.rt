@@ -1,0 +1,140 @@
+ghost use Rattle.std.specs.Prelude.{◌≡◌, ◌&&◌, IfOk, option_map};
+ghost use Rattle.std.specs.List.{list_all};
+ghost use Rattle.ov_specs.specs.Schema.{base_of, max_of, type_of};
+ghost use Rattle.ov_specs.specs.SchemaTypes.{kinds_of};
+ghost use Rattle.ov_specs.specs.Fitting.{atom_fits, value_fits, fits, default_of};
+ghost use Rattle.ov_atoms.specs.Views.{kinds_view, atom_view, atoms_view, pairs_view};
+ghost use Rattle.ov_schema.specs.ShapeViews.{base_view, most_view, type_view};
+
+use crate::base_shape::BaseShape;
+use crate::base_type::BaseType;
+use crate::limits::is_between;
+use crate::type_shape::{Most, TypeShape};
+use ov_atoms::{Atom, Datum, Kinds};
+use std::alloc::{AllocError, Global};
+use std::marker::Model;
+
+/// The type of a column (RFC 7047, 3.2, `<type>`): a map has a type for its values, and no greatest count is
+/// "unlimited".
+#[derive(Drop)]
+pub(crate) struct ColumnType {
+    key: BaseType,
+    value: Option<BaseType>,
+    min: i64,
+    max: Option<i64>,
+}
+
+impl Model for ColumnType {
+    ghost use Rattle.ov_specs.specs.SchemaTypes as types;
+
+    ghost Value = { types.ColumnType };
+
+    ghost coded = { types.column_type_code };
+
+    ghost view = { λ t. record { key = t.key; value = t.value; min = t.min; max = t.max } };
+}
+
+impl ColumnType {
+    /// The type of these members.
+    pub(crate) fn build(alloc: Global, shape: &TypeShape<'_>) -> Result<ColumnType, AllocError>
+        ensures { IfOk result (λ t. t ≡ type_of (type_view shape.now)) }
+    {
+        Ok(ColumnType {
+            key: BaseType::build(alloc, &shape.key)?,
+            value: optional_type(alloc, &shape.value)?,
+            min: shape.min.unwrap_or(1),
+            max: max_of(shape.max),
+        })
+    }
+
+    /// What the column holds: atoms of one kind, or pairs of two.
+    pub(crate) fn kinds(&self) -> Kinds
+        ensures { kinds_view result ≡ kinds_of self.now }
+    {
+        match &self.value {
+            Some(value) => Kinds::Pair(self.key.kind(), value.kind()),
+            None => Kinds::Single(self.key.kind()),
+        }
+    }
+
+    /// Whether the count lies between `min` and `max`, and each atom fits.
+    pub(crate) fn fits(&self, datum: &Datum) -> bool
+        ensures { result ≡ fits self.now datum.now }
+    {
+        if !is_between(Some(self.min), self.max, datum.count() as i128) {
+            return false;
+        }
+        if let Some(atoms) = datum.atoms() {
+            return self.atoms_fit(atoms);
+        }
+        match datum.pairs() {
+            Some(pairs) => self.pairs_fit(pairs),
+            None => true,
+        }
+    }
+
+    fn atoms_fit(&self, atoms: &[Atom]) -> bool
+        ensures { result ≡ list_all (atom_fits self.now.key) (atoms_view atoms.now) }
+    {
+        for atom in atoms {
+            if !self.key.atom_fits(atom) {
+                return false;
+            }
+        }
+        true
+    }
+
+    fn pairs_fit(&self, pairs: &[(Atom, Atom)]) -> bool
+        ensures { result ≡ list_all (λ p. atom_fits self.now.key p.0 && value_fits self.now.value p.1) (pairs_view pairs.now) }
+    {
+        for (key, value) in pairs {
+            if !self.key.atom_fits(key) || !self.value_fits(value) {
+                return false;
+            }
+        }
+        true
+    }
+
+    fn value_fits(&self, value: &Atom) -> bool
+        ensures { result ≡ value_fits self.now.value (atom_view value.now) }
+    {
+        match &self.value {
+            Some(type_of) => type_of.atom_fits(value),
+            None => true,
+        }
+    }
+
+    /// Nothing where the count may be 0, else one default atom or pair.
+    pub(crate) fn default_of(&self, alloc: Global) -> Result<Datum, AllocError>
+        ensures { IfOk result (λ d. d ≡ default_of self.now) }
+    {
+        if 0 < self.min {
+            Datum::one_default_of(alloc, self.kinds())
+        } else {
+            Ok(Datum::nothing_of(alloc, self.kinds()))
+        }
+    }
+}
+
+fn optional_type(
+    alloc: Global,
+    shape: &Option<BaseShape<'_>>,
+) -> Result<Option<BaseType>, AllocError>
+    ensures { IfOk result (λ o. o ≡ option_map base_of (option_map base_view shape.now)) }
+{
+    match shape {
+        Some(shape) => Ok(Some(BaseType::build(alloc, shape)?)),
+        None => Ok(None),
+    }
+}
+
+/// 1 where nothing is said, none where it is "unlimited".
+fn max_of(max: Option<Most>) -> Option<i64>
+    ensures { result ≡ max_of (option_map most_view max) }
+{
+    match max {
+        Some(Most::AtMost(count)) => Some(count),
+        Some(Most::Unlimited) => None,
+        None => Some(1),
+    }
+}

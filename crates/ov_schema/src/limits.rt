@@ -1,0 +1,24 @@
+ghost use Rattle.std.specs.Prelude.{◌≡◌};
+ghost use Rattle.ov_specs.specs.Fitting.{is_between, char_count};
+
+/// Whether a number is neither below the least nor above the greatest, where they are there.
+pub(crate) fn is_between(least: Option<i64>, greatest: Option<i64>, number: i128) -> bool
+    ensures { result ≡ is_between least greatest number }
+{
+    let is_too_small = match least {
+        Some(least) => number < i128::from(least),
+        None => false,
+    };
+    let is_too_great = match greatest {
+        Some(greatest) => i128::from(greatest) < number,
+        None => false,
+    };
+    !is_too_small && !is_too_great
+}
+
+/// How many Unicode scalar values a text has.
+pub(crate) fn char_count(text: &str) -> usize
+    ensures { result ≡ char_count text.now }
+{
+    text.chars().count()
+}

@@ -1,0 +1,126 @@
+use crate::bench::Bench;
+use std::test::Fail;
+
+/// A transaction without operations, an insert, and a select with all columns.
+const INSERTED: &str = r#">{"id":0,"method":"transact","params":["Net"]}
+<{"error":null,"id":0,"result":[]}
+>{"id":1,"method":"transact","params":["Net",{"op":"insert","table":"Switch","row":{"name":"s1"}}]}
+<{"error":null,"id":1,"result":[{"uuid":["uuid","00000000-0000-4000-8000-000000000003"]}]}
+>{"id":2,"method":"transact","params":["Net",{"op":"select","table":"Switch","where":[]}]}
+<{"error":null,"id":2,"result":[{"rows":[{"_uuid":["uuid","00000000-0000-4000-8000-000000000003"],"_version":["uuid","00000000-0000-4000-8000-000000000002"],"load":0,"main":["set",[]],"name":"s1","ports":["set",[]]}]}]}"#;
+
+/// Behind the operation that fails the results are null, and the table is as before. All that it wanted was drawn.
+const UNDONE: &str =
+    r#">{"id":1,"method":"transact","params":["Net",{"op":"insert","table":"Switch","row":{"name":"s1"}},{"op":"select","table":"Swich","where":[],"columns":[]},{"op":"insert","table":"Switch","row":{"name":"s2"}}]}
+<{"error":null,"id":1,"result":[{"uuid":["uuid","00000000-0000-4000-8000-000000000002"]},{"error":"unknown table"},null]}
+>{"id":2,"method":"transact","params":["Net",{"op":"select","table":"Switch","where":[],"columns":["name"]}]}
+<{"error":null,"id":2,"result":[{"rows":[]}]}
+>{"id":3,"method":"transact","params":["Net",{"op":"insert","table":"Switch","row":{"name":"s3"}}]}
+<{"error":null,"id":3,"result":[{"uuid":["uuid","00000000-0000-4000-8000-000000000006"]}]}"#;
+
+/// Of members with one name the last counts, and unknown members are passed over.
+const REPEATED: &str =
+    r#">{"id":1,"method":"transact","params":["Net",{"op":"insert","table":"Swich","table":"Switch","row":{"name":"a","name":"b"},"colour":1}]}
+<{"error":null,"id":1,"result":[{"uuid":["uuid","00000000-0000-4000-8000-000000000002"]}]}
+>{"id":2,"method":"transact","params":["Net",{"op":"select","table":"Switch","where":[],"columns":["name"]}]}
+<{"error":null,"id":2,"result":[{"rows":[{"name":"b"}]}]}"#;
+
+/// Nothing is drawn for a transaction that is not tried.
+const PARAMS: &str = r#">{"id":1,"method":"transact","params":[]}
+<{"error":"syntax error","id":1,"result":null}
+>{"id":2,"method":"transact","params":[1]}
+<{"error":"syntax error","id":2,"result":null}
+>{"id":3,"method":"transact","params":[null,{"op":"insert","table":"Switch","row":{"name":"s1"}}]}
+<{"error":"syntax error","id":3,"result":null}
+>{"id":4,"method":"transact","params":["net",{"op":"insert","table":"Switch","row":{"name":"s1"}}]}
+<{"error":"unknown database","id":4,"result":null}
+>{"id":5,"method":"transact","params":["Net",1]}
+<{"error":null,"id":5,"result":[{"error":"syntax error"}]}
+>{"id":6,"method":"transact","params":["Net",{"op":"insert","table":"Switch","row":{"name":"s1"}}]}
+<{"error":null,"id":6,"result":[{"uuid":["uuid","00000000-0000-4000-8000-000000000003"]}]}"#;
+
+/// Of what is refused nothing stays.
+const REFUSED: &str =
+    r#">{"id":1,"method":"transact","params":["Net",{"op":"erase"},{"op":"insert","table":"Switch","row":{"name":"s1"}}]}
+<{"error":null,"id":1,"result":[{"error":"unknown operation"},null]}
+>{"id":2,"method":"transact","params":["Net",{"op":"select","table":"Swich","where":[],"columns":["name"]}]}
+<{"error":null,"id":2,"result":[{"error":"unknown table"}]}
+>{"id":3,"method":"transact","params":["Net",{"op":"select","table":"Switch","where":[],"columns":["nam"]}]}
+<{"error":null,"id":3,"result":[{"error":"unknown column"}]}
+>{"id":4,"method":"transact","params":["Net",{"op":"insert","table":"Port","row":{"tag":4096}}]}
+<{"error":null,"id":4,"result":[{"error":"constraint violation"}]}
+>{"id":5,"method":"transact","params":["Net",{"op":"insert","table":"Port","row":{"tag":["set",[1,2]]}}]}
+<{"error":null,"id":5,"result":[{"error":"constraint violation"}]}
+>{"id":6,"method":"transact","params":["Net",{"op":"insert","table":"Port","row":{"tag":"x"}}]}
+<{"error":null,"id":6,"result":[{"error":"syntax error"}]}
+>{"id":7,"method":"transact","params":["Net",{"op":"select","table":"Port","where":[],"columns":["name"]}]}
+<{"error":null,"id":7,"result":[{"rows":[]}]}"#;
+
+/// After the device has failed nothing is committed any more, and what was committed is still read.
+const SEALED: &str =
+    r#">{"id":1,"method":"transact","params":["Net",{"op":"insert","table":"Switch","row":{"name":"s1"}}]}
+<{"error":null,"id":1,"result":[{"uuid":["uuid","00000000-0000-4000-8000-000000000002"]},{"error":"I/O error"}]}
+>{"id":2,"method":"transact","params":["Net",{"op":"select","table":"Switch","where":[],"columns":["name"]}]}
+<{"error":null,"id":2,"result":[{"rows":[]}]}
+>{"id":3,"method":"transact","params":["Net",{"op":"insert","table":"Switch","row":{"name":"s2"}}]}
+<{"error":null,"id":3,"result":[{"uuid":["uuid","00000000-0000-4000-8000-000000000005"]},{"error":"I/O error"}]}
+>{"id":4,"method":"transact","params":["Net"]}
+<{"error":null,"id":4,"result":[]}"#;
+
+/// The store has no room for the first commit, and makes the second.
+const NO_ROOM: &str =
+    r#">{"id":1,"method":"transact","params":["Net",{"op":"insert","table":"Switch","row":{"name":"s1"}}]}
+<{"error":null,"id":1,"result":[{"uuid":["uuid","00000000-0000-4000-8000-000000000002"]},{"error":"resources exhausted"}]}
+>{"id":2,"method":"transact","params":["Net",{"op":"insert","table":"Switch","row":{"name":"s2"}}]}
+<{"error":null,"id":2,"result":[{"uuid":["uuid","00000000-0000-4000-8000-000000000004"]}]}
+>{"id":3,"method":"transact","params":["Net",{"op":"select","table":"Switch","where":[],"columns":["name"]}]}
+<{"error":null,"id":3,"result":[{"rows":[{"name":"s2"}]}]}"#;
+
+#[test]
+fn inserted_rows_are_selected(rt: HostRuntime) -> Result<(), Fail> {
+    let mut bench = Bench::new(rt.alloc())?;
+    assert_eq!(rt; bench.first_wrong(INSERTED)?.as_str(), "");
+    Ok(())
+}
+
+#[test]
+fn a_failed_operation_undoes_the_others(rt: HostRuntime) -> Result<(), Fail> {
+    let mut bench = Bench::new(rt.alloc())?;
+    assert_eq!(rt; bench.first_wrong(UNDONE)?.as_str(), "");
+    Ok(())
+}
+
+#[test]
+fn the_last_of_equal_members_counts(rt: HostRuntime) -> Result<(), Fail> {
+    let mut bench = Bench::new(rt.alloc())?;
+    assert_eq!(rt; bench.first_wrong(REPEATED)?.as_str(), "");
+    Ok(())
+}
+
+#[test]
+fn params_are_refused_in_order(rt: HostRuntime) -> Result<(), Fail> {
+    let mut bench = Bench::new(rt.alloc())?;
+    assert_eq!(rt; bench.first_wrong(PARAMS)?.as_str(), "");
+    Ok(())
+}
+
+#[test]
+fn operations_are_refused(rt: HostRuntime) -> Result<(), Fail> {
+    let mut bench = Bench::new(rt.alloc())?;
+    assert_eq!(rt; bench.first_wrong(REFUSED)?.as_str(), "");
+    Ok(())
+}
+
+#[test]
+fn a_failed_commit_seals_the_database(rt: HostRuntime) -> Result<(), Fail> {
+    let mut bench = Bench::over(rt.alloc(), 1, false)?;
+    assert_eq!(rt; bench.first_wrong(SEALED)?.as_str(), "");
+    Ok(())
+}
+
+#[test]
+fn a_commit_without_room_changes_nothing(rt: HostRuntime) -> Result<(), Fail> {
+    let mut bench = Bench::over(rt.alloc(), 0, true)?;
+    assert_eq!(rt; bench.first_wrong(NO_ROOM)?.as_str(), "");
+    Ok(())
+}
