@@ -89,6 +89,20 @@ fn trees_are_copied_and_printed_whole(rt: HostRuntime) -> Result<(), Fail> {
 }
 
 #[test]
+fn trees_are_copied_from_a_slice(rt: HostRuntime) -> Result<(), Fail> {
+    let alloc = rt.alloc();
+    let value = json!(in alloc; [true, {"c": -5}])?;
+    assert!(rt; !has_real(&value));
+    let trees = trees_of(value).ok_or("no array")?;
+    let copy = Trees::from_slice(alloc, trees.as_slice())?;
+    assert_eq!(rt;
+        copy.into_tree().to_bytes(alloc)?.as_slice(),
+        b"[true,{\"c\":-5}]".as_slice()
+    );
+    Ok(())
+}
+
+#[test]
 fn a_tape_takes_no_room(rt: HostRuntime) {
     let mut told = Told::new();
     told.add(b"ab");

@@ -26,7 +26,22 @@ UnknownRefTable {"name":"A","tables":{"T":{"columns":{"c":{"type":{"key":{"type"
 BadRefType {"name":"A","tables":{"T":{"columns":{"c":{"type":{"key":{"type":"string","enum":["set",[]]}}},"d":{"type":{"key":{"type":"uuid","refType":"weak"}}}}}}}
 BadEnum {"name":"A","tables":{"T":{"columns":{"c":{"type":"string"}},"indexes":[[]]},"U":{"columns":{"c":{"type":{"key":{"type":"string","enum":["set",[]]}}}}}}}
 BadIndex {"name":"A","tables":{"T":{"columns":{"c":{"type":{"key":{"type":"uuid","refTable":"T"},"value":{"type":"uuid","refTable":"T","refType":"weak"}}}},"indexes":[["c","c"]]}}}
-StrongWeakMap {"name":"A","tables":{"T":{"columns":{"c":{"type":{"key":{"type":"uuid","refTable":"T"},"value":{"type":"uuid","refTable":"T","refType":"weak"}}}}}}}"#;
+StrongWeakMap {"name":"A","tables":{"T":{"columns":{"c":{"type":{"key":{"type":"uuid","refTable":"T"},"value":{"type":"uuid","refTable":"T","refType":"weak"}}}}}}}
+Syntax {"name":"_A","tables":{"T":{"columns":{"c":{"type":{"key":"integer","max":"many"}}}}}}
+BadName {"version":"1","tables":{"T":{"columns":{}}},"name":"_A"}
+BadName {"tables":{"T":{"columns":{"c":{"type":"real"},"d-e":{"type":"string"}}}},"name":"A"}
+BadVersion {"tables":{"T":{"columns":{}}},"name":"A","version":"1.0.0.0"}
+BadVersion {"tables":{"T":{"columns":{"c":{"type":"real"}}}},"name":"A","version":"1..0"}
+NoColumns {"name":"A","tables":{"S":{"columns":{"c":{"type":{"key":"integer","min":2}}}},"T":{"columns":{}}}}
+NoColumns {"name":"A","tables":{"S":{"columns":{"c":{"type":"string"}},"indexes":[[]]},"T":{"columns":{}}}}
+BadRange {"name":"A","tables":{"T":{"columns":{"c":{"type":{"key":{"type":"string","refType":"strong"}}},"d":{"type":{"key":"integer","max":0}}}}}}
+BadRange {"name":"A","tables":{"T":{"columns":{"c":{"type":{"key":{"type":"uuid","refTable":"U"}}},"d":{"type":{"key":{"type":"integer","minInteger":3,"maxInteger":2}}}}}}}
+RealNotSupported {"name":"A","tables":{"T":{"columns":{"c":{"type":{"key":{"type":"string","enum":["set",[]]}}},"d":{"type":{"key":"string","value":"real"}}}}}}
+UnknownRefTable {"name":"A","tables":{"T":{"columns":{"c":{"type":{"key":{"type":"integer","enum":"x"}}},"d":{"type":{"key":{"type":"uuid","refTable":"U"}}}}}}}
+BadRefType {"name":"A","tables":{"T":{"columns":{"c":{"type":{"key":{"type":"integer","enum":true}}},"d":{"type":{"key":{"type":"uuid","refTable":"T","refType":"feeble"}}}}}}}
+BadEnum {"name":"A","tables":{"S":{"columns":{"c":{"type":"string"}},"indexes":[["d"]]},"T":{"columns":{"d":{"type":{"key":{"type":"integer","enum":["set",[1,"x"]]}}}}}}}
+BadIndex {"name":"A","tables":{"S":{"columns":{"c":{"type":{"key":{"type":"uuid","refTable":"S"},"value":{"type":"uuid","refTable":"S","refType":"weak"}}}}},"T":{"columns":{"e":{"type":"string","ephemeral":true}},"indexes":[["e"]]}}}
+StrongWeakMap {"name":"A","tables":{"T":{"columns":{"c":{"type":{"key":{"type":"uuid","refTable":"T","refType":"weak"},"value":{"type":"uuid","refTable":"T"}}}}}}}"#;
 
 /// Defaults, each with its type.
 const DEFAULTS: &str = r#"0 "integer"

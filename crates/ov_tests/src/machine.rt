@@ -194,35 +194,6 @@ fn an_earlier_moment_counts_as_the_last_one(rt: HostRuntime) -> Result<(), Fail>
     Ok(())
 }
 
-/// Each transaction's params, behind how many identifiers and how many outcomes its entry notes.
-const NOTED: &str = r#"0 0 []
-1 0 ["Net"]
-2 1 ["Net",{"op":"insert","table":"Switch","row":{}}]
-2 0 ["Net",{"op":"insert","table":"Swich","row":{}}]"#;
-
-/// What the entry of a transaction with these params notes, as a line of `NOTED` begins.
-fn noted(bench: &mut Bench, session: Session, params: &str) -> Result<String, Fail> {
-    let text = format!(in bench.alloc; "{{\"id\":1,\"method\":\"transact\",\"params\":{params}}}")?;
-    bench.take(session, text.as_str())?;
-    let entry = bench.core.history().back().ok_or("no entry")?;
-    let drawn = entry.choice.draws.len();
-    let outcomes = entry.choice.outcomes.len();
-    Ok(format!(in bench.alloc; "{drawn} {outcomes}")?)
-}
-
-#[test]
-fn what_was_drawn_and_what_came_of_it_is_noted(rt: HostRuntime) -> Result<(), Fail> {
-    let mut bench = Bench::new(rt.alloc())?;
-    let session = bench.open(0)?;
-    for line in NOTED.lines() {
-        let (want, params) = line.split_once(" [").ok_or("no params")?;
-        let params = format!(in rt.alloc(); "[{params}")?;
-        let noted = noted(&mut bench, session, params.as_str())?;
-        assert_eq!(rt; noted.as_str(), want);
-    }
-    Ok(())
-}
-
 /// A keeper that holds a row.
 fn filled_keeper(alloc: Global) -> Result<ListKeeper, Fail> {
     let mut filled = keeper(alloc, SCHEMA)?;
