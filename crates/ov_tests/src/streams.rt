@@ -1,4 +1,5 @@
 use crate::bench::{Bench, answers};
+use ov_base::Bytes;
 use ov_streams::StreamEvent;
 use std::alloc::Global;
 use std::test::Fail;
@@ -41,12 +42,19 @@ fn answered_byte_by_byte(rt: HostRuntime) -> Result<(), Fail> {
     Ok(())
 }
 
-/// What comes of an input, as a line of `SMALL` begins.
-fn made(alloc: Global, input: &str) -> Result<String, Fail> {
+/// What is sent for an input, and how many entries the history then has.
+fn fed(alloc: Global, input: &str) -> Result<(Bytes, usize), Fail> {
     let mut bench = Bench::new(alloc)?;
     bench.feed(input.as_bytes())?;
-    let output = String::from_utf8(bench.output()?.into_vec())?;
-    Ok(format!(in alloc; "{} {output}", bench.entries())?)
+    let output = bench.output()?;
+    Ok((output, bench.entries()))
+}
+
+/// What comes of an input, as a line of `SMALL` begins.
+fn made(alloc: Global, input: &str) -> Result<String, Fail> {
+    let (output, entries) = fed(alloc, input)?;
+    let output = String::from_utf8(output.into_vec())?;
+    Ok(format!(in alloc; "{entries} {output}")?)
 }
 
 #[test]
