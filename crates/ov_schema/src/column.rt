@@ -2,6 +2,7 @@ ghost use Rattle.std.specs.Prelude.{◌≡◌, IfOk};
 ghost use Rattle.ov_specs.specs.Fitting.{fits, default_of};
 ghost use Rattle.ov_specs.specs.Schema.{column_of, own_column};
 ghost use Rattle.ov_specs.specs.SchemaTypes.{kinds_of};
+ghost use Rattle.ov_specs.specs.Conditions.{is_scalar};
 ghost use Rattle.ov_atoms.specs.Views.{kinds_view};
 ghost use Rattle.ov_schema.specs.ShapeViews.{column_view};
 
@@ -59,6 +60,13 @@ impl Column {
         ensures { kinds_view result ≡ kinds_of self.now.type_of }
     {
         self.type_of.kinds()
+    }
+
+    /// Whether it holds one atom, no more and no less: no map, and `min` and `max` are both 1 (RFC 7047, 3.2, `<type>`).
+    pub fn is_scalar(&self) -> bool
+        ensures { result ≡ is_scalar self.now.type_of }
+    {
+        self.type_of.is_scalar()
     }
 
     /// Whether a value of the column's kinds meets its constraints (RFC 7047, 3.2, `<type>`): its count lies between

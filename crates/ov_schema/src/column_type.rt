@@ -2,6 +2,7 @@ ghost use Rattle.std.specs.Prelude.{◌≡◌, ◌&&◌, IfOk, option_map};
 ghost use Rattle.std.specs.List.{list_all};
 ghost use Rattle.ov_specs.specs.Schema.{base_of, max_of, type_of};
 ghost use Rattle.ov_specs.specs.SchemaTypes.{kinds_of};
+ghost use Rattle.ov_specs.specs.Conditions.{is_scalar};
 ghost use Rattle.ov_specs.specs.Fitting.{atom_fits, value_fits, fits, default_of};
 ghost use Rattle.ov_atoms.specs.Views.{kinds_view, atom_view, atoms_view, pairs_view};
 ghost use Rattle.ov_schema.specs.ShapeViews.{base_view, most_view, type_view};
@@ -54,6 +55,16 @@ impl ColumnType {
         match &self.value {
             Some(value) => Kinds::Pair(self.key.kind(), value.kind()),
             None => Kinds::Single(self.key.kind()),
+        }
+    }
+
+    /// Whether it holds one atom, no more and no less.
+    pub(crate) fn is_scalar(&self) -> bool
+        ensures { result ≡ is_scalar self.now }
+    {
+        match self.max {
+            Some(max) => self.value.is_none() && self.min == 1 && max == 1,
+            None => false,
         }
     }
 
