@@ -13,8 +13,6 @@ mod kind;
 mod names;
 mod order;
 mod read;
-#[cfg(test)]
-mod tests;
 mod two;
 mod write;
 

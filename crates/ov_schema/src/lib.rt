@@ -22,8 +22,6 @@ mod schema;
 mod schema_shape;
 mod table;
 mod table_shape;
-#[cfg(test)]
-mod tests;
 mod type_rules;
 mod type_shape;
 

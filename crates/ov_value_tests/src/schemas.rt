@@ -1,6 +1,6 @@
-use crate::{Column, Schema, SchemaFault, Table};
 use ov_atoms::{NoNames, read_datum, write_datum};
 use ov_base::{Tree, has_real};
+use ov_schema::{Column, Schema, SchemaFault, Table};
 use serde_json::Value;
 use std::alloc::Global;
 use std::test::Fail;

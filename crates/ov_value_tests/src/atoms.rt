@@ -1,6 +1,6 @@
 ghost use Rattle.std.specs.Prelude.{◌≡◌, option_map};
 
-use crate::{
+use ov_atoms::{
     Atom, AtomFault, AtomKind, Datum, Kinds, Names, NoNames, has_sixteen_bytes, is_id, read_atom,
     read_datum, write_datum,
 };
