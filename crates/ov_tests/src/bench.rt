@@ -57,7 +57,7 @@ impl Bench {
     }
 
     /// The first line of a conversation that is not as it says: a line is a request behind `>`, or what is sent behind `<`.
-    pub(crate) fn first_wrong(&mut self, conversation: &str) -> Result<String, Fail> {
+    fn first_wrong(&mut self, conversation: &str) -> Result<String, Fail> {
         for line in conversation.lines() {
             if let Some(request) = line.strip_prefix(">") {
                 self.feed(request.as_bytes())?;
@@ -85,4 +85,20 @@ pub(crate) fn answers(alloc: Global, input: &[u8], place: usize) -> Result<Bytes
     bench.feed(&input[..place])?;
     bench.feed(&input[place..])?;
     bench.output()
+}
+
+/// The first line of a conversation with a new server that is not as it says, over a keeper as `Bench::over` tells of. A test
+/// holds no server by itself, since each function that holds one is long to prove.
+pub(crate) fn first_wrong_over(
+    alloc: Global,
+    bad: u64,
+    is_too_large: bool,
+    conversation: &str,
+) -> Result<String, Fail> {
+    Bench::over(alloc, bad, is_too_large)?.first_wrong(conversation)
+}
+
+/// The same over a keeper that keeps all.
+pub(crate) fn first_wrong(alloc: Global, conversation: &str) -> Result<String, Fail> {
+    first_wrong_over(alloc, 0, false, conversation)
 }

@@ -1,21 +1,27 @@
-use crate::support::{Counter, SCHEMA, keeper, schema, tree};
+use crate::support::{Counter, SCHEMA, keeper, schema};
 use ov_base::{Bytes, Text};
 use ov_core::early::{Change, Keeper, Line, ListKeeper, OpenFault};
-use ov_core::{Cause, Core, Event, Session, StepFault, Stepped};
-use ov_rpc::{BadKind, Message};
+use ov_core::{Cause, Core, Event, Session};
+use ov_rpc::Message;
 use std::alloc::Global;
 use std::test::Fail;
 use uuid::Uuid;
 
 const LIST: &str = "{\"id\":0,\"method\":\"list_dbs\",\"params\":[]}";
 
-const LISTED: &str = "{\"error\":null,\"id\":0,\"result\":[\"Net\"]}";
-
 /// A core and its allocator. Its calls have no contract, so that a test's own proof stays small.
 #[derive(Drop)]
 struct Bench {
     core: Core<ListKeeper, Counter>,
     alloc: Global,
+}
+
+/// The session of this serial: one is open at a time, so all have the first key.
+fn session(serial: &str) -> Result<Session, Fail> {
+    Ok(Session {
+        key: 0,
+        serial: serial.parse::<u64>()?,
+    })
 }
 
 impl Bench {
@@ -29,168 +35,150 @@ impl Bench {
         Ok(Bench { core, alloc })
     }
 
-    fn step(&mut self, moment: u64, event: Event) -> Stepped {
-        self.core.step(self.alloc, moment, event)
+    /// What comes of an event, in the words of the code.
+    fn stepped(&mut self, moment: u64, event: Event) -> Result<String, Fail> {
+        let stepped = self.core.step(self.alloc, moment, event);
+        Ok(format!(in self.alloc; "{stepped:?}")?)
     }
 
-    /// Opens a session.
-    fn open(&mut self, moment: u64) -> Result<Session, Fail> {
-        match self.step(moment, Event::Open) {
-            Stepped::Opened(session) => Ok(session),
-            _ => Err(Fail::new("no session was opened")),
+    /// The message that a text is, taken of a session.
+    fn taken(&mut self, serial: &str, text: &str) -> Result<String, Fail> {
+        let message = Message::read(self.alloc, text.as_bytes())?;
+        self.stepped(0, Event::Take(session(serial)?, message))
+    }
+
+    fn closed(&mut self, serial: &str) -> Result<String, Fail> {
+        let is_closed = self.core.close(session(serial)?, Cause::Overrun);
+        Ok(format!(in self.alloc; "{is_closed}")?)
+    }
+
+    fn is_open(&self, serial: &str) -> Result<String, Fail> {
+        let is_open = self.core.is_open(session(serial)?);
+        Ok(format!(in self.alloc; "{is_open}")?)
+    }
+
+    /// The oldest frame that waits.
+    fn frame(&mut self, serial: &str) -> Result<String, Fail> {
+        match self.core.next_frame(session(serial)?) {
+            Some(frame) => Ok(String::from_utf8(frame.into_vec())?),
+            None => Ok(String::from_str(self.alloc, "none")?),
         }
     }
 
-    /// Takes the message that a text is, at the last moment.
-    fn take(&mut self, session: Session, text: &str) -> Result<Stepped, Fail> {
-        let message = Message::read(self.alloc, text.as_bytes())?;
-        Ok(self.step(0, Event::Take(session, message)))
+    /// All frames that wait.
+    fn output(&mut self, serial: &str) -> Result<String, Fail> {
+        let output = self.core.take_output(self.alloc, session(serial)?)?;
+        let text = str::from_utf8(output.as_slice())?;
+        Ok(format!(in self.alloc; "{text}.")?)
     }
 
-    fn close(&mut self, session: Session) -> bool {
-        self.core.close(session, Cause::Overrun)
-    }
-
-    fn is_open(&self, session: Session) -> bool {
-        self.core.is_open(session)
-    }
-
-    /// The moments of the history, each followed by a space.
+    /// The moments of the history.
     fn moments(&self) -> Result<String, Fail> {
+        self.core.left();
         let mut text = String::new(self.alloc);
         for entry in self.core.history() {
-            text.push_str(format!(in self.alloc; "{} ", entry.choice.moment)?.as_str())?;
+            text.push_str(format!(in self.alloc; " {}", entry.choice.moment)?.as_str())?;
         }
         Ok(text)
     }
 
-    fn frame(&mut self, session: Session) -> Option<Bytes> {
-        self.core.next_frame(session)
-    }
-
-    fn output(&mut self, session: Session) -> Result<Bytes, Fail> {
-        Ok(self.core.take_output(self.alloc, session)?)
+    /// What comes of a command: its word, and what stands behind it.
+    fn answer(&mut self, command: &str) -> Result<String, Fail> {
+        let (word, rest) = command.split_once(" ").unwrap_or((command, ""));
+        match word {
+            "open" => self.stepped(rest.parse::<u64>()?, Event::Open),
+            "tick" => self.stepped(rest.parse::<u64>()?, Event::Tick),
+            "end" => self.stepped(0, Event::Close(session(rest)?, Cause::InputEnded)),
+            "list" => self.taken(rest, LIST),
+            "close" => self.closed(rest),
+            "is_open" => self.is_open(rest),
+            "frame" => self.frame(rest),
+            "output" => self.output(rest),
+            _ => self.moments(),
+        }
     }
 }
 
-/// What a new core answers to a message.
-fn answered(alloc: Global, message: Message) -> Result<Bytes, Fail> {
+/// The first line of a script for a new core that is not as it says: a command, an arrow, and what comes of it.
+fn first_wrong(alloc: Global, script: &str) -> Result<String, Fail> {
     let mut bench = Bench::new(alloc)?;
-    let session = bench.open(0)?;
-    match bench.step(0, Event::Take(session, message)) {
-        Stepped::Done => bench.output(session),
-        _ => Err(Fail::new("the message was not taken")),
+    for line in script.lines() {
+        let (command, want) = line.split_once(" -> ").ok_or("no arrow")?;
+        let answer = bench.answer(command)?;
+        if answer.as_str() != want {
+            return Ok(format!(in alloc; "{command} -> {answer}")?);
+        }
     }
+    Ok(String::new(alloc))
 }
 
-/// What a new core answers to a text.
-fn answered_text(alloc: Global, text: &str) -> Result<Bytes, Fail> {
-    answered(alloc, Message::read(alloc, text.as_bytes())?)
-}
+/// One session is open at a time.
+const ONE_AT_A_TIME: &str = r#"open 0 -> Opened(Session { key: 0, serial: 1 })
+open 5 -> Refused(TooMany)
+moments ->  0
+is_open 1 -> true"#;
 
-#[test]
-fn list_dbs_is_answered(rt: HostRuntime) -> Result<(), Fail> {
-    let alloc = rt.alloc();
-    let reply = answered_text(alloc, LIST)?;
-    assert_eq!(rt; reply.as_slice(), LISTED.as_bytes());
-    Ok(())
-}
+/// A serial is not used again.
+const SERIALS: &str = r#"open 0 -> Opened(Session { key: 0, serial: 1 })
+end 1 -> Done
+open 0 -> Opened(Session { key: 0, serial: 2 })
+is_open 1 -> false
+end 1 -> Refused(NotOpen)"#;
 
-#[test]
-fn echo_keeps_quotes(rt: HostRuntime) -> Result<(), Fail> {
-    let alloc = rt.alloc();
-    let text = "{\"id\":[1],\"method\":\"echo\",\"params\":[\"a\\\"b}\", {\"c\": -5}]}";
-    let reply = answered_text(alloc, text)?;
-    let want = "{\"error\":null,\"id\":[1],\"result\":[\"a\\\"b}\",{\"c\":-5}]}";
-    assert_eq!(rt; reply.as_slice(), want.as_bytes());
-    Ok(())
-}
+/// A closed session is handed what waits, and nothing more.
+const CLOSED: &str = r#"open 0 -> Opened(Session { key: 0, serial: 1 })
+list 1 -> Done
+close 1 -> true
+list 1 -> Refused(NotOpen)
+close 1 -> false
+moments ->  0 0 0
+frame 1 -> {"error":null,"id":0,"result":["Net"]}
+frame 1 -> none"#;
 
-#[test]
-fn what_is_no_known_call_gets_an_error_or_nothing(rt: HostRuntime) -> Result<(), Fail> {
-    let alloc = rt.alloc();
-    let id = tree(alloc, "7")?;
-    let reply = answered(
-        alloc,
-        Message::Bad {
-            id,
-            kind: BadKind::Syntax,
-        },
-    )?;
-    let want = r#"{"error":"syntax error","id":7,"result":null}"#;
-    assert_eq!(rt; reply.as_slice(), want.as_bytes());
-    let reply = answered(alloc, Message::Answer)?;
-    assert_eq!(rt; reply.as_slice().len(), 0);
-    Ok(())
-}
+/// What waits is handed out joined, and once.
+const HANDED_OUT: &str = r#"open 0 -> Opened(Session { key: 0, serial: 1 })
+list 1 -> Done
+list 1 -> Done
+list 1 -> Done
+output 2 -> .
+frame 1 -> {"error":null,"id":0,"result":["Net"]}
+output 1 -> {"error":null,"id":0,"result":["Net"]}{"error":null,"id":0,"result":["Net"]}.
+output 1 -> ."#;
+
+/// An earlier moment counts as the last one.
+const MOMENTS: &str = r#"tick 5 -> Done
+tick 3 -> Done
+open 9 -> Opened(Session { key: 0, serial: 1 })
+close 1 -> true
+moments ->  5 5 9 9"#;
 
 #[test]
 fn one_session_is_open_at_a_time(rt: HostRuntime) -> Result<(), Fail> {
-    let mut bench = Bench::new(rt.alloc())?;
-    let first = bench.open(0)?;
-    let second = bench.step(5, Event::Open);
-    assert_eq!(rt; second, Stepped::Refused(StepFault::TooMany));
-    assert_eq!(rt; bench.moments()?.as_str(), "0 ");
-    assert!(rt; bench.is_open(first));
+    assert_eq!(rt; first_wrong(rt.alloc(), ONE_AT_A_TIME)?.as_str(), "");
     Ok(())
 }
 
 #[test]
 fn serials_are_not_used_again(rt: HostRuntime) -> Result<(), Fail> {
-    let mut bench = Bench::new(rt.alloc())?;
-    let first = bench.open(0)?;
-    assert_eq!(rt; first.serial, 1);
-    let closing = bench.step(0, Event::Close(first, Cause::InputEnded));
-    assert_eq!(rt; closing, Stepped::Done);
-    let second = bench.open(0)?;
-    assert_eq!(rt; second.serial, 2);
-    assert!(rt; !bench.is_open(first));
+    assert_eq!(rt; first_wrong(rt.alloc(), SERIALS)?.as_str(), "");
     Ok(())
 }
 
 #[test]
 fn a_closed_session_is_handed_what_waits_and_nothing_more(rt: HostRuntime) -> Result<(), Fail> {
-    let mut bench = Bench::new(rt.alloc())?;
-    let session = bench.open(0)?;
-    assert_eq!(rt; bench.take(session, LIST)?, Stepped::Done);
-    assert!(rt; bench.close(session));
-    let refused = Stepped::Refused(StepFault::NotOpen);
-    assert_eq!(rt; bench.take(session, LIST)?, refused);
-    assert!(rt; !bench.close(session));
-    assert_eq!(rt; bench.moments()?.as_str(), "0 0 0 ");
-    let frame = bench.frame(session).ok_or("no frame waits")?;
-    assert_eq!(rt; frame.as_slice(), LISTED.as_bytes());
-    assert!(rt; bench.frame(session).is_none());
+    assert_eq!(rt; first_wrong(rt.alloc(), CLOSED)?.as_str(), "");
     Ok(())
 }
 
 #[test]
 fn what_waits_is_handed_out_joined_and_once(rt: HostRuntime) -> Result<(), Fail> {
-    let alloc = rt.alloc();
-    let mut bench = Bench::new(alloc)?;
-    let session = bench.open(0)?;
-    for _ in 0..3 {
-        assert_eq!(rt; bench.take(session, LIST)?, Stepped::Done);
-    }
-    let other = Session { key: 0, serial: 2 };
-    assert_eq!(rt; bench.output(other)?.as_slice().len(), 0);
-    let frame = bench.frame(session).ok_or("no frame waits")?;
-    assert_eq!(rt; frame.as_slice(), LISTED.as_bytes());
-    let rest = format!(in alloc; "{LISTED}{LISTED}")?;
-    assert_eq!(rt; bench.output(session)?.as_slice(), rest.as_bytes());
-    assert_eq!(rt; bench.output(session)?.as_slice().len(), 0);
+    assert_eq!(rt; first_wrong(rt.alloc(), HANDED_OUT)?.as_str(), "");
     Ok(())
 }
 
 #[test]
 fn an_earlier_moment_counts_as_the_last_one(rt: HostRuntime) -> Result<(), Fail> {
-    let mut bench = Bench::new(rt.alloc())?;
-    assert_eq!(rt; bench.step(5, Event::Tick), Stepped::Done);
-    assert_eq!(rt; bench.step(3, Event::Tick), Stepped::Done);
-    let session = bench.open(9)?;
-    assert!(rt; bench.close(session));
-    assert_eq!(rt; bench.moments()?.as_str(), "5 5 9 9 ");
-    bench.core.left();
+    assert_eq!(rt; first_wrong(rt.alloc(), MOMENTS)?.as_str(), "");
     Ok(())
 }
 

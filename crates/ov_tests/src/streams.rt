@@ -1,4 +1,4 @@
-use crate::bench::{Bench, answers};
+use crate::bench::{Bench, answers, first_wrong};
 use ov_base::Bytes;
 use ov_streams::StreamEvent;
 use std::alloc::Global;
@@ -22,6 +22,24 @@ const SMALL: &str =
 2 {"error":null,"id":0,"result":["Net"]} <= {"id":0,"method":"list_dbs","params":[]}
 1  <= "#;
 
+const LISTED: &str = r#">{"id":0,"method":"list_dbs","params":[]}
+<{"error":null,"id":0,"result":["Net"]}"#;
+
+const ECHOED: &str = r#">{"id":[1],"method":"echo","params":["a\"b}", {"c": -5}]}
+<{"error":null,"id":[1],"result":["a\"b}",{"c":-5}]}"#;
+
+#[test]
+fn list_dbs_is_answered(rt: HostRuntime) -> Result<(), Fail> {
+    assert_eq!(rt; first_wrong(rt.alloc(), LISTED)?.as_str(), "");
+    Ok(())
+}
+
+#[test]
+fn echo_keeps_quotes(rt: HostRuntime) -> Result<(), Fail> {
+    assert_eq!(rt; first_wrong(rt.alloc(), ECHOED)?.as_str(), "");
+    Ok(())
+}
+
 #[test]
 fn cut_at_every_place(rt: HostRuntime) -> Result<(), Fail> {
     for place in 0..CONVERSATION.len() + 1 {
@@ -31,14 +49,20 @@ fn cut_at_every_place(rt: HostRuntime) -> Result<(), Fail> {
     Ok(())
 }
 
-#[test]
-fn answered_byte_by_byte(rt: HostRuntime) -> Result<(), Fail> {
-    let mut bench = Bench::new(rt.alloc())?;
-    for byte in CONVERSATION.as_bytes() {
+/// What is sent for an input that comes byte by byte, and what is sent after that.
+fn answered_bytes(alloc: Global, input: &[u8]) -> Result<(Bytes, Bytes), Fail> {
+    let mut bench = Bench::new(alloc)?;
+    for byte in input {
         bench.feed(&[*byte])?;
     }
-    assert_eq!(rt; bench.output()?.as_slice(), ANSWERED.as_bytes());
-    assert_eq!(rt; bench.output()?.as_slice().len(), 0);
+    Ok((bench.output()?, bench.output()?))
+}
+
+#[test]
+fn answered_byte_by_byte(rt: HostRuntime) -> Result<(), Fail> {
+    let (sent, more) = answered_bytes(rt.alloc(), CONVERSATION.as_bytes())?;
+    assert_eq!(rt; sent.as_slice(), ANSWERED.as_bytes());
+    assert_eq!(rt; more.as_slice().len(), 0);
     Ok(())
 }
 
@@ -85,18 +109,40 @@ fn longest_message(rt: HostRuntime) -> Result<(), Fail> {
     Ok(())
 }
 
+/// Serves the event that a line tells, says whether it was, and how many entries the history then has.
+fn served(bench: &mut Bench, line: &str) -> Result<(bool, usize), Fail> {
+    let is_served = match line {
+        "open" => bench.run(StreamEvent::Open)?,
+        "tick" => bench.run(StreamEvent::Tick(50))?,
+        "finish" => bench.run(StreamEvent::Finish(1))?,
+        text => {
+            bench.feed(text.as_bytes())?;
+            true
+        }
+    };
+    Ok((is_served, bench.entries()))
+}
+
+/// Serves the events of the lines, and tells of each whether it was served and how many entries there are.
+fn told(alloc: Global, lines: &str) -> Result<String, Fail> {
+    let mut bench = Bench::new(alloc)?;
+    let mut told = String::new(alloc);
+    for line in lines.lines() {
+        let (is_served, entries) = served(&mut bench, line)?;
+        told.push_str(format!(in alloc; "{is_served} {entries}, ")?.as_str())?;
+    }
+    told.push_str(str::from_utf8(bench.output()?.as_slice())?)?;
+    Ok(told)
+}
+
+/// What comes of a closed session does nothing.
 #[test]
 fn ended_and_opened_again(rt: HostRuntime) -> Result<(), Fail> {
-    let mut bench = Bench::new(rt.alloc())?;
-    assert!(rt; !bench.run(StreamEvent::Open)?, "one session at a time");
-    assert!(rt; bench.run(StreamEvent::Tick(50))?);
-    bench.feed(b"{\"id\":0,")?;
-    assert!(rt; bench.run(StreamEvent::Finish(1))?);
-    // What comes of a closed session does nothing.
-    bench.feed(b"\"method\":\"list_dbs\",\"params\":[]}")?;
-    assert_eq!(rt; bench.output()?.as_slice(), b"".as_slice());
-    assert_eq!(rt; bench.entries(), 3);
-    assert!(rt; bench.run(StreamEvent::Open)?);
-    assert_eq!(rt; bench.entries(), 4);
+    let lines = "open\ntick\n{\"id\":0,\nfinish\n\"method\":\"list_dbs\",\"params\":[]}\nopen";
+    let told = told(rt.alloc(), lines)?;
+    assert_eq!(rt;
+        told.as_str(),
+        "false 1, true 2, true 2, true 3, true 3, true 4, "
+    );
     Ok(())
 }

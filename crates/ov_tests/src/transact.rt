@@ -1,4 +1,4 @@
-use crate::bench::Bench;
+use crate::bench::{first_wrong, first_wrong_over};
 use std::test::Fail;
 
 /// A transaction without operations, an insert, and a select with all columns.
@@ -78,49 +78,48 @@ const NO_ROOM: &str =
 
 #[test]
 fn inserted_rows_are_selected(rt: HostRuntime) -> Result<(), Fail> {
-    let mut bench = Bench::new(rt.alloc())?;
-    assert_eq!(rt; bench.first_wrong(INSERTED)?.as_str(), "");
+    assert_eq!(rt; first_wrong(rt.alloc(), INSERTED)?.as_str(), "");
     Ok(())
 }
 
 #[test]
 fn a_failed_operation_undoes_the_others(rt: HostRuntime) -> Result<(), Fail> {
-    let mut bench = Bench::new(rt.alloc())?;
-    assert_eq!(rt; bench.first_wrong(UNDONE)?.as_str(), "");
+    assert_eq!(rt; first_wrong(rt.alloc(), UNDONE)?.as_str(), "");
     Ok(())
 }
 
 #[test]
 fn the_last_of_equal_members_counts(rt: HostRuntime) -> Result<(), Fail> {
-    let mut bench = Bench::new(rt.alloc())?;
-    assert_eq!(rt; bench.first_wrong(REPEATED)?.as_str(), "");
+    assert_eq!(rt; first_wrong(rt.alloc(), REPEATED)?.as_str(), "");
     Ok(())
 }
 
 #[test]
 fn params_are_refused_in_order(rt: HostRuntime) -> Result<(), Fail> {
-    let mut bench = Bench::new(rt.alloc())?;
-    assert_eq!(rt; bench.first_wrong(PARAMS)?.as_str(), "");
+    assert_eq!(rt; first_wrong(rt.alloc(), PARAMS)?.as_str(), "");
     Ok(())
 }
 
 #[test]
 fn operations_are_refused(rt: HostRuntime) -> Result<(), Fail> {
-    let mut bench = Bench::new(rt.alloc())?;
-    assert_eq!(rt; bench.first_wrong(REFUSED)?.as_str(), "");
+    assert_eq!(rt; first_wrong(rt.alloc(), REFUSED)?.as_str(), "");
     Ok(())
 }
 
 #[test]
 fn a_failed_commit_seals_the_database(rt: HostRuntime) -> Result<(), Fail> {
-    let mut bench = Bench::over(rt.alloc(), 1, false)?;
-    assert_eq!(rt; bench.first_wrong(SEALED)?.as_str(), "");
+    assert_eq!(rt;
+        first_wrong_over(rt.alloc(), 1, false, SEALED)?.as_str(),
+        ""
+    );
     Ok(())
 }
 
 #[test]
 fn a_commit_without_room_changes_nothing(rt: HostRuntime) -> Result<(), Fail> {
-    let mut bench = Bench::over(rt.alloc(), 0, true)?;
-    assert_eq!(rt; bench.first_wrong(NO_ROOM)?.as_str(), "");
+    assert_eq!(rt;
+        first_wrong_over(rt.alloc(), 0, true, NO_ROOM)?.as_str(),
+        ""
+    );
     Ok(())
 }

@@ -1,4 +1,4 @@
-use crate::bench::Bench;
+use crate::bench::{answers, first_wrong};
 use crate::support::SCHEMA;
 use std::test::Fail;
 
@@ -52,29 +52,25 @@ const BUILT_WRONG: &str = r#">{"id":1,"method":"echo","params":[1.5]}
 
 #[test]
 fn values_are_written_in_one_form(rt: HostRuntime) -> Result<(), Fail> {
-    let mut bench = Bench::new(rt.alloc())?;
-    assert_eq!(rt; bench.first_wrong(WRITTEN)?.as_str(), "");
+    assert_eq!(rt; first_wrong(rt.alloc(), WRITTEN)?.as_str(), "");
     Ok(())
 }
 
 #[test]
 fn values_that_do_not_read(rt: HostRuntime) -> Result<(), Fail> {
-    let mut bench = Bench::new(rt.alloc())?;
-    assert_eq!(rt; bench.first_wrong(UNREAD)?.as_str(), "");
+    assert_eq!(rt; first_wrong(rt.alloc(), UNREAD)?.as_str(), "");
     Ok(())
 }
 
 #[test]
 fn other_schemas_are_not_told(rt: HostRuntime) -> Result<(), Fail> {
-    let mut bench = Bench::new(rt.alloc())?;
-    assert_eq!(rt; bench.first_wrong(NOT_TOLD)?.as_str(), "");
+    assert_eq!(rt; first_wrong(rt.alloc(), NOT_TOLD)?.as_str(), "");
     Ok(())
 }
 
 #[test]
 fn requests_that_are_built_wrong(rt: HostRuntime) -> Result<(), Fail> {
-    let mut bench = Bench::new(rt.alloc())?;
-    assert_eq!(rt; bench.first_wrong(BUILT_WRONG)?.as_str(), "");
+    assert_eq!(rt; first_wrong(rt.alloc(), BUILT_WRONG)?.as_str(), "");
     Ok(())
 }
 
@@ -82,9 +78,9 @@ fn requests_that_are_built_wrong(rt: HostRuntime) -> Result<(), Fail> {
 #[test]
 fn the_schema_is_told(rt: HostRuntime) -> Result<(), Fail> {
     let alloc = rt.alloc();
-    let mut bench = Bench::new(alloc)?;
-    bench.feed(r#"{"id":1,"method":"get_schema","params":["Net"]}"#.as_bytes())?;
+    let request = r#"{"id":1,"method":"get_schema","params":["Net"]}"#;
+    let told = answers(alloc, request.as_bytes(), 0)?;
     let reply = format!(in alloc; "{{\"error\":null,\"id\":1,\"result\":{SCHEMA}}}")?;
-    assert_eq!(rt; bench.output()?.as_slice(), reply.as_bytes());
+    assert_eq!(rt; told.as_slice(), reply.as_bytes());
     Ok(())
 }
