@@ -10,7 +10,8 @@ use Rattle.ov_specs.specs.Database.{Database, Columns, is_database}
 use Rattle.ov_specs.specs.Machine.{State, Sent, Stepped, Outcome, NoMemory, Kept, Exhausted, Failed, Transact, works, transacts, changes, commits, attempted, answers, closed, when, to_session, results_of, suits_draws}
 use Rattle.ov_specs.specs.Message.{has}
 use Rattle.ov_specs.specs.Method.{is_text}
-use Rattle.ov_specs.specs.Operation.{OpError, SyntaxError, Staged, Did, Does, Refuses, or_refuses, unless_fails, operation, insert_row, new_columns, put_under, select_rows, is_everywhere, chosen_columns, array_at, UnknownTable, UnknownOperation, text_at}
+use Rattle.ov_specs.specs.Errors.{OpError, SyntaxError, UnknownTable}
+use Rattle.ov_specs.specs.Operation.{Staged, Did, Does, Refuses, or_refuses, unless_fails, operation, insert_row, new_columns, put_under, select_rows, no_names, conditions_read, chosen_columns, array_at, text_at}
 use Rattle.ov_specs.specs.SchemaTypes.{Schema}
 use Rattle.ov_specs.specs.Transaction.{Transacted, transaction, perform, goes_on, with_result, nulls, draws_wanted, exhausted, failed}
 use Rattle.ov_specs.specs.Uuid.{Uuid}
@@ -52,9 +53,9 @@ plain_select : (schema : Schema) (g : Staged) (d : Data) → is_plain (select_ro
 plain_select schema g d =
     plain_or_refuses (text_at (codes "table") d) SyntaxError _ (λ name.
     plain_or_refuses (get schema.tables name) UnknownTable _ (λ table.
-    plain_or_refuses (array_at (codes "where") d) SyntaxError _ (λ conditions.
-    plain_if (not (is_everywhere conditions)) _ _ refl
-    (plain_unless_fails (chosen_columns table (find.get (codes "columns") d)) _ (λ names. refl)))))
+    plain_or_refuses (array_at (codes "where") d) SyntaxError _ (λ items.
+    plain_unless_fails (conditions_read no_names table items) _ (λ conditions.
+    plain_unless_fails (chosen_columns table (find.get (codes "columns") d)) _ (λ names. refl)))))
 
 plain_operation : (schema : Schema) (version : Uuid) (g : Staged) (d : Data) → is_plain (operation schema version g d) ≡ true
 plain_operation schema version g d =

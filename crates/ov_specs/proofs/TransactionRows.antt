@@ -12,7 +12,8 @@ use Rattle.uuid.specs.Text.{by_index}
 use Rattle.ov_specs.specs.Database.{Columns, Row, Database}
 use Rattle.ov_specs.specs.Fitting.{fits}
 use Rattle.ov_specs.specs.Lines.{LineKey, line_cmp}
-use Rattle.ov_specs.specs.Operation.{UnknownTable, Does, columns_given, with_defaults, new_columns, insert_result, columns_of, shown, operation, error_tree}
+use Rattle.ov_specs.specs.Errors.{UnknownTable, error_tree}
+use Rattle.ov_specs.specs.Operation.{Does, columns_given, with_defaults, new_columns, insert_result, columns_of, shown, operation}
 use Rattle.ov_specs.specs.SchemaTypes.{Column, Table, Schema, name_cmp}
 use Rattle.ov_specs.specs.Transaction.{transaction}
 use Rattle.ov_specs.specs.Uuid as uuid

@@ -9,7 +9,8 @@ use Rattle.ov_specs.specs.Lines.{LineKey, LineBody, line_cmp, Lines}
 use Rattle.ov_specs.specs.Method.{is_text}
 use Rattle.ov_specs.specs.SchemaTypes.{name_cmp}
 use Rattle.ov_specs.specs.Uuid.{Uuid}
-use Rattle.ov_specs.specs.Value.{Atom, atom_cmp, Datum, Atoms, Pairs}
+use Rattle.ov_specs.specs.Value as value
+use Rattle.ov_specs.specs.Value.{Atom, atom_cmp, Datum, Atoms, Pairs, set_of}
 use Rattle.ov_specs.specs.Writing.{tree}
 
 -- the values of a row, by the names of its columns (RFC 7047, 5.1, <row>)
@@ -24,6 +25,10 @@ pub record Row : Type 0 where
 -- the rows, by the name of their table and their identifier (own)
 abbrev pub Database : Type 0
 Database = FinMap line_cmp Row
+
+-- a set of one identifier (RFC 7047, 5.1, <uuid>)
+abbrev pub one_uuid : Uuid → Datum
+one_uuid id = Atoms (set_of (value.Uuid id ∷ []))
 
 -- ---- what is stored of it
 

@@ -15,9 +15,10 @@ pub mod Frame
 pub mod Method
 pub mod Lines
 pub mod Database
-pub mod Operation
+pub mod Errors
 pub mod Conditions
 pub mod Mutators
+pub mod Operation
 pub mod Transaction
 pub mod Machine
 pub mod History

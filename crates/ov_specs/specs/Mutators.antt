@@ -7,7 +7,7 @@ use Rattle.ov_specs.specs.Conditions.{Triple, triple_read, is_scalar, is_integer
 use Rattle.ov_specs.specs.Database.{is_atom}
 use Rattle.ov_specs.specs.Fitting.{fits}
 use Rattle.ov_specs.specs.Method.{is_text}
-use Rattle.ov_specs.specs.Operation.{OpError, SyntaxError, UnknownColumn, ConstraintViolation}
+use Rattle.ov_specs.specs.Errors.{OpError, SyntaxError, UnknownColumn, ConstraintViolation}
 use Rattle.ov_specs.specs.Reading as reading
 use Rattle.ov_specs.specs.Reading.{Reading, Reads, behind, reads}
 use Rattle.ov_specs.specs.SchemaTypes.{ColumnType, Column, Table, kinds_of}

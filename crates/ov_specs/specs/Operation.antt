@@ -1,12 +1,14 @@
 -- One operation of a transaction: what it makes of the rows, and its result (RFC 7047, 5.2).
-use Rattle.std.specs.Prelude.{ℕ, ◌&&◌, ◌||◌, not, List, [], ◌∷◌, map, filter, Bool, true, false, if◌then◌else◌, Option, Some, None, option_and_then, option_map, option_to_list, is_some, codes, Result, Ok, Err}
+use Rattle.std.specs.Prelude.{ℕ, ◌&&◌, ◌||◌, not, List, [], ◌∷◌, ◌++◌, map, filter, Bool, true, false, if◌then◌else◌, Option, Some, None, option_and_then, option_map, option_to_list, is_some, codes, Result, Ok, Err}
 use Rattle.std.specs.List.{list_any, list_all, flat_map}
 use Rattle.std.specs.FinMap.{FinMap, empty, get, contains_key, insert, keys, entries}
 use Rattle.serde_json.specs.Data.{Data, object, string, array, Items, no_items, item, Members, no_members, member}
 use Rattle.serde_json.specs.Find.{as_str, as_array, as_object}
 use Rattle.serde_json.specs.Find as find
 use Rattle.serde_json.specs.View.{items_of}
+use Rattle.ov_specs.specs.Conditions.{Condition, ConditionFault, condition_error, condition_read, row_value, holds}
 use Rattle.ov_specs.specs.Database.{Columns, Row, Database, object_of, written, are_columns}
+use Rattle.ov_specs.specs.Errors.{OpError, SyntaxError, UnknownTable, UnknownColumn, UnknownOperation, DuplicateUuid, ConstraintViolation, ResourcesExhausted}
 use Rattle.ov_specs.specs.Fitting.{fits, default_of}
 use Rattle.ov_specs.specs.Lines.{LineKey}
 use Rattle.ov_specs.specs.Message.{has}
@@ -15,36 +17,8 @@ use Rattle.ov_specs.specs.Reading.{Reading, Reads, Syntax, Clash, reads, list_re
 use Rattle.ov_specs.specs.SchemaTypes.{Column, Table, Schema, name_cmp, kinds_of}
 use Rattle.ov_specs.specs.Uuid.{Uuid, Names}
 use Rattle.ov_specs.specs.Value as value
-use Rattle.ov_specs.specs.Value.{Datum, Atoms, set_of}
+use Rattle.ov_specs.specs.Value.{Datum}
 use Rattle.ov_specs.specs.Writing.{atom_tree}
-
--- ---- errors
-
--- why an operation, or the commit, fails (RFC 7047, 3.1, <error>, and 5.2)
-pub data OpError : Type 0 where
-  SyntaxError : OpError
-  UnknownTable : OpError
-  UnknownColumn : OpError
-  UnknownOperation : OpError
-  DuplicateUuid : OpError
-  ConstraintViolation : OpError
-  ResourcesExhausted : OpError
-  InputOutput : OpError
-
--- the text that the client is sent (RFC 7047, 3.1, <error>; "unknown .." and "duplicate uuid" are own)
-abbrev pub error_text : OpError → List ℕ
-error_text SyntaxError = codes "syntax error"
-error_text UnknownTable = codes "unknown table"
-error_text UnknownColumn = codes "unknown column"
-error_text UnknownOperation = codes "unknown operation"
-error_text DuplicateUuid = codes "duplicate uuid"
-error_text ConstraintViolation = codes "constraint violation"
-error_text ResourcesExhausted = codes "resources exhausted"
-error_text InputOutput = codes "I/O error"
-
--- the result of what failed (RFC 7047, 4.1.3)
-abbrev pub error_tree : OpError → Data
-error_tree error = object_of ((codes "error", string (error_text error)) ∷ [])
 
 -- ---- what an operation does
 
@@ -162,20 +136,33 @@ insert_row schema version g d = on_table schema d (λ name table.
 
 -- ---- select
 
--- the rows of a table, in ascending order of their identifiers (own)
-abbrev pub rows_of : Database → List ℕ → List (LineKey × Row)
-rows_of rows table = filter (λ r. is_text r.0.0 table) (entries rows)
-
--- a set of one identifier (RFC 7047, 5.1, <uuid>)
-abbrev pub one_uuid : Uuid → Datum
-one_uuid id = Atoms (set_of (value.Uuid id ∷ []))
-
 -- the value of a row's column, `_uuid` and `_version` too (RFC 7047, 3.2)
 abbrev pub column_of : LineKey × Row → List ℕ → Option Datum
-column_of r name =
-    if is_text name (codes "_uuid") then Some (one_uuid r.0.1)
-    else (if is_text name (codes "_version") then Some (one_uuid r.1.version)
-    else get r.1.columns name)
+column_of r = row_value r.0.1 r.1.version r.1.columns
+
+-- these conditions in front of the others, or the error of the others (own)
+abbrev pub and_others : List Condition → Result (List Condition) OpError → Result (List Condition) OpError
+and_others conditions (Err error) = Err error
+and_others conditions (Ok others) = Ok (conditions ++ others)
+
+-- a condition in front of the others, or its fault (own)
+abbrev pub and_condition : Result Condition ConditionFault → Result (List Condition) OpError → Result (List Condition) OpError
+and_condition (Err fault) others = Err (condition_error fault)
+and_condition (Ok condition) others = and_others (condition ∷ []) others
+
+-- The conditions of a "where", each read wholly before the next one, or the error of the first that does not read (RFC
+-- 7047, 5.2.2; the order is own).
+abbrev pub conditions_read : Names → Table → Items → Result (List Condition) OpError
+conditions_read names table no_items = Ok []
+conditions_read names table (item d ds) = and_condition (condition_read names table d) (conditions_read names table ds)
+
+-- a row of the table that meets all conditions; without a condition each row of it does (RFC 7047, 5.2.2)
+abbrev pub is_matching : List ℕ → List Condition → LineKey × Row → Bool
+is_matching table conditions r = is_text r.0.0 table && list_all (holds (column_of r)) conditions
+
+-- these rows, in ascending order of their identifiers (own)
+abbrev pub matching : Database → List ℕ → List Condition → List (LineKey × Row)
+matching rows table conditions = filter (is_matching table conditions) (entries rows)
 
 -- these columns of a row, with their names (RFC 7047, 5.2.2)
 abbrev pub columns_of : List (List ℕ) → LineKey × Row → List (List ℕ × Datum)
@@ -212,18 +199,13 @@ abbrev pub chosen_columns : Table → Option Data → Result (List (List ℕ)) O
 chosen_columns table None = Ok (keys table.columns)
 chosen_columns table (Some d) = listed_columns table (list_read as_str d)
 
--- "where" has no condition: one is a syntax error as yet (own; RFC 7047, 5.2.2)
-abbrev pub is_everywhere : Items → Bool
-is_everywhere no_items = true
-is_everywhere (item d ds) = false
-
--- The chosen columns of all rows of the table (RFC 7047, 5.2.2).
+-- The chosen columns of the rows that meet all conditions (RFC 7047, 5.2.2).
 abbrev pub select_rows : Schema → Staged → Data → Did
 select_rows schema g d = on_table schema d (λ name table.
-    or_refuses (array_at (codes "where") d) SyntaxError (λ conditions.
-    if not (is_everywhere conditions) then Refuses SyntaxError
-    else unless_fails (chosen_columns table (find.get (codes "columns") d)) (λ names.
-    Does (select_result (without_repeats (map (columns_of names) (rows_of g.rows name)))) g)))
+    or_refuses (array_at (codes "where") d) SyntaxError (λ items.
+    unless_fails (conditions_read no_names table items) (λ conditions.
+    unless_fails (chosen_columns table (find.get (codes "columns") d)) (λ names.
+    Does (select_result (without_repeats (map (columns_of names) (matching g.rows name conditions)))) g))))
 
 -- ---- any operation
 

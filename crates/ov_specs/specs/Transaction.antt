@@ -3,7 +3,8 @@ use Rattle.std.specs.Prelude.{ℕ, ◌+◌, List, [], ◌∷◌, Bool, false, if
 use Rattle.serde_json.specs.Data.{Data, null, Items, no_items, item}
 use Rattle.ov_specs.specs.Database.{Database}
 use Rattle.ov_specs.specs.Method.{is_text}
-use Rattle.ov_specs.specs.Operation.{OpError, ResourcesExhausted, InputOutput, error_tree, Staged, Did, Does, Refuses, text_at, operation}
+use Rattle.ov_specs.specs.Errors.{OpError, ResourcesExhausted, InputOutput, error_tree}
+use Rattle.ov_specs.specs.Operation.{Staged, Did, Does, Refuses, text_at, operation}
 use Rattle.ov_specs.specs.SchemaTypes.{Schema}
 use Rattle.ov_specs.specs.Uuid.{Uuid}
 

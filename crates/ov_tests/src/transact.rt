@@ -76,6 +76,48 @@ const NO_ROOM: &str =
 >{"id":3,"method":"transact","params":["Net",{"op":"select","table":"Switch","where":[],"columns":["name"]}]}
 <{"error":null,"id":3,"result":[{"rows":[{"name":"s2"}]}]}"#;
 
+/// Those rows are selected that meet all conditions.
+const SELECTED: &str =
+    r#">{"id":1,"method":"transact","params":["Net",{"op":"insert","table":"Switch","row":{"load":4,"name":"s1"}},{"op":"insert","table":"Switch","row":{"load":-1,"name":"s2"}}]}
+<{"error":null,"id":1,"result":[{"uuid":["uuid","00000000-0000-4000-8000-000000000002"]},{"uuid":["uuid","00000000-0000-4000-8000-000000000003"]}]}
+>{"id":2,"method":"transact","params":["Net",{"op":"select","table":"Switch","where":[["load",">",0]],"columns":["name"]}]}
+<{"error":null,"id":2,"result":[{"rows":[{"name":"s1"}]}]}
+>{"id":3,"method":"transact","params":["Net",{"op":"select","table":"Switch","where":[["load","<=",4]],"columns":["name"]}]}
+<{"error":null,"id":3,"result":[{"rows":[{"name":"s1"},{"name":"s2"}]}]}
+>{"id":4,"method":"transact","params":["Net",{"op":"select","table":"Switch","where":[["load","<=",4],["name","!=","s1"]],"columns":["name"]}]}
+<{"error":null,"id":4,"result":[{"rows":[{"name":"s2"}]}]}
+>{"id":5,"method":"transact","params":["Net",{"op":"select","table":"Switch","where":[["_uuid","==",["uuid","00000000-0000-4000-8000-000000000003"]]],"columns":["name"]}]}
+<{"error":null,"id":5,"result":[{"rows":[{"name":"s2"}]}]}
+>{"id":6,"method":"transact","params":["Net",{"op":"select","table":"Switch","where":[["_version","==",["uuid","00000000-0000-4000-8000-000000000001"]]],"columns":["name"]}]}
+<{"error":null,"id":6,"result":[{"rows":[{"name":"s1"},{"name":"s2"}]}]}
+>{"id":7,"method":"transact","params":["Net",{"op":"select","table":"Switch","where":[["load","excludes",4]],"columns":["name"]}]}
+<{"error":null,"id":7,"result":[{"rows":[{"name":"s2"}]}]}
+>{"id":8,"method":"transact","params":["Net",{"op":"select","table":"Switch","where":[["ports","includes",["set",[]]]],"columns":["name"]}]}
+<{"error":null,"id":8,"result":[{"rows":[{"name":"s1"},{"name":"s2"}]}]}
+>{"id":9,"method":"transact","params":["Net",{"op":"select","table":"Switch","where":[["ports","includes",["uuid","00000000-0000-4000-8000-000000000002"]]],"columns":["name"]}]}
+<{"error":null,"id":9,"result":[{"rows":[]}]}"#;
+
+/// The conditions are read one after another, each wholly, and before the columns. The last of these reads.
+const MISREAD: &str =
+    r#">{"id":1,"method":"transact","params":["Net",{"op":"select","table":"Switch","where":[["load","=="]],"columns":["nam"]}]}
+<{"error":null,"id":1,"result":[{"error":"syntax error"}]}
+>{"id":2,"method":"transact","params":["Net",{"op":"select","table":"Switch","where":[["lode","=",4]],"columns":["nam"]}]}
+<{"error":null,"id":2,"result":[{"error":"unknown column"}]}
+>{"id":3,"method":"transact","params":["Net",{"op":"select","table":"Switch","where":[["load","=",4]],"columns":["nam"]}]}
+<{"error":null,"id":3,"result":[{"error":"syntax error"}]}
+>{"id":4,"method":"transact","params":["Net",{"op":"select","table":"Switch","where":[["name","<","s1"]],"columns":["nam"]}]}
+<{"error":null,"id":4,"result":[{"error":"syntax error"}]}
+>{"id":5,"method":"transact","params":["Net",{"op":"select","table":"Switch","where":[["load","==","x"]],"columns":["nam"]}]}
+<{"error":null,"id":5,"result":[{"error":"syntax error"}]}
+>{"id":6,"method":"transact","params":["Net",{"op":"select","table":"Switch","where":[["load","==",["set",[1,2]]]],"columns":["nam"]}]}
+<{"error":null,"id":6,"result":[{"error":"syntax error"}]}
+>{"id":7,"method":"transact","params":["Net",{"op":"select","table":"Switch","where":[["load","==",4],["lode","==",4]],"columns":["nam"]}]}
+<{"error":null,"id":7,"result":[{"error":"unknown column"}]}
+>{"id":8,"method":"transact","params":["Net",{"op":"select","table":"Switch","where":[["main","==",["named-uuid","a"]]],"columns":["nam"]}]}
+<{"error":null,"id":8,"result":[{"error":"syntax error"}]}
+>{"id":9,"method":"transact","params":["Net",{"op":"select","table":"Switch","where":[["load","==",["set",[4,4]]]],"columns":["nam"]}]}
+<{"error":null,"id":9,"result":[{"error":"unknown column"}]}"#;
+
 #[test]
 fn inserted_rows_are_selected(rt: HostRuntime) -> Result<(), Fail> {
     assert_eq!(rt; first_wrong(rt.alloc(), INSERTED)?.as_str(), "");
@@ -121,5 +163,17 @@ fn a_commit_without_room_changes_nothing(rt: HostRuntime) -> Result<(), Fail> {
         first_wrong_over(rt.alloc(), 0, true, NO_ROOM)?.as_str(),
         ""
     );
+    Ok(())
+}
+
+#[test]
+fn rows_are_selected_by_conditions(rt: HostRuntime) -> Result<(), Fail> {
+    assert_eq!(rt; first_wrong(rt.alloc(), SELECTED)?.as_str(), "");
+    Ok(())
+}
+
+#[test]
+fn conditions_are_refused_in_order(rt: HostRuntime) -> Result<(), Fail> {
+    assert_eq!(rt; first_wrong(rt.alloc(), MISREAD)?.as_str(), "");
     Ok(())
 }

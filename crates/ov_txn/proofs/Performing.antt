@@ -5,7 +5,8 @@ use Rattle.serde_json.specs.Data.{Data, null, Items, no_items, item}
 use Rattle.serde_json.specs.View.{view, items_view}
 use Rattle.serde_json.specs.declared.value.Value.{Value}
 use Rattle.ov_specs.specs.Database.{Database}
-use Rattle.ov_specs.specs.Operation.{OpError, error_tree, Staged, Does, Refuses, operation}
+use Rattle.ov_specs.specs.Errors.{OpError, error_tree}
+use Rattle.ov_specs.specs.Operation.{Staged, Does, Refuses, operation}
 use Rattle.ov_specs.specs.SchemaTypes.{Schema}
 use Rattle.ov_specs.specs.Transaction.{Transacted, and_item, nulls, goes_on, perform, transaction}
 use Rattle.ov_specs.specs.Uuid.{Uuid}

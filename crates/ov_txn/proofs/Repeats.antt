@@ -9,7 +9,8 @@ use Rattle.std.specs.FinMap.{keys, entries}
 use Rattle.ov_specs.specs.Database.{Row, is_atom, is_pair, is_datum, are_columns}
 use Rattle.ov_specs.specs.Method.{is_text}
 use Rattle.ov_specs.specs.Lines.{LineKey}
-use Rattle.ov_specs.specs.Operation.{columns_of, without_repeats}
+use Rattle.ov_specs.specs.Conditions.{Condition}
+use Rattle.ov_specs.specs.Operation.{columns_of, is_matching, without_repeats}
 use Rattle.ov_specs.specs.Value.{Atom, Datum, Atoms, Pairs}
 use Rattle.ov_specs.proofs.Order.{atom_cmp_total}
 
@@ -146,17 +147,17 @@ without_repeats-kept rows = without_repeats-once rows ∙ sym (kept_with-once ar
 
 -- ---- the rows of a table
 
--- what is kept, with what is shown of the table's rows among these
-abbrev pub shown_with : List (List ℕ) → List ℕ → List Shown → List (LineKey × Row) → List Shown
-shown_with names table kept rows = kept_with are_columns kept (map (columns_of names) (filter (λ r. is_text r.0.0 table) rows))
+-- what is kept, with what is shown of the table's rows among these that meet all conditions
+abbrev pub shown_with : List (List ℕ) → List ℕ → List Condition → List Shown → List (LineKey × Row) → List Shown
+shown_with names table conditions kept rows = kept_with are_columns kept (map (columns_of names) (filter (is_matching table conditions) rows))
 
-module _ (names : List (List ℕ)) (table : List ℕ) (kept : List Shown) (r : LineKey × Row) (rest : List (LineKey × Row)) where
-  pub shown-new : is_text r.0.0 table ≡ true → among are_columns kept (columns_of names r) ≡ false
-      → shown_with names table kept (r ∷ rest) ≡ shown_with names table (kept ++ columns_of names r ∷ []) rest
+module _ (names : List (List ℕ)) (table : List ℕ) (conditions : List Condition) (kept : List Shown) (r : LineKey × Row) (rest : List (LineKey × Row)) where
+  pub shown-new : is_matching table conditions r ≡ true → among are_columns kept (columns_of names r) ≡ false
+      → shown_with names table conditions kept (r ∷ rest) ≡ shown_with names table conditions (kept ++ columns_of names r ∷ []) rest
   shown-new h k = rw (h, k) refl
 
-  pub shown-again : is_text r.0.0 table ≡ true → among are_columns kept (columns_of names r) ≡ true → shown_with names table kept (r ∷ rest) ≡ shown_with names table kept rest
+  pub shown-again : is_matching table conditions r ≡ true → among are_columns kept (columns_of names r) ≡ true → shown_with names table conditions kept (r ∷ rest) ≡ shown_with names table conditions kept rest
   shown-again h k = rw (h, k) refl
 
-  pub shown-other : is_text r.0.0 table ≡ false → shown_with names table kept (r ∷ rest) ≡ shown_with names table kept rest
+  pub shown-other : is_matching table conditions r ≡ false → shown_with names table conditions kept (r ∷ rest) ≡ shown_with names table conditions kept rest
   shown-other h = rw h refl

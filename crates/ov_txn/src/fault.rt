@@ -1,7 +1,8 @@
 ghost use Rattle.std.specs.Prelude.{◌≡◌};
-ghost use Rattle.ov_specs.specs.Operation.{error_text};
+ghost use Rattle.ov_specs.specs.Errors.{error_text};
 ghost use Rattle.ov_txn.specs.Errors.{error_view};
 
+use ov_conds::ConditionFault;
 use std::alloc::AllocError;
 
 /// Why an operation, or the commit, fails (RFC 7047, 3.1, `<error>`, and 5.2).
@@ -52,5 +53,21 @@ impl From<AllocError> for Stop {
 
     fn from(_refused: AllocError) -> Stop {
         Stop::Memory
+    }
+}
+
+impl From<ConditionFault> for Stop {
+    ghost use Rattle.ov_txn.specs.Errors.{stop_of};
+    ghost use Rattle.std.specs.Prelude.{◌≡◌};
+
+    ghost from_gives = { λ fault e. e ≡ stop_of fault };
+
+    fn from(fault: ConditionFault) -> Stop {
+        match fault {
+            ConditionFault::Syntax => Stop::Refused(OpError::Syntax),
+            ConditionFault::UnknownColumn => Stop::Refused(OpError::UnknownColumn),
+            ConditionFault::Memory => Stop::Memory,
+            ConditionFault::Clash => Stop::Refused(OpError::Constraint),
+        }
     }
 }

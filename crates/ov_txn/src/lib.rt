@@ -2,6 +2,7 @@
 #![tactic(auto)]
 
 mod choose;
+mod conditions;
 mod draws;
 mod fault;
 mod given;

@@ -9,10 +9,12 @@ ghost use Rattle.ov_specs.specs.Uuid.{Uuid};
 ghost use Rattle.ov_txn.specs.Staging.{staged, IsDone};
 
 use crate::choose::chosen_columns;
+use crate::conditions::{conditions_of, is_matching};
 use crate::fault::{OpError, Stop};
 use crate::member::text_at;
 use crate::shown::ShownRow;
 use ov_base::{Text, Tree};
+use ov_conds::Condition;
 use ov_db::Rows;
 use ov_schema::Schema;
 use serde_json::{Value, json};
@@ -30,19 +32,20 @@ fn is_among(rows: &[ShownRow], shown: &ShownRow) -> bool
     false
 }
 
-/// The chosen columns of the table's rows, in ascending order of the identifiers; of equal ones the first alone (RFC 7047,
+/// The chosen columns of the table's rows that meet the conditions, in ascending order of the identifiers; of equal ones the first alone (RFC 7047,
 /// 5.2.2).
 fn shown_rows(
     alloc: Global,
     rows: &Rows,
     table: &str,
+    conditions: &[Condition],
     names: &[Text],
 ) -> Result<Vec<ShownRow>, AllocError>
-    ensures { IfOk result (λ v. v.items ≡ spec.without_repeats (map (spec.columns_of names.now) (spec.rows_of rows.now.now table.now))) }
+    ensures { IfOk result (λ v. v.items ≡ spec.without_repeats (map (spec.columns_of names.now) (spec.matching rows.now.now table.now conditions.now))) }
 {
     let mut shown = Vec::new(alloc);
     for (key, row) in rows.map() {
-        if key.table() == table {
+        if is_matching(table, conditions, key, row) {
             let chosen = ShownRow::of(alloc, names, key, row)?;
             if !is_among(shown.as_slice(), &chosen) {
                 shown.push(chosen)?;
@@ -75,23 +78,17 @@ fn select_result(
     alloc: Global,
     rows: &Rows,
     table: &str,
+    conditions: &[Condition],
     names: &[Text],
 ) -> Result<Tree, AllocError>
-    ensures { IfOk result (λ t. t ≡ spec.select_result (spec.without_repeats (map (spec.columns_of names.now) (spec.rows_of rows.now.now table.now)))) }
+    ensures { IfOk result (λ t. t ≡ spec.select_result (spec.without_repeats (map (spec.columns_of names.now) (spec.matching rows.now.now table.now conditions.now)))) }
 {
-    let shown = shown_rows(alloc, rows, table, names)?;
+    let shown = shown_rows(alloc, rows, table, conditions, names)?;
     let items = trees_of(alloc, shown.as_slice())?;
     Ok(Tree::new(rows_value(alloc, items)?))
 }
 
-/// `where` has no condition.
-fn is_everywhere(conditions: &[Value]) -> bool
-    ensures { result ≡ spec.is_everywhere (items_view conditions.now) }
-{
-    conditions.is_empty()
-}
-
-/// The chosen columns of all rows of the table. A condition in `where` is a syntax error as yet.
+/// The chosen columns of the rows of the table that meet all conditions (RFC 7047, 5.2.2).
 pub(crate) fn select_rows(
     alloc: Global,
     schema: &Schema,
@@ -106,12 +103,16 @@ pub(crate) fn select_rows(
     let Some(table) = schema.table(name) else {
         return Err(Stop::Refused(OpError::UnknownTable));
     };
-    let Some(conditions) = operation.get("where").and_then(Value::as_array) else {
+    let Some(items) = operation.get("where").and_then(Value::as_array) else {
         return Err(Stop::Refused(OpError::Syntax));
     };
-    if !is_everywhere(conditions.as_slice()) {
-        return Err(Stop::Refused(OpError::Syntax));
-    }
+    let conditions = conditions_of(alloc, table, items.as_slice())?;
     let names = chosen_columns(alloc, table, operation.get("columns"))?;
-    Ok(select_result(alloc, rows, name, names.as_slice())?)
+    Ok(select_result(
+        alloc,
+        rows,
+        name,
+        conditions.as_slice(),
+        names.as_slice(),
+    )?)
 }

@@ -1,7 +1,8 @@
 use Rattle.std.proofs.Common.{◌≡◌, ◌∙◌, ◌<◌, ◌+◌, length, drop, sym, ap, arith}
 use Rattle.std.proofs.lemmas.List.{drop_all}
 use Rattle.serde_json.specs.View.{view, items_view}
-use Rattle.ov_specs.specs.Operation.{Refuses, error_tree, operation}
+use Rattle.ov_specs.specs.Errors.{error_tree}
+use Rattle.ov_specs.specs.Operation.{Refuses, operation}
 use Rattle.ov_specs.specs.Transaction.{transaction, and_item}
 use Rattle.ov_txn.specs.Errors.{error_view}
 use Rattle.ov_txn.specs.Going.{nulls_after}

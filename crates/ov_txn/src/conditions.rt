@@ -1,0 +1,53 @@
+ghost use Rattle.std.specs.Prelude.{◌≡◌};
+ghost use Rattle.std.specs.List.{list_all};
+ghost use Rattle.serde_json.specs.View.{items_view};
+ghost use Rattle.ov_specs.specs.Conditions.{row_value, holds};
+ghost use Rattle.ov_specs.specs.Operation as spec;
+ghost use Rattle.ov_txn.specs.Errors.{IsGiven};
+
+use crate::fault::Stop;
+use ov_atoms::NoNames;
+use ov_conds::{Condition, RowView};
+use ov_db::{Row, RowKey};
+use ov_schema::Table;
+use serde_json::Value;
+use std::alloc::Global;
+
+/// The conditions of a `where`, or the fault of the first that does not read (RFC 7047, 5.2.2).
+pub(crate) fn conditions_of(
+    alloc: Global,
+    table: &Table,
+    items: &[Value],
+) -> Result<Vec<Condition>, Stop>
+    ensures { IsGiven (λ v. v.items) (spec.conditions_read spec.no_names table.now (items_view items.now)) result }
+{
+    let mut conditions = Vec::new(alloc);
+    for item in items {
+        conditions.push(Condition::read(alloc, table, item, &NoNames)?)?;
+    }
+    Ok(conditions)
+}
+
+/// Whether a row meets all conditions.
+fn meets(conditions: &[Condition], row: &RowView<'_>) -> bool
+    ensures { result ≡ list_all (holds (row_value row.now.id row.now.version row.now.columns.now)) conditions.now }
+{
+    for condition in conditions {
+        if !condition.holds(row) {
+            return false;
+        }
+    }
+    true
+}
+
+/// Whether a row is one of the table, and meets all conditions.
+pub(crate) fn is_matching(table: &str, conditions: &[Condition], key: &RowKey, row: &Row) -> bool
+    ensures { result ≡ spec.is_matching table.now conditions.now (key.now, row.now) }
+{
+    let seen = RowView {
+        id: key.id(),
+        version: row.version,
+        columns: &row.columns,
+    };
+    key.table() == table && meets(conditions, &seen)
+}
