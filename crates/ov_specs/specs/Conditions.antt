@@ -5,13 +5,13 @@ use Rattle.std.specs.Coded.{Coded, code_by, coded×, coded_ℕ, coded_list}
 use Rattle.std.specs.FinMap.{get, contains_key, keys, entries}
 use Rattle.serde_json.specs.Data.{Data, Items, no_items, item}
 use Rattle.serde_json.specs.Find.{as_str, as_array}
-use Rattle.ov_specs.specs.Database.{is_atom, is_datum}
+use Rattle.ov_specs.specs.Database.{Columns, is_atom, is_datum}
 use Rattle.ov_specs.specs.Method.{is_text}
-use Rattle.ov_specs.specs.Operation.{OpError, SyntaxError, UnknownColumn, ConstraintViolation}
+use Rattle.ov_specs.specs.Operation.{OpError, SyntaxError, UnknownColumn, ConstraintViolation, one_uuid}
 use Rattle.ov_specs.specs.Reading as reading
 use Rattle.ov_specs.specs.Reading.{Reading, Reads, reads}
 use Rattle.ov_specs.specs.SchemaTypes.{ColumnType, Column, Table, kinds_of}
-use Rattle.ov_specs.specs.Uuid.{Names}
+use Rattle.ov_specs.specs.Uuid.{Uuid, Names}
 use Rattle.ov_specs.specs.Value.{AtomKind, Integers, Booleans, Texts, Uuids, Atom, Integer, AtomMap, Datum, Atoms, Pairs, count, datum_code}
 
 -- ---- conditions
@@ -193,6 +193,13 @@ compares Equal column value = is_datum column value
 compares NotEqual column value = not (is_datum column value)
 compares Includes column value = includes column value
 compares Excludes column value = excludes column value
+
+-- What a column of a row holds, by the identifier, the version and the other columns of the row (RFC 7047, 3.2).
+abbrev pub row_value : Uuid → Uuid → Columns → List ℕ → Option Datum
+row_value id version columns name =
+    if is_text name (codes "_uuid") then Some (one_uuid id)
+    else (if is_text name (codes "_version") then Some (one_uuid version)
+    else get columns name)
 
 -- the row, seen by what each of its columns holds, meets the condition (RFC 7047, 5.1, <condition>)
 abbrev pub holds : (List ℕ → Option Datum) → Condition → Bool
