@@ -4,8 +4,10 @@ use Rattle.std.specs.Cmp.Lexicographic.{nat_list_cmp_total}
 use Rattle.std.specs.FinMap.{FinMap, get, keys, from_entries, find, len, len-entries, is_sorted, get-from_entries}
 use Rattle.serde_json.specs.Read.{read}
 use Rattle.serde_json.proofs.OnLiterals.{serde_json_on_literals}
-use Rattle.ov_specs.specs.Conditions.{Less, LessOrEqual, Greater, GreaterOrEqual, Equal, NotEqual, Includes, Excludes, Condition, ConditionFault, Syntax, NoColumn, Clash, condition_read, compares, holds}
+use Rattle.ov_specs.specs.Conditions.{Less, LessOrEqual, Greater, GreaterOrEqual, Equal, NotEqual, Includes, Excludes, Condition, ConditionFault, Syntax, NoColumn, Clash, condition_read, compares, row_value, holds}
+use Rattle.ov_specs.specs.Database.{Columns}
 use Rattle.ov_specs.specs.Operation.{no_names}
+use Rattle.ov_specs.specs.Database.{one_uuid}
 use Rattle.ov_specs.specs.SchemaTypes.{BaseType, Column, Table, name_cmp}
 use Rattle.ov_specs.specs.Value.{AtomKind, Integers, Texts, Atom, Integer, Text, atom_cmp, marked, Datum, Atoms, Pairs, set_of, map_of}
 use Rattle.ov_specs.proofs.Order.{atom_cmp_total}
@@ -225,3 +227,13 @@ holds_by_its_column = rw (as_listed (4 ∷ []) tt, as_listed (5 ∷ []) tt) refl
 
 pub holds_not : holds (λ name. Some (set (5 ∷ []))) load_below_5 ≡ false
 holds_not = rw (as_listed (5 ∷ []) tt) refl
+
+-- `_uuid` and `_version` are columns of each row
+pub own_identifier : (id version : List ℕ) (columns : Columns) → row_value id version columns (codes "_uuid") ≡ Some (one_uuid id)
+own_identifier id version columns = refl
+
+pub own_version : (id version : List ℕ) (columns : Columns) → row_value id version columns (codes "_version") ≡ Some (one_uuid version)
+own_version id version columns = refl
+
+pub another_column : (id version : List ℕ) (columns : Columns) → row_value id version columns (codes "load") ≡ get columns (codes "load")
+another_column id version columns = refl

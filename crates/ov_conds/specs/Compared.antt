@@ -1,0 +1,53 @@
+-- How values are compared, by the ascending lists of what they have.
+use Rattle.std.specs.Prelude.{ℤ, int_lt, int_le, not, List, Bool, true, false, Option, None}
+use Rattle.std.specs.Cmp.Lexicographic.{pointwise}
+use Rattle.std.specs.FinMap.{keys, entries}
+use Rattle.ov_specs.specs.Conditions.{Function, Less, LessOrEqual, Greater, GreaterOrEqual, Equal, NotEqual, Includes, Excludes, lone_integer, stand}
+use Rattle.ov_specs.specs.Database.{is_atom, is_pair}
+use Rattle.ov_specs.specs.Value as value
+use Rattle.ov_specs.specs.Value.{Datum}
+use Rattle.ov_conds.specs.Walks.{includes_atoms, includes_pairs, excludes_atoms, excludes_pairs}
+
+-- the atoms of a set, or the pairs of a map, ascending
+pub data Elements : Type 0 where
+  Atoms : (atoms : List value.Atom) → Elements
+  Pairs : (pairs : List (value.Atom × value.Atom)) → Elements
+
+-- what a value has
+abbrev pub elements_of : Datum → Elements
+elements_of (value.Atoms atoms) = Atoms (keys atoms)
+elements_of (value.Pairs pairs) = Pairs (entries pairs)
+
+-- the number, where there is one and nothing else
+abbrev pub number_of : Elements → Option ℤ
+number_of (Atoms atoms) = lone_integer atoms
+number_of (Pairs pairs) = None
+
+-- the same set or map
+abbrev pub are_same : Elements → Elements → Bool
+are_same (Atoms a) (Atoms b) = pointwise is_atom a b
+are_same (Pairs a) (Pairs b) = pointwise is_pair a b
+are_same a b = false
+
+-- all of the value is in the column
+abbrev pub includes : Elements → Elements → Bool
+includes (Atoms column) (Atoms value) = includes_atoms column value
+includes (Pairs column) (Pairs value) = includes_pairs column value
+includes column value = false
+
+-- nothing of the value is in the column
+abbrev pub excludes : Elements → Elements → Bool
+excludes (Atoms column) (Atoms value) = excludes_atoms column value
+excludes (Pairs column) (Pairs value) = excludes_pairs column value
+excludes column value = true
+
+-- the column stands so to the value
+abbrev pub compares : Function → Elements → Elements → Bool
+compares Less column value = stand int_lt (number_of column) (number_of value)
+compares LessOrEqual column value = stand int_le (number_of column) (number_of value)
+compares Greater column value = stand int_lt (number_of value) (number_of column)
+compares GreaterOrEqual column value = stand int_le (number_of value) (number_of column)
+compares Equal column value = are_same column value
+compares NotEqual column value = not (are_same column value)
+compares Includes column value = includes column value
+compares Excludes column value = excludes column value

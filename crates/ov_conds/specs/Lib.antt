@@ -1,0 +1,4 @@
+pub mod Walks
+pub mod Compared
+pub mod ElementViews
+pub mod Views

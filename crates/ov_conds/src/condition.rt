@@ -1,0 +1,117 @@
+ghost use Rattle.std.specs.Prelude.{◌≡◌};
+ghost use Rattle.serde_json.specs.View.{view};
+ghost use Rattle.ov_specs.specs.Conditions.{row_value, holds, compares, value_read, condition_read};
+ghost use Rattle.ov_specs.specs.Database.{one_uuid};
+ghost use Rattle.ov_specs.specs.Reading.{reads};
+ghost use Rattle.ov_specs.specs.SchemaTypes.{kinds_of};
+ghost use Rattle.ov_conds.specs.Views.{function_view, IsRead};
+
+use crate::elements::Elements;
+use crate::fault::ConditionFault;
+use crate::function::Function;
+use crate::row::RowView;
+use crate::triple::Triple;
+use ov_atoms::{Atom, Datum, Names, read_datum};
+use ov_base::Text;
+use ov_schema::{Column, Table};
+use serde_json::Value;
+use std::alloc::Global;
+use std::marker::Model;
+use uuid::Uuid;
+
+/// A condition on the rows of a table: a column, and what it is compared with (RFC 7047, 5.1, `<condition>`).
+#[derive(Drop)]
+pub struct Condition {
+    column: Text,
+    function: Function,
+    value: Datum,
+}
+
+impl Model for Condition {
+    ghost use Rattle.ov_specs.specs.Conditions as conditions;
+    ghost use Rattle.ov_conds.specs.Views.{function_view};
+
+    ghost Value = { conditions.Condition };
+
+    ghost coded = { conditions.condition_code };
+
+    ghost view = { λ c. record { column = c.column; function = function_view c.function; value = c.value } };
+}
+
+impl Condition {
+    /// The condition on a row of the table that a tree is. Of its faults the first is told: its shape, then its column,
+    /// the function on that column, and its value. The value is read by the kinds of the column alone, and where the
+    /// column is a scalar it has one atom (RFC 7047, 5.1, `<condition>`; which fault is told is own).
+    pub fn read<N: Names>(
+        alloc: Global,
+        table: &Table,
+        tree: &Value,
+        names: &N,
+    ) -> Result<Condition, ConditionFault>
+        ensures { IsRead (condition_read (N.names names.now) table.now (view tree.now)) result }
+    {
+        let Some(parts) = Triple::read(tree) else {
+            return Err(ConditionFault::Syntax);
+        };
+        let Some(column) = table.column(parts.column) else {
+            return Err(ConditionFault::UnknownColumn);
+        };
+        let Some(function) = Function::on(column, parts.word) else {
+            return Err(ConditionFault::Syntax);
+        };
+        let value = read_value(alloc, column, parts.value, names)?;
+        Ok(Condition {
+            column: Text::from_str(alloc, parts.column)?,
+            function,
+            value,
+        })
+    }
+
+    /// Whether a row meets the condition. A row that lacks the column meets none (RFC 7047, 5.1, `<condition>`).
+    pub fn holds(&self, row: &RowView<'_>) -> bool
+        ensures { result ≡ holds (row_value row.now.id row.now.version row.now.columns.now) self.now }
+    {
+        let name = self.column.as_str();
+        if name == "_uuid" {
+            return self.holds_of_uuid(row.id);
+        }
+        if name == "_version" {
+            return self.holds_of_uuid(row.version);
+        }
+        match row.columns.get(name) {
+            Some(datum) => self.holds_of(datum),
+            None => false,
+        }
+    }
+
+    fn holds_of(&self, datum: &Datum) -> bool
+        ensures { result ≡ compares self.now.function datum.now self.now.value }
+    {
+        let value = Elements::of(&self.value);
+        self.function.compares(Elements::of(datum), value)
+    }
+
+    fn holds_of_uuid(&self, id: Uuid) -> bool
+        ensures { result ≡ compares self.now.function (one_uuid id) self.now.value }
+    {
+        let atoms = [Atom::Uuid(id)];
+        let value = Elements::of(&self.value);
+        self.function.compares(Elements::Atoms(&atoms), value)
+    }
+}
+
+/// The value that the column is compared with.
+fn read_value<N: Names>(
+    alloc: Global,
+    column: &Column,
+    tree: &Value,
+    names: &N,
+) -> Result<Datum, ConditionFault>
+    ensures { IsRead (value_read column.now.type_of (reads (N.names names.now) (kinds_of column.now.type_of) (view tree.now))) result }
+{
+    let value = read_datum(alloc, tree, column.kinds(), names)?;
+    if column.is_scalar() && value.count() != 1 {
+        return Err(ConditionFault::Syntax);
+    }
+    Ok(value)
+}

@@ -1,0 +1,75 @@
+ghost use Rattle.std.specs.Prelude.{◌≡◌, ◌&&◌, is_none, option_map};
+ghost use Rattle.ov_specs.specs.Conditions.{function_of, is_integers, is_allowed_on, function_on};
+ghost use Rattle.ov_conds.specs.Views.{function_view};
+
+use ov_atoms::{AtomKind, Kinds};
+use ov_schema::Column;
+
+/// How a column is compared with a value (RFC 7047, 5.1, `<function>`).
+#[derive(Clone, Copy, Debug, PartialEq, Eq)]
+pub enum Function {
+    /// `<`, of integers.
+    Less,
+    /// `<=`, of integers.
+    LessOrEqual,
+    /// `>`, of integers.
+    Greater,
+    /// `>=`, of integers.
+    GreaterOrEqual,
+    /// `==`: the same set or map.
+    Equal,
+    /// `!=`: another set or map.
+    NotEqual,
+    /// `includes`: every element of the value is in the column.
+    Includes,
+    /// `excludes`: no element of the value is in the column.
+    Excludes,
+}
+
+impl Function {
+    fn of_word(word: &str) -> Option<Function>
+        ensures { option_map function_view result ≡ function_of word.now }
+    {
+        match word {
+            "<" => Some(Function::Less),
+            "<=" => Some(Function::LessOrEqual),
+            ">" => Some(Function::Greater),
+            ">=" => Some(Function::GreaterOrEqual),
+            "==" => Some(Function::Equal),
+            "!=" => Some(Function::NotEqual),
+            "includes" => Some(Function::Includes),
+            "excludes" => Some(Function::Excludes),
+            _ => None,
+        }
+    }
+
+    /// Whether the column can be compared so: in order only where it holds one integer, otherwise whatever it holds.
+    fn is_allowed_on(self, column: &Column) -> bool
+        ensures { result ≡ is_allowed_on column.now.type_of (function_view self) }
+    {
+        match self {
+            Function::Less | Function::LessOrEqual | Function::Greater | Function::GreaterOrEqual =>
+                column.is_scalar() && holds_integers(column),
+            Function::Equal | Function::NotEqual | Function::Includes | Function::Excludes => true,
+        }
+    }
+
+    /// The function of a word, where the column can be compared so.
+    pub(crate) fn on(column: &Column, word: &str) -> Option<Function>
+        ensures { option_map function_view result ≡ function_on column.now.type_of word.now }
+    {
+        let function = Function::of_word(word)?;
+        if function.is_allowed_on(column) {
+            Some(function)
+        } else {
+            None
+        }
+    }
+}
+
+/// Whether a column holds integers, one or a set of them.
+pub fn holds_integers(column: &Column) -> bool
+    ensures { result ≡ (is_none column.now.type_of.value && is_integers column.now.type_of.key.kind) }
+{
+    matches!(column.kinds(), Kinds::Single(AtomKind::Integer))
+}

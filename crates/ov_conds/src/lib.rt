@@ -1,0 +1,20 @@
+//! The conditions of a "where": read from their trees, and tested on rows (RFC 7047, 5.1, `<condition>`).
+//!
+//! A condition is judged by the column that it names, once, as it is read. A test of a row takes no memory.
+#![tactic(auto)]
+
+mod compare;
+mod condition;
+mod elements;
+mod fault;
+mod function;
+mod row;
+mod triple;
+mod walk;
+
+pub use condition::Condition;
+pub use fault::ConditionFault;
+pub use function::{Function, holds_integers};
+pub use row::RowView;
+pub use triple::Triple;
+pub use walk::{atoms_from, pairs_from};
