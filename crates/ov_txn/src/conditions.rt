@@ -11,7 +11,7 @@ use ov_conds::{Condition, RowView};
 use ov_db::{Row, RowKey};
 use ov_schema::Table;
 use serde_json::Value;
-use std::alloc::Global;
+use std::alloc::{AllocError, Global};
 
 /// The conditions of a `where`, or the fault of the first that does not read (RFC 7047, 5.2.2).
 pub(crate) fn conditions_of(
@@ -23,7 +23,10 @@ pub(crate) fn conditions_of(
 {
     let mut conditions = Vec::new(alloc);
     for item in items {
-        conditions.push(Condition::read(alloc, table, item, &NoNames)?)?;
+        let condition = Condition::read(alloc, table, item, &NoNames)?;
+        if let Err(refused) = conditions.push(condition) {
+            return Err(AllocError::from(refused).into());
+        }
     }
     Ok(conditions)
 }

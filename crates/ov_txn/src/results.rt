@@ -1,7 +1,7 @@
 ghost use Rattle.std.specs.Prelude.{◌≡◌, IfOk, OnOk};
 ghost use Rattle.serde_json.specs.Data.{no_items};
 ghost use Rattle.serde_json.specs.View.{view, items_view};
-ghost use Rattle.ov_specs.specs.Operation as spec;
+ghost use Rattle.ov_specs.specs.Errors as spec;
 ghost use Rattle.ov_specs.specs.Transaction.{and_item, and_error};
 ghost use Rattle.ov_specs.specs.Transaction as transaction;
 ghost use Rattle.ov_txn.specs.Errors.{error_view};

@@ -3,7 +3,7 @@ ghost use Rattle.std.specs.Cmp.Lexicographic.{pointwise};
 ghost use Rattle.serde_json.specs.Data.{object, put};
 ghost use Rattle.serde_json.specs.View.{members_view};
 ghost use Rattle.ov_atoms.specs.Views.{atoms_view, pairs_view};
-ghost use Rattle.ov_specs.specs.Database.{is_atom, is_pair, is_datum, are_columns};
+ghost use Rattle.ov_specs.specs.Database.{is_atom, is_pair, is_datum, are_columns, one_uuid};
 ghost use Rattle.ov_specs.specs.Method.{is_text};
 ghost use Rattle.ov_specs.specs.Operation as spec;
 ghost use Rattle.ov_specs.specs.Tree.{has_real};
@@ -37,7 +37,7 @@ impl Model for ShownRow {
 
 /// A set of one identifier (RFC 7047, 5.1, `<uuid>`).
 fn one_uuid(alloc: Global, id: Uuid) -> Result<Datum, AllocError>
-    ensures { IfOk result (λ d. d ≡ spec.one_uuid id) }
+    ensures { IfOk result (λ d. d ≡ one_uuid id) }
 {
     Datum::of_atom(alloc, Atom::Uuid(id))
 }
