@@ -10,8 +10,6 @@ mod front;
 mod message;
 mod space;
 mod take;
-#[cfg(test)]
-mod tests;
 
 pub use cutter::{Cutter, Fed};
 pub use fault::CutFault;

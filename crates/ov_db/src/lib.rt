@@ -9,8 +9,6 @@ mod commit;
 mod key;
 mod row;
 mod rows;
-#[cfg(test)]
-mod tests;
 
 pub use columns::Columns;
 pub use key::RowKey;

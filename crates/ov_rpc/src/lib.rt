@@ -5,8 +5,6 @@ mod fault;
 mod frame;
 mod message;
 mod request;
-#[cfg(test)]
-mod tests;
 
 pub use fault::RpcFault;
 pub use frame::{failure, note, reply};

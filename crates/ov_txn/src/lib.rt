@@ -12,8 +12,6 @@ mod operation;
 mod results;
 mod select;
 mod shown;
-#[cfg(test)]
-mod tests;
 mod transaction;
 
 pub use draws::draws_for;

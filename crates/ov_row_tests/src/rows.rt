@@ -1,6 +1,6 @@
-use super::*;
 use ov_atoms::{Atom, Datum};
 use ov_base::Text;
+use ov_db::{Columns, Row, RowKey, Rows, StoreAnswer};
 use ov_early::{Keeper, ListKeeper};
 use std::alloc::{AllocError, Global};
 use std::test::Fail;

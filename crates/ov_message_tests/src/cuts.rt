@@ -1,4 +1,4 @@
-use crate::{CutFault, Cutter};
+use ov_cut::{CutFault, Cutter};
 use std::alloc::{AllocError, Global};
 use std::test::*;
 

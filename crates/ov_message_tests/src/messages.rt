@@ -1,5 +1,5 @@
-use crate::{BadKind, Message, RpcFault, failure, note, reply};
 use ov_base::{Text, Tree, Trees, has_real};
+use ov_rpc::{BadKind, Message, RpcFault, failure, note, reply};
 use serde_json::{Value, json};
 use std::alloc::{AllocError, Global};
 use std::process::Abort;

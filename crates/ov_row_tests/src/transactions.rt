@@ -2,11 +2,11 @@ ghost use Rattle.std.specs.Prelude.{◌≡◌, IfOk, false};
 ghost use Rattle.serde_json.specs.View.{view};
 ghost use Rattle.ov_specs.specs.Tree.{has_real};
 
-use super::*;
 use ov_base::{Tree, Trees, has_real};
 use ov_db::Rows;
 use ov_early::Draws;
 use ov_schema::Schema;
+use ov_txn::{draws_for, exhausted, failed, perform};
 use serde_json::Value;
 use std::alloc::Global;
 use std::test::Fail;
