@@ -66,7 +66,7 @@ impl Datum {
         let Some(merged) = merge_pairs(alloc, pairs)? else {
             return Ok(None);
         };
-        let mut ascending = Vec::new(alloc);
+        let mut ascending = Vec::with_capacity(alloc, merged.len())?;
         for pair in merged {
             ascending.push(pair)?;
         }
