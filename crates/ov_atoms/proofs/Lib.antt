@@ -5,3 +5,4 @@ pub mod Plain
 pub mod Told
 pub mod Written
 pub mod Ordered
+pub mod Sorting

@@ -6,7 +6,7 @@ ghost use Rattle.ov_atoms.specs.Views.{atom_view, kinds_view, atoms_view, pairs_
 use crate::atom::Atom;
 use crate::kind::Kinds;
 use std::alloc::{AllocError, Global};
-use std::collections::{BTreeMap, BTreeSet};
+use std::collections::BTreeMap;
 use std::marker::Model;
 
 /// A value of a column: a finite set of atoms or a finite map (RFC 7047, 5.1, `<value>`). A scalar is a set of one.
@@ -40,7 +40,7 @@ impl Datum {
     pub fn of_atom(alloc: Global, atom: Atom) -> Result<Datum, AllocError>
         ensures { IfOk result (λ d. d ≡ value.Atoms (value.set_of (atom_view atom ∷ []))) }
     {
-        let mut atoms = Vec::new(alloc);
+        let mut atoms = Vec::with_capacity(alloc, 1)?;
         atoms.push(atom)?;
         Ok(Datum {
             parts: Parts::Atoms(atoms),
@@ -48,15 +48,14 @@ impl Datum {
     }
 
     /// The set of these atoms, in whatever order. Equal ones merge.
-    pub fn of_atoms(alloc: Global, atoms: Vec<Atom>) -> Result<Datum, AllocError>
+    pub fn of_atoms(_alloc: Global, atoms: Vec<Atom>) -> Result<Datum, AllocError>
         ensures { IfOk result (λ d. d ≡ value.Atoms (value.set_of (atoms_view atoms.items))) }
     {
-        let mut ascending = Vec::new(alloc);
-        for atom in merge_atoms(alloc, atoms)? {
-            ascending.push(atom)?;
-        }
+        let mut atoms = atoms;
+        atoms.sort_unstable();
+        atoms.dedup();
         Ok(Datum {
-            parts: Parts::Atoms(ascending),
+            parts: Parts::Atoms(atoms),
         })
     }
 
@@ -67,7 +66,7 @@ impl Datum {
         let Some(merged) = merge_pairs(alloc, pairs)? else {
             return Ok(None);
         };
-        let mut ascending = Vec::new(alloc);
+        let mut ascending = Vec::with_capacity(alloc, merged.len())?;
         for pair in merged {
             ascending.push(pair)?;
         }
@@ -157,17 +156,6 @@ impl Datum {
     }
 }
 
-/// The atoms in order. A list would be looked through at each insertion, and messages are long.
-fn merge_atoms(alloc: Global, atoms: Vec<Atom>) -> Result<BTreeSet<Atom>, AllocError>
-    ensures { IfOk result (λ s. value.set_of (atoms_view s.keys) ≡ value.set_of (atoms_view atoms.items)) }
-{
-    let mut set = BTreeSet::new(alloc);
-    for atom in atoms {
-        set.insert(atom)?;
-    }
-    Ok(set)
-}
-
 /// The pairs in order of their keys, or none where one key has two values.
 fn merge_pairs(
     alloc: Global,
@@ -191,7 +179,7 @@ fn merge_pairs(
 fn copy_atoms(alloc: Global, atoms: &[Atom]) -> Result<Vec<Atom>, AllocError>
     ensures { IfOk result (λ v. atoms_view v.items ≡ atoms_view atoms.now) }
 {
-    let mut copies = Vec::new(alloc);
+    let mut copies = Vec::with_capacity(alloc, atoms.len())?;
     for atom in atoms {
         copies.push(atom.copy(alloc)?)?;
     }
@@ -201,7 +189,7 @@ fn copy_atoms(alloc: Global, atoms: &[Atom]) -> Result<Vec<Atom>, AllocError>
 fn copy_pairs(alloc: Global, pairs: &[(Atom, Atom)]) -> Result<Vec<(Atom, Atom)>, AllocError>
     ensures { IfOk result (λ v. pairs_view v.items ≡ pairs_view pairs.now) }
 {
-    let mut copies = Vec::new(alloc);
+    let mut copies = Vec::with_capacity(alloc, pairs.len())?;
     for pair in pairs {
         copies.push((pair.0.copy(alloc)?, pair.1.copy(alloc)?))?;
     }

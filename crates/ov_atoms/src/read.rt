@@ -90,7 +90,7 @@ fn each_atom<N: Names>(
 ) -> Result<Option<Vec<Atom>>, AllocError>
     ensures { IfOk result (λ o. option_map (λ v. atoms_view v.items) o ≡ each_read (atom_read (N.names names.now) (kind_view kind)) (items_view items.now.items)) }
 {
-    let mut atoms = Vec::new(alloc);
+    let mut atoms = Vec::with_capacity(alloc, items.len())?;
     for item in items {
         match atom_of(alloc, item, kind, names)? {
             Some(atom) => atoms.push(atom)?,
@@ -116,7 +116,7 @@ fn atoms_of<N: Names>(
         },
         None => match atom_of(alloc, tree, kind, names)? {
             Some(atom) => {
-                let mut atoms = Vec::new(alloc);
+                let mut atoms = Vec::with_capacity(alloc, 1)?;
                 atoms.push(atom)?;
                 Ok(Some(atoms))
             }
@@ -155,7 +155,7 @@ fn each_pair<N: Names>(
 ) -> Result<Option<Vec<(Atom, Atom)>>, AllocError>
     ensures { IfOk result (λ o. option_map (λ v. pairs_view v.items) o ≡ each_read (pair_read (N.names names.now) (kind_view key) (kind_view value)) (items_view items.now.items)) }
 {
-    let mut pairs = Vec::new(alloc);
+    let mut pairs = Vec::with_capacity(alloc, items.len())?;
     for item in items {
         match pair_of(alloc, item, key, value, names)? {
             Some(pair) => pairs.push(pair)?,

@@ -18,7 +18,7 @@ use uuid::Uuid;
 fn two(alloc: Global, first: Value, second: Value) -> Result<Value, AllocError>
     ensures { IfOk result (λ v. view v ≡ two (view first) (view second)) }
 {
-    let mut items = Vec::new(alloc);
+    let mut items = Vec::with_capacity(alloc, 2)?;
     items.push(first)?;
     items.push(second)?;
     Ok(Value::Array(items))
@@ -73,7 +73,7 @@ fn write_atoms(alloc: Global, atoms: &[Atom]) -> Result<Value, AllocError>
     if atoms.len() == 1 {
         return write_atom(alloc, &atoms[0]);
     }
-    let mut items = Vec::new(alloc);
+    let mut items = Vec::with_capacity(alloc, atoms.len())?;
     for atom in atoms {
         items.push(write_atom(alloc, atom)?)?;
     }
@@ -84,7 +84,7 @@ fn write_pairs(alloc: Global, pairs: &[(Atom, Atom)]) -> Result<Value, AllocErro
     ensures written { IfOk result (λ v. view v ≡ map_tree (pairs_view pairs.now)) }
     ensures plain { IfOk result (λ v. has_real (view v) ≡ false) }
 {
-    let mut items = Vec::new(alloc);
+    let mut items = Vec::with_capacity(alloc, pairs.len())?;
     for pair in pairs {
         items.push(write_pair(alloc, pair)?)?;
     }

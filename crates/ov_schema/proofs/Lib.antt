@@ -1,5 +1,3 @@
-pub mod MemberLemmas
-pub mod ChoiceLemmas
 pub mod NamedLemmas
 pub mod RefusalLemmas
 pub mod FittingLemmas

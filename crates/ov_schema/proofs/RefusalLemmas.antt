@@ -1,4 +1,4 @@
--- The first refusal that applies, test by test, and what a tree's members are judged to be.
+-- What a tree's members are judged to be.
 use Rattle.std.proofs.Common.{◌≡◌, Bool, true, false, if◌then◌else◌, Option, Some, None, Ok, Err, option_map, refl, sym, ap, subst, ◌∙◌}
 use Rattle.serde_json.specs.Data.{Data}
 use Rattle.ov_specs.specs.Tree.{has_real}
@@ -6,15 +6,6 @@ use Rattle.ov_specs.specs.SchemaShape.{SchemaShape, schema_shape}
 use Rattle.ov_specs.specs.SchemaTypes.{Schema}
 use Rattle.ov_specs.specs.Schema.{Refusal, RealNotSupported, refusal_of_shape, schema_of, refused_or, judged, accepted}
 use Rattle.ov_schema.specs.Refusals.{IsToldBy}
-
-module _ {A : Type 0} (b : Bool) (a : A) (rest : Option A) where
-  -- the test fails
-  pub passed : (o : Option A) → b ≡ false → rest ≡ o → (if b then Some a else rest) ≡ o
-  passed o is same = ap (λ x. if x then Some a else rest) is ∙ same
-
-  -- the test holds
-  pub here : b ≡ true → (if b then Some a else rest) ≡ Some a
-  here is = ap (λ x. if x then Some a else rest) is
 
 -- a tree without reals is judged by its members
 pub accepted-plain : (d : Data) → has_real d ≡ false → accepted d ≡ judged d (schema_shape d)

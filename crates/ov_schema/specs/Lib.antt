@@ -1,6 +1,3 @@
-pub mod ShapeViews
-pub mod Sets
-pub mod Flaws
 pub mod Refusals
 pub mod NamedViews
 pub mod Built

@@ -3,17 +3,16 @@ ghost use Rattle.std.specs.List.{list_any};
 ghost use Rattle.std.specs.FinMap.{contains_key};
 ghost use Rattle.std.specs.Ordering.{eq_by_cmp};
 ghost use Rattle.ov_specs.specs.Value.{atom_cmp};
-ghost use Rattle.ov_specs.specs.Schema.{kind_named, base_of, reference_of};
+ghost use Rattle.ov_specs.specs.Schema.{base_of, reference_of};
 ghost use Rattle.ov_specs.specs.Fitting.{in_range, atom_fits};
 ghost use Rattle.ov_atoms.specs.Views.{kind_view, atom_view, atoms_view};
-ghost use Rattle.ov_schema.specs.ShapeViews.{name_view, base_view};
-ghost use Rattle.ov_schema.specs.Sets.{set_in};
+ghost use Rattle.ov_shape.specs.ShapeViews.{base_view};
+ghost use Rattle.ov_shape.specs.Sets.{set_in};
 
-use crate::base_shape::{BaseShape, TypeName};
-use crate::choices::read_choices;
 use crate::limits::{char_count, is_between};
 use ov_atoms::{Atom, AtomKind, Datum};
 use ov_base::Text;
+use ov_shape::{BaseShape, read_choices};
 use std::alloc::{AllocError, Global};
 use std::marker::Model;
 
@@ -50,25 +49,13 @@ impl Model for BaseType {
     ghost use Rattle.std.specs.Prelude.{option_map};
     ghost use Rattle.ov_specs.specs.SchemaTypes as types;
     ghost use Rattle.ov_atoms.specs.Views.{kind_view};
-    ghost use Rattle.ov_schema.specs.Sets.{set_in};
+    ghost use Rattle.ov_shape.specs.Sets.{set_in};
 
     ghost Value = { types.BaseType };
 
     ghost coded = { types.base_type_code };
 
     ghost view = { λ b. record { kind = kind_view b.kind; choices = option_map set_in b.choices; least = b.least; greatest = b.greatest; shortest = b.shortest; longest = b.longest; refers = b.refers } };
-}
-
-impl TypeName {
-    /// The atomic type of the name; no schema that is accepted has "real".
-    fn kind(self) -> AtomKind
-        ensures { kind_view result ≡ kind_named (name_view self) }
-    {
-        match self {
-            TypeName::Kind(kind) => kind,
-            TypeName::Real => AtomKind::Integer,
-        }
-    }
 }
 
 impl BaseType {

@@ -1,12 +1,17 @@
-use Rattle.std.proofs.Common.{◌++◌, map, T, sym, ap, subst, ◌∙◌, append-nil}
+use Rattle.std.proofs.Common.{map, T, sym, ap, subst, ◌∙◌}
 use Rattle.std.specs.FinMap.{is_sorted}
-use Rattle.ov_specs.specs.Value.{atom_cmp, marked}
+use Rattle.std.proofs.lemmas.List.Filters.{dedup_is}
+use Rattle.ov_specs.specs.Value as value
+use Rattle.ov_specs.specs.Value.{atom_cmp, marked, set_of}
 use Rattle.ov_atoms.specs.Views.{atoms_view}
-use Rattle.ov_atoms.proofs.Building.{atoms-ascend}
+use Rattle.ov_atoms.proofs.Sorting.{equals, set_of-dedup, dedup-ascends}
 use Rattle.ov_atoms.proofs.datum.Datum.of_atoms.Goals as goal
 
 pub invariant_of-result : goal.invariant_of-result
 invariant_of-result c =
-    let gives = c.into_iter-atom-iterator.ensures.into_iter_gives in
-    let all = sym gives.0 ∙ (c.loop-atom.invariant ∙ (ap (λ xs. c.loop-atom.ascending.items ++ xs) c.in-None.ensures.steps.0 ∙ append-nil c.loop-atom.ascending.items)) in
-    subst (λ xs. T (is_sorted atom_cmp (map marked (atoms_view xs)))) all (atoms-ascend c.in_ok-atom-items.atom-items.keys gives.4)
+    subst (λ xs. T (is_sorted atom_cmp (map marked (atoms_view xs)))) (sym (dedup_is equals _ _ c.dedup.ensures.filtered)) (dedup-ascends _ c.sort_unstable.ensures.sorted)
+
+pub returns : goal.returns
+returns c =
+    ap (λ xs. value.Atoms (set_of (atoms_view xs))) (dedup_is equals _ _ c.dedup.ensures.filtered)
+    ∙ ap value.Atoms (set_of-dedup _ _ c.sort_unstable.ensures.permutation)

@@ -1,0 +1,3 @@
+pub mod MemberLemmas
+pub mod ChoiceLemmas
+pub mod RefusalLemmas

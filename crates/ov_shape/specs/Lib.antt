@@ -1,0 +1,4 @@
+pub mod ShapeViews
+pub mod Sets
+pub mod Flaws
+pub mod Refusals
