@@ -49,7 +49,7 @@ module _ {A C : Type 0} (key : A → Atom) (at : C → Atom) (same : A → C →
   walk-left walk none one xs (c ∷ cs) h j =
       let here = is_first-has key at same apart beyond xs c h in
       let later = walk-left walk none one (from_key key (at c) xs) cs (ascends-from_key key (at c) xs h) (second (below at (at c) cs) (ascends at cs) j)
-          ∙ left-later (at c) xs cs (first (below at (at c) cs) (ascends at cs) j) in
+      ∙ left-later (at c) xs cs (first (below at (at c) cs) (ascends at cs) j) in
       one xs c cs ∙ (λ i. if here i then later i else c ∷ later i) ∙ if_not (list_any (λ x. same x c) xs) _ _
 
 keys_ascend : (s : AtomSet) → T (ascends (λ a. a) (keys s))

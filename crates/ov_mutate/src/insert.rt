@@ -77,11 +77,7 @@ pub(crate) fn map_of(alloc: Global, pairs: Vec<(Atom, Atom)>) -> Result<Datum, A
 }
 
 /// The union. A key that a map has keeps its value (RFC 7047, 5.1, `<mutator>`).
-pub(crate) fn inserted(
-    alloc: Global,
-    column: &Datum,
-    elements: &Datum,
-) -> Result<Datum, AllocError>
+pub(crate) fn inserted(alloc: Global, column: &Datum, elements: &Datum) -> Result<Datum, AllocError>
     ensures { IfOk result (λ d. d ≡ inserted column.now elements.now) }
 {
     match (Elements::of(column), Elements::of(elements)) {
