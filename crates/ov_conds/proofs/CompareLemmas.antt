@@ -21,7 +21,7 @@ use Rattle.ov_conds.proofs.WalkLemmas.{first, second, below, ascends, none-below
 abbrev pub Pair : Type 0
 Pair = Atom × Atom
 
-is_atom-swap : (a b : Atom) → is_atom a b ≡ is_atom b a
+pub is_atom-swap : (a b : Atom) → is_atom a b ≡ is_atom b a
 is_atom-swap a b = (eq_by_cmp_equiv atom_cmp_total).symm a b
 
 pub atom-apart : (x c : Atom) → atom_cmp x c ≡ Less → is_atom x c ≡ false

@@ -4,15 +4,19 @@ ghost use Rattle.ov_conds.specs.ElementViews.{elements_view};
 
 use ov_atoms::{Atom, Datum};
 
-/// What a value has, in ascending order. It is lent, so that an identifier is compared without taking memory.
+/// What a value has, lent (RFC 7047, 5.1, `<value>`). Without a value of its own an identifier can be compared too, so
+/// that no comparison takes memory.
 #[derive(Clone, Copy)]
-pub(crate) enum Elements<'a> {
+pub enum Elements<'a> {
+    /// The atoms of a set, ascending.
     Atoms(&'a [Atom]),
+    /// The pairs of a map, ascending by their keys.
     Pairs(&'a [(Atom, Atom)]),
 }
 
 impl<'a> Elements<'a> {
-    pub(crate) fn of(datum: &'a Datum) -> Elements<'a>
+    /// What this value has.
+    pub fn of(datum: &'a Datum) -> Elements<'a>
         ensures { elements_view result ≡ compared.elements_of datum.now }
     {
         match (datum.atoms(), datum.pairs()) {
@@ -23,7 +27,7 @@ impl<'a> Elements<'a> {
     }
 
     /// The integer, where there is one and nothing else.
-    pub(crate) fn number(self) -> Option<i64>
+    pub fn number(self) -> Option<i64>
         ensures { result ≡ compared.number_of (elements_view self.entry) }
     {
         match self {

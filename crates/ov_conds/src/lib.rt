@@ -13,6 +13,7 @@ mod triple;
 mod walk;
 
 pub use condition::Condition;
+pub use elements::Elements;
 pub use fault::ConditionFault;
 pub use function::{Function, holds_integers};
 pub use row::RowView;

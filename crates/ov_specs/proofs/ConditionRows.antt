@@ -229,11 +229,11 @@ pub holds_not : holds (λ name. Some (set (5 ∷ []))) load_below_5 ≡ false
 holds_not = rw (as_listed (5 ∷ []) tt) refl
 
 -- `_uuid` and `_version` are columns of each row
-pub own_identifier : (id version : List ℕ) (columns : Columns) → row_value id version columns (codes "_uuid") ≡ Some (one_uuid id)
-own_identifier id version columns = refl
+pub own_identifier : (id version : List ℕ) (others : Columns) → row_value id version others (codes "_uuid") ≡ Some (one_uuid id)
+own_identifier id version others = refl
 
-pub own_version : (id version : List ℕ) (columns : Columns) → row_value id version columns (codes "_version") ≡ Some (one_uuid version)
-own_version id version columns = refl
+pub own_version : (id version : List ℕ) (others : Columns) → row_value id version others (codes "_version") ≡ Some (one_uuid version)
+own_version id version others = refl
 
-pub another_column : (id version : List ℕ) (columns : Columns) → row_value id version columns (codes "load") ≡ get columns (codes "load")
-another_column id version columns = refl
+pub another_column : (id version : List ℕ) (others : Columns) → row_value id version others (codes "load") ≡ get others (codes "load")
+another_column id version others = refl

@@ -1,7 +1,9 @@
 -- The mutations of a "mutate", and what they make of a column (RFC 7047, 5.1, <mutation>).
-use Rattle.std.specs.Prelude.{ℕ, ℤ, pos, ◌+ℤ◌, ◌-ℤ◌, ◌*ℤ◌, int_div, int_rem, int_le, ◌&&◌, ◌||◌, not, is_none, is_some, List, [], ◌∷◌, ◌++◌, map, filter, Bool, true, false, if◌then◌else◌, Option, Some, None, option_and_then, codes, Result, Ok, Err}
+use Rattle.std.specs.Prelude.{◌≡◌, refl, get_or, ◌⊎◌, ℕ, ℤ, pos, ◌+ℤ◌, ◌-ℤ◌, ◌*ℤ◌, int_div, int_rem, int_le, ◌&&◌, ◌||◌, not, is_none, is_some, List, [], ◌∷◌, ◌++◌, map, filter, Bool, true, false, if◌then◌else◌, Option, Some, None, option_and_then, codes, Result, Ok, Err}
 use Rattle.std.specs.List.{list_any, list_all}
+use Rattle.std.specs.Coded.{Coded, code_by, coded×, coded⊎, coded_ℕ, coded_ℤ, coded_list}
 use Rattle.std.specs.FinMap.{get, contains_key, keys, entries}
+use mathlib.Core.Logic.{inl, inr}
 use Rattle.serde_json.specs.Data.{Data}
 use Rattle.ov_specs.specs.Conditions.{Triple, triple_read, is_scalar, is_integers, number_in, has_pair}
 use Rattle.ov_specs.specs.Database.{is_atom}
@@ -12,7 +14,7 @@ use Rattle.ov_specs.specs.Reading as reading
 use Rattle.ov_specs.specs.Reading.{Reading, Reads, behind, reads}
 use Rattle.ov_specs.specs.SchemaTypes.{ColumnType, Column, Table, kinds_of}
 use Rattle.ov_specs.specs.Uuid.{Names}
-use Rattle.ov_specs.specs.Value.{Integers, is_atom_of, Single, Pair, Kinds, Atom, Integer, Boolean, Text, Uuid, Datum, Atoms, Pairs, set_of, map_of}
+use Rattle.ov_specs.specs.Value.{Integers, is_atom_of, Single, Pair, Kinds, Atom, Integer, Boolean, Text, Uuid, Datum, Atoms, Pairs, datum_code, set_of, map_of}
 
 -- ---- mutations
 
@@ -212,3 +214,57 @@ mutated t (Compute operator by) (Atoms column) = all_computed t operator by (key
 mutated t (Compute operator by) (Pairs column) = Err Constraint
 mutated t (Insert elements) column = fitting t (inserted column elements)
 mutated t (Delete elements) column = fitting t (deleted column elements)
+
+-- ---- how a model stores a mutation
+
+-- an operator as a number (own)
+abbrev operator_to : Operator → ℕ
+operator_to Plus = 0
+operator_to Minus = 1
+operator_to Times = 2
+operator_to Over = 3
+operator_to Modulo = 4
+
+-- and back (own)
+abbrev operator_from : ℕ → Operator
+operator_from n = get_or (Plus ∷ Minus ∷ Times ∷ Over ∷ []) n Modulo
+
+-- each operator comes back
+pub operator_from-operator_to : (operator : Operator) → operator_from (operator_to operator) ≡ operator
+operator_from-operator_to Plus = refl
+operator_from-operator_to Minus = refl
+operator_from-operator_to Times = refl
+operator_from-operator_to Over = refl
+operator_from-operator_to Modulo = refl
+
+-- the code of an operator (own)
+abbrev operator_code : Coded Operator
+operator_code = code_by ℕ coded_ℕ operator_to operator_from operator_from-operator_to
+
+-- what is done, as one of three (own)
+abbrev change_to : Change → (Operator × ℤ) ⊎ (Datum ⊎ Datum)
+change_to (Compute operator by) = inl (operator, by)
+change_to (Insert elements) = inr (inl elements)
+change_to (Delete elements) = inr (inr elements)
+
+-- and back (own)
+abbrev change_from : (Operator × ℤ) ⊎ (Datum ⊎ Datum) → Change
+change_from (inl p) = Compute p.0 p.1
+change_from (inr (inl elements)) = Insert elements
+change_from (inr (inr elements)) = Delete elements
+
+-- each comes back
+pub change_from-change_to : (change : Change) → change_from (change_to change) ≡ change
+change_from-change_to (Compute operator by) = refl
+change_from-change_to (Insert elements) = refl
+change_from-change_to (Delete elements) = refl
+
+-- the code of what is done (own)
+abbrev pub change_code : Coded Change
+change_code =
+    code_by ((Operator × ℤ) ⊎ (Datum ⊎ Datum)) (coded⊎ (coded× operator_code coded_ℤ) (coded⊎ datum_code datum_code)) change_to change_from change_from-change_to
+
+-- the code of a mutation, as the pair of its parts (own)
+abbrev pub mutation_code : Coded Mutation
+mutation_code =
+    code_by (List ℕ × Change) (coded× (coded_list coded_ℕ) change_code) (λ m. (m.column, m.change)) (λ p. record { column = p.0; change = p.1 }) (λ _. refl)

@@ -1,0 +1,2 @@
+pub mod LeftLemmas
+pub mod ComputingLemmas

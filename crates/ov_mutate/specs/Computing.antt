@@ -1,0 +1,41 @@
+-- What an operator makes of atoms, one after another.
+use Rattle.std.specs.Prelude.{ℤ, ◌==◌, List, [], ◌∷◌, Option, Result, Ok, Err, if◌then◌else◌, length}
+use Rattle.std.specs.FinMap.{len}
+use Rattle.ov_specs.specs.Mutators.{Operator, MutateError, Domain, Range, Constraint, computed, computed_atom, divides_by_zero, fitting, has_equal_two}
+use Rattle.ov_specs.specs.Reading.{in_64_bits}
+use Rattle.ov_specs.specs.SchemaTypes.{ColumnType}
+use Rattle.ov_specs.specs.Value.{Integers, is_atom_of, Atom, Datum, Atoms, set_of}
+
+-- a number of 64 bits, or none
+abbrev pub number_computed : Operator → ℤ → ℤ → Option ℤ
+number_computed operator by n = in_64_bits (computed operator by n)
+
+-- an atom, which is a number of 64 bits
+abbrev pub atom_computed : Operator → ℤ → Atom → Result Atom MutateError
+atom_computed operator by a =
+    if divides_by_zero operator by then Err Domain
+    else (if is_atom_of Integers (computed_atom operator by a) then Ok (computed_atom operator by a) else Err Range)
+
+-- one more in front, or the first fault
+abbrev pub before : Result Atom MutateError → Result (List Atom) MutateError → Result (List Atom) MutateError
+before (Err fault) rest = Err fault
+before (Ok a) (Err fault) = Err fault
+before (Ok a) (Ok atoms) = Ok (a ∷ atoms)
+
+-- all atoms, or the first fault
+abbrev pub each_computed : Operator → ℤ → List Atom → Result (List Atom) MutateError
+each_computed operator by [] = Ok []
+each_computed operator by (a ∷ atoms) = before (atom_computed operator by a) (each_computed operator by atoms)
+
+-- the set of the atoms, where no two are equal and it fits
+abbrev pub distinct : ColumnType → List Atom → Result Datum MutateError
+distinct t atoms = if has_equal_two atoms then Err Constraint else fitting t (Atoms (set_of atoms))
+
+-- the set of the results, or the first fault
+abbrev pub and_distinct : ColumnType → Result (List Atom) MutateError → Result Datum MutateError
+and_distinct t (Err fault) = Err fault
+and_distinct t (Ok atoms) = distinct t atoms
+
+-- the set of what is made of each atom
+abbrev pub set_computed : ColumnType → Operator → ℤ → List Atom → Result Datum MutateError
+set_computed t operator by atoms = and_distinct t (each_computed operator by atoms)

@@ -1,0 +1,75 @@
+ghost use Rattle.std.specs.Prelude.{◌≡◌};
+ghost use Rattle.ov_specs.specs.Mutators.{fitting, mutated};
+ghost use Rattle.ov_atoms.specs.Views.{atoms_view};
+ghost use Rattle.ov_mutate.specs.Computing.{distinct, set_computed};
+ghost use Rattle.ov_mutate.specs.Faults.{IsMade};
+ghost use Rattle.ov_mutate.specs.Views.{operator_view, change_view};
+
+use crate::arithmetic::each_computed;
+use crate::change::Change;
+use crate::delete::deleted;
+use crate::fault::MutateFault;
+use crate::insert::inserted;
+use crate::mutator::Operator;
+use ov_atoms::{Atom, Datum};
+use ov_schema::Column;
+use std::alloc::Global;
+
+/// The value, where it fits the column.
+fn fitting(column: &Column, datum: Datum) -> Result<Datum, MutateFault>
+    ensures { IsMade (λ d. d) (fitting column.now.type_of datum) result }
+{
+    if column.fits(&datum) {
+        Ok(datum)
+    } else {
+        Err(MutateFault::Constraint)
+    }
+}
+
+/// The set of the atoms, where no two are equal and it fits the column. Equal ones merge, so that a set of fewer tells of
+/// them.
+fn distinct(alloc: Global, column: &Column, atoms: Vec<Atom>) -> Result<Datum, MutateFault>
+    ensures { IsMade (λ d. d) (distinct column.now.type_of (atoms_view atoms.items)) result }
+{
+    let count = atoms.len();
+    let datum = Datum::of_atoms(alloc, atoms)?;
+    if datum.count() != count {
+        return Err(MutateFault::Constraint);
+    }
+    fitting(column, datum)
+}
+
+/// The set of what the operator makes of each atom.
+fn set_computed(
+    alloc: Global,
+    column: &Column,
+    operator: Operator,
+    by: i64,
+    atoms: &[Atom],
+) -> Result<Datum, MutateFault>
+    ensures { IsMade (λ d. d) (set_computed column.now.type_of (operator_view operator) by (atoms_view atoms.now)) result }
+{
+    let results = each_computed(alloc, operator, by, atoms)?;
+    distinct(alloc, column, results)
+}
+
+impl Change {
+    /// What it makes of a value of the column.
+    pub(crate) fn apply(
+        &self,
+        alloc: Global,
+        column: &Column,
+        datum: &Datum,
+    ) -> Result<Datum, MutateFault>
+        ensures { IsMade (λ d. d) (mutated column.now.type_of (change_view self.now) datum.now) result }
+    {
+        match self {
+            Change::Compute(operator, by) => match datum.atoms() {
+                Some(atoms) => set_computed(alloc, column, *operator, *by, atoms),
+                None => Err(MutateFault::Constraint),
+            },
+            Change::Insert(elements) => fitting(column, inserted(alloc, datum, elements)?),
+            Change::Delete(elements) => fitting(column, deleted(alloc, datum, elements)?),
+        }
+    }
+}

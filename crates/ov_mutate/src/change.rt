@@ -1,0 +1,99 @@
+ghost use Rattle.std.specs.Prelude.{◌≡◌, is_some, codes, option_map};
+ghost use Rattle.serde_json.specs.View.{view};
+ghost use Rattle.ov_specs.specs.Mutators.{integer_given, deleted_kinds, change_read};
+ghost use Rattle.ov_specs.specs.Reading.{reads, as_two, behind};
+ghost use Rattle.ov_specs.specs.Value as value;
+ghost use Rattle.ov_atoms.specs.Views.{kinds_view};
+ghost use Rattle.ov_mutate.specs.Views.{change_view, mutator_view};
+ghost use Rattle.ov_mutate.specs.Faults.{IsRead, integer_or_syntax};
+
+use crate::fault::MutationFault;
+use crate::mutator::{Mutator, Operator};
+use ov_atoms::{AtomFault, AtomKind, Datum, Kinds, Names, read_datum};
+use ov_conds::Elements;
+use ov_schema::Column;
+use serde_json::Value;
+use std::alloc::Global;
+
+/// What is done to a value: its numbers are computed, elements come, or elements go. A set of atoms that goes from a map
+/// is one of keys.
+#[derive(Drop)]
+pub(crate) enum Change {
+    Compute(Operator, i64),
+    Insert(Datum),
+    Delete(Datum),
+}
+
+/// The number that a tree is, as for a scalar.
+fn read_integer<N: Names>(alloc: Global, tree: &Value, names: &N) -> Result<i64, MutationFault>
+    ensures { IsRead (λ n. n) (integer_or_syntax (integer_given (reads (N.names names.now) (value.Single value.Integers) (view tree.now)))) result }
+{
+    match read_datum(alloc, tree, Kinds::Single(AtomKind::Integer), names) {
+        Ok(datum) => Elements::of(&datum).number().ok_or(MutationFault::Syntax),
+        Err(AtomFault::Memory) => Err(MutationFault::Memory),
+        Err(AtomFault::Syntax) | Err(AtomFault::Clash) => Err(MutationFault::Syntax),
+    }
+}
+
+/// The items of an array of two.
+fn as_two(tree: &Value) -> Option<(&Value, &Value)>
+    ensures { option_map (λ p. (view p.0.now, view p.1.now)) result ≡ as_two (view tree.now) }
+{
+    let items = tree.as_array()?.as_slice();
+    if items.len() != 2 {
+        return None;
+    }
+    Some((&items[0], &items[1]))
+}
+
+/// Whether a tree begins with "map".
+fn is_map(tree: &Value) -> bool
+    ensures { result ≡ is_some (behind (codes "map") (view tree.now)) }
+{
+    let Some((first, _list)) = as_two(tree) else {
+        return false;
+    };
+    match first.as_str() {
+        Some(word) => word == "map",
+        None => false,
+    }
+}
+
+/// What is read of the tree of a "delete": on a map a tree that begins with "map" is a map, and another one a set of keys.
+fn deleted_kinds(kinds: Kinds, tree: &Value) -> Kinds
+    ensures { kinds_view result ≡ deleted_kinds (kinds_view kinds) (view tree.now) }
+{
+    match kinds {
+        Kinds::Pair(key, _) if !is_map(tree) => Kinds::Single(key),
+        _ => kinds,
+    }
+}
+
+impl Change {
+    /// What is done by a mutator with the value that a tree stands for: one integer, or elements.
+    pub(crate) fn read<N: Names>(
+        alloc: Global,
+        column: &Column,
+        mutator: Mutator,
+        tree: &Value,
+        names: &N,
+    ) -> Result<Change, MutationFault>
+        ensures { IsRead change_view (change_read (N.names names.now) column.now.type_of (mutator_view mutator) (view tree.now)) result }
+    {
+        match mutator {
+            Mutator::Computes(operator) => {
+                let by = read_integer(alloc, tree, names)?;
+                Ok(Change::Compute(operator, by))
+            }
+            Mutator::Inserts => {
+                let elements = read_datum(alloc, tree, column.kinds(), names)?;
+                Ok(Change::Insert(elements))
+            }
+            Mutator::Deletes => {
+                let kinds = deleted_kinds(column.kinds(), tree);
+                let elements = read_datum(alloc, tree, kinds, names)?;
+                Ok(Change::Delete(elements))
+            }
+        }
+    }
+}
