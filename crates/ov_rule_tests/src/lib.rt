@@ -4,4 +4,6 @@
 #[cfg(test)]
 mod conditions;
 #[cfg(test)]
+mod mutations;
+#[cfg(test)]
 mod support;
