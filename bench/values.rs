@@ -8,10 +8,10 @@ use std::process::{Command, ExitCode, Stdio};
 
 type Outcome<T> = Result<T, String>;
 
-/// How often a piece of work is done in the two runs that are compared, and how many pairs of runs the least is taken of.
+/// How often a piece of work is done in the two runs that are compared, and how many such pairs the least is taken of.
 const FEW: u64 = 10;
 const MANY: u64 = 110;
-const PAIRS: usize = 15;
+const PAIRS: usize = 25;
 
 /// The schema where no other is given: the one that the server has.
 const NET: &str = r#"{"name":"Net","tables":{"Port":{"columns":{"name":{"type":"string"},"peer":{"type":{"key":{"refTable":"Port","type":"uuid"},"max":1,"min":0}},"tag":{"type":{"key":{"maxInteger":4095,"minInteger":0,"type":"integer"},"max":1,"min":0}}}},"Switch":{"columns":{"load":{"type":"integer"},"main":{"type":{"key":{"refTable":"Port","refType":"weak","type":"uuid"},"max":1,"min":0}},"name":{"type":"string"},"ports":{"type":{"key":{"refTable":"Port","type":"uuid"},"max":"unlimited","min":0}}},"indexes":[["name"]],"isRoot":true}},"version":"1.0.0"}"#;
@@ -92,14 +92,16 @@ fn time(program: &str, work: &str, times: u64, text: &str) -> Outcome<u64> {
     told.split(' ').next().and_then(|word| word.parse().ok()).ok_or_else(|| format!("{path}: {told}"))
 }
 
-/// The nanoseconds that doing the work once takes.
-fn once(program: &str, work: &str, text: &str) -> Outcome<f64> {
-    let (mut few, mut many) = (u64::MAX, u64::MAX);
+/// The nanoseconds that doing each of two pieces of work once takes. They take turns, so that both meet the same machine.
+fn once(program: &str, works: [&str; 2], text: &str) -> Outcome<[f64; 2]> {
+    let mut least = [(u64::MAX, u64::MAX); 2];
     for _ in 0..PAIRS {
-        few = few.min(time(program, work, FEW, text)?);
-        many = many.min(time(program, work, MANY, text)?);
+        for (work, (few, many)) in works.iter().zip(&mut least) {
+            *few = time(program, work, FEW, text)?.min(*few);
+            *many = time(program, work, MANY, text)?.min(*many);
+        }
     }
-    Ok(many.saturating_sub(few) as f64 / (MANY - FEW) as f64)
+    Ok(least.map(|(few, many)| many.saturating_sub(few) as f64 / (MANY - FEW) as f64))
 }
 
 fn all_figures(program: &str, schema: &str) -> Outcome<()> {
@@ -111,7 +113,7 @@ fn all_figures(program: &str, schema: &str) -> Outcome<()> {
         ("a schema read", "read-json", "read-schema", schema),
         ("a schema read and written", "copy-json", "copy-schema", schema),
     ] {
-        let (alone, whole) = (once(program, alone, text)?, once(program, work, text)?);
+        let [alone, whole] = once(program, [alone, work], text)?;
         println!("{name:<30} {:>8.1} us as JSON alone  {:>8.1} us  {:>5.2} times as long", alone / 1e3, whole / 1e3, whole / alone);
     }
     Ok(())

@@ -1,8 +1,8 @@
 -- Atoms that are sorted, each kept once.
-use Rattle.std.proofs.Common.{◌≡◌, List, [], ◌∷◌, map, Bool, true, false, cond, ◌||◌, T, Option, Some, None, refl, sym, ap, ◌∙◌}
+use Rattle.std.proofs.Common.{◌≡◌, List, [], ◌∷◌, map, Bool, true, false, cond, ◌||◌, T, Some, None, refl, sym, ap, ◌∙◌}
 use Rattle.std.specs.List.{list_any, dedup, dedup_from}
 use Rattle.std.specs.List.Sorted.{IsPermutation, IsSorted}
-use Rattle.std.specs.Ordering.{eq_by_cmp, on}
+use Rattle.std.specs.Ordering.{eq_by_cmp}
 use Rattle.std.specs.Cmp.{on_total}
 use Rattle.std.specs.FinMap.{same_map, get-from_entries, is_sorted}
 use Rattle.std.proofs.lemmas.List.Sorted.{list_any-IsPermutation}

@@ -1,5 +1,5 @@
 -- What a tree's members are judged to be.
-use Rattle.std.proofs.Common.{◌≡◌, Bool, true, false, if◌then◌else◌, Option, Some, None, Ok, Err, option_map, refl, sym, ap, subst, ◌∙◌}
+use Rattle.std.proofs.Common.{◌≡◌, false, if◌then◌else◌, Option, Some, None, Ok, Err, option_map, refl, sym, ap, subst, ◌∙◌}
 use Rattle.serde_json.specs.Data.{Data}
 use Rattle.ov_specs.specs.Tree.{has_real}
 use Rattle.ov_specs.specs.SchemaShape.{SchemaShape, schema_shape}
