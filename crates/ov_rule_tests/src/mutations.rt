@@ -141,7 +141,7 @@ fn applied(
     let name = mutation.column();
     let column = table.column(name).ok_or("no such column")?;
     let before = value_of(alloc, table, name, &Value::from_str(alloc, before)?)?;
-    let word = match mutation.apply(alloc, column, &before) {
+    let word = match mutation.mutate(alloc, column, &before) {
         Ok(datum) => return Ok(write_datum(alloc, &datum)?.to_string(alloc)?),
         Err(MutateFault::Domain) => "domain",
         Err(MutateFault::Range) => "range",
