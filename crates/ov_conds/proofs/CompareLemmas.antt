@@ -1,10 +1,10 @@
 -- Values compared by their lists stand as the values do.
-use Rattle.std.proofs.Common.{◌≡◌, ℕ, List, [], ◌∷◌, Bool, true, false, cond, not, T, ◌&&◌, ◌||◌, Some, None, option_map, refl, sym, ap, subst, ◌∙◌, Less}
+use Rattle.std.proofs.Common.{◌≡◌, ℕ, List, [], ◌∷◌, Bool, true, false, cond, not, T, ◌&&◌, ◌||◌, Some, option_map, refl, sym, ap, subst, ◌∙◌, Less}
 use Rattle.std.specs.List.{list_any, list_all}
 use Rattle.std.specs.Option.{unwrap_or}
-use Rattle.std.specs.Ordering.{eq_by_cmp, is_eq}
+use Rattle.std.specs.Ordering.{is_eq}
 use Rattle.std.specs.Cmp.{eq_by_cmp_equiv}
-use Rattle.std.specs.FinMap.{get, find, contains_key, keys, entries, entries_sorted, get-entries, contains_key-keys, is_sorted}
+use Rattle.std.specs.FinMap.{find, contains_key, keys, entries, entries_sorted, get-entries, contains_key-keys}
 use Rattle.ov_specs.specs.Conditions as conditions
 use Rattle.ov_specs.specs.Conditions.{Function, has_pair, number_in}
 use Rattle.ov_specs.specs.Database.{is_atom, is_pair, is_datum}

@@ -4,7 +4,7 @@ use Rattle.std.proofs.lemmas.List.Folds.{list_any-append}
 use Rattle.std.specs.Prelude.{is_some, if◌then◌else◌}
 use Rattle.std.specs.List.{list_any, list_all}
 use Rattle.std.specs.Ordering.{eq_by_cmp, is_lt}
-use Rattle.std.specs.FinMap.{find, contains_key, keys, entries, entries_sorted, contains_key-keys, is_sorted, same_map, get-from_entries}
+use Rattle.std.specs.FinMap.{find, contains_key, keys, entries, entries_sorted, is_sorted, same_map, get-from_entries}
 use Rattle.std.specs.FinMap.Entries.{below_all, is_some-find}
 use Rattle.ov_specs.specs.Conditions.{has_pair}
 use Rattle.ov_specs.specs.Database.{is_atom, is_pair}
@@ -16,7 +16,7 @@ use Rattle.ov_specs.proofs.Order.{atom_cmp_total, atom_cmp-IsAntisymmetric}
 use Rattle.ov_conds.specs.Compared as compared
 use Rattle.ov_conds.specs.Compared.{elements_of}
 use Rattle.ov_conds.specs.Walks.{from_key, is_first}
-use Rattle.ov_conds.proofs.WalkLemmas.{first, second, less, below, ascends, ascends-from_key, has, is_first-has, has-from_key, keys-ascend, entries-ascend}
+use Rattle.ov_conds.proofs.WalkLemmas.{first, second, less, below, ascends, ascends-from_key, is_first-has, has-from_key, keys-ascend, entries-ascend}
 use Rattle.ov_conds.proofs.CompareLemmas.{is_atom-swap, atom-apart, atom-beyond, pair-apart, pair-beyond, any-contains_key, any-has_pair}
 use Rattle.ov_mutate.specs.Left.{atoms_left, pairs_left, pairs_without_keys, at_new_keys}
 

@@ -1,6 +1,5 @@
 -- What an operator makes of atoms, one after another.
-use Rattle.std.specs.Prelude.{ℤ, ◌==◌, List, [], ◌∷◌, Option, Result, Ok, Err, if◌then◌else◌, length}
-use Rattle.std.specs.FinMap.{len}
+use Rattle.std.specs.Prelude.{ℤ, List, [], ◌∷◌, Option, Result, Ok, Err, if◌then◌else◌}
 use Rattle.ov_specs.specs.Mutators.{Operator, MutateError, Domain, Range, Constraint, computed, computed_atom, divides_by_zero, fitting, has_equal_two}
 use Rattle.ov_specs.specs.Reading.{in_64_bits}
 use Rattle.ov_specs.specs.SchemaTypes.{ColumnType}

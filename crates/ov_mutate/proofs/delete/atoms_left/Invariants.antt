@@ -1,5 +1,5 @@
 use Rattle.std.proofs.Common.{◌≡◌, ◌++◌, drop}
-use Rattle.ov_atoms.specs.Views.{atoms_view, pairs_view}
+use Rattle.ov_atoms.specs.Views.{atoms_view}
 use Rattle.ov_mutate.specs.Left as left
 use Rattle.ov_mutate.proofs.delete.atoms_left.Given as goal
 
