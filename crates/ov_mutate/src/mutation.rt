@@ -73,7 +73,12 @@ impl Mutation {
 
     /// What the mutation makes of a value of its column, which is given beside it. Of the faults the first is told: a
     /// domain, a range and a constraint error (RFC 7047, 5.2.4; the order is own). The value that was there stays.
-    pub fn mutate(&self, alloc: Global, column: &Column, datum: &Datum) -> Result<Datum, MutateFault>
+    pub fn mutate(
+        &self,
+        alloc: Global,
+        column: &Column,
+        datum: &Datum,
+    ) -> Result<Datum, MutateFault>
         ensures { IsMade (λ d. d) (mutated column.now.type_of self.now.change datum.now) result }
     {
         self.change.apply(alloc, column, datum)

@@ -108,11 +108,5 @@ pub(crate) fn select_rows(
     };
     let conditions = conditions_of(alloc, table, items.as_slice())?;
     let names = chosen_columns(alloc, table, operation.get("columns"))?;
-    Ok(select_result(
-        alloc,
-        rows,
-        name,
-        conditions.as_slice(),
-        names.as_slice(),
-    )?)
+    Ok(select_result(alloc, rows, name, conditions.as_slice(), names.as_slice())?)
 }
