@@ -6,3 +6,4 @@ pub mod Told
 pub mod Written
 pub mod Ordered
 pub mod Sorting
+pub mod Ascending

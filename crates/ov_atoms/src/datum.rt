@@ -1,4 +1,6 @@
-ghost use Rattle.std.specs.Prelude.{◌≡◌, ◌∷◌, [], IfOk, option_map, if◌then◌else◌, Some, None};
+ghost use Rattle.std.specs.Prelude.{◌≡◌, ◌∷◌, [], T, IfOk, option_map, if◌then◌else◌, Some, None};
+ghost use Rattle.std.specs.Bool.{OnTrue};
+ghost use Rattle.std.specs.FinMap.{is_sorted};
 ghost use Rattle.ov_specs.specs.Value as value;
 ghost use Rattle.ov_specs.specs.Reading.{has_clash};
 ghost use Rattle.ov_atoms.specs.Views.{atom_view, kinds_view, atoms_view, pairs_view};
@@ -6,6 +8,7 @@ ghost use Rattle.ov_atoms.specs.Views.{atom_view, kinds_view, atoms_view, pairs_
 use crate::atom::Atom;
 use crate::kind::Kinds;
 use std::alloc::{AllocError, Global};
+use std::cmp::Ordering;
 use std::collections::BTreeMap;
 use std::marker::Model;
 
@@ -63,6 +66,12 @@ impl Datum {
     pub fn of_pairs(alloc: Global, pairs: Vec<(Atom, Atom)>) -> Result<Option<Datum>, AllocError>
         ensures { IfOk result (λ o. o ≡ (if has_clash (pairs_view pairs.items) then None else Some (value.Pairs (value.map_of (pairs_view pairs.items))))) }
     {
+        // As pairs that were written are.
+        if do_ascend(pairs.as_slice()) {
+            return Ok(Some(Datum {
+                parts: Parts::Pairs(pairs),
+            }));
+        }
         let Some(merged) = merge_pairs(alloc, pairs)? else {
             return Ok(None);
         };
@@ -154,6 +163,19 @@ impl Datum {
             }
         }
     }
+}
+
+/// Whether each key goes before the next one.
+fn do_ascend(pairs: &[(Atom, Atom)]) -> bool
+    ensures { OnTrue result (T (is_sorted value.atom_cmp (pairs_view pairs.now))) }
+{
+    for at in 1..pairs.len() {
+        match pairs[at - 1].0.cmp(&pairs[at].0) {
+            Ordering::Less => {}
+            Ordering::Equal | Ordering::Greater => return false,
+        }
+    }
+    true
 }
 
 /// The pairs in order of their keys, or none where one key has two values.

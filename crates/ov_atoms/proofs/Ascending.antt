@@ -1,0 +1,58 @@
+-- Pairs that ascend by their keys, told from each pair and the next.
+use Rattle.std.proofs.Common.{◌≡◌, ℕ, zero, suc, ◌+◌, ◌<◌, ◌≤◌, List, [], ◌∷◌, length, get_or, drop, Bool, true, false, ◌&&◌, T, refl, sym, subst, arith, Ordering, Less, Equal, Greater}
+use Rattle.std.specs.Ordering.{is_lt}
+use Rattle.std.specs.FinMap.{is_sorted}
+use Rattle.std.specs.FinMap.Entries.{below_all}
+use Rattle.ov_specs.specs.Value as value
+use Rattle.ov_specs.specs.Value.{atom_cmp}
+use Rattle.ov_specs.proofs.Order.{atom_cmp_total}
+use Rattle.ov_atoms.specs.declared.atom.Atom.{Atom}
+use Rattle.ov_atoms.specs.Views.{pair_view, pairs_view}
+use Rattle.ov_atoms.proofs.Building.{atom_order}
+
+both : (a b : Bool) → T a → T b → T (a && b)
+both true b p q = q
+both false b p q = p
+
+first : (a b : Bool) → T (a && b) → T a
+first true b h = tt
+first false b h = h
+
+second : (a b : Bool) → T (a && b) → T b
+second true b h = h
+second false b h = absurd h
+
+less : (o : Ordering) → T (is_lt o) → o ≡ Less
+less Less h = refl
+less Equal h = absurd h
+less Greater h = absurd h
+
+below-less : (x y : value.Atom) (es : List (value.Atom × value.Atom)) → atom_cmp x y ≡ Less → T (below_all atom_cmp y es) → T (below_all atom_cmp x es)
+below-less x y [] p h = tt
+below-less x y (e ∷ es) p h =
+    both _ _ (subst (λ o. T (is_lt o)) (sym (atom_cmp_total.trans x y e.0 p (less _ (first _ _ h)))) tt) (below-less x y es p (second _ _ h))
+
+in_front : (x y : value.Atom × value.Atom) (es : List (value.Atom × value.Atom)) → atom_cmp x.0 y.0 ≡ Less → T (is_sorted atom_cmp (y ∷ es)) → T (is_sorted atom_cmp (x ∷ y ∷ es))
+in_front x y es p h = both _ _ (both _ _ (subst (λ o. T (is_lt o)) (sym p) tt) (below-less x.0 y.0 es p (first _ _ h))) h
+
+-- the pair at i goes before the next one, from which on the pairs ascend
+pub ascend-from : (ps : List (Atom × Atom)) (i j k : ℕ) (x y : Atom × Atom) → j < length ps → j ≡ i + 1 → k ≡ j → atom_order (get_or ps i x).0 (get_or ps j y).0 ≡ Less
+    → T (is_sorted atom_cmp (pairs_view (drop k ps))) → T (is_sorted atom_cmp (pairs_view (drop i ps)))
+ascend-from [] i j k x y h next same p s = absurd (omega arith)
+ascend-from (a ∷ []) i j k x y h next same p s = absurd (omega arith)
+ascend-from (a ∷ b ∷ ps) zero zero k x y h next same p s = absurd (omega arith)
+ascend-from (a ∷ b ∷ ps) zero (suc zero) k x y h next same p s =
+    in_front (pair_view a) (pair_view b) (pairs_view ps) p (rw same at s)
+ascend-from (a ∷ b ∷ ps) zero (suc (suc j)) k x y h next same p s = absurd (omega arith)
+ascend-from (a ∷ b ∷ ps) (suc i) zero k x y h next same p s = absurd (omega arith)
+ascend-from (a ∷ b ∷ ps) (suc i) (suc j) zero x y h next same p s = absurd (omega arith)
+ascend-from (a ∷ b ∷ ps) (suc i) (suc j) (suc k) x y h next same p s =
+    ascend-from (b ∷ ps) i j k x y (omega arith) (omega arith) (omega arith) p s
+
+-- one pair at most ascends
+pub ascend-end : (ps : List (Atom × Atom)) (i : ℕ) → length ps ≤ i + 1 → T (is_sorted atom_cmp (pairs_view (drop i ps)))
+ascend-end [] zero h = tt
+ascend-end [] (suc i) h = tt
+ascend-end (a ∷ []) zero h = tt
+ascend-end (a ∷ b ∷ ps) zero h = absurd (omega arith)
+ascend-end (a ∷ ps) (suc i) h = ascend-end ps i (omega arith)
