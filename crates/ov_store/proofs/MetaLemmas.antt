@@ -19,7 +19,7 @@ use Rattle.sqlite.specs.Does.{Tally, Does}
 use Rattle.sqlite.specs.Rows.{Written}
 use Rattle.sqlite_trees.specs.Tree.{Trees, rowid, put_row}
 use Rattle.sqlite.specs.Listing.{understood}
-use Rattle.sqlite.specs.Effect.{Database}
+use Rattle.sqlite.specs.Effect.{Database, IsDatabase}
 use Rattle.sqlite.specs.State.{State, mode_of, Executes}
 use Rattle.sqlite.proofs.Callers.{statement_of, runs_as, one_step}
 use Rattle.ov_store.specs.Tables.{meta_table, line_schema, meta_insert_text}
@@ -35,6 +35,7 @@ pub record InsertsMeta (k v : List ℕ) (old new : State) : Type 0 where
   pub number : ℤ
   pub rows : new.now.trees 0 ≡ put_row (meta_row number k v) (old.now.trees 0)
   pub fresh : are_fresh (old.now.trees 0) (meta_row number k v ∷ []) ≡ true
+  pub sound : IsDatabase new.now
 
 pub inserts_meta : (old new : State) (k v : List ℕ) (count : ℕ) → old.now.schema ≡ line_schema → Executes meta_insert_text (Text k ∷ Blob v ∷ []) old new (Ok count) → InsertsMeta k v old new
 inserts_meta old new k v count has h =
@@ -58,6 +59,7 @@ inserts_meta old new k v count has h =
       number = n;
       rows = ap (λ (d : Database). d.trees 0) now ∙ ap (λ (t : Trees). t 0) trees ∙ step.rows ∙ ap (λ all. Rattle.sqlite_rules.specs.Edit.put_all (db 0) all) news;
       fresh = ap (are_fresh (db 0)) (sym news) ∙ step.fresh;
+      sound = w.sound;
     }
 
 -- the two rows, put one after the other
