@@ -1,5 +1,5 @@
 -- Runs of changes.
-use Rattle.std.proofs.Common.{◌≡◌, ℕ, suc, zero, ◌+◌, ◌<◌, List, [], ◌∷◌, ◌++◌, length, take, get_or, false, refl, sym, ap, ◌∙◌, arith, add-one, IsTrue, inl, inr, ◌⊎◌, Result, Ok, Err, OnOk, IfOk, IfErr, subst}
+use Rattle.std.proofs.Common.{◌≡◌, ℕ, List, [], false, refl, sym, ap, ◌∙◌, arith, IsTrue, inl, inr, ◌⊎◌, Result, Ok, Err, OnOk, IfOk, IfErr, subst}
 use Rattle.sqlite.specs.State.{State, HasCleanDisk, Survives, KeepsCommit, IsUnchanged, IsRolledBack, ExecutesInside, IsNotRun}
 use Rattle.sqlite.specs.Held.{Held as Connected, state}
 use Rattle.sqlite.specs.Store.{Ghosts}

@@ -1,4 +1,4 @@
-use Rattle.std.proofs.Common.{◌≡◌, ◌∙◌, sym, subst, arith, ap, codes, ◌∷◌, []}
+use Rattle.std.proofs.Common.{◌∙◌, sym, subst, arith, ap, codes, ◌∷◌, []}
 use Rattle.sqlite.specs.State.{HasCleanDisk}
 use Rattle.sqlite.specs.Held.{state}
 use Rattle.std.specs.Prelude.{IsUtf8}

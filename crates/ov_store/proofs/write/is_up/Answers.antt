@@ -1,4 +1,3 @@
-use Rattle.std.proofs.Common.{◌≡◌}
 use Rattle.sqlite.specs.Held.{state}
 use Rattle.ov_store.proofs.RunLemmas.{prepared_keeps, prepared_stored}
 use Rattle.ov_store.proofs.write.is_up.Goals as goal

@@ -1,6 +1,6 @@
-use Rattle.std.proofs.Common.{◌≡◌, ◌≢◌, inl, inr, refl, sym, ap, subst, arith}
+use Rattle.std.proofs.Common.{◌≡◌, ◌≢◌, inl, inr, sym, ap, subst, arith}
 use Rattle.sqlite.specs.State.{HasCleanDisk}
-use Rattle.sqlite.specs.Held.{state, Held as Connected}
+use Rattle.sqlite.specs.Held.{state}
 use Rattle.std.specs.Prelude.{List, ℕ}
 use Rattle.ov_specs.specs.Lines.{after_changes}
 use Rattle.ov_early.specs.Keeping.{Keeps, Changes, MayChange, changed}

@@ -1,5 +1,4 @@
-use Rattle.std.proofs.Common.{◌≡◌, ◌∙◌, sym, ap}
-use Rattle.sqlite.specs.Held.{state}
+use Rattle.std.proofs.Common.{◌≡◌, ◌∙◌, sym}
 use Rattle.ov_store.specs.Tables.{no_schema}
 use Rattle.ov_store.proofs.FoundLemmas.{new_found}
 use Rattle.ov_store.proofs.store.Store.create.Goals as goal
