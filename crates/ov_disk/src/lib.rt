@@ -3,8 +3,6 @@
 
 mod memory;
 mod memory_disk;
-#[cfg(test)]
-mod tests;
 
 pub use memory::open_in_memory;
 pub use memory_disk::MemoryDisk;

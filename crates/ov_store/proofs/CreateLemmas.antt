@@ -1,19 +1,23 @@
 -- What a CREATE TABLE does.
-use Rattle.std.proofs.Common.{◌≡◌, ℕ, List, [], ◌∷◌, true, false, Some, None, Ok, Err, Result, refl, sym, ap, subst, ◌∙◌}
+use Rattle.std.proofs.Common.{◌≡◌, ℕ, List, [], false, None, Ok, refl, sym, ap, subst, ◌∙◌, arith}
 use Rattle.std.specs.Fmt.{digits}
-use Rattle.sqlite.specs.Order.{Row}
 use Rattle.sqlite.specs.Table.{Table}
 use Rattle.sqlite.specs.Schema.{Schema}
 use Rattle.sqlite.specs.Command.TheVariants.{CreateTable}
 use Rattle.sqlite.specs.Compile.{table_defined_by}
 use Rattle.sqlite.specs.Change.{created, next_tree, KeepsRows}
-use Rattle.sqlite.specs.Does.{Tally, Does, lacks_sequence}
+use Rattle.sqlite.specs.Does.{Tally, lacks_sequence}
 use Rattle.sqlite_tied.specs.Compute.{everything}
 use Rattle.sqlite.specs.Listing.{understood}
 use Rattle.sqlite.specs.Effect.{Database}
-use Rattle.sqlite.specs.State.{State, Writes, Executes}
+use Rattle.sqlite.specs.State.{State, HasCleanDisk, Survives, Writes, Executes}
+use Rattle.sqlite.proofs.StateLemmas.{survives_then}
 use Rattle.sqlite.proofs.Callers.{IsPlain, command_of, statement_of, runs_as}
 use Rattle.ov_store.specs.Tables.{meta_table, line_table, no_schema, meta_schema, line_schema, create_meta, create_line}
+use Rattle.std.specs.List.{AllByRecursion}
+use Rattle.ov_store.specs.Format.{IsLine}
+use Rattle.ov_store.specs.Changing.{IsNumbered}
+use Rattle.ov_store.specs.Making.{HasSchema, IsFilled, IsNewDatabase, IsNewFile}
 use Rattle.ov_store.proofs.Texts.{meta_is, line_is}
 use Rattle.ov_store.proofs.DeleteLemmas.{went, same_value}
 
@@ -58,3 +62,21 @@ made_line = refl
 
 pub creates_line : (old new : State) (count : ℕ) → old.now.schema ≡ meta_schema → Executes create_line [] old new (Ok count) → Creates meta_schema line_schema 2 old new
 creates_line old new count has ran = subst (λ s. Creates meta_schema s 2 old new) made_line (creates create_line meta_schema (record line_table { tree = 0 }) line_is.0 line_is.1 line_is.2 line_plain refl old new count has ran)
+
+-- what is filled is a new database
+pub filled_new : (text : List ℕ) (s : State) → IsFilled text s → IsNewDatabase text s.now
+filled_new text s f = record {
+  stored = record {
+    format = record { schema = f.tables.schema; meta = f.meta; lines = subst (AllByRecursion IsLine) (sym f.tables.lines) tt };
+    numbered = subst IsNumbered (sym f.tables.lines) tt;
+  };
+  no_line = f.tables.lines;
+  sound = f.sound;
+}
+
+-- its commit writes the whole of it, if it gets that far
+pub filled_crash : (text : List ℕ) (old last end : State) → Survives old last (λ _. ⊥) → Survives last end (λ db. db ≡ last.now.trees) → (HasCleanDisk last → HasSchema no_schema old → IsFilled text last)
+    → Survives old end (λ trees. HasSchema no_schema old → IsNewFile text trees)
+filled_crash text old last end one two filled =
+    survives_then old last end (λ _. ⊥) (λ db. db ≡ last.now.trees) (λ trees. HasSchema no_schema old → IsNewFile text trees) (λ _ db none. absurd none)
+    (λ clean db is has. record { db = last.now; trees_are = is; new = filled_new text last (filled (omega (arith, two.clean)) has) }) one two

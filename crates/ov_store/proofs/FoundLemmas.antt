@@ -1,5 +1,5 @@
 -- From what a write leaves of the connection to what an open may find.
-use Rattle.std.proofs.Common.{◌≡◌, ◌⊎◌, inl, inr, ℕ, List, [], ◌∷◌, length, refl, sym, ap, subst, ◌∙◌, arith, IsTrue, zero, suc, true, ◌==◌}
+use Rattle.std.proofs.Common.{◌≡◌, ◌≢◌, ◌⊎◌, inl, inr, ℕ, List, [], ◌∷◌, length, refl, sym, ap, subst, ◌∙◌, arith, IsTrue, true, ◌==◌}
 use Rattle.std.proofs.lemmas.Bool.Decides.{nat_tests}
 use Rattle.sqlite.specs.Store.{Ghosts}
 use Rattle.sqlite.specs.Tree.{Trees}
@@ -7,15 +7,19 @@ use Rattle.sqlite.specs.Effect.{Database}
 use Rattle.sqlite.specs.State.{HasCleanDisk, Survives, KeepsCommit, IsUnchanged}
 use Rattle.sqlite.specs.Held.{Held as Connected, state}
 use Rattle.ov_specs.specs.Lines.{Contents, LineChange, Lines, after_changes}
-use Rattle.ov_early.specs.Keeping.{Keeps, Changes, MayChange, Refuses, changed}
+use Rattle.ov_early.specs.Keeping.{Keeps, Changes, MayChange, Refuses, IsCommitFault, changed}
 use Rattle.ov_early.specs.declared.fault.KeepFault.{KeepFault}
-use Rattle.ov_early.specs.declared.fault.KeepFault.TheVariants.{Memory, TooLarge}
+use Rattle.ov_early.specs.declared.fault.KeepFault.TheVariants.{Memory, Device, NotOurs, Format, TooLarge}
 use Rattle.ov_store.specs.Format.{held, stored_schema, stored_lines, IsMeta}
 use Rattle.ov_store.specs.Changing.{MayBeStored, Stores, IsMade}
 use Rattle.ov_store.specs.StoreState.{MayFind}
 use Rattle.ov_store.specs.Making.{IsNew}
 use Rattle.ov_store.proofs.OpenLemmas.{schema_is}
 use Rattle.std.specs.FinMap.{empty}
+use Rattle.sqlite.proofs.StateLemmas.{survives_then}
+use Rattle.ov_store.specs.declared.write.Stop.{Stop}
+use Rattle.ov_store.specs.Stop.{IsBefore}
+use Rattle.ov_store.proofs.RunLemmas.{nothing_then, survives_as}
 
 pub nothing_left : {X : Type 0} (xs : List X) → length xs ≡ 0 → xs ≡ []
 nothing_left [] e = refl
@@ -24,9 +28,19 @@ nothing_left (x ∷ xs) e = absurd (omega arith)
 pub is_zero : (n : ℕ) → true ≡ (n == 0) → n ≡ 0
 is_zero n e = grind (arith, nat_tests)
 
-pub refused : (changes : List LineChange) (A B : Contents → Type 0) (fault : KeepFault) → (fault ≡ Memory) ⊎ (fault ≡ TooLarge) → Keeps A B → Refuses changes A B fault
-refused changes A B fault (inl e) kept = rw e kept
-refused changes A B fault (inr e) kept = rw e kept
+pub refused : (changes : List LineChange) (A B : Contents → Type 0) (fault : KeepFault) → IsCommitFault fault → fault ≢ Device → Keeps A B → Refuses changes A B fault
+refused changes A B Memory kind other kept = kept
+refused changes A B TooLarge kind other kept = kept
+refused changes A B Device kind other kept = absurd (other refl)
+refused changes A B NotOurs kind other kept = kind
+refused changes A B Format kind other kept = kind
+
+device_or : (fault : KeepFault) → (fault ≡ Device) ⊎ (fault ≢ Device)
+device_or Device = inl refl
+device_or Memory = inr (λ e. absurd cc)
+device_or TooLarge = inr (λ e. absurd cc)
+device_or NotOurs = inr (λ e. absurd cc)
+device_or Format = inr (λ e. absurd cc)
 
 -- the same rows of `meta`, and lines that are changed
 pub held_changed : (changes : List LineChange) (before after : Trees) → after 0 ≡ before 0 → stored_lines (after 2) ≡ after_changes changes (stored_lines (before 2)) → held after ≡ changed changes (held before)
@@ -59,12 +73,29 @@ module _ {S : Type 0} (g : Ghosts S) (settled : (s : S) (db : Trees) → IsTrue 
   ]
 
   -- a call that was refused, and left the connection open
-  pub kept_found : (old mid new : Connected S) → HasCleanDisk (state g new) → KeepsCommit (state g old) (state g mid) → IsUnchanged (state g mid) (state g new) → Keeps (MayFind g old) (MayFind g new)
-  kept_found old mid new clean kept same h found =
-      let trees : found.0 ≡ (g.view new.store).committed = settled new.store found.0 same.0.is_open found.1 in
-      let before : found.0 ≡ (g.view old.store).committed =
-      trees ∙ ap (λ (d : Database). d.trees) (same.0.committed_is ∙ kept.committed same.0.was_open) in
-      (found.0, subst (g.recovers old.store) (sym before) (stays old.store (kept.was_open same.0.was_open)), found.2)
+  kept_left : (old mid new : Connected S) → KeepsCommit (state g old) (state g mid) → IsUnchanged (state g mid) (state g new) → (db : Trees) → g.recovers new.store db → g.recovers old.store db
+  kept_left old mid new kept same db found =
+      let before : db ≡ (g.view old.store).committed = settled new.store db same.0.is_open found ∙ ap (λ (d : Database). d.trees) (same.0.committed_is ∙ kept.committed same.0.was_open) in
+      subst (g.recovers old.store) (sym before) (stays old.store (kept.was_open same.0.was_open))
+
+  pub kept_found : (old mid new : Connected S) → KeepsCommit (state g old) (state g mid) → IsUnchanged (state g mid) (state g new) → Keeps (MayFind g old) (MayFind g new)
+  kept_found old mid new kept same h found = (found.0, kept_left old mid new kept same found.0 found.1, found.2)
+
+  -- a write that was refused: only a failed device may leave what its commit writes
+  pub refused_left : (old mid new : Connected S) (P : Trees → Type 0) (fault : KeepFault) (stop : Stop) → (IsBefore stop → Survives (state g old) (state g mid) (λ _. ⊥)) → Survives (state g old) (state g mid) P
+      → (HasCleanDisk (state g mid) → KeepsCommit (state g old) (state g mid)) → Survives (state g mid) (state g new) (λ _. ⊥) → (HasCleanDisk (state g new) → fault ≢ Device → IsBefore stop ⊎ IsUnchanged (state g mid) (state g new))
+      → Survives (state g old) (state g new) (λ trees. (fault ≡ Device) × P trees)
+  refused_left old mid new P fault stop before crash unmoved survives shown = go (device_or fault)
+    where
+      whole : Survives (state g old) (state g new) P
+      whole = survives_then (state g old) (state g mid) (state g new) P (λ _. ⊥) P (λ _ db made. made) (λ _ db none. absurd none) crash survives
+
+      go : (fault ≡ Device) ⊎ (fault ≢ Device) → Survives (state g old) (state g new) (λ trees. (fault ≡ Device) × P trees)
+      go (inl is) = survives_as (state g old) (state g new) P _ whole (λ clean db h. elim (whole.crash clean db h) [ inl was ↦ inl was | inr made ↦ inr (is, made) ])
+      go (inr other) = survives_as (state g old) (state g new) P _ whole (λ clean db h. inl (elim (shown clean other) [
+        | inl first ↦ elim ((nothing_then (state g old) (state g mid) (state g new) (before first) survives).crash clean db h) [ inl was ↦ was | inr none ↦ absurd none ]
+        | inr up ↦ kept_left old mid new (unmoved (omega (arith, survives.clean))) up db h
+      ]))
 
   -- a call that commits nothing
   pub survives_found : (old new : Connected S) → HasCleanDisk (state g new) → Survives (state g old) (state g new) (λ _. ⊥) → Keeps (MayFind g old) (MayFind g new)

@@ -1,37 +1,36 @@
 -- Rows with one key are one line, so that the order in which they are read does not matter.
 use Rattle.std.proofs.Common.{◌≡◌, ◌⊎◌, inl, inr, ℕ, ℤ, List, [], ◌∷◌, map, cond, Bool, true, false, not, ◌&&◌, ◌||◌, Option, Some, None, refl, sym, ap, ap₂, subst, ◌∙◌}
-use Rattle.std.specs.List.{AllByRecursion, list_any, list_all}
+use Rattle.std.specs.List.{AllByRecursion, list_any}
 use Rattle.std.specs.List.Sorted.{IsPermutation}
-use Rattle.std.proofs.lemmas.List.Sorted.{IsPermutation-sym, IsPermutation-map, All-permutation}
-use Rattle.std.proofs.lemmas.List.Elements.{All-from_recursion, recursion_from_All}
+use Rattle.std.proofs.lemmas.List.Sorted.{IsPermutation-sym, IsPermutation-map}
 use Rattle.std.specs.declared.cmp.Ordering.{Ordering}
 use Rattle.std.specs.declared.cmp.Ordering.TheVariants.{Less, Equal, Greater}
-use Rattle.std.specs.Ordering.{is_eq, is_ne, nat_cmp, eq_by_cmp}
+use Rattle.std.specs.Ordering.{is_eq, is_ne, eq_by_cmp}
 use Rattle.std.specs.Cmp.{eq_by_cmp_equiv}
-use Rattle.std.specs.Cmp.Lexicographic.{slice_cmp, nat_list_cmp_total}
+use Rattle.std.specs.Cmp.Lexicographic.{nat_list_cmp_total}
 use Rattle.std.specs.FinMap.{find, from_entries, get-from_entries, same_map}
 use Rattle.sqlite.specs.declared.types.Value.{Value}
 use Rattle.sqlite.specs.declared.types.Value.TheVariants.{Int, Text, Blob}
 use Rattle.sqlite.specs.Order.{Row, column, value_cmp}
 use Rattle.sqlite_value.specs.Order.{bytes}
-use Rattle.sqlite_sql.specs.Ops.{binary, is_true, from_truth}
+use Rattle.sqlite_sql.specs.Ops.{binary, is_true}
 use Rattle.sqlite_sql.specs.declared.ops.BinaryOp.TheVariants.{Compare}
 use Rattle.sqlite_sql.specs.declared.ops.CompareOp.TheVariants.{Eq, Ne}
 use Rattle.sqlite.specs.Collation.TheVariants.{Binary}
 use Rattle.sqlite_schema.specs.declared.schema.Constraint.TheVariants.{Unique}
-use Rattle.sqlite_schema.specs.Rules.{Keeps, agree, differ, clashes, passes}
-use Rattle.sqlite_trees.proofs.ListLemmas.{all_weaker, all_both}
+use Rattle.sqlite_schema.specs.Rules.{Keeps, agree, differ}
+use Rattle.sqlite_trees.proofs.ListLemmas.{all_weaker}
 use Rattle.sqlite_value.specs.Keys.{first_key}
-use Rattle.sqlite_trees.specs.Tree.{Trees, rowid}
+use Rattle.sqlite_trees.specs.Tree.{rowid}
 use Rattle.sqlite.specs.Effect.{Database, IsDatabase}
-use Rattle.ov_specs.specs.Lines.{LineKey, LineBody, Lines, line_cmp}
+use Rattle.ov_specs.specs.Lines.{LineKey, LineBody, line_cmp}
 use Rattle.ov_early.proofs.LineLemmas.{key_total, key_exact, tied_same}
-use Rattle.ov_store.specs.Tables.{line_schema, line_table}
+use Rattle.ov_store.specs.Tables.{line_schema}
 use Rattle.ov_store.specs.Format.{IsLine, entry, stored_lines}
 use Rattle.ov_store.specs.Changing.{IsNumbered}
 use Rattle.ov_store.specs.Reading.{shown}
 use Rattle.ov_store.proofs.RowLemmas.{equal_texts, equal_blobs, truth_of, same_number, map_then}
-use Rattle.ov_store.proofs.OpenLemmas.{all_map, map_all, every_shuffled}
+use Rattle.ov_store.proofs.OpenLemmas.{map_all, every_shuffled}
 
 -- ---- entries in another order
 

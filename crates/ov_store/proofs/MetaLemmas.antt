@@ -1,29 +1,24 @@
 -- What the INSERT into `meta` does, and what the rows of `meta` give.
-use Rattle.std.proofs.Common.{◌≡◌, ◌⊎◌, inl, inr, ℕ, ℤ, List, [], ◌∷◌, map, Bool, true, false, not, cond, ◌&&◌, ◌||◌, Some, None, Ok, Err, Result, refl, sym, ap, subst, ◌∙◌, arith, codes, IsUtf8, length, All}
+use Rattle.std.proofs.Common.{◌≡◌, inl, inr, ℕ, ℤ, List, [], ◌∷◌, true, false, not, ◌&&◌, ◌||◌, None, Ok, refl, sym, ap, subst, ◌∙◌, arith, codes, IsUtf8}
 use Rattle.std.specs.declared.cmp.Ordering.{Ordering}
 use Rattle.std.specs.declared.cmp.Ordering.TheVariants.{Less, Equal, Greater}
 use Rattle.std.specs.Ordering.{is_eq, match_ordering}
-use Rattle.std.specs.List.Sorted.{IsPermutation}
-use Rattle.std.proofs.lemmas.List.Sorted.{length_permutation, All-permutation, IsPermutation-sym}
-use Rattle.sqlite.specs.declared.types.Value.TheVariants.{Null, Int, Text, Blob}
-use Rattle.sqlite.specs.Order.{Row, column, value_cmp}
-use Rattle.sqlite.specs.Ops.{unary}
-use Rattle.sqlite.specs.Kind.TheVariants.{Integer}
-use Rattle.sqlite.specs.Cast.{cast}
+use Rattle.sqlite.specs.declared.types.Value.TheVariants.{Int, Text, Blob}
+use Rattle.sqlite.specs.Order.{Row, value_cmp}
 use Rattle.sqlite.specs.Source.TheVariants.{Values}
 use Rattle.sqlite.specs.Command.TheVariants.{Insert}
-use Rattle.sqlite.specs.Edit.{Edit, edit_of, edited}
+use Rattle.sqlite.specs.Edit.{edit_of}
 use Rattle.sqlite_rules.specs.Edit.{next_rowid, are_fresh, is_taken}
 use Rattle.sqlite_rules.specs.declared.error.Rowids.TheVariants.{Chosen}
 use Rattle.sqlite.specs.Does.{Tally, Does}
 use Rattle.sqlite.specs.Rows.{Written}
-use Rattle.sqlite_trees.specs.Tree.{Trees, rowid, put_row}
+use Rattle.sqlite_trees.specs.Tree.{Trees, put_row}
 use Rattle.sqlite.specs.Listing.{understood}
-use Rattle.sqlite.specs.Effect.{Database}
+use Rattle.sqlite.specs.Effect.{Database, IsDatabase}
 use Rattle.sqlite.specs.State.{State, mode_of, Executes}
 use Rattle.sqlite.proofs.Callers.{statement_of, runs_as, one_step}
 use Rattle.ov_store.specs.Tables.{meta_table, line_schema, meta_insert_text}
-use Rattle.ov_store.specs.Format.{IsMeta, IsFormatRow, IsSchemaRow, stored_schema, is_schema_row}
+use Rattle.ov_store.specs.Format.{IsMeta, IsFormatRow, IsSchemaRow}
 use Rattle.ov_store.specs.Making.{meta_row}
 use Rattle.ov_store.proofs.Texts.{meta_terms, meta_insert_is, meta_insert_plain}
 use Rattle.ov_store.proofs.DeleteLemmas.{went, same_value}
@@ -35,6 +30,7 @@ pub record InsertsMeta (k v : List ℕ) (old new : State) : Type 0 where
   pub number : ℤ
   pub rows : new.now.trees 0 ≡ put_row (meta_row number k v) (old.now.trees 0)
   pub fresh : are_fresh (old.now.trees 0) (meta_row number k v ∷ []) ≡ true
+  pub sound : IsDatabase new.now
 
 pub inserts_meta : (old new : State) (k v : List ℕ) (count : ℕ) → old.now.schema ≡ line_schema → Executes meta_insert_text (Text k ∷ Blob v ∷ []) old new (Ok count) → InsertsMeta k v old new
 inserts_meta old new k v count has h =
@@ -58,6 +54,7 @@ inserts_meta old new k v count has h =
       number = n;
       rows = ap (λ (d : Database). d.trees 0) now ∙ ap (λ (t : Trees). t 0) trees ∙ step.rows ∙ ap (λ all. Rattle.sqlite_rules.specs.Edit.put_all (db 0) all) news;
       fresh = ap (are_fresh (db 0)) (sym news) ∙ step.fresh;
+      sound = w.sound;
     }
 
 -- the two rows, put one after the other

@@ -8,7 +8,6 @@ use Rattle.sqlite.specs.declared.types.Value.{Value}
 use Rattle.sqlite.specs.declared.types.Value.TheVariants.{Null, Int, Real, Text, Blob}
 use Rattle.sqlite.specs.Order.{Row, column}
 use Rattle.sqlite_trees.proofs.ListLemmas.{all_weaker, all_both}
-use Rattle.ov_store.specs.Format.{IsLine, entry}
 use Rattle.ov_store.specs.Changing.{IsNumbered}
 
 pub all_push : {X : Type 0} (P : X → Type 0) (xs : List X) (x : X) → AllByRecursion P xs → P x → AllByRecursion P (xs ++ x ∷ [])

@@ -1,18 +1,18 @@
 -- From the rows that are read to what the tables hold.
-use Rattle.std.proofs.Common.{◌≡◌, ◌⊎◌, inl, inr, ℕ, ℤ, List, [], ◌∷◌, map, refl, sym, ap, ap₂, subst, ◌∙◌, length, get_or, arith, true, false, codes}
+use Rattle.std.proofs.Common.{◌≡◌, ◌⊎◌, inl, inr, ℕ, List, [], ◌∷◌, map, refl, sym, ap, ap₂, subst, ◌∙◌, length, get_or, arith, true, false, codes}
 use Rattle.std.specs.List.{AllByRecursion}
 use Rattle.std.specs.List.Sorted.{IsPermutation}
 use Rattle.std.proofs.lemmas.List.Sorted.{IsPermutation-sym, length_permutation, All-permutation}
 use Rattle.std.proofs.lemmas.List.Elements.{All-from_recursion, recursion_from_All}
 use Rattle.sqlite_trees.proofs.ListLemmas.{all_weaker}
-use Rattle.sqlite.specs.declared.types.Value.TheVariants.{Int, Text, Blob}
+use Rattle.sqlite.specs.declared.types.Value.TheVariants.{Text}
 use Rattle.sqlite.specs.Order.{Row, column, value_cmp}
 use Rattle.sqlite_value.specs.Order.{bytes}
 use Rattle.sqlite_value.specs.declared.value.Value.{Value}
 use Rattle.sqlite_value.proofs.OrderLemmas.{value_cmp-Text, value_cmp_total}
 use Rattle.std.specs.Cmp.{eq_by_cmp_equiv}
 use Rattle.std.specs.Ordering.{is_eq}
-use Rattle.ov_store.specs.Format.{IsLine, IsMeta, IsFormatRow, IsSchemaRow, entry, is_schema_row, stored_schema}
+use Rattle.ov_store.specs.Format.{IsLine, IsMeta, IsFormatRow, IsSchemaRow, stored_schema}
 use Rattle.ov_store.specs.Changing.{IsNumbered}
 use Rattle.ov_store.specs.Reading.{shown, meta_shown, ReadsFormat, ReadsSchema, ReadsMeta}
 

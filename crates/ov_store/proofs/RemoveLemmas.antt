@@ -1,24 +1,22 @@
 -- The rows that the DELETE leaves, as a map.
-use Rattle.std.proofs.Common.{◌≡◌, ℕ, ℤ, List, [], ◌∷◌, map, filter, cond, Bool, true, false, not, ◌&&◌, ◌||◌, refl, sym, ap, subst, ◌∙◌, IsTrue}
+use Rattle.std.proofs.Common.{◌≡◌, ℕ, List, [], ◌∷◌, map, filter, cond, Bool, true, false, not, ◌&&◌, ◌||◌, refl, sym, ap, subst, ◌∙◌}
 use Rattle.std.specs.List.{list_any, AllByRecursion}
 use Rattle.std.specs.List.Sorted.{IsPermutation}
 use Rattle.std.proofs.lemmas.List.Sorted.{list_any-IsPermutation}
-use Rattle.std.specs.declared.cmp.Ordering.TheVariants.{Less, Equal, Greater}
 use Rattle.std.specs.Ordering.{is_eq, eq_by_cmp}
 use Rattle.std.specs.Cmp.{eq_by_cmp_equiv}
 use Rattle.std.specs.FinMap.{from_entries, remove}
-use Rattle.sqlite.specs.declared.types.Value.TheVariants.{Int, Text, Blob}
+use Rattle.sqlite.specs.declared.types.Value.TheVariants.{Int}
 use Rattle.sqlite.specs.Order.{Row, column, value_cmp}
 use Rattle.sqlite_value.proofs.OrderLemmas.{value_cmp_total}
 use Rattle.sqlite.specs.Query.{Output}
 use Rattle.sqlite_trees.specs.Tree.{rowid, has_rowid}
 use Rattle.sqlite_trees.proofs.ListLemmas.{filter_same, filter-map, all_weaker, all_both, all-filter}
-use Rattle.sqlite_rules.specs.Edit.{without_all, id_in}
+use Rattle.sqlite_rules.specs.Edit.{id_in}
 use Rattle.sqlite_rules.specs.Calls.{ids_of}
 use Rattle.sqlite.specs.State.{State}
-use Rattle.ov_specs.specs.Lines.{LineKey, line_cmp}
+use Rattle.ov_specs.specs.Lines.{line_cmp}
 use Rattle.ov_store.proofs.EntryLemmas.{from_entries-filter}
-use Rattle.ov_store.specs.Tables.{line_schema}
 use Rattle.ov_store.specs.Format.{IsLine, IsFormat, entry, stored_lines}
 use Rattle.ov_store.specs.Changing.{IsNumbered, IsStored}
 use Rattle.ov_store.proofs.RowLemmas.{passes, passes_key, without_all_filter, same_number}

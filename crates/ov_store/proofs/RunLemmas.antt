@@ -1,6 +1,11 @@
 -- Runs of changes.
-use Rattle.std.proofs.Common.{◌≡◌, ℕ, suc, zero, ◌+◌, ◌<◌, List, [], ◌∷◌, ◌++◌, length, take, get_or, refl, sym, ap, ◌∙◌, arith, add-one, IsTrue, inl, inr, ◌⊎◌, Result, Ok, Err, OnOk, IfOk, IfErr, subst}
-use Rattle.sqlite.specs.State.{State, Survives, KeepsCommit, IsUnchanged, IsRolledBack, ExecutesInside, IsNotRun}
+use Rattle.std.proofs.Common.{◌≡◌, ℕ, List, [], false, refl, sym, ap, ◌∙◌, arith, IsTrue, inl, inr, ◌⊎◌, Result, Ok, Err, OnOk, IfOk, IfErr, subst}
+use Rattle.sqlite.specs.State.{State, HasCleanDisk, Survives, KeepsCommit, IsUnchanged, IsRolledBack, ExecutesInside, IsNotRun}
+use Rattle.sqlite.specs.Held.{Held as Connected, state}
+use Rattle.sqlite.specs.Store.{Ghosts}
+use Rattle.sqlite.specs.declared.error.ErrorCode.TheVariants.{TransactionState}
+use Rattle.sqlite.specs.declared.error.Error.TheVariants.{SqliteFailure}
+use Rattle.std.proofs.lemmas.Bool.{cases_Bool}
 use Rattle.sqlite.specs.Order.{Row}
 use Rattle.sqlite.specs.declared.error.Error.{Error}
 use Rattle.sqlite_trees.specs.Tree.{Trees}
@@ -23,6 +28,10 @@ makes_then text f g h a b c is one two = record {
 
 pub nothing_then : (a b c : State) → Survives a b (λ _. ⊥) → Survives b c (λ _. ⊥) → Survives a c (λ _. ⊥)
 nothing_then a b c = survives_then a b c (λ _. ⊥) (λ _. ⊥) (λ _. ⊥) (λ _ db none. none) (λ _ db none. none)
+
+-- the same, but for what may be committed
+pub survives_as : (a b : State) (P Q : Trees → Type 0) → Survives a b P → (HasCleanDisk b → (db : Trees) → b.may_leave db → a.may_leave db ⊎ Q db) → Survives a b Q
+survives_as a b P Q s crash = record { clean = s.clean; shield = s.shield; counts = s.counts; limit = s.limit; closes = s.closes; crash = crash }
 
 pub nothing_now : (s : State) → Survives s s (λ _. ⊥)
 nothing_now s = record { clean = omega arith; shield = λ h. h; counts = omega arith; limit = refl; closes = λ _ up. inl up; crash = λ _ db h. inl h }
@@ -49,6 +58,13 @@ inside_keeps sql params a b (Err e) (inl (ran, inl same)) = unchanged_keeps a b 
 inside_keeps sql params a b (Err e) (inl (ran, inr back)) = rolled_keeps a b back
 inside_keeps sql params a b (Err e) (inr ends) = unchanged_keeps a b ends.2
 
+pub execute_keeps : {S : Type 0} (g : Ghosts S) (sql : List ℕ) (params : Row) (old new : Connected S) (r : Result ℕ Error) → (IsTrue (state g old).in_transaction → ExecutesInside 0 sql params (state g old) (state g new) r)
+    → ((state g old).in_transaction ≡ false → (r ≡ Err (SqliteFailure TransactionState)) × (new ≡ old)) → KeepsCommit (state g old) (state g new)
+execute_keeps g sql params old new r runs ended = elim (cases_Bool (state g old).in_transaction) [
+  | inl inside ↦ inside_keeps sql params _ _ r (runs inside)
+  | inr outside ↦ subst (λ h. KeepsCommit (state g old) (state g h)) (sym (ended outside).1) (keeps_now _)
+]
+
 pub inside_opens : (sql : List ℕ) (params : Row) (a b : State) (r : Result ℕ Error) → ExecutesInside 0 sql params a b r → OnOk r (IsTrue a.is_open)
 inside_opens sql params a b (Ok count) h = h.1.was_open
 inside_opens sql params a b (Err e) h = tt
@@ -66,6 +82,15 @@ pub not_run_stored : (text : List ℕ) (a b : State) (sql : List ℕ) (params : 
 unfolding IsNotRun
 not_run_stored text a b sql params e (inl refused) may settled = unchanged_stored text a b refused.1 may
 not_run_stored text a b sql params e (inr fails) may settled = stored_again text a a b may settled (keeps_now a) fails.3
+
+not_run_keeps : (a b : State) (sql : List ℕ) (params : Row) (e : Error) → IsNotRun a b sql params e → KeepsCommit a b
+unfolding IsNotRun
+not_run_keeps a b sql params e (inl refused) = unchanged_keeps a b refused.1
+not_run_keeps a b sql params e (inr fails) = rolled_keeps a b fails.3
+
+pub prepared_keeps : {T : Type 0} (P : T → Type 0) (a b : State) (sql : List ℕ) (r : Result T Error) → IfOk r (λ s. P s × IsUnchanged a b) → IfErr r (λ e. (params : Row) → IsNotRun a b sql params e) → KeepsCommit a b
+prepared_keeps P a b sql (Ok s) ok err = unchanged_keeps a b ok.1
+prepared_keeps P a b sql (Err e) ok err = not_run_keeps a b sql [] e (err [])
 
 pub prepared_stored : {T : Type 0} (text : List ℕ) (P : T → Type 0) (a b : State) (sql : List ℕ) (r : Result T Error) → IfOk r (λ s. P s × IsUnchanged a b) → IfErr r (λ e. (params : Row) → IsNotRun a b sql params e)
     → MayBeStored text a → (IsTrue a.is_open → a.now ≡ a.committed) → MayBeStored text b

@@ -1,5 +1,5 @@
 -- What a statement makes of the lines (own).
-use Rattle.std.specs.Prelude.{◌≡◌, ◌⊎◌, ℕ, List, [], ◌∷◌, map, IsTrue, None}
+use Rattle.std.specs.Prelude.{◌≡◌, ℕ, List, IsTrue, None}
 use Rattle.std.specs.List.{AllByRecursion}
 use Rattle.std.specs.FinMap.{get, insert}
 use Rattle.sqlite.specs.Order.{Row, column}
@@ -7,7 +7,7 @@ use Rattle.sqlite.specs.Tree.{Trees}
 use Rattle.sqlite.specs.Effect.{Database}
 use Rattle.sqlite.specs.State.{State}
 use Rattle.ov_specs.specs.Lines.{LineKey, LineBody, Lines}
-use Rattle.ov_store.specs.Format.{IsFormat, entry, held, stored_lines}
+use Rattle.ov_store.specs.Format.{IsFormat, entry, stored_lines}
 
 -- rows with one number are one line (own)
 abbrev pub IsNumbered : List Row → Type 0

@@ -3,8 +3,9 @@ use Rattle.std.specs.Prelude.{◌≡◌, ℕ, ℤ, List, [], ◌∷◌, IsTrue, 
 use Rattle.sqlite.specs.declared.types.Value.TheVariants.{Int, Text, Blob}
 use Rattle.sqlite.specs.Order.{Row}
 use Rattle.sqlite.specs.Schema.{Schema}
+use Rattle.sqlite.specs.Effect.{Database, IsDatabase}
 use Rattle.sqlite.specs.State.{State}
-use Rattle.sqlite_trees.specs.Tree.{put_row}
+use Rattle.sqlite_trees.specs.Tree.{Trees, put_row}
 use Rattle.sqlite_rules.specs.Edit.{are_fresh}
 use Rattle.ov_store.specs.Tables.{meta_schema, line_schema}
 use Rattle.ov_store.specs.Format.{IsMeta}
@@ -36,11 +37,25 @@ pub record AddsMeta (k v : List ℕ) (old new : State) : Type 0 where
   pub number : ℤ
   pub rows : new.now.trees 0 ≡ put_row (meta_row number k v) (old.now.trees 0)
   pub fresh : are_fresh (old.now.trees 0) (meta_row number k v ∷ []) ≡ true
+  pub sound : IsDatabase new.now
 
 -- `meta` is filled (own)
 pub record IsFilled (text : List ℕ) (s : State) : Type 0 where
   pub tables : HasTables s
   pub meta : IsMeta text (s.now.trees 0)
+  pub sound : IsDatabase s.now
+
+-- a database of stored format 1 with this text and no line (own)
+pub record IsNewDatabase (text : List ℕ) (db : Database) : Type 0 where
+  pub stored : IsStored text db
+  pub no_line : db.trees 2 ≡ []
+  pub sound : IsDatabase db
+
+-- what the commit of a new database writes to the disk, if it gets that far: the whole of it (own)
+pub record IsNewFile (text : List ℕ) (trees : Trees) : Type 0 where
+  pub db : Database
+  pub trees_are : trees ≡ db.trees
+  pub new : IsNewDatabase text db
 
 -- the database is stored format 1 with no line, and an open finds just that (own)
 pub record IsNew (text : List ℕ) (s : State) : Type 0 where

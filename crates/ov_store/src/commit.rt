@@ -1,14 +1,16 @@
-ghost use Rattle.std.specs.Prelude.{◌≡◌, ◌⊎◌, ◌<◌, ◌≤◌, ◌-◌, ◌^◌, IfErr, IfSome, OnOk, Err};
-ghost use Rattle.sqlite.specs.State.{HasCleanDisk};
+ghost use Rattle.std.specs.Prelude.{◌≡◌, ◌⊎◌, ◌<◌, ◌≤◌, ◌-◌, ◌^◌, ◌≢◌, false, IfErr, IfSome, OnOk, Err};
+ghost use Rattle.sqlite.specs.State.{HasCleanDisk, Survives, KeepsCommit, IsUnchanged};
 ghost use Rattle.sqlite.specs.Held.{state};
 ghost use Rattle.ov_early.specs.Views.{changes_view};
 ghost use Rattle.ov_early.specs.Keeping.{Changes, Refuses, IsCommitFault};
+ghost use Rattle.ov_store.specs.Stop.{IsBefore};
+ghost use Rattle.ov_store.specs.Changing.{MayBeStored};
 ghost use Rattle.ov_store.specs.StoreState.{MayFind};
 
 use crate::store::Store;
 use crate::write::{Stop, is_up, write_all};
 use ov_early::{Change, KeepFault};
-use sqlite::{Alter, Error, ErrorCode};
+use sqlite::{Alter, Connection, Error, ErrorCode};
 
 /// Which refusal an error is, if the device has no part in it.
 pub(crate) fn refusal(error: &Error) -> Option<KeepFault>
@@ -19,6 +21,37 @@ pub(crate) fn refusal(error: &Error) -> Option<KeepFault>
         Error::SqliteFailure(ErrorCode::OutOfMemory) => Some(KeepFault::Memory),
         Error::SqliteFailure(ErrorCode::TooBig) => Some(KeepFault::TooLarge),
         _ => None,
+    }
+}
+
+/// What an error of SQLite is where the device is to blame for what is neither memory nor size.
+pub(crate) fn fault_of(error: &Error) -> KeepFault
+    ensures kind { IsCommitFault result }
+    ensures format { result ≢ KeepFault.Format }
+    ensures ours { result ≢ KeepFault.NotOurs }
+{
+    refusal(error).unwrap_or(KeepFault::Device)
+}
+
+/// Why a write stopped. A commit may have gone through on a device that failed: a call that succeeds shows that it did
+/// not.
+pub(crate) fn fault_at<S: Alter>(conn: &mut Connection<S>, stop: &Stop) -> KeepFault
+    requires { conn.old.in_transaction ≡ false }
+    ensures mode { conn.new.in_transaction ≡ false }
+    ensures kind { IsCommitFault result }
+    ensures shown { HasCleanDisk (state S.Store conn.new) → result ≢ KeepFault.Device → IsBefore stop.now ⊎ IsUnchanged (state S.Store conn.old) (state S.Store conn.new) }
+    ensures unmoved { HasCleanDisk (state S.Store conn.new) → KeepsCommit (state S.Store conn.old) (state S.Store conn.new) }
+    ensures kept { HasCleanDisk (state S.Store conn.new) → (text : _) → MayBeStored text (state S.Store conn.old) → MayBeStored text (state S.Store conn.new) }
+    ensures survives { Survives (state S.Store conn.old) (state S.Store conn.new) (λ _. ⊥) }
+{
+    let error = match stop {
+        Stop::Before(error) => return fault_of(error),
+        Stop::AtCommit(error) => error,
+    };
+    if is_up(conn) {
+        fault_of(error)
+    } else {
+        KeepFault::Device
     }
 }
 
@@ -37,23 +70,13 @@ impl<S: Alter> Store<S> {
         if changes.is_empty() {
             return Ok(());
         }
-        match write_all(&mut self.connection, changes) {
-            Ok(()) => Ok(()),
-            Err(Stop::Before(error)) => match refusal(&error) {
-                Some(fault) => Err(fault),
-                None => Err(self.count_failure()),
-            },
-            // The commit may have gone through on a device that failed: a call that succeeds shows that it did not.
-            Err(Stop::AtCommit(error)) => match refusal(&error) {
-                Some(fault) => {
-                    if is_up(&mut self.connection) {
-                        Err(fault)
-                    } else {
-                        Err(self.count_failure())
-                    }
-                }
-                None => Err(self.count_failure()),
-            },
+        let Err(stop) = write_all(&mut self.connection, changes) else {
+            return Ok(());
+        };
+        let fault = fault_at(&mut self.connection, &stop);
+        if fault == KeepFault::Device {
+            return Err(self.count_failure());
         }
+        Err(fault)
     }
 }

@@ -15,8 +15,6 @@ mod query;
 mod rows;
 mod schema;
 mod store;
-#[cfg(test)]
-mod tests;
 mod unopened;
 mod value;
 mod write;

@@ -1,11 +1,13 @@
 //! Making the two tables.
 
-ghost use Rattle.std.specs.Prelude.{◌≡◌, false, [], IsTrue, IfOk, IfErr, OnOk};
-ghost use Rattle.sqlite.specs.State.{HasCleanDisk, Survives};
+ghost use Rattle.std.specs.Prelude.{◌≡◌, false, [], IsTrue, IfErr, OnOk, OnErr};
+ghost use Rattle.sqlite.specs.State.{HasCleanDisk, Survives, KeepsCommit};
 ghost use Rattle.sqlite.specs.Held.{state};
 ghost use Rattle.ov_store.specs.Tables.{no_schema};
-ghost use Rattle.ov_store.specs.Making.{HasSchema, HasMeta, HasTables, AddsMeta, IsFilled, IsNew};
+ghost use Rattle.ov_store.specs.Making.{HasSchema, HasMeta, HasTables, AddsMeta, IsFilled, IsNew, IsNewFile};
+ghost use Rattle.ov_store.specs.Stop.{IsBefore};
 
+use crate::write::Stop;
 use ov_base::Text;
 use sqlite::types::ValueRef;
 use sqlite::{Alter, Connection, Error, Transaction};
@@ -14,6 +16,7 @@ fn make_meta<S: Alter>(tx: &mut Transaction<'_, S>) -> Result<(), Error>
     ensures same_reference { tx.new.conn.ghost_name ≡ tx.old.conn.ghost_name }
     ensures ok { HasCleanDisk (state S.Store tx.new.conn.now) → IsTrue (state S.Store tx.old.conn.now).in_transaction → HasSchema no_schema (state S.Store tx.old.conn.now)
         → OnOk result (HasMeta (state S.Store tx.new.conn.now)) }
+    ensures kept { HasCleanDisk (state S.Store tx.new.conn.now) → KeepsCommit (state S.Store tx.old.conn.now) (state S.Store tx.new.conn.now) }
     ensures survives { Survives (state S.Store tx.old.conn.now) (state S.Store tx.new.conn.now) (λ _. ⊥) }
 {
     tx.execute("CREATE TABLE meta(k TEXT PRIMARY KEY, v BLOB)", &[])?;
@@ -24,6 +27,7 @@ fn make_line<S: Alter>(tx: &mut Transaction<'_, S>) -> Result<(), Error>
     ensures same_reference { tx.new.conn.ghost_name ≡ tx.old.conn.ghost_name }
     ensures ok { HasCleanDisk (state S.Store tx.new.conn.now) → IsTrue (state S.Store tx.old.conn.now).in_transaction → HasMeta (state S.Store tx.old.conn.now)
         → OnOk result (HasTables (state S.Store tx.new.conn.now) × ((state S.Store tx.new.conn.now).now.trees 0 ≡ [])) }
+    ensures kept { HasCleanDisk (state S.Store tx.new.conn.now) → KeepsCommit (state S.Store tx.old.conn.now) (state S.Store tx.new.conn.now) }
     ensures survives { Survives (state S.Store tx.old.conn.now) (state S.Store tx.new.conn.now) (λ _. ⊥) }
 {
     tx.execute(
@@ -37,6 +41,7 @@ fn insert_meta<S: Alter>(tx: &mut Transaction<'_, S>, key: &str, value: &[u8]) -
     ensures same_reference { tx.new.conn.ghost_name ≡ tx.old.conn.ghost_name }
     ensures ok { HasCleanDisk (state S.Store tx.new.conn.now) → IsTrue (state S.Store tx.old.conn.now).in_transaction → HasTables (state S.Store tx.old.conn.now)
         → OnOk result (AddsMeta key.now value.now (state S.Store tx.old.conn.now) (state S.Store tx.new.conn.now)) }
+    ensures kept { HasCleanDisk (state S.Store tx.new.conn.now) → KeepsCommit (state S.Store tx.old.conn.now) (state S.Store tx.new.conn.now) }
     ensures survives { Survives (state S.Store tx.old.conn.now) (state S.Store tx.new.conn.now) (λ _. ⊥) }
 {
     tx.execute(
@@ -51,6 +56,7 @@ fn fill_meta<S: Alter>(tx: &mut Transaction<'_, S>, schema: &Text) -> Result<(),
     ensures same_reference { tx.new.conn.ghost_name ≡ tx.old.conn.ghost_name }
     ensures ok { HasCleanDisk (state S.Store tx.new.conn.now) → IsTrue (state S.Store tx.old.conn.now).in_transaction → HasTables (state S.Store tx.old.conn.now) → (state S.Store tx.old.conn.now).now.trees 0 ≡ []
         → OnOk result (IsFilled schema.now (state S.Store tx.new.conn.now)) }
+    ensures kept { HasCleanDisk (state S.Store tx.new.conn.now) → KeepsCommit (state S.Store tx.old.conn.now) (state S.Store tx.new.conn.now) }
     ensures survives { Survives (state S.Store tx.old.conn.now) (state S.Store tx.new.conn.now) (λ _. ⊥) }
 {
     insert_meta(tx, "format", b"1")?;
@@ -63,6 +69,7 @@ fn make_all<S: Alter>(tx: &mut Transaction<'_, S>, schema: &Text) -> Result<(), 
     ensures same_reference { tx.new.conn.ghost_name ≡ tx.old.conn.ghost_name }
     ensures ok { HasCleanDisk (state S.Store tx.new.conn.now) → IsTrue (state S.Store tx.old.conn.now).in_transaction → HasSchema no_schema (state S.Store tx.old.conn.now)
         → OnOk result (IsFilled schema.now (state S.Store tx.new.conn.now)) }
+    ensures kept { HasCleanDisk (state S.Store tx.new.conn.now) → KeepsCommit (state S.Store tx.old.conn.now) (state S.Store tx.new.conn.now) }
     ensures survives { Survives (state S.Store tx.old.conn.now) (state S.Store tx.new.conn.now) (λ _. ⊥) }
 {
     make_meta(tx)?;
@@ -71,13 +78,21 @@ fn make_all<S: Alter>(tx: &mut Transaction<'_, S>, schema: &Text) -> Result<(), 
 }
 
 /// Makes the database of a schema's text and no line, in one transaction.
-pub(crate) fn make<S: Alter>(conn: &mut Connection<S>, schema: &Text) -> Result<(), Error>
+pub(crate) fn make<S: Alter>(conn: &mut Connection<S>, schema: &Text) -> Result<(), Stop>
     requires { conn.old.in_transaction ≡ false }
     ensures mode { conn.new.in_transaction ≡ false }
     ensures ok { HasCleanDisk (state S.Store conn.new) → HasSchema no_schema (state S.Store conn.old) → OnOk result (IsNew schema.now (state S.Store conn.new)) }
-    ensures honest { HasCleanDisk (state S.Store conn.new) → HasCleanDisk (state S.Store conn.old) }
+    ensures before { IfErr result (λ s. IsBefore s → Survives (state S.Store conn.old) (state S.Store conn.new) (λ _. ⊥)) }
+    ensures crash { Survives (state S.Store conn.old) (state S.Store conn.new) (λ trees. HasSchema no_schema (state S.Store conn.old) → IsNewFile schema.now trees) }
+    ensures unmoved { HasCleanDisk (state S.Store conn.new) → OnErr result (KeepsCommit (state S.Store conn.old) (state S.Store conn.new)) }
 {
     let mut tx = conn.transaction();
-    make_all(&mut tx, schema)?;
-    tx.commit()
+    match make_all(&mut tx, schema) {
+        Ok(()) => {}
+        Err(error) => return Err(Stop::Before(error)),
+    }
+    match tx.commit() {
+        Ok(()) => Ok(()),
+        Err(error) => Err(Stop::AtCommit(error)),
+    }
 }

@@ -1,15 +1,17 @@
-ghost use Rattle.std.specs.Prelude.{◌≡◌, ◌≢◌, ◌↔◌, false, IfOk, IfErr, OnOk, IsTrue, Err};
+ghost use Rattle.std.specs.Prelude.{◌≡◌, ◌≢◌, ◌↔◌, false, IfOk, IfErr, OnOk, OnErr, IsTrue, Err};
 ghost use Rattle.std.specs.List.{AllByRecursion};
 ghost use Rattle.std.specs.FinMap.{empty};
 ghost use Rattle.sqlite.specs.State.{HasCleanDisk, Survives};
 ghost use Rattle.sqlite.specs.Held.{state};
+ghost use Rattle.ov_early.specs.Keeping.{IsCommitFault};
 ghost use Rattle.ov_store.specs.Tables.{no_schema, line_schema};
 ghost use Rattle.ov_store.specs.Format.{IsLine, IsMeta, IsFormat};
 ghost use Rattle.ov_store.specs.Changing.{IsNumbered, IsStored};
+ghost use Rattle.ov_store.specs.Making.{HasSchema, IsNew, IsNewFile};
 ghost use Rattle.ov_store.specs.Querying.{IsAsBefore};
 ghost use Rattle.ov_store.specs.StoreState.{MayFind};
 
-use crate::commit::refusal;
+use crate::commit::{fault_at, fault_of};
 use crate::make::make;
 use crate::meta::schema_of;
 use crate::query::{line_rows, meta_rows};
@@ -19,16 +21,8 @@ use crate::store::Store;
 use crate::unopened::Unopened;
 use ov_base::Text;
 use ov_early::KeepFault;
-use sqlite::{Alter, Connection, Error};
+use sqlite::{Alter, Connection};
 use std::alloc::Global;
-
-/// What an error of SQLite is where the device is to blame for what is neither memory nor size.
-fn fault_of(error: &Error) -> KeepFault
-    ensures format { result ≢ KeepFault.Format }
-    ensures ours { result ≢ KeepFault.NotOurs }
-{
-    refusal(error).unwrap_or(KeepFault::Device)
-}
 
 /// The schema's text, read from `meta`.
 fn read_meta<S: Alter>(alloc: Global, conn: &mut Connection<S>) -> Result<Text, KeepFault>
@@ -53,6 +47,25 @@ fn read_meta<S: Alter>(alloc: Global, conn: &mut Connection<S>) -> Result<Text, 
         Ok(text) => Ok(text),
         Err(_) => Err(KeepFault::Memory),
     }
+}
+
+/// Makes the database, or tells why there is none.
+fn make_new<S: Alter>(conn: &mut Connection<S>, schema: &Text) -> Result<(), KeepFault>
+    requires { conn.old.in_transaction ≡ false }
+    ensures mode { conn.new.in_transaction ≡ false }
+    ensures ok { HasCleanDisk (state S.Store conn.new) → HasSchema no_schema (state S.Store conn.old) → OnOk result (IsNew schema.now (state S.Store conn.new)) }
+    ensures kinds { IfErr result IsCommitFault }
+    ensures same { HasCleanDisk (state S.Store conn.new) → OnErr result (IsAsBefore (state S.Store conn.old) (state S.Store conn.new)) }
+    ensures left { HasSchema no_schema (state S.Store conn.old) → IfErr result (λ fault. Survives (state S.Store conn.old) (state S.Store conn.new) (λ trees. (fault ≡ KeepFault.Device) × IsNewFile schema.now trees)) }
+{
+    // Its clause says that all is committed, here and below.
+    let _before = conn.is_autocommit();
+    let Err(stop) = make(conn, schema) else {
+        return Ok(());
+    };
+    let fault = fault_at(conn, &stop);
+    let _after = conn.is_autocommit();
+    Err(fault)
 }
 
 /// Tests the rows of `line`.
@@ -97,7 +110,8 @@ fn test_format<S: Alter>(alloc: Global, conn: &mut Connection<S>) -> Result<Text
 
 impl<S: Alter + Drop> Store<S> {
     /// Makes the tables of stored format 1 with this text of a schema and no line, in a database that has nothing:
-    /// `NotOurs` where it has a table, an index or a view.
+    /// `NotOurs` where it has a table, an index or a view. A refusal leaves the connection with what it held. After
+    /// `Device` a crash may leave the new database, and never a part of it; after the others what it left before.
     pub fn create(mut connection: Connection<S>, schema: Text) -> Result<Store<S>, Unopened<S>>
         requires { connection.in_transaction ≡ false }
         ensures ok { IfOk result (λ s. HasCleanDisk (state S.Store s.connection) → (contents : _) → MayFind S.Store s.connection contents → contents ≡ record { schema = schema; lines = empty }) }
@@ -105,6 +119,8 @@ impl<S: Alter + Drop> Store<S> {
         ensures blank { IfOk result (λ s. connection.schema ≡ no_schema) }
         ensures ours { IfErr result (λ e. (e.fault ≡ KeepFault.NotOurs) ↔ (connection.schema ≢ no_schema)) }
         ensures format { IfErr result (λ e. e.fault ≢ KeepFault.Format) }
+        ensures same { IfErr result (λ e. HasCleanDisk (state S.Store e.connection) → IsAsBefore (state S.Store connection) (state S.Store e.connection)) }
+        ensures left { IfErr result (λ e. Survives (state S.Store connection) (state S.Store e.connection) (λ trees. (e.fault ≡ KeepFault.Device) × IsNewFile schema trees)) }
     {
         if !is_blank(connection.schema()) {
             return Err(Unopened {
@@ -112,26 +128,26 @@ impl<S: Alter + Drop> Store<S> {
                 connection,
             });
         }
-        match make(&mut connection, &schema) {
+        match make_new(&mut connection, &schema) {
             Ok(()) => Ok(Store {
                 connection,
                 schema,
                 failures: 0,
             }),
-            Err(error) => Err(Unopened {
-                fault: fault_of(&error),
-                connection,
-            }),
+            Err(fault) => Err(Unopened { fault, connection }),
         }
     }
 
     /// The store of a database that has stored format 1. `NotOurs` where its tables, indexes and views are not just those
-    /// of that format, `Format` where a row of `meta` or of `line` is not as there. Each row is read once.
+    /// of that format, `Format` where a row of `meta` or of `line` is not as there. Each row is read once. A refusal leaves
+    /// the connection with what it held, and a crash then leaves what it left before.
     pub fn open(alloc: Global, mut connection: Connection<S>) -> Result<Store<S>, Unopened<S>>
         requires { connection.in_transaction ≡ false }
         ensures ok { IfOk result (λ s. HasCleanDisk (state S.Store s.connection) → IsFormat s.schema (state S.Store connection).now) }
         ensures same { IfOk result (λ s. HasCleanDisk (state S.Store s.connection) → IsAsBefore (state S.Store connection) (state S.Store s.connection)) }
         ensures survives { IfOk result (λ s. Survives (state S.Store connection) (state S.Store s.connection) (λ _. ⊥)) }
+        ensures same_refused { IfErr result (λ e. HasCleanDisk (state S.Store e.connection) → IsAsBefore (state S.Store connection) (state S.Store e.connection)) }
+        ensures survives_refused { IfErr result (λ e. Survives (state S.Store connection) (state S.Store e.connection) (λ _. ⊥)) }
         ensures fresh { IfOk result (λ s. s.failures ≡ 0) }
         ensures tables { IfOk result (λ s. connection.schema ≡ line_schema) }
         ensures ours { IfErr result (λ e. (e.fault ≡ KeepFault.NotOurs) ↔ (connection.schema ≢ line_schema)) }

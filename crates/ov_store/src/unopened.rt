@@ -1,17 +1,20 @@
 use ov_early::KeepFault;
 use sqlite::{Alter, Connection};
+use std::fmt;
+use thiserror::Error;
 
 /// Why no store is made of a connection, and the connection, given back.
+#[derive(Drop, Error)]
+#[error("{fault}")]
 pub struct Unopened<S: Alter> {
     pub fault: KeepFault,
     pub connection: Connection<S>,
 }
 
-impl<S: Alter + Drop> Drop for Unopened<S> {
-    fn drop(self) {
-        let Unopened {
-            fault: _,
-            connection: _,
-        } = self;
+impl<S: Alter> fmt::Debug for Unopened<S> {
+    fn fmt<W: fmt::Write>(&self, f: &mut fmt::Formatter<W>) -> fmt::Result {
+        f.debug_struct("Unopened")
+            .field("fault", &self.fault)
+            .finish_non_exhaustive()
     }
 }

@@ -143,6 +143,7 @@ pub fn is_up<S: Alter>(conn: &mut Connection<S>) -> bool
     ensures mode { conn.new.in_transaction ≡ false }
     ensures up { HasCleanDisk (state S.Store conn.new) → IsTrue result → IsUnchanged (state S.Store conn.old) (state S.Store conn.new) }
     ensures kept { HasCleanDisk (state S.Store conn.new) → (text : _) → MayBeStored text (state S.Store conn.old) → MayBeStored text (state S.Store conn.new) }
+    ensures unmoved { HasCleanDisk (state S.Store conn.new) → KeepsCommit (state S.Store conn.old) (state S.Store conn.new) }
     ensures survives { Survives (state S.Store conn.old) (state S.Store conn.new) (λ _. ⊥) }
 {
     if !conn.is_autocommit() {

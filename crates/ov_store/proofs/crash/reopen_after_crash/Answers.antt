@@ -1,7 +1,6 @@
-use Rattle.std.proofs.Common.{◌≡◌, sym, subst, arith}
+use Rattle.std.proofs.Common.{sym, subst, arith}
 use Rattle.sqlite.specs.State.{HasCleanDisk}
 use Rattle.sqlite.specs.Held.{state}
-use Rattle.ov_store.specs.Format.{held}
 use Rattle.ov_store.specs.StoreState.{MayFind}
 use Rattle.ov_store.proofs.FoundLemmas.{found_is, survives_found}
 use Rattle.ov_store.proofs.crash.reopen_after_crash.Goals as goal

@@ -1,4 +1,4 @@
-use Rattle.std.proofs.Common.{◌≡◌, ◌∙◌, sym, subst, arith, ap, codes, ◌∷◌, []}
+use Rattle.std.proofs.Common.{◌∙◌, sym, subst, arith, ap, codes, ◌∷◌, []}
 use Rattle.sqlite.specs.State.{HasCleanDisk}
 use Rattle.sqlite.specs.Held.{state}
 use Rattle.std.specs.Prelude.{IsUtf8}
@@ -17,4 +17,4 @@ returns-clause-ok g c clean mode was empty =
     let utf8 = subst IsUtf8 (c.as_bytes.ensures.value ∙ c.as_str.ensures) c.as_bytes.ensures.utf8 in
     let first = meta_row one.number (codes "format") (49 ∷ []) in
     let rows = one.rows ∙ ap (put_row first) empty in
-    record { tables = two.tables; meta = subst (IsMeta c.args.schema.now) (sym two.rows) (filled one.number two.number c.args.schema.now (mid.now.trees 0) utf8 rows two.fresh) }
+    record { tables = two.tables; meta = subst (IsMeta c.args.schema.now) (sym two.rows) (filled one.number two.number c.args.schema.now (mid.now.trees 0) utf8 rows two.fresh); sound = two.sound }

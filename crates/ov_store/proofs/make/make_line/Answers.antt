@@ -1,6 +1,7 @@
 use Rattle.std.proofs.Common.{◌∙◌}
 use Rattle.sqlite.specs.Held.{state}
 use Rattle.ov_store.proofs.CreateLemmas.{creates_line}
+use Rattle.ov_store.proofs.RunLemmas.{execute_keeps}
 use Rattle.ov_store.proofs.make.make_line.Goals as goal
 
 pub returns-clause-ok : goal.returns-clause-ok
@@ -8,3 +9,6 @@ returns-clause-ok g c clean mode was =
     let ran = c.in_ok-execute.ensures.runs clean mode in
     let d = creates_line (state g.S.Store c.args.tx.now.conn.now) (state g.S.Store c.execute.new.self.conn.now) c.in_ok-execute.field-0 was.schema ran.0 in
     (record { mode = ran.1.mode; schema = d.schema; lines = d.empty }, d.others.0 ∙ was.meta)
+
+pub returns-clause-kept : goal.returns-clause-kept
+returns-clause-kept g c clean = execute_keeps g.S.Store _ _ _ _ _ (c.execute.ensures.runs clean) c.execute.ensures.ended

@@ -1,6 +1,5 @@
-use Rattle.std.proofs.Common.{arith, ◌≡◌, ◌≤◌, ◌<◌, ◌⊎◌, inl, inr, List, [], ◌∷◌, length, get_or, Option, Some, None, MatchOption, ap₂, sym}
-use Rattle.sqlite.specs.Order.{Row}
-use Rattle.ov_store.specs.Reading.{ReadsFormat, ReadsSchema, ReadsMeta}
+use Rattle.std.proofs.Common.{arith, ◌≡◌, ◌≤◌, ◌<◌, inl, inr, List, [], ◌∷◌, length, get_or, Option, Some, None, MatchOption, ap₂, sym}
+use Rattle.ov_store.specs.Reading.{ReadsFormat}
 use Rattle.ov_store.proofs.OpenLemmas.{none_first, none_second}
 use Rattle.ov_store.proofs.meta.schema_of.Goals as goal
 

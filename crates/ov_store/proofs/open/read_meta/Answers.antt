@@ -1,4 +1,4 @@
-use Rattle.std.proofs.Common.{◌≡◌, sym, subst}
+use Rattle.std.proofs.Common.{sym, subst}
 use Rattle.sqlite.specs.Held.{state}
 use Rattle.ov_store.specs.Format.{IsMeta}
 use Rattle.ov_store.specs.Reading.{ReadsMeta}

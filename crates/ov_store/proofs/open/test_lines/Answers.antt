@@ -1,4 +1,4 @@
-use Rattle.std.proofs.Common.{◌≡◌, sym, subst, Result, Ok, Err, OnOk}
+use Rattle.std.proofs.Common.{sym, subst, Result, Ok, Err, OnOk}
 use Rattle.std.specs.List.{AllByRecursion}
 use Rattle.sqlite.specs.Held.{state}
 use Rattle.ov_store.specs.Format.{IsLine}

@@ -1,11 +1,9 @@
 use Rattle.std.proofs.Common.{◌≡◌, ◌⊎◌, inl, inr, List, [], ap, refl, subst, arith, rules, ◌∙◌, IsTrue, true, Result, Ok, Err, IfOk, IfErr, sym}
 use Rattle.std.proofs.lemmas.Result.{IfOk-weaker}
 use Rattle.sqlite.specs.Order.{Row}
-use Rattle.sqlite.specs.Effect.{Database}
 use Rattle.sqlite.specs.declared.error.Error.{Error}
-use Rattle.sqlite.specs.State.{State, HasCleanDisk, Survives, Shown, KeepsCommit, FailsToQuery, IsTooLate}
+use Rattle.sqlite.specs.State.{State, HasCleanDisk, Shown, KeepsCommit, FailsToQuery, IsTooLate}
 use Rattle.sqlite.specs.Held.{state}
-use Rattle.sqlite.proofs.Callers.{survives_begin}
 use Rattle.ov_store.specs.Querying.{IsAsBefore}
 use Rattle.ov_store.proofs.ReadLemmas.{shown_keeps, fails_keeps, rolled_as_before}
 use Rattle.ov_store.proofs.query.query.Goals as goal

@@ -1,4 +1,4 @@
-use Rattle.std.proofs.Common.{◌≡◌, ◌+◌, refl, arith, take, ◌∙◌}
+use Rattle.std.proofs.Common.{◌+◌, refl, arith, take, ◌∙◌}
 use Rattle.sqlite.specs.State.{HasCleanDisk}
 use Rattle.sqlite.specs.Held.{state}
 use Rattle.ov_specs.specs.Lines.{after_changes, after_change}

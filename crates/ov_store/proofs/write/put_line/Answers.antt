@@ -1,8 +1,8 @@
 use Rattle.std.proofs.Common.{◌≡◌, ◌∙◌, ap, subst, sym, None, arith}
-use Rattle.std.specs.FinMap.{get, insert, remove}
+use Rattle.std.specs.FinMap.{get, insert}
 use Rattle.sqlite.specs.State.{HasCleanDisk}
 use Rattle.sqlite.specs.Held.{state}
-use Rattle.ov_specs.specs.Lines.{LineKey, LineBody, Lines, line_cmp}
+use Rattle.ov_specs.specs.Lines.{LineKey, LineBody, line_cmp}
 use Rattle.ov_early.specs.Views.{line_entry}
 use Rattle.ov_store.specs.Format.{stored_lines}
 use Rattle.ov_store.proofs.EntryLemmas.{none_after_remove, insert_again}

@@ -1,4 +1,4 @@
-use Rattle.std.proofs.Common.{◌≡◌, ap, refl, sym, subst, arith, rules, IsTrue, ◌∙◌}
+use Rattle.std.proofs.Common.{◌≡◌, ap, refl, subst, arith, rules, IsTrue, ◌∙◌}
 use Rattle.sqlite_trees.specs.Tree.{Trees}
 use Rattle.sqlite.specs.State.{HasCleanDisk, Survives}
 use Rattle.sqlite.specs.Held.{state}

@@ -1,4 +1,4 @@
-use super::*;
+use ov_disk::MemoryDisk;
 use sqlite_disk::Disk;
 use std::test::Fail;
 
@@ -14,14 +14,5 @@ fn what_is_written_is_read(rt: HostRuntime) -> Result<(), Fail> {
     disk.set_len(4)?;
     assert_eq!(rt; disk.len()?, 4);
     assert!(rt; disk.read_at(2, &mut read).is_err());
-    Ok(())
-}
-
-#[test]
-fn a_row_is_read_back(rt: HostRuntime) -> Result<(), Fail> {
-    let mut connection = open_in_memory(rt.alloc())?;
-    connection.execute_batch("CREATE TABLE note(a); INSERT INTO note VALUES(7);")?;
-    let row = connection.query_row("SELECT a FROM note", &[])?;
-    assert_eq!(rt; row.get::<i64>(0)?, 7);
     Ok(())
 }
