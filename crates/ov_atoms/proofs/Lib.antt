@@ -5,5 +5,6 @@ pub mod Plain
 pub mod Told
 pub mod Written
 pub mod Ordered
+pub mod Permuting
 pub mod Sorting
 pub mod Ascending

@@ -51,11 +51,12 @@ impl Datum {
     }
 
     /// The set of these atoms, in whatever order. Equal ones merge.
-    pub fn of_atoms(_alloc: Global, atoms: Vec<Atom>) -> Result<Datum, AllocError>
+    pub fn of_atoms(atoms: Vec<Atom>) -> Result<Datum, AllocError>
         ensures { IfOk result (λ d. d ≡ value.Atoms (value.set_of (atoms_view atoms.items))) }
     {
         let mut atoms = atoms;
-        atoms.sort_unstable();
+        // This sort merges lists that ascend, as those of two sets, in one pass.
+        atoms.sort()?;
         atoms.dedup();
         Ok(Datum {
             parts: Parts::Atoms(atoms),
@@ -66,12 +67,21 @@ impl Datum {
     pub fn of_pairs(alloc: Global, pairs: Vec<(Atom, Atom)>) -> Result<Option<Datum>, AllocError>
         ensures { IfOk result (λ o. o ≡ (if has_clash (pairs_view pairs.items) then None else Some (value.Pairs (value.map_of (pairs_view pairs.items))))) }
     {
-        // As pairs that were written are.
+        let mut pairs = pairs;
+        // This sort merges lists that ascend, as those of two maps, in one pass.
+        pairs.sort()?;
         if do_ascend(pairs.as_slice()) {
             return Ok(Some(Datum {
                 parts: Parts::Pairs(pairs),
             }));
         }
+        Datum::of_repeated(alloc, pairs)
+    }
+
+    /// The map of these pairs, of which some have one key.
+    fn of_repeated(alloc: Global, pairs: Vec<(Atom, Atom)>) -> Result<Option<Datum>, AllocError>
+        ensures { IfOk result (λ o. o ≡ (if has_clash (pairs_view pairs.items) then None else Some (value.Pairs (value.map_of (pairs_view pairs.items))))) }
+    {
         let Some(merged) = merge_pairs(alloc, pairs)? else {
             return Ok(None);
         };

@@ -197,7 +197,7 @@ pub fn read_datum<N: Names>(
 {
     match kinds {
         Kinds::Single(kind) => match atoms_of(alloc, tree, kind, names)? {
-            Some(atoms) => Ok(Datum::of_atoms(alloc, atoms)?),
+            Some(atoms) => Ok(Datum::of_atoms(atoms)?),
             None => Err(AtomFault::Syntax),
         },
         Kinds::Pair(key, value) => match pairs_of(alloc, tree, key, value, names)? {

@@ -28,11 +28,11 @@ fn fitting(column: &Column, datum: Datum) -> Result<Datum, MutateFault>
 
 /// The set of the atoms, where no two are equal and it fits the column. Equal ones merge, so that a set of fewer tells of
 /// them.
-fn distinct(alloc: Global, column: &Column, atoms: Vec<Atom>) -> Result<Datum, MutateFault>
+fn distinct(column: &Column, atoms: Vec<Atom>) -> Result<Datum, MutateFault>
     ensures { IsMade (λ d. d) (distinct column.now.type_of (atoms_view atoms.items)) result }
 {
     let count = atoms.len();
-    let datum = Datum::of_atoms(alloc, atoms)?;
+    let datum = Datum::of_atoms(atoms)?;
     if datum.count() != count {
         return Err(MutateFault::Constraint);
     }
@@ -50,7 +50,7 @@ fn set_computed(
     ensures { IsMade (λ d. d) (set_computed column.now.type_of (operator_view operator) by (atoms_view atoms.now)) result }
 {
     let results = each_computed(alloc, operator, by, atoms)?;
-    distinct(alloc, column, results)
+    distinct(column, results)
 }
 
 impl Change {

@@ -77,7 +77,7 @@ pub(crate) fn deleted(alloc: Global, column: &Datum, elements: &Datum) -> Result
     match (Elements::of(column), Elements::of(elements)) {
         (Elements::Atoms(atoms), Elements::Atoms(gone)) => {
             let left = atoms_left(alloc, atoms, gone)?;
-            Datum::of_atoms(alloc, left)
+            Datum::of_atoms(left)
         }
         (Elements::Pairs(pairs), Elements::Pairs(gone)) => {
             let left = pairs_left(alloc, pairs, gone)?;

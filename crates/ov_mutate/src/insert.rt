@@ -85,7 +85,7 @@ pub(crate) fn inserted(alloc: Global, column: &Datum, elements: &Datum) -> Resul
             let mut union = Vec::new(alloc);
             push_atoms(alloc, &mut union, atoms)?;
             push_atoms(alloc, &mut union, others)?;
-            Datum::of_atoms(alloc, union)
+            Datum::of_atoms(union)
         }
         (Elements::Pairs(pairs), Elements::Pairs(others)) => {
             let union = inserted_pairs(alloc, pairs, others)?;

@@ -166,7 +166,7 @@ fn sets_are_made_of_atoms(rt: HostRuntime) -> Result<(), Fail> {
     let alloc = rt.alloc();
     let one = Datum::of_atom(alloc, Atom::Boolean(true))?;
     assert_eq!(rt; one.atoms().map(|atoms| atoms.len()), Some(1));
-    let set = Datum::of_atoms(alloc, vec![in alloc; Atom::Integer(2), Atom::Integer(1)]?)?;
+    let set = Datum::of_atoms(vec![in alloc; Atom::Integer(2), Atom::Integer(1)]?)?;
     assert_eq!(rt; set.count(), 2);
     assert!(rt; set == set.copy(alloc)? && set < one);
     Ok(())

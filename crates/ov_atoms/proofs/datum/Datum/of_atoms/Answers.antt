@@ -9,9 +9,9 @@ use Rattle.ov_atoms.proofs.datum.Datum.of_atoms.Goals as goal
 
 pub invariant_of-result : goal.invariant_of-result
 invariant_of-result c =
-    subst (λ xs. T (is_sorted atom_cmp (map marked (atoms_view xs)))) (sym (dedup_is equals _ _ c.dedup.ensures.filtered)) (dedup-ascends _ c.sort_unstable.ensures.sorted)
+    subst (λ xs. T (is_sorted atom_cmp (map marked (atoms_view xs)))) (sym (dedup_is equals _ _ c.dedup.ensures.filtered)) (dedup-ascends _ (c.in_ok-sort.ensures.sorted))
 
 pub returns : goal.returns
 returns c =
     ap (λ xs. value.Atoms (set_of (atoms_view xs))) (dedup_is equals _ _ c.dedup.ensures.filtered)
-    ∙ ap value.Atoms (set_of-dedup _ _ c.sort_unstable.ensures.permutation)
+    ∙ ap value.Atoms (set_of-dedup _ _ c.sort.ensures.permutation)
