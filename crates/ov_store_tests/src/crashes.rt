@@ -42,7 +42,11 @@ fn found_of_refused<S: Alter + Reopen + Drop>(
     let refused = match Store::open(alloc, again) {
         Ok(mut store) => {
             let is_new = store.load_all(alloc)?.is_empty();
-            return Ok(if is_new { "refused: a store" } else { "refused: lines" });
+            return Ok(if is_new {
+                "refused: a store"
+            } else {
+                "refused: lines"
+            });
         }
         Err(refused) => refused,
     };

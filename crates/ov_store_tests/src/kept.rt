@@ -89,7 +89,10 @@ failures -> 1
 lines -> Switch 1 one;
 commit -> made
 lines -> Switch 1 two;";
-    assert_eq!(rt; first_wrong_of_failing(rt.alloc(), 1, false, script)?.as_str(), "");
+    assert_eq!(rt;
+        first_wrong_of_failing(rt.alloc(), 1, false, script)?.as_str(),
+        ""
+    );
     Ok(())
 }
 
@@ -101,6 +104,9 @@ failures -> 0
 lines -> 
 commit -> made
 lines -> Switch 1 one;";
-    assert_eq!(rt; first_wrong_of_failing(rt.alloc(), 9, true, script)?.as_str(), "");
+    assert_eq!(rt;
+        first_wrong_of_failing(rt.alloc(), 9, true, script)?.as_str(),
+        ""
+    );
     Ok(())
 }

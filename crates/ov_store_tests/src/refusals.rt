@@ -20,7 +20,8 @@ fn statement(word: &str) -> &'static str {
         }
         "foreign" => "CREATE TABLE other(a);",
         "index" => "CREATE INDEX other ON line(ver);",
-        "text_id" => "CREATE TABLE line(tbl TEXT, id TEXT, ver BLOB, body BLOB, PRIMARY KEY(tbl,id));",
+        "text_id" =>
+            "CREATE TABLE line(tbl TEXT, id TEXT, ver BLOB, body BLOB, PRIMARY KEY(tbl,id));",
         "seven" => "UPDATE meta SET v=x'37' WHERE k='format';",
         "third" => "INSERT INTO meta VALUES('more',x'31');",
         "short" => "UPDATE line SET id=x'000102030405060708090a0b0c0d0e';",
@@ -94,6 +95,9 @@ fn made_again(alloc: Global) -> Result<String, Fail> {
 
 #[test]
 fn tables_are_made_once(rt: HostRuntime) -> Result<(), Fail> {
-    assert_eq!(rt; made_again(rt.alloc())?.as_str(), "not a database of this program");
+    assert_eq!(rt;
+        made_again(rt.alloc())?.as_str(),
+        "not a database of this program"
+    );
     Ok(())
 }
