@@ -3,11 +3,11 @@ ghost use Rattle.clap.specs.Words.{app_of, fault_of, first_value, found_of, matc
 ghost use Rattle.ov_words.specs.Words.{app};
 
 use crate::fault::WordFault;
-use clap::error::ErrorKind;
 use clap::{Arg, ArgAction, ArgMatches, Command};
 use std::alloc::{AllocError, Global};
 use std::convert::AsStr;
 
+#[tactic(auto, using(crate::proofs::WordsLemmas::some_of_refused))]
 /// The program's words, of which the first is its name, as `clap` matches them.
 pub(crate) fn matches<'a, S: AsStr>(
     alloc: Global,
@@ -20,10 +20,7 @@ pub(crate) fn matches<'a, S: AsStr>(
     let command = command(alloc)?;
     match command.try_get_matches_from(words) {
         Ok(matches) => Ok(matches),
-        Err(error) => match error.kind() {
-            ErrorKind::OutOfMemory => Err(WordFault::Memory),
-            _ => Err(WordFault::Refused),
-        },
+        Err(error) => Err(WordFault::from(error)),
     }
 }
 

@@ -1,3 +1,4 @@
+use clap::error::ErrorKind;
 use std::alloc::AllocError;
 use thiserror::Error;
 
@@ -20,5 +21,20 @@ impl From<AllocError> for WordFault {
 
     fn from(_refused: AllocError) -> WordFault {
         WordFault::Memory
+    }
+}
+
+impl From<clap::Error> for WordFault {
+    ghost use Rattle.clap.specs.Words.{kind_of};
+    ghost use Rattle.ov_words.specs.Faults.{fault_by};
+    ghost use Rattle.std.specs.Prelude.{◌≡◌};
+
+    ghost from_gives = { λ error e. e ≡ fault_by (kind_of error) };
+
+    fn from(error: clap::Error) -> WordFault {
+        match error.kind() {
+            ErrorKind::OutOfMemory => WordFault::Memory,
+            _ => WordFault::Refused,
+        }
     }
 }
