@@ -1,0 +1,22 @@
+-- How the program ends: each ending with its status and its line on standard error.
+use Rattle.std.specs.Prelude.{◌++◌, ℕ, List, Option, Some, None, codes}
+use Rattle.ov_words.specs.declared.ending.Ending.{Ending}
+use Rattle.ov_words.specs.declared.ending.Ending.TheVariants.{InputEnded, Arguments, Schema, Database, Streams, Memory}
+
+-- the exit status
+abbrev pub status : Ending → ℕ
+status InputEnded = 0
+status Arguments = 2
+status Schema = 3
+status Database = 4
+status Streams = 5
+status Memory = 6
+
+-- the line: the program's name, and what failed
+abbrev pub line : Ending → Option (List ℕ)
+line InputEnded = None
+line Arguments = Some (codes "ov_server: arguments")
+line Schema = Some (codes "ov_server: schema")
+line Database = Some (codes "ov_server: database")
+line Streams = Some (codes "ov_server: input or output")
+line Memory = Some (codes "ov_server: memory")

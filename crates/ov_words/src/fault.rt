@@ -1,0 +1,40 @@
+use clap::error::ErrorKind;
+use std::alloc::AllocError;
+use thiserror::Error;
+
+/// Why the program's words give no settings.
+#[derive(Clone, Copy, Debug, PartialEq, Eq, Error)]
+pub enum WordFault {
+    /// `clap` refuses them, or a FILE is empty. There is no help page, so `--help` is refused as well.
+    #[error("not the words of ov_server")]
+    Refused,
+    /// A growth was refused.
+    #[error("out of memory")]
+    Memory,
+}
+
+impl From<AllocError> for WordFault {
+    ghost use Rattle.ov_words.specs.declared.fault.WordFault.TheVariants.{Memory};
+    ghost use Rattle.std.specs.Prelude.{◌≡◌};
+
+    ghost from_gives = { λ _ e. e ≡ Memory };
+
+    fn from(_refused: AllocError) -> WordFault {
+        WordFault::Memory
+    }
+}
+
+impl From<clap::Error> for WordFault {
+    ghost use Rattle.clap.specs.Words.{kind_of};
+    ghost use Rattle.ov_words.specs.Faults.{fault_by};
+    ghost use Rattle.std.specs.Prelude.{◌≡◌};
+
+    ghost from_gives = { λ error e. e ≡ fault_by (kind_of error) };
+
+    fn from(error: clap::Error) -> WordFault {
+        match error.kind() {
+            ErrorKind::OutOfMemory => WordFault::Memory,
+            _ => WordFault::Refused,
+        }
+    }
+}
