@@ -60,9 +60,11 @@ fn is_taken(alloc: Global, case: &'static str) -> Result<bool, Fail> {
     let (db, streams) = rest.split_once('|').ok_or("no streams")?;
     let words = words_of(alloc, words)?;
     let settings = read_words(alloc, words.as_slice())?;
-    Ok(is_named(&settings.schema, schema)
-        && is_named(&settings.db, db)
-        && settings.is_on_streams == (streams == "true"))
+    Ok(
+        is_named(&settings.schema, schema)
+            && is_named(&settings.db, db)
+            && settings.is_on_streams == (streams == "true"),
+    )
 }
 
 #[test]

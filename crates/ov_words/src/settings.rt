@@ -38,11 +38,7 @@ pub fn read_words<S: AsStr>(alloc: Global, words: &[S]) -> Result<Settings, Word
 }
 
 /// The file that an option names, if the option is used.
-fn file_of(
-    alloc: Global,
-    matches: &ArgMatches<'_>,
-    name: &str,
-) -> Result<Option<Text>, WordFault>
+fn file_of(alloc: Global, matches: &ArgMatches<'_>, name: &str) -> Result<Option<Text>, WordFault>
     ensures value { IfOk result (λ file. file ≡ first_value (found_of matches.now) name.now) }
     ensures full { IfOk result (λ file. file ≢ Some []) }
     ensures empty { result ≡ Err WordFault.Refused → first_value (found_of matches.now) name.now ≡ Some [] }
