@@ -4,3 +4,4 @@ pub mod Added
 pub mod Stored
 pub mod Same
 pub mod Residing
+pub mod Loads

@@ -7,6 +7,8 @@
 mod columns;
 mod commit;
 mod key;
+mod load;
+mod read;
 mod row;
 mod rows;
 

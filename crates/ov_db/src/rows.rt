@@ -1,14 +1,18 @@
-ghost use Rattle.std.specs.Prelude.{◌≡◌, ◌⊎◌, ◌<◌, ◌-◌, ◌^◌, ℕ, List, false, not, is_some, IfOk, OnOk, OnErr, None};
+ghost use Rattle.std.specs.Prelude.{◌≡◌, ◌⊎◌, ◌<◌, ◌-◌, ◌^◌, ℕ, List, false, not, is_some, IfOk, IfErr, OnOk, OnErr, None};
 ghost use Rattle.std.specs.FinMap.{empty, contains_key, insert, entries};
 ghost use Rattle.ov_specs.specs.Database.{is_database};
 ghost use Rattle.ov_specs.specs.Lines.{Contents};
+ghost use Rattle.ov_early.specs.Keeping.{Keeps};
 ghost use Rattle.ov_db.specs.Committing.{Commits, IsHeld};
+ghost use Rattle.ov_db.specs.Opening.{CanOpen, RefusesOpen};
 ghost use Rattle.ov_db.specs.declared.rows.StoreAnswer.TheVariants.{Exhausted, Failed};
 
 use crate::commit::{changes_of, move_added, remove_added};
 use crate::key::RowKey;
+use crate::load::rows_of;
 use crate::row::Row;
-use ov_early::{KeepFault, Keeper};
+use ov_early::{KeepFault, Keeper, OpenFault};
+use ov_schema::Schema;
 use std::alloc::{AllocError, Global};
 use std::collections::BTreeMap;
 use std::marker::Model;
@@ -57,6 +61,30 @@ impl Rows {
             added: Vec::new(alloc),
             failed: None,
         }
+    }
+
+    /// The rows of what a keeper holds, each of its lines being one.
+    ///
+    /// It is refused as `SchemaDiffers` where the keeper holds another text than the schema's, as `BadBody` where one of its
+    /// lines is no row of the schema, and with the keeper's fault; the first of these that applies, the keeper's before all.
+    /// Memory that is refused is the keeper's fault `Memory`. What the keeper holds is not changed.
+    pub fn open<K: Keeper>(
+        alloc: Global,
+        keeper: &mut K,
+        schema: &Schema,
+    ) -> Result<Rows, OpenFault>
+        ensures rest { IfOk result (λ rows. (rows.now ≡ rows.committed) × (rows.sealed ≡ None)) }
+        ensures held { K.is_honest keeper.new → IfOk result (λ rows. (held : Contents) → K.leaves keeper.old held → CanOpen schema.now rows.committed held) }
+        ensures fault { K.is_honest keeper.new → IfErr result (λ fault. (held : Contents) → K.leaves keeper.old held → RefusesOpen schema.now held fault) }
+        ensures same { K.is_honest keeper.new → Keeps (K.leaves keeper.old) (K.leaves keeper.new) }
+        ensures honest { K.is_honest keeper.new → K.is_honest keeper.old }
+    {
+        let loaded = keeper.load(alloc)?;
+        Ok(Rows {
+            rows: rows_of(alloc, schema, &loaded)?,
+            added: Vec::new(alloc),
+            failed: None,
+        })
     }
 
     /// Whether there is a row of this key.

@@ -1,5 +1,4 @@
 pub mod Views
 pub mod Keeping
 pub mod Drawing
-pub mod Opening
 pub mod ListKeeper

@@ -1,3 +1,4 @@
+use std::alloc::AllocError;
 use thiserror::Error;
 
 /// Why a keeper refuses.
@@ -26,7 +27,7 @@ pub enum OpenFault {
     /// The stored schema has another text.
     #[error("the stored schema is another one")]
     SchemaDiffers,
-    /// A stored line is no row of the schema. For now every line is none.
+    /// A stored line is no row of the schema.
     #[error("a stored row does not fit the schema")]
     BadBody,
     /// The stored rows break a rule of commits.
@@ -35,4 +36,27 @@ pub enum OpenFault {
     /// The keeper refused.
     #[error("{0}")]
     Keeping(KeepFault),
+}
+
+impl From<AllocError> for OpenFault {
+    ghost use Rattle.std.specs.Prelude.{◌≡◌};
+    ghost use Rattle.ov_early.specs.declared.fault.KeepFault.TheVariants.{Memory};
+    ghost use Rattle.ov_early.specs.declared.fault.OpenFault.TheVariants.{Keeping};
+
+    ghost from_gives = { λ _ e. e ≡ Keeping Memory };
+
+    fn from(_refused: AllocError) -> OpenFault {
+        OpenFault::Keeping(KeepFault::Memory)
+    }
+}
+
+impl From<KeepFault> for OpenFault {
+    ghost use Rattle.std.specs.Prelude.{◌≡◌};
+    ghost use Rattle.ov_early.specs.declared.fault.OpenFault.TheVariants.{Keeping};
+
+    ghost from_gives = { λ fault e. e ≡ Keeping fault };
+
+    fn from(fault: KeepFault) -> OpenFault {
+        OpenFault::Keeping(fault)
+    }
 }

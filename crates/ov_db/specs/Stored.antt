@@ -1,0 +1,57 @@
+-- Which stored lines are rows under a schema, and the rows that they are (own).
+use Rattle.std.specs.Prelude.{◌≡◌, ℕ, List, [], ◌∷◌, if◌then◌else◌, Option, Some, None, option_and_then, option_map}
+use Rattle.std.specs.FinMap.{empty, get, insert, entries}
+use Rattle.serde_json.specs.Data.{Data}
+use Rattle.serde_json.specs.Find as find
+use Rattle.ov_specs.specs.Database.{Columns, Row, Database, line_of}
+use Rattle.ov_specs.specs.Fitting.{fits}
+use Rattle.ov_specs.specs.Lines.{LineKey, LineBody, Lines}
+use Rattle.ov_specs.specs.Message.{tree_of}
+use Rattle.ov_specs.specs.Method.{is_text}
+use Rattle.ov_specs.specs.Operation.{is_own, no_names}
+use Rattle.ov_specs.specs.Reading.{Reading, Reads, Syntax, Clash, reads}
+use Rattle.ov_specs.specs.SchemaTypes.{Column, Table, Schema, kinds_of}
+use Rattle.ov_specs.specs.Value.{Datum}
+
+-- the value, where there is one and it fits its column (RFC 7047, 3.2, <type>)
+abbrev pub fitting_value : Column → Reading Datum → Option Datum
+fitting_value column (Reads datum) = if fits column.type_of datum then Some datum else None
+fitting_value column Syntax = None
+fitting_value column Clash = None
+
+-- the value that a body has for a column, as the member of its name (RFC 7047, 5.1, <row>)
+abbrev pub value_stored : Data → List ℕ × Column → Option Datum
+value_stored body c = option_and_then (λ d. fitting_value c.1 (reads no_names (kinds_of c.1.type_of) d)) (find.get c.0 body)
+
+-- these columns beside those there are, each with the value that the body has for it; those that rows have by themselves
+-- are not in the body
+abbrev pub columns_stored : Data → List (List ℕ × Column) → Columns → Option Columns
+columns_stored body [] columns = Some columns
+columns_stored body (c ∷ cs) columns =
+    if is_own c.0 then columns_stored body cs columns
+    else option_and_then (λ datum. columns_stored body cs (insert columns c.0 datum)) (value_stored body c)
+
+-- the row, where the very bytes of the line are those that it is stored as
+abbrev pub stored_as : LineBody → Row → Option Row
+stored_as line row = if is_text (line_of row).1 line.1 then Some row else None
+
+-- the row of these columns, under the version of the line
+abbrev pub row_of_columns : LineBody → Columns → Option Row
+row_of_columns line columns = stored_as line (record { version = line.0; columns = columns })
+
+-- the row of a table that a line is, if it is one
+abbrev pub row_of_table : Table → LineBody → Option Row
+row_of_table table line = option_and_then (λ body. option_and_then (row_of_columns line) (columns_stored body (entries table.columns) empty)) (tree_of line.1)
+
+-- The row that a line is: its table is one of the schema's, its body has a value for each column that fits, and nothing else,
+-- not even a space.
+abbrev pub row_stored : Schema → LineKey → LineBody → Option Row
+row_stored schema key line = option_and_then (λ table. row_of_table table line) (get schema.tables key.0)
+
+-- the database has the row that each line is, and no other
+abbrev pub AreRowsOf : Schema → Lines → Database → Type 0
+AreRowsOf schema lines database = (key : LineKey) → option_map Some (get database key) ≡ option_map (row_stored schema key) (get lines key)
+
+-- a line that is no row
+abbrev pub HasBadLine : Schema → Lines → Type 0
+HasBadLine schema lines = (key : LineKey) × (line : LineBody) × (get lines key ≡ Some line) × (row_stored schema key line ≡ None)
