@@ -1,22 +1,20 @@
 ghost use Rattle.std.specs.Prelude.{◌≡◌, ℕ, List, IfOk, IfErr, Some, None};
-ghost use Rattle.std.specs.FinMap.{empty};
 ghost use Rattle.serde_json.specs.Written.{compact_text};
 ghost use Rattle.ov_specs.specs.Lines.{Contents};
 ghost use Rattle.ov_specs.specs.Transaction.{failed as refused};
 ghost use Rattle.ov_early.specs.Keeping.{Keeps};
-ghost use Rattle.ov_early.specs.Opening.{CanOpen, RefusesOpen};
 ghost use Rattle.ov_db.specs.Committing.{IsHeld};
+ghost use Rattle.ov_db.specs.Opening.{CanOpen, RefusesOpen};
 ghost use Rattle.serde_json.specs.Data.{array};
 ghost use Rattle.ov_specs.specs.Frame.{frame, reply_tree};
 ghost use Rattle.ov_core.specs.Working.{IsAttempt, Commits, Waits};
 
 use crate::event::Outcome;
 use crate::frames::{Frames, reply_of};
-use crate::opening::test_contents;
 use crate::waiting::{Waiting, send};
 use ov_base::{Tree, Trees};
 use ov_db::{Rows, StoreAnswer};
-use ov_early::{KeepFault, Keeper, OpenFault};
+use ov_early::{Keeper, OpenFault};
 use ov_schema::Schema;
 use ov_txn::{failed, perform};
 use std::alloc::Global;
@@ -53,30 +51,23 @@ impl<K: Keeper> Model for Database<K> {
 }
 
 impl<K: Keeper + Drop> Database<K> {
-    /// The database of what the keeper holds, which has no row yet.
+    /// The database of what the keeper holds.
     pub fn open(alloc: Global, keeper: K, schema: Schema) -> Result<Database<K>, OpenFault>
-        ensures ok { IfOk result (λ d. d ≡ record { schema = schema; committed = empty; sealed = None; keeper = d.keeper }) }
-        ensures held { IfOk result (λ d. K.is_honest d.keeper → (held : Contents) → K.leaves keeper held → CanOpen (compact_text schema.tree) held) }
+        ensures rest { IfOk result (λ d. (d.schema ≡ schema) × (d.sealed ≡ None)) }
+        ensures held { IfOk result (λ d. K.is_honest d.keeper → (held : Contents) → K.leaves keeper held → CanOpen schema d.committed held) }
         ensures same { IfOk result (λ d. K.is_honest d.keeper → Keeps (K.leaves keeper) (K.leaves d.keeper)) }
         ensures honest { IfOk result (λ d. K.is_honest d.keeper → K.is_honest keeper) }
-        ensures fault { IfErr result (λ fault. (later : K) × (K.is_honest later → (held : Contents) → K.leaves keeper held → RefusesOpen (compact_text schema.tree) held fault)) }
+        ensures fault { IfErr result (λ fault. (later : K) × (K.is_honest later → (held : Contents) → K.leaves keeper held → RefusesOpen schema held fault)) }
     {
         let mut keeper = keeper;
-        let Ok(text) = schema.tree().to_bytes(alloc) else {
-            return Err(OpenFault::Keeping(KeepFault::Memory));
-        };
-        let loaded = match keeper.load(alloc) {
-            Ok(loaded) => loaded,
-            Err(fault) => return Err(OpenFault::Keeping(fault)),
-        };
-        if let Err(fault) = test_contents(&loaded, text.as_slice()) {
-            return Err(fault);
+        match Rows::open(alloc, &mut keeper, &schema) {
+            Ok(rows) => Ok(Database {
+                schema,
+                rows,
+                keeper,
+            }),
+            Err(fault) => Err(fault),
         }
-        Ok(Database {
-            schema,
-            rows: Rows::new(alloc),
-            keeper,
-        })
     }
 
     /// Its schema.

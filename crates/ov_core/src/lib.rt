@@ -8,7 +8,6 @@ mod entry;
 mod event;
 mod frames;
 mod machine;
-mod opening;
 mod waiting;
 mod work;
 

@@ -5,13 +5,12 @@ ghost use Rattle.ov_specs.specs.History.{joined};
 ghost use Rattle.ov_specs.specs.Machine.{State, opening, is_open, Open as SpecOpen, Tick as SpecTick, Take as SpecTake, Entry as SpecEntry};
 ghost use Rattle.ov_rpc.specs.Message.{message_view};
 ghost use Rattle.ov_early.specs.Keeping.{Keeps};
-ghost use Rattle.ov_early.specs.Opening.{CanOpen, RefusesOpen};
+ghost use Rattle.ov_db.specs.Opening.{CanOpen, RefusesOpen};
 ghost use Rattle.ov_core.specs.Entries.{event_view, cause_view};
 ghost use Rattle.ov_core.specs.Waiting.{waiting_for};
 ghost use Rattle.ov_core.specs.Following.{Follows, none_given, and_handed, and_all_handed};
 ghost use Rattle.ov_core.specs.Stepping.{StepIs, Closes};
 ghost use Rattle.ov_core.specs.Leaving.{LeavesItsOwn};
-ghost use Rattle.std.specs.FinMap.{empty};
 
 use crate::database::Database;
 use crate::entry::{chosen, is_closing, listed, quiet};
@@ -68,19 +67,19 @@ impl<K: Keeper + Drop, D: Draws + Drop> Core<K, D> {
     /// A core without history, over what the keeper holds: no session is open, the last moment is 0 and the next serial 1.
     ///
     /// It is refused as `SchemaDiffers` where the keeper holds another text than the schema's (RFC 7047, 3.2), as `BadBody`
-    /// where it holds a row, since a database that holds one can't be opened yet, and with the keeper's fault. Memory that
-    /// is refused is the keeper's fault `Memory`. What the keeper holds is not changed.
+    /// where one of its lines is no row of the schema, and with the keeper's fault. Memory that is refused is the keeper's
+    /// fault `Memory`. What the keeper holds is not changed.
     pub fn open(alloc: Global, keeper: K, schema: Schema, draws: D) -> Result<Core<K, D>, OpenFault>
-        ensures start { IfOk result (λ core. Follows (opening schema empty) [] none_given core) }
+        ensures start { IfOk result (λ core. Follows (opening schema core.state.database) [] none_given core) }
         ensures schema { IfOk result (λ core. core.state.schema ≡ schema) }
         ensures source { IfOk result (λ core. core.source ≡ draws) }
-        // The keeper held an empty database under this schema.
-        ensures held { IfOk result (λ core. K.is_honest core.keeper → (held : Contents) → K.leaves keeper held → CanOpen (compact_text schema.tree) held) }
+        // The keeper held the database under this schema.
+        ensures held { IfOk result (λ core. K.is_honest core.keeper → (held : Contents) → K.leaves keeper held → CanOpen schema core.state.database held) }
         // Of an honest keeper an open finds nothing now that it might not have found before.
         ensures same { IfOk result (λ core. K.is_honest core.keeper → Keeps (K.leaves keeper) (K.leaves core.keeper)) }
         ensures honest { IfOk result (λ core. K.is_honest core.keeper → K.is_honest keeper) }
         // A fault is the first that applies to what the keeper held, where its device was honest to the end of the call.
-        ensures fault { IfErr result (λ fault. (later : K) × (K.is_honest later → (held : Contents) → K.leaves keeper held → RefusesOpen (compact_text schema.tree) held fault)) }
+        ensures fault { IfErr result (λ fault. (later : K) × (K.is_honest later → (held : Contents) → K.leaves keeper held → RefusesOpen schema held fault)) }
     {
         let database = Database::open(alloc, keeper, schema)?;
         Ok(Core {

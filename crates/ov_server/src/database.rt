@@ -1,5 +1,4 @@
 ghost use Rattle.std.specs.Prelude.{◌≡◌, [], Some, IfSome, codes};
-ghost use Rattle.std.specs.FinMap.{empty};
 ghost use Rattle.serde_json.specs.Read.{read};
 ghost use Rattle.serde_json.specs.Written.{compact_text};
 ghost use Rattle.ov_specs.specs.Machine.{opening};
@@ -17,7 +16,7 @@ const SCHEMA: &str =
 
 /// An empty database in memory, under the schema that is served. None where memory is refused.
 pub fn open_database<D: Draws + Drop>(alloc: Global, draws: D) -> Option<Core<ListKeeper, D>>
-    ensures start { IfSome result (λ core. Follows (opening core.state.schema empty) [] none_given core) }
+    ensures start { IfSome result (λ core. Follows (opening core.state.schema core.state.database) [] none_given core) }
     ensures name { IfSome result (λ core. core.state.schema.name ≡ codes "Net") }
     ensures schema { IfSome result (λ core. read SCHEMA.now ≡ Some core.state.schema.tree) }
     ensures source { IfSome result (λ core. core.source ≡ draws) }
