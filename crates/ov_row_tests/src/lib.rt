@@ -2,6 +2,8 @@
 #![tactic(auto)]
 
 #[cfg(test)]
+mod opens;
+#[cfg(test)]
 mod rows;
 #[cfg(test)]
 mod transactions;
