@@ -88,12 +88,11 @@ fn serve_core<R: Wait, K: Keeper + Drop, D: Draws + Drop, S: Source, W: Sink, C:
     writer: &mut W,
     clock: &mut C,
 ) -> Ending
-    ensures told {
-        ((cause : Closing) × (result ≡ by_cause cause)
-            × Served C.tells core.old.state.next core.old (around (S.told reader.old) (W.told writer.old) clock.old)
-                cause core.new (around (S.told reader.new) (W.told writer.new) clock.new)
-            × (is_written cause ≡ true → W.is_flushed writer.new ≡ true)
-            × Tells cause (S.at_end reader.new) (S.faults reader.old) (S.faults reader.new) (W.faults writer.old) (W.faults writer.new))
+    ensures told { ((cause : Closing) × (result ≡ by_cause cause)
+        × Served C.tells core.old.state.next core.old (around (S.told reader.old) (W.told writer.old) clock.old)
+        cause core.new (around (S.told reader.new) (W.told writer.new) clock.new)
+        × (is_written cause ≡ true → W.is_flushed writer.new ≡ true)
+        × Tells cause (S.at_end reader.new) (S.faults reader.old) (S.faults reader.new) (W.faults writer.old) (W.faults writer.new))
         ⊎ ((fault : Fault) × (result ≡ by_step fault) × (core.new ≡ core.old) × (reader.new ≡ reader.old) × (writer.new ≡ writer.old)) }
     ensures kind { (result ≢ Ending.Arguments) × (result ≢ Ending.Schema) }
 {
