@@ -1,22 +1,19 @@
-//! The OVSDB server. Without arguments it serves one session on standard input and output; an argument ends it.
+//! The OVSDB server: `ov_server [--schema FILE] [--db FILE] [--stdio]`. It serves one session on standard input and output.
 #![tactic(auto)]
 
 mod clock;
 mod database;
 mod draws;
-mod ending;
+mod endings;
 mod session;
+mod start;
 
-use crate::ending::{Ending, has_arguments, line_of, status_of};
-use crate::session::serve;
+use crate::start::run;
+use ov_words::{line_of, status_of};
 use std::process::ExitCode;
 
 fn main(rt: HostRuntime) -> ExitCode {
-    let ending = if has_arguments(&rt) {
-        Ending::Arguments
-    } else {
-        serve(&rt, rt.alloc(), rt.stdin(), rt.stdout())
-    };
+    let ending = run(&rt, &rt, rt.stdin(), rt.stdout());
     if let Some(line) = line_of(ending) {
         let _ = eprintln!(rt; "{line}");
     }

@@ -8,7 +8,12 @@ use Rattle.ov_specs.specs.Schema.{Refusal, RealNotSupported, accepted, judged, r
 use Rattle.ov_specs.specs.SchemaShape.{SchemaShape, TableShape, given, optional, named_parts, table_shape, schema_shape}
 use Rattle.ov_specs.specs.SchemaTypes.{Schema}
 use Rattle.ov_specs.specs.Tree.{has_real}
-use Rattle.ov_server.proofs.database.served_schema.Goals as goal
+use Rattle.std.specs.Str.{is_utf8}
+use Rattle.std.proofs.lemmas.Result.{IfOk-weaker}
+use Rattle.serde_json.specs.Read.{read}
+use Rattle.ov_files.specs.Reading.{IsSchemaText}
+use Rattle.ov_server.specs.declared.database.TheConstants.{SCHEMA}
+use Rattle.ov_server.proofs.database.built_in_schema.Goals as goal
 
 -- the name that a tree gives
 abbrev name_at : Data → Option (List ℕ)
@@ -44,9 +49,20 @@ accepted_name d s h = by_real (has_real d) h
     by_real true h = cc
     by_real false h = by_shape (schema_shape d) refl h
 
+-- what is JSON in UTF-8 is JSON
+read_by : (b : Bool) (o : Option Data) (d : Data) → cond b o None ≡ Some d → o ≡ Some d
+read_by true o d h = h
+read_by false o d h = cc
+
 -- the text is read and its name computed
-pub returns-in-Ok-clause-name : goal.returns-in-Ok-clause-name
+pub returns : goal.returns
 unfolding serde_json_on_literals
-returns-in-Ok-clause-name c =
-    let named : name_at c.in_ok-tree.tree ≡ Some (codes "Net") = ap (option_and_then name_at) (sym c.in_ok-tree.ensures) in
-    same_Some c.in-Ok.schema.name (codes "Net") (sym (accepted_name c.in_ok-tree.tree c.in-Ok.schema c.in-Ok.ensures.ok) ∙ named)
+returns c =
+    let parts : (s : Schema) → IsSchemaText c.as_bytes.result.now s → read SCHEMA.now ≡ Some s.tree =
+    λ s h. ap read (sym c.as_bytes.ensures.value) ∙ read_by (is_utf8 c.as_bytes.result.now) (read c.as_bytes.result.now) s.tree h.tree in
+    record {
+      name = IfOk-weaker c.schema_of.result _ _ (λ s h.
+          let named : name_at s.tree ≡ Some (codes "Net") = ap (option_and_then name_at) (sym (parts s h)) in
+          same_Some s.name (codes "Net") (sym (accepted_name s.tree s h.accepted) ∙ named)) c.schema_of.ensures.schema;
+      tree = IfOk-weaker c.schema_of.result _ _ parts c.schema_of.ensures.schema;
+    }

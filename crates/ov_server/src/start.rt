@@ -1,0 +1,108 @@
+//! From the program's words to what it serves, and on to its end.
+
+use crate::database::built_in_schema;
+use crate::endings::{ending_of_keeping, ending_of_schema, ending_of_words};
+use crate::session::serve;
+use ov_base::Text;
+use ov_core::Schema;
+use ov_files::{read_schema, store_in_file, store_in_memory, text_of};
+use ov_words::{Ending, Settings, read_words};
+use sqlite::Unknown;
+use std::alloc::Global;
+use std::env;
+use std::env::Env;
+use std::io::{ErrorKind, Read, Write};
+use std::random::RandomSource;
+use std::rt::Files;
+use std::sync::Wait;
+
+/// Runs the program, and tells how it ends. Faults are looked for in the words, then in the schema, then in the database.
+pub fn run<R: Wait + RandomSource, I: Read + Drop, O: Write + Drop>(
+    host: &HostRuntime,
+    rt: &R,
+    input: I,
+    output: O,
+) -> Ending {
+    let Settings {
+        schema,
+        db,
+        is_on_streams: _,
+    } = match settings(host, host.alloc()) {
+        Ok(settings) => settings,
+        Err(ending) => return ending,
+    };
+    let schema = match schema_of(host, host.alloc(), schema) {
+        Ok(schema) => schema,
+        Err(ending) => return ending,
+    };
+    let Ok(text) = text_of(host.alloc(), &schema) else {
+        return Ending::Memory;
+    };
+    match db {
+        None => serve_memory(rt, host.alloc(), text, schema, input, output),
+        Some(path) => serve_file(host, rt, path.as_str(), text, schema, input, output),
+    }
+}
+
+/// What the words say.
+fn settings<R: Env + AllocGlobal>(rt: &R, alloc: Global) -> Result<Settings, Ending> {
+    let mut words = Vec::new(alloc);
+    match env::args(rt) {
+        Ok(all) => {
+            for word in all {
+                if words.push(word).is_err() {
+                    return Err(Ending::Memory);
+                }
+            }
+        }
+        Err(error) if error.kind() == ErrorKind::OutOfMemory => return Err(Ending::Memory),
+        Err(_) => return Err(Ending::Arguments),
+    }
+    match read_words(alloc, words.as_slice()) {
+        Ok(settings) => Ok(settings),
+        Err(fault) => Err(ending_of_words(fault)),
+    }
+}
+
+/// The schema of a file, or the program's own where none is named.
+fn schema_of<R: Files>(rt: &R, alloc: Global, file: Option<Text>) -> Result<Schema, Ending> {
+    let schema = match file {
+        Some(path) => read_schema(rt, alloc, path.as_str()),
+        None => built_in_schema(alloc),
+    };
+    match schema {
+        Ok(schema) => Ok(schema),
+        Err(fault) => Err(ending_of_schema(fault)),
+    }
+}
+
+/// Serves a database in memory.
+fn serve_memory<R: Wait + RandomSource, I: Read + Drop, O: Write + Drop>(
+    rt: &R,
+    alloc: Global,
+    text: Text,
+    schema: Schema,
+    input: I,
+    output: O,
+) -> Ending {
+    match store_in_memory(alloc, text) {
+        Ok(store) => serve(rt, alloc, store, schema, input, output),
+        Err(fault) => ending_of_keeping(fault),
+    }
+}
+
+/// Serves the database of a file.
+fn serve_file<R: Wait + RandomSource, I: Read + Drop, O: Write + Drop>(
+    host: &HostRuntime,
+    rt: &R,
+    path: &str,
+    text: Text,
+    schema: Schema,
+    input: I,
+    output: O,
+) -> Ending {
+    match store_in_file(host, path, text, Unknown) {
+        Ok(store) => serve(rt, host.alloc(), store, schema, input, output),
+        Err(fault) => ending_of_keeping(fault),
+    }
+}
