@@ -1,9 +1,9 @@
 #!/usr/bin/env python3
 """Tells how long the store takes for commits and loads, beside sqlite3 with the same tables, statements and durability.
 
-It starts `ov_store_bench`, does the same work by Python's module sqlite3, and both take turns, each over new files or in
-memory. After a turn on files the two databases are compared, row by row. Words: the program, and the number of turns, 5 if
-left out. The files lie in a new folder in the folder of the program.
+It starts `ov_store_bench`, does the same work by Python's module sqlite3, and both take turns, a few commits each, so that
+they meet the same disk and the same machine. At the end the two databases are compared, row by row. Words: the program, and
+how often all of it is done, 3 if left out. The files lie in a new folder beside the program, and then in one in memory.
 """
 
 import os
@@ -17,12 +17,15 @@ import time
 SCHEMA = '{"name":"Net","tables":{}}'
 SCATTER = 0x9E37_79B9_7F4A_7C15
 APART = 7919
-FILLED_AT_ONCE = 1000
 
-# The sizes at which commits of one row are measured, how many of each kind at each, and how many loads at the last.
+# The sizes at which commits of one row are measured, and how many of each kind at each; how many rows a commit of a fill
+# has; how many commits one side makes before the other has its turn; how many loads are measured at the last size.
 SIZES = (1_000, 10_000, 100_000)
 COMMITS = 500
-LOADS = 3
+FILLED_AT_ONCE = 1_000
+TURN = 20
+LOADS = 5
+GROWTH = f"growth from {SIZES[0]:,} to {SIZES[-1]:,} rows"
 
 # Page size, pages in the cache and frames between two checkpoints are those of the kit's database, which holds its file's
 # lock as long as it is open. It syncs the log once at a commit, as FULL does, and both files at a checkpoint.
@@ -40,17 +43,6 @@ TABLES = (
 )
 
 
-def steps():
-    """The words of the work: growth to each size, with commits of new rows and of rows that are there."""
-    rows = 0
-    for size in SIZES:
-        yield "fill", size - rows
-        yield "put", COMMITS
-        yield "again", COMMITS
-        rows = size + COMMITS
-    yield "load", LOADS
-
-
 def switch(number, load):
     """A row, by the number and the load of its switch, as `ov_store_bench` makes it."""
     drawn = (number * SCATTER) % 2**64
@@ -60,15 +52,35 @@ def switch(number, load):
     return "Switch", identifier, version, body.encode()
 
 
+class Store:
+    """The store, by `ov_store_bench`."""
+
+    def __init__(self, program, place):
+        self.process = subprocess.Popen([program, place], stdin=subprocess.PIPE, stdout=subprocess.PIPE, text=True)
+
+    def perform(self, word, count):
+        """Does a step, and gives the nanoseconds of each commit or load."""
+        self.process.stdin.write(f"{word} {count}\n")
+        self.process.stdin.flush()
+        lines = [self.process.stdout.readline().split() for _ in range(1 if word == "fill" else count)]
+        assert all(told == word for told, _ in lines)
+        return [int(nanoseconds) for _, nanoseconds in lines]
+
+    def close(self):
+        self.process.stdin.close()
+        rest = self.process.stdout.read()
+        if rest or self.process.wait() != 0:
+            sys.exit(f"store: the program ended with status {self.process.wait()} and told more: {rest}")
+
+
 class Peer:
-    """The store by sqlite3, and how many rows it has."""
+    """The same by sqlite3."""
 
     def __init__(self, place):
         self.connection = sqlite3.connect(place, isolation_level=None)
         self.connection.executescript(SETTINGS)
         self.rows = 0
         self.repeated = 0
-        self.times = []
         run = self.connection.execute
         run("BEGIN")
         for table in TABLES:
@@ -77,7 +89,7 @@ class Peer:
         run("INSERT INTO meta(k,v) VALUES(?1,?2)", ("schema", SCHEMA.encode()))
         run("COMMIT")
 
-    def commit(self, word, rows):
+    def commit(self, rows):
         run = self.connection.execute
         start = time.perf_counter_ns()
         run("BEGIN")
@@ -85,51 +97,65 @@ class Peer:
             run("DELETE FROM line WHERE tbl=?1 AND id=?2", row[:2])
             run("INSERT INTO line(tbl,id,ver,body) VALUES(?1,?2,?3,?4)", row)
         run("COMMIT")
-        self.times.append((word, time.perf_counter_ns() - start))
+        return time.perf_counter_ns() - start
 
-    def add(self, word, count):
+    def add(self, count):
         rows = [switch(number, 0) for number in range(self.rows, self.rows + count)]
         self.rows += count
-        self.commit(word, rows)
+        return self.commit(rows)
 
     def repeat(self):
         self.repeated += 1
-        self.commit("again", [switch(self.repeated * APART % self.rows, self.repeated)])
+        return self.commit([switch(self.repeated * APART % self.rows, self.repeated)])
 
     def load(self):
         start = time.perf_counter_ns()
         rows = self.connection.execute("SELECT rowid,tbl,id,ver,body FROM line").fetchall()
-        self.times.append(("load", time.perf_counter_ns() - start))
+        taken = time.perf_counter_ns() - start
         assert len(rows) == self.rows
+        return taken
 
     def perform(self, word, count):
+        """Does a step, and gives the nanoseconds of each commit or load."""
         if word == "fill":
-            for done in range(0, count, FILLED_AT_ONCE):
-                self.add(word, min(FILLED_AT_ONCE, count - done))
-            return
-        for _ in range(count):
-            if word == "put":
-                self.add(word, 1)
-            elif word == "again":
-                self.repeat()
-            else:
-                self.load()
+            return [self.add(count)]
+        once = {"put": lambda: self.add(1), "again": self.repeat, "load": self.load}[word]
+        return [once() for _ in range(count)]
+
+    def close(self):
+        self.connection.close()
 
 
-def run_peer(place):
-    """The times of the work by sqlite3: a word and nanoseconds for each commit and load."""
-    peer = Peer(place)
-    for word, count in steps():
-        peer.perform(word, count)
-    peer.connection.close()
-    return peer.times
+class Pair:
+    """Both, and what they took: for each figure the microseconds of each commit or load, of the store and of sqlite3."""
 
+    def __init__(self, program, ours, theirs):
+        self.sides = [Store(program, ours), Peer(theirs)]
+        self.turns = 0
+        self.taken = {}
 
-def run_program(program, place):
-    """The times of the work by the store."""
-    words = [str(word) for step in steps() for word in step]
-    told = subprocess.run([program, place, *words], check=True, capture_output=True, text=True).stdout
-    return [(word, int(nanoseconds)) for word, nanoseconds in map(str.split, told.splitlines())]
+    def step(self, name, word, count):
+        """One turn of each. The one that was second goes first."""
+        taken = self.taken.setdefault(name, ([], []))
+        for which in (self.turns % 2, 1 - self.turns % 2):
+            taken[which].extend(nanoseconds / 1e3 for nanoseconds in self.sides[which].perform(word, count))
+        self.turns += 1
+
+    def work(self):
+        rows = 0
+        for size in SIZES:
+            grown = GROWTH if rows else f"growth to {size:,} rows"
+            for first in range(rows, size, FILLED_AT_ONCE):
+                self.step(grown, "fill", min(FILLED_AT_ONCE, size - first))
+            for word, what in (("put", "a new row"), ("again", "a row put again")):
+                for _ in range(COMMITS // TURN):
+                    self.step(f"{what}, {size:,} rows", word, TURN)
+            rows = size + COMMITS
+        for _ in range(LOADS):
+            self.step(f"load of {rows:,} rows", "load", 1)
+        for side in self.sides:
+            side.close()
+        return self.taken
 
 
 def all_rows(path):
@@ -140,71 +166,46 @@ def all_rows(path):
     return rows
 
 
-def figures(times):
-    """The figures of one turn, in microseconds, by their names."""
-    times = iter(times)
-    found = {}
-    for word, count in steps():
-        lines = -(-count // FILLED_AT_ONCE) if word == "fill" else count
-        taken = [next(times) for _ in range(lines)]
-        assert all(told == word for told, _ in taken)
-        found.setdefault(word, []).append([nanoseconds / 1e3 for _, nanoseconds in taken])
-    named = {}
-    for word, what in (("put", "a new row"), ("again", "a row put again")):
-        for size, taken in zip(SIZES, found[word]):
-            named[f"{what}, {size:,} rows, median"] = statistics.median(taken)
-            named[f"{what}, {size:,} rows, mean"] = statistics.mean(taken)
-    named[f"growth from {SIZES[0]:,} to {SIZES[-1]:,} rows"] = sum(map(sum, found["fill"][1:]))
-    named[f"load of {SIZES[-1]:,} rows"] = statistics.median(found["load"][0])
-    return named
+def times_on_files(program, folder):
+    with tempfile.TemporaryDirectory(dir=folder) as inner:
+        ours, theirs = (os.path.join(inner, name) for name in ("ours.db", "theirs.db"))
+        taken = Pair(program, ours, theirs).work()
+        if all_rows(ours) != all_rows(theirs):
+            sys.exit("store: the two databases differ")
+        return taken
 
 
-def turn_on_files(program, folder, number):
-    """One turn of both on new files, where the second goes first every other time."""
-    ours, theirs = (os.path.join(folder, f"{name}{number}.db") for name in ("ours", "theirs"))
-    works = [lambda: run_program(program, ours), lambda: run_peer(theirs)]
-    taken = [None, None]
-    for which in (number % 2, 1 - number % 2):
-        taken[which] = figures(works[which]())
-    if all_rows(ours) != all_rows(theirs):
-        sys.exit("store: the two databases differ")
-    for path in (ours, theirs):
-        for end in ("", "-wal", "-shm"):
-            if os.path.exists(path + end):
-                os.remove(path + end)
-    return taken
+def file_system(folder):
+    told = subprocess.run(["df", "--output=fstype", folder], check=True, capture_output=True, text=True).stdout
+    return told.split()[-1]
 
 
-def turn_in_memory(program, number):
-    works = [lambda: run_program(program, "memory"), lambda: run_peer(":memory:")]
-    taken = [None, None]
-    for which in (number % 2, 1 - number % 2):
-        taken[which] = figures(works[which]())
-    return taken
-
-
-def tell(place, turns):
-    """Prints the medians over the turns, and how the commits of the store grow from the first size to the last."""
-    ours, theirs = ({name: statistics.median(turn[side][name] for turn in turns) for name in turns[0][side]} for side in (0, 1))
-    for name in ours:
-        ratio = ours[name] / theirs[name]
-        print(f"{place + ', ' + name:<52} {ours[name]:>12,.1f} us  sqlite3 {theirs[name]:>12,.1f} us  {ratio:>6.2f} times", flush=True)
+def tell(place, runs):
+    """Prints the figures: of all runs the median, and the mean, which has the syncs of a checkpoint in it too."""
+    kinds = (("median", statistics.median), ("mean", statistics.mean))
+    both = {}
+    for name in runs[0]:
+        # A growth is told as a whole.
+        lists = [[[sum(taken)] if name.startswith("growth") else taken for taken in run[name]] for run in runs]
+        both[name] = [sum((taken[side] for taken in lists), []) for side in (0, 1)]
+        for kind, of in kinds:
+            ours, theirs = map(of, both[name])
+            print(f"{place}, {name}, {kind}".ljust(48), f"{ours:>11,.1f} us  sqlite3 {theirs:>11,.1f} us  {ours / theirs:>5.2f} times", flush=True)
     for what in ("a new row", "a row put again"):
-        for kind in ("median", "mean"):
-            few, many = (f"{what}, {size:,} rows, {kind}" for size in (SIZES[0], SIZES[-1]))
-            print(f"{place}, {what}, {kind}: at {SIZES[-1]:,} rows {ours[many] / ours[few]:.2f} times as long as at {SIZES[0]:,}; sqlite3 {theirs[many] / theirs[few]:.2f}")
+        for kind, of in kinds:
+            grown = [of(both[f"{what}, {SIZES[-1]:,} rows"][side]) / of(both[f"{what}, {SIZES[0]:,} rows"][side]) for side in (0, 1)]
+            print(f"{place}, {what}, {kind}, grows".ljust(48), f"{grown[0]:>5.2f} times from {SIZES[0]:,} to {SIZES[-1]:,} rows; sqlite3 {grown[1]:.2f}", flush=True)
 
 
 def main():
     if not 2 <= len(sys.argv) <= 3:
-        sys.exit("store.py PROGRAM [TURNS]")
+        sys.exit("store.py PROGRAM [TIMES]")
     program = os.path.abspath(sys.argv[1])
-    turns = int(sys.argv[2]) if len(sys.argv) == 3 else 5
-    with tempfile.TemporaryDirectory(dir=os.path.dirname(program)) as folder:
-        system = subprocess.run(["df", "--output=fstype", folder], check=True, capture_output=True, text=True).stdout.split()[-1]
-        print(f"SQLite {sqlite3.sqlite_version}; the files are on {system}; {turns} turns of {COMMITS} commits a figure")
-        tell("file", [turn_on_files(program, folder, number) for number in range(turns)])
-    tell("memory", [turn_in_memory(program, number) for number in range(turns)])
+    times = int(sys.argv[2]) if len(sys.argv) == 3 else 3
+    print(f"sqlite3 {sqlite3.sqlite_version}; {times} times {COMMITS} commits for a figure")
+    for folder in (os.path.dirname(program), "/dev/shm"):
+        tell(file_system(folder), [times_on_files(program, folder) for _ in range(times)])
+    tell("memory", [Pair(program, "memory", ":memory:").work() for _ in range(times)])
 
 
 main()

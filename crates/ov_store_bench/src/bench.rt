@@ -98,12 +98,8 @@ fn tell(rt: &HostRuntime, word: &str, start: Instant) -> Result<()> {
     Ok(())
 }
 
-/// Makes a store and does the steps. It gives the connection back.
-fn work<S: Alter + Drop>(
-    rt: &HostRuntime,
-    connection: Connection<S>,
-    steps: &[Step],
-) -> Result<Connection<S>> {
+/// Makes a store and does the steps of the input. It gives the connection back.
+fn work<S: Alter + Drop>(rt: &HostRuntime, connection: Connection<S>) -> Result<Connection<S>> {
     if !connection.is_autocommit() {
         bail!("in a transaction");
     }
@@ -117,20 +113,20 @@ fn work<S: Alter + Drop>(
         rows: 0,
         repeated: 0,
     };
-    for step in steps {
-        bench.perform(rt, *step)?;
+    for line in rt.lines(rt.alloc()) {
+        bench.perform(rt, Step::of_line(line?.as_str())?)?;
     }
     Ok(bench.keeper.close())
 }
 
 /// Does the steps over files in memory.
-pub(crate) fn work_in_memory(rt: &HostRuntime, steps: &[Step]) -> Result<()> {
-    work(rt, open_in_memory(rt.alloc())?, steps)?;
+pub(crate) fn work_in_memory(rt: &HostRuntime) -> Result<()> {
+    work(rt, open_in_memory(rt.alloc())?)?;
     Ok(())
 }
 
 /// Does the steps over a file, and closes it.
-pub(crate) fn work_in_file(rt: &HostRuntime, path: &str, steps: &[Step]) -> Result<()> {
-    work(rt, Connection::open(rt, path)?, steps)?.close()?;
+pub(crate) fn work_in_file(rt: &HostRuntime, path: &str) -> Result<()> {
+    work(rt, Connection::open(rt, path)?)?.close()?;
     Ok(())
 }

@@ -1,5 +1,4 @@
 use anyhow::{Context, Result, bail};
-use std::alloc::Global;
 
 /// One step of the work, and how much of it is done.
 #[derive(Clone, Copy)]
@@ -15,7 +14,10 @@ pub(crate) enum Step {
 }
 
 impl Step {
-    fn of_word(word: &str, count: u64) -> Result<Step> {
+    /// The step of a line: its word, a space, and its number.
+    pub(crate) fn of_line(line: &str) -> Result<Step> {
+        let (word, count) = line.split_once(" ").context("no number")?;
+        let count = count.parse::<u64>()?;
         match word {
             "fill" => Ok(Step::Fill(count)),
             "put" => Ok(Step::Put(count)),
@@ -24,15 +26,4 @@ impl Step {
             _ => bail!("no such step: {word}"),
         }
     }
-}
-
-/// The steps of these words.
-pub(crate) fn read_steps(alloc: Global, words: &[String]) -> Result<Vec<Step>> {
-    let mut steps = Vec::new(alloc);
-    let mut words = words.iter();
-    while let Some(word) = words.next() {
-        let count = words.next().context("how often?")?.parse::<u64>()?;
-        steps.push(Step::of_word(word.as_str(), count)?)?;
-    }
-    Ok(steps)
 }
