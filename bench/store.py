@@ -1,9 +1,9 @@
 #!/usr/bin/env python3
 """Tells how long the store takes for commits and loads, beside sqlite3 with the same tables, statements and durability.
 
-It starts `ov_store_bench`, does the same work by Python's module sqlite3, and both take turns, a few commits each, so that
-they meet the same disk and the same machine. At the end the two databases are compared, row by row. Words: the program, and
-how often all of it is done, 3 if left out. The files lie in a new folder beside the program, and then in one in memory.
+It starts `ov_store_bench`, does the same work by Python's module sqlite3, and both take turns, a few commits each at each size,
+so that all of them meet the same disk and the same machine. At the end the two databases are compared, row by row. Words: the
+program, and how often all of it is done, 3 if left out. The files lie in a new folder beside the program, and then in memory.
 """
 
 import os
@@ -25,7 +25,6 @@ COMMITS = 500
 FILLED_AT_ONCE = 1_000
 TURN = 20
 LOADS = 5
-GROWTH = f"growth from {SIZES[0]:,} to {SIZES[-1]:,} rows"
 
 # Page size, pages in the cache and frames between two checkpoints are those of the kit's database, which holds its file's
 # lock as long as it is open. It syncs the log once at a commit, as FULL does, and both files at a checkpoint.
@@ -141,21 +140,29 @@ class Pair:
             taken[which].extend(nanoseconds / 1e3 for nanoseconds in self.sides[which].perform(word, count))
         self.turns += 1
 
-    def work(self):
-        rows = 0
-        for size in SIZES:
-            grown = GROWTH if rows else f"growth to {size:,} rows"
-            for first in range(rows, size, FILLED_AT_ONCE):
-                self.step(grown, "fill", min(FILLED_AT_ONCE, size - first))
-            for word, what in (("put", "a new row"), ("again", "a row put again")):
-                for _ in range(COMMITS // TURN):
-                    self.step(f"{what}, {size:,} rows", word, TURN)
-            rows = size + COMMITS
-        for _ in range(LOADS):
-            self.step(f"load of {rows:,} rows", "load", 1)
+    def grow(self, size):
+        for first in range(0, size, FILLED_AT_ONCE):
+            self.step(f"growth to {size:,} rows", "fill", min(FILLED_AT_ONCE, size - first))
+
+    def close(self):
         for side in self.sides:
             side.close()
-        return self.taken
+
+
+def work(pairs):
+    """All the work, by a pair for each size. What they took, by the names of the figures."""
+    for pair, size in zip(pairs, SIZES):
+        pair.grow(size)
+    for word, what in (("put", "a new row"), ("again", "a row put again")):
+        for _ in range(COMMITS // TURN):
+            for pair, size in zip(pairs, SIZES):
+                pair.step(f"{what}, {size:,} rows", word, TURN)
+    for _ in range(LOADS):
+        pairs[-1].step(f"load of {SIZES[-1] + COMMITS:,} rows", "load", 1)
+    for pair in pairs:
+        pair.close()
+    taken = {name: lists for pair in pairs for name, lists in pair.taken.items()}
+    return dict(sorted(taken.items(), key=lambda item: item[0].split(",")[0]))
 
 
 def all_rows(path):
@@ -168,11 +175,15 @@ def all_rows(path):
 
 def times_on_files(program, folder):
     with tempfile.TemporaryDirectory(dir=folder) as inner:
-        ours, theirs = (os.path.join(inner, name) for name in ("ours.db", "theirs.db"))
-        taken = Pair(program, ours, theirs).work()
-        if all_rows(ours) != all_rows(theirs):
+        paths = [[os.path.join(inner, f"{name}{size}.db") for name in ("ours", "theirs")] for size in SIZES]
+        taken = work([Pair(program, *both) for both in paths])
+        if any(all_rows(ours) != all_rows(theirs) for ours, theirs in paths):
             sys.exit("store: the two databases differ")
         return taken
+
+
+def times_in_memory(program):
+    return work([Pair(program, "memory", ":memory:") for _ in SIZES])
 
 
 def file_system(folder):
@@ -181,20 +192,22 @@ def file_system(folder):
 
 
 def tell(place, runs):
-    """Prints the figures: of all runs the median, and the mean, which has the syncs of a checkpoint in it too."""
-    kinds = (("median", statistics.median), ("mean", statistics.mean))
+    """Prints the figures of all runs: the medians, and behind them the means, which have the checkpoints in them and each
+    moment at which the disk or the machine stood still."""
     both = {}
     for name in runs[0]:
         # A growth is told as a whole.
         lists = [[[sum(taken)] if name.startswith("growth") else taken for taken in run[name]] for run in runs]
         both[name] = [sum((taken[side] for taken in lists), []) for side in (0, 1)]
-        for kind, of in kinds:
-            ours, theirs = map(of, both[name])
-            print(f"{place}, {name}, {kind}".ljust(48), f"{ours:>11,.1f} us  sqlite3 {theirs:>11,.1f} us  {ours / theirs:>5.2f} times", flush=True)
+        ours, theirs = map(statistics.median, both[name])
+        means = "{:,.1f} and {:,.1f} us".format(*map(statistics.mean, both[name]))
+        line = f"{ours:>11,.1f} us  sqlite3 {theirs:>11,.1f} us  {ours / theirs:>5.2f} times as long; means {means}"
+        print(f"{place}, {name}".ljust(42), line, flush=True)
     for what in ("a new row", "a row put again"):
-        for kind, of in kinds:
-            grown = [of(both[f"{what}, {SIZES[-1]:,} rows"][side]) / of(both[f"{what}, {SIZES[0]:,} rows"][side]) for side in (0, 1)]
-            print(f"{place}, {what}, {kind}, grows".ljust(48), f"{grown[0]:>5.2f} times from {SIZES[0]:,} to {SIZES[-1]:,} rows; sqlite3 {grown[1]:.2f}", flush=True)
+        few, many = (both[f"{what}, {size:,} rows"] for size in (SIZES[0], SIZES[-1]))
+        ours, theirs = (statistics.median(many[side]) / statistics.median(few[side]) for side in (0, 1))
+        sizes = f"at {SIZES[-1]:,} rows than at {SIZES[0]:,}"
+        print(f"{place}, {what}".ljust(42), f"{ours:>5.2f} times as long {sizes}; sqlite3 {theirs:.2f}", flush=True)
 
 
 def main():
@@ -205,7 +218,7 @@ def main():
     print(f"sqlite3 {sqlite3.sqlite_version}; {times} times {COMMITS} commits for a figure")
     for folder in (os.path.dirname(program), "/dev/shm"):
         tell(file_system(folder), [times_on_files(program, folder) for _ in range(times)])
-    tell("memory", [Pair(program, "memory", ":memory:").work() for _ in range(times)])
+    tell("memory", [times_in_memory(program) for _ in range(times)])
 
 
 main()
