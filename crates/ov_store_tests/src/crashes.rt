@@ -96,7 +96,7 @@ fn found_over_fuses(alloc: Global, log_calls: u64, file_calls: u64) -> Result<St
 /// The first thing that is found and not allowed, where the log fails after each number of calls in turn, or the file does;
 /// otherwise what is found where neither fails.
 fn first_foreign(alloc: Global, is_log: bool) -> Result<String, Fail> {
-    for calls in 0..200u64 {
+    for calls in 0..60u64 {
         let answer = if is_log {
             found_over_fuses(alloc, calls, u64::MAX)?
         } else {
