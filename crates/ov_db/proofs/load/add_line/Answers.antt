@@ -14,7 +14,7 @@ returns-then-contains_key-clause-ok c =
     let entry = line_entry c.args.line.now in
     let is : c.in_ok-key.key ≡ entry.0 = c.in_ok-key.ensures ∙ ap (λ table. (table, c.args.line.now.id)) c.as_str.ensures in
     let there : contains_key (database_of rows) entry.0 ≡ true =
-        ap (contains_key (database_of rows)) (sym is) ∙ ap is_some (get-lookup line_cmp rows c.in_ok-key.key c.requires) ∙ sym c.if-contains_key.ensures in
+    ap (contains_key (database_of rows)) (sym is) ∙ ap is_some (get-lookup line_cmp rows c.in_ok-key.key c.requires) ∙ sym c.if-contains_key.ensures in
     line_there c.args.schema.now entry (database_of rows) there
 
 pub returns-in-Err-clause-err : goal.returns-in-Err-clause-err
@@ -23,7 +23,7 @@ returns-in-Err-clause-err c =
     let entry = line_entry c.args.line.now in
     let is : c.in_ok-key.key ≡ entry.0 = c.in_ok-key.ensures ∙ ap (λ table. (table, c.args.line.now.id)) c.as_str.ensures in
     let absent : contains_key (database_of rows) entry.0 ≡ false =
-        ap (contains_key (database_of rows)) (sym is) ∙ ap is_some (get-lookup line_cmp rows c.in_ok-key.key c.requires) ∙ sym c.if-contains_key.ensures in
+    ap (contains_key (database_of rows)) (sym is) ∙ ap is_some (get-lookup line_cmp rows c.in_ok-key.key c.requires) ∙ sym c.if-contains_key.ensures in
     line_refused c.args.schema.now entry (database_of rows) c.in-Err.fault absent c.in-Err.ensures
 
 pub returns-in-Ok-insert-clause-ascending : goal.returns-in-Ok-insert-clause-ascending
@@ -36,6 +36,6 @@ returns-in-Ok-insert-clause-ok c =
     let entry = line_entry c.args.line.now in
     let is : c.in_ok-key.key ≡ entry.0 = c.in_ok-key.ensures ∙ ap (λ table. (table, c.args.line.now.id)) c.as_str.ensures in
     let absent : contains_key (database_of rows) entry.0 ≡ false =
-        ap (contains_key (database_of rows)) (sym is) ∙ ap is_some (get-lookup line_cmp rows c.in_ok-key.key c.requires) ∙ sym c.if-contains_key.ensures in
+    ap (contains_key (database_of rows)) (sym is) ∙ ap is_some (get-lookup line_cmp rows c.in_ok-key.key c.requires) ∙ sym c.if-contains_key.ensures in
     let inserted = from_sorted-insert line_cmp key_total rows after c.in_ok-key.key c.in-Ok.row c.requires (ascends line_cmp after c.in-Ok-insert.ensures.ordered) c.in-Ok-insert.ensures.entries in
     line_added c.args.schema.now entry (database_of rows) c.in-Ok.row absent c.in-Ok.ensures ∙ ap Some (ap (λ key. insert (database_of rows) key c.in-Ok.row) (sym is) ∙ sym inserted)
