@@ -3,8 +3,7 @@ use Rattle.std.proofs.Common.{◌≡◌, ◌≢◌, ◌∙◌, ◌⊎◌, inl, i
 use Rattle.sqlite.specs.Store.{Ghosts}
 use Rattle.sqlite.specs.Effect.{Database}
 use Rattle.sqlite.specs.Schema.{Schema}
-use Rattle.sqlite.specs.Tree.{Trees}
-use Rattle.sqlite.specs.State.{HasCleanDisk, Opens, IsLive}
+use Rattle.sqlite.specs.State.{HasCleanDisk, Opens}
 use Rattle.sqlite.specs.Held.{Held as Connected, state}
 use Rattle.sqlite.specs.Start.{FindsIn}
 use Rattle.sqlite.specs.Files.{AreFoundIn}
@@ -12,7 +11,7 @@ use Rattle.sqlite_wal.specs.Recovery.{Image}
 use Rattle.ov_specs.specs.Lines.{Contents}
 use Rattle.ov_store.specs.Tables.{no_schema, line_schema}
 use Rattle.ov_store.specs.StoreState.{StoreState, MayFind}
-use Rattle.ov_files.specs.Finding.{new_contents, IsNewStore, IsOldStore, IsStoreOf, IsStoredIn}
+use Rattle.ov_files.specs.Finding.{new_contents, IsNewStore, IsStoreOf, IsStoredIn}
 
 no_tables : (schema : Schema) → schema ≡ no_schema → schema ≢ line_schema
 no_tables schema blank tables = let same = ap (λ (s : Schema). length s.tables) (sym blank ∙ tables) in omega (arith, same)

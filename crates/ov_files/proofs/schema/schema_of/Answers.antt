@@ -1,6 +1,5 @@
-use Rattle.std.proofs.Common.{◌≡◌, ◌∙◌, ap, sym, subst, Some, Ok, true}
+use Rattle.std.proofs.Common.{◌≡◌, ◌∙◌, ap, sym, Some, Ok}
 use Rattle.serde_json.specs.View.{view}
-use Rattle.ov_specs.specs.Message.{tree_of}
 use Rattle.ov_specs.specs.Schema.{accepted}
 use Rattle.ov_files.proofs.TextLemmas.{no_tree, some_tree, real_refused}
 use Rattle.ov_files.proofs.schema.schema_of.Goals as goal

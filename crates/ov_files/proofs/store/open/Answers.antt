@@ -1,9 +1,4 @@
-use Rattle.std.proofs.Common.{◌≡◌, ◌∙◌, sym, arith}
-use Rattle.sqlite.specs.State.{HasCleanDisk, Opens}
-use Rattle.sqlite.specs.Held.{state}
-use Rattle.ov_specs.specs.Lines.{Contents}
-use Rattle.ov_store.specs.StoreState.{MayFind}
-use Rattle.ov_store.specs.Format.{held}
+use Rattle.std.proofs.Common.{arith}
 use Rattle.ov_store.proofs.FoundLemmas.{found_is, survives_found}
 use Rattle.ov_files.proofs.store.open.Goals as goal
 

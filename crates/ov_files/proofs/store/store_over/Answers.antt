@@ -1,4 +1,4 @@
-use Rattle.std.proofs.Common.{◌≡◌, ◌≢◌, ◌∙◌}
+use Rattle.std.proofs.Common.{◌≢◌, ◌∙◌}
 use Rattle.std.proofs.lemmas.Result.{IfErr-weaker}
 use Rattle.ov_store.specs.Tables.{no_schema}
 use Rattle.ov_files.proofs.store.store_over.Goals as goal
