@@ -1,6 +1,6 @@
 -- The rows that lines are, taken one line after another, are those that the lines stand for.
 use Rattle.std.specs.Prelude.{Result, Ok, Err, IfOk, IfErr}
-use Rattle.std.proofs.Common.{map, ◌≡◌, ℕ, List, [], ◌∷◌, ◌&&◌, Bool, true, false, cond, Option, Some, None, option_map, option_and_then, is_some, refl, sym, ap, subst, ◌∙◌, nat_eq, arith}
+use Rattle.std.proofs.Common.{map, ◌≡◌, ℕ, List, [], ◌∷◌, Bool, true, false, cond, Option, Some, None, option_map, option_and_then, is_some, refl, sym, ap, ◌∙◌, nat_eq, arith}
 use Rattle.std.specs.Cmp.Lexicographic.{pointwise}
 use Rattle.std.specs.Str.{IsUtf8, is_utf8}
 use Rattle.std.proofs.lemmas.Str.{is_utf8-from_IsUtf8, IsUtf8-from_is_utf8}
@@ -25,7 +25,7 @@ use Rattle.ov_early.specs.declared.keeper.Loaded.{Loaded}
 use Rattle.ov_db.proofs.Added.{same}
 use Rattle.ov_db.specs.Opening.{CanOpen, RefusesOpen}
 use Rattle.ov_db.specs.Loading.{IsNoneBy, IsTaken, with_line, with_lines}
-use Rattle.ov_db.specs.Stored.{AreRowsOf, HasBadLine, columns_stored, row_of_columns, row_of_table, row_stored, stored_as}
+use Rattle.ov_db.specs.Stored.{AreRowsOf, HasBadLine, columns_stored, row_of_columns, row_of_table, row_stored}
 
 module _ (schema : Schema) where
   -- the row at a key: the one that is there, or else what the line is

@@ -1,8 +1,6 @@
-use Rattle.std.proofs.Common.{T, ◌≡◌, [], map, sym, ap, ◌∙◌}
-use Rattle.std.specs.FinMap.{is_sorted}
+use Rattle.std.proofs.Common.{map, sym, ap, ◌∙◌}
 use Rattle.ov_early.specs.Views.{line_entry}
 use Rattle.ov_specs.specs.Lines.{line_cmp}
-use Rattle.ov_specs.specs.Database.{Database}
 use Rattle.ov_db.specs.Loading.{with_lines}
 use Rattle.ov_db.specs.Resident.{database_of}
 use Rattle.ov_db.proofs.Maps.{ascends, from_sorted-nil}
