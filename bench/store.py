@@ -93,8 +93,8 @@ class Peer:
         start = time.perf_counter_ns()
         run("BEGIN")
         for row in rows:
-            run("DELETE FROM line WHERE tbl=?1 AND id=?2", row[:2])
-            run("INSERT INTO line(tbl,id,ver,body) VALUES(?1,?2,?3,?4)", row)
+            if run("UPDATE line SET ver=?3,body=?4 WHERE tbl=?1 AND id=?2", row).rowcount == 0:
+                run("INSERT INTO line(tbl,id,ver,body) VALUES(?1,?2,?3,?4)", row)
         run("COMMIT")
         return time.perf_counter_ns() - start
 
