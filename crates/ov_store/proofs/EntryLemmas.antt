@@ -32,7 +32,7 @@ from_entries-filter entries k = same_map key_total key_exact _ _ (λ q.
 pub none_after_remove : (m : Lines) (k : LineKey) → get (remove m k) k ≡ None
 none_after_remove m k = get-remove key_total m k k ∙ rw (same_tied k k refl) refl
 
-same_cond : (a : Bool) (x y z : Option LineBody) → cond a x (cond a y z) ≡ cond a x z
+pub same_cond : (a : Bool) (x y z : Option LineBody) → cond a x (cond a y z) ≡ cond a x z
 same_cond true x y z = refl
 same_cond false x y z = refl
 

@@ -22,7 +22,7 @@ use Rattle.ov_store.specs.Tables.{line_table, line_schema, insert_text}
 use Rattle.ov_store.proofs.Texts.{insert_terms, insert_is, insert_plain}
 use Rattle.ov_store.proofs.DeleteLemmas.{went, same_value}
 
-either : (b : Bool) (x : Value) → cond b x x ≡ x
+pub either : (b : Bool) (x : Value) → cond b x x ≡ x
 either true x = refl
 either false x = refl
 

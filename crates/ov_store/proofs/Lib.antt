@@ -5,6 +5,8 @@ pub mod DeleteLemmas
 pub mod RemoveLemmas
 pub mod InsertLemmas
 pub mod PutLemmas
+pub mod UpdateLemmas
+pub mod ChangeLemmas
 pub mod RunLemmas
 pub mod FoundLemmas
 pub mod ReadLemmas

@@ -12,7 +12,7 @@ use Rattle.sqlite_value.proofs.OrderLemmas.{value_cmp_total}
 use Rattle.sqlite.specs.Query.{Output}
 use Rattle.sqlite_trees.specs.Tree.{rowid, has_rowid}
 use Rattle.sqlite_trees.proofs.ListLemmas.{filter_same, filter-map, all_weaker, all_both, all-filter}
-use Rattle.sqlite_rules.specs.Edit.{id_in}
+use Rattle.sqlite_rules.specs.Edit.{id_in, without_all}
 use Rattle.sqlite_rules.specs.Calls.{ids_of}
 use Rattle.sqlite.specs.State.{State}
 use Rattle.ov_specs.specs.Lines.{line_cmp}
@@ -95,13 +95,13 @@ any_filter {X} p q (x ∷ xs) =
     ]
 
 -- the numbers that were taken, and the rows that passed
-taken : (t i : List ℕ) (rows gone : List Row) (ordered : List Output) (r : Row) → IsPermutation (map (λ s. ([], rowid s ∷ [])) (filter (passes t i) rows)) ordered → gone ≡ map (λ o. o.1) ordered
+taken : (f : Row → Row) (t i : List ℕ) (rows gone : List Row) (ordered : List Output) (r : Row) → IsPermutation (map (λ s. ([], rowid s ∷ f s)) (filter (passes t i) rows)) ordered → gone ≡ map (λ o. o.1) ordered
     → list_any (λ id. has_rowid id r) (ids_of gone) ≡ hits (passes t i) rows r
-taken t i rows gone ordered r same is =
+taken f t i rows gone ordered r same is =
     any_map (λ id. has_rowid id r) (λ s. id_in (rowid s)) gone ∙ ap (list_any (λ s. has_rowid (id_in (rowid s)) r)) is
     ∙ any_map (λ s. has_rowid (id_in (rowid s)) r) (λ (o : Output). o.1) ordered
     ∙ sym (list_any-IsPermutation (λ (o : Output). has_rowid (id_in (rowid o.1)) r) _ ordered same)
-    ∙ any_map (λ (o : Output). has_rowid (id_in (rowid o.1)) r) (λ s. ([], rowid s ∷ [])) (filter (passes t i) rows)
+    ∙ any_map (λ (o : Output). has_rowid (id_in (rowid o.1)) r) (λ s. ([], rowid s ∷ f s)) (filter (passes t i) rows)
     ∙ any_filter _ (passes t i) rows
 
 -- rows of one number pass together
@@ -113,19 +113,27 @@ together t i rows lines numbered =
     all_both _ _ _ (λ r m ones. all_both _ _ _ (λ s l one. passes_together t i s r l m one) rows lines ones) rows lines numbered
 
 -- the rows that are left are those with another key
-pub left_rows : (t i : List ℕ) (old new : State) → AllByRecursion IsLine (old.now.trees 2) → IsNumbered (old.now.trees 2) → Deletes t i old new
+pub left_rows : (f : Row → Row) (t i : List ℕ) (rows gone : List Row) → AllByRecursion IsLine rows → IsNumbered rows
+    → (ordered : List Output) × IsPermutation (map (λ r. ([], rowid r ∷ f r)) (filter (passes t i) rows)) ordered × (gone ≡ map (λ o. o.1) ordered)
+    → without_all rows (ids_of gone) ≡ filter (λ r. not (eq_by_cmp line_cmp (t, i) (entry r).0)) rows
+left_rows f t i rows gone lines numbered same =
+    without_all_filter (ids_of gone) rows
+    ∙ filter_same _ _ rows (all_both _ _ _ (λ r l e. ap not (taken f t i rows gone same.0 r same.1 same.2 ∙ e ∙ passes_key t i r l)) rows lines (hit_once (passes t i) rows lines (together t i rows lines numbered)))
+
+-- they are the lines without the key
+pub left_lines : (t i : List ℕ) (rows : List Row) → stored_lines (filter (λ r. not (eq_by_cmp line_cmp (t, i) (entry r).0)) rows) ≡ remove (stored_lines rows) (t, i)
+left_lines t i rows = ap from_entries (sym (filter-map (λ e. not (eq_by_cmp line_cmp (t, i) e.0)) entry rows)) ∙ from_entries-filter (map entry rows) (t, i)
+
+deleted_rows : (t i : List ℕ) (old new : State) → AllByRecursion IsLine (old.now.trees 2) → IsNumbered (old.now.trees 2) → Deletes t i old new
     → new.now.trees 2 ≡ filter (λ r. not (eq_by_cmp line_cmp (t, i) (entry r).0)) (old.now.trees 2)
-left_rows t i old new lines numbered d =
-    let rows = old.now.trees 2 in
-    d.left ∙ without_all_filter (ids_of d.rows) rows
-    ∙ filter_same _ _ rows (all_both _ _ _ (λ r l e. ap not (taken t i rows d.rows d.same.0 r d.same.1 d.same.2 ∙ e ∙ passes_key t i r l)) rows lines (hit_once (passes t i) rows lines (together t i rows lines numbered)))
+deleted_rows t i old new lines numbered d = d.left ∙ left_rows (λ _. []) t i (old.now.trees 2) d.rows lines numbered d.same
 
 pub filter_numbered : (p : Row → Bool) (rows : List Row) → IsNumbered rows → IsNumbered (filter p rows)
 filter_numbered p rows numbered = all-filter _ p rows (all_weaker _ _ (λ r ones. all-filter _ p rows ones) rows numbered)
 
 pub deleted_stored : (text t i : List ℕ) (old new : State) → IsStored text old.now → Deletes t i old new → IsStored text new.now
 deleted_stored text t i old new stored d =
-    let left = left_rows t i old new stored.format.lines stored.numbered d in
+    let left = deleted_rows t i old new stored.format.lines stored.numbered d in
     record {
       format = record { schema = d.schema; meta = subst (Rattle.ov_store.specs.Format.IsMeta text) (sym d.meta) stored.format.meta; lines = subst (AllByRecursion IsLine) (sym left) (all-filter _ _ _ stored.format.lines) };
       numbered = subst IsNumbered (sym left) (filter_numbered _ _ stored.numbered);
@@ -133,5 +141,4 @@ deleted_stored text t i old new stored d =
 
 pub deleted_lines : (text t i : List ℕ) (old new : State) → IsStored text old.now → Deletes t i old new → stored_lines (new.now.trees 2) ≡ remove (stored_lines (old.now.trees 2)) (t, i)
 deleted_lines text t i old new stored d =
-    ap stored_lines (left_rows t i old new stored.format.lines stored.numbered d)
-    ∙ ap from_entries (sym (filter-map (λ e. not (eq_by_cmp line_cmp (t, i) e.0)) entry (old.now.trees 2))) ∙ from_entries-filter (map entry (old.now.trees 2)) (t, i)
+    ap stored_lines (deleted_rows t i old new stored.format.lines stored.numbered d) ∙ left_lines t i (old.now.trees 2)

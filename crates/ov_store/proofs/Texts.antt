@@ -7,12 +7,12 @@ use Rattle.sqlite.specs.Source.TheVariants.{Values}
 use Rattle.sqlite_sql.specs.declared.ops.BinaryOp.TheVariants.{Compare}
 use Rattle.sqlite_sql.specs.declared.ops.CompareOp.TheVariants.{Eq}
 use Rattle.sqlite.specs.Collation.TheVariants.{Binary}
-use Rattle.sqlite.specs.Command.TheVariants.{Insert, Select, CreateTable, Delete}
+use Rattle.sqlite.specs.Command.TheVariants.{Insert, Select, CreateTable, Delete, Update}
 use Rattle.sqlite.specs.Compile.{table_defined_by}
 use Rattle.sqlite_tied.specs.Compute.{everything}
 use Rattle.sqlite.specs.Listing.{understood, reads_listing}
 use Rattle.sqlite.proofs.Callers.{IsPlain, command_of, statement_of}
-use Rattle.ov_store.specs.Tables.{meta_table, line_table, no_schema, meta_schema, line_schema, create_meta, create_line, delete_text, insert_text, select_text, meta_insert_text, meta_select_text}
+use Rattle.ov_store.specs.Tables.{meta_table, line_table, no_schema, meta_schema, line_schema, create_meta, create_line, delete_text, update_text, insert_text, select_text, meta_insert_text, meta_select_text}
 
 abbrev pub insert_terms : List Term
 insert_terms = lit Null ∷ col 0 0 ∷ col 0 1 ∷ col 0 2 ∷ col 0 3 ∷ []
@@ -43,6 +43,20 @@ gone = record {
   offset = lit (Int (pos 0));
 }
 
+-- what the UPDATE puts for each row that passes: its number as it was and as it will be, and its columns
+abbrev pub changed : Query
+changed = record {
+  from = inner 2 end;
+  filter = op2 (Compare Eq Binary) (col 1 1) (col 0 0) ∷ op2 (Compare Eq Binary) (col 1 2) (col 0 1) ∷ [];
+  group = None;
+  project = col 1 0 ∷ col 1 0 ∷ col 1 1 ∷ col 1 2 ∷ col 0 2 ∷ col 0 3 ∷ [];
+  distinct = false;
+  collations = [];
+  order = [];
+  limit = lit (Int (negsuc 0));
+  offset = lit (Int (pos 0));
+}
+
 pub meta_is : (command_of (understood no_schema create_meta) ≡ CreateTable) × (statement_of create_meta (understood no_schema create_meta) ≡ create_meta) × (table_defined_by create_meta ≡ Ok meta_table)
 unfolding understood everything
 meta_is = (refl, refl, refl)
@@ -62,6 +76,14 @@ select_is = (refl, refl)
 pub delete_is : command_of (understood line_schema delete_text) ≡ Delete 1 (record { lets = []; body = gone })
 unfolding understood everything
 delete_is = refl
+
+pub update_is : command_of (understood line_schema update_text) ≡ Update 1 (record { lets = []; body = changed })
+unfolding understood everything
+update_is = refl
+
+pub update_plain : IsPlain (understood line_schema update_text)
+unfolding understood everything
+update_plain = (refl, refl)
 
 pub insert_plain : IsPlain (understood line_schema insert_text)
 unfolding understood everything

@@ -1,7 +1,7 @@
 -- What a statement makes of the lines (own).
-use Rattle.std.specs.Prelude.{◌≡◌, ℕ, List, IsTrue, None}
+use Rattle.std.specs.Prelude.{◌≡◌, ℕ, Bool, List, IsTrue, None, if◌then◌else◌}
 use Rattle.std.specs.List.{AllByRecursion}
-use Rattle.std.specs.FinMap.{get, insert}
+use Rattle.std.specs.FinMap.{get, insert, remove}
 use Rattle.sqlite.specs.Order.{Row, column}
 use Rattle.sqlite.specs.Tree.{Trees}
 use Rattle.sqlite.specs.Effect.{Database}
@@ -39,6 +39,10 @@ pub record Adds (text : List ℕ) (k : LineKey) (v : LineBody) (old new : State)
   pub lines_are : get (stored_lines (old.now.trees 2)) k ≡ None → stored_lines (new.now.trees 2) ≡ insert (stored_lines (old.now.trees 2)) k v
   pub meta : new.now.trees 0 ≡ old.now.trees 0
   pub committed : new.committed ≡ old.committed
+
+-- the line of a key takes another version and body; where none was found, no line has the key (own)
+abbrev pub after_update : Bool → LineKey → LineBody → Lines → Lines
+after_update is_found k v m = if is_found then insert m k v else remove m k
 
 -- the changes are committed (own)
 pub record Stores (text : List ℕ) (f : Lines → Lines) (old new : State) : Type 0 where

@@ -75,6 +75,9 @@ meta_select_text = codes "SELECT k,v FROM meta"
 abbrev pub delete_text : List ℕ
 delete_text = codes "DELETE FROM line WHERE tbl=?1 AND id=?2"
 
+abbrev pub update_text : List ℕ
+update_text = codes "UPDATE line SET ver=?3,body=?4 WHERE tbl=?1 AND id=?2"
+
 abbrev pub insert_text : List ℕ
 insert_text = codes "INSERT INTO line(tbl,id,ver,body) VALUES(?1,?2,?3,?4)"
 

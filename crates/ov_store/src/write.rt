@@ -1,11 +1,11 @@
-ghost use Rattle.std.specs.Prelude.{◌≡◌, ◌<◌, length, false, IsTrue, OnOk, OnErr, IfErr};
+ghost use Rattle.std.specs.Prelude.{◌≡◌, ◌<◌, length, false, IsTrue, OnOk, OnErr, IfOk, IfErr};
 ghost use Rattle.std.specs.FinMap.{insert, remove};
 ghost use Rattle.sqlite.specs.State.{HasCleanDisk, Survives, KeepsCommit, IsUnchanged};
 ghost use Rattle.sqlite.specs.Held.{state};
 ghost use Rattle.ov_specs.specs.Lines.{after_change, after_changes};
 ghost use Rattle.ov_early.specs.Views.{change_view, changes_view, line_entry};
 ghost use Rattle.ov_store.specs.Stop.{IsBefore};
-ghost use Rattle.ov_store.specs.Changing.{MayBeStored, Makes, Adds, Stores, IsMade};
+ghost use Rattle.ov_store.specs.Changing.{MayBeStored, Makes, Adds, after_update, Stores, IsMade};
 
 use ov_early::{Change, Line};
 use sqlite::types::ValueRef;
@@ -35,6 +35,29 @@ fn bytes_of(id: &Uuid) -> &[u8]
     ensures sixteen { length result.now ≡ 16 }
 {
     id.as_bytes()
+}
+
+/// Gives the row of the line's key the line's version and body. Whether there was one.
+fn update_line<S: Alter>(tx: &mut Transaction<'_, S>, line: &Line) -> Result<bool, Error>
+    ensures same_reference { tx.new.conn.ghost_name ≡ tx.old.conn.ghost_name }
+    ensures ok { HasCleanDisk (state S.Store tx.new.conn.now) → IsTrue (state S.Store tx.old.conn.now).in_transaction → (text : _) → MayBeStored text (state S.Store tx.old.conn.now)
+        → IfOk result (λ is_found. Makes text (after_update is_found (line_entry line.now).0 (line_entry line.now).1) (state S.Store tx.old.conn.now) (state S.Store tx.new.conn.now)) }
+    ensures opened { HasCleanDisk (state S.Store tx.new.conn.now) → IsTrue (state S.Store tx.old.conn.now).in_transaction → OnOk result (IsTrue (state S.Store tx.old.conn.now).is_open) }
+    ensures goes_on { HasCleanDisk (state S.Store tx.new.conn.now) → IsTrue (state S.Store tx.old.conn.now).in_transaction → OnOk result (IsTrue (state S.Store tx.new.conn.now).in_transaction) }
+    ensures kept { HasCleanDisk (state S.Store tx.new.conn.now) → IsTrue (state S.Store tx.old.conn.now).in_transaction → KeepsCommit (state S.Store tx.old.conn.now) (state S.Store tx.new.conn.now) }
+    ensures survives { Survives (state S.Store tx.old.conn.now) (state S.Store tx.new.conn.now) (λ _. ⊥) }
+{
+    let values = [
+        ValueRef::Text(line.table.as_str().as_bytes()),
+        ValueRef::Blob(bytes_of(&line.id)),
+        ValueRef::Blob(bytes_of(&line.version)),
+        ValueRef::Blob(line.body.as_slice()),
+    ];
+    let changed = tx.execute(
+        "UPDATE line SET ver=?3,body=?4 WHERE tbl=?1 AND id=?2",
+        &values,
+    )?;
+    Ok(changed > 0)
 }
 
 fn insert_line<S: Alter>(tx: &mut Transaction<'_, S>, line: &Line) -> Result<(), Error>
@@ -68,9 +91,10 @@ fn put_line<S: Alter>(tx: &mut Transaction<'_, S>, line: &Line) -> Result<(), Er
     ensures kept { HasCleanDisk (state S.Store tx.new.conn.now) → IsTrue (state S.Store tx.old.conn.now).in_transaction → KeepsCommit (state S.Store tx.old.conn.now) (state S.Store tx.new.conn.now) }
     ensures survives { Survives (state S.Store tx.old.conn.now) (state S.Store tx.new.conn.now) (λ _. ⊥) }
 {
-    remove_line(tx, line.table.as_str(), line.id)?;
-    insert_line(tx, line)?;
-    Ok(())
+    if update_line(tx, line)? {
+        return Ok(());
+    }
+    insert_line(tx, line)
 }
 
 fn apply<S: Alter>(tx: &mut Transaction<'_, S>, change: &Change) -> Result<(), Error>

@@ -22,7 +22,7 @@ returns-clause-ok g c clean mode text may =
     record {
       mode = ran.1.mode;
       opens = λ _. ran.1.was_open;
-      stored = λ _. inserted_stored text t i v b named id_sixteen ver_sixteen old new stored d;
+      stored = λ _. inserted_stored t i v b named id_sixteen ver_sixteen text old new stored d;
       lines_are = λ none. inserted_lines t i v b old new none d;
       meta = d.meta;
       committed = ran.1.committed_is;
