@@ -17,10 +17,7 @@ const TEXTS: &str = r#"{ "tables": {}, "name": "N" } -> {"name":"N","tables":{}}
 /// The text of an answer.
 fn told(alloc: Global, answer: Result<Schema, SchemaFileFault>) -> Result<String, Fail> {
     match answer {
-        Ok(schema) => Ok(String::from_str(
-            alloc,
-            text_of(alloc, &schema)?.as_str(),
-        )?),
+        Ok(schema) => Ok(String::from_str(alloc, text_of(alloc, &schema)?.as_str())?),
         Err(fault) => Ok(format!(in alloc; "{fault}")?),
     }
 }
@@ -71,10 +68,7 @@ impl Read for Cut {
 #[test]
 fn a_read_that_fails_gives_no_schema(rt: HostRuntime) -> Result<(), Fail> {
     for (kind, want) in [
-        (
-            io::ErrorKind::Other,
-            "the file of the schema can't be read",
-        ),
+        (io::ErrorKind::Other, "the file of the schema can't be read"),
         (io::ErrorKind::OutOfMemory, "out of memory"),
     ]
     .as_slice()

@@ -36,7 +36,8 @@ fn over<S: Alter + Drop>(
     )
 }
 
-const TABLES: &str = "CREATE TABLE meta(k TEXT PRIMARY KEY, v BLOB); CREATE TABLE line(tbl TEXT, id BLOB, ver BLOB, body BLOB, PRIMARY KEY(tbl,id)); INSERT INTO meta VALUES('format',x'31');";
+const TABLES: &str =
+    "CREATE TABLE meta(k TEXT PRIMARY KEY, v BLOB); CREATE TABLE line(tbl TEXT, id BLOB, ver BLOB, body BLOB, PRIMARY KEY(tbl,id)); INSERT INTO meta VALUES('format',x'31');";
 
 /// What was made by this, over a new database.
 fn over_new(alloc: Global, sql: &str) -> Result<String, Fail> {
@@ -46,11 +47,16 @@ fn over_new(alloc: Global, sql: &str) -> Result<String, Fail> {
 #[test]
 fn a_database_is_new_or_ours_or_foreign(rt: HostRuntime) -> Result<(), Fail> {
     let alloc = rt.alloc();
-    let ours = format!(in alloc; "{TABLES} INSERT INTO meta VALUES('schema',x'6f6c64'); INSERT INTO line VALUES('T',zeroblob(16),zeroblob(16),x'7b7d')")?;
+    let ours = format!(in alloc;
+        "{TABLES} INSERT INTO meta VALUES('schema',x'6f6c64'); INSERT INTO line VALUES('T',zeroblob(16),zeroblob(16),x'7b7d')"
+    )?;
     assert_eq!(rt; over_new(alloc, "")?.as_str(), "new 0");
     assert_eq!(rt; over_new(alloc, ours.as_str())?.as_str(), "old 1");
     assert_eq!(rt; over_new(alloc, TABLES)?.as_str(), "another format");
-    assert_eq!(rt; over_new(alloc, "CREATE VIEW v AS SELECT 1")?.as_str(), "not a database of this program");
+    assert_eq!(rt;
+        over_new(alloc, "CREATE VIEW v AS SELECT 1")?.as_str(),
+        "not a database of this program"
+    );
     Ok(())
 }
 
