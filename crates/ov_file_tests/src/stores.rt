@@ -48,7 +48,7 @@ fn over_new(alloc: Global, sql: &str) -> Result<String, Fail> {
 fn a_database_is_new_or_ours_or_foreign(rt: HostRuntime) -> Result<(), Fail> {
     let alloc = rt.alloc();
     let ours = format!(in alloc;
-        "{TABLES} INSERT INTO meta VALUES('schema',x'6f6c64'); INSERT INTO line VALUES('T',zeroblob(16),zeroblob(16),x'7b7d')"
+        "{TABLES} INSERT INTO meta VALUES('schema',x'6f6c64'); INSERT INTO line VALUES('T',x'00112233445566778899aabbccddeeff',x'ffeeddccbbaa99887766554433221100',x'7b7d')"
     )?;
     assert_eq!(rt; over_new(alloc, "")?.as_str(), "new 0");
     assert_eq!(rt; over_new(alloc, ours.as_str())?.as_str(), "old 1");
