@@ -2,8 +2,6 @@
 #![tactic(auto)]
 
 #[cfg(test)]
-mod opens;
-#[cfg(test)]
 mod rows;
 #[cfg(test)]
 mod transactions;

@@ -22,8 +22,8 @@ const INSERTED: &str = "{\"uuid\":[\"uuid\",\"00000000-0000-0000-0000-0000000000
 
 /// Draws the identifiers 1, 2, 3 and so on.
 #[derive(Drop)]
-pub(crate) struct Counter {
-    pub(crate) drawn: u64,
+struct Counter {
+    drawn: u64,
 }
 
 impl Draws for Counter {
@@ -35,7 +35,7 @@ impl Draws for Counter {
     }
 }
 
-pub(crate) fn value(alloc: Global, text: &str) -> Result<Value, Fail>
+fn value(alloc: Global, text: &str) -> Result<Value, Fail>
     ensures { IfOk result (λ v. has_real (view v) ≡ false) }
 {
     let value = Value::from_str(alloc, text)?;
@@ -54,7 +54,7 @@ fn array_of(value: Value) -> Option<Trees>
     Some(Trees::new(items))
 }
 
-pub(crate) fn trees(alloc: Global, text: &str) -> Result<Trees, Fail> {
+fn trees(alloc: Global, text: &str) -> Result<Trees, Fail> {
     let Some(trees) = array_of(value(alloc, text)?) else {
         return Err(Fail::new("no array"));
     };

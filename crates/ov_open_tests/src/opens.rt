@@ -1,9 +1,13 @@
-use crate::transactions::{Counter, trees, value};
-use ov_base::{Bytes, Text, Tree};
-use ov_db::{Row, RowKey, Rows};
+ghost use Rattle.std.specs.Prelude.{◌≡◌, IfOk, false};
+ghost use Rattle.serde_json.specs.View.{view};
+ghost use Rattle.ov_specs.specs.Tree.{has_real};
+
+use ov_atoms::{Atom, Datum};
+use ov_base::{Bytes, Text, Tree, has_real};
+use ov_db::{Columns, Row, RowKey, Rows};
 use ov_early::{Change, Keeper, Line, ListKeeper};
 use ov_schema::Schema;
-use ov_txn::{draws_for, perform};
+use serde_json::Value;
 use std::alloc::Global;
 use std::test::Fail;
 use uuid::Uuid;
@@ -15,6 +19,17 @@ const NET: &str =
 /// The same schema in its version 0.
 const NET_0: &str =
     r#"{"name":"Net","tables":{"Switch":{"columns":{"name":{"type":"string"}}}},"version":"0.0.0"}"#;
+
+/// The value of a text without reals.
+fn value(alloc: Global, text: &str) -> Result<Value, Fail>
+    ensures { IfOk result (λ v. has_real (view v) ≡ false) }
+{
+    let value = Value::from_str(alloc, text)?;
+    if has_real(&value) {
+        return Err(Fail::new("a real"));
+    }
+    Ok(value)
+}
 
 /// A keeper of this schema's text, and of these lines.
 fn keeper(alloc: Global, schema: &str, lines: &str) -> Result<ListKeeper, Fail> {
@@ -157,32 +172,53 @@ fn another_schema_is_refused(rt: HostRuntime) -> Result<(), Fail> {
     Ok(())
 }
 
-/// What a transaction has inserted is found again, by the table, the identifier, the version and the bytes of its line.
+/// Puts a switch of this name beside what is opened, and commits it.
+fn add_switch(alloc: Global, keeper: &mut ListKeeper, name: &str) -> Result<(), Fail> {
+    let schema = Schema::read(alloc, Tree::new(value(alloc, NET)?))?;
+    let mut rows = Rows::open(alloc, keeper, &schema)?;
+    let key = RowKey::new(alloc, "Switch", Uuid::from_u128(2))?;
+    if !rows.contains(&key) {
+        rows.insert(alloc, key, switch(alloc, name)?)?;
+    }
+    if !rows.is_sealed() {
+        rows.commit(alloc, keeper);
+    }
+    Ok(())
+}
+
+/// A switch of this name, in version 1.
+fn switch(alloc: Global, name: &str) -> Result<Row, Fail> {
+    let mut columns = Columns::new(alloc);
+    let name = Datum::of_atom(alloc, Atom::Text(Text::from_str(alloc, name)?))?;
+    columns.insert(String::from_str(alloc, "name")?, name)?;
+    let load = Datum::of_atom(alloc, Atom::Integer(0))?;
+    columns.insert(String::from_str(alloc, "load")?, load)?;
+    columns.insert(
+        String::from_str(alloc, "ports")?,
+        Datum::of_atoms(Vec::new(alloc))?,
+    )?;
+    columns.insert(
+        String::from_str(alloc, "main")?,
+        Datum::of_atoms(Vec::new(alloc))?,
+    )?;
+    Ok(Row {
+        version: Uuid::from_u128(1),
+        columns,
+    })
+}
+
+/// What was committed is found again, by the table, the identifier, the version and the bytes of its line.
 #[test]
 fn committed_rows_are_opened_again(rt: HostRuntime) -> Result<(), Fail> {
     let alloc = rt.alloc();
-    let mut keeper = keeper(alloc, NET, "")?;
-    let schema = Schema::read(alloc, Tree::new(value(alloc, NET)?))?;
-    let operations = trees(
-        alloc,
-        r#"[{"op":"insert","table":"Switch","row":{"name":"s1"}},{"op":"insert","table":"Port","row":{"tag":["set",[]],"name":"p1"}}]"#,
-    )?;
-    let draws = draws_for(alloc, &operations, &mut Counter { drawn: 0 })?;
-    let mut rows = Rows::open(alloc, &mut keeper, &schema)?;
-    perform(alloc, &schema, &mut rows, draws.as_slice(), &operations)?;
-    if !rows.is_sealed() {
-        rows.commit(alloc, &mut keeper);
-    }
+    let port = r#"Port 3 1 {"name":"p1","peer":["set",[]],"tag":["set",[]]}"#;
+    let mut keeper = keeper(alloc, NET, port)?;
+    add_switch(alloc, &mut keeper, "s1")?;
     assert_eq!(rt;
         opened(alloc, &mut keeper, NET)?.as_str(),
         r#"Port 3 1 {"name":"p1","peer":["set",[]],"tag":["set",[]]}
 Switch 2 1 {"load":0,"main":["set",[]],"name":"s1","ports":["set",[]]}
 "#
-    );
-    let loaded = keeper.load(alloc)?;
-    assert_eq!(rt;
-        loaded.lines[0].body.as_slice(),
-        br#"{"load":0,"main":["set",[]],"name":"s1","ports":["set",[]]}"#.as_slice()
     );
     Ok(())
 }
