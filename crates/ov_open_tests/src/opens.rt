@@ -172,17 +172,31 @@ fn another_schema_is_refused(rt: HostRuntime) -> Result<(), Fail> {
     Ok(())
 }
 
-/// Puts a switch of this name beside what is opened, and commits it.
-fn add_switch(alloc: Global, keeper: &mut ListKeeper, name: &str) -> Result<(), Fail> {
-    let schema = Schema::read(alloc, Tree::new(value(alloc, NET)?))?;
-    let mut rows = Rows::open(alloc, keeper, &schema)?;
+/// Adds a switch of this name, where there is none of its key.
+fn add(alloc: Global, rows: &mut Rows, name: &str) -> Result<(), Fail> {
     let key = RowKey::new(alloc, "Switch", Uuid::from_u128(2))?;
-    if !rows.contains(&key) {
-        rows.insert(alloc, key, switch(alloc, name)?)?;
+    if rows.contains(&key) {
+        return Ok(());
     }
+    let row = switch(alloc, name)?;
+    rows.insert(alloc, key, row)?;
+    Ok(())
+}
+
+/// Commits rows that are not sealed.
+fn commit<K: Keeper>(alloc: Global, rows: &mut Rows, keeper: &mut K) {
     if !rows.is_sealed() {
         rows.commit(alloc, keeper);
     }
+}
+
+/// Puts a switch of this name beside what is opened, and commits it.
+fn add_switch(alloc: Global, keeper: &mut ListKeeper, name: &str) -> Result<(), Fail> {
+    let tree = Tree::new(value(alloc, NET)?);
+    let schema = Schema::read(alloc, tree)?;
+    let mut rows = Rows::open(alloc, keeper, &schema)?;
+    add(alloc, &mut rows, name)?;
+    commit(alloc, &mut rows, keeper);
     Ok(())
 }
 

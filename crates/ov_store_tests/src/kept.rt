@@ -14,11 +14,11 @@ put Switch 1 one again
 remove Switch 2
 remove Switch 3
 commit -> made
-lines -> Port 1 port;Switch 1 one again;
+lines -> Switch 1 one again;Port 1 port;
 failures -> 0";
 
 /// What the next one who opens it finds.
-const FOUND: &str = "lines -> Port 1 port;Switch 1 one again;
+const FOUND: &str = "lines -> Switch 1 one again;Port 1 port;
 commit -> made
 remove Port 1
 commit -> made
