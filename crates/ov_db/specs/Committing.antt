@@ -1,17 +1,23 @@
--- What a commit makes of the rows, and what an open may find of them.
+-- What a commit makes of a database, and what an open may find of it.
 use Rattle.std.specs.Prelude.{◌≡◌, ◌⊎◌, List, ℕ, Option, Some, None}
 use Rattle.ov_specs.specs.Database.{Database, AreLinesOf}
 use Rattle.ov_specs.specs.Lines.{Contents}
-use Rattle.ov_db.specs.declared.rows.StoreAnswer.{StoreAnswer}
-use Rattle.ov_db.specs.declared.rows.StoreAnswer.TheVariants.{Kept, Exhausted, Failed}
-use Rattle.ov_db.specs.Resident.{Resident}
+use Rattle.ov_db.specs.declared.answer.StoreAnswer.{StoreAnswer}
+use Rattle.ov_db.specs.declared.answer.StoreAnswer.TheVariants.{Kept, Exhausted, Failed}
+use Rattle.ov_db.specs.Changing.{Delta, applied}
+use Rattle.ov_db.specs.Kept as kept
 
--- kept, the added rows are committed; refused, they are gone; failed, they are gone and what they would have made is sealed (own)
-abbrev pub Commits : Resident → StoreAnswer → Resident → Type 0
-Commits old Kept new = new ≡ record { committed = old.now; now = old.now; sealed = None }
-Commits old Exhausted new = new ≡ record { committed = old.committed; now = old.committed; sealed = None }
-Commits old Failed new = new ≡ record { committed = old.committed; now = old.committed; sealed = Some old.now }
+-- Kept, the changes are made; exhausted, nothing is changed; failed, what they would have made is sealed. The keeper may be
+-- another after each of them (own).
+abbrev pub Commits : {K : Type 0} → Delta → kept.Kept K → StoreAnswer → kept.Kept K → Type 0
+Commits delta old Kept new = new ≡ record old { committed = applied delta old.committed; keeper = new.keeper }
+Commits delta old Exhausted new = new ≡ record old { keeper = new.keeper }
+Commits delta old Failed new = new ≡ record old { sealed = Some (applied delta old.committed); keeper = new.keeper }
 
 -- the contents are the schema's text with the lines of the committed rows, or with those of the commit that failed (own)
 abbrev pub IsHeld : List ℕ → Database → Option Database → Contents → Type 0
 IsHeld text committed sealed held = (held.schema ≡ text) × (AreLinesOf committed held.lines ⊎ ((database : Database) × (sealed ≡ Some database) × AreLinesOf database held.lines))
+
+-- whatever an open may now find is held of the database (own)
+abbrev pub MayHold : (Contents → Type 0) → List ℕ → Database → Option Database → Type 0
+MayHold leaves text committed sealed = (held : Contents) → leaves held → IsHeld text committed sealed held

@@ -1,6 +1,9 @@
+pub mod Changing
+pub mod Placing
 pub mod Adding
 pub mod Named
 pub mod Resident
+pub mod Kept
 pub mod Committing
 pub mod Stored
 pub mod Loading

@@ -1,17 +1,22 @@
-ghost use Rattle.std.specs.Prelude.{◌≡◌, ◌+◌, ◌<◌, ◌≤◌, ◌++◌, [], T, IfOk, OnOk, vec_len, vec_capacity};
-ghost use Rattle.std.specs.FinMap.{is_sorted, get, remove};
+ghost use Rattle.std.specs.Prelude.{◌≡◌, [], map, true, false, IfOk, OnOk, None};
+ghost use Rattle.std.specs.FinMap.{entries, get, contains_key};
+ghost use Rattle.std.specs.Ordering.{eq_by_cmp};
 ghost use Rattle.ov_specs.specs.Database.{line_of};
-ghost use Rattle.ov_specs.specs.Lines.{line_cmp};
-ghost use Rattle.ov_early.specs.Views.{changes_view, line_entry};
-ghost use Rattle.ov_db.specs.Adding.{without, restored, put_of, puts};
-ghost use Rattle.ov_db.specs.Resident.{database_of};
+ghost use Rattle.ov_specs.specs.Lines.{LineKey, line_cmp};
+ghost use Rattle.ov_early.specs.Views.{changes_view, change_view, line_entry};
+ghost use Rattle.ov_db.specs.Adding.{without};
+ghost use Rattle.ov_db.specs.Changing.{applied, change_of, with_row};
+ghost use Rattle.ov_db.specs.Placing.{IsPlaced, IsSameBeside};
 
+use crate::columns::Columns;
+use crate::delta::Delta;
 use crate::key::RowKey;
 use crate::row::Row;
+use crate::rows::Rows;
 use ov_base::Text;
 use ov_early::{Change, Line};
 use std::alloc::{AllocError, Global};
-use std::collections::BTreeMap;
+use uuid::Uuid;
 
 /// The line that stores a row.
 fn line_of(alloc: Global, key: &RowKey, row: &Row) -> Result<Line, AllocError>
@@ -25,80 +30,102 @@ fn line_of(alloc: Global, key: &RowKey, row: &Row) -> Result<Line, AllocError>
     })
 }
 
-/// The changes that store the rows of these keys.
-pub(crate) fn changes_of(
-    alloc: Global,
-    rows: &BTreeMap<RowKey, Row>,
-    added: &[RowKey],
-) -> Result<Vec<Change>, AllocError>
-    requires { T (is_sorted line_cmp rows.now.entries) }
-    ensures { IfOk result (λ changes. changes_view changes.items ≡ puts (database_of rows.now.entries) added.now) }
+/// What a change of a row makes of its line.
+fn change_of(alloc: Global, key: &RowKey, row: &Option<Row>) -> Result<Change, AllocError>
+    ensures { IfOk result (λ change. change_view change ≡ change_of (key.now, row.now)) }
+{
+    match row {
+        Some(row) => Ok(Change::Put(line_of(alloc, key, row)?)),
+        None => Ok(Change::Remove {
+            table: Text::from_str(alloc, key.table())?,
+            id: key.id(),
+        }),
+    }
+}
+
+/// What the changes of rows make of the lines.
+pub(crate) fn changes_of(alloc: Global, delta: &Delta) -> Result<Vec<Change>, AllocError>
+    ensures { IfOk result (λ changes. changes_view changes.items ≡ map change_of (entries delta.now)) }
 {
     let mut changes = Vec::new(alloc);
-    for key in added {
-        push_change(alloc, rows, key, &mut changes)?;
+    for (key, row) in delta.map() {
+        changes.push(change_of(alloc, key, row)?)?;
     }
     Ok(changes)
 }
 
-/// Appends the change that stores the row of the key.
-fn push_change(
+/// Puts an empty row at each new key that the changes give a row, so that no growth is left for later. The new keys are listed.
+pub(crate) fn place(
     alloc: Global,
-    rows: &BTreeMap<RowKey, Row>,
-    key: &RowKey,
-    changes: &mut Vec<Change>,
+    rows: &mut Rows,
+    delta: &Delta,
+    added: &mut Vec<RowKey>,
 ) -> Result<(), AllocError>
-    requires { T (is_sorted line_cmp rows.now.entries) }
-    ensures { OnOk result (changes_view changes.new.items ≡ changes_view changes.old.items ++ put_of key.now (get (database_of rows.now.entries) key.now)) }
+    requires { added.old.items ≡ [] }
+    ensures added { without added.new.items rows.new ≡ rows.old }
+    ensures same { IsSameBeside delta.now rows.old rows.new }
+    ensures placed { OnOk result (IsPlaced delta.now rows.new) }
 {
-    if let Some(row) = rows.get(key) {
-        changes.push(Change::Put(line_of(alloc, key, row)?))?;
+    for (key, row) in &delta.changes {
+        if row.is_some() && !rows.contains(key) {
+            place_at(alloc, rows, key, added)?;
+        }
     }
     Ok(())
 }
 
-/// Takes the rows of these keys out, the last one first.
-pub(crate) fn remove_added(rows: &mut BTreeMap<RowKey, Row>, added: &mut Vec<RowKey>)
-    requires { T (is_sorted line_cmp rows.old.entries) }
-    ensures removed { database_of rows.new.entries ≡ without added.old.items (database_of rows.old.entries) }
-    ensures ascending { T (is_sorted line_cmp rows.new.entries) }
-    ensures emptied { added.new.items ≡ [] }
+/// Puts an empty row at a new key, which is listed. Where a growth is refused, nothing is changed.
+fn place_at(
+    alloc: Global,
+    rows: &mut Rows,
+    key: &RowKey,
+    added: &mut Vec<RowKey>,
+) -> Result<(), AllocError>
+    requires { contains_key rows.old key.now ≡ false }
+    ensures added { without added.new.items rows.new ≡ without added.old.items rows.old }
+    ensures same { (other : LineKey) → eq_by_cmp line_cmp other key.now ≡ false → get rows.new other ≡ get rows.old other }
+    ensures stays { (other : LineKey) → contains_key rows.old other ≡ true → contains_key rows.new other ≡ true }
+    ensures placed { OnOk result (contains_key rows.new key.now ≡ true) }
+{
+    let listed = key.copy(alloc)?;
+    added.reserve(1)?;
+    let row = Row {
+        version: Uuid::nil(),
+        columns: Columns::new(alloc),
+    };
+    rows.insert(key.copy(alloc)?, row)?;
+    added.push_reserved(listed);
+    Ok(())
+}
+
+/// Takes the rows of these keys out again, the last one first.
+pub(crate) fn take_out(rows: &mut Rows, added: &mut Vec<RowKey>)
+    ensures { rows.new ≡ without added.old.items rows.old }
 {
     while let Some(key) = added.pop() {
         rows.remove(&key);
     }
 }
 
-/// Takes the rows of these keys out, the last one first, and moves them into the list, which has room for them.
-pub(crate) fn move_added(
-    rows: &mut BTreeMap<RowKey, Row>,
-    added: &mut Vec<RowKey>,
-    moved: &mut Vec<(RowKey, Row)>,
-)
-    requires ascending { T (is_sorted line_cmp rows.old.entries) }
-    requires empty { moved.old.items ≡ [] }
-    requires room { vec_len added.old ≤ vec_capacity moved.old }
-    ensures removed { database_of rows.new.entries ≡ without added.old.items (database_of rows.old.entries) }
-    ensures moved { restored moved.new.items (database_of rows.new.entries) ≡ database_of rows.old.entries }
-    ensures ascending { T (is_sorted line_cmp rows.new.entries) }
-    ensures emptied { added.new.items ≡ [] }
+/// Makes the changes. No growth is asked for, since there is a place for each new row.
+pub(crate) fn make(rows: &mut Rows, delta: Delta)
+    requires { IsPlaced delta rows.old }
+    ensures { rows.new ≡ applied delta rows.old }
 {
-    while let Some(key) = added.pop() {
-        move_row(rows, &key, moved);
+    for (key, row) in delta.changes {
+        make_one(rows, key, row);
     }
 }
 
-/// Takes the row of the key out, and moves it to the end of the list, which has room for it.
-fn move_row(rows: &mut BTreeMap<RowKey, Row>, key: &RowKey, moved: &mut Vec<(RowKey, Row)>)
-    requires ascending { T (is_sorted line_cmp rows.old.entries) }
-    requires room { vec_len moved.old < vec_capacity moved.old }
-    ensures removed { database_of rows.new.entries ≡ remove (database_of rows.old.entries) key.now }
-    ensures moved { restored moved.new.items (database_of rows.new.entries) ≡ restored moved.old.items (database_of rows.old.entries) }
-    ensures ascending { T (is_sorted line_cmp rows.new.entries) }
-    ensures len { vec_len moved.new ≤ vec_len moved.old + 1 }
-    ensures capacity { vec_capacity moved.new ≡ vec_capacity moved.old }
+/// Makes one change. There is a place for the row, if it is one.
+fn make_one(rows: &mut Rows, key: RowKey, row: Option<Row>)
+    requires { contains_key rows.old key ≡ false → row ≡ None }
+    ensures { rows.new ≡ with_row key row rows.old }
 {
-    if let Some(entry) = rows.remove_entry(key) {
-        moved.push_reserved(entry);
+    match row {
+        Some(row) => {
+            let _ = rows.insert(key, row);
+        }
+        None => rows.remove(&key),
     }
 }

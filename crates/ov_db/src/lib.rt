@@ -1,18 +1,24 @@
-//! The rows in memory: what is committed, what a transaction has added to it, and how a commit brings it to the keeper.
+//! A database in memory: its rows, the changes of a transaction, and how a commit brings them to the keeper.
 //!
 //! A row is stored as one line. A commit is one call of the keeper; after one that failed the rows are as before it,
 //! and what it would have made is kept beside them, since an open may find either.
 #![tactic(auto)]
 
+mod answer;
 mod columns;
 mod commit;
+mod db;
+mod delta;
 mod key;
 mod load;
 mod read;
 mod row;
 mod rows;
 
+pub use answer::StoreAnswer;
 pub use columns::Columns;
+pub use db::Db;
+pub use delta::Delta;
 pub use key::RowKey;
 pub use row::Row;
-pub use rows::{Rows, StoreAnswer};
+pub use rows::Rows;

@@ -1,0 +1,28 @@
+-- Changes of a database by their keys, and the database after them.
+use Rattle.std.specs.Prelude.{List, [], ◌∷◌, map, Option, Some, None}
+use Rattle.std.specs.FinMap.{FinMap, insert, remove, entries}
+use Rattle.ov_specs.specs.Database.{Database, Row, line_of}
+use Rattle.ov_specs.specs.Lines.{LineKey, LineChange, Put, Remove, line_cmp}
+
+-- at each key the new row, or none in its place (own)
+abbrev pub Delta : Type 0
+Delta = FinMap line_cmp (Option Row)
+
+-- the database with the row at the key, or without one
+abbrev pub with_row : LineKey → Option Row → Database → Database
+with_row key (Some row) database = insert database key row
+with_row key None database = remove database key
+
+-- the database after these changes, the first of them first
+abbrev pub with_rows : List (LineKey × Option Row) → Database → Database
+with_rows [] database = database
+with_rows (change ∷ changes) database = with_rows changes (with_row change.0 change.1 database)
+
+-- the database after all changes of the delta (own)
+abbrev pub applied : Delta → Database → Database
+applied delta database = with_rows (entries delta) database
+
+-- what a change makes of the line of its key
+abbrev pub change_of : LineKey × Option Row → LineChange
+change_of (key, Some row) = Put key (line_of row)
+change_of (key, None) = Remove key

@@ -1,0 +1,186 @@
+ghost use Rattle.std.specs.Prelude.{◌≡◌, ◌⊎◌, ◌<◌, ◌==◌, ◌-◌, ◌^◌, map, true, is_some, option_copied, IfOk, IfErr, None};
+ghost use Rattle.std.specs.FinMap.{get, entries, len};
+ghost use Rattle.std.specs.List.{filter};
+ghost use Rattle.serde_json.specs.Written.{compact_text};
+ghost use Rattle.ov_specs.specs.Lines.{Contents};
+ghost use Rattle.ov_specs.specs.Method.{is_text};
+ghost use Rattle.ov_early.specs.Keeping.{Keeps};
+ghost use Rattle.ov_db.specs.Committing.{Commits, MayHold};
+ghost use Rattle.ov_db.specs.Opening.{CanOpen, RefusesOpen};
+ghost use Rattle.ov_db.specs.declared.answer.StoreAnswer.TheVariants.{Kept, Failed};
+
+use crate::answer::StoreAnswer;
+use crate::commit::{changes_of, make, place, take_out};
+use crate::delta::Delta;
+use crate::key::RowKey;
+use crate::load::rows_of;
+use crate::row::Row;
+use crate::rows::Rows;
+use ov_early::{KeepFault, Keeper, OpenFault};
+use ov_schema::Schema;
+use std::alloc::{AllocError, Global};
+use std::marker::Model;
+
+/// A database: its rows under their schema, and the keeper that has them as lines (RFC 7047, 3.2).
+///
+/// What an open now would find, also after a crash, are the rows as they are, or those that a commit that failed would
+/// have left.
+#[derive(Drop)]
+pub struct Db<K: Keeper> {
+    schema: Schema,
+    rows: Rows,
+    /// The changes of a commit that failed.
+    failed: Option<Delta>,
+    keeper: K,
+}
+
+impl<K: Keeper> Model for Db<K> {
+    ghost use Rattle.std.specs.Prelude.{option_map};
+    ghost use Rattle.std.specs.Coded.{codes};
+    ghost use Rattle.serde_json.specs.Written.{compact_text};
+    ghost use Rattle.ov_specs.specs.SchemaTypes.{schema_code};
+    ghost use Rattle.ov_db.specs.Changing.{applied};
+    ghost use Rattle.ov_db.specs.Committing.{MayHold};
+    ghost use Rattle.ov_db.specs.Kept.{Kept};
+    ghost use Rattle.ov_db.specs.Resident.{database_code};
+
+    ghost Value = { Kept K };
+
+    ghost coded = { Prim.hlevel (codes, schema_code, database_code, K.code) };
+
+    ghost view = { λ d. record { schema = d.schema; committed = d.rows; sealed = option_map (λ delta. applied delta d.rows) d.failed; keeper = d.keeper } };
+
+    ghost invariant = { λ d. K.Keeper.is_honest d.keeper → MayHold (K.Keeper.leaves d.keeper) (compact_text d.schema.tree) d.rows (option_map (λ delta. applied delta d.rows) d.failed) };
+}
+
+impl<K: Keeper + Drop> Db<K> {
+    /// The database of what a keeper holds, each of its lines being a row.
+    ///
+    /// It is refused as `SchemaDiffers` where the keeper holds another text than the schema's, as `BadBody` where one of its
+    /// lines is no row of the schema, and with the keeper's fault; the first of these that applies, the keeper's before all.
+    /// Memory that is refused is the keeper's fault `Memory`. What the keeper holds is not changed.
+    pub fn open(alloc: Global, keeper: K, schema: Schema) -> Result<Db<K>, OpenFault>
+        ensures rest { IfOk result (λ d. (d.schema ≡ schema) × (d.sealed ≡ None)) }
+        ensures held { IfOk result (λ d. K.is_honest d.keeper → (held : Contents) → K.leaves keeper held → CanOpen schema d.committed held) }
+        ensures same { IfOk result (λ d. K.is_honest d.keeper → Keeps (K.leaves keeper) (K.leaves d.keeper)) }
+        ensures honest { IfOk result (λ d. K.is_honest d.keeper → K.is_honest keeper) }
+        ensures fault { IfErr result (λ fault. (later : K) × (K.is_honest later → (held : Contents) → K.leaves keeper held → RefusesOpen schema held fault)) }
+    {
+        let mut keeper = keeper;
+        let loaded = keeper.load(alloc)?;
+        let rows = rows_of(alloc, &schema, &loaded)?;
+        Ok(Db {
+            schema,
+            rows: Rows { rows },
+            failed: None,
+            keeper,
+        })
+    }
+
+    /// Its schema.
+    pub fn schema(&self) -> &Schema
+        ensures { result.now ≡ self.now.schema }
+    {
+        &self.schema
+    }
+
+    /// Its rows.
+    pub fn rows(&self) -> &Rows
+        ensures { result.now ≡ self.now.committed }
+    {
+        &self.rows
+    }
+
+    /// The row of this key.
+    pub fn row(&self, key: &RowKey) -> Option<&Row>
+        ensures { option_copied result ≡ get self.now.committed key.now }
+    {
+        self.rows.row(key)
+    }
+
+    /// The rows of the table of this name, in ascending order of their identifiers.
+    pub fn rows_of(
+        &self,
+        alloc: Global,
+        table: &str,
+    ) -> Result<Vec<(&RowKey, &Row)>, AllocError>
+        ensures { IfOk result (λ rows. map (λ r. (r.0.now, r.1.now)) rows.items ≡ filter (λ r. is_text r.0.0 table.now) (entries self.now.committed)) }
+    {
+        self.rows.of_table(alloc, table)
+    }
+
+    /// Whether a commit has failed. Then no later one is made, until the database is opened again.
+    pub fn sealed(&self) -> bool
+        ensures { result ≡ is_some self.now.sealed }
+    {
+        self.failed.is_some()
+    }
+
+    /// How often the keeper's device has failed; it stays at 2^64-1.
+    pub fn failures(&self) -> u64
+        ensures { result ≡ K.failed self.now.keeper }
+    {
+        self.keeper.failures()
+    }
+
+    /// What a crash now leaves. It does nothing.
+    pub fn left(&self)
+        ensures { K.is_honest self.now.keeper → MayHold (K.leaves self.now.keeper) (compact_text self.now.schema.tree) self.now.committed self.now.sealed }
+    {
+        let _keeper = &self.keeper;
+    }
+
+    /// Makes the changes, all of them or none, by one call of the keeper.
+    ///
+    /// Where the answer is not `Kept`, the rows stay as they are. After `Failed` the database is sealed: what the commit would
+    /// have made is kept beside the rows, and each later commit is answered `Failed` without a call of the keeper. Without a
+    /// change the answer is `Kept`, and the keeper is not called either. No memory is taken once the keeper was called.
+    pub fn commit(&mut self, alloc: Global, delta: Delta) -> StoreAnswer
+        ensures commits { self.old.sealed ≡ None → Commits delta self.old result self.new }
+        ensures sealed { is_some self.old.sealed ≡ true → (result ≡ Failed) × (self.new ≡ self.old) }
+        ensures empty { self.old.sealed ≡ None → (len delta == 0) ≡ true → (result ≡ Kept) × (self.new ≡ self.old) }
+        // A failure has a cause: the device's count rises, where it is not at its greatest.
+        ensures cause { self.old.sealed ≡ None → result ≡ Failed → (K.failed self.old.keeper < K.failed self.new.keeper) ⊎ (K.failed self.old.keeper ≡ 2 ^ 64 - 1) }
+        ensures honest { K.is_honest self.new.keeper → K.is_honest self.old.keeper }
+    {
+        if self.failed.is_some() {
+            return StoreAnswer::Failed;
+        }
+        if delta.is_empty() {
+            return StoreAnswer::Kept;
+        }
+        self.commit_changes(alloc, delta)
+    }
+
+    /// A commit of changes to a database that is not sealed.
+    fn commit_changes(&mut self, alloc: Global, delta: Delta) -> StoreAnswer
+        requires { self.old.sealed ≡ None }
+        ensures commits { Commits delta self.old result self.new }
+        ensures cause { result ≡ Failed → (K.failed self.old.keeper < K.failed self.new.keeper) ⊎ (K.failed self.old.keeper ≡ 2 ^ 64 - 1) }
+        ensures honest { K.is_honest self.new.keeper → K.is_honest self.old.keeper }
+    {
+        let Ok(changes) = changes_of(alloc, &delta) else {
+            return StoreAnswer::Exhausted;
+        };
+        let mut added = Vec::new(alloc);
+        if place(alloc, &mut self.rows, &delta, &mut added).is_err() {
+            take_out(&mut self.rows, &mut added);
+            return StoreAnswer::Exhausted;
+        }
+        match self.keeper.commit(alloc, changes.as_slice()) {
+            Ok(()) => {
+                make(&mut self.rows, delta);
+                StoreAnswer::Kept
+            }
+            Err(KeepFault::Device) => {
+                take_out(&mut self.rows, &mut added);
+                self.failed = Some(delta);
+                StoreAnswer::Failed
+            }
+            Err(_) => {
+                take_out(&mut self.rows, &mut added);
+                StoreAnswer::Exhausted
+            }
+        }
+    }
+}

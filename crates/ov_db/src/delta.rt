@@ -1,0 +1,71 @@
+ghost use Rattle.std.specs.Prelude.{◌≡◌, ◌==◌, OnOk, OnErr, option_copied};
+ghost use Rattle.std.specs.FinMap.{empty, get, insert, entries, len};
+
+use crate::key::RowKey;
+use crate::row::Row;
+use std::alloc::{AllocError, Global};
+use std::collections::BTreeMap;
+use std::marker::Model;
+
+/// Changes of a database: at each key the new row, or none in its place (own).
+#[derive(Drop)]
+pub struct Delta {
+    pub(crate) changes: BTreeMap<RowKey, Option<Row>>,
+}
+
+impl Model for Delta {
+    ghost use Rattle.std.specs.Prelude.{T};
+    ghost use Rattle.std.specs.FinMap.{is_sorted};
+    ghost use Rattle.ov_specs.specs.Lines.{line_cmp};
+    ghost use Rattle.ov_db.specs.Changing as changing;
+    ghost use Rattle.ov_db.specs.Resident.{delta_code, delta_of};
+
+    ghost Value = { changing.Delta };
+
+    ghost coded = { delta_code };
+
+    ghost view = { λ d. delta_of d.changes.entries };
+
+    ghost invariant = { λ d. T (is_sorted line_cmp d.changes.entries) };
+}
+
+impl Delta {
+    /// No change.
+    pub fn new(alloc: Global) -> Delta
+        ensures { result ≡ empty }
+    {
+        Delta {
+            changes: BTreeMap::new(alloc),
+        }
+    }
+
+    /// Whether it has no change.
+    pub fn is_empty(&self) -> bool
+        ensures { result ≡ (len self.now == 0) }
+    {
+        self.changes.is_empty()
+    }
+
+    /// The change of this key: the new row, or none in its place.
+    pub fn change(&self, key: &RowKey) -> Option<&Option<Row>>
+        ensures { option_copied result ≡ get self.now key.now }
+    {
+        self.changes.get(key)
+    }
+
+    /// All changes, in ascending order of their keys: those of one table stand together, by their identifiers.
+    pub fn map(&self) -> &BTreeMap<RowKey, Option<Row>>
+        ensures { result.now.entries ≡ entries self.now }
+    {
+        &self.changes
+    }
+
+    /// Puts the change in place of the one of its key. Where a growth is refused, nothing is changed.
+    pub fn insert(&mut self, key: RowKey, row: Option<Row>) -> Result<(), AllocError>
+        ensures ok { OnOk result (self.new ≡ insert self.old key row) }
+        ensures err { OnErr result (self.new ≡ self.old) }
+    {
+        self.changes.insert(key, row)?;
+        Ok(())
+    }
+}
