@@ -1,11 +1,11 @@
 -- Rows that are added, one after another, and taken out again from the last.
-use Rattle.std.proofs.Common.{◌≡◌, ◌+◌, List, [], ◌∷◌, ◌++◌, length, Bool, true, false, cond, Option, Some, None, is_some, refl, sym, ap, ◌∙◌, arith, length-append}
-use Rattle.std.specs.FinMap.{get, insert, remove, contains_key, len, get-insert, get-remove, len-insert, same_map}
+use Rattle.std.proofs.Common.{◌≡◌, List, [], ◌∷◌, ◌++◌, Bool, true, false, cond, Option, Some, None, is_some, refl, sym, ap, ◌∙◌}
+use Rattle.std.specs.FinMap.{get, insert, remove, contains_key, get-insert, get-remove, same_map}
 use Rattle.std.specs.Ordering.{eq_by_cmp}
 use Rattle.ov_specs.specs.Database.{Database, Row}
 use Rattle.ov_specs.specs.Lines.{LineKey, line_cmp}
-use Rattle.ov_early.proofs.LineLemmas.{key_exact, key_total, tied_same}
-use Rattle.ov_db.specs.Adding.{without, restored}
+use Rattle.ov_early.proofs.LineLemmas.{key_exact, key_total, same_tied, tied_same}
+use Rattle.ov_db.specs.Adding.{without}
 
 abbrev pub same : LineKey → LineKey → Bool
 same = eq_by_cmp line_cmp
@@ -28,11 +28,6 @@ remove-insert db k r none = same_map key_total key_exact _ _ (λ q.
     get-remove key_total (insert db k r) k q ∙ ap (cond (same q k) None) (get-insert key_total db k r q)
     ∙ twice (same q k) None (Some r) (get db q) ∙ covered (same q k) None (get db q) (λ e. sym (get_at db q k e ∙ none)))
 
-pub insert-remove : (db : Database) (k : LineKey) (r : Row) → get db k ≡ Some r → insert (remove db k) k r ≡ db
-insert-remove db k r some = same_map key_total key_exact _ _ (λ q.
-    get-insert key_total (remove db k) k r q ∙ ap (cond (same q k) (Some r)) (get-remove key_total db k q)
-    ∙ twice (same q k) (Some r) None (get db q) ∙ covered (same q k) (Some r) (get db q) (λ e. sym (get_at db q k e ∙ some)))
-
 pub remove-none : (db : Database) (k : LineKey) → get db k ≡ None → remove db k ≡ db
 remove-none db k none = same_map key_total key_exact _ _ (λ q.
     get-remove key_total db k q ∙ covered (same q k) None (get db q) (λ e. sym (get_at db q k e ∙ none)))
@@ -51,23 +46,27 @@ pub without-push : (ks : List LineKey) (k : LineKey) (db : Database) → without
 without-push [] k db = refl
 without-push (x ∷ ks) k db = ap (λ (d : Database). remove d x) (without-push ks k db)
 
--- the last row comes first
-pub restored-push : (es : List (LineKey × Row)) (k : LineKey) (r : Row) (db : Database) → restored (es ++ (k, r) ∷ []) db ≡ restored es (insert db k r)
-restored-push [] k r db = refl
-restored-push (e ∷ es) k r db = ap (λ (d : Database). insert d e.0 e.1) (restored-push es k r db)
-
 -- a row that is added and listed changes nothing of what was there before
 pub without-added : (ks : List LineKey) (k : LineKey) (r : Row) (db : Database) → contains_key db k ≡ false → without (ks ++ k ∷ []) (insert db k r) ≡ without ks db
 without-added ks k r db none = without-push ks k (insert db k r) ∙ ap (without ks) (remove-insert db k r (absent db k none))
 
--- and it is counted
-pub counted-added : (ks : List LineKey) (k : LineKey) (r : Row) (db : Database) → contains_key db k ≡ false → len (without ks db) + length ks ≡ len db
-    → len (without (ks ++ k ∷ []) (insert db k r)) + length (ks ++ k ∷ []) ≡ len (insert db k r)
-counted-added ks k r db none h =
-    let grown : len (insert db k r) ≡ len db + 1 = len-insert key_total db k r ∙ rw none refl in
-    let before : len (without (ks ++ k ∷ []) (insert db k r)) ≡ len (without ks db) = ap (λ (d : Database). len d) (without-added ks k r db none) in
-    omega (arith, grown, before, h, length-append ks (k ∷ []))
+-- ---- what stands at the keys behind one row more
 
--- a row that is moved from the rows to the list
-pub restored-moved : (es : List (LineKey × Row)) (k : LineKey) (r : Row) (db : Database) → get db k ≡ Some r → restored (es ++ (k, r) ∷ []) (remove db k) ≡ restored es db
-restored-moved es k r db some = restored-push es k r (remove db k) ∙ ap (restored es) (insert-remove db k r some)
+at_key : (db db' : Database) (k : LineKey) (r : Row) (q : LineKey) → db' ≡ insert db k r → get db' q ≡ cond (same q k) (Some r) (get db q)
+at_key db db' k r q is = ap (λ (d : Database). get d q) is ∙ get-insert key_total db k r q
+
+some_more : (b : Bool) (r : Row) (o : Option Row) → is_some o ≡ true → is_some (cond b (Some r) o) ≡ true
+some_more true r o h = refl
+some_more false r o h = h
+
+pub copied : (db db' : Database) (k k' : LineKey) (r : Row) → db' ≡ insert db k' r → k' ≡ k → db' ≡ insert db k r
+copied db db' k k' r is same_key = is ∙ ap (λ x. insert db x r) same_key
+
+pub other_stays : (db db' : Database) (k : LineKey) (r : Row) (q : LineKey) → db' ≡ insert db k r → same q k ≡ false → get db' q ≡ get db q
+other_stays db db' k r q is apart = at_key db db' k r q is ∙ ap (λ b. cond b (Some r) (get db q)) apart
+
+pub contains_more : (db db' : Database) (k : LineKey) (r : Row) (q : LineKey) → db' ≡ insert db k r → contains_key db q ≡ true → contains_key db' q ≡ true
+contains_more db db' k r q is h = ap is_some (at_key db db' k r q is) ∙ some_more (same q k) r (get db q) h
+
+pub contains_new : (db db' : Database) (k : LineKey) (r : Row) → db' ≡ insert db k r → contains_key db' k ≡ true
+contains_new db db' k r is = ap is_some (at_key db db' k r k is) ∙ ap (λ b. is_some (cond b (Some r) (get db k))) (same_tied k k refl)

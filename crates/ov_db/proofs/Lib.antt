@@ -1,7 +1,7 @@
 pub mod Maps
 pub mod Names
 pub mod Added
+pub mod Places
 pub mod Stored
 pub mod Same
-pub mod Residing
 pub mod Loads

@@ -51,22 +51,3 @@ key-same k = and_from (is_text k.0 k.0) (is_text k.1 k.1) (text-same k.0) (text-
 
 pub database-same : (db : Database) → is_database db db ≡ true
 database-same db = pointwise-same (λ r s. is_key r.0 s.0 && is_row r.1 s.1) (λ e. and_from (is_key e.0 e.0) (is_row e.1 e.1) (key-same e.0) (row-same e.1)) (entries db)
-
-as_many : (a b : Database) → is_database a b ≡ true → len a ≡ len b
-as_many a b h = len-entries a ∙ pointwise-length _ (entries a) (entries b) h ∙ sym (len-entries b)
-
-not_true : (b : Bool) → b ≢ true → b ≡ false
-not_true true h = absurd (h refl)
-not_true false h = refl
-
--- rows were added
-pub changed : (ks : List LineKey) (db : Database) → 0 < length ks → len (without ks db) + length ks ≡ len db → is_database (without ks db) db ≡ false
-changed ks db some counted = not_true _ (λ h. let same : len (without ks db) ≡ len db = as_many (without ks db) db h in omega (arith, same))
-
-not_zero : (n : ℕ) → 0 < n → (n == 0) ≡ false
-not_zero n h = grind (arith, nat_tests)
-
--- the test of whether no key is listed is that of whether nothing is changed
-pub same_where_none : (n : ℕ) (ks : List LineKey) (db : Database) → n ≡ length ks → len (without ks db) + length ks ≡ len db → (n == 0) ≡ is_database (without ks db) db
-same_where_none n [] db e counted = ap (λ m. m == 0) e ∙ sym (database-same db)
-same_where_none n (k ∷ ks) db e counted = not_zero n (omega arith) ∙ sym (changed (k ∷ ks) db (omega arith) counted)

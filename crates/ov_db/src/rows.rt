@@ -85,8 +85,10 @@ impl Rows {
         ensures err { OnErr result (self.new ≡ self.old) }
         ensures absent { OnErr result (get self.old key ≡ None) }
     {
-        self.rows.insert(key, row)?;
-        Ok(())
+        match self.rows.insert(key, row) {
+            Ok(_) => Ok(()),
+            Err(_) => Err(AllocError),
+        }
     }
 
     /// Takes the row of the key out, if there is one.

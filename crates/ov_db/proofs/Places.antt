@@ -1,0 +1,94 @@
+-- Changes taken in the order of their keys: no key comes twice.
+use Rattle.std.proofs.Common.{◌≡◌, List, [], ◌∷◌, Bool, true, false, cond, T, ◌&&◌, Option, Some, None, is_some, refl, sym, ap, ◌∙◌, subst, Ordering, Less, Equal, Greater}
+use Rattle.std.specs.FinMap.{find, is_sorted, get, contains_key, entries, entries_sorted, get-entries, get-insert, get-remove, same_map}
+use Rattle.std.specs.FinMap.Entries.{below_all}
+use Rattle.std.specs.Ordering.{is_lt, is_eq, eq_by_cmp}
+use Rattle.ov_specs.specs.Database.{Database, Row}
+use Rattle.ov_specs.specs.Lines.{LineKey, line_cmp}
+use Rattle.ov_early.proofs.LineLemmas.{key_exact, key_total, tied_same}
+use Rattle.ov_db.specs.Changing.{Delta, applied, with_row, with_rows}
+use Rattle.ov_db.specs.Placing.{IsSameBeside}
+use Rattle.ov_db.proofs.Added.{same}
+
+abbrev pub Changes : Type 0
+Changes = List (LineKey × Option Row)
+
+first : (a b : Bool) → T (a && b) → T a
+first true b p = tt
+first false b p = absurd p
+
+second : (a b : Bool) → T (a && b) → T b
+second true b p = p
+second false b p = absurd p
+
+not_tied : (o : Ordering) → T (is_lt o) → is_eq o ≡ false
+not_tied Less h = refl
+not_tied Equal h = absurd h
+not_tied Greater h = absurd h
+
+-- what is below all keys is none of them
+find-below : (k : LineKey) (es : Changes) → T (below_all line_cmp k es) → find line_cmp k es ≡ None
+find-below k [] h = refl
+find-below k (e ∷ es) h =
+    ap (λ b. cond b (Some e.1) (find line_cmp k es)) (not_tied (line_cmp k e.0) (first _ _ h)) ∙ find-below k es (second _ _ h)
+
+-- the first key doesn't come again
+pub find-rest : (e : LineKey × Option Row) (es : Changes) → T (is_sorted line_cmp (e ∷ es)) → find line_cmp e.0 es ≡ None
+find-rest e es h = find-below e.0 es (first _ _ h)
+
+pub sorted-rest : (e : LineKey × Option Row) (es : Changes) → T (is_sorted line_cmp (e ∷ es)) → T (is_sorted line_cmp es)
+sorted-rest e es h = second _ _ h
+
+-- so what is found behind it is at another key
+pub apart : (e : LineKey × Option Row) (es : Changes) (q : LineKey) (c : Option Row) → T (is_sorted line_cmp (e ∷ es)) → find line_cmp q es ≡ Some c → same q e.0 ≡ false
+apart e es q c h found = by_test (same q e.0) refl
+  where
+    by_test : (b : Bool) → same q e.0 ≡ b → b ≡ false
+    by_test false is = refl
+    by_test true is = absurd (no (find-rest e es h) (sym (ap (λ k. find line_cmp k es) (tied_same q e.0 is)) ∙ found))
+      where
+        no : find line_cmp e.0 es ≡ None → find line_cmp e.0 es ≡ Some c → ⊥
+        no n s = cc
+
+-- and is found in the whole as well
+pub found-later : (e : LineKey × Option Row) (es : Changes) (q : LineKey) (c : Option Row) → T (is_sorted line_cmp (e ∷ es)) → find line_cmp q es ≡ Some c → find line_cmp q (e ∷ es) ≡ Some c
+found-later e es q c h found = ap (λ b. cond b (Some e.1) (find line_cmp q es)) (apart e es q c h found) ∙ found
+
+pub found-first : (e : LineKey × Option Row) (es : Changes) (q : LineKey) → same q e.0 ≡ true → find line_cmp q (e ∷ es) ≡ Some e.1
+found-first e es q h = ap (λ b. cond b (Some e.1) (find line_cmp q es)) h
+
+pub found-other : (e : LineKey × Option Row) (es : Changes) (q : LineKey) → same q e.0 ≡ false → find line_cmp q (e ∷ es) ≡ find line_cmp q es
+found-other e es q h = ap (λ b. cond b (Some e.1) (find line_cmp q es)) h
+
+-- ---- what stands at a key after changes
+
+-- the change of a key, or else what stood there
+abbrev pub or_before : Option (Option Row) → Option Row → Option Row
+or_before (Some new) old = new
+or_before None old = old
+
+at_one : (k : LineKey) (o : Option Row) (db : Database) (q : LineKey) → get (with_row k o db) q ≡ cond (same q k) o (get db q)
+at_one k (Some r) db q = get-insert key_total db k r q
+at_one k None db q = get-remove key_total db k q
+
+in_turn : (b : Bool) (new : Option Row) (rest : Option (Option Row)) (old : Option Row) → (b ≡ true → rest ≡ None) → or_before rest (cond b new old) ≡ or_before (cond b (Some new) rest) old
+in_turn true new rest old h = rw (h refl) refl
+in_turn false new rest old h = refl
+
+get-with_rows : (cs : Changes) (db : Database) (q : LineKey) → T (is_sorted line_cmp cs) → get (with_rows cs db) q ≡ or_before (find line_cmp q cs) (get db q)
+get-with_rows [] db q h = refl
+get-with_rows (c ∷ cs) db q h =
+    get-with_rows cs (with_row c.0 c.1 db) q (second _ _ h) ∙ ap (or_before (find line_cmp q cs)) (at_one c.0 c.1 db q)
+    ∙ in_turn (same q c.0) c.1 (find line_cmp q cs) (get db q) (λ is. ap (λ k. find line_cmp k cs) (tied_same q c.0 is) ∙ find-rest c cs h)
+
+-- what the delta leaves at a key
+pub get-applied : (delta : Delta) (db : Database) (q : LineKey) → get (applied delta db) q ≡ or_before (get delta q) (get db q)
+get-applied delta db q = get-with_rows (entries delta) db q (entries_sorted delta) ∙ ap (λ o. or_before o (get db q)) (sym (get-entries delta q))
+
+-- two databases that differ at changed keys alone are one after the changes
+pub applied-same : (delta : Delta) (a b : Database) → IsSameBeside delta a b → applied delta b ≡ applied delta a
+applied-same delta a b beside = same_map key_total key_exact _ _ (λ q. get-applied delta b q ∙ by_change q (get delta q) refl ∙ sym (get-applied delta a q))
+  where
+    by_change : (q : LineKey) (o : Option (Option Row)) → get delta q ≡ o → or_before o (get b q) ≡ or_before o (get a q)
+    by_change q (Some new) is = refl
+    by_change q None is = beside q is
