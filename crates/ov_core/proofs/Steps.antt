@@ -17,7 +17,8 @@ use Rattle.ov_core.specs.declared.event.Outcome.TheVariants as outcome
 use Rattle.ov_core.specs.declared.work.Worked.{Worked}
 use Rattle.ov_core.specs.Entries.{entry_view, listed_attempts, is_closing}
 use Rattle.ov_core.specs.Waiting.{Queues, waiting_for, WaitsSame}
-use Rattle.ov_core.specs.Working.{Kept, over, left_by, listed_first, Comes}
+use Rattle.ov_db.specs.Kept.{Kept}
+use Rattle.ov_core.specs.Working.{over, left_by, listed_first, Comes}
 use Rattle.ov_core.specs.Following.{Running, Moves}
 use Rattle.ov_core.specs.Stepping.{closing, most_sessions, Closes, IsEntered}
 use Rattle.ov_core.specs.declared.event.Stepped.TheVariants as answer

@@ -13,9 +13,9 @@ use Rattle.ov_specs.specs.Machine as machine
 use Rattle.ov_specs.specs.Machine.{State, Stepped, Work, Answers, Transact, works, transacts, changes, attempted, closed, without, to_session, results_of, suits_draws}
 use Rattle.ov_specs.specs.Transaction.{Transacted, transaction, draws_wanted, exhausted, failed}
 use Rattle.ov_specs.specs.Uuid.{Uuid}
-use Rattle.ov_specs.specs.SchemaTypes.{Schema}
 use Rattle.ov_db.specs.Committing.{IsHeld}
-use Rattle.ov_db.specs.Resident.{Resident}
+use Rattle.ov_db.specs.Changing.{Delta, applied}
+use Rattle.ov_db.specs.Kept.{Kept}
 use Rattle.ov_core.proofs.Answered.{adds_sent, nothing_sent}
 use Rattle.ov_core.specs.declared.answer.Work as code
 use Rattle.ov_core.specs.declared.answer.Work.TheVariants as kinds
@@ -25,7 +25,7 @@ use Rattle.ov_core.specs.declared.frames.Frames.{Frames}
 use Rattle.ov_core.specs.Leaving.{LeavesItsOwn}
 use Rattle.ov_core.specs.Preparing.{AreFrames}
 use Rattle.ov_core.specs.Waiting.{Queues, waiting_for, Adds, WaitsSame}
-use Rattle.ov_core.specs.Working.{IsWork, Waits, Commits, Kept, over, left_by, listed_first, Goes, IsAttempt}
+use Rattle.ov_core.specs.Working.{IsWork, Waits, Commits, over, left_by, listed_first, Goes, IsAttempt}
 
 -- ---- want of memory
 
@@ -67,61 +67,64 @@ pub sent_one : {K : Type 0} (n : ℕ) (go : State → Option Stepped) (old new :
 sent_one n go old new o waited waits tree h added s = (tree ∷ [], h s, adds_sent n (frame tree) (tree ∷ []) waited waits refl added)
 
 -- the results are sent, and nothing is asked of the store
-pub answered : {K : Type 0} (n : ℕ) (id : Data) (results : Items) (go : Option machine.Outcome → State → Option Stepped) (old new : Kept K) (o : Option Outcome) (waited waits : Queues)
-    → ((s : State) (c : Option machine.Outcome) → go c (over s old) ≡ attempted (over s old) n (results_of id results) c) → new ≡ old → Waits n (Some (frame (reply_tree id (array results)))) waited o waits
-    → Goes n (go (listed_first o)) old waited o new waits
-answered n id results go old new None waited waits h same added =
-    sent_one n (go None) old new None waited waits (reply_tree id (array results)) (λ s. h s None ∙ ap (λ k. Some (record { state = over s k; sent = to_session n (results_of id results) })) (sym same)) added
-answered n id results go old new (Some outcome.NoMemory) waited waits h same silent =
-    gave_up n (go (Some machine.NoMemory)) old new waited waits (λ s. h s (Some machine.NoMemory)) (λ s. ap (over s) same) silent
-answered n id results go old new (Some outcome.Kept) waited waits h same never = absurd never
-answered n id results go old new (Some outcome.Exhausted) waited waits h same never = absurd never
-answered n id results go old new (Some outcome.Failed) waited waits h same never = absurd never
+pub answered : {K : Type 0} (n : ℕ) (id : Data) (results : Items) (go : Option machine.Outcome → State → Option Stepped) (old : Kept K) (o : Option Outcome) (waited waits : Queues)
+    → ((s : State) (c : Option machine.Outcome) → go c (over s old) ≡ attempted (over s old) n (results_of id results) c) → Waits n (Some (frame (reply_tree id (array results)))) waited o waits
+    → Goes n (go (listed_first o)) old waited o old waits
+answered n id results go old None waited waits h added = sent_one n (go None) old old None waited waits (reply_tree id (array results)) (λ s. h s None) added
+answered n id results go old (Some outcome.NoMemory) waited waits h silent = gave_up n (go (Some machine.NoMemory)) old old waited waits (λ s. h s (Some machine.NoMemory)) (λ s. refl) silent
+answered n id results go old (Some outcome.Kept) waited waits h never = absurd never
+answered n id results go old (Some outcome.Exhausted) waited waits h never = absurd never
+answered n id results go old (Some outcome.Failed) waited waits h never = absurd never
 
 -- a transaction that changes nothing
-pub unchanged : {K : Type 0} (n : ℕ) (id : Data) (draws : List Uuid) (operations : Items) (old new : Kept K) (o : Option Outcome) (waited waits : Queues)
-    → is_database old.committed (transaction old.schema old.committed draws operations).database ≡ true → new ≡ old
+pub unchanged : {K : Type 0} (n : ℕ) (id : Data) (draws : List Uuid) (operations : Items) (old : Kept K) (o : Option Outcome) (waited waits : Queues)
+    → is_database old.committed (transaction old.schema old.committed draws operations).database ≡ true
     → Waits n (Some (frame (reply_tree id (array (transaction old.schema old.committed draws operations).results)))) waited o waits
-    → IsAttempt n id draws operations old waited o new waits
-unchanged n id draws operations old new o waited waits e same waiting =
-    answered n id (transaction old.schema old.committed draws operations).results (λ c s. transacts s n id (transaction s.schema s.database draws operations) c) old new o waited waits (λ s c. rw e refl) same waiting
+    → IsAttempt n id draws operations old waited o old waits
+unchanged n id draws operations old o waited waits e waiting =
+    answered n id (transaction old.schema old.committed draws operations).results (λ c s. transacts s n id (transaction s.schema s.database draws operations) c) old o waited waits (λ s c. rw e refl) waiting
 
 -- a transaction that would change a sealed database
-pub on_sealed : {K : Type 0} (n : ℕ) (id : Data) (draws : List Uuid) (operations : Items) (old new : Kept K) (d : Database) (o : Option Outcome) (waited waits : Queues)
-    → is_database old.committed (transaction old.schema old.committed draws operations).database ≡ false → old.sealed ≡ Some d → new ≡ old
+pub on_sealed : {K : Type 0} (n : ℕ) (id : Data) (draws : List Uuid) (operations : Items) (old : Kept K) (o : Option Outcome) (waited waits : Queues)
+    → is_database old.committed (transaction old.schema old.committed draws operations).database ≡ false → is_some old.sealed ≡ true
     → Waits n (Some (frame (reply_tree id (array (failed (transaction old.schema old.committed draws operations).results))))) waited o waits
-    → IsAttempt n id draws operations old waited o new waits
-on_sealed n id draws operations old new d o waited waits e sealed same waiting =
-    answered n id (failed (transaction old.schema old.committed draws operations).results) (λ c s. transacts s n id (transaction s.schema s.database draws operations) c) old new o waited waits (λ s c. rw (e, sealed) refl) same waiting
+    → IsAttempt n id draws operations old waited o old waits
+on_sealed n id draws operations old o waited waits e sealed waiting =
+    let is = some_of old.sealed sealed in
+    answered n id (failed (transaction old.schema old.committed draws operations).results) (λ c s. transacts s n id (transaction s.schema s.database draws operations) c) old o waited waits (λ s c. rw (e, is.1) refl) waiting
+  where
+    some_of : (sealed : Option Database) → is_some sealed ≡ true → (d : Database) × (sealed ≡ Some d)
+    some_of (Some d) h = (d, refl)
+    some_of None h = cc
 
 -- ---- a commit
 
-pub committed : {K : Type 0} (n : ℕ) (id : Data) (draws : List Uuid) (operations : Items) (old new : Kept K) (frames : Frames) (now after : Resident) (o : Option Outcome) (waited waits : Queues)
+pub committed : {K : Type 0} (n : ℕ) (id : Data) (draws : List Uuid) (operations : Items) (old new : Kept K) (frames : Frames) (delta : Delta) (o : Option Outcome) (waited waits : Queues)
     → is_database old.committed (transaction old.schema old.committed draws operations).database ≡ false → old.sealed ≡ None
-    → now ≡ record { committed = old.committed; now = (transaction old.schema old.committed draws operations).database; sealed = None }
-    → AreFrames id (transaction old.schema old.committed draws operations).results frames → Commits n frames now waited o after waits
-    → new.schema ≡ old.schema → new.committed ≡ after.committed → new.sealed ≡ after.sealed
+    → applied delta old.committed ≡ (transaction old.schema old.committed draws operations).database
+    → AreFrames id (transaction old.schema old.committed draws operations).results frames → Commits n frames delta old waited o new waits
     → IsAttempt n id draws operations old waited o new waits
-committed n id draws operations old new frames now after None waited waits e unsealed is are never schema database sealed = absurd never
-committed n id draws operations old new frames now after (Some outcome.Kept) waited waits e unsealed is are (made, added) schema database sealed =
+committed n id draws operations old new frames delta None waited waits e unsealed is are never = absurd never
+committed {K} n id draws operations old new frames delta (Some outcome.Kept) waited waits e unsealed is are (made, added) =
     let t = transaction old.schema old.committed draws operations in
-    let d : new.committed ≡ t.database = database ∙ (ap (λ (r : Resident). r.committed) made ∙ ap (λ (r : Resident). r.now) is) in
-    let k : new.sealed ≡ None = sealed ∙ (ap (λ (r : Resident). r.sealed) made ∙ ap (λ (r : Resident). r.sealed) is) in
+    let schema : new.schema ≡ old.schema = ap (λ (k : Kept K). k.schema) made in
+    let d : new.committed ≡ t.database = ap (λ (k : Kept K). k.committed) made ∙ is in
+    let k : new.sealed ≡ None = ap (λ (k : Kept K). k.sealed) made ∙ unsealed in
     sent_one n (λ s. transacts s n id (transaction s.schema s.database draws operations) (Some machine.Kept)) old new (Some outcome.Kept) waited waits (reply_tree id (array t.results)) (λ s. rw (e, unsealed, schema, d, k) refl) (rw (← are.kept) added)
-committed n id draws operations old new frames now after (Some outcome.Exhausted) waited waits e unsealed is are (made, added) schema database sealed =
+committed {K} n id draws operations old new frames delta (Some outcome.Exhausted) waited waits e unsealed is are (made, added) =
     let t = transaction old.schema old.committed draws operations in
-    let d : new.committed ≡ old.committed = database ∙ (ap (λ (r : Resident). r.committed) made ∙ ap (λ (r : Resident). r.committed) is) in
-    let k : new.sealed ≡ None = sealed ∙ (ap (λ (r : Resident). r.sealed) made ∙ ap (λ (r : Resident). r.sealed) is) in
+    let schema : new.schema ≡ old.schema = ap (λ (k : Kept K). k.schema) made in
+    let d : new.committed ≡ old.committed = ap (λ (k : Kept K). k.committed) made in
+    let k : new.sealed ≡ None = ap (λ (k : Kept K). k.sealed) made ∙ unsealed in
     sent_one n (λ s. transacts s n id (transaction s.schema s.database draws operations) (Some machine.Exhausted)) old new (Some outcome.Exhausted) waited waits (reply_tree id (array (exhausted t.results))) (λ s. rw (e, unsealed, schema, d, k) refl) (rw (← are.exhausted) added)
-committed n id draws operations old new frames now after (Some outcome.Failed) waited waits e unsealed is are (made, added) schema database sealed =
+committed {K} n id draws operations old new frames delta (Some outcome.Failed) waited waits e unsealed is are (made, added) =
     let t = transaction old.schema old.committed draws operations in
-    let d : new.committed ≡ old.committed = database ∙ (ap (λ (r : Resident). r.committed) made ∙ ap (λ (r : Resident). r.committed) is) in
-    let k : new.sealed ≡ Some t.database = sealed ∙ (ap (λ (r : Resident). r.sealed) made ∙ ap (λ (r : Resident). Some r.now) is) in
+    let schema : new.schema ≡ old.schema = ap (λ (k : Kept K). k.schema) made in
+    let d : new.committed ≡ old.committed = ap (λ (k : Kept K). k.committed) made in
+    let k : new.sealed ≡ Some t.database = ap (λ (k : Kept K). k.sealed) made ∙ ap Some is in
     sent_one n (λ s. transacts s n id (transaction s.schema s.database draws operations) (Some machine.Failed)) old new (Some outcome.Failed) waited waits (reply_tree id (array (failed t.results))) (λ s. rw (e, unsealed, schema, d, k) refl) (rw (← are.failed) added)
-committed n id draws operations old new frames now after (Some outcome.NoMemory) waited waits e unsealed is are (made, silent) schema database sealed =
-    let d : new.committed ≡ old.committed = database ∙ (ap (λ (r : Resident). r.committed) made ∙ ap (λ (r : Resident). r.committed) is) in
-    let k : new.sealed ≡ None = sealed ∙ (ap (λ (r : Resident). r.sealed) made ∙ ap (λ (r : Resident). r.sealed) is) in
-    attempt_gave_up n id draws operations old new waited waits (λ s. rw (unsealed, schema, d, k) refl) silent
+committed {K} n id draws operations old new frames delta (Some outcome.NoMemory) waited waits e unsealed is are (same, silent) =
+    attempt_gave_up n id draws operations old new waited waits (λ s. ap (over s) same) silent
 
 -- ---- any work
 
@@ -182,62 +185,10 @@ pub transact_work : (w : Work) (id : Data) (operations : Items) → IsWork w (ki
 transact_work (Answers trees) id operations is = absurd is
 transact_work (Transact i o) id operations is = rw (is.0, is.1) refl
 
--- rows that were under way and are undone
-pub undone : (rows mid new : Resident) (d : Database) → rows.now ≡ rows.committed → mid ≡ record rows { now = d } → new ≡ record mid { now = mid.committed } → new ≡ rows
-undone rows mid new d at was is = is ∙ (ap (λ (r : Resident). record r { now = r.committed }) was ∙ ap (λ (n : Database). record rows { now = n }) (sym at))
-
 -- want of memory before anything was tried
 pub nothing_drawn : {K : Type 0} (n : ℕ) (asked : State → Work) (old : Kept K) (draws : List Uuid) (waits : Queues) → draws ≡ [] → Goes n (λ s. works s n draws (Some machine.NoMemory) (asked s)) old waits (Some outcome.NoMemory) old waits
 nothing_drawn n asked old draws waits none =
     rw none (gave_up n (λ s. works s n [] (Some machine.NoMemory) (asked s)) old old waits waits (λ s. works_memory (over s old) n (asked (over s old))) (λ s. refl) (λ other. refl))
-
--- a transaction that left the rows as they were
-pub same_database : (rows mid : Resident) (d : Database) → mid ≡ record rows { now = d } → false ≡ not (is_database mid.committed mid.now) → is_database rows.committed d ≡ true
-same_database rows mid d was h = sym (ap (λ (r : Resident). is_database r.committed r.now) was) ∙ by_test (is_database mid.committed mid.now) h
-  where
-    by_test : (b : Bool) → false ≡ not b → b ≡ true
-    by_test true h = refl
-    by_test false h = cc
-
--- one that did not
-pub other_database : (rows mid : Resident) (d : Database) → mid ≡ record rows { now = d } → true ≡ not (is_database mid.committed mid.now) → is_database rows.committed d ≡ false
-other_database rows mid d was h = sym (ap (λ (r : Resident). is_database r.committed r.now) was) ∙ by_test (is_database mid.committed mid.now) h
-  where
-    by_test : (b : Bool) → true ≡ not b → b ≡ false
-    by_test false h = refl
-    by_test true h = cc
-
--- a database that is sealed
-pub is_sealed_by : (rows mid : Resident) (d : Database) → mid ≡ record rows { now = d } → true ≡ is_some mid.sealed → (e : Database) × (rows.sealed ≡ Some e)
-is_sealed_by rows mid d was h = by_sealed rows.sealed (h ∙ ap (λ (r : Resident). is_some r.sealed) was)
-  where
-    by_sealed : (o : Option Database) → true ≡ is_some o → (e : Database) × (o ≡ Some e)
-    by_sealed (Some e) h = (e, refl)
-    by_sealed None h = cc
-
--- and one that is not
-pub not_sealed : (rows mid : Resident) (d : Database) → mid ≡ record rows { now = d } → false ≡ is_some mid.sealed → rows.sealed ≡ None
-not_sealed rows mid d was h = by_sealed rows.sealed (h ∙ ap (λ (r : Resident). is_some r.sealed) was)
-  where
-    by_sealed : (o : Option Database) → false ≡ is_some o → o ≡ None
-    by_sealed None h = refl
-    by_sealed (Some e) h = cc
-
--- a database of these parts
-abbrev pub kept_by : {K : Type 0} → Schema → Resident → K → Kept K
-kept_by schema rows keeper = record { schema = schema; committed = rows.committed; sealed = rows.sealed; keeper = keeper }
-
--- after a commit no row is under way
-pub settled : (n : ℕ) (frames : Frames) (now after : Resident) (o : Option Outcome) (waited waits : Queues) → Commits n frames now waited o after waits → after.now ≡ after.committed
-settled n frames now after (Some outcome.Kept) waited waits (made, added) = ap (λ (r : Resident). r.now) made ∙ sym (ap (λ (r : Resident). r.committed) made)
-settled n frames now after (Some outcome.Exhausted) waited waits (made, added) = ap (λ (r : Resident). r.now) made ∙ sym (ap (λ (r : Resident). r.committed) made)
-settled n frames now after (Some outcome.Failed) waited waits (made, added) = ap (λ (r : Resident). r.now) made ∙ sym (ap (λ (r : Resident). r.committed) made)
-settled n frames now after (Some outcome.NoMemory) waited waits (made, silent) = ap (λ (r : Resident). r.now) made ∙ sym (ap (λ (r : Resident). r.committed) made)
-settled n frames now after None waited waits never = absurd never
-
--- rows under way of a database that is not sealed
-pub under_way : (rows mid : Resident) (d : Database) → mid ≡ record rows { now = d } → rows.sealed ≡ None → mid ≡ record { committed = rows.committed; now = d; sealed = None }
-under_way rows mid d was unsealed = was ∙ ap (λ (o : Option Database). record rows { now = d; sealed = o }) unsealed
 
 -- ---- what a crash leaves
 

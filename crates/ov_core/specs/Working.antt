@@ -1,15 +1,16 @@
 -- What comes of the work on a message: what the machine makes of it, in every state over the database.
 use Rattle.std.specs.Prelude.{◌≡◌, ℕ, List, ◌++◌, map, Option, Some, None, option_map, option_to_list}
 use Rattle.serde_json.specs.Data.{Data, Items}
-use Rattle.ov_specs.specs.Database.{Database}
 use Rattle.ov_specs.specs.Frame.{frame}
 use Rattle.ov_specs.specs.History.{frames_to}
 use Rattle.ov_specs.specs.Machine as machine
 use Rattle.ov_specs.specs.Machine.{State, Stepped, Work, Answers, Transact, works, transacts, without, to_session}
-use Rattle.ov_specs.specs.SchemaTypes.{Schema}
 use Rattle.ov_specs.specs.Transaction.{transaction}
 use Rattle.ov_specs.specs.Uuid.{Uuid}
-use Rattle.ov_db.specs.Resident.{Resident}
+use Rattle.ov_db.specs.Changing.{Delta}
+use Rattle.ov_db.specs.Committing as db
+use Rattle.ov_db.specs.Kept.{Kept}
+use Rattle.ov_db.specs.declared.answer.StoreAnswer.TheVariants as store
 use Rattle.ov_core.specs.Entries.{outcome_view}
 use Rattle.ov_core.specs.Waiting.{Queues, waiting_for, Adds, WaitsSame}
 use Rattle.ov_core.specs.declared.answer.Work as code
@@ -37,23 +38,15 @@ Waits session frame old (Some outcome.Kept) new = ⊥
 Waits session frame old (Some outcome.Exhausted) new = ⊥
 Waits session frame old (Some outcome.Failed) new = ⊥
 
--- The rows under way were committed and the frame of that waits; or they were not, and the rows are as before; or nothing was
--- tried for want of memory (own).
-abbrev pub Commits : ℕ → Frames → Resident → Queues → Option Outcome → Resident → Queues → Type 0
-Commits session frames old waited (Some outcome.Kept) new waits = (new ≡ record old { committed = old.now }) × Adds session frames.kept waited waits
-Commits session frames old waited (Some outcome.Exhausted) new waits = (new ≡ record old { now = old.committed }) × Adds session frames.exhausted waited waits
-Commits session frames old waited (Some outcome.Failed) new waits = (new ≡ record { committed = old.committed; now = old.committed; sealed = Some old.now }) × Adds session frames.failed waited waits
-Commits session frames old waited (Some outcome.NoMemory) new waits = (new ≡ record old { now = old.committed }) × WaitsSame waited waits
-Commits session frames old waited None new waits = ⊥
+-- The store was asked for the changes, and the frame of its answer waits; or nothing was tried for want of memory (own).
+abbrev pub Commits : {K : Type 0} → ℕ → Frames → Delta → Kept K → Queues → Option Outcome → Kept K → Queues → Type 0
+Commits session frames delta old waited (Some outcome.Kept) new waits = db.Commits delta old store.Kept new × Adds session frames.kept waited waits
+Commits session frames delta old waited (Some outcome.Exhausted) new waits = db.Commits delta old store.Exhausted new × Adds session frames.exhausted waited waits
+Commits session frames delta old waited (Some outcome.Failed) new waits = db.Commits delta old store.Failed new × Adds session frames.failed waited waits
+Commits session frames delta old waited (Some outcome.NoMemory) new waits = (new ≡ old) × WaitsSame waited waits
+Commits session frames delta old waited None new waits = ⊥
 
 -- ---- what the machine makes of it
-
--- a database under its schema: as it was committed, what a failed commit would have made of it, and its keeper (own)
-pub record Kept (K : Type 0) : Type 0 where
-  pub schema : Schema
-  pub committed : Database
-  pub sealed : Option Database
-  pub keeper : K
 
 -- the state over a database (own)
 abbrev pub over : {K : Type 0} → State → Kept K → State

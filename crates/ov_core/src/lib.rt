@@ -3,7 +3,7 @@
 #![tactic(auto)]
 
 mod answer;
-mod database;
+mod attempt;
 mod entry;
 mod event;
 mod frames;

@@ -12,12 +12,12 @@ ghost use Rattle.ov_core.specs.Following.{Follows, none_given, and_handed, and_a
 ghost use Rattle.ov_core.specs.Stepping.{StepIs, Closes};
 ghost use Rattle.ov_core.specs.Leaving.{LeavesItsOwn};
 
-use crate::database::Database;
 use crate::entry::{chosen, is_closing, listed, quiet};
 use crate::event::{Cause, Entry, Event, Session, StepFault, Stepped};
 use crate::waiting::Waiting;
 use crate::work::{Worked, work};
 use ov_base::Bytes;
+use ov_db::Db;
 use ov_early::{Draws, Keeper, OpenFault};
 use ov_rpc::Message;
 use ov_schema::Schema;
@@ -28,7 +28,7 @@ use std::marker::Model;
 /// The machine over a keeper, with its history (own, over RFC 7047, 4). One session may be open at a time.
 #[derive(Drop)]
 pub struct Core<K: Keeper, D> {
-    database: Database<K>,
+    database: Db<K>,
     source: D,
     session: Option<u64>,
     next: u64,
@@ -81,7 +81,7 @@ impl<K: Keeper + Drop, D: Draws + Drop> Core<K, D> {
         // A fault is the first that applies to what the keeper held, where its device was honest to the end of the call.
         ensures fault { IfErr result (λ fault. (later : K) × (K.is_honest later → (held : Contents) → K.leaves keeper held → RefusesOpen schema held fault)) }
     {
-        let database = Database::open(alloc, keeper, schema)?;
+        let database = Db::open(alloc, keeper, schema)?;
         Ok(Core {
             database,
             source: draws,

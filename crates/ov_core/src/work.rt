@@ -5,10 +5,11 @@ ghost use Rattle.ov_early.specs.Drawing.{DrawsFrom};
 ghost use Rattle.ov_core.specs.Working.{Comes};
 
 use crate::answer::{Work, work_of};
-use crate::database::Database;
+use crate::attempt::attempt;
 use crate::event::Outcome;
 use crate::waiting::{Waiting, send};
 use ov_base::{Tree, Trees};
+use ov_db::Db;
 use ov_early::{Draws, Keeper};
 use ov_rpc::Message;
 use ov_txn::draws_for;
@@ -35,7 +36,7 @@ fn out_of_memory(draws: Vec<Uuid>) -> Worked
 /// A transaction, with the identifiers that are drawn for it.
 fn transact<K: Keeper + Drop, D: Draws>(
     alloc: Global,
-    database: &mut Database<K>,
+    database: &mut Db<K>,
     source: &mut D,
     waiting: &mut Waiting,
     session: u64,
@@ -48,14 +49,14 @@ fn transact<K: Keeper + Drop, D: Draws>(
     let Ok(draws) = draws_for(alloc, operations, source) else {
         return out_of_memory(Vec::new(alloc));
     };
-    let outcome = database.attempt(alloc, waiting, session, id, draws.as_slice(), operations);
+    let outcome = attempt(database, alloc, waiting, session, id, draws.as_slice(), operations);
     Worked { draws, outcome }
 }
 
 /// The work on a message of a session, which is the first attempt of its event.
 pub(crate) fn work<K: Keeper + Drop, D: Draws>(
     alloc: Global,
-    database: &mut Database<K>,
+    database: &mut Db<K>,
     source: &mut D,
     waiting: &mut Waiting,
     session: u64,

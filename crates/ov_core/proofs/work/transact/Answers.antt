@@ -13,5 +13,5 @@ returns-in_default-clause-comes g c =
 
 pub returns-clause-comes : goal.returns-clause-comes
 returns-clause-comes g c =
-    attempt_works c.args.session c.args.id.now c.in-Ok.draws.items c.args.operations.now c.args.database.now c.attempt-outcome.new.self c.attempt-outcome.result c.args.waiting.now c.attempt-outcome.new.waiting c.in-Ok.ensures.count
-    (subst (λ (draws : List Uuid). IsAttempt c.args.session c.args.id.now draws c.args.operations.now c.args.database.now c.args.waiting.now c.attempt-outcome.result c.attempt-outcome.new.self c.attempt-outcome.new.waiting) c.as_slice.ensures.value c.attempt-outcome.ensures)
+    attempt_works c.args.session c.args.id.now c.in-Ok.draws.items c.args.operations.now c.args.database.now c.attempt-outcome.new.db c.attempt-outcome.result c.args.waiting.now c.attempt-outcome.new.waiting c.in-Ok.ensures.count
+    (subst (λ (draws : List Uuid). IsAttempt c.args.session c.args.id.now draws c.args.operations.now c.args.database.now c.args.waiting.now c.attempt-outcome.result c.attempt-outcome.new.db c.attempt-outcome.new.waiting) c.as_slice.ensures.value c.attempt-outcome.ensures)

@@ -1,0 +1,109 @@
+ghost use Rattle.std.specs.Prelude.{◌≡◌, Some, None};
+ghost use Rattle.serde_json.specs.Data.{array};
+ghost use Rattle.ov_specs.specs.Frame.{frame, reply_tree};
+ghost use Rattle.ov_specs.specs.Transaction.{failed as refused};
+ghost use Rattle.ov_core.specs.Working.{IsAttempt, Commits, Waits};
+
+use crate::event::Outcome;
+use crate::frames::{Frames, reply_of};
+use crate::waiting::{Waiting, send};
+use ov_base::{Tree, Trees};
+use ov_db::{Db, Delta, StoreAnswer};
+use ov_early::Keeper;
+use ov_txn::{Performed, failed, perform};
+use std::alloc::Global;
+use uuid::Uuid;
+
+/// Tries the operations with these identifiers, and lets the reply wait. Where memory is refused nothing is changed.
+pub(crate) fn attempt<K: Keeper + Drop>(
+    db: &mut Db<K>,
+    alloc: Global,
+    waiting: &mut Waiting,
+    session: u64,
+    id: &Tree,
+    draws: &[Uuid],
+    operations: &Trees,
+) -> Option<Outcome>
+    ensures { IsAttempt session id.now draws.now operations.now db.old waiting.old result db.new waiting.new }
+{
+    let Ok(performed) = perform(alloc, db.schema(), db.rows(), draws, operations) else {
+        return Some(Outcome::NoMemory);
+    };
+    let Performed { results, delta } = performed;
+    if delta.is_empty() {
+        return answer(alloc, waiting, session, id, results);
+    }
+    if db.sealed() {
+        return answer_failed(alloc, waiting, session, id, &results);
+    }
+    let Ok(frames) = Frames::new(alloc, id, results) else {
+        return Some(Outcome::NoMemory);
+    };
+    commit(db, alloc, waiting, session, frames, delta)
+}
+
+/// Lets the results wait as they are, where there is memory for it.
+fn answer(
+    alloc: Global,
+    waiting: &mut Waiting,
+    session: u64,
+    id: &Tree,
+    results: Trees,
+) -> Option<Outcome>
+    ensures { Waits session (Some (frame (reply_tree id.now (array results)))) waiting.old result waiting.new }
+{
+    match reply_of(alloc, id, results) {
+        Ok(frame) => send(alloc, waiting, session, Some(frame)),
+        Err(_) => Some(Outcome::NoMemory),
+    }
+}
+
+/// Lets the results wait with the error of a database that is sealed.
+fn answer_failed(
+    alloc: Global,
+    waiting: &mut Waiting,
+    session: u64,
+    id: &Tree,
+    results: &Trees,
+) -> Option<Outcome>
+    ensures { Waits session (Some (frame (reply_tree id.now (array (refused results.now))))) waiting.old result waiting.new }
+{
+    match failed(alloc, results) {
+        Ok(results) => answer(alloc, waiting, session, id, results),
+        Err(_) => Some(Outcome::NoMemory),
+    }
+}
+
+/// Commits the changes. The frame of a commit that is kept waits before the store is asked, and gives way to another where
+/// the store refuses: so nothing wants memory behind a commit.
+fn commit<K: Keeper + Drop>(
+    db: &mut Db<K>,
+    alloc: Global,
+    waiting: &mut Waiting,
+    session: u64,
+    frames: Frames,
+    delta: Delta,
+) -> Option<Outcome>
+    requires { db.old.sealed ≡ None }
+    ensures { Commits session frames delta db.old waiting.old result db.new waiting.new }
+{
+    let Frames {
+        kept,
+        exhausted,
+        failed,
+    } = frames;
+    if !waiting.push(alloc, session, kept) {
+        return Some(Outcome::NoMemory);
+    }
+    match db.commit(alloc, delta) {
+        StoreAnswer::Kept => Some(Outcome::Kept),
+        StoreAnswer::Exhausted => {
+            waiting.replace_newest(session, exhausted);
+            Some(Outcome::Exhausted)
+        }
+        StoreAnswer::Failed => {
+            waiting.replace_newest(session, failed);
+            Some(Outcome::Failed)
+        }
+    }
+}
