@@ -163,10 +163,10 @@ impl<K: Keeper + Drop> Db<K> {
             return StoreAnswer::Exhausted;
         };
         let mut added = Vec::new(alloc);
-        if place(alloc, &mut self.rows, &delta, &mut added).is_err() {
+        let Ok(()) = place(alloc, &mut self.rows, &delta, &mut added) else {
             take_out(&mut self.rows, &mut added);
             return StoreAnswer::Exhausted;
-        }
+        };
         match self.keeper.commit(alloc, changes.as_slice()) {
             Ok(()) => {
                 make(&mut self.rows, delta);
