@@ -2,7 +2,7 @@ ghost use Rattle.std.specs.Prelude.{◌≡◌, [], map, true, false, is_some, If
 ghost use Rattle.std.specs.FinMap.{entries, get, contains_key};
 ghost use Rattle.std.specs.Ordering.{eq_by_cmp};
 ghost use Rattle.ov_specs.specs.Database.{line_of};
-ghost use Rattle.ov_specs.specs.Lines.{LineKey, line_cmp};
+ghost use Rattle.ov_specs.specs.Lines.{LineKey, Remove, line_cmp};
 ghost use Rattle.ov_early.specs.Views.{changes_view, change_view, line_entry};
 ghost use Rattle.ov_db.specs.Adding.{without};
 ghost use Rattle.ov_db.specs.Changing.{applied, change_of, with_row};
@@ -30,16 +30,24 @@ fn line_of(alloc: Global, key: &RowKey, row: &Row) -> Result<Line, AllocError>
     })
 }
 
+/// The removal of the line of a key.
+fn remove_of(alloc: Global, key: &RowKey) -> Result<Change, AllocError>
+    ensures { IfOk result (λ change. change_view change ≡ Remove key.now) }
+{
+    let table = Text::from_str(alloc, key.table())?;
+    Ok(Change::Remove {
+        table,
+        id: key.id(),
+    })
+}
+
 /// What a change of a row makes of its line.
 fn change_of(alloc: Global, key: &RowKey, row: &Option<Row>) -> Result<Change, AllocError>
     ensures { IfOk result (λ change. change_view change ≡ change_of (key.now, row.now)) }
 {
     match row {
         Some(row) => Ok(Change::Put(line_of(alloc, key, row)?)),
-        None => Ok(Change::Remove {
-            table: Text::from_str(alloc, key.table())?,
-            id: key.id(),
-        }),
+        None => remove_of(alloc, key),
     }
 }
 

@@ -6,7 +6,7 @@ use Rattle.ov_early.specs.Views.{changes_view}
 use Rattle.ov_db.specs.Changing.{applied}
 use Rattle.ov_db.specs.Kept.{Kept}
 use Rattle.ov_db.proofs.Places.{applied-same}
-use Rattle.ov_db.proofs.Stored.{found, found_changed, unsealed_held}
+use Rattle.ov_db.proofs.Stored.{found, found_changed, unsealed_held, still_none}
 use Rattle.ov_db.proofs.db.Db.commit_changes.Goals as goal
 
 pub invariant_of-self-in-Ok-commit : goal.invariant_of-self-in-Ok-commit
@@ -39,4 +39,9 @@ invariant_of-self-in-Device-1 g c honest held leaves =
     ]
 
 pub returns-in-Ok-commit-clause-commits : goal.returns-in-Ok-commit-clause-commits
-returns-in-Ok-commit-clause-commits g c = ?
+returns-in-Ok-commit-clause-commits g c =
+    let delta = c.args.delta in
+    let schema = ap (λ (k : Kept _). k.schema) c.self.view_is in
+    let rows = c.make.ensures ∙ applied-same delta c.self.inside.rows c.place.new.rows c.in-Ok-place.ensures.same ∙ ap (λ (k : Kept _). applied delta k.committed) c.self.view_is in
+    let sealed = still_none c.self.inside.failed (λ d. applied d c.self.inside.rows) (λ d. applied d c.make.new.rows) (ap (λ (k : Kept _). k.sealed) c.self.view_is ∙ c.requires) ∙ sym c.requires in
+    λ i. record { schema = schema i; committed = rows i; sealed = sealed i; keeper = c.commit.new.self }
