@@ -35,10 +35,8 @@ fn remove_of(alloc: Global, key: &RowKey) -> Result<Change, AllocError>
     ensures { IfOk result (λ change. change_view change ≡ Remove key.now) }
 {
     let table = Text::from_str(alloc, key.table())?;
-    Ok(Change::Remove {
-        table,
-        id: key.id(),
-    })
+    let id = key.id();
+    Ok(Change::Remove { table, id })
 }
 
 /// What a change of a row makes of its line.

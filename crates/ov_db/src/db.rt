@@ -119,6 +119,19 @@ impl<K: Keeper + Drop> Db<K> {
         self.keeper.failures()
     }
 
+    /// Gives the database up, and its keeper back.
+    pub fn into_keeper(self) -> K
+        ensures { result ≡ self.keeper }
+    {
+        let Db {
+            schema: _,
+            rows: _,
+            failed: _,
+            keeper,
+        } = self;
+        keeper
+    }
+
     /// What a crash now leaves. It does nothing.
     pub fn left(&self)
         ensures { K.is_honest self.now.keeper → MayHold (K.leaves self.now.keeper) (compact_text self.now.schema.tree) self.now.committed self.now.sealed }
