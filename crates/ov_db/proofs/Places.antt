@@ -1,6 +1,7 @@
 -- Changes taken in the order of their keys: no key comes twice.
-use Rattle.std.proofs.Common.{◌≡◌, List, [], ◌∷◌, Bool, true, false, cond, T, ◌&&◌, Option, Some, None, is_some, refl, sym, ap, ◌∙◌, subst, Ordering, Less, Equal, Greater}
-use Rattle.std.specs.FinMap.{find, is_sorted, get, contains_key, entries, entries_sorted, get-entries, get-insert, get-remove, same_map}
+use Rattle.std.proofs.Common.{◌≡◌, ◌==◌, ℕ, List, [], ◌∷◌, length, Bool, true, false, cond, T, ◌&&◌, Option, Some, None, is_some, refl, sym, ap, ◌∙◌, subst, Ordering, Less, Equal, Greater, arith}
+use Rattle.std.proofs.lemmas.Bool.Decides.{nat_tests}
+use Rattle.std.specs.FinMap.{find, is_sorted, get, contains_key, entries, entries_sorted, get-entries, get-insert, get-remove, len, len-entries, same_map}
 use Rattle.std.specs.FinMap.Entries.{below_all}
 use Rattle.std.specs.Ordering.{is_lt, is_eq, eq_by_cmp}
 use Rattle.ov_specs.specs.Database.{Database, Row}
@@ -92,3 +93,81 @@ applied-same delta a b beside = same_map key_total key_exact _ _ (λ q. get-appl
     by_change : (q : LineKey) (o : Option (Option Row)) → get delta q ≡ o → or_before o (get b q) ≡ or_before o (get a q)
     by_change q (Some new) is = refl
     by_change q None is = beside q is
+
+-- ---- places are made, change by change
+
+-- a key that isn't changed is not the next one
+pub not-next : (all rest later : Changes) (e : LineKey × Option Row) (q : LineKey) → rest ≡ e ∷ later → ((c : Option Row) → find line_cmp q rest ≡ Some c → find line_cmp q all ≡ Some c) → find line_cmp q all ≡ None
+    → same q e.0 ≡ false
+not-next all rest later e q is inside none = by_test (same q e.0) refl
+  where
+    no : (c : Option Row) → find line_cmp q all ≡ None → find line_cmp q all ≡ Some c → ⊥
+    no c n s = cc
+
+    by_test : (b : Bool) → same q e.0 ≡ b → b ≡ false
+    by_test false tied = refl
+    by_test true tied = absurd (no e.1 none (inside e.1 (ap (find line_cmp q) is ∙ found-first e later q tied)))
+
+pub not-there : (db db' : Database) (q : LineKey) → (contains_key db q ≡ true → contains_key db' q ≡ true) → contains_key db' q ≡ false → contains_key db q ≡ false
+not-there db db' q stays absent = by_test (contains_key db q) refl
+  where
+    no : contains_key db' q ≡ false → contains_key db' q ≡ true → ⊥
+    no a b = cc
+
+    by_test : (b : Bool) → contains_key db q ≡ b → b ≡ false
+    by_test false is = refl
+    by_test true is = absurd (no absent (stays is))
+
+-- what has no row yet comes later
+pub left-later : (rest later : Changes) (e : LineKey × Option Row) (q : LineKey) (r : Row) (db : Database) → rest ≡ e ∷ later → (is_some e.1 ≡ true → contains_key db e.0 ≡ true) → contains_key db q ≡ false
+    → find line_cmp q rest ≡ Some (Some r) → find line_cmp q later ≡ Some (Some r)
+left-later rest later e q r db is placed absent found = by_test (same q e.0) refl
+  where
+    whole : find line_cmp q (e ∷ later) ≡ Some (Some r)
+    whole = sym (ap (find line_cmp q) is) ∙ found
+
+    gives : (o : Option Row) → Some o ≡ Some (Some r) → is_some o ≡ true
+    gives (Some s) h = refl
+    gives None h = cc
+
+    no : contains_key db q ≡ false → contains_key db q ≡ true → ⊥
+    no a b = cc
+
+    by_test : (b : Bool) → same q e.0 ≡ b → find line_cmp q later ≡ Some (Some r)
+    by_test false tied = sym (found-other e later q tied) ∙ whole
+    by_test true tied = absurd (no absent (ap (contains_key db) (tied_same q e.0 tied) ∙ placed (gives e.1 (sym (found-first e later q tied) ∙ whole))))
+
+-- ---- changes are made, one by one
+
+pub row-stays : (k : LineKey) (o : Option Row) (db : Database) (q : LineKey) → same q k ≡ false → contains_key (with_row k o db) q ≡ contains_key db q
+row-stays k o db q tied = ap is_some (at_one k o db q ∙ ap (λ b. cond b o (get db q)) tied)
+
+-- a change of a key without a place is a removal
+pub no-place : (o : Option Row) (db : Database) (k : LineKey) → ((r : Row) → o ≡ Some r → contains_key db k ≡ true) → contains_key db k ≡ false → o ≡ None
+no-place None db k placed absent = refl
+no-place (Some r) db k placed absent = absurd (no absent (placed r refl))
+  where
+    no : contains_key db k ≡ false → contains_key db k ≡ true → ⊥
+    no a b = cc
+
+-- no change is left for which there is no place
+pub all-placed : (rest : Changes) (db : Database) (q : LineKey) (r : Row) → rest ≡ [] → (contains_key db q ≡ false → find line_cmp q rest ≡ Some (Some r)) → contains_key db q ≡ true
+all-placed rest db q r none left = by_test (contains_key db q) refl
+  where
+    no : None ≡ Some (Some r) → ⊥
+    no e = cc
+
+    by_test : (b : Bool) → contains_key db q ≡ b → b ≡ true
+    by_test true is = refl
+    by_test false is = absurd (no (ap (find line_cmp q) (sym none) ∙ left is))
+
+no_length : {A : Type 0} (xs : List A) → length xs ≡ 0 → xs ≡ []
+no_length [] e = refl
+no_length (x ∷ xs) e = absurd (omega arith)
+
+is_zero : (n : ℕ) → (n == 0) ≡ true → n ≡ 0
+is_zero n h = grind (arith, nat_tests, h)
+
+-- without a change nothing is changed
+pub applied-none : (delta : Delta) (db : Database) → (len delta == 0) ≡ true → applied delta db ≡ db
+applied-none delta db h = ap (λ cs. with_rows cs db) (no_length (entries delta) (sym (len-entries delta) ∙ is_zero (len delta) h))

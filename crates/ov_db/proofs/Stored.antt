@@ -53,3 +53,12 @@ pub found_changed : (text : List ℕ) (delta : Delta) (db : Database) (changes :
     → Found text (applied delta db) held
 found_changed text delta db changes before held is changes_is made =
     subst (Found text (applied delta db)) (sym (made ∙ ap (λ cs. changed cs before) changes_is)) (is.0, stores (entries delta) db before.lines is.1)
+
+-- what is held of a database that is not sealed
+pub unsealed_held : (text : List ℕ) (db : Database) (sealed : Option Database) (held : Contents) → sealed ≡ None → IsHeld text db sealed held → IsHeld text db None held
+unsealed_held text db sealed held is h = subst (λ o. IsHeld text db o held) is h
+
+-- where no changes failed, none are shown
+pub still_none : (o : Option Delta) (f g : Delta → Database) → option_map f o ≡ None → option_map g o ≡ None
+still_none None f g h = refl
+still_none (Some delta) f g h = cc

@@ -1,8 +1,8 @@
-ghost use Rattle.std.specs.Prelude.{◌≡◌, [], map, true, false, IfOk, OnOk, None};
+ghost use Rattle.std.specs.Prelude.{◌≡◌, [], map, true, false, is_some, IfOk, OnOk, None};
 ghost use Rattle.std.specs.FinMap.{entries, get, contains_key};
 ghost use Rattle.std.specs.Ordering.{eq_by_cmp};
 ghost use Rattle.ov_specs.specs.Database.{line_of};
-ghost use Rattle.ov_specs.specs.Lines.{LineKey, line_cmp};
+ghost use Rattle.ov_specs.specs.Lines.{LineKey, Remove, line_cmp};
 ghost use Rattle.ov_early.specs.Views.{changes_view, change_view, line_entry};
 ghost use Rattle.ov_db.specs.Adding.{without};
 ghost use Rattle.ov_db.specs.Changing.{applied, change_of, with_row};
@@ -30,16 +30,22 @@ fn line_of(alloc: Global, key: &RowKey, row: &Row) -> Result<Line, AllocError>
     })
 }
 
+/// The removal of the line of a key.
+fn remove_of(alloc: Global, key: &RowKey) -> Result<Change, AllocError>
+    ensures { IfOk result (λ change. change_view change ≡ Remove key.now) }
+{
+    let table = Text::from_str(alloc, key.table())?;
+    let id = key.id();
+    Ok(Change::Remove { table, id })
+}
+
 /// What a change of a row makes of its line.
 fn change_of(alloc: Global, key: &RowKey, row: &Option<Row>) -> Result<Change, AllocError>
     ensures { IfOk result (λ change. change_view change ≡ change_of (key.now, row.now)) }
 {
     match row {
         Some(row) => Ok(Change::Put(line_of(alloc, key, row)?)),
-        None => Ok(Change::Remove {
-            table: Text::from_str(alloc, key.table())?,
-            id: key.id(),
-        }),
+        None => remove_of(alloc, key),
     }
 }
 
@@ -63,15 +69,32 @@ pub(crate) fn place(
 ) -> Result<(), AllocError>
     requires { added.old.items ≡ [] }
     ensures added { without added.new.items rows.new ≡ rows.old }
-    ensures same { IsSameBeside delta.now rows.old rows.new }
+    ensures same { OnOk result (IsSameBeside delta.now rows.old rows.new) }
     ensures placed { OnOk result (IsPlaced delta.now rows.new) }
 {
     for (key, row) in &delta.changes {
-        if row.is_some() && !rows.contains(key) {
-            place_at(alloc, rows, key, added)?;
-        }
+        place_one(alloc, rows, key, row, added)?;
     }
     Ok(())
+}
+
+/// Puts an empty row at the key where it is new and the change gives it a row.
+fn place_one(
+    alloc: Global,
+    rows: &mut Rows,
+    key: &RowKey,
+    row: &Option<Row>,
+    added: &mut Vec<RowKey>,
+) -> Result<(), AllocError>
+    ensures added { without added.new.items rows.new ≡ without added.old.items rows.old }
+    ensures same { (other : LineKey) → eq_by_cmp line_cmp other key.now ≡ false → get rows.new other ≡ get rows.old other }
+    ensures stays { (other : LineKey) → contains_key rows.old other ≡ true → contains_key rows.new other ≡ true }
+    ensures placed { OnOk result (is_some row.now ≡ true → contains_key rows.new key.now ≡ true) }
+{
+    if row.is_none() || rows.contains(key) {
+        return Ok(());
+    }
+    place_at(alloc, rows, key, added)
 }
 
 /// Puts an empty row at a new key, which is listed. Where a growth is refused, nothing is changed.

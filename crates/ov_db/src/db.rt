@@ -99,11 +99,7 @@ impl<K: Keeper + Drop> Db<K> {
     }
 
     /// The rows of the table of this name, in ascending order of their identifiers.
-    pub fn rows_of(
-        &self,
-        alloc: Global,
-        table: &str,
-    ) -> Result<Vec<(&RowKey, &Row)>, AllocError>
+    pub fn rows_of(&self, alloc: Global, table: &str) -> Result<Vec<(&RowKey, &Row)>, AllocError>
         ensures { IfOk result (λ rows. map (λ r. (r.0.now, r.1.now)) rows.items ≡ filter (λ r. is_text r.0.0 table.now) (entries self.now.committed)) }
     {
         self.rows.of_table(alloc, table)
@@ -121,6 +117,19 @@ impl<K: Keeper + Drop> Db<K> {
         ensures { result ≡ K.failed self.now.keeper }
     {
         self.keeper.failures()
+    }
+
+    /// Gives the database up, and its keeper back.
+    pub fn into_keeper(self) -> K
+        ensures { result ≡ self.keeper }
+    {
+        let Db {
+            schema: _,
+            rows: _,
+            failed: _,
+            keeper,
+        } = self;
+        keeper
     }
 
     /// What a crash now leaves. It does nothing.
@@ -143,7 +152,7 @@ impl<K: Keeper + Drop> Db<K> {
         ensures cause { self.old.sealed ≡ None → result ≡ Failed → (K.failed self.old.keeper < K.failed self.new.keeper) ⊎ (K.failed self.old.keeper ≡ 2 ^ 64 - 1) }
         ensures honest { K.is_honest self.new.keeper → K.is_honest self.old.keeper }
     {
-        if self.failed.is_some() {
+        if self.sealed() {
             return StoreAnswer::Failed;
         }
         if delta.is_empty() {
@@ -163,10 +172,10 @@ impl<K: Keeper + Drop> Db<K> {
             return StoreAnswer::Exhausted;
         };
         let mut added = Vec::new(alloc);
-        if place(alloc, &mut self.rows, &delta, &mut added).is_err() {
+        let Ok(()) = place(alloc, &mut self.rows, &delta, &mut added) else {
             take_out(&mut self.rows, &mut added);
             return StoreAnswer::Exhausted;
-        }
+        };
         match self.keeper.commit(alloc, changes.as_slice()) {
             Ok(()) => {
                 make(&mut self.rows, delta);

@@ -63,11 +63,7 @@ impl Rows {
     }
 
     /// The rows of the table of this name, in ascending order of their identifiers. All rows are looked at.
-    pub fn of_table(
-        &self,
-        alloc: Global,
-        table: &str,
-    ) -> Result<Vec<(&RowKey, &Row)>, AllocError>
+    pub fn of_table(&self, alloc: Global, table: &str) -> Result<Vec<(&RowKey, &Row)>, AllocError>
         ensures { IfOk result (λ rows. map (λ r. (r.0.now, r.1.now)) rows.items ≡ filter (λ r. is_text r.0.0 table.now) (entries self.now)) }
     {
         let mut rows = Vec::new(alloc);

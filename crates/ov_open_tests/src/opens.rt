@@ -4,8 +4,8 @@ ghost use Rattle.ov_specs.specs.Tree.{has_real};
 
 use ov_atoms::{Atom, Datum};
 use ov_base::{Bytes, Text, Tree, has_real};
-use ov_db::{Columns, Row, RowKey, Rows};
-use ov_early::{Change, Keeper, Line, ListKeeper};
+use ov_db::{Columns, Db, Delta, Row, RowKey, Rows};
+use ov_early::{Change, Keeper, Line, ListKeeper, OpenFault};
 use ov_schema::Schema;
 use serde_json::Value;
 use std::alloc::Global;
@@ -76,11 +76,20 @@ fn lines_text(alloc: Global, rows: &Rows) -> Result<String, Fail> {
     Ok(text)
 }
 
-/// The rows of what the keeper holds, each as the text of its line; or why they can't be opened under the schema.
-fn opened(alloc: Global, keeper: &mut ListKeeper, schema: &str) -> Result<String, Fail> {
+/// The database of what the keeper holds under the schema.
+fn database(
+    alloc: Global,
+    keeper: ListKeeper,
+    schema: &str,
+) -> Result<Result<Db<ListKeeper>, OpenFault>, Fail> {
     let schema = Schema::read(alloc, Tree::new(value(alloc, schema)?))?;
-    match Rows::open(alloc, keeper, &schema) {
-        Ok(rows) => lines_text(alloc, &rows),
+    Ok(Db::open(alloc, keeper, schema))
+}
+
+/// The rows of what the keeper holds, each as the text of its line; or why they can't be opened under the schema.
+fn opened(alloc: Global, keeper: ListKeeper, schema: &str) -> Result<String, Fail> {
+    match database(alloc, keeper, schema)? {
+        Ok(db) => lines_text(alloc, db.rows()),
         Err(fault) => Ok(format!(in alloc; "{fault}")?),
     }
 }
@@ -90,8 +99,8 @@ fn refused(alloc: Global, bodies: &str) -> Result<String, Fail> {
     let mut text = String::new(alloc);
     for body in bodies.lines() {
         let line = format!(in alloc; "Port 2 1 {body}")?;
-        let mut keeper = keeper(alloc, NET, line.as_str())?;
-        if opened(alloc, &mut keeper, NET)?.as_str() == "a stored row does not fit the schema" {
+        let keeper = keeper(alloc, NET, line.as_str())?;
+        if opened(alloc, keeper, NET)?.as_str() == "a stored row does not fit the schema" {
             text.push_str(body)?;
             text.push_str("\n")?;
         }
@@ -107,9 +116,10 @@ Port 5 4 {"name":"","peer":["uuid","00000000-0000-0000-0000-000000000003"],"tag"
 Switch 2 1 {"load":0,"main":["set",[]],"name":"s1","ports":["set",[]]}
 Switch 6 1 {"load":-9223372036854775808,"main":["uuid","00000000-0000-0000-0000-000000000003"],"name":"\"\u0001é","ports":["set",[["uuid","00000000-0000-0000-0000-000000000003"],["uuid","00000000-0000-0000-0000-000000000005"]]]}
 "#;
-    let mut keeper = keeper(alloc, NET, lines)?;
-    assert_eq!(rt; opened(alloc, &mut keeper, NET)?.as_str(), lines);
-    assert_eq!(rt; opened(alloc, &mut keeper, NET)?.as_str(), lines);
+    assert_eq!(rt;
+        opened(alloc, keeper(alloc, NET, lines)?, NET)?.as_str(),
+        lines
+    );
     Ok(())
 }
 
@@ -146,9 +156,9 @@ fn bodies_that_are_no_row_are_refused(rt: HostRuntime) -> Result<(), Fail> {
 fn a_line_of_another_table_is_refused(rt: HostRuntime) -> Result<(), Fail> {
     let alloc = rt.alloc();
     let lines = "Port 2 1 {\"name\":\"p1\",\"peer\":[\"set\",[]],\"tag\":7}\nports 2 1 {}";
-    let mut keeper = keeper(alloc, NET, lines)?;
+    let keeper = keeper(alloc, NET, lines)?;
     assert_eq!(rt;
-        opened(alloc, &mut keeper, NET)?.as_str(),
+        opened(alloc, keeper, NET)?.as_str(),
         "a stored row does not fit the schema"
     );
     Ok(())
@@ -158,46 +168,37 @@ fn a_line_of_another_table_is_refused(rt: HostRuntime) -> Result<(), Fail> {
 #[test]
 fn another_schema_is_refused(rt: HostRuntime) -> Result<(), Fail> {
     let alloc = rt.alloc();
-    let mut of_net = keeper(alloc, NET, "ports 2 1 {}")?;
+    let of_net = keeper(alloc, NET, "ports 2 1 {}")?;
     assert_eq!(rt;
-        opened(alloc, &mut of_net, NET_0)?.as_str(),
+        opened(alloc, of_net, NET_0)?.as_str(),
         "the stored schema is another one"
     );
     let spaced = format!(in alloc; "{NET} ")?;
-    let mut with_a_space = keeper(alloc, spaced.as_str(), "")?;
+    let with_a_space = keeper(alloc, spaced.as_str(), "")?;
     assert_eq!(rt;
-        opened(alloc, &mut with_a_space, NET)?.as_str(),
+        opened(alloc, with_a_space, NET)?.as_str(),
         "the stored schema is another one"
     );
     Ok(())
 }
 
-/// Adds a switch of this name, where there is none of its key.
-fn add(alloc: Global, rows: &mut Rows, name: &str) -> Result<(), Fail> {
+/// The changes that put a switch of this name.
+fn put_switch(alloc: Global, name: &str) -> Result<Delta, Fail> {
     let key = RowKey::new(alloc, "Switch", Uuid::from_u128(2))?;
-    if rows.contains(&key) {
-        return Ok(());
-    }
     let row = switch(alloc, name)?;
-    rows.insert(alloc, key, row)?;
-    Ok(())
+    let mut delta = Delta::new(alloc);
+    delta.insert(key, Some(row))?;
+    Ok(delta)
 }
 
-/// Commits rows that are not sealed.
-fn commit<K: Keeper>(alloc: Global, rows: &mut Rows, keeper: &mut K) {
-    if !rows.is_sealed() {
-        rows.commit(alloc, keeper);
-    }
-}
-
-/// Puts a switch of this name beside what is opened, and commits it.
-fn add_switch(alloc: Global, keeper: &mut ListKeeper, name: &str) -> Result<(), Fail> {
-    let tree = Tree::new(value(alloc, NET)?);
-    let schema = Schema::read(alloc, tree)?;
-    let mut rows = Rows::open(alloc, keeper, &schema)?;
-    add(alloc, &mut rows, name)?;
-    commit(alloc, &mut rows, keeper);
-    Ok(())
+/// What the keeper holds after a switch of this name was committed beside what is opened.
+fn with_switch(alloc: Global, keeper: ListKeeper, name: &str) -> Result<ListKeeper, Fail> {
+    let delta = put_switch(alloc, name)?;
+    let Ok(mut db) = database(alloc, keeper, NET)? else {
+        return Err(Fail::new("not opened"));
+    };
+    db.commit(alloc, delta);
+    Ok(db.into_keeper())
 }
 
 /// A switch of this name, in version 1.
@@ -226,10 +227,9 @@ fn switch(alloc: Global, name: &str) -> Result<Row, Fail> {
 fn committed_rows_are_opened_again(rt: HostRuntime) -> Result<(), Fail> {
     let alloc = rt.alloc();
     let port = r#"Port 3 1 {"name":"p1","peer":["set",[]],"tag":["set",[]]}"#;
-    let mut keeper = keeper(alloc, NET, port)?;
-    add_switch(alloc, &mut keeper, "s1")?;
+    let keeper = with_switch(alloc, keeper(alloc, NET, port)?, "s1")?;
     assert_eq!(rt;
-        opened(alloc, &mut keeper, NET)?.as_str(),
+        opened(alloc, keeper, NET)?.as_str(),
         r#"Port 3 1 {"name":"p1","peer":["set",[]],"tag":["set",[]]}
 Switch 2 1 {"load":0,"main":["set",[]],"name":"s1","ports":["set",[]]}
 "#

@@ -35,7 +35,7 @@ impl Draws for Counter {
     }
 }
 
-fn value(alloc: Global, text: &str) -> Result<Value, Fail>
+pub(crate) fn value(alloc: Global, text: &str) -> Result<Value, Fail>
     ensures { IfOk result (λ v. has_real (view v) ≡ false) }
 {
     let value = Value::from_str(alloc, text)?;
@@ -61,13 +61,13 @@ fn trees(alloc: Global, text: &str) -> Result<Trees, Fail> {
     Ok(trees)
 }
 
-/// The text of the results of a transaction on an empty database, and how many rows it leaves.
+/// The text of the results of a transaction on an empty database, and how many rows it changes.
 fn performed(alloc: Global, draws: &[Uuid], operations: &Trees) -> Result<(String, usize), Fail> {
     let schema = Schema::read(alloc, Tree::new(value(alloc, SCHEMA)?))?;
-    let mut rows = Rows::new(alloc);
-    let results = perform(alloc, &schema, &mut rows, draws, operations)?;
-    let text = results.into_tree().into_value().to_string(alloc)?;
-    Ok((text, rows.map().len()))
+    let rows = Rows::new(alloc);
+    let performed = perform(alloc, &schema, &rows, draws, operations)?;
+    let text = performed.results.into_tree().into_value().to_string(alloc)?;
+    Ok((text, performed.delta.map().len()))
 }
 
 /// The same with fresh draws.

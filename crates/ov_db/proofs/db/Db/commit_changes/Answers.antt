@@ -1,0 +1,47 @@
+use Rattle.std.proofs.Common.{◌≡◌, Option, Some, None, option_map, sym, ap, subst, ◌∙◌}
+use mathlib.Core.Logic.{inl, inr}
+use Rattle.ov_specs.specs.Database.{Database, AreLinesOf}
+use Rattle.ov_early.specs.Keeping.{Refuses}
+use Rattle.ov_early.specs.Views.{changes_view}
+use Rattle.ov_db.specs.Changing.{applied}
+use Rattle.ov_db.specs.Kept.{Kept}
+use Rattle.ov_db.proofs.Places.{applied-same}
+use Rattle.ov_db.proofs.Stored.{found, found_changed, unsealed_held, still_none}
+use Rattle.ov_db.proofs.db.Db.commit_changes.Goals as goal
+
+pub invariant_of-self-in-Ok-commit : goal.invariant_of-self-in-Ok-commit
+invariant_of-self-in-Ok-commit g c honest held leaves =
+    let rows = c.self.inside.rows in
+    let unsealed = ap (λ (k : Kept _). k.sealed) c.self.view_is ∙ c.requires in
+    let changes = ap changes_view c.as_slice.ensures.value ∙ c.in-Ok.ensures in
+    let made = c.in-Ok-commit.ensures.ok honest held leaves in
+    let before = found _ rows made.0 (unsealed_held _ rows _ made.0 unsealed (c.self.invariant (c.commit.ensures.honest honest) made.0 made.1)) in
+    let now = found_changed _ c.args.delta rows _ made.0 held before changes made.2 in
+    let rows_are = c.make.ensures ∙ applied-same c.args.delta rows c.place.new.rows c.in-Ok-place.ensures.same in
+    (now.0, inl (subst (λ (d : Database). AreLinesOf d held.lines) (sym rows_are) now.1))
+
+pub invariant_of-self-in-Device-1 : goal.invariant_of-self-in-Device-1
+invariant_of-self-in-Device-1 g c honest held leaves =
+    let rows = c.self.inside.rows in
+    let unsealed = ap (λ (k : Kept _). k.sealed) c.self.view_is ∙ c.requires in
+    let changes = ap changes_view c.as_slice.ensures.value ∙ c.in-Ok.ensures in
+    let back : c.take_out-in-Err-Device.new.rows ≡ rows = c.take_out-in-Err-Device.ensures ∙ c.in-Ok-place.ensures.added in
+    let may = subst (Refuses (changes_view c.as_slice.result.now) (g.K.Keeper.leaves c.self.inside.keeper) (g.K.Keeper.leaves c.commit.new.self)) c.in-Err-Device.field-0-is (c.in-Err-Device.ensures.err honest) in
+    let was = c.self.invariant (c.commit.ensures.honest honest) in
+    elim (may held leaves) [
+      | inl same ↦
+          let before = found _ rows held (unsealed_held _ rows _ held unsealed (was held same)) in
+          (before.0, inl (subst (λ (d : Database). AreLinesOf d held.lines) (sym back) before.1))
+      | inr made ↦
+          let before = found _ rows made.0 (unsealed_held _ rows _ made.0 unsealed (was made.0 made.1)) in
+          let now = found_changed _ c.args.delta rows _ made.0 held before changes made.2 in
+          (now.0, inr (applied c.args.delta rows, ap (λ (d : Database). Some (applied c.args.delta d)) back, now.1))
+    ]
+
+pub returns-in-Ok-commit-clause-commits : goal.returns-in-Ok-commit-clause-commits
+returns-in-Ok-commit-clause-commits g c =
+    let delta = c.args.delta in
+    let schema = ap (λ (k : Kept _). k.schema) c.self.view_is in
+    let rows = c.make.ensures ∙ applied-same delta c.self.inside.rows c.place.new.rows c.in-Ok-place.ensures.same ∙ ap (λ (k : Kept _). applied delta k.committed) c.self.view_is in
+    let sealed = still_none c.self.inside.failed (λ d. applied d c.self.inside.rows) (λ d. applied d c.make.new.rows) (ap (λ (k : Kept _). k.sealed) c.self.view_is ∙ c.requires) ∙ sym c.requires in
+    λ i. record { schema = schema i; committed = rows i; sealed = sealed i; keeper = c.commit.new.self }
