@@ -1,11 +1,11 @@
 -- What comes of the work on a message.
-use Rattle.std.proofs.Common.{◌≡◌, ℕ, ◌≤◌, List, [], ◌∷◌, ◌++◌, length, map, refl, sym, ap, ◌∙◌, cond, Bool, true, false, Option, Some, None, arith, inl, inr, ◌⊎◌}
-use Rattle.std.specs.Prelude.{option_to_list, not, is_some}
+use Rattle.std.proofs.Common.{◌≡◌, ℕ, List, [], ◌∷◌, ◌++◌, length, map, refl, sym, ap, ◌∙◌, cond, Bool, true, false, Option, Some, None, arith, inl, inr}
+use Rattle.std.specs.Prelude.{option_to_list, is_some}
 use Rattle.std.proofs.lemmas.List.{append-nil}
 use Rattle.std.proofs.lemmas.Bool.{eq-eqb, le-leb}
 use Rattle.serde_json.specs.Data.{Data, Items, array}
 use Rattle.serde_json.specs.Written.{compact_text}
-use Rattle.ov_specs.specs.Database.{Database, is_database, AreLinesOf}
+use Rattle.ov_specs.specs.Database.{Database, is_database}
 use Rattle.ov_specs.specs.Frame.{frame, reply_tree}
 use Rattle.ov_specs.specs.History.{frames_to}
 use Rattle.ov_specs.specs.Lines.{Contents}
@@ -17,7 +17,6 @@ use Rattle.ov_db.specs.Committing.{IsHeld}
 use Rattle.ov_db.specs.Changing.{Delta, applied}
 use Rattle.ov_db.specs.Kept.{Kept}
 use Rattle.ov_core.proofs.Answered.{adds_sent, nothing_sent}
-use Rattle.ov_core.specs.declared.answer.Work as code
 use Rattle.ov_core.specs.declared.answer.Work.TheVariants as kinds
 use Rattle.ov_core.specs.declared.event.Outcome.{Outcome}
 use Rattle.ov_core.specs.declared.event.Outcome.TheVariants as outcome

@@ -49,7 +49,15 @@ fn transact<K: Keeper + Drop, D: Draws>(
     let Ok(draws) = draws_for(alloc, operations, source) else {
         return out_of_memory(Vec::new(alloc));
     };
-    let outcome = attempt(database, alloc, waiting, session, id, draws.as_slice(), operations);
+    let outcome = attempt(
+        database,
+        alloc,
+        waiting,
+        session,
+        id,
+        draws.as_slice(),
+        operations,
+    );
     Worked { draws, outcome }
 }
 

@@ -1,11 +1,9 @@
-use Rattle.std.proofs.Common.{◌≡◌, ◌≢◌, ◌∙◌, List, [], ◌∷◌, length, refl, sym, ap, codes, arith}
+use Rattle.std.proofs.Common.{◌≡◌, ◌≢◌, ◌∙◌, List, [], ◌∷◌, length, refl, sym, ap, codes}
 use Rattle.std.proofs.lemmas.Result.{IfOk-weaker}
-use Rattle.serde_json.specs.Data.{Data, Items}
+use Rattle.serde_json.specs.Data.{Data}
 use Rattle.serde_json.specs.View.{items_view}
 use Rattle.serde_json.specs.declared.value.Value.{Value}
-use Rattle.ov_specs.specs.Machine.{State, Work, schema_of, refused}
-use Rattle.ov_core.specs.Working.{IsWork}
-use Rattle.ov_core.specs.declared.answer.Work as code
+use Rattle.ov_specs.specs.Machine.{State, schema_of, refused}
 use Rattle.ov_core.proofs.answer.schema_work.Goals as goal
 
 -- none, or more than one

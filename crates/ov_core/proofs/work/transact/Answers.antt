@@ -1,4 +1,4 @@
-use Rattle.std.proofs.Common.{◌≡◌, refl, sym, subst, List}
+use Rattle.std.proofs.Common.{sym, subst, List}
 use Rattle.ov_specs.specs.Machine as spec
 use Rattle.ov_specs.specs.Uuid.{Uuid}
 use Rattle.ov_core.specs.Working.{IsAttempt, Comes}

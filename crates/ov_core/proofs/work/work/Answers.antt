@@ -1,7 +1,7 @@
-use Rattle.std.proofs.Common.{◌≡◌, [], refl, sym, subst, Some}
+use Rattle.std.proofs.Common.{sym}
 use Rattle.ov_specs.specs.Machine as spec
 use Rattle.ov_rpc.specs.Message.{message_view}
-use Rattle.ov_core.specs.Working.{Comes, over, listed_first, Goes}
+use Rattle.ov_core.specs.Working.{over}
 use Rattle.ov_core.proofs.Workings.{nothing_drawn, answers_work, transact_work}
 use Rattle.ov_core.proofs.work.work.Goals as goal
 

@@ -1,6 +1,5 @@
-use Rattle.std.proofs.Common.{◌≡◌, ◌≤◌, List, [], refl, true, false, rules, inl, sym, ◌∙◌, ap}
-use Rattle.ov_core.proofs.Steps.{taken, taking, entry_of, entered_as, alone, it_closed, stood_in, left_without, left_open}
-use Rattle.ov_core.specs.Working.{over}
+use Rattle.std.proofs.Common.{◌≡◌, ◌≤◌, [], refl, true, rules, inl, sym, ◌∙◌}
+use Rattle.ov_core.proofs.Steps.{taken, taking, entered_as, alone, it_closed, stood_in, left_without, left_open}
 use Rattle.ov_rpc.specs.Message.{message_view}
 use Rattle.ov_specs.specs.Machine.{is_open}
 use Rattle.ov_core.proofs.machine.Core.take.Goals as goal

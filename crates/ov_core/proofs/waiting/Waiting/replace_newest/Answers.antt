@@ -1,5 +1,5 @@
-use Rattle.std.proofs.Common.{◌≡◌, ◌∷◌, [], ◌++◌, List, ℕ, ap, sym, ◌∙◌, rules, Some, None, refl, length, arith, Option, true, false}
-use Rattle.std.specs.Prelude.{option_to_list, is_some}
+use Rattle.std.proofs.Common.{◌++◌, ap, sym, ◌∙◌, rules}
+use Rattle.std.specs.Prelude.{option_to_list}
 use Rattle.ov_core.proofs.Queueing.{waiting_in, waiting_after, frames_in, some_waits, replaced, popped_some, popped_none}
 use Rattle.ov_core.specs.Waiting.{queues_of}
 use Rattle.ov_core.proofs.waiting.Waiting.replace_newest.Goals as goal
