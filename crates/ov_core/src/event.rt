@@ -41,7 +41,7 @@ pub enum Event {
     Tick,
 }
 
-/// What came of an attempt that asked the store, or that was refused memory (own). No attempt asks the store yet.
+/// What came of an attempt that asked the store, or that was refused memory (own).
 #[derive(Clone, Copy, Debug, PartialEq, Eq)]
 pub enum Outcome {
     /// The store kept its changes.
