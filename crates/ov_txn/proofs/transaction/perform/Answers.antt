@@ -8,7 +8,7 @@ use Rattle.ov_txn.specs.Errors.{error_view}
 use Rattle.ov_txn.specs.Going.{nulls_after}
 use Rattle.ov_txn.specs.Staging.{staged}
 use Rattle.ov_txn.proofs.Performing.{items_at, at_does, at_refuses, at_end, frame_on}
-use Rattle.ov_txn.proofs.transaction.perform_each.Goals as goal
+use Rattle.ov_txn.proofs.transaction.perform.Goals as goal
 
 pub returns-in-Err-Refused-clause-results : goal.returns-in-Err-Refused-clause-results
 returns-in-Err-Refused-clause-results c =
