@@ -11,7 +11,7 @@ use Rattle.ov_specs.specs.SchemaTypes.{Schema}
 use Rattle.ov_specs.specs.Transaction.{Transacted, and_item, nulls, goes_on, perform, transaction}
 use Rattle.ov_specs.specs.Uuid.{Uuid}
 use Rattle.ov_txn.specs.Going.{nulls_after, items_append, prefixed}
-use Rattle.ov_txn.specs.Staging.{Stage, staged}
+use Rattle.ov_txn.specs.Staging.{staged}
 
 pub items_at : (vs : List Value) (i : ℕ) (v : Value) → i < length vs → v ≡ get_or vs i v → items_view (drop i vs) ≡ item (view v) (items_view (drop (i + 1) vs))
 items_at vs i v h e = ap items_view (drop_more vs i v h ∙ ap (λ y. y ∷ drop (i + 1) vs) (sym e))
@@ -53,7 +53,3 @@ module _ (schema : Schema) (before : Database) (version : Uuid) where
   -- no operation is left
   pub at_end : (all : Transacted) (g : Staged) (rest rs : Items) → rest ≡ no_items → all ≡ prefixed rs (perform schema before version g rest) → all ≡ record { results = rs; database = g.rows }
   at_end all g rest rs at h = h ∙ ap (λ ys. prefixed rs (perform schema before version g ys)) at ∙ ap (λ ys. record { results = ys; database = g.rows }) (append_none rs)
-
--- what was changed twice has all but the rows from the first
-pub frame_on : (a b c : Stage) → b ≡ record a { now = b.now } → c ≡ record b { now = c.now } → c ≡ record a { now = c.now }
-frame_on a b c h k = let f : Stage → Stage = λ r. record r { now = c.now } in k ∙ ap f h

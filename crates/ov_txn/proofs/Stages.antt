@@ -75,3 +75,6 @@ least delta db grown = by_test (is_database db (applied delta db)) (len delta) r
         unequal e = cc
         apart : (n : ℕ) → (n ≡ 0 → ⊥) → (n == 0) ≡ false
         apart n never = grind (arith, nat_tests, never)
+
+pub least-empty : (db : Database) → (len (empty {X = Option Row} {R = line_cmp}) == 0) ≡ is_database db db
+least-empty db = least empty db (grown-empty db) ∙ ap (is_database db) (applied-empty db)

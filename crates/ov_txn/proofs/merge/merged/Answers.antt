@@ -1,8 +1,8 @@
-use Rattle.std.proofs.Common.{◌≡◌, ◌++◌, ◌+◌, ◌<◌, ◌≤◌, [], ◌∷◌, List, T, length, drop, map, flat_map, sym, ap, subst, rules, ◌∙◌, arith, Less, Equal, Greater}
-use Rattle.std.specs.FinMap.{is_sorted}
-use Rattle.ov_specs.specs.Lines.{line_cmp}
+use Rattle.std.proofs.Common.{◌≡◌, ◌++◌, ◌+◌, ◌<◌, ◌-◌, length, drop, take, map, sym, ap, ◌∙◌, arith, Less, Equal, Greater}
+use Rattle.std.proofs.lemmas.List.{map-append}
+use Rattle.std.specs.List.{flat_map}
 use Rattle.ov_txn.specs.Staging.{row_made}
-use Rattle.ov_txn.proofs.Equal.{map-push}
+use Rattle.ov_txn.proofs.Equal.{map-push, slice-rest}
 use Rattle.ov_txn.proofs.Merging.{Entries, placed_is, rows_next, changes_next, row_turn, same_turn, change_turn, rows_through, changes_through, with_others}
 use Rattle.ov_txn.proofs.merge.merged.Goals.{then-turns-test+else-j-changes, else-turns-test}
 use Rattle.ov_txn.proofs.merge.merged.Goals as goal
@@ -17,7 +17,7 @@ turns-preserved-in-Less c =
     let y = c.index-changes-j.result in
     let p : i < length xs = c.turns-test.true in
     let q : j < length ys = c.if-j-changes.true in
-    let ms = map (λ r. (r.0.now, r.1.now)) c.turns.merged.items in
+    let ms : Entries = map (λ r. (r.0.now, r.1.now)) c.turns.merged.items in
     record {
       row = omega (arith, p);
       change = c.turns.invariant.change;
@@ -38,7 +38,7 @@ turns-preserved-in-Equal c =
     let y = c.index-changes-j.result in
     let p : i < length xs = c.turns-test.true in
     let q : j < length ys = c.if-j-changes.true in
-    let ms = map (λ r. (r.0.now, r.1.now)) c.turns.merged.items in
+    let ms : Entries = map (λ r. (r.0.now, r.1.now)) c.turns.merged.items in
     record {
       row = omega (arith, p);
       change = omega (arith, q);
@@ -59,7 +59,7 @@ turns-preserved c =
     let y = c.index-changes-j.result in
     let p : i < length xs = c.turns-test.true in
     let q : j < length ys = c.if-j-changes.true in
-    let ms = map (λ r. (r.0.now, r.1.now)) c.turns.merged.items in
+    let ms : Entries = map (λ r. (r.0.now, r.1.now)) c.turns.merged.items in
     record {
       row = c.turns.invariant.row;
       change = omega (arith, q);
@@ -71,4 +71,19 @@ turns-preserved c =
     }
 
 pub returns : goal.returns
-returns c = ?
+returns c =
+    let xs = c.args.rows.now in
+    let ys = c.args.changes.now in
+    let i = c.turns.i in
+    let j = c.turns.j in
+    let ms : Entries = map (λ r. (r.0.now, r.1.now)) c.turns.merged.items in
+    let pushed = ap (map (λ r. (r.0.now, r.1.now))) c.in_ok-extend_from_slice.ensures.items ∙ map-append (λ r. (r.0.now, r.1.now)) c.turns.merged.items (take (length xs - i) (drop i xs)) in
+    c.in_ok-push_changes.ensures
+    ∙ ap (λ (es : Entries). es ++ flat_map row_made (map (λ r. (r.0.now, r.1.now)) (take (length ys - j) (drop j ys)))) pushed
+    ∙ ap (λ zs. (ms ++ map (λ r. (r.0.now, r.1.now)) zs) ++ flat_map row_made (map (λ r. (r.0.now, r.1.now)) (take (length ys - j) (drop j ys)))) (slice-rest xs i)
+    ∙ ap (λ zs. (ms ++ map (λ r. (r.0.now, r.1.now)) (drop i xs)) ++ flat_map row_made (map (λ r. (r.0.now, r.1.now)) zs)) (slice-rest ys j)
+    ∙ elim c.turns-test.branch [
+      | then-turns-test+else-j-changes w ↦ changes_through (λ r. (r.0.now, r.1.now)) (λ r. (r.0.now, r.1.now)) xs ys ms i j (omega (arith, w.if-j-changes.false))
+      | else-turns-test w ↦ rows_through (λ r. (r.0.now, r.1.now)) (λ r. (r.0.now, r.1.now)) xs ys ms i j (omega (arith, w.turns-test.false)) c.turns.invariant.changes
+    ]
+    ∙ c.turns.invariant.going ∙ placed_is (map (λ r. (r.0.now, r.1.now)) ys) (map (λ r. (r.0.now, r.1.now)) xs) c.requires.rows

@@ -7,7 +7,7 @@ use Rattle.ov_txn.proofs.transaction.perform.Given as goal
 
 abbrev pub invariant-loop-i : goal.invariant-loop-i
 invariant-loop-i l = record {
-  going : spec.transaction l.schema l.fn.rows.committed l.draws (items_view l.trees)
-      ≡ prefixed l.results (spec.perform l.schema l.fn.rows.committed l.version (staged l.rows.now l.draws l.used) (items_view (drop l.i l.trees)));
-  frame : l.rows ≡ record l.fn.rows { now = l.rows.now };
+  going : spec.transaction l.schema l.rows l.draws (items_view l.trees)
+      ≡ prefixed l.results (spec.perform l.schema l.rows l.version (staged l.stage.now l.draws l.used) (items_view (drop l.i l.trees)));
+  before : l.stage.before ≡ l.rows;
 }
