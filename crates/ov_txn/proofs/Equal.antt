@@ -1,5 +1,5 @@
 -- Lists that are gone through element by element.
-use Rattle.std.proofs.Common.{◌≡◌, ℕ, ◌+◌, ◌-◌, ◌<◌, ◌≤◌, arith, length-drop, List, [], ◌∷◌, ◌++◌, map, length, get_or, take, drop, Bool, ◌&&◌, refl, sym, ap, ◌∙◌}
+use Rattle.std.proofs.Common.{◌≡◌, ℕ, ◌+◌, ◌-◌, ◌<◌, arith, length-drop, List, [], ◌∷◌, ◌++◌, map, length, get_or, take, drop, Bool, ◌&&◌, refl, sym, ap, ◌∙◌}
 use Rattle.std.proofs.lemmas.List.{drop_more, take_more, take_all}
 use Rattle.std.specs.Cmp.Lexicographic.{pointwise}
 

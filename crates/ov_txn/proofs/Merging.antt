@@ -139,7 +139,7 @@ pub placed_over : (k : LineKey) (o : Option Row) (cs : Changes) (r : LineKey × 
 placed_over k (Some row) cs r es g e h =
     let same_key = key_exact r.0 k e in
     ap (placed cs) (ap (λ q. by_order (line_cmp k q) ((k, row) ∷ r ∷ es) ((q, row) ∷ es) (r ∷ put line_cmp k row es)) same_key
-    ∙ ap (λ o. by_order o ((k, row) ∷ r ∷ es) ((k, row) ∷ es) (r ∷ put line_cmp k row es)) (key_total.antisymm k k ∙ ap ordering_reverse (itself k r.0 same_key e) ))
+    ∙ ap (λ o. by_order o ((k, row) ∷ r ∷ es) ((k, row) ∷ es) (r ∷ put line_cmp k row es)) (key_total.antisymm k k ∙ ap ordering_reverse (itself k r.0 same_key e)))
     ∙ placed_behind (k, row) cs es g
   where
     itself : (k l : LineKey) → l ≡ k → line_cmp l k ≡ Equal → line_cmp k k ≡ Equal

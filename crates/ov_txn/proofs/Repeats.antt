@@ -11,7 +11,7 @@ use Rattle.ov_specs.specs.Method.{is_text}
 use Rattle.ov_specs.specs.Lines.{LineKey}
 use Rattle.ov_specs.specs.Conditions.{Condition, holds}
 use Rattle.ov_specs.specs.Operation.{column_of, columns_of, is_matching, without_repeats}
-use Rattle.ov_specs.specs.Value.{Atom, Datum, Atoms, Pairs}
+use Rattle.ov_specs.specs.Value.{Datum, Atoms, Pairs}
 use Rattle.ov_specs.proofs.Order.{atom_cmp_total}
 use Rattle.ov_txn.proofs.Equal.{drop-at}
 

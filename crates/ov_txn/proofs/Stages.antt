@@ -1,9 +1,9 @@
 -- The rows of a transaction: those before it, with its changes.
-use Rattle.std.proofs.Common.{◌≡◌, ◌≤◌, ◌<◌, ◌+◌, ◌==◌, ℕ, Bool, true, false, cond, Option, Some, None, is_some, refl, sym, ap, ◌∙◌, arith}
+use Rattle.std.proofs.Common.{◌≡◌, ◌<◌, ◌+◌, ◌==◌, ℕ, Bool, true, false, cond, Option, Some, None, is_some, refl, sym, ap, ◌∙◌, arith}
 use Rattle.std.proofs.lemmas.Bool.Decides.{nat_tests}
 use Rattle.std.specs.Cmp.Lexicographic.{as_long}
 use Rattle.std.specs.FinMap.{contains_key, empty, empty_of_len, entries, get, get-empty, get-insert, insert, len, len-empty, len-entries, len-insert, same_map}
-use Rattle.ov_specs.specs.Database.{Database, Row, is_database, is_key, is_row}
+use Rattle.ov_specs.specs.Database.{Database, Row, is_database}
 use Rattle.ov_specs.specs.Lines.{LineKey, line_cmp}
 use Rattle.ov_early.proofs.LineLemmas.{key_exact, key_total}
 use Rattle.ov_db.specs.Changing.{Delta, applied}
@@ -73,6 +73,7 @@ least delta db grown = by_test (is_database db (applied delta db)) (len delta) r
       where
         unequal : false ≡ true → ⊥
         unequal e = cc
+
         apart : (n : ℕ) → (n ≡ 0 → ⊥) → (n == 0) ≡ false
         apart n never = grind (arith, nat_tests, never)
 

@@ -49,7 +49,9 @@ pub fn perform(
     let mut used: usize = 1;
     let trees = operations.as_slice();
     for i in 0..trees.len() {
-        match operate(alloc, schema, version, draws, &mut used, &mut stage, &trees[i]) {
+        match operate(
+            alloc, schema, version, draws, &mut used, &mut stage, &trees[i],
+        ) {
             Ok(tree) => results.push(tree)?,
             Err(Stop::Memory) => return Err(AllocError),
             Err(Stop::Refused(error)) => {

@@ -1,4 +1,4 @@
-use Rattle.std.proofs.Common.{◌≡◌, ◌++◌, Bool, Option, map, sym, ap, ◌∙◌, append-nil}
+use Rattle.std.proofs.Common.{◌++◌, Bool, Option, map, sym, ap, ◌∙◌, append-nil}
 use Rattle.std.specs.List.{filter}
 use Rattle.ov_specs.specs.Database.{Row}
 use Rattle.ov_specs.specs.Lines.{LineKey}

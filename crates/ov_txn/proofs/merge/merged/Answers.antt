@@ -1,4 +1,4 @@
-use Rattle.std.proofs.Common.{◌≡◌, ◌++◌, ◌+◌, ◌<◌, ◌-◌, length, drop, take, map, sym, ap, ◌∙◌, arith, Less, Equal, Greater}
+use Rattle.std.proofs.Common.{◌++◌, ◌+◌, ◌<◌, ◌-◌, length, drop, take, map, sym, ap, ◌∙◌, arith}
 use Rattle.std.proofs.lemmas.List.{map-append}
 use Rattle.std.specs.List.{flat_map}
 use Rattle.ov_txn.specs.Staging.{row_made}
@@ -77,9 +77,8 @@ returns c =
     let i = c.turns.i in
     let j = c.turns.j in
     let ms : Entries = map (λ r. (r.0.now, r.1.now)) c.turns.merged.items in
-    let pushed = ap (map (λ r. (r.0.now, r.1.now))) c.in_ok-extend_from_slice.ensures.items ∙ map-append (λ r. (r.0.now, r.1.now)) c.turns.merged.items (take (length xs - i) (drop i xs)) in
     c.in_ok-push_changes.ensures
-    ∙ ap (λ (es : Entries). es ++ flat_map row_made (map (λ r. (r.0.now, r.1.now)) (take (length ys - j) (drop j ys)))) pushed
+    ∙ ap (λ (es : Entries). es ++ flat_map row_made (map (λ r. (r.0.now, r.1.now)) (take (length ys - j) (drop j ys)))) (ap (map (λ r. (r.0.now, r.1.now))) c.in_ok-extend_from_slice.ensures.items ∙ map-append (λ r. (r.0.now, r.1.now)) c.turns.merged.items (take (length xs - i) (drop i xs)))
     ∙ ap (λ zs. (ms ++ map (λ r. (r.0.now, r.1.now)) zs) ++ flat_map row_made (map (λ r. (r.0.now, r.1.now)) (take (length ys - j) (drop j ys)))) (slice-rest xs i)
     ∙ ap (λ zs. (ms ++ map (λ r. (r.0.now, r.1.now)) (drop i xs)) ++ flat_map row_made (map (λ r. (r.0.now, r.1.now)) zs)) (slice-rest ys j)
     ∙ elim c.turns-test.branch [

@@ -12,44 +12,44 @@ pub loop-key-preserved : goal.loop-key-preserved
 loop-key-preserved c =
     elim c.if-is_matching.branch [
       | then-is_matching+in_ok-chosen+then-not-is_among+in_ok-push w ↦
-        let names = c.args.names.now in
-        let conditions = c.args.conditions.now in
-        let kept = c.loop-key.shown.items in
-        let rows = c.deref-key-items.result.now in
-        let i = c.loop-key.key-index in
-        let r = c.loop-key-item.result in
-        let within : i < length rows = c.loop-key-test.true in
-        let met : is_met conditions (r.0.now, r.1.now) ≡ true = sym c.is_matching.ensures ∙ w.if-is_matching.true in
-        let fresh : among are_columns kept (columns_of names (r.0.now, r.1.now)) ≡ false =
-        ap (λ x. among are_columns kept x) (sym w.in_ok-chosen.ensures) ∙ ap (λ ks. among are_columns ks w.in_ok-chosen.chosen) (sym w.as_slice.ensures.value) ∙ sym w.is_among.ensures ∙ w.if-not-is_among.true in
-        c.loop-key.invariant ∙ shown-new (λ r. (r.0.now, r.1.now)) names conditions kept rows i r within c.loop-key-item.is met fresh
-        ∙ ap (λ row. shown_with names conditions (kept ++ row ∷ []) (map (λ r. (r.0.now, r.1.now)) (drop (i + 1) rows))) (sym w.in_ok-chosen.ensures)
-        ∙ ap (λ ks. shown_with names conditions ks (map (λ r. (r.0.now, r.1.now)) (drop (i + 1) rows))) (sym w.in_ok-push.ensures.items)
-        ∙ ap (λ (v : Vec ShownRow Global). shown_with names conditions v.items (map (λ r. (r.0.now, r.1.now)) (drop (i + 1) rows))) (sym w.shown-is)
+          let names = c.args.names.now in
+          let conditions = c.args.conditions.now in
+          let kept = c.loop-key.shown.items in
+          let rows = c.deref-key-items.result.now in
+          let i = c.loop-key.key-index in
+          let r = c.loop-key-item.result in
+          let within : i < length rows = c.loop-key-test.true in
+          let met : is_met conditions (r.0.now, r.1.now) ≡ true = sym c.is_matching.ensures ∙ w.if-is_matching.true in
+          let fresh : among are_columns kept (columns_of names (r.0.now, r.1.now)) ≡ false =
+          ap (λ x. among are_columns kept x) (sym w.in_ok-chosen.ensures) ∙ ap (λ ks. among are_columns ks w.in_ok-chosen.chosen) (sym w.as_slice.ensures.value) ∙ sym w.is_among.ensures ∙ w.if-not-is_among.true in
+          c.loop-key.invariant ∙ shown-new (λ r. (r.0.now, r.1.now)) names conditions kept rows i r within c.loop-key-item.is met fresh
+          ∙ ap (λ row. shown_with names conditions (kept ++ row ∷ []) (map (λ r. (r.0.now, r.1.now)) (drop (i + 1) rows))) (sym w.in_ok-chosen.ensures)
+          ∙ ap (λ ks. shown_with names conditions ks (map (λ r. (r.0.now, r.1.now)) (drop (i + 1) rows))) (sym w.in_ok-push.ensures.items)
+          ∙ ap (λ (v : Vec ShownRow Global). shown_with names conditions v.items (map (λ r. (r.0.now, r.1.now)) (drop (i + 1) rows))) (sym w.shown-is)
       | then-is_matching+in_ok-chosen+else-not-is_among w ↦
-        let names = c.args.names.now in
-        let conditions = c.args.conditions.now in
-        let kept = c.loop-key.shown.items in
-        let rows = c.deref-key-items.result.now in
-        let i = c.loop-key.key-index in
-        let r = c.loop-key-item.result in
-        let within : i < length rows = c.loop-key-test.true in
-        let met : is_met conditions (r.0.now, r.1.now) ≡ true = sym c.is_matching.ensures ∙ w.if-is_matching.true in
-        let again : among are_columns kept (columns_of names (r.0.now, r.1.now)) ≡ true =
-        ap (λ x. among are_columns kept x) (sym w.in_ok-chosen.ensures) ∙ ap (λ ks. among are_columns ks w.in_ok-chosen.chosen) (sym w.as_slice.ensures.value) ∙ sym w.is_among.ensures ∙ w.if-not-is_among.false in
-        c.loop-key.invariant ∙ shown-again (λ r. (r.0.now, r.1.now)) names conditions kept rows i r within c.loop-key-item.is met again
-        ∙ ap (λ (v : Vec ShownRow Global). shown_with names conditions v.items (map (λ r. (r.0.now, r.1.now)) (drop (i + 1) rows))) (sym w.shown-is)
+          let names = c.args.names.now in
+          let conditions = c.args.conditions.now in
+          let kept = c.loop-key.shown.items in
+          let rows = c.deref-key-items.result.now in
+          let i = c.loop-key.key-index in
+          let r = c.loop-key-item.result in
+          let within : i < length rows = c.loop-key-test.true in
+          let met : is_met conditions (r.0.now, r.1.now) ≡ true = sym c.is_matching.ensures ∙ w.if-is_matching.true in
+          let again : among are_columns kept (columns_of names (r.0.now, r.1.now)) ≡ true =
+          ap (λ x. among are_columns kept x) (sym w.in_ok-chosen.ensures) ∙ ap (λ ks. among are_columns ks w.in_ok-chosen.chosen) (sym w.as_slice.ensures.value) ∙ sym w.is_among.ensures ∙ w.if-not-is_among.false in
+          c.loop-key.invariant ∙ shown-again (λ r. (r.0.now, r.1.now)) names conditions kept rows i r within c.loop-key-item.is met again
+          ∙ ap (λ (v : Vec ShownRow Global). shown_with names conditions v.items (map (λ r. (r.0.now, r.1.now)) (drop (i + 1) rows))) (sym w.shown-is)
       | else-is_matching w ↦
-        let names = c.args.names.now in
-        let conditions = c.args.conditions.now in
-        let kept = c.loop-key.shown.items in
-        let rows = c.deref-key-items.result.now in
-        let i = c.loop-key.key-index in
-        let r = c.loop-key-item.result in
-        let within : i < length rows = c.loop-key-test.true in
-        let unmet : is_met conditions (r.0.now, r.1.now) ≡ false = sym c.is_matching.ensures ∙ w.if-is_matching.false in
-        c.loop-key.invariant ∙ shown-other (λ r. (r.0.now, r.1.now)) names conditions kept rows i r within c.loop-key-item.is unmet
-        ∙ ap (λ (v : Vec ShownRow Global). shown_with names conditions v.items (map (λ r. (r.0.now, r.1.now)) (drop (i + 1) rows))) (sym w.shown-is)
+          let names = c.args.names.now in
+          let conditions = c.args.conditions.now in
+          let kept = c.loop-key.shown.items in
+          let rows = c.deref-key-items.result.now in
+          let i = c.loop-key.key-index in
+          let r = c.loop-key-item.result in
+          let within : i < length rows = c.loop-key-test.true in
+          let unmet : is_met conditions (r.0.now, r.1.now) ≡ false = sym c.is_matching.ensures ∙ w.if-is_matching.false in
+          c.loop-key.invariant ∙ shown-other (λ r. (r.0.now, r.1.now)) names conditions kept rows i r within c.loop-key-item.is unmet
+          ∙ ap (λ (v : Vec ShownRow Global). shown_with names conditions v.items (map (λ r. (r.0.now, r.1.now)) (drop (i + 1) rows))) (sym w.shown-is)
     ]
 
 pub returns : goal.returns

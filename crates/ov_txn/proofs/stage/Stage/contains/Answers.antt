@@ -1,4 +1,4 @@
-use Rattle.std.proofs.Common.{sym, ap, ◌∙◌, rules}
+use Rattle.std.proofs.Common.{ap, ◌∙◌, rules}
 use Rattle.std.specs.FinMap.{contains_key}
 use Rattle.ov_txn.specs.Staging.{Stage}
 use Rattle.ov_txn.proofs.Stages.{changed_here, unchanged_here}

@@ -1,4 +1,4 @@
-use Rattle.std.proofs.Common.{◌≡◌, Some, false, sym, ap, subst, ◌∙◌}
+use Rattle.std.proofs.Common.{◌≡◌, false, sym, ap, subst, ◌∙◌}
 use Rattle.std.specs.FinMap.{contains_key, insert}
 use Rattle.ov_db.specs.Changing.{Delta, applied}
 use Rattle.ov_specs.specs.Database.{Database}

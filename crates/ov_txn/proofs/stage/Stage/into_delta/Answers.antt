@@ -1,5 +1,4 @@
-use Rattle.std.proofs.Common.{◌≡◌, ◌==◌, sym, ap, ◌∙◌}
-use Rattle.ov_db.specs.Changing.{applied}
+use Rattle.std.proofs.Common.{ap, ◌∙◌}
 use Rattle.ov_specs.specs.Database.{is_database}
 use Rattle.ov_txn.specs.Staging.{Stage}
 use Rattle.ov_txn.proofs.Stages.{least}

@@ -1,13 +1,13 @@
-use Rattle.std.proofs.Common.{◌≡◌, ◌==◌, ℕ, Bool, List, T, map, true, sym, ap, subst, rules, ◌∙◌, arith}
+use Rattle.std.proofs.Common.{◌≡◌, ◌==◌, ℕ, T, map, true, sym, ap, subst, ◌∙◌, arith}
 use Rattle.std.proofs.lemmas.Bool.Decides.{nat_tests}
 use Rattle.std.proofs.lemmas.Result.{IfOk-weaker}
 use Rattle.std.specs.FinMap.{entries, is_sorted, len}
 use Rattle.std.specs.List.{filter}
-use Rattle.ov_db.specs.Changing.{Delta, applied, with_rows}
+use Rattle.ov_db.specs.Changing.{with_rows}
 use Rattle.ov_db.specs.Resident.{database_of}
 use Rattle.ov_db.proofs.Places.{Changes}
-use Rattle.ov_specs.specs.Database.{Database, Row}
-use Rattle.ov_specs.specs.Lines.{LineKey, line_cmp}
+use Rattle.ov_specs.specs.Database.{Database}
+use Rattle.ov_specs.specs.Lines.{line_cmp}
 use Rattle.ov_specs.specs.Method.{is_text}
 use Rattle.ov_txn.specs.Staging.{Stage}
 use Rattle.ov_txn.proofs.Merging.{Entries, its_changes_sorted, its_rows_sorted, of_table_after}
