@@ -1,5 +1,5 @@
 -- One draw more at the end.
-use Rattle.std.proofs.Common.{◌≡◌, List, ℕ, [], ◌∷◌, ◌++◌, refl, subst}
+use Rattle.std.proofs.Common.{List, ℕ, [], ◌∷◌, ◌++◌, refl, subst}
 use Rattle.ov_early.specs.Drawing.{DrawsFrom}
 
 pub draws_last : {D : Type 0} (draws : D → List ℕ → D → Type 0) (old : D) (xs : List (List ℕ)) (mid : D) (x : List ℕ) (new : D) → DrawsFrom draws old xs mid → draws mid x new → DrawsFrom draws old (xs ++ x ∷ []) new

@@ -5,3 +5,5 @@ pub mod Placing
 pub mod Matching
 pub mod Repeats
 pub mod Performing
+pub mod Stages
+pub mod Merging

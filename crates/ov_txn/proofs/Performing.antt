@@ -1,5 +1,5 @@
 -- How a transaction goes on, operation by operation.
-use Rattle.std.proofs.Common.{◌≡◌, ℕ, ◌+◌, ◌<◌, List, [], ◌∷◌, length, get_or, drop, refl, sym, ap, ◌∙◌}
+use Rattle.std.proofs.Common.{◌≡◌, ℕ, ◌+◌, ◌<◌, List, ◌∷◌, length, get_or, drop, refl, sym, ap, ◌∙◌}
 use Rattle.std.proofs.lemmas.List.{drop_more}
 use Rattle.serde_json.specs.Data.{Data, null, Items, no_items, item}
 use Rattle.serde_json.specs.View.{view, items_view}
@@ -10,7 +10,6 @@ use Rattle.ov_specs.specs.Operation.{Staged, Does, Refuses, operation}
 use Rattle.ov_specs.specs.SchemaTypes.{Schema}
 use Rattle.ov_specs.specs.Transaction.{Transacted, and_item, nulls, goes_on, perform, transaction}
 use Rattle.ov_specs.specs.Uuid.{Uuid}
-use Rattle.ov_db.specs.Resident.{Resident}
 use Rattle.ov_txn.specs.Going.{nulls_after, items_append, prefixed}
 use Rattle.ov_txn.specs.Staging.{staged}
 
@@ -54,7 +53,3 @@ module _ (schema : Schema) (before : Database) (version : Uuid) where
   -- no operation is left
   pub at_end : (all : Transacted) (g : Staged) (rest rs : Items) → rest ≡ no_items → all ≡ prefixed rs (perform schema before version g rest) → all ≡ record { results = rs; database = g.rows }
   at_end all g rest rs at h = h ∙ ap (λ ys. prefixed rs (perform schema before version g ys)) at ∙ ap (λ ys. record { results = ys; database = g.rows }) (append_none rs)
-
--- what was changed twice has all but the rows from the first
-pub frame_on : (a b c : Resident) → b ≡ record a { now = b.now } → c ≡ record b { now = c.now } → c ≡ record a { now = c.now }
-frame_on a b c h k = let f : Resident → Resident = λ r. record r { now = c.now } in k ∙ ap f h

@@ -1,18 +1,19 @@
 -- Rows that are shown once: the first of those that are equal, as a walk from the front keeps them.
-use Rattle.std.proofs.Common.{◌≡◌, ℕ, List, [], ◌∷◌, ◌++◌, Bool, true, false, not, ◌||◌, ◌&&◌, cond, if◌then◌else◌, filter, map, refl, sym, ap, ◌∙◌, append_assoc, append-nil}
+use Rattle.std.proofs.Common.{◌≡◌, ◌<◌, ◌+◌, length, get_or, drop, ℕ, List, [], ◌∷◌, ◌++◌, Bool, true, false, not, ◌||◌, ◌&&◌, cond, if◌then◌else◌, filter, map, refl, sym, ap, ◌∙◌, append_assoc, append-nil}
 use Rattle.std.proofs.lemmas.Bool.{and_parts, and_from, false≢true}
 use Rattle.std.proofs.lemmas.List.Folds.{list_any-append}
-use Rattle.std.specs.List.{list_any}
+use Rattle.std.specs.List.{list_any, list_all}
 use Rattle.std.specs.Cmp.{eq_by_cmp_equiv, partial_equiv_from_equiv}
 use Rattle.std.specs.Cmp.Lexicographic.{pointwise, nat_list_eq_equiv}
 use Rattle.std.specs.FinMap.{keys, entries}
 use Rattle.ov_specs.specs.Database.{Row, is_atom, is_pair, is_datum, are_columns}
 use Rattle.ov_specs.specs.Method.{is_text}
 use Rattle.ov_specs.specs.Lines.{LineKey}
-use Rattle.ov_specs.specs.Conditions.{Condition}
-use Rattle.ov_specs.specs.Operation.{columns_of, is_matching, without_repeats}
-use Rattle.ov_specs.specs.Value.{Atom, Datum, Atoms, Pairs}
+use Rattle.ov_specs.specs.Conditions.{Condition, holds}
+use Rattle.ov_specs.specs.Operation.{column_of, columns_of, is_matching, without_repeats}
+use Rattle.ov_specs.specs.Value.{Datum, Atoms, Pairs}
 use Rattle.ov_specs.proofs.Order.{atom_cmp_total}
+use Rattle.ov_txn.proofs.Equal.{drop-at}
 
 abbrev pub Shown : Type 0
 Shown = List (List ℕ × Datum)
@@ -147,17 +148,45 @@ without_repeats-kept rows = without_repeats-once rows ∙ sym (kept_with-once ar
 
 -- ---- the rows of a table
 
--- what is kept, with what is shown of the table's rows among these that meet all conditions
-abbrev pub shown_with : List (List ℕ) → List ℕ → List Condition → List Shown → List (LineKey × Row) → List Shown
-shown_with names table conditions kept rows = kept_with are_columns kept (map (columns_of names) (filter (is_matching table conditions) rows))
+-- a row that meets all conditions
+abbrev pub is_met : List Condition → LineKey × Row → Bool
+is_met conditions r = list_all (holds (column_of r)) conditions
 
-module _ (names : List (List ℕ)) (table : List ℕ) (conditions : List Condition) (kept : List Shown) (r : LineKey × Row) (rest : List (LineKey × Row)) where
-  pub shown-new : is_matching table conditions r ≡ true → among are_columns kept (columns_of names r) ≡ false
-      → shown_with names table conditions kept (r ∷ rest) ≡ shown_with names table conditions (kept ++ columns_of names r ∷ []) rest
-  shown-new h k = rw (h, k) refl
+-- the table's rows that meet all conditions
+pub matching-of_table : (table : List ℕ) (conditions : List Condition) (rows : List (LineKey × Row)) → filter (is_matching table conditions) rows ≡ filter (is_met conditions) (filter (λ r. is_text r.0.0 table) rows)
+matching-of_table table conditions [] = refl
+matching-of_table table conditions (r ∷ rows) =
+    let others = filter (is_matching table conditions) rows in
+    let of_table = filter (λ r. is_text r.0.0 table) rows in
+    elim (is_text r.0.0 table) as (λ b. cond (b && is_met conditions r) (r ∷ others) others ≡ filter (is_met conditions) (cond b (r ∷ of_table) of_table)) [
+      | true ↦ ap (λ (rest : List (LineKey × Row)). cond (is_met conditions r) (r ∷ rest) rest) (matching-of_table table conditions rows)
+      | false ↦ matching-of_table table conditions rows
+    ]
 
-  pub shown-again : is_matching table conditions r ≡ true → among are_columns kept (columns_of names r) ≡ true → shown_with names table conditions kept (r ∷ rest) ≡ shown_with names table conditions kept rest
-  shown-again h k = rw (h, k) refl
+-- what is kept, with what is shown of those of these rows that meet all conditions
+abbrev pub shown_with : List (List ℕ) → List Condition → List Shown → List (LineKey × Row) → List Shown
+shown_with names conditions kept rows = kept_with are_columns kept (map (columns_of names) (filter (is_met conditions) rows))
 
-  pub shown-other : is_matching table conditions r ≡ false → shown_with names table conditions kept (r ∷ rest) ≡ shown_with names table conditions kept rest
-  shown-other h = rw h refl
+module _ {A : Type 0} (f : A → LineKey × Row) (names : List (List ℕ)) (conditions : List Condition) (kept : List Shown) (rows : List A) (i : ℕ) (r : A) (p : i < length rows) (at : r ≡ get_or rows i r) where
+  here : map f (drop i rows) ≡ f r ∷ map f (drop (i + 1) rows)
+  here = ap (map f) (drop-at rows i r p at)
+
+  pub shown-new : is_met conditions (f r) ≡ true → among are_columns kept (columns_of names (f r)) ≡ false
+      → shown_with names conditions kept (map f (drop i rows)) ≡ shown_with names conditions (kept ++ columns_of names (f r) ∷ []) (map f (drop (i + 1) rows))
+  shown-new h k = ap (shown_with names conditions kept) here ∙ new
+    where
+      new : shown_with names conditions kept (f r ∷ map f (drop (i + 1) rows)) ≡ shown_with names conditions (kept ++ columns_of names (f r) ∷ []) (map f (drop (i + 1) rows))
+      new = rw (h, k) refl
+
+  pub shown-again : is_met conditions (f r) ≡ true → among are_columns kept (columns_of names (f r)) ≡ true
+      → shown_with names conditions kept (map f (drop i rows)) ≡ shown_with names conditions kept (map f (drop (i + 1) rows))
+  shown-again h k = ap (shown_with names conditions kept) here ∙ again
+    where
+      again : shown_with names conditions kept (f r ∷ map f (drop (i + 1) rows)) ≡ shown_with names conditions kept (map f (drop (i + 1) rows))
+      again = rw (h, k) refl
+
+  pub shown-other : is_met conditions (f r) ≡ false → shown_with names conditions kept (map f (drop i rows)) ≡ shown_with names conditions kept (map f (drop (i + 1) rows))
+  shown-other h = ap (shown_with names conditions kept) here ∙ other
+    where
+      other : shown_with names conditions kept (f r ∷ map f (drop (i + 1) rows)) ≡ shown_with names conditions kept (map f (drop (i + 1) rows))
+      other = rw h refl

@@ -1,7 +1,12 @@
 -- What the code has of a transaction, as that of the definitions.
-use Rattle.std.specs.Prelude.{◌≡◌, ℕ, List, drop, Result, Ok, Err}
+use Rattle.std.specs.Prelude.{◌≡◌, ◌≤◌, ◌<◌, ℕ, List, drop, refl, Option, option_map, option_to_list, Result, Ok, Err}
+use Rattle.std.specs.Coded.{Coded, code_by, coded×}
+use Rattle.std.specs.FinMap.{len}
+use Rattle.ov_db.specs.Changing.{Delta, applied}
+use Rattle.ov_db.specs.Resident.{database_code}
 use Rattle.serde_json.specs.Data.{Data}
-use Rattle.ov_specs.specs.Database.{Database}
+use Rattle.ov_specs.specs.Database.{Database, Row}
+use Rattle.ov_specs.specs.Lines.{LineKey}
 use Rattle.ov_specs.specs.Operation as spec
 use Rattle.ov_specs.specs.Uuid.{Uuid}
 use Rattle.ov_txn.specs.declared.fault.Stop.{Stop}
@@ -17,3 +22,22 @@ abbrev pub IsDone : spec.Did → Result Data Stop → spec.Staged → Type 0
 IsDone did (Ok result) g = did ≡ spec.Does result g
 IsDone did (Err (Refused error)) g = did ≡ spec.Refuses (error_view error)
 IsDone did (Err Memory) g = Unit {0}
+
+-- ---- the rows of a transaction
+
+-- the rows before a transaction, and as it has made them so far (own)
+pub record Stage : Type 0 where
+  pub before : Database
+  pub now : Database
+
+-- a stage as a pair (own)
+abbrev pub stage_code : Coded Stage
+stage_code = code_by (Database × Database) (coded× database_code database_code) (λ s. (s.before, s.now)) (λ p. record { before = p.0; now = p.1 }) (λ _. refl)
+
+-- no row was lost, and where there are changes there are more rows than before (own)
+abbrev pub IsGrown : Delta → Database → Type 0
+IsGrown delta before = (len before ≤ len (applied delta before)) × (0 < len delta → len before < len (applied delta before))
+
+-- the row that a change makes, if it makes one (own)
+abbrev pub row_made : LineKey × Option Row → List (LineKey × Row)
+row_made change = option_to_list (option_map (λ row. (change.0, row)) change.1)

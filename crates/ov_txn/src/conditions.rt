@@ -43,14 +43,14 @@ fn meets(conditions: &[Condition], row: &RowView<'_>) -> bool
     true
 }
 
-/// Whether a row is one of the table, and meets all conditions.
-pub(crate) fn is_matching(table: &str, conditions: &[Condition], key: &RowKey, row: &Row) -> bool
-    ensures { result ≡ spec.is_matching table.now conditions.now (key.now, row.now) }
+/// Whether a row meets all conditions, its key and version among its columns.
+pub(crate) fn is_matching(conditions: &[Condition], key: &RowKey, row: &Row) -> bool
+    ensures { result ≡ list_all (holds (spec.column_of (key.now, row.now))) conditions.now }
 {
     let seen = RowView {
         id: key.id(),
         version: row.version,
         columns: &row.columns,
     };
-    key.table() == table && meets(conditions, &seen)
+    meets(conditions, &seen)
 }

@@ -8,8 +8,9 @@ ghost use Rattle.ov_txn.specs.Staging.{staged, IsDone};
 use crate::fault::{OpError, Stop};
 use crate::given::new_columns;
 use crate::member::text_at;
+use crate::stage::Stage;
 use ov_base::Tree;
-use ov_db::{Columns, Row, RowKey, Rows};
+use ov_db::{Columns, Row, RowKey};
 use ov_schema::Schema;
 use serde_json::{Value, json};
 use std::alloc::{AllocError, Global};
@@ -43,22 +44,22 @@ fn put_row(
     version: Uuid,
     draws: &[Uuid],
     used: &mut usize,
-    rows: &mut Rows,
+    stage: &mut Stage<'_>,
     table: &str,
     columns: Columns,
 ) -> Result<Tree, Stop>
-    ensures done { IsDone (spec.put_row version (staged rows.old.now draws.now used.old) table.now columns) result (staged rows.new.now draws.now used.new) }
-    ensures frame { rows.new ≡ record rows.old { now = rows.new.now } }
+    ensures done { IsDone (spec.put_row version (staged stage.old.now draws.now used.old) table.now columns) result (staged stage.new.now draws.now used.new) }
+    ensures frame { stage.new ≡ record stage.old { now = stage.new.now } }
 {
     let Some(id) = draws.get(*used).copied() else {
         return Err(Stop::Refused(OpError::ResourcesExhausted));
     };
     let key = RowKey::new(alloc, table, id)?;
-    if rows.contains(&key) {
+    if stage.contains(&key) {
         return Err(Stop::Refused(OpError::DuplicateUuid));
     }
     let tree = insert_result(alloc, id)?;
-    rows.insert(alloc, key, Row { version, columns })?;
+    stage.insert(key, Row { version, columns })?;
     *used += 1;
     Ok(tree)
 }
@@ -70,11 +71,11 @@ pub(crate) fn insert_row(
     version: Uuid,
     draws: &[Uuid],
     used: &mut usize,
-    rows: &mut Rows,
+    stage: &mut Stage<'_>,
     operation: &Value,
 ) -> Result<Tree, Stop>
-    ensures done { IsDone (spec.insert_row schema.now version (staged rows.old.now draws.now used.old) (view operation.now)) result (staged rows.new.now draws.now used.new) }
-    ensures frame { rows.new ≡ record rows.old { now = rows.new.now } }
+    ensures done { IsDone (spec.insert_row schema.now version (staged stage.old.now draws.now used.old) (view operation.now)) result (staged stage.new.now draws.now used.new) }
+    ensures frame { stage.new ≡ record stage.old { now = stage.new.now } }
 {
     let Some(name) = text_at(operation, "table") else {
         return Err(Stop::Refused(OpError::Syntax));
@@ -89,5 +90,5 @@ pub(crate) fn insert_row(
         return Err(Stop::Refused(OpError::Syntax));
     };
     let columns = new_columns(alloc, table, members)?;
-    put_row(alloc, version, draws, used, rows, name, columns)
+    put_row(alloc, version, draws, used, stage, name, columns)
 }

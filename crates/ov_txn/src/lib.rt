@@ -8,12 +8,14 @@ mod fault;
 mod given;
 mod insert;
 mod member;
+mod merge;
 mod operation;
 mod results;
 mod select;
 mod shown;
+mod stage;
 mod transaction;
 
 pub use draws::draws_for;
 pub use results::{exhausted, failed};
-pub use transaction::perform;
+pub use transaction::{Performed, perform};

@@ -7,8 +7,8 @@ use crate::fault::{OpError, Stop};
 use crate::insert::insert_row;
 use crate::member::text_at;
 use crate::select::select_rows;
+use crate::stage::Stage;
 use ov_base::Tree;
-use ov_db::Rows;
 use ov_schema::Schema;
 use serde_json::Value;
 use std::alloc::Global;
@@ -21,18 +21,18 @@ pub(crate) fn operate(
     version: Uuid,
     draws: &[Uuid],
     used: &mut usize,
-    rows: &mut Rows,
+    stage: &mut Stage<'_>,
     operation: &Value,
 ) -> Result<Tree, Stop>
-    ensures done { IsDone (spec.operation schema.now version (staged rows.old.now draws.now used.old) (view operation.now)) result (staged rows.new.now draws.now used.new) }
-    ensures frame { rows.new ≡ record rows.old { now = rows.new.now } }
+    ensures done { IsDone (spec.operation schema.now version (staged stage.old.now draws.now used.old) (view operation.now)) result (staged stage.new.now draws.now used.new) }
+    ensures frame { stage.new ≡ record stage.old { now = stage.new.now } }
 {
     match text_at(operation, "op") {
         None => Err(Stop::Refused(OpError::Syntax)),
         Some(op) if op == "insert" => {
-            insert_row(alloc, schema, version, draws, used, rows, operation)
+            insert_row(alloc, schema, version, draws, used, stage, operation)
         }
-        Some(op) if op == "select" => select_rows(alloc, schema, rows, operation),
+        Some(op) if op == "select" => select_rows(alloc, schema, stage, operation),
         Some(_) => Err(Stop::Refused(OpError::UnknownOperation)),
     }
 }

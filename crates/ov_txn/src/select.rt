@@ -13,9 +13,9 @@ use crate::conditions::{conditions_of, is_matching};
 use crate::fault::{OpError, Stop};
 use crate::member::text_at;
 use crate::shown::ShownRow;
+use crate::stage::Stage;
 use ov_base::{Text, Tree};
 use ov_conds::Condition;
-use ov_db::Rows;
 use ov_schema::Schema;
 use serde_json::{Value, json};
 use std::alloc::{AllocError, Global};
@@ -36,16 +36,17 @@ fn is_among(rows: &[ShownRow], shown: &ShownRow) -> bool
 /// 5.2.2).
 fn shown_rows(
     alloc: Global,
-    rows: &Rows,
+    stage: &Stage<'_>,
     table: &str,
     conditions: &[Condition],
     names: &[Text],
 ) -> Result<Vec<ShownRow>, AllocError>
-    ensures { IfOk result (λ v. v.items ≡ spec.without_repeats (map (spec.columns_of names.now) (spec.matching rows.now.now table.now conditions.now))) }
+    ensures { IfOk result (λ v. v.items ≡ spec.without_repeats (map (spec.columns_of names.now) (spec.matching stage.now.now table.now conditions.now))) }
 {
     let mut shown = Vec::new(alloc);
-    for (key, row) in rows.map() {
-        if is_matching(table, conditions, key, row) {
+    let rows = stage.rows_of(alloc, table)?;
+    for (key, row) in &rows {
+        if is_matching(conditions, key, row) {
             let chosen = ShownRow::of(alloc, names, key, row)?;
             if !is_among(shown.as_slice(), &chosen) {
                 shown.push(chosen)?;
@@ -76,14 +77,14 @@ fn rows_value(alloc: Global, items: Vec<Value>) -> Result<Value, AllocError>
 /// The result of a select (RFC 7047, 5.2.2).
 fn select_result(
     alloc: Global,
-    rows: &Rows,
+    stage: &Stage<'_>,
     table: &str,
     conditions: &[Condition],
     names: &[Text],
 ) -> Result<Tree, AllocError>
-    ensures { IfOk result (λ t. t ≡ spec.select_result (spec.without_repeats (map (spec.columns_of names.now) (spec.matching rows.now.now table.now conditions.now)))) }
+    ensures { IfOk result (λ t. t ≡ spec.select_result (spec.without_repeats (map (spec.columns_of names.now) (spec.matching stage.now.now table.now conditions.now)))) }
 {
-    let shown = shown_rows(alloc, rows, table, conditions, names)?;
+    let shown = shown_rows(alloc, stage, table, conditions, names)?;
     let items = trees_of(alloc, shown.as_slice())?;
     Ok(Tree::new(rows_value(alloc, items)?))
 }
@@ -92,10 +93,10 @@ fn select_result(
 pub(crate) fn select_rows(
     alloc: Global,
     schema: &Schema,
-    rows: &Rows,
+    stage: &Stage<'_>,
     operation: &Value,
 ) -> Result<Tree, Stop>
-    ensures { (draws : List Uuid) (used : ℕ) → IsDone (spec.select_rows schema.now (staged rows.now.now draws used) (view operation.now)) result (staged rows.now.now draws used) }
+    ensures { (draws : List Uuid) (used : ℕ) → IsDone (spec.select_rows schema.now (staged stage.now.now draws used) (view operation.now)) result (staged stage.now.now draws used) }
 {
     let Some(name) = text_at(operation, "table") else {
         return Err(Stop::Refused(OpError::Syntax));
@@ -108,5 +109,5 @@ pub(crate) fn select_rows(
     };
     let conditions = conditions_of(alloc, table, items.as_slice())?;
     let names = chosen_columns(alloc, table, operation.get("columns"))?;
-    Ok(select_result(alloc, rows, name, conditions.as_slice(), names.as_slice())?)
+    Ok(select_result(alloc, stage, name, conditions.as_slice(), names.as_slice())?)
 }

@@ -1,4 +1,4 @@
-use Rattle.std.proofs.Common.{◌≡◌, ◌+◌, ◌∙◌, ap, sym, refl, drop}
+use Rattle.std.proofs.Common.{◌+◌, ◌∙◌, ap, sym, refl, drop}
 use Rattle.serde_json.specs.View.{view, items_view}
 use Rattle.ov_specs.specs.Conditions.{condition_read}
 use Rattle.ov_specs.specs.Operation as spec

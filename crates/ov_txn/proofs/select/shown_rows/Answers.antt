@@ -1,39 +1,64 @@
-use Rattle.std.proofs.Common.{◌≡◌, ◌++◌, ◌∙◌, [], ◌∷◌, true, false, ap, sym}
-use Rattle.ov_specs.specs.Database.{Row, are_columns}
-use Rattle.ov_specs.specs.Lines.{LineKey}
-use Rattle.ov_specs.specs.Operation.{columns_of, is_matching}
-use Rattle.ov_txn.proofs.Repeats.{shown_with, shown-new, shown-again, without_repeats-kept, among}
+use Rattle.std.proofs.Common.{◌≡◌, ◌<◌, ◌+◌, ◌++◌, ◌∙◌, [], ◌∷◌, length, drop, map, true, false, ap, sym, arith, Vec, Global}
+use Rattle.std.proofs.lemmas.List.{drop_all}
+use Rattle.std.specs.FinMap.{entries}
+use Rattle.ov_specs.specs.Database.{are_columns}
+use Rattle.ov_specs.specs.Operation.{columns_of}
+use Rattle.ov_txn.specs.declared.shown.ShownRow.{ShownRow}
+use Rattle.ov_txn.proofs.Repeats.{shown_with, shown-new, shown-again, shown-other, without_repeats-kept, matching-of_table, kept_with, is_met, among}
+use Rattle.ov_txn.proofs.select.shown_rows.Goals.{then-is_matching+in_ok-chosen+then-not-is_among+in_ok-push, then-is_matching+in_ok-chosen+else-not-is_among, else-is_matching}
 use Rattle.ov_txn.proofs.select.shown_rows.Goals as goal
 
-pub loop-key-preserved-in-Continue-branch-2 : goal.loop-key-preserved-in-Continue-branch-2
-loop-key-preserved-in-Continue-branch-2 c =
-    let names = c.args.names.now in
-    let table = c.args.table.now in
-    let conditions = c.args.conditions.now in
-    let kept = c.loop-key.shown.items in
-    let r : LineKey × Row = (c.in-Some.key.now, c.in-Some.row.now) in
-    let rest = c.next.new.self in
-    let here : is_matching table conditions r ≡ true = sym c.is_matching.ensures ∙ c.if-is_matching.true in
-    let fresh : among are_columns kept (columns_of names r) ≡ false =
-    ap (λ x. among are_columns kept x) (sym c.in_ok-chosen.ensures) ∙ ap (λ ks. among are_columns ks c.in_ok-chosen.chosen) (sym c.as_slice.ensures.value) ∙ sym c.is_among.ensures ∙ c.if-not-is_among.true in
-    c.loop-key.invariant ∙ ap (shown_with names table conditions kept) c.in-Some.ensures.steps ∙ shown-new names table conditions kept r rest here fresh
-    ∙ ap (λ row. shown_with names table conditions (kept ++ row ∷ []) rest) (sym c.in_ok-chosen.ensures)
-    ∙ ap (λ rows. shown_with names table conditions rows rest) (sym c.in_ok-push.ensures.items)
-
-pub loop-key-preserved-else-not-is_among : goal.loop-key-preserved-else-not-is_among
-loop-key-preserved-else-not-is_among c =
-    let names = c.args.names.now in
-    let table = c.args.table.now in
-    let conditions = c.args.conditions.now in
-    let kept = c.loop-key.shown.items in
-    let r : LineKey × Row = (c.in-Some.key.now, c.in-Some.row.now) in
-    let rest = c.next.new.self in
-    let here : is_matching table conditions r ≡ true = sym c.is_matching.ensures ∙ c.if-is_matching.true in
-    let again : among are_columns kept (columns_of names r) ≡ true =
-    ap (λ x. among are_columns kept x) (sym c.in_ok-chosen.ensures) ∙ ap (λ ks. among are_columns ks c.in_ok-chosen.chosen) (sym c.as_slice.ensures.value) ∙ sym c.is_among.ensures ∙ c.if-not-is_among.false in
-    c.loop-key.invariant ∙ ap (shown_with names table conditions kept) c.in-Some.ensures.steps ∙ shown-again names table conditions kept r rest here again
+pub loop-key-preserved : goal.loop-key-preserved
+loop-key-preserved c =
+    elim c.if-is_matching.branch [
+      | then-is_matching+in_ok-chosen+then-not-is_among+in_ok-push w ↦
+          let names = c.args.names.now in
+          let conditions = c.args.conditions.now in
+          let kept = c.loop-key.shown.items in
+          let rows = c.deref-key-items.result.now in
+          let i = c.loop-key.key-index in
+          let r = c.loop-key-item.result in
+          let within : i < length rows = c.loop-key-test.true in
+          let met : is_met conditions (r.0.now, r.1.now) ≡ true = sym c.is_matching.ensures ∙ w.if-is_matching.true in
+          let fresh : among are_columns kept (columns_of names (r.0.now, r.1.now)) ≡ false =
+          ap (λ x. among are_columns kept x) (sym w.in_ok-chosen.ensures) ∙ ap (λ ks. among are_columns ks w.in_ok-chosen.chosen) (sym w.as_slice.ensures.value) ∙ sym w.is_among.ensures ∙ w.if-not-is_among.true in
+          c.loop-key.invariant ∙ shown-new (λ r. (r.0.now, r.1.now)) names conditions kept rows i r within c.loop-key-item.is met fresh
+          ∙ ap (λ row. shown_with names conditions (kept ++ row ∷ []) (map (λ r. (r.0.now, r.1.now)) (drop (i + 1) rows))) (sym w.in_ok-chosen.ensures)
+          ∙ ap (λ ks. shown_with names conditions ks (map (λ r. (r.0.now, r.1.now)) (drop (i + 1) rows))) (sym w.in_ok-push.ensures.items)
+          ∙ ap (λ (v : Vec ShownRow Global). shown_with names conditions v.items (map (λ r. (r.0.now, r.1.now)) (drop (i + 1) rows))) (sym w.shown-is)
+      | then-is_matching+in_ok-chosen+else-not-is_among w ↦
+          let names = c.args.names.now in
+          let conditions = c.args.conditions.now in
+          let kept = c.loop-key.shown.items in
+          let rows = c.deref-key-items.result.now in
+          let i = c.loop-key.key-index in
+          let r = c.loop-key-item.result in
+          let within : i < length rows = c.loop-key-test.true in
+          let met : is_met conditions (r.0.now, r.1.now) ≡ true = sym c.is_matching.ensures ∙ w.if-is_matching.true in
+          let again : among are_columns kept (columns_of names (r.0.now, r.1.now)) ≡ true =
+          ap (λ x. among are_columns kept x) (sym w.in_ok-chosen.ensures) ∙ ap (λ ks. among are_columns ks w.in_ok-chosen.chosen) (sym w.as_slice.ensures.value) ∙ sym w.is_among.ensures ∙ w.if-not-is_among.false in
+          c.loop-key.invariant ∙ shown-again (λ r. (r.0.now, r.1.now)) names conditions kept rows i r within c.loop-key-item.is met again
+          ∙ ap (λ (v : Vec ShownRow Global). shown_with names conditions v.items (map (λ r. (r.0.now, r.1.now)) (drop (i + 1) rows))) (sym w.shown-is)
+      | else-is_matching w ↦
+          let names = c.args.names.now in
+          let conditions = c.args.conditions.now in
+          let kept = c.loop-key.shown.items in
+          let rows = c.deref-key-items.result.now in
+          let i = c.loop-key.key-index in
+          let r = c.loop-key-item.result in
+          let within : i < length rows = c.loop-key-test.true in
+          let unmet : is_met conditions (r.0.now, r.1.now) ≡ false = sym c.is_matching.ensures ∙ w.if-is_matching.false in
+          c.loop-key.invariant ∙ shown-other (λ r. (r.0.now, r.1.now)) names conditions kept rows i r within c.loop-key-item.is unmet
+          ∙ ap (λ (v : Vec ShownRow Global). shown_with names conditions v.items (map (λ r. (r.0.now, r.1.now)) (drop (i + 1) rows))) (sym w.shown-is)
+    ]
 
 pub returns : goal.returns
 returns c =
-    sym (without_repeats-kept _ ∙ ap (shown_with c.args.names.now c.args.table.now c.args.conditions.now []) (sym (c.into_iter-key-iterator.ensures.into_iter_gives.0 ∙ c.map-key-items.ensures)) ∙ c.loop-key.invariant
-    ∙ ap (shown_with c.args.names.now c.args.table.now c.args.conditions.now c.loop-key.shown.items) c.in-None.ensures.steps.0)
+    let names = c.args.names.now in
+    let conditions = c.args.conditions.now in
+    let rows = c.deref-key-items.result.now in
+    sym (without_repeats-kept _
+    ∙ ap (λ rs. kept_with are_columns [] (map (columns_of names) rs)) (matching-of_table c.args.table.now conditions (entries c.args.stage.now.now))
+    ∙ ap (shown_with names conditions []) (sym (ap (map (λ r. (r.0.now, r.1.now))) c.deref-key-items.ensures.value ∙ c.in_ok-rows.ensures))
+    ∙ c.loop-key.invariant
+    ∙ ap (λ rs. shown_with names conditions c.loop-key.shown.items (map (λ r. (r.0.now, r.1.now)) rs)) (drop_all c.loop-key.key-index rows (omega arith)))

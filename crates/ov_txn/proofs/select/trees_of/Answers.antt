@@ -1,4 +1,4 @@
-use Rattle.std.proofs.Common.{◌≡◌, ◌<◌, map, length, ap, ◌∙◌}
+use Rattle.std.proofs.Common.{◌<◌, map, length, ap, ◌∙◌}
 use Rattle.serde_json.specs.View.{view, items_view}
 use Rattle.ov_specs.specs.Operation.{shown}
 use Rattle.ov_specs.specs.Tree.{items_have_real}

@@ -1,0 +1,253 @@
+-- Two ascending lists, of rows and of changes, made one: a change replaces or removes the row of its key.
+use Rattle.std.proofs.Common.{◌≡◌, ℕ, ◌+◌, ◌<◌, ◌≤◌, List, [], ◌∷◌, ◌++◌, length, get_or, drop, map, Bool, true, false, cond, not, T, ◌&&◌, Option, Some, None, refl, sym, ap, subst, ◌∙◌, append-nil, append_assoc, Ordering, Less, Equal, Greater}
+use Rattle.std.proofs.lemmas.List.{drop_all}
+use Rattle.std.specs.Cmp.{eq_by_cmp_equiv}
+use Rattle.std.specs.FinMap.{FinMap, put, is_sorted, from_sorted, remove, get, entries, entries_sorted, entries-insert, entries-from_sorted, get-from_sorted, get-entries, get-remove, same_map}
+use Rattle.std.specs.FinMap.Entries.{below_all, by_order, where_key, is_sorted-where_key, find-where_key}
+use Rattle.std.specs.List.{filter, flat_map}
+use Rattle.std.specs.Ordering.{is_lt, is_eq, eq_by_cmp, ordering_reverse}
+use Rattle.ov_specs.specs.Database.{Database, Row}
+use Rattle.ov_specs.specs.Lines.{LineKey, line_cmp}
+use Rattle.ov_specs.specs.Method.{is_text}
+use Rattle.ov_early.proofs.LineLemmas.{key_exact, key_total}
+use Rattle.ov_db.specs.Changing.{Delta, applied, with_row, with_rows}
+use Rattle.ov_db.specs.Resident.{database_of, delta_of}
+use Rattle.ov_db.proofs.Places.{Changes, get-applied, or_before}
+use Rattle.ov_txn.specs.Staging.{row_made}
+use Rattle.ov_txn.proofs.Equal.{drop-at}
+
+abbrev pub Entries : Type 0
+Entries = List (LineKey × Row)
+
+-- ---- changes made in a list
+
+abbrev other_than : LineKey → LineKey → Bool
+other_than k x = not (eq_by_cmp line_cmp k x)
+
+abbrev place : LineKey → Option Row → Entries → Entries
+place k (Some row) es = put line_cmp k row es
+place k None es = where_key line_cmp (other_than k) es
+
+abbrev pub placed : Changes → Entries → Entries
+placed [] es = es
+placed (c ∷ cs) es = placed cs (place c.0 c.1 es)
+
+turned : {A : Type 0} (b : Bool) (x y : A) → cond (not b) x y ≡ cond b y x
+turned true x y = refl
+turned false x y = refl
+
+module _ {X : Type 0} (m : FinMap line_cmp X) (p : LineKey → Bool) where
+  part_sorted : T (is_sorted line_cmp (where_key line_cmp p (entries m)))
+  part_sorted = is_sorted-where_key line_cmp p (entries m) (entries_sorted m)
+
+  -- what stands at a key of the entries that pass a test
+  get-part : (q : LineKey) → get (from_sorted {R = line_cmp} (where_key line_cmp p (entries m))) q ≡ cond (p q) (get m q) None
+  get-part q =
+      get-from_sorted line_cmp (where_key line_cmp p (entries m)) q part_sorted ∙ find-where_key line_cmp p q (λ x e. ap p (sym (key_exact q x e))) (entries m)
+      ∙ ap (λ o. cond (p q) o None) (sym (get-entries m q))
+
+entries-remove : (db : Database) (k : LineKey) → entries (remove db k) ≡ where_key line_cmp (other_than k) (entries db)
+entries-remove db k =
+    ap (λ (d : Database). entries d) (same_map key_total key_exact (remove db k) (database_of (where_key line_cmp (other_than k) (entries db))) (λ q.
+    get-remove key_total db k q ∙ ap (λ b. cond b None (get db q)) ((eq_by_cmp_equiv key_total).symm q k) ∙ sym (get-part db (other_than k) q ∙ turned (eq_by_cmp line_cmp k q) (get db q) None)))
+    ∙ entries-from_sorted line_cmp _ (part_sorted db (other_than k))
+
+entries-with_row : (k : LineKey) (o : Option Row) (db : Database) → entries (with_row k o db) ≡ place k o (entries db)
+entries-with_row k (Some row) db = entries-insert key_total db k row
+entries-with_row k None db = entries-remove db k
+
+entries-with_rows : (cs : Changes) (db : Database) → entries (with_rows cs db) ≡ placed cs (entries db)
+entries-with_rows [] db = refl
+entries-with_rows (c ∷ cs) db = entries-with_rows cs (with_row c.0 c.1 db) ∙ ap (placed cs) (entries-with_row c.0 c.1 db)
+
+pub placed_is : (cs : Changes) (es : Entries) → T (is_sorted line_cmp es) → placed cs es ≡ entries (with_rows cs (database_of es))
+placed_is cs es h = sym (entries-with_rows cs (database_of es) ∙ ap (placed cs) (entries-from_sorted line_cmp es h))
+
+-- ---- what stands first
+
+first : (a b : Bool) → T (a && b) → T a
+first true b p = tt
+first false b p = absurd p
+
+second : (a b : Bool) → T (a && b) → T b
+second true b p = p
+second false b p = absurd p
+
+both : (a b : Bool) → T a → T b → T (a && b)
+both true b p q = q
+both false b p q = p
+
+less : (o : Ordering) → T (is_lt o) → o ≡ Less
+less Less p = refl
+less Equal p = absurd p
+less Greater p = absurd p
+
+module _ {X : Type 0} where
+  pub sorted_rest : (e : LineKey × X) (es : List (LineKey × X)) → T (is_sorted line_cmp (e ∷ es)) → T (is_sorted line_cmp es)
+  sorted_rest e es h = second _ _ h
+
+  pub below_rest : (e : LineKey × X) (es : List (LineKey × X)) → T (is_sorted line_cmp (e ∷ es)) → T (below_all line_cmp e.0 es)
+  below_rest e es h = first _ _ h
+
+  below_more : (k l : LineKey) (es : List (LineKey × X)) → line_cmp k l ≡ Less → T (below_all line_cmp l es) → T (below_all line_cmp k es)
+  below_more k l [] p h = tt
+  below_more k l (e ∷ es) p h = both _ _ (subst (λ r. T (is_lt r)) (sym (key_total.trans k l e.0 p (less _ (first _ _ h)))) tt) (below_more k l es p (second _ _ h))
+
+  -- what is below the first is below all
+  pub below_sorted : (k : LineKey) (e : LineKey × X) (es : List (LineKey × X)) → line_cmp k e.0 ≡ Less → T (is_sorted line_cmp (e ∷ es)) → T (below_all line_cmp k (e ∷ es))
+  below_sorted k e es p h = both _ _ (subst (λ r. T (is_lt r)) (sym p) tt) (below_more k e.0 es p (first _ _ h))
+
+  below_same : (k l : LineKey) (es : List (LineKey × X)) → k ≡ l → T (below_all line_cmp l es) → T (below_all line_cmp k es)
+  below_same k l es e h = subst (λ x. T (below_all line_cmp x es)) (sym e) h
+
+after_less : (k l : LineKey) → line_cmp k l ≡ Less → line_cmp l k ≡ Greater
+after_less k l p = key_total.antisymm l k ∙ ap ordering_reverse p
+
+pub before_greater : (k l : LineKey) → line_cmp k l ≡ Greater → line_cmp l k ≡ Less
+before_greater k l p = key_total.antisymm l k ∙ ap ordering_reverse p
+
+-- ---- one turn
+
+place_behind : (r : LineKey × Row) (k : LineKey) (o : Option Row) (es : Entries) → line_cmp k r.0 ≡ Greater → place k o (r ∷ es) ≡ r ∷ place k o es
+place_behind r k (Some row) es p = ap (λ o. by_order o ((k, row) ∷ r ∷ es) ((r.0, row) ∷ es) (r ∷ put line_cmp k row es)) p
+place_behind r k None es p = ap (λ o. cond (not (is_eq o)) (r ∷ where_key line_cmp (other_than k) es) (where_key line_cmp (other_than k) es)) p
+
+-- a row below all changes stays where it is
+pub placed_behind : (r : LineKey × Row) (cs : Changes) (es : Entries) → T (below_all line_cmp r.0 cs) → placed cs (r ∷ es) ≡ r ∷ placed cs es
+placed_behind r [] es h = refl
+placed_behind r (c ∷ cs) es h =
+    ap (placed cs) (place_behind r c.0 c.1 es (after_less r.0 c.0 (less _ (first _ _ h)))) ∙ placed_behind r cs (place c.0 c.1 es) (second _ _ h)
+
+put_front : (k : LineKey) (row : Row) (es : Entries) → T (below_all line_cmp k es) → put line_cmp k row es ≡ (k, row) ∷ es
+put_front k row [] h = refl
+put_front k row (e ∷ es) h = ap (λ o. by_order o ((k, row) ∷ e ∷ es) ((e.0, row) ∷ es) (e ∷ put line_cmp k row es)) (less _ (first _ _ h))
+
+all_others : (k : LineKey) (es : Entries) → T (below_all line_cmp k es) → where_key line_cmp (other_than k) es ≡ es
+all_others k [] h = refl
+all_others k (e ∷ es) h =
+    let others = where_key line_cmp (other_than k) es in
+    ap (λ o. cond (not (is_eq o)) (e ∷ others) others) (less _ (first _ _ h)) ∙ ap (λ rest. e ∷ rest) (all_others k es (second _ _ h))
+
+-- a change below all rows
+pub placed_first : (k : LineKey) (o : Option Row) (cs : Changes) (es : Entries) → T (below_all line_cmp k cs) → T (below_all line_cmp k es) → placed ((k, o) ∷ cs) es ≡ row_made (k, o) ++ placed cs es
+placed_first k (Some row) cs es g h = ap (placed cs) (put_front k row es h) ∙ placed_behind (k, row) cs es g
+placed_first k None cs es g h = ap (placed cs) (all_others k es h)
+
+-- a change of the first row
+pub placed_over : (k : LineKey) (o : Option Row) (cs : Changes) (r : LineKey × Row) (es : Entries) → T (below_all line_cmp k cs) → line_cmp r.0 k ≡ Equal → T (is_sorted line_cmp (r ∷ es))
+    → placed ((k, o) ∷ cs) (r ∷ es) ≡ row_made (k, o) ++ placed cs es
+placed_over k (Some row) cs r es g e h =
+    let same_key = key_exact r.0 k e in
+    ap (placed cs) (ap (λ q. by_order (line_cmp k q) ((k, row) ∷ r ∷ es) ((q, row) ∷ es) (r ∷ put line_cmp k row es)) same_key
+    ∙ ap (λ o. by_order o ((k, row) ∷ r ∷ es) ((k, row) ∷ es) (r ∷ put line_cmp k row es)) (key_total.antisymm k k ∙ ap ordering_reverse (itself k r.0 same_key e)))
+    ∙ placed_behind (k, row) cs es g
+  where
+    itself : (k l : LineKey) → l ≡ k → line_cmp l k ≡ Equal → line_cmp k k ≡ Equal
+    itself k l is e = sym (ap (λ q. line_cmp q k) is) ∙ e
+placed_over k None cs r es g e h =
+    let same_key = key_exact r.0 k e in
+    let others = where_key line_cmp (other_than k) es in
+    ap (placed cs) (ap (λ o. cond (not (is_eq o)) (r ∷ others) others) (ap (line_cmp k) same_key ∙ sym (ap (λ q. line_cmp q k) same_key) ∙ e)
+    ∙ all_others k es (below_same k r.0 es (sym same_key) (first _ _ h)))
+
+-- changes where there is no row
+pub placed_all : (cs : Changes) → T (is_sorted line_cmp cs) → placed cs [] ≡ flat_map row_made cs
+placed_all [] h = refl
+placed_all (c ∷ cs) h = placed_first c.0 c.1 cs [] (first _ _ h) tt ∙ ap (λ rest. row_made (c.0, c.1) ++ rest) (placed_all cs (second _ _ h))
+
+-- ---- two lists that are gone through side by side
+
+module _ {A B : Type 0} (f : A → LineKey × Row) (g : B → LineKey × Option Row) (xs : List A) (ys : List B) where
+  row_at : (i : ℕ) (x : A) → i < length xs → x ≡ get_or xs i x → map f (drop i xs) ≡ f x ∷ map f (drop (i + 1) xs)
+  row_at i x h e = ap (map f) (drop-at xs i x h e)
+
+  change_at : (j : ℕ) (y : B) → j < length ys → y ≡ get_or ys j y → map g (drop j ys) ≡ g y ∷ map g (drop (j + 1) ys)
+  change_at j y h e = ap (map g) (drop-at ys j y h e)
+
+  -- what there is, with what the others will make
+  abbrev pub with_others : Entries → ℕ → ℕ → Entries
+  with_others ms i j = ms ++ placed (map g (drop j ys)) (map f (drop i xs))
+
+  module _ (i j : ℕ) (x : A) (y : B) (p : i < length xs) (at_x : x ≡ get_or xs i x) (q : j < length ys) (at_y : y ≡ get_or ys j y) (h : T (is_sorted line_cmp (map f (drop i xs)))) (k : T (is_sorted line_cmp (map g (drop j ys)))) where
+    rows_here : T (is_sorted line_cmp (f x ∷ map f (drop (i + 1) xs)))
+    rows_here = subst (λ (es : Entries). T (is_sorted line_cmp es)) (row_at i x p at_x) h
+
+    changes_here : T (is_sorted line_cmp (g y ∷ map g (drop (j + 1) ys)))
+    changes_here = subst (λ (cs : Changes). T (is_sorted line_cmp cs)) (change_at j y q at_y) k
+
+    pub rows_next : T (is_sorted line_cmp (map f (drop (i + 1) xs)))
+    rows_next = sorted_rest (f x) (map f (drop (i + 1) xs)) rows_here
+
+    pub changes_next : T (is_sorted line_cmp (map g (drop (j + 1) ys)))
+    changes_next = sorted_rest (g y) (map g (drop (j + 1) ys)) changes_here
+
+    pub row_turn : (ms : Entries) → line_cmp (f x).0 (g y).0 ≡ Less → with_others (ms ++ f x ∷ []) (i + 1) j ≡ with_others ms i j
+    row_turn ms e =
+        append_assoc ms (f x ∷ []) (placed (map g (drop j ys)) (map f (drop (i + 1) xs)))
+        ∙ ap (λ es. ms ++ es) (sym (ap (placed (map g (drop j ys))) (row_at i x p at_x)
+        ∙ placed_behind (f x) (map g (drop j ys)) (map f (drop (i + 1) xs)) below))
+      where
+        below : T (below_all line_cmp (f x).0 (map g (drop j ys)))
+        below = subst (λ (cs : Changes). T (below_all line_cmp (f x).0 cs)) (sym (change_at j y q at_y)) (below_sorted (f x).0 (g y) (map g (drop (j + 1) ys)) e changes_here)
+
+    pub same_turn : (ms : Entries) → line_cmp (f x).0 (g y).0 ≡ Equal → with_others (ms ++ row_made (g y)) (i + 1) (j + 1) ≡ with_others ms i j
+    same_turn ms e =
+        append_assoc ms (row_made (g y)) (placed (map g (drop (j + 1) ys)) (map f (drop (i + 1) xs)))
+        ∙ ap (λ es. ms ++ es) (sym (ap (placed (map g (drop j ys))) (row_at i x p at_x)
+        ∙ ap (λ (cs : Changes). placed cs (f x ∷ map f (drop (i + 1) xs))) (change_at j y q at_y)
+        ∙ placed_over (g y).0 (g y).1 (map g (drop (j + 1) ys)) (f x) (map f (drop (i + 1) xs)) (below_rest (g y) (map g (drop (j + 1) ys)) changes_here) e rows_here))
+
+    pub change_turn : (ms : Entries) → line_cmp (f x).0 (g y).0 ≡ Greater → with_others (ms ++ row_made (g y)) i (j + 1) ≡ with_others ms i j
+    change_turn ms e =
+        append_assoc ms (row_made (g y)) (placed (map g (drop (j + 1) ys)) (map f (drop i xs)))
+        ∙ ap (λ es. ms ++ es) (sym (ap (λ (cs : Changes). placed cs (map f (drop i xs))) (change_at j y q at_y)
+        ∙ placed_first (g y).0 (g y).1 (map g (drop (j + 1) ys)) (map f (drop i xs)) (below_rest (g y) (map g (drop (j + 1) ys)) changes_here) below))
+      where
+        below : T (below_all line_cmp (g y).0 (map f (drop i xs)))
+        below = subst (λ (es : Entries). T (below_all line_cmp (g y).0 es)) (sym (row_at i x p at_x)) (below_sorted (g y).0 (f x) (map f (drop (i + 1) xs)) (before_greater (f x).0 (g y).0 e) rows_here)
+
+  -- one of the two lists is through
+  pub rows_through : (ms : Entries) (i j : ℕ) → length xs ≤ i → T (is_sorted line_cmp (map g (drop j ys))) → (ms ++ map f (drop i xs)) ++ flat_map row_made (map g (drop j ys)) ≡ with_others ms i j
+  rows_through ms i j h k =
+      ap (λ zs. (ms ++ map f zs) ++ flat_map row_made (map g (drop j ys))) (drop_all i xs h)
+      ∙ append_assoc ms [] (flat_map row_made (map g (drop j ys)))
+      ∙ ap (λ es. ms ++ es) (sym (placed_all (map g (drop j ys)) k) ∙ ap (λ zs. placed (map g (drop j ys)) (map f zs)) (sym (drop_all i xs h)))
+
+  pub changes_through : (ms : Entries) (i j : ℕ) → length ys ≤ j → (ms ++ map f (drop i xs)) ++ flat_map row_made (map g (drop j ys)) ≡ with_others ms i j
+  changes_through ms i j h =
+      ap (λ zs. (ms ++ map f (drop i xs)) ++ flat_map row_made (map g zs)) (drop_all j ys h)
+      ∙ append-nil (ms ++ map f (drop i xs))
+      ∙ ap (λ zs. ms ++ placed (map g zs) (map f (drop i xs))) (sym (drop_all j ys h))
+
+-- ---- the rows of one table
+
+in_part : (b : Bool) (change : Option (Option Row)) (old : Option Row) → or_before (cond b change None) (cond b old None) ≡ cond b (or_before change old) None
+in_part true change old = refl
+in_part false change old = refl
+
+module _ (table : List ℕ) (delta : Delta) (db : Database) where
+  abbrev of_it : LineKey → Bool
+  of_it k = is_text k.0 table
+
+  abbrev its_changes : Changes
+  its_changes = where_key line_cmp of_it (entries delta)
+
+  abbrev its_rows : Entries
+  its_rows = where_key line_cmp of_it (entries db)
+
+  pub its_changes_sorted : T (is_sorted line_cmp its_changes)
+  its_changes_sorted = part_sorted delta of_it
+
+  pub its_rows_sorted : T (is_sorted line_cmp its_rows)
+  its_rows_sorted = part_sorted db of_it
+
+  -- the table's rows after its changes are its rows after all changes
+  pub of_table_after : entries (with_rows its_changes (database_of its_rows)) ≡ filter (λ r. is_text r.0.0 table) (entries (applied delta db))
+  of_table_after =
+      ap (λ (d : Database). entries d) (same_map key_total key_exact (with_rows its_changes (database_of its_rows)) (database_of (where_key line_cmp of_it (entries (applied delta db)))) (λ q.
+      ap (λ (cs : Changes). get (with_rows cs (database_of its_rows)) q) (sym (entries-from_sorted line_cmp its_changes its_changes_sorted))
+      ∙ get-applied (delta_of its_changes) (database_of its_rows) q
+      ∙ ap (λ o. or_before o (get (database_of its_rows) q)) (get-part delta of_it q) ∙ ap (or_before (cond (of_it q) (get delta q) None)) (get-part db of_it q)
+      ∙ in_part (of_it q) (get delta q) (get db q) ∙ ap (λ o. cond (of_it q) o None) (sym (get-applied delta db q))
+      ∙ sym (get-part (applied delta db) of_it q)))
+      ∙ entries-from_sorted line_cmp _ (part_sorted (applied delta db) of_it)
