@@ -1,3 +1,4 @@
+use crate::transactions::value;
 use ov_atoms::{Atom, Datum};
 use ov_base::{Text, Tree};
 use ov_db::{Columns, Db, Delta, Row, RowKey, Rows, StoreAnswer};
@@ -7,12 +8,11 @@ use std::alloc::{AllocError, Global};
 use std::test::Fail;
 use uuid::Uuid;
 
-use crate::transactions::value;
-
 mod failing;
 
 /// A schema of two tables, as its compact text.
-const SCHEMA: &str = "{\"name\":\"Net\",\"tables\":{\"Port\":{\"columns\":{\"load\":{\"type\":\"integer\"},\"name\":{\"type\":\"string\"}}},\"Switch\":{\"columns\":{\"load\":{\"type\":\"integer\"},\"name\":{\"type\":\"string\"}}}},\"version\":\"1.0.0\"}";
+const SCHEMA: &str =
+    "{\"name\":\"Net\",\"tables\":{\"Port\":{\"columns\":{\"load\":{\"type\":\"integer\"},\"name\":{\"type\":\"string\"}}},\"Switch\":{\"columns\":{\"load\":{\"type\":\"integer\"},\"name\":{\"type\":\"string\"}}}},\"version\":\"1.0.0\"}";
 
 fn list_keeper(alloc: Global) -> Result<ListKeeper, AllocError> {
     Ok(ListKeeper::new(alloc, Text::from_str(alloc, SCHEMA)?))

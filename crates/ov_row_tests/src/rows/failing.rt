@@ -55,7 +55,10 @@ fn nothing_to_commit(rt: HostRuntime) -> Result<(), Fail> {
 fn a_commit_that_is_too_large_leaves_the_committed_rows(rt: HostRuntime) -> Result<(), Fail> {
     let alloc = rt.alloc();
     let mut db = opened(alloc, failing(alloc, 0, 0, true)?)?;
-    assert_eq!(rt; commit(alloc, &mut db, 1, Some("s1"))?, StoreAnswer::Exhausted);
+    assert_eq!(rt;
+        commit(alloc, &mut db, 1, Some("s1"))?,
+        StoreAnswer::Exhausted
+    );
     assert!(rt; !db.sealed());
     assert_eq!(rt; shown(alloc, &db, "Switch")?.as_str(), "");
     assert_eq!(rt; commit(alloc, &mut db, 1, Some("s1"))?, StoreAnswer::Kept);
