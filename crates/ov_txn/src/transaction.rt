@@ -1,16 +1,21 @@
 ghost use Rattle.std.specs.Prelude.{◌≡◌, ◌==◌, IfOk};
-ghost use Rattle.std.specs.FinMap.{len};
+ghost use Rattle.std.specs.FinMap.{empty, len};
+ghost use Rattle.serde_json.specs.View.{items_view};
 ghost use Rattle.ov_db.specs.Changing.{applied};
 ghost use Rattle.ov_specs.specs.Database.{is_database};
-ghost use Rattle.ov_specs.specs.Transaction.{transaction};
+ghost use Rattle.ov_specs.specs.Errors as spec;
+ghost use Rattle.ov_specs.specs.Transaction.{and_item, transaction};
+ghost use Rattle.ov_txn.specs.Errors.{error_view};
+ghost use Rattle.ov_txn.specs.Going.{nulls_after};
 
-use crate::fault::Stop;
+use crate::fault::{OpError, Stop};
 use crate::operation::operate;
 use crate::results::{Results, error_tree};
 use crate::stage::Stage;
 use ov_base::Trees;
 use ov_db::{Delta, Rows};
 use ov_schema::Schema;
+use serde_json::Value;
 use std::alloc::{AllocError, Global};
 use uuid::Uuid;
 
@@ -21,6 +26,25 @@ pub struct Performed {
     pub results: Trees,
     /// What it would change.
     pub delta: Delta,
+}
+
+/// After an operation that is refused the results of the others are null, and nothing is changed (RFC 7047, 4.1.3).
+fn refused(
+    alloc: Global,
+    results: Results,
+    error: OpError,
+    others: &[Value],
+) -> Result<Performed, AllocError>
+    ensures results { IfOk result (λ p. p.results ≡ nulls_after (and_item results (spec.error_tree (error_view error))) (items_view others.now)) }
+    ensures delta { IfOk result (λ p. p.delta ≡ empty) }
+{
+    let mut results = results;
+    results.push(error_tree(alloc, error)?)?;
+    results.push_nulls(others)?;
+    Ok(Performed {
+        results: results.into_trees(),
+        delta: Delta::new(alloc),
+    })
 }
 
 /// One transaction on the rows, which are not touched: the operations in order, each on the rows that those before it left
@@ -55,13 +79,8 @@ pub fn perform(
             Ok(tree) => results.push(tree)?,
             Err(Stop::Memory) => return Err(AllocError),
             Err(Stop::Refused(error)) => {
-                results.push(error_tree(alloc, error)?)?;
                 let (_tried, others) = trees.split_at(i + 1);
-                results.push_nulls(others)?;
-                return Ok(Performed {
-                    results: results.into_trees(),
-                    delta: Delta::new(alloc),
-                });
+                return refused(alloc, results, error, others);
             }
         }
     }

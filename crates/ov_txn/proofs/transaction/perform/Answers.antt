@@ -1,5 +1,6 @@
-use Rattle.std.proofs.Common.{◌≡◌, ◌==◌, ◌∙◌, ◌<◌, ◌+◌, length, drop, sym, ap, arith}
+use Rattle.std.proofs.Common.{◌≡◌, ◌==◌, ◌∙◌, ◌<◌, ◌+◌, length, drop, sym, ap, arith, IfOk}
 use Rattle.std.proofs.lemmas.List.{drop_all}
+use Rattle.std.proofs.lemmas.Result.{IfOk-weaker}
 use Rattle.std.specs.FinMap.{len}
 use Rattle.serde_json.specs.View.{view, items_view}
 use Rattle.ov_db.specs.Changing.{Delta, applied}
@@ -25,13 +26,12 @@ returns-in-Err-Refused-clause-results c =
     let g = staged c.loop-i.stage.now c.args.draws.now c.loop-i.used in
     let error = error_view c.in-Err-Refused.error in
     let refuses : operation schema c.in-Some.version g (view tree) ≡ Refuses error = rw c.in-Err-Refused.field-0-is at c.in-Err-Refused.ensures.done in
-    let told : c.in_ok-error_tree-in-Err-Refused.field-0 ≡ error_tree error = rw c.in-Err-Refused.field-0-is at c.in_ok-error_tree-in-Err-Refused.ensures in
     let all = ap (λ t. t.results) (at_refuses schema before c.in-Some.version (transaction schema before c.args.draws.now (items_view trees)) g (view tree) error (items_view (drop i trees)) c.loop-i.results (items_view (drop (i + 1) trees))
     (items_at trees i tree within c.index-trees-i.is) c.loop-i.invariant.going refuses) in
-    c.into_trees-in-Err-Refused.ensures ∙ c.in_ok-push_nulls-in-Err-Refused.ensures
-    ∙ ap (λ vs. nulls_after c.push-in-Err-Refused.new.self (items_view vs)) c.split_at.ensures.back
-    ∙ ap (λ rs. nulls_after rs (items_view (drop (i + 1) trees))) (c.in_ok-push-in-Err-Refused.ensures ∙ ap (and_item c.loop-i.results) told)
-    ∙ sym all ∙ ap (λ ds. (transaction schema before c.args.draws.now ds).results) c.as_slice-trees.ensures.same
+    let given : IfOk c.refused.result (λ p. p.results ≡ nulls_after (and_item c.loop-i.results (error_tree error)) (items_view c.split_at.result.1.now)) = rw c.in-Err-Refused.field-0-is at c.refused.ensures.results in
+    IfOk-weaker c.refused.result _ _ (λ p h.
+    h ∙ ap (λ vs. nulls_after (and_item c.loop-i.results (error_tree error)) (items_view vs)) c.split_at.ensures.back
+    ∙ sym all ∙ ap (λ ds. (transaction schema before c.args.draws.now ds).results) c.as_slice-trees.ensures.same) given
 
 pub returns-in-Err-Refused-clause-delta : goal.returns-in-Err-Refused-clause-delta
 returns-in-Err-Refused-clause-delta c =
@@ -47,7 +47,7 @@ returns-in-Err-Refused-clause-delta c =
     let kept = ap (λ t. t.database) (at_refuses schema before c.in-Some.version (transaction schema before c.args.draws.now (items_view trees)) g (view tree) error (items_view (drop i trees)) c.loop-i.results (items_view (drop (i + 1) trees))
     (items_at trees i tree within c.index-trees-i.is) c.loop-i.invariant.going refuses) in
     let same = sym kept ∙ ap (λ ds. (transaction schema before c.args.draws.now ds).database) c.as_slice-trees.ensures.same in
-    ap (λ (delta : Delta). applied delta before) c.new.ensures ∙ applied-empty before ∙ same
+    IfOk-weaker c.refused.result _ _ (λ p h. ap (λ (delta : Delta). applied delta before) h ∙ applied-empty before ∙ same) c.refused.ensures.delta
 
 pub returns-in-Err-Refused-clause-least : goal.returns-in-Err-Refused-clause-least
 returns-in-Err-Refused-clause-least c =
@@ -63,7 +63,7 @@ returns-in-Err-Refused-clause-least c =
     let kept = ap (λ t. t.database) (at_refuses schema before c.in-Some.version (transaction schema before c.args.draws.now (items_view trees)) g (view tree) error (items_view (drop i trees)) c.loop-i.results (items_view (drop (i + 1) trees))
     (items_at trees i tree within c.index-trees-i.is) c.loop-i.invariant.going refuses) in
     let same = sym kept ∙ ap (λ ds. (transaction schema before c.args.draws.now ds).database) c.as_slice-trees.ensures.same in
-    ap (λ (delta : Delta). len delta == 0) c.new.ensures ∙ least-empty before ∙ ap (is_database before) same
+    IfOk-weaker c.refused.result _ _ (λ p h. ap (λ (delta : Delta). len delta == 0) h ∙ least-empty before ∙ ap (is_database before) same) c.refused.ensures.delta
 
 pub loop-i-preserved : goal.loop-i-preserved
 loop-i-preserved c =
