@@ -110,7 +110,7 @@ fn columns_are_found_by_name_and_written_in_order(rt: HostRuntime) -> Result<(),
 }
 
 /// Puts a row into the rows.
-fn add(alloc: Global, rows: &mut Rows, table: &str, id: u128) -> Result<(), AllocError> {
+pub(crate) fn add(alloc: Global, rows: &mut Rows, table: &str, id: u128) -> Result<(), AllocError> {
     let key = key(alloc, table, id)?;
     let row = row(alloc, table, 4)?;
     rows.insert(key, row)

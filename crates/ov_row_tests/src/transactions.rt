@@ -2,13 +2,14 @@ ghost use Rattle.std.specs.Prelude.{◌≡◌, IfOk, false};
 ghost use Rattle.serde_json.specs.View.{view};
 ghost use Rattle.ov_specs.specs.Tree.{has_real};
 
+use crate::rows::add;
 use ov_base::{Tree, Trees, has_real};
 use ov_db::Rows;
 use ov_early::Draws;
 use ov_schema::Schema;
 use ov_txn::{draws_for, exhausted, failed, perform};
 use serde_json::Value;
-use std::alloc::Global;
+use std::alloc::{AllocError, Global};
 use std::test::Fail;
 use uuid::Uuid;
 
@@ -61,13 +62,23 @@ fn trees(alloc: Global, text: &str) -> Result<Trees, Fail> {
     Ok(trees)
 }
 
-/// The text of the results of a transaction on an empty database, and how many rows it changes.
-fn performed(alloc: Global, draws: &[Uuid], operations: &Trees) -> Result<(String, usize), Fail> {
+/// The text of the results of a transaction on the rows, and how many it changes.
+fn performed_on(
+    alloc: Global,
+    rows: &Rows,
+    draws: &[Uuid],
+    operations: &Trees,
+) -> Result<(String, usize), Fail> {
     let schema = Schema::read(alloc, Tree::new(value(alloc, SCHEMA)?))?;
-    let rows = Rows::new(alloc);
-    let performed = perform(alloc, &schema, &rows, draws, operations)?;
+    let performed = perform(alloc, &schema, rows, draws, operations)?;
     let text = performed.results.into_tree().into_value().to_string(alloc)?;
     Ok((text, performed.delta.map().len()))
+}
+
+/// The same on an empty database.
+fn performed(alloc: Global, draws: &[Uuid], operations: &Trees) -> Result<(String, usize), Fail> {
+    let rows = Rows::new(alloc);
+    performed_on(alloc, &rows, draws, operations)
 }
 
 /// The same with fresh draws.
@@ -88,6 +99,63 @@ fn insert_then_select(rt: HostRuntime) -> Result<(), Fail> {
     let wanted = format!(in alloc; "[{INSERTED},{{\"rows\":[{row}]}}]")?;
     assert_eq!(rt; text.as_str(), wanted.as_str());
     assert_eq!(rt; rows, 1);
+    Ok(())
+}
+
+/// Two switches, and a port between them.
+fn committed_rows(alloc: Global) -> Result<Rows, AllocError> {
+    let mut rows = Rows::new(alloc);
+    add(alloc, &mut rows, "Switch", 9)?;
+    add(alloc, &mut rows, "Port", 4)?;
+    add(alloc, &mut rows, "Switch", 3)?;
+    Ok(rows)
+}
+
+/// The result of a select that shows these identifiers.
+fn shown(alloc: Global, ids: &[u64]) -> Result<String, Fail> {
+    let mut text = String::from_str(alloc, "{\"rows\":[")?;
+    for id in ids {
+        if !text.as_str().ends_with("[") {
+            text.push_str(",")?;
+        }
+        let row = format!(in alloc;
+            "{{\"_uuid\":[\"uuid\",\"00000000-0000-0000-0000-00000000000{id:x}\"]}}"
+        )?;
+        text.push_str(row.as_str())?;
+    }
+    text.push_str("]}]")?;
+    Ok(text)
+}
+
+/// What a select of all switches gives behind inserts that draw these identifiers, after the version.
+fn selected(alloc: Global, rows: &Rows, inserts: &str, draws: &[Uuid]) -> Result<String, Fail> {
+    let select = "{\"op\":\"select\",\"table\":\"Switch\",\"where\":[],\"columns\":[\"_uuid\"]}";
+    let operations = trees(alloc, format!(in alloc; "[{inserts}{select}]")?.as_str())?;
+    let (text, _changed) = performed_on(alloc, rows, draws, &operations)?;
+    Ok(text)
+}
+
+/// A select sees the committed rows and those that were put before it, in the order of their identifiers.
+#[test]
+fn committed_and_new_rows_are_selected_in_order(rt: HostRuntime) -> Result<(), Fail> {
+    let alloc = rt.alloc();
+    let rows = committed_rows(alloc)?;
+    let draws = [
+        Uuid::from_u128(1),
+        Uuid::from_u128(5),
+        Uuid::from_u128(2),
+        Uuid::from_u128(12),
+    ];
+    let none = selected(alloc, &rows, "", draws.as_slice())?;
+    assert!(rt; none.as_str().ends_with(shown(alloc, &[3, 9])?.as_str()));
+    let one = format!(in alloc; "{INSERT},")?;
+    let text = selected(alloc, &rows, one.as_str(), draws.as_slice())?;
+    assert!(rt; text.as_str().ends_with(shown(alloc, &[3, 5, 9])?.as_str()));
+    let three = format!(in alloc; "{INSERT},{INSERT},{INSERT},")?;
+    let text = selected(alloc, &rows, three.as_str(), draws.as_slice())?;
+    let wanted = shown(alloc, &[2, 3, 5, 9, 12])?;
+    assert!(rt; text.as_str().ends_with(wanted.as_str()));
+    assert_eq!(rt; rows.map().len(), 3);
     Ok(())
 }
 
