@@ -1,16 +1,14 @@
 -- Two databases are one where they have the same rows, and only where they have as many.
-use Rattle.std.proofs.Common.{◌≡◌, ◌≢◌, ℕ, ◌+◌, ◌<◌, List, [], ◌∷◌, length, Bool, true, false, ◌&&◌, ◌==◌, refl, sym, ap, ◌∙◌, arith, nat_eq}
+use Rattle.std.proofs.Common.{◌≡◌, ℕ, List, [], ◌∷◌, length, Bool, true, ◌&&◌, refl, arith, nat_eq}
 use Rattle.std.specs.Cmp.{eq_by_cmp_equiv, nat_eq_equiv}
 use Rattle.std.specs.Cmp.Lexicographic.{pointwise}
-use Rattle.std.specs.FinMap.{entries, keys, len, len-entries}
+use Rattle.std.specs.FinMap.{entries, keys}
 use Rattle.std.proofs.lemmas.Bool.{and_parts, and_from}
-use Rattle.std.proofs.lemmas.Bool.Decides.{nat_tests}
 use Rattle.ov_specs.specs.Database.{Database, Row, is_atom, is_pair, is_datum, are_columns, is_row, is_key, is_database}
 use Rattle.ov_specs.specs.Lines.{LineKey}
 use Rattle.ov_specs.specs.Method.{is_text}
 use Rattle.ov_specs.specs.Value.{Atom, Datum, Atoms, Pairs}
 use Rattle.ov_specs.proofs.Order.{atom_cmp_total}
-use Rattle.ov_db.specs.Adding.{without}
 
 pointwise-same : {A : Type 0} (f : A → A → Bool) → ((a : A) → f a a ≡ true) → (xs : List A) → pointwise f xs xs ≡ true
 pointwise-same f h [] = refl

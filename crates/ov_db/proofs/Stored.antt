@@ -1,10 +1,10 @@
 -- What lines hold after the changes of a commit.
 use Rattle.std.proofs.Common.{◌≡◌, List, [], ◌∷◌, map, Bool, true, false, cond, Option, Some, None, option_map, refl, sym, ap, subst, ◌∙◌}
 use mathlib.Core.Logic.{inl, inr}
-use Rattle.std.specs.FinMap.{entries, get, insert, remove, get-insert, get-remove}
+use Rattle.std.specs.FinMap.{entries, get, get-insert, get-remove}
 use Rattle.std.proofs.Common.{ℕ}
 use Rattle.ov_specs.specs.Database.{Database, Row, line_of, AreLinesOf}
-use Rattle.ov_specs.specs.Lines.{LineKey, LineBody, LineChange, Lines, Contents, after_change, after_changes}
+use Rattle.ov_specs.specs.Lines.{LineKey, LineChange, Lines, Contents, after_change, after_changes}
 use Rattle.ov_early.specs.Keeping.{changed}
 use Rattle.ov_early.proofs.LineLemmas.{key_total}
 use Rattle.ov_db.specs.Changing.{Delta, applied, change_of, with_row, with_rows}

@@ -1,5 +1,5 @@
 -- Changes of a database by their keys, and the database after them.
-use Rattle.std.specs.Prelude.{List, [], ◌∷◌, map, Option, Some, None}
+use Rattle.std.specs.Prelude.{List, [], ◌∷◌, Option, Some, None}
 use Rattle.std.specs.FinMap.{FinMap, insert, remove, entries}
 use Rattle.ov_specs.specs.Database.{Database, Row, line_of}
 use Rattle.ov_specs.specs.Lines.{LineKey, LineChange, Put, Remove, line_cmp}

@@ -1,5 +1,5 @@
 -- What a commit makes of a database, and what an open may find of it.
-use Rattle.std.specs.Prelude.{◌≡◌, ◌⊎◌, List, ℕ, Option, Some, None}
+use Rattle.std.specs.Prelude.{◌≡◌, ◌⊎◌, List, ℕ, Option, Some}
 use Rattle.ov_specs.specs.Database.{Database, AreLinesOf}
 use Rattle.ov_specs.specs.Lines.{Contents}
 use Rattle.ov_db.specs.declared.answer.StoreAnswer.{StoreAnswer}

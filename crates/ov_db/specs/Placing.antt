@@ -1,5 +1,5 @@
 -- Places that are made for new rows before they are put there.
-use Rattle.std.specs.Prelude.{◌≡◌, Option, Some, None, true}
+use Rattle.std.specs.Prelude.{◌≡◌, Some, None, true}
 use Rattle.std.specs.FinMap.{get, contains_key}
 use Rattle.ov_specs.specs.Database.{Database, Row}
 use Rattle.ov_specs.specs.Lines.{LineKey}

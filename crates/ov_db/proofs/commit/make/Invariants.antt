@@ -1,4 +1,4 @@
-use Rattle.std.proofs.Common.{◌≡◌, T, Option, Some, true}
+use Rattle.std.proofs.Common.{◌≡◌, T, Some, true}
 use Rattle.std.specs.FinMap.{find, is_sorted, contains_key}
 use Rattle.ov_specs.specs.Database.{Row}
 use Rattle.ov_specs.specs.Lines.{LineKey, line_cmp}

@@ -1,6 +1,6 @@
-use Rattle.std.proofs.Common.{◌≡◌, ◌∷◌, T, Option, Some, refl, sym, ap, subst, ◌∙◌}
+use Rattle.std.proofs.Common.{◌≡◌, ◌∷◌, T, Option, refl, sym, ap, subst, ◌∙◌}
 use Rattle.std.specs.FinMap.{find, get, is_sorted, get-from_sorted}
-use Rattle.ov_specs.specs.Database.{Database, Row}
+use Rattle.ov_specs.specs.Database.{Row}
 use Rattle.ov_specs.specs.Lines.{LineKey, line_cmp}
 use Rattle.ov_db.specs.Adding.{without}
 use Rattle.ov_db.specs.Changing.{Delta}

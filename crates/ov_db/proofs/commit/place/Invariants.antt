@@ -1,4 +1,4 @@
-use Rattle.std.proofs.Common.{◌≡◌, T, Option, Some, None, true, false}
+use Rattle.std.proofs.Common.{◌≡◌, T, Option, Some, None, false}
 use Rattle.std.specs.FinMap.{find, is_sorted, get, contains_key}
 use Rattle.ov_specs.specs.Database.{Row}
 use Rattle.ov_specs.specs.Lines.{LineKey, line_cmp}

@@ -1,4 +1,4 @@
-use Rattle.std.proofs.Common.{◌≡◌, ◌∷◌, [], ◌++◌, refl, sym, ap, ◌∙◌}
+use Rattle.std.proofs.Common.{◌≡◌, ◌∷◌, [], ◌++◌, refl, ap, ◌∙◌}
 use Rattle.ov_db.specs.Adding.{without}
 use Rattle.ov_db.proofs.Added.{copied, without-added, other_stays, contains_more, contains_new}
 use Rattle.ov_db.proofs.commit.place_at.Goals as goal

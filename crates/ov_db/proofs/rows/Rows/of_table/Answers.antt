@@ -1,4 +1,4 @@
-use Rattle.std.proofs.Common.{◌≡◌, ◌++◌, Bool, map, sym, ap, ◌∙◌, append-nil}
+use Rattle.std.proofs.Common.{◌++◌, Bool, map, sym, ap, ◌∙◌, append-nil}
 use Rattle.std.specs.FinMap.{entries, entries-from_sorted}
 use Rattle.std.specs.List.{filter}
 use Rattle.ov_specs.specs.Database.{Database, Row}
