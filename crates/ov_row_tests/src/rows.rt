@@ -116,66 +116,167 @@ pub(crate) fn add(alloc: Global, rows: &mut Rows, table: &str, id: u128) -> Resu
     rows.insert(key, row)
 }
 
-#[test]
-fn rows_of_one_table_stand_together(rt: HostRuntime) -> Result<(), Fail> {
-    let alloc = rt.alloc();
+/// Rows of two tables, one of them put twice.
+fn rows_of_two_tables(alloc: Global) -> Result<Rows, AllocError> {
     let mut rows = Rows::new(alloc);
     add(alloc, &mut rows, "Switch", 2)?;
     add(alloc, &mut rows, "Port", 9)?;
     add(alloc, &mut rows, "Switch", 1)?;
     add(alloc, &mut rows, "Switch", 2)?;
-    let mut found = String::new(alloc);
+    Ok(rows)
+}
+
+/// The keys of rows, in their order.
+fn keys_text(alloc: Global, rows: &Rows) -> Result<String, Fail> {
+    let mut text = String::new(alloc);
     for (key, _row) in rows.map() {
-        found.push_str(key.table())?;
-        found.push_str(if key.id() == Uuid::from_u128(2) {
-            "2 "
-        } else {
-            " "
-        })?;
+        let table = key.table();
+        let id = key.id().as_u128();
+        let key = format!(in alloc; "{table} {id}\n")?;
+        text.push_str(key.as_str())?;
     }
-    assert_eq!(rt; found.as_str(), "Port Switch Switch2 ");
-    assert_eq!(rt; rows.of_table(alloc, "Switch")?.len(), 2);
-    assert_eq!(rt; rows.of_table(alloc, "Swit")?.len(), 0);
-    rows.remove(&key(alloc, "Switch", 2)?);
-    assert!(rt; rows.row(&key(alloc, "Switch", 2)?).is_none());
-    assert!(rt; rows.contains(&key(alloc, "Switch", 1)?));
+    Ok(text)
+}
+
+#[test]
+fn rows_of_one_table_stand_together(rt: HostRuntime) -> Result<(), Fail> {
+    let alloc = rt.alloc();
+    let rows = rows_of_two_tables(alloc)?;
+    let text = keys_text(alloc, &rows)?;
+    assert_eq!(rt; text.as_str(), "Port 9\nSwitch 1\nSwitch 2\n");
     Ok(())
+}
+
+/// The keys of rows of which one was taken out.
+fn keys_without(alloc: Global, table: &str, id: u128) -> Result<String, Fail> {
+    let key = key(alloc, table, id)?;
+    let mut rows = rows_of_two_tables(alloc)?;
+    rows.remove(&key);
+    keys_text(alloc, &rows)
+}
+
+#[test]
+fn a_row_is_taken_out_by_its_key(rt: HostRuntime) -> Result<(), Fail> {
+    let alloc = rt.alloc();
+    let text = keys_without(alloc, "Switch", 2)?;
+    assert_eq!(rt; text.as_str(), "Port 9\nSwitch 1\n");
+    let text = keys_without(alloc, "Port", 2)?;
+    assert_eq!(rt; text.as_str(), "Port 9\nSwitch 1\nSwitch 2\n");
+    Ok(())
+}
+
+/// A row that is put and taken out again, and one that is put.
+fn two_changes(alloc: Global) -> Result<Delta, AllocError> {
+    let removed = key(alloc, "Switch", 1)?;
+    let mut delta = Delta::new(alloc);
+    put(alloc, &mut delta, "Switch", 1, "s1")?;
+    delta.insert(removed, None)?;
+    put(alloc, &mut delta, "Port", 1, "p1")?;
+    Ok(delta)
+}
+
+/// What a delta says of a key.
+fn change_of(alloc: Global, table: &str, id: u128) -> Result<&'static str, Fail> {
+    let key = key(alloc, table, id)?;
+    let delta = two_changes(alloc)?;
+    match delta.change(&key) {
+        Some(Some(_)) => Ok("a row"),
+        Some(None) => Ok("none"),
+        None => Ok("nothing"),
+    }
 }
 
 #[test]
 fn a_delta_has_one_change_of_a_key(rt: HostRuntime) -> Result<(), Fail> {
     let alloc = rt.alloc();
-    let mut delta = Delta::new(alloc);
-    assert!(rt; delta.is_empty());
-    put(alloc, &mut delta, "Switch", 1, "s1")?;
-    delta.insert(key(alloc, "Switch", 1)?, None)?;
-    put(alloc, &mut delta, "Port", 1, "p1")?;
-    assert!(rt; !delta.is_empty());
-    assert_eq!(rt; delta.map().len(), 2);
-    let removed = delta.change(&key(alloc, "Switch", 1)?);
-    assert!(rt; removed.is_some_and(Option::is_none));
-    let given = delta.change(&key(alloc, "Port", 1)?);
-    assert!(rt; given.is_some_and(Option::is_some));
-    assert!(rt; delta.change(&key(alloc, "Port", 2)?).is_none());
+    assert!(rt; Delta::new(alloc).is_empty());
+    assert!(rt; !two_changes(alloc)?.is_empty());
+    assert_eq!(rt; two_changes(alloc)?.map().len(), 2);
+    assert_eq!(rt; change_of(alloc, "Switch", 1)?, "none");
+    assert_eq!(rt; change_of(alloc, "Port", 1)?, "a row");
+    assert_eq!(rt; change_of(alloc, "Port", 2)?, "nothing");
     Ok(())
+}
+
+/// Commits these changes one after another, each of one row, and tells how each of them ended.
+fn commits<K: Keeper + Drop>(
+    alloc: Global,
+    db: &mut Db<K>,
+    changes: &[(u128, Option<&str>)],
+) -> Result<String, Fail> {
+    let mut answers = String::new(alloc);
+    for (id, name) in changes {
+        answers.push_str(match commit(alloc, db, *id, *name)? {
+            StoreAnswer::Kept => "kept ",
+            StoreAnswer::Exhausted => "exhausted ",
+            StoreAnswer::Failed => "failed ",
+        })?;
+    }
+    Ok(answers)
+}
+
+/// Whether a database is sealed, how often its device failed, and its switches.
+fn state<K: Keeper + Drop>(alloc: Global, db: &Db<K>) -> Result<String, Fail> {
+    let sealed = db.sealed();
+    let failures = db.failures();
+    let rows = shown(alloc, db, "Switch")?;
+    Ok(format!(in alloc; "{sealed} {failures}\n{rows}")?)
+}
+
+/// How these commits end, and the state behind them; and the switches of what the keeper then has.
+fn told<K: Keeper + Drop>(
+    alloc: Global,
+    keeper: K,
+    changes: &[(u128, Option<&str>)],
+) -> Result<(String, String), Fail> {
+    let mut db = opened(alloc, keeper)?;
+    let answers = commits(alloc, &mut db, changes)?;
+    let state = state(alloc, &db)?;
+    let again = opened(alloc, db.into_keeper())?;
+    let rows = shown(alloc, &again, "Switch")?;
+    Ok((format!(in alloc; "{answers}{state}")?, rows))
 }
 
 #[test]
 fn a_commit_makes_all_changes(rt: HostRuntime) -> Result<(), Fail> {
     let alloc = rt.alloc();
-    let mut db = opened(alloc, list_keeper(alloc)?)?;
-    assert_eq!(rt; commit(alloc, &mut db, 2, Some("s2"))?, StoreAnswer::Kept);
-    assert_eq!(rt; commit(alloc, &mut db, 1, Some("s1"))?, StoreAnswer::Kept);
-    assert_eq!(rt; commit(alloc, &mut db, 3, Some("s3"))?, StoreAnswer::Kept);
-    assert_eq!(rt; commit(alloc, &mut db, 2, Some("s4"))?, StoreAnswer::Kept);
-    assert_eq!(rt; commit(alloc, &mut db, 3, None)?, StoreAnswer::Kept);
-    assert_eq!(rt; commit(alloc, &mut db, 9, None)?, StoreAnswer::Kept);
+    let changes = [
+        (2, Some("s2")),
+        (1, Some("s1")),
+        (3, Some("s3")),
+        (2, Some("s4")),
+        (3, None),
+        (9, None),
+    ];
+    let keeper = list_keeper(alloc)?;
+    let (told, again) = told(alloc, keeper, changes.as_slice())?;
     let rows = "1 {\"load\":4,\"name\":\"s1\"}\n2 {\"load\":4,\"name\":\"s4\"}\n";
-    assert_eq!(rt; shown(alloc, &db, "Switch")?.as_str(), rows);
-    assert_eq!(rt; shown(alloc, &db, "Port")?.as_str(), "");
-    assert!(rt; db.row(&key(alloc, "Switch", 1)?).is_some());
-    assert!(rt; db.row(&key(alloc, "Switch", 3)?).is_none());
-    let again = opened(alloc, db.into_keeper())?;
-    assert_eq!(rt; shown(alloc, &again, "Switch")?.as_str(), rows);
+    let wanted = format!(in alloc; "kept kept kept kept kept kept false 0\n{rows}")?;
+    assert_eq!(rt; told.as_str(), wanted.as_str());
+    assert_eq!(rt; again.as_str(), rows);
+    Ok(())
+}
+
+/// Whether there is a row of each key, when one switch was committed.
+fn found(alloc: Global, keys: &[RowKey]) -> Result<Vec<bool>, Fail> {
+    let mut db = opened(alloc, list_keeper(alloc)?)?;
+    commit(alloc, &mut db, 1, Some("s1"))?;
+    let mut found = Vec::new(alloc);
+    for key in keys {
+        found.push(db.row(key).is_some())?;
+    }
+    Ok(found)
+}
+
+#[test]
+fn a_row_is_found_by_its_key(rt: HostRuntime) -> Result<(), Fail> {
+    let alloc = rt.alloc();
+    let keys = [
+        key(alloc, "Switch", 1)?,
+        key(alloc, "Switch", 2)?,
+        key(alloc, "Port", 1)?,
+    ];
+    let found = found(alloc, keys.as_slice())?;
+    assert_eq!(rt; found.as_slice(), [true, false, false].as_slice());
     Ok(())
 }
