@@ -1,4 +1,4 @@
-use ov_db::Columns;
+use ov_rows::Columns;
 use uuid::Uuid;
 
 /// A row as conditions see it (RFC 7047, 3.2).

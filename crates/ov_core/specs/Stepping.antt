@@ -3,7 +3,7 @@ use Rattle.std.specs.Prelude.{◌≡◌, ◌⊎◌, ℕ, ◌-◌, ◌^◌, ◌<�
 use Rattle.ov_specs.specs.Machine as machine
 use Rattle.ov_specs.specs.Machine.{State, is_open}
 use Rattle.ov_specs.specs.Uuid.{Uuid}
-use Rattle.ov_early.specs.Drawing.{DrawsFrom}
+use Rattle.ov_txn.specs.Drawing.{DrawsFrom}
 use Rattle.ov_core.specs.declared.event.StepFault.{StepFault}
 use Rattle.ov_core.specs.declared.event.StepFault.TheVariants as fault
 use Rattle.ov_core.specs.declared.event.Stepped.{Stepped}

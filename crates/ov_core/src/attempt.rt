@@ -9,7 +9,7 @@ use crate::frames::{Frames, reply_of};
 use crate::waiting::{Waiting, send};
 use ov_base::{Tree, Trees};
 use ov_db::{Db, Delta, StoreAnswer};
-use ov_early::Keeper;
+use ov_keeper::Keeper;
 use ov_txn::{Performed, failed, perform};
 use std::alloc::Global;
 use uuid::Uuid;

@@ -4,6 +4,7 @@
 
 mod answer;
 mod attempt;
+pub mod early;
 mod entry;
 mod event;
 mod frames;
@@ -13,5 +14,4 @@ mod work;
 
 pub use event::{Attempt, Cause, Choice, Entry, Event, Outcome, Session, StepFault, Stepped};
 pub use machine::Core;
-pub use ov_early as early;
 pub use ov_schema::{Schema, SchemaFault};

@@ -1,7 +1,7 @@
 ghost use Rattle.std.specs.Prelude.{◌≡◌, Some, None};
 ghost use Rattle.ov_rpc.specs.Message.{message_view};
 ghost use Rattle.ov_specs.specs.Machine as spec;
-ghost use Rattle.ov_early.specs.Drawing.{DrawsFrom};
+ghost use Rattle.ov_txn.specs.Drawing.{DrawsFrom};
 ghost use Rattle.ov_core.specs.Working.{Comes};
 
 use crate::answer::{Work, work_of};
@@ -10,9 +10,9 @@ use crate::event::Outcome;
 use crate::waiting::{Waiting, send};
 use ov_base::{Tree, Trees};
 use ov_db::Db;
-use ov_early::{Draws, Keeper};
+use ov_keeper::Keeper;
 use ov_rpc::Message;
-use ov_txn::draws_for;
+use ov_txn::{Draws, draws_for};
 use std::alloc::Global;
 use uuid::Uuid;
 

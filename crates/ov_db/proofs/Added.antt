@@ -4,7 +4,7 @@ use Rattle.std.specs.FinMap.{get, insert, remove, contains_key, get-insert, get-
 use Rattle.std.specs.Ordering.{eq_by_cmp}
 use Rattle.ov_specs.specs.Database.{Database, Row}
 use Rattle.ov_specs.specs.Lines.{LineKey, line_cmp}
-use Rattle.ov_early.proofs.LineLemmas.{key_exact, key_total, same_tied, tied_same}
+use Rattle.ov_specs.proofs.LineKeys.{key_exact, key_total, same_tied, tied_same}
 use Rattle.ov_db.specs.Adding.{without}
 
 abbrev pub same : LineKey → LineKey → Bool

@@ -1,5 +1,3 @@
-pub mod Maps
-pub mod Names
 pub mod Added
 pub mod Places
 pub mod Stored

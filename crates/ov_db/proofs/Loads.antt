@@ -16,12 +16,12 @@ use Rattle.ov_specs.specs.Lines.{LineKey, LineBody, Lines, line_cmp}
 use Rattle.ov_specs.specs.Message.{tree_of}
 use Rattle.ov_specs.specs.Method.{is_text}
 use Rattle.ov_specs.specs.SchemaTypes.{Table, Schema}
-use Rattle.ov_early.proofs.LineLemmas.{key_total, same_tied, tied_same}
-use Rattle.ov_early.specs.Keeping.{loaded_contents}
-use Rattle.ov_early.specs.Views.{line_entry}
-use Rattle.ov_early.specs.declared.fault.OpenFault.{OpenFault}
-use Rattle.ov_early.specs.declared.fault.OpenFault.TheVariants.{SchemaDiffers, BadBody, Broken, Keeping}
-use Rattle.ov_early.specs.declared.keeper.Loaded.{Loaded}
+use Rattle.ov_specs.proofs.LineKeys.{key_total, same_tied, tied_same}
+use Rattle.ov_keeper.specs.Keeping.{loaded_contents}
+use Rattle.ov_keeper.specs.Views.{line_entry}
+use Rattle.ov_db.specs.declared.fault.OpenFault.{OpenFault}
+use Rattle.ov_db.specs.declared.fault.OpenFault.TheVariants.{SchemaDiffers, BadBody, Broken, Keeping}
+use Rattle.ov_keeper.specs.declared.keeper.Loaded.{Loaded}
 use Rattle.ov_db.proofs.Added.{same}
 use Rattle.ov_db.specs.Opening.{CanOpen, RefusesOpen}
 use Rattle.ov_db.specs.Loading.{IsNoneBy, IsTaken, with_line, with_lines}
@@ -198,13 +198,13 @@ module _ (schema : Schema) (loaded : Loaded) where
   lines = map line_entry loaded.lines.items
 
   -- the rows of what can be opened, or the cause why it can't
-  pub opens : {A : Type 0} (seen : A → Database) (P : A → Type 0) (result : Result A OpenFault) → loaded.schema ≡ compact_text schema.tree → IfOk result P → IsTaken seen (with_lines schema lines empty) result
-      → IfOk result (λ a. P a × CanOpen schema (seen a) (loaded_contents loaded)) × IfErr result (RefusesOpen schema (loaded_contents loaded))
-  opens seen P (Ok a) same_text holds is = ((holds, record { same_schema = same_text; rows = are_rows schema lines (seen a) is }), tt)
-  opens seen P (Err BadBody) same_text holds is = (tt, (same_text, has_bad_line schema lines is))
-  opens seen P (Err (Keeping fault)) same_text holds is = (tt, tt)
-  opens seen P (Err SchemaDiffers) same_text holds is = absurd is
-  opens seen P (Err Broken) same_text holds is = absurd is
+  pub opens : (result : Result Database OpenFault) → loaded.schema ≡ compact_text schema.tree → IsTaken (λ rows. rows) (with_lines schema lines empty) result
+      → IfOk result (λ rows. CanOpen schema rows (loaded_contents loaded)) × IfErr result (RefusesOpen schema (loaded_contents loaded))
+  opens (Ok rows) same_text is = (record { same_schema = same_text; rows = are_rows schema lines rows is }, tt)
+  opens (Err BadBody) same_text is = (tt, (same_text, has_bad_line schema lines is))
+  opens (Err (Keeping fault)) same_text is = (tt, tt)
+  opens (Err SchemaDiffers) same_text is = absurd is
+  opens (Err Broken) same_text is = absurd is
 
 -- ---- one line more
 

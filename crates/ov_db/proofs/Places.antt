@@ -6,7 +6,7 @@ use Rattle.std.specs.FinMap.Entries.{below_all}
 use Rattle.std.specs.Ordering.{is_lt, is_eq}
 use Rattle.ov_specs.specs.Database.{Database, Row}
 use Rattle.ov_specs.specs.Lines.{LineKey, line_cmp}
-use Rattle.ov_early.proofs.LineLemmas.{key_exact, key_total, tied_same}
+use Rattle.ov_specs.proofs.LineKeys.{key_exact, key_total, tied_same}
 use Rattle.ov_db.specs.Changing.{Delta, applied, with_row, with_rows}
 use Rattle.ov_db.specs.Placing.{IsSameBeside}
 use Rattle.ov_db.proofs.Added.{same}

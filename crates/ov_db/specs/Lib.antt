@@ -1,8 +1,7 @@
 pub mod Changing
 pub mod Placing
 pub mod Adding
-pub mod Named
-pub mod Resident
+pub mod DeltaModel
 pub mod Kept
 pub mod Committing
 pub mod Stored

@@ -1,9 +1,9 @@
 -- The rows that a list of lines gives, one line after another (own).
 use Rattle.std.specs.Prelude.{◌≡◌, List, [], ◌∷◌, if◌then◌else◌, Option, Some, None, option_and_then, option_map, Result, Ok, Err}
 use Rattle.std.specs.FinMap.{contains_key, insert}
-use Rattle.ov_early.specs.declared.fault.KeepFault.TheVariants.{Memory}
-use Rattle.ov_early.specs.declared.fault.OpenFault.{OpenFault}
-use Rattle.ov_early.specs.declared.fault.OpenFault.TheVariants.{SchemaDiffers, BadBody, Broken, Keeping}
+use Rattle.ov_keeper.specs.declared.fault.KeepFault.TheVariants.{Memory}
+use Rattle.ov_db.specs.declared.fault.OpenFault.{OpenFault}
+use Rattle.ov_db.specs.declared.fault.OpenFault.TheVariants.{SchemaDiffers, BadBody, Broken, Keeping}
 use Rattle.ov_db.specs.Stored.{row_stored}
 use Rattle.ov_specs.specs.Database.{Database}
 use Rattle.ov_specs.specs.Lines.{LineKey, LineBody}

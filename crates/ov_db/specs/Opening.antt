@@ -4,8 +4,8 @@ use Rattle.serde_json.specs.Written.{compact_text}
 use Rattle.ov_specs.specs.Database.{Database}
 use Rattle.ov_specs.specs.Lines.{Contents}
 use Rattle.ov_specs.specs.SchemaTypes.{Schema}
-use Rattle.ov_early.specs.declared.fault.OpenFault.{OpenFault}
-use Rattle.ov_early.specs.declared.fault.OpenFault.TheVariants.{SchemaDiffers, BadBody, Broken, Keeping}
+use Rattle.ov_db.specs.declared.fault.OpenFault.{OpenFault}
+use Rattle.ov_db.specs.declared.fault.OpenFault.TheVariants.{SchemaDiffers, BadBody, Broken, Keeping}
 use Rattle.ov_db.specs.Stored.{AreRowsOf, HasBadLine}
 
 -- what is held is the database: the text of the schema, and lines that are its rows

@@ -3,18 +3,15 @@ ghost use Rattle.std.specs.FinMap.{entries, get, contains_key};
 ghost use Rattle.std.specs.Ordering.{eq_by_cmp};
 ghost use Rattle.ov_specs.specs.Database.{line_of};
 ghost use Rattle.ov_specs.specs.Lines.{LineKey, Remove, line_cmp};
-ghost use Rattle.ov_early.specs.Views.{changes_view, change_view, line_entry};
+ghost use Rattle.ov_keeper.specs.Views.{changes_view, change_view, line_entry};
 ghost use Rattle.ov_db.specs.Adding.{without};
 ghost use Rattle.ov_db.specs.Changing.{applied, change_of, with_row};
 ghost use Rattle.ov_db.specs.Placing.{IsPlaced, IsSameBeside};
 
-use crate::columns::Columns;
 use crate::delta::Delta;
-use crate::key::RowKey;
-use crate::row::Row;
-use crate::rows::Rows;
 use ov_base::Text;
-use ov_early::{Change, Line};
+use ov_keeper::{Change, Line};
+use ov_rows::{Columns, Row, RowKey, Rows};
 use std::alloc::{AllocError, Global};
 use uuid::Uuid;
 

@@ -4,7 +4,7 @@ ghost use Rattle.std.specs.List.{filter};
 ghost use Rattle.serde_json.specs.Written.{compact_text};
 ghost use Rattle.ov_specs.specs.Lines.{Contents};
 ghost use Rattle.ov_specs.specs.Method.{is_text};
-ghost use Rattle.ov_early.specs.Keeping.{Keeps};
+ghost use Rattle.ov_keeper.specs.Keeping.{Keeps};
 ghost use Rattle.ov_db.specs.Committing.{Commits, MayHold};
 ghost use Rattle.ov_db.specs.Opening.{CanOpen, RefusesOpen};
 ghost use Rattle.ov_db.specs.declared.answer.StoreAnswer.TheVariants.{Kept, Failed};
@@ -12,11 +12,10 @@ ghost use Rattle.ov_db.specs.declared.answer.StoreAnswer.TheVariants.{Kept, Fail
 use crate::answer::StoreAnswer;
 use crate::commit::{changes_of, make, place, take_out};
 use crate::delta::Delta;
-use crate::key::RowKey;
+use crate::fault::OpenFault;
 use crate::load::rows_of;
-use crate::row::Row;
-use crate::rows::Rows;
-use ov_early::{KeepFault, Keeper, OpenFault};
+use ov_keeper::{KeepFault, Keeper};
+use ov_rows::{Row, RowKey, Rows};
 use ov_schema::Schema;
 use std::alloc::{AllocError, Global};
 use std::marker::Model;
@@ -42,7 +41,7 @@ impl<K: Keeper> Model for Db<K> {
     ghost use Rattle.ov_db.specs.Changing.{applied};
     ghost use Rattle.ov_db.specs.Committing.{MayHold};
     ghost use Rattle.ov_db.specs.Kept.{Kept};
-    ghost use Rattle.ov_db.specs.Resident.{database_code};
+    ghost use Rattle.ov_rows.specs.Resident.{database_code};
 
     ghost Value = { Kept K };
 
@@ -71,7 +70,7 @@ impl<K: Keeper + Drop> Db<K> {
         let rows = rows_of(alloc, &schema, &loaded)?;
         Ok(Db {
             schema,
-            rows: Rows { rows },
+            rows,
             failed: None,
             keeper,
         })

@@ -1,8 +1,7 @@
 ghost use Rattle.std.specs.Prelude.{◌≡◌, ◌==◌, OnOk, OnErr, option_copied};
 ghost use Rattle.std.specs.FinMap.{empty, get, insert, entries, len};
 
-use crate::key::RowKey;
-use crate::row::Row;
+use ov_rows::{Row, RowKey};
 use std::alloc::{AllocError, Global};
 use std::collections::BTreeMap;
 use std::marker::Model;
@@ -18,7 +17,7 @@ impl Model for Delta {
     ghost use Rattle.std.specs.FinMap.{is_sorted};
     ghost use Rattle.ov_specs.specs.Lines.{line_cmp};
     ghost use Rattle.ov_db.specs.Changing as changing;
-    ghost use Rattle.ov_db.specs.Resident.{delta_code, delta_of};
+    ghost use Rattle.ov_db.specs.DeltaModel.{delta_code, delta_of};
 
     ghost Value = { changing.Delta };
 

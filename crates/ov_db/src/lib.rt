@@ -5,20 +5,15 @@
 #![tactic(auto)]
 
 mod answer;
-mod columns;
 mod commit;
 mod db;
 mod delta;
-mod key;
+mod fault;
 mod load;
 mod read;
-mod row;
-mod rows;
 
 pub use answer::StoreAnswer;
-pub use columns::Columns;
 pub use db::Db;
 pub use delta::Delta;
-pub use key::RowKey;
-pub use row::Row;
-pub use rows::Rows;
+pub use fault::OpenFault;
+pub use ov_keeper::{Keeper, ListKeeper};

@@ -3,14 +3,14 @@ ghost use Rattle.std.specs.FinMap.{empty, entries};
 ghost use Rattle.serde_json.specs.View.{view};
 ghost use Rattle.ov_specs.specs.Message.{tree_of};
 ghost use Rattle.ov_specs.specs.Operation.{is_own};
-ghost use Rattle.ov_early.specs.Views.{line_entry};
+ghost use Rattle.ov_keeper.specs.Views.{line_entry};
 ghost use Rattle.ov_db.specs.Loading.{IsTaken};
 ghost use Rattle.ov_db.specs.Stored.{columns_stored, row_of_table, row_stored, value_stored};
 
-use crate::columns::Columns;
-use crate::row::Row;
+use crate::fault::OpenFault;
 use ov_atoms::{AtomFault, Datum, NoNames, read_datum};
-use ov_early::{KeepFault, Line, OpenFault};
+use ov_keeper::{KeepFault, Line};
+use ov_rows::{Columns, Row};
 use ov_schema::{Column, Schema, Table};
 use serde_json::Value;
 use std::alloc::Global;

@@ -1,4 +1,4 @@
-use ov_files::{SchemaFileFault, schema_from, schema_of, text_of};
+use ov_schema::{SchemaFileFault, schema_from, schema_of, text_of};
 use ov_schema::Schema;
 use std::alloc::Global;
 use std::io;

@@ -1,6 +1,6 @@
 use ov_base::Text;
-use ov_early::KeepFault;
-use ov_files::{store_in_memory, store_over};
+use ov_keeper::KeepFault;
+use ov_store::{store_in_memory, store_over};
 use ov_store::Store;
 use sqlite::{Alter, Connection};
 use std::alloc::Global;

@@ -4,8 +4,10 @@ ghost use Rattle.ov_specs.specs.Tree.{has_real};
 
 use ov_atoms::{Atom, Datum};
 use ov_base::{Bytes, Text, Tree, has_real};
-use ov_db::{Columns, Db, Delta, Row, RowKey, Rows};
-use ov_early::{Change, Keeper, Line, ListKeeper, OpenFault};
+use ov_rows::{Columns, Row, RowKey, Rows};
+use ov_db::{Db, Delta};
+use ov_keeper::{Change, Keeper, Line, ListKeeper};
+use ov_db::OpenFault;
 use ov_schema::Schema;
 use serde_json::Value;
 use std::alloc::Global;

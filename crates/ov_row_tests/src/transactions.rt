@@ -4,8 +4,8 @@ ghost use Rattle.ov_specs.specs.Tree.{has_real};
 
 use crate::rows::add;
 use ov_base::{Tree, Trees, has_real};
-use ov_db::Rows;
-use ov_early::Draws;
+use ov_rows::Rows;
+use ov_txn::Draws;
 use ov_schema::Schema;
 use ov_txn::{draws_for, exhausted, failed, perform};
 use serde_json::Value;

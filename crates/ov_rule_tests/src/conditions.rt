@@ -1,7 +1,7 @@
 use crate::support::{schema, value_of, words};
 use ov_atoms::NoNames;
 use ov_conds::{Condition, ConditionFault, RowView};
-use ov_db::Columns;
+use ov_rows::Columns;
 use ov_schema::Table;
 use serde_json::Value;
 use std::alloc::Global;

@@ -7,8 +7,8 @@ use Rattle.std.specs.Prelude.{is_some}
 use Rattle.ov_specs.specs.Value.{Atom, atom_cmp, Datum, Atoms, Pairs, atoms_in, pairs_in, count}
 use Rattle.ov_specs.specs.SchemaTypes.{ColumnType}
 use Rattle.ov_specs.specs.Fitting.{is_between, atom_fits, value_fits, fits}
-use Rattle.ov_shape.specs.Sets.{set_in}
-use Rattle.ov_shape.proofs.ChoiceLemmas.{keys-atoms_in}
+use Rattle.ov_schema.specs.Sets.{set_in}
+use Rattle.ov_schema.proofs.ChoiceLemmas.{keys-atoms_in}
 
 pub contains_key-atoms_in : (d : Datum) (a : Atom) (atoms : List Atom) → Some atoms ≡ atoms_in d → list_any (eq_by_cmp atom_cmp a) atoms ≡ contains_key (set_in d) a
 contains_key-atoms_in d a atoms is = ap (list_any (eq_by_cmp atom_cmp a)) (keys-atoms_in d atoms is) ∙ sym (contains_key-keys (set_in d) a)

@@ -1,4 +1,9 @@
+pub mod ShapeViews
+pub mod Sets
+pub mod Flaws
+pub mod FaultViews
 pub mod Refusals
 pub mod NamedViews
 pub mod Built
 pub mod Parts
+pub mod Texts

@@ -4,8 +4,8 @@ use Rattle.serde_json.specs.Data.{Data}
 use Rattle.ov_specs.specs.SchemaShape.{schema_shape}
 use Rattle.ov_specs.specs.SchemaTypes.{Schema}
 use Rattle.ov_specs.specs.Schema.{Refusal, judged, accepted}
-use Rattle.ov_shape.specs.declared.fault.SchemaFault.{SchemaFault}
-use Rattle.ov_shape.specs.Refusals.{refusal_view}
+use Rattle.ov_schema.specs.declared.fault.SchemaFault.{SchemaFault}
+use Rattle.ov_schema.specs.FaultViews.{refusal_view}
 
 -- the refusal is the answer to the tree, where the fault is one
 abbrev pub IsToldBy : Option Refusal → Result Schema Refusal → Type 0

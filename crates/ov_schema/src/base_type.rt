@@ -6,13 +6,14 @@ ghost use Rattle.ov_specs.specs.Value.{atom_cmp};
 ghost use Rattle.ov_specs.specs.Schema.{base_of, reference_of};
 ghost use Rattle.ov_specs.specs.Fitting.{in_range, atom_fits};
 ghost use Rattle.ov_atoms.specs.Views.{kind_view, atom_view, atoms_view};
-ghost use Rattle.ov_shape.specs.ShapeViews.{base_view};
-ghost use Rattle.ov_shape.specs.Sets.{set_in};
+ghost use Rattle.ov_schema.specs.ShapeViews.{base_view};
+ghost use Rattle.ov_schema.specs.Sets.{set_in};
 
 use crate::limits::{char_count, is_between};
+use crate::parse::base_shape::BaseShape;
+use crate::parse::choices::read_choices;
 use ov_atoms::{Atom, AtomKind, Datum};
 use ov_base::Text;
-use ov_shape::{BaseShape, read_choices};
 use std::alloc::{AllocError, Global};
 use std::marker::Model;
 
@@ -49,7 +50,7 @@ impl Model for BaseType {
     ghost use Rattle.std.specs.Prelude.{option_map};
     ghost use Rattle.ov_specs.specs.SchemaTypes as types;
     ghost use Rattle.ov_atoms.specs.Views.{kind_view};
-    ghost use Rattle.ov_shape.specs.Sets.{set_in};
+    ghost use Rattle.ov_schema.specs.Sets.{set_in};
 
     ghost Value = { types.BaseType };
 

@@ -4,11 +4,12 @@ ghost use Rattle.ov_specs.specs.Schema.{column_of, own_column};
 ghost use Rattle.ov_specs.specs.SchemaTypes.{kinds_of};
 ghost use Rattle.ov_specs.specs.Conditions.{is_scalar};
 ghost use Rattle.ov_atoms.specs.Views.{kinds_view};
-ghost use Rattle.ov_shape.specs.ShapeViews.{column_view};
+ghost use Rattle.ov_schema.specs.ShapeViews.{column_view};
 
 use crate::column_type::ColumnType;
+use crate::parse::base_shape::{BaseShape, TypeName};
+use crate::parse::type_shape::{ColumnShape, TypeShape};
 use ov_atoms::{AtomKind, Datum, Kinds};
-use ov_shape::{BaseShape, ColumnShape, TypeName, TypeShape};
 use std::alloc::{AllocError, Global};
 use std::marker::Model;
 

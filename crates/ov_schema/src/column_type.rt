@@ -5,12 +5,13 @@ ghost use Rattle.ov_specs.specs.SchemaTypes.{kinds_of};
 ghost use Rattle.ov_specs.specs.Conditions.{is_scalar};
 ghost use Rattle.ov_specs.specs.Fitting.{atom_fits, value_fits, fits, default_of};
 ghost use Rattle.ov_atoms.specs.Views.{kinds_view, atom_view, atoms_view, pairs_view};
-ghost use Rattle.ov_shape.specs.ShapeViews.{base_view, most_view, type_view};
+ghost use Rattle.ov_schema.specs.ShapeViews.{base_view, most_view, type_view};
 
 use crate::base_type::BaseType;
 use crate::limits::is_between;
+use crate::parse::base_shape::BaseShape;
+use crate::parse::type_shape::{Most, TypeShape};
 use ov_atoms::{Atom, Datum, Kinds};
-use ov_shape::{BaseShape, Most, TypeShape};
 use std::alloc::{AllocError, Global};
 use std::marker::Model;
 

@@ -1,18 +1,26 @@
 //! The schema of a database, read from its tree (RFC 7047, 3.2).
 //!
-//! A tree is read into the shape of its members, which is judged. What is left is built here from the shape: columns, which
-//! know the values that fit them, tables and the schema.
+//! A tree is read once into the shape of its members, which borrows from the tree, or is refused where one is missing or of a
+//! wrong kind (`parse`). The other refusals are then looked for in their order, over the whole shape (`judge`). What is left is
+//! built here: columns, which know the values that fit them, tables and the schema.
 #![tactic(auto)]
 
 mod base_type;
 mod column;
 mod column_type;
+mod fault;
+mod file_fault;
+mod judge;
 mod limits;
 mod named;
+mod parse;
 mod schema;
 mod table;
+mod text;
 
 pub use column::Column;
-pub use ov_shape::SchemaFault;
+pub use fault::SchemaFault;
+pub use file_fault::SchemaFileFault;
 pub use schema::Schema;
 pub use table::Table;
+pub use text::{read_schema, schema_from, schema_of, text_of};

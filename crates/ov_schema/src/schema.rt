@@ -8,12 +8,14 @@ ghost use Rattle.ov_specs.specs.Schema.{judged, schema_of, accepted};
 ghost use Rattle.ov_schema.specs.Built.{named_table_of};
 ghost use Rattle.ov_schema.specs.Parts.{parts_view};
 ghost use Rattle.ov_schema.specs.Refusals.{RefusesWith, JudgesWith};
-ghost use Rattle.ov_shape.specs.ShapeViews.{named_table_view, schema_view};
+ghost use Rattle.ov_schema.specs.ShapeViews.{named_table_view, schema_view};
 
+use crate::fault::SchemaFault;
 use crate::named::find_named;
+use crate::parse::schema_shape::SchemaShape;
+use crate::parse::table_shape::TableShape;
 use crate::table::Table;
 use ov_base::{Text, Tree};
-use ov_shape::{SchemaFault, SchemaShape, TableShape};
 use serde_json::Value;
 use std::alloc::{AllocError, Global};
 use std::marker::Model;

@@ -4,12 +4,13 @@ ghost use Rattle.std.specs.FinMap.{get, entries};
 ghost use Rattle.ov_specs.specs.Schema.{own_column, own_columns, table_of};
 ghost use Rattle.ov_schema.specs.Built.{named_column_of, indexes_in};
 ghost use Rattle.ov_schema.specs.NamedViews.{named_view};
-ghost use Rattle.ov_shape.specs.ShapeViews.{named_column_view, texts_view, indexes_view, table_view};
+ghost use Rattle.ov_schema.specs.ShapeViews.{named_column_view, texts_view, indexes_view, table_view};
 
 use crate::column::Column;
 use crate::named::{ascending, find_named};
+use crate::parse::table_shape::TableShape;
+use crate::parse::type_shape::ColumnShape;
 use ov_base::Text;
-use ov_shape::{ColumnShape, TableShape};
 use std::alloc::{AllocError, Global};
 use std::marker::Model;
 

@@ -4,7 +4,6 @@
 mod clock;
 mod database;
 mod draws;
-mod endings;
 mod session;
 mod start;
 

@@ -1,12 +1,14 @@
 //! From the program's words to what it serves, and on to its end.
 
 use crate::database::built_in_schema;
-use crate::endings::{ending_of_keeping, ending_of_schema, ending_of_words};
 use crate::session::serve;
 use ov_base::Text;
 use ov_core::Schema;
-use ov_files::{read_schema, store_in_file, store_in_memory, text_of};
-use ov_words::{Ending, Settings, read_words};
+use ov_schema::{read_schema, text_of};
+use ov_store::{store_in_file, store_in_memory};
+use ov_words::{
+    Ending, Settings, ending_of_keeping, ending_of_schema, ending_of_words, read_words,
+};
 use sqlite::Unknown;
 use std::alloc::Global;
 use std::env;

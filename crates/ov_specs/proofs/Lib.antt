@@ -19,3 +19,4 @@ mod MutatorRows
 pub mod Expanding
 pub mod CutLaw
 pub mod Turns
+pub mod LineKeys

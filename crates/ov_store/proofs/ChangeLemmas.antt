@@ -20,7 +20,7 @@ use Rattle.sqlite_rules.specs.Calls.{ids_of}
 use Rattle.sqlite_rules.specs.Cast.{cast_row}
 use Rattle.sqlite.specs.State.{State}
 use Rattle.ov_specs.specs.Lines.{LineKey, LineBody, line_cmp}
-use Rattle.ov_early.proofs.LineLemmas.{key_total, key_exact, tied_same}
+use Rattle.ov_specs.proofs.LineKeys.{key_total, key_exact, tied_same}
 use Rattle.ov_store.specs.Tables.{line_table}
 use Rattle.ov_store.specs.Format.{IsLine, IsMeta, entry, stored_lines}
 use Rattle.ov_store.specs.Changing.{IsNumbered, IsStored, after_update}

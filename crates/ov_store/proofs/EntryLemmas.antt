@@ -6,7 +6,7 @@ use Rattle.std.specs.Map.{lookup}
 use Rattle.std.specs.FinMap.{find, get, insert, remove, from_entries, get-from_entries, get-insert, get-remove, same_map}
 use Rattle.std.proofs.lemmas.Map.Entries.{lookup-filter-keys}
 use Rattle.ov_specs.specs.Lines.{LineKey, LineBody, Lines, line_cmp}
-use Rattle.ov_early.proofs.LineLemmas.{key_total, key_exact, tied_same, same_tied}
+use Rattle.ov_specs.proofs.LineKeys.{key_total, key_exact, tied_same, same_tied}
 
 find_lookup : (entries : List (LineKey × LineBody)) (q : LineKey) → find line_cmp q entries ≡ lookup (eq_by_cmp line_cmp q) entries
 find_lookup [] q = refl

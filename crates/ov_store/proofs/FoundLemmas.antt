@@ -7,9 +7,9 @@ use Rattle.sqlite.specs.Effect.{Database}
 use Rattle.sqlite.specs.State.{HasCleanDisk, Survives, KeepsCommit, IsUnchanged}
 use Rattle.sqlite.specs.Held.{Held as Connected, state}
 use Rattle.ov_specs.specs.Lines.{Contents, LineChange, Lines, after_changes}
-use Rattle.ov_early.specs.Keeping.{Keeps, Changes, MayChange, Refuses, IsCommitFault, changed}
-use Rattle.ov_early.specs.declared.fault.KeepFault.{KeepFault}
-use Rattle.ov_early.specs.declared.fault.KeepFault.TheVariants.{Memory, Device, NotOurs, Format, TooLarge}
+use Rattle.ov_keeper.specs.Keeping.{Keeps, Changes, MayChange, Refuses, IsCommitFault, changed}
+use Rattle.ov_keeper.specs.declared.fault.KeepFault.{KeepFault}
+use Rattle.ov_keeper.specs.declared.fault.KeepFault.TheVariants.{Memory, Device, NotOurs, Format, TooLarge}
 use Rattle.ov_store.specs.Format.{held, stored_schema, stored_lines, IsMeta}
 use Rattle.ov_store.specs.Changing.{MayBeStored, Stores, IsMade}
 use Rattle.ov_store.specs.StoreState.{MayFind}

@@ -24,7 +24,7 @@ use Rattle.sqlite_value.specs.Keys.{first_key}
 use Rattle.sqlite_trees.specs.Tree.{rowid}
 use Rattle.sqlite.specs.Effect.{Database, IsDatabase}
 use Rattle.ov_specs.specs.Lines.{LineKey, LineBody, line_cmp}
-use Rattle.ov_early.proofs.LineLemmas.{key_total, key_exact, tied_same}
+use Rattle.ov_specs.proofs.LineKeys.{key_total, key_exact, tied_same}
 use Rattle.ov_store.specs.Tables.{line_schema}
 use Rattle.ov_store.specs.Format.{IsLine, entry, stored_lines}
 use Rattle.ov_store.specs.Changing.{IsNumbered}

@@ -15,3 +15,5 @@ pub mod MetaLemmas
 pub mod OpenLemmas
 pub mod NumberLemmas
 pub mod KeyLemmas
+pub mod EmptyLemmas
+pub mod FileLemmas

@@ -14,7 +14,7 @@ use Rattle.std.specs.List.{AllByRecursion}
 use Rattle.sqlite_rules.specs.Edit.{is_taken, are_fresh}
 use Rattle.sqlite.specs.State.{State}
 use Rattle.ov_specs.specs.Lines.{LineKey, LineBody, line_cmp}
-use Rattle.ov_early.proofs.LineLemmas.{key_total, key_exact}
+use Rattle.ov_specs.proofs.LineKeys.{key_total, key_exact}
 use Rattle.ov_store.specs.Format.{IsLine, IsMeta, entry, stored_lines}
 use Rattle.ov_store.specs.Changing.{IsNumbered, IsStored}
 use Rattle.ov_store.proofs.InsertLemmas.{line_row, Inserts}

@@ -8,3 +8,5 @@ pub mod Reading
 pub mod Querying
 pub mod Parts
 pub mod Making
+pub mod Finding
+pub mod Refusing

@@ -1,15 +1,15 @@
 ghost use Rattle.std.specs.Prelude.{◌≡◌, ◌⊎◌, ◌<◌, ◌≤◌, ◌-◌, ◌^◌, ◌≢◌, false, IfErr, IfSome, OnOk, Err};
 ghost use Rattle.sqlite.specs.State.{HasCleanDisk, Survives, KeepsCommit, IsUnchanged};
 ghost use Rattle.sqlite.specs.Held.{state};
-ghost use Rattle.ov_early.specs.Views.{changes_view};
-ghost use Rattle.ov_early.specs.Keeping.{Changes, Refuses, IsCommitFault};
+ghost use Rattle.ov_keeper.specs.Views.{changes_view};
+ghost use Rattle.ov_keeper.specs.Keeping.{Changes, Refuses, IsCommitFault};
 ghost use Rattle.ov_store.specs.Stop.{IsBefore};
 ghost use Rattle.ov_store.specs.Changing.{MayBeStored};
 ghost use Rattle.ov_store.specs.StoreState.{MayFind};
 
 use crate::store::Store;
 use crate::write::{Stop, is_up, write_all};
-use ov_early::{Change, KeepFault};
+use ov_keeper::{Change, KeepFault};
 use sqlite::{Alter, Connection, Error, ErrorCode};
 
 /// Which refusal an error is, if the device has no part in it.

@@ -1,6 +1,6 @@
 use crate::store::Store;
 use ov_base::Text;
-use ov_early::{Change, KeepFault, Keeper, Loaded};
+use ov_keeper::{Change, KeepFault, Keeper, Loaded};
 use sqlite::Alter;
 use std::alloc::Global;
 

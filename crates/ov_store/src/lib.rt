@@ -1,16 +1,20 @@
 //! Lines in SQLite, as a keeper: all of a commit is kept or nothing of it, also over a crash.
 //!
-//! Nothing here knows which files stand below: all of it is generic over the kit's `Alter`.
+//! The store is generic over the kit's `Alter`: nothing but `file` and `memory` knows which files stand below.
 #![tactic(auto)]
 
 mod commit;
 mod crash;
+mod file;
 mod keep;
 mod line;
 mod load;
 mod make;
+mod memory;
+mod memory_disk;
 mod meta;
 mod open;
+mod over;
 mod query;
 mod rows;
 mod schema;
@@ -20,5 +24,10 @@ mod value;
 mod write;
 
 pub use crash::reopen_after_crash;
+pub use file::{open_file, store_in_file, store_in_memory};
+pub use memory::open_in_memory;
+pub use memory_disk::MemoryDisk;
+pub use ov_keeper::{Change, KeepFault, Line};
+pub use over::store_over;
 pub use store::Store;
 pub use unopened::Unopened;

@@ -1,7 +1,7 @@
 //! Rows of `line` as lines.
 
 ghost use Rattle.std.specs.Prelude.{◌≡◌, MatchOption, IfOk};
-ghost use Rattle.ov_early.specs.Views.{line_entry};
+ghost use Rattle.ov_keeper.specs.Views.{line_entry};
 ghost use Rattle.ov_store.specs.Format.{IsLine, entry};
 ghost use Rattle.ov_store.specs.Parts.{parts_entry};
 ghost use Rattle.sqlite.specs.Order.{column};
@@ -9,7 +9,7 @@ ghost use Rattle.sqlite.specs.declared.types.Value.TheVariants.{Int};
 
 use crate::value::{blob_at, number_at, text_at, uuid_at};
 use ov_base::{Bytes, Text};
-use ov_early::Line;
+use ov_keeper::Line;
 use sqlite::Row;
 use std::alloc::{AllocError, Global};
 use uuid::Uuid;

@@ -1,15 +1,15 @@
 ghost use Rattle.std.specs.Prelude.{◌≡◌, ◌≢◌, ◌⊎◌, ◌<◌, ◌≤◌, ◌-◌, ◌^◌, IfOk, Err};
 ghost use Rattle.sqlite.specs.State.{HasCleanDisk};
 ghost use Rattle.sqlite.specs.Held.{state};
-ghost use Rattle.ov_early.specs.Keeping.{Keeps};
-ghost use Rattle.ov_early.specs.ListKeeper.{lines_of};
+ghost use Rattle.ov_keeper.specs.Keeping.{Keeps};
+ghost use Rattle.ov_keeper.specs.ListKeeper.{lines_of};
 ghost use Rattle.ov_store.specs.StoreState.{MayFind};
 
 use crate::commit::refusal;
 use crate::query::line_rows;
 use crate::rows;
 use crate::store::Store;
-use ov_early::{KeepFault, Line};
+use ov_keeper::{KeepFault, Line};
 use sqlite::Alter;
 use std::alloc::Global;
 

@@ -3,7 +3,7 @@ ghost use Rattle.std.specs.List.{AllByRecursion};
 ghost use Rattle.std.specs.FinMap.{empty};
 ghost use Rattle.sqlite.specs.State.{HasCleanDisk, Survives};
 ghost use Rattle.sqlite.specs.Held.{state};
-ghost use Rattle.ov_early.specs.Keeping.{IsCommitFault};
+ghost use Rattle.ov_keeper.specs.Keeping.{IsCommitFault};
 ghost use Rattle.ov_store.specs.Tables.{no_schema, line_schema};
 ghost use Rattle.ov_store.specs.Format.{IsLine, IsMeta, IsFormat};
 ghost use Rattle.ov_store.specs.Changing.{IsNumbered, IsStored};
@@ -20,7 +20,7 @@ use crate::schema::{is_blank, is_ours};
 use crate::store::Store;
 use crate::unopened::Unopened;
 use ov_base::Text;
-use ov_early::KeepFault;
+use ov_keeper::KeepFault;
 use sqlite::{Alter, Connection};
 use std::alloc::Global;
 

@@ -2,12 +2,12 @@
 
 ghost use Rattle.std.specs.Prelude.{◌≡◌, ◌<ℤ◌, map, OnOk, IfOk, IfSome, IsTrue, Err};
 ghost use Rattle.std.specs.List.{AllByRecursion};
-ghost use Rattle.ov_early.specs.Views.{line_entry};
+ghost use Rattle.ov_keeper.specs.Views.{line_entry};
 ghost use Rattle.ov_store.specs.Format.{IsLine, entry};
 ghost use Rattle.ov_store.specs.Changing.{IsNumbered};
 
 use crate::line::parts_of;
-use ov_early::{KeepFault, Line};
+use ov_keeper::{KeepFault, Line};
 use sqlite::Row;
 use std::alloc::{AllocError, Global};
 

@@ -1,9 +1,9 @@
 ghost use Rattle.std.specs.Prelude.{◌≡◌, ◌⊎◌, ◌<◌, ◌≤◌, ◌-◌, ◌^◌};
-ghost use Rattle.ov_early.specs.Keeping.{IsCommitFault};
+ghost use Rattle.ov_keeper.specs.Keeping.{IsCommitFault};
 ghost use Rattle.ov_store.specs.StoreState.{StoreState, store_code, IsAtRest};
 
 use ov_base::Text;
-use ov_early::KeepFault;
+use ov_keeper::KeepFault;
 use sqlite::{Alter, Connection};
 use std::marker::Model;
 

@@ -1,4 +1,4 @@
-use ov_early::KeepFault;
+use ov_keeper::KeepFault;
 use sqlite::{Alter, Connection};
 use std::fmt;
 use thiserror::Error;

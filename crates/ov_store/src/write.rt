@@ -3,11 +3,11 @@ ghost use Rattle.std.specs.FinMap.{insert, remove};
 ghost use Rattle.sqlite.specs.State.{HasCleanDisk, Survives, KeepsCommit, IsUnchanged};
 ghost use Rattle.sqlite.specs.Held.{state};
 ghost use Rattle.ov_specs.specs.Lines.{after_change, after_changes};
-ghost use Rattle.ov_early.specs.Views.{change_view, changes_view, line_entry};
+ghost use Rattle.ov_keeper.specs.Views.{change_view, changes_view, line_entry};
 ghost use Rattle.ov_store.specs.Stop.{IsBefore};
 ghost use Rattle.ov_store.specs.Changing.{MayBeStored, Makes, Adds, after_update, Stores, IsMade};
 
-use ov_early::{Change, Line};
+use ov_keeper::{Change, Line};
 use sqlite::types::ValueRef;
 use sqlite::{Alter, Connection, Error, Transaction};
 use uuid::Uuid;

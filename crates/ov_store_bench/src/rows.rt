@@ -1,5 +1,5 @@
 use ov_base::{Bytes, Text};
-use ov_early::{Change, Line};
+use ov_keeper::{Change, Line};
 use std::alloc::{AllocError, Global};
 use uuid::Uuid;
 

@@ -1,5 +1,5 @@
 use ov_base::{Bytes, Text};
-use ov_early::{Change, Keeper, Line};
+use ov_keeper::{Change, Keeper, Line};
 use ov_store::Store;
 use sqlite::{Alter, Connection};
 use std::alloc::Global;

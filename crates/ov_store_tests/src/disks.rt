@@ -1,4 +1,4 @@
-use ov_disk::MemoryDisk;
+use ov_store::MemoryDisk;
 use sqlite_disk::Disk;
 use std::test::Fail;
 

@@ -1,6 +1,6 @@
 use crate::bench::{Bench, created, opened};
-use ov_disk::open_in_memory;
-use ov_early::FailingKeeper;
+use ov_store::open_in_memory;
+use test_support::FailingKeeper;
 use sqlite::{Alter, Connection, Options};
 use std::alloc::Global;
 use std::test::Fail;

@@ -28,7 +28,7 @@ pub struct Streams<K: Keeper, D> {
 impl<K: Keeper, D> Model for Streams<K, D> {
     ghost use Rattle.std.specs.Coded.{codes};
     ghost use Rattle.ov_specs.specs.SchemaTypes.{schema_code};
-    ghost use Rattle.ov_db.specs.Resident.{database_code};
+    ghost use Rattle.ov_rows.specs.Resident.{database_code};
     ghost use Rattle.ov_specs.specs.TreeCode.{tree_code, items_code};
     ghost use Rattle.ov_streams.specs.Running.{Streaming};
 

@@ -1,6 +1,6 @@
 -- One draw more at the end.
 use Rattle.std.proofs.Common.{List, ℕ, [], ◌∷◌, ◌++◌, refl, subst}
-use Rattle.ov_early.specs.Drawing.{DrawsFrom}
+use Rattle.ov_txn.specs.Drawing.{DrawsFrom}
 
 pub draws_last : {D : Type 0} (draws : D → List ℕ → D → Type 0) (old : D) (xs : List (List ℕ)) (mid : D) (x : List ℕ) (new : D) → DrawsFrom draws old xs mid → draws mid x new → DrawsFrom draws old (xs ++ x ∷ []) new
 draws_last {D} draws old [] mid x new h k = (new, subst (λ (d : D). draws d x new) h k, refl)

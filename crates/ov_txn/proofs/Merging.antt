@@ -9,9 +9,10 @@ use Rattle.std.specs.Ordering.{is_lt, is_eq, eq_by_cmp, ordering_reverse}
 use Rattle.ov_specs.specs.Database.{Database, Row}
 use Rattle.ov_specs.specs.Lines.{LineKey, line_cmp}
 use Rattle.ov_specs.specs.Method.{is_text}
-use Rattle.ov_early.proofs.LineLemmas.{key_exact, key_total}
+use Rattle.ov_specs.proofs.LineKeys.{key_exact, key_total}
 use Rattle.ov_db.specs.Changing.{Delta, applied, with_row, with_rows}
-use Rattle.ov_db.specs.Resident.{database_of, delta_of}
+use Rattle.ov_db.specs.DeltaModel.{delta_of}
+use Rattle.ov_rows.specs.Resident.{database_of}
 use Rattle.ov_db.proofs.Places.{Changes, get-applied, or_before}
 use Rattle.ov_txn.specs.Staging.{row_made}
 use Rattle.ov_txn.proofs.Equal.{drop-at}

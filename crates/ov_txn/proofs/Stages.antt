@@ -5,7 +5,7 @@ use Rattle.std.specs.Cmp.Lexicographic.{as_long}
 use Rattle.std.specs.FinMap.{contains_key, empty, empty_of_len, entries, get, get-empty, get-insert, insert, len, len-empty, len-entries, len-insert, same_map}
 use Rattle.ov_specs.specs.Database.{Database, Row, is_database}
 use Rattle.ov_specs.specs.Lines.{LineKey, line_cmp}
-use Rattle.ov_early.proofs.LineLemmas.{key_exact, key_total}
+use Rattle.ov_specs.proofs.LineKeys.{key_exact, key_total}
 use Rattle.ov_db.specs.Changing.{Delta, applied}
 use Rattle.ov_db.proofs.Added.{same}
 use Rattle.ov_db.proofs.Places.{get-applied, or_before}

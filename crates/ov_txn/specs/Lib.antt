@@ -1,3 +1,4 @@
+pub mod Drawing
 pub mod Errors
 pub mod Going
 pub mod Staging

@@ -3,7 +3,7 @@ use Rattle.std.specs.Prelude.{◌≡◌, ◌≤◌, ◌<◌, ℕ, List, drop, re
 use Rattle.std.specs.Coded.{Coded, code_by, coded×}
 use Rattle.std.specs.FinMap.{len}
 use Rattle.ov_db.specs.Changing.{Delta, applied}
-use Rattle.ov_db.specs.Resident.{database_code}
+use Rattle.ov_rows.specs.Resident.{database_code}
 use Rattle.serde_json.specs.Data.{Data}
 use Rattle.ov_specs.specs.Database.{Database, Row}
 use Rattle.ov_specs.specs.Lines.{LineKey}

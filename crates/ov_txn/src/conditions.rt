@@ -8,7 +8,7 @@ ghost use Rattle.ov_txn.specs.Errors.{IsGiven};
 use crate::fault::Stop;
 use ov_atoms::NoNames;
 use ov_conds::{Condition, RowView};
-use ov_db::{Row, RowKey};
+use ov_rows::{Row, RowKey};
 use ov_schema::Table;
 use serde_json::Value;
 use std::alloc::{AllocError, Global};

@@ -1,14 +1,24 @@
 ghost use Rattle.std.specs.Prelude.{◌≡◌, length, IfOk, OnErr};
 ghost use Rattle.serde_json.specs.View.{view, items_view};
 ghost use Rattle.ov_specs.specs.Transaction.{is_insert, inserts, draws_wanted};
-ghost use Rattle.ov_early.specs.Drawing.{DrawsFrom};
+ghost use Rattle.ov_specs.specs.Uuid.{Uuid as Bytes16};
+ghost use Rattle.ov_txn.specs.Drawing.{DrawsFrom};
 
 use crate::member::text_at;
 use ov_base::Trees;
-use ov_early::Draws;
 use serde_json::Value;
 use std::alloc::{AllocError, Global};
 use uuid::Uuid;
+
+/// A source of identifiers for rows and versions (RFC 7047, 3.2).
+pub trait Draws {
+    /// The source before, the identifier, and the source after.
+    ghost draws: { Self → Bytes16 → Self → Type 0 };
+
+    /// The next identifier.
+    fn draw(&mut self) -> Uuid
+        ensures { draws self.old result self.new };
+}
 
 fn is_insert(operation: &Value) -> bool
     ensures { result ≡ is_insert (view operation.now) }

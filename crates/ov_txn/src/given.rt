@@ -9,7 +9,7 @@ ghost use Rattle.ov_txn.specs.Errors.{IsGiven};
 use crate::fault::{OpError, Stop};
 use crate::member::is_own;
 use ov_atoms::{AtomFault, Datum, NoNames, read_datum};
-use ov_db::Columns;
+use ov_rows::Columns;
 use ov_schema::{Column, Table};
 use serde_json::{Map, Value};
 use std::alloc::Global;

@@ -10,7 +10,7 @@ use crate::given::new_columns;
 use crate::member::text_at;
 use crate::stage::Stage;
 use ov_base::Tree;
-use ov_db::{Columns, Row, RowKey};
+use ov_rows::{Columns, Row, RowKey};
 use ov_schema::Schema;
 use serde_json::{Value, json};
 use std::alloc::{AllocError, Global};

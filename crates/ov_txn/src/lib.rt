@@ -16,6 +16,6 @@ mod shown;
 mod stage;
 mod transaction;
 
-pub use draws::draws_for;
+pub use draws::{Draws, draws_for};
 pub use results::{exhausted, failed};
 pub use transaction::{Performed, perform};

@@ -2,12 +2,13 @@ ghost use Rattle.std.specs.Prelude.{◌≡◌, ◌++◌, T, map, IfOk, OnOk};
 ghost use Rattle.std.specs.List.{filter, flat_map};
 ghost use Rattle.std.specs.FinMap.{entries, is_sorted};
 ghost use Rattle.ov_db.specs.Changing.{with_rows};
-ghost use Rattle.ov_db.specs.Resident.{database_of};
+ghost use Rattle.ov_rows.specs.Resident.{database_of};
 ghost use Rattle.ov_specs.specs.Lines.{line_cmp};
 ghost use Rattle.ov_specs.specs.Method.{is_text};
 ghost use Rattle.ov_txn.specs.Staging.{row_made};
 
-use ov_db::{Delta, Row, RowKey};
+use ov_db::Delta;
+use ov_rows::{Row, RowKey};
 use std::alloc::{AllocError, Global};
 use std::cmp::Ordering;
 

@@ -11,7 +11,7 @@ ghost use Rattle.ov_specs.specs.Writing.{tree};
 
 use ov_atoms::{Atom, Datum, write_datum};
 use ov_base::{Text, Tree};
-use ov_db::{Row, RowKey};
+use ov_rows::{Row, RowKey};
 use serde_json::{Map, Value};
 use std::alloc::{AllocError, Global};
 use std::marker::Model;

@@ -6,7 +6,8 @@ ghost use Rattle.ov_specs.specs.Database.{is_database};
 ghost use Rattle.ov_specs.specs.Method.{is_text};
 
 use crate::merge::{changes_of, merged};
-use ov_db::{Delta, Row, RowKey, Rows};
+use ov_db::Delta;
+use ov_rows::{Row, RowKey, Rows};
 use std::alloc::{AllocError, Global};
 use std::marker::Model;
 

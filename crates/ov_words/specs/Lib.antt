@@ -1,3 +1,4 @@
 pub mod Endings
 pub mod Faults
 pub mod Words
+pub mod Causes

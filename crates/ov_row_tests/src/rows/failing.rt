@@ -1,5 +1,5 @@
 use super::*;
-use ov_early::FailingKeeper;
+use test_support::FailingKeeper;
 
 /// A keeper whose device fails at a commit behind `good` ones, as often as `bad` says, or which finds the first one too large.
 fn failing(

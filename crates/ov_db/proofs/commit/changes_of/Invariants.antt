@@ -1,5 +1,5 @@
 use Rattle.std.proofs.Common.{◌≡◌, ◌++◌, map}
-use Rattle.ov_early.specs.Views.{changes_view}
+use Rattle.ov_keeper.specs.Views.{changes_view}
 use Rattle.ov_db.specs.Changing.{change_of}
 use Rattle.ov_db.proofs.commit.changes_of.Given as goal
 

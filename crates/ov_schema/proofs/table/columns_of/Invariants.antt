@@ -2,7 +2,7 @@ use Rattle.std.proofs.Common.{◌≡◌, ◌++◌, map, take}
 use Rattle.ov_specs.specs.Schema.{own_columns}
 use Rattle.ov_schema.specs.Built.{named_column_of}
 use Rattle.ov_schema.specs.NamedViews.{named_view}
-use Rattle.ov_shape.specs.ShapeViews.{named_column_view}
+use Rattle.ov_schema.specs.ShapeViews.{named_column_view}
 use Rattle.ov_schema.proofs.table.columns_of.Given as goal
 
 abbrev pub invariant-loop-name : goal.invariant-loop-name

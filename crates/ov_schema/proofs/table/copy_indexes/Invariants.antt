@@ -1,6 +1,6 @@
 use Rattle.std.proofs.Common.{◌≡◌, take}
 use Rattle.ov_schema.specs.Built.{indexes_in}
-use Rattle.ov_shape.specs.ShapeViews.{indexes_view}
+use Rattle.ov_schema.specs.ShapeViews.{indexes_view}
 use Rattle.ov_schema.proofs.table.copy_indexes.Given as goal
 
 abbrev pub invariant-loop-index : goal.invariant-loop-index

@@ -1,5 +1,5 @@
 use Rattle.std.proofs.Common.{◌≡◌, take}
-use Rattle.ov_shape.specs.ShapeViews.{texts_view}
+use Rattle.ov_schema.specs.ShapeViews.{texts_view}
 use Rattle.ov_schema.proofs.table.copy_texts.Given as goal
 
 abbrev pub invariant-loop-text : goal.invariant-loop-text

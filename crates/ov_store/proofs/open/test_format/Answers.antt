@@ -1,5 +1,5 @@
 use Rattle.std.proofs.Common.{◌≡◌, ◌∙◌, ap, sym, subst, arith, Result, Err}
-use Rattle.ov_early.specs.declared.fault.KeepFault.{KeepFault}
+use Rattle.ov_keeper.specs.declared.fault.KeepFault.{KeepFault}
 use Rattle.std.specs.List.{AllByRecursion}
 use Rattle.sqlite.specs.Effect.{Database}
 use Rattle.sqlite.specs.State.{HasCleanDisk}

@@ -1,5 +1,5 @@
 use Rattle.std.proofs.Common.{◌≡◌, take, map}
-use Rattle.ov_early.specs.Views.{line_entry}
+use Rattle.ov_keeper.specs.Views.{line_entry}
 use Rattle.ov_store.specs.Format.{entry}
 use Rattle.ov_store.proofs.rows.lines_of.Given as goal
 

@@ -3,7 +3,7 @@ use Rattle.std.specs.FinMap.{get, insert}
 use Rattle.sqlite.specs.State.{HasCleanDisk}
 use Rattle.sqlite.specs.Held.{state}
 use Rattle.ov_specs.specs.Lines.{LineKey, LineBody, line_cmp}
-use Rattle.ov_early.specs.Views.{line_entry}
+use Rattle.ov_keeper.specs.Views.{line_entry}
 use Rattle.ov_store.specs.Format.{stored_lines}
 use Rattle.ov_store.specs.Changing.{Makes, after_update}
 use Rattle.ov_store.proofs.EntryLemmas.{none_after_remove, insert_again}

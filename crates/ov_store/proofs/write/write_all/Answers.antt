@@ -6,7 +6,7 @@ use Rattle.sqlite.proofs.StateLemmas.{survives_then}
 use Rattle.sqlite.proofs.Callers.{survives_begin}
 use Rattle.std.specs.Prelude.{List, ℕ}
 use Rattle.ov_specs.specs.Lines.{after_changes}
-use Rattle.ov_early.specs.Views.{changes_view}
+use Rattle.ov_keeper.specs.Views.{changes_view}
 use Rattle.ov_store.specs.Format.{stored_lines}
 use Rattle.ov_store.specs.Changing.{MayBeStored, IsMade}
 use Rattle.ov_store.proofs.write.write_all.Goals as goal

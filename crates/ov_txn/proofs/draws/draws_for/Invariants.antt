@@ -1,5 +1,5 @@
 use Rattle.std.proofs.Common.{◌≡◌, vec_len, vec_capacity}
-use Rattle.ov_early.specs.Drawing.{DrawsFrom}
+use Rattle.ov_txn.specs.Drawing.{DrawsFrom}
 use Rattle.ov_txn.proofs.draws.draws_for.Given as goal
 
 abbrev pub invariant-loop-made : goal.invariant-loop-made

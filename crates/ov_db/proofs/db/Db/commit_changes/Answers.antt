@@ -1,8 +1,8 @@
 use Rattle.std.proofs.Common.{◌≡◌, Some, sym, ap, subst, ◌∙◌}
 use mathlib.Core.Logic.{inl, inr}
 use Rattle.ov_specs.specs.Database.{Database, AreLinesOf}
-use Rattle.ov_early.specs.Keeping.{Refuses}
-use Rattle.ov_early.specs.Views.{changes_view}
+use Rattle.ov_keeper.specs.Keeping.{Refuses}
+use Rattle.ov_keeper.specs.Views.{changes_view}
 use Rattle.ov_db.specs.Changing.{applied}
 use Rattle.ov_db.specs.Kept.{Kept}
 use Rattle.ov_db.proofs.Places.{applied-same}

@@ -4,7 +4,7 @@ use Rattle.std.specs.Bool.{IsTrue}
 use Rattle.std.specs.FinMap.{len, len-entries, entries-from_sorted}
 use Rattle.ov_specs.specs.Lines.{line_cmp}
 use Rattle.ov_db.specs.Changing.{Delta}
-use Rattle.ov_db.specs.Resident.{delta_of}
+use Rattle.ov_db.specs.DeltaModel.{delta_of}
 use Rattle.ov_db.proofs.delta.Delta.is_empty.Goals as goal
 
 by_test : (b : Bool) (n : ℕ) → (IsTrue b → n ≡ 0) → (n ≡ 0 → IsTrue b) → b ≡ (n == 0)

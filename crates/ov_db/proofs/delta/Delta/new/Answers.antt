@@ -1,7 +1,7 @@
 use Rattle.std.proofs.Common.{ap, ◌∙◌}
 use Rattle.ov_specs.specs.Lines.{line_cmp}
-use Rattle.ov_db.specs.Resident.{delta_of}
-use Rattle.ov_db.proofs.Maps.{from_sorted-nil}
+use Rattle.ov_db.specs.DeltaModel.{delta_of}
+use Rattle.ov_rows.proofs.Maps.{from_sorted-nil}
 use Rattle.ov_db.proofs.delta.Delta.new.Goals as goal
 
 pub returns : goal.returns

@@ -1,7 +1,7 @@
 use Rattle.std.proofs.Common.{option_map, sym, ap, ◌∙◌}
 use Rattle.serde_json.specs.View.{view}
-use Rattle.ov_shape.specs.Refusals.{refusal_view}
-use Rattle.ov_shape.specs.ShapeViews.{schema_view}
+use Rattle.ov_schema.specs.FaultViews.{refusal_view}
+use Rattle.ov_schema.specs.ShapeViews.{schema_view}
 use Rattle.ov_schema.proofs.RefusalLemmas.{judged-refused, judged-built}
 use Rattle.ov_schema.proofs.schema.Parts.read.Goals as goal
 

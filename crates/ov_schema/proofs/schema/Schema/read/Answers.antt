@@ -4,7 +4,7 @@ use Rattle.ov_specs.specs.SchemaShape.{schema_shape}
 use Rattle.ov_specs.specs.Schema.{judged}
 use Rattle.ov_schema.specs.Parts.{parts_view}
 use Rattle.ov_schema.specs.Refusals.{IsToldBy, JudgesWith}
-use Rattle.ov_shape.specs.Refusals.{refusal_view}
+use Rattle.ov_schema.specs.FaultViews.{refusal_view}
 use Rattle.ov_schema.proofs.RefusalLemmas.{accepted-plain}
 use Rattle.ov_schema.proofs.schema.Schema.read.Goals as goal
 

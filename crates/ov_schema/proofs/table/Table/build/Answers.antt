@@ -3,7 +3,7 @@ use Rattle.std.specs.FinMap.{entries_sorted, is_sorted}
 use Rattle.ov_specs.specs.Schema.{own_columns}
 use Rattle.ov_specs.specs.SchemaTypes.{name_cmp}
 use Rattle.ov_schema.specs.Built.{named_column_of}
-use Rattle.ov_shape.specs.ShapeViews.{named_column_view, indexes_view, table_view}
+use Rattle.ov_schema.specs.ShapeViews.{named_column_view, indexes_view, table_view}
 use Rattle.ov_schema.proofs.BuildingLemmas.{table_of-parts}
 use Rattle.ov_schema.proofs.table.Table.build.Goals as goal
 

@@ -1,6 +1,6 @@
 use Rattle.std.proofs.Common.{◌∙◌, sym, map}
 use Rattle.std.specs.FinMap.{from_entries}
-use Rattle.ov_early.specs.Views.{line_entry}
+use Rattle.ov_keeper.specs.Views.{line_entry}
 use Rattle.ov_store.proofs.FoundLemmas.{same_text}
 use Rattle.ov_store.proofs.keep.StoreKeeper.load.Goals as goal
 

@@ -3,15 +3,15 @@ use Rattle.sqlite.specs.State.{HasCleanDisk}
 use Rattle.sqlite.specs.Held.{state}
 use Rattle.std.specs.Prelude.{List, ℕ}
 use Rattle.ov_specs.specs.Lines.{after_changes}
-use Rattle.ov_early.specs.Keeping.{Keeps, Changes, MayChange, changed}
-use Rattle.ov_early.specs.Views.{changes_view}
+use Rattle.ov_keeper.specs.Keeping.{Keeps, Changes, MayChange, changed}
+use Rattle.ov_keeper.specs.Views.{changes_view}
 use Rattle.sqlite.specs.Tree.{Trees}
 use Rattle.sqlite.proofs.StateLemmas.{survives_then}
 use Rattle.ov_store.specs.Changing.{MayBeStored, IsMade}
 use Rattle.ov_store.specs.StoreState.{StoreState, MayFind}
 use Rattle.ov_store.proofs.FoundLemmas.{nothing_left, is_zero, refused, stores_changes, crash_changes, kept_found, survives_found}
 use Rattle.ov_store.proofs.RunLemmas.{nothing_then}
-use Rattle.ov_early.specs.declared.fault.KeepFault.TheVariants.{Device}
+use Rattle.ov_keeper.specs.declared.fault.KeepFault.TheVariants.{Device}
 use Rattle.ov_store.proofs.store.Store.commit.Goals as goal
 
 pub returns-then-is_empty-clause-ok : goal.returns-then-is_empty-clause-ok

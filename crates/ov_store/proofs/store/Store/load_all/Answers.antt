@@ -3,7 +3,7 @@ use Rattle.std.specs.FinMap.{from_entries}
 use Rattle.sqlite.specs.State.{HasCleanDisk}
 use Rattle.sqlite.specs.Held.{state}
 use Rattle.ov_specs.specs.Lines.{Lines}
-use Rattle.ov_early.specs.Views.{line_entry}
+use Rattle.ov_keeper.specs.Views.{line_entry}
 use Rattle.ov_store.specs.Format.{entry}
 use Rattle.ov_store.specs.StoreState.{StoreState, MayFind}
 use Rattle.ov_store.proofs.FoundLemmas.{found_is, held_is, same_text}

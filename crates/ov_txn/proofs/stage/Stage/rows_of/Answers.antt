@@ -4,7 +4,7 @@ use Rattle.std.proofs.lemmas.Result.{IfOk-weaker}
 use Rattle.std.specs.FinMap.{entries, is_sorted, len}
 use Rattle.std.specs.List.{filter}
 use Rattle.ov_db.specs.Changing.{with_rows}
-use Rattle.ov_db.specs.Resident.{database_of}
+use Rattle.ov_rows.specs.Resident.{database_of}
 use Rattle.ov_db.proofs.Places.{Changes}
 use Rattle.ov_specs.specs.Database.{Database}
 use Rattle.ov_specs.specs.Lines.{line_cmp}

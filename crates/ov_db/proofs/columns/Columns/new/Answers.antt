@@ -1,8 +1,0 @@
-use Rattle.std.proofs.Common.{ap, ◌∙◌}
-use Rattle.ov_specs.specs.SchemaTypes.{name_cmp}
-use Rattle.ov_db.specs.Named.{columns_of}
-use Rattle.ov_db.proofs.Maps.{from_sorted-nil}
-use Rattle.ov_db.proofs.columns.Columns.new.Goals as goal
-
-pub returns : goal.returns
-returns c = ap columns_of c.new.ensures.empty ∙ from_sorted-nil name_cmp

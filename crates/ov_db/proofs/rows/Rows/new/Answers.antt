@@ -1,8 +1,0 @@
-use Rattle.std.proofs.Common.{ap, ◌∙◌}
-use Rattle.ov_specs.specs.Lines.{line_cmp}
-use Rattle.ov_db.specs.Resident.{database_of}
-use Rattle.ov_db.proofs.Maps.{from_sorted-nil}
-use Rattle.ov_db.proofs.rows.Rows.new.Goals as goal
-
-pub returns : goal.returns
-returns c = ap database_of c.new.ensures.empty ∙ from_sorted-nil line_cmp

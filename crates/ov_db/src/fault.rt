@@ -1,0 +1,43 @@
+use ov_keeper::KeepFault;
+use std::alloc::AllocError;
+use thiserror::Error;
+
+/// Why a database is not opened.
+#[derive(Clone, Copy, Debug, PartialEq, Eq, Error)]
+pub enum OpenFault {
+    /// The stored schema has another text.
+    #[error("the stored schema is another one")]
+    SchemaDiffers,
+    /// A stored line is no row of the schema.
+    #[error("a stored row does not fit the schema")]
+    BadBody,
+    /// The stored rows break a rule of commits.
+    #[error("the stored rows break a constraint")]
+    Broken,
+    /// The keeper refused.
+    #[error("{0}")]
+    Keeping(KeepFault),
+}
+
+impl From<AllocError> for OpenFault {
+    ghost use Rattle.std.specs.Prelude.{◌≡◌};
+    ghost use Rattle.ov_keeper.specs.declared.fault.KeepFault.TheVariants.{Memory};
+    ghost use Rattle.ov_db.specs.declared.fault.OpenFault.TheVariants.{Keeping};
+
+    ghost from_gives = { λ _ e. e ≡ Keeping Memory };
+
+    fn from(_refused: AllocError) -> OpenFault {
+        OpenFault::Keeping(KeepFault::Memory)
+    }
+}
+
+impl From<KeepFault> for OpenFault {
+    ghost use Rattle.std.specs.Prelude.{◌≡◌};
+    ghost use Rattle.ov_db.specs.declared.fault.OpenFault.TheVariants.{Keeping};
+
+    ghost from_gives = { λ fault e. e ≡ Keeping fault };
+
+    fn from(fault: KeepFault) -> OpenFault {
+        OpenFault::Keeping(fault)
+    }
+}

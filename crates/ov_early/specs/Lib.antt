@@ -1,4 +1,0 @@
-pub mod Views
-pub mod Keeping
-pub mod Drawing
-pub mod ListKeeper

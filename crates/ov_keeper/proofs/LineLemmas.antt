@@ -1,0 +1,87 @@
+-- Lists of lines, as the map that they make.
+use Rattle.std.proofs.Common.{◌≡◌, ◌↔◌, ℕ, List, [], ◌∷◌, ◌++◌, map, filter, Bool, true, false, not, cond, IsTrue, Some, None, refl, sym, ap, ◌∙◌, ◌+◌, ◌<◌, length, take, get_or, add-one}
+use Rattle.std.specs.declared.cmp.Ordering.{Ordering}
+use Rattle.std.specs.declared.cmp.Ordering.TheVariants.{Less, Equal, Greater}
+use Rattle.std.specs.Ordering.{nat_cmp, is_eq, eq_by_cmp}
+use Rattle.std.specs.Cmp.{IsTotalOrder, eq_by_cmp_equiv}
+use Rattle.std.specs.Cmp.Lexicographic.{slice_cmp, nat_list_cmp_total}
+use Rattle.std.specs.FinMap.{empty, nat_cmp-IsAntisymmetric, slice_cmp-IsAntisymmetric, find, get, insert, remove, from_entries, get-from_entries, get-insert, get-remove, same_map, from_entries_push}
+use Rattle.std.specs.Map.{lookup}
+use Rattle.std.proofs.lemmas.Cmp.{on_total, then_total}
+use Rattle.std.proofs.lemmas.List.{map-append}
+use Rattle.std.proofs.lemmas.Map.Entries.{lookup-filter-keys}
+use Rattle.std.proofs.lemmas.Map.Lookups.{CmpEqualImpliesEq, exact_pairs}
+use Rattle.std.proofs.Math.Seq.{take-suc}
+use Rattle.ov_specs.specs.Lines.{LineKey, LineBody, LineChange, Lines, line_cmp, after_change, after_changes}
+use Rattle.ov_keeper.specs.declared.line.Line.{Line}
+use Rattle.ov_keeper.specs.Keeping.{changed}
+use Rattle.ov_keeper.specs.ListKeeper.{contents_after, lines_of}
+use Rattle.ov_keeper.specs.Views.{line_entry}
+use Rattle.ov_specs.proofs.LineKeys.{key_exact, key_total, tied_same, same_tied}
+
+find_lookup : (entries : List (LineKey × LineBody)) (q : LineKey) → find line_cmp q entries ≡ lookup (eq_by_cmp line_cmp q) entries
+find_lookup [] q = refl
+find_lookup (e ∷ entries) q = ap (cond (eq_by_cmp line_cmp q e.0) (Some e.1)) (find_lookup entries q)
+
+turned : {A : Type 0} (b : Bool) (x y : A) → cond (not b) x y ≡ cond b y x
+turned true x y = refl
+turned false x y = refl
+
+passes : (k q x : LineKey) → eq_by_cmp line_cmp q x ≡ true → not (eq_by_cmp line_cmp k x) ≡ not (eq_by_cmp line_cmp q k)
+passes k q x h = ap not (ap (eq_by_cmp line_cmp k) (sym (tied_same q x h)) ∙ (eq_by_cmp_equiv key_total).symm k q)
+
+find_filter : (entries : List (LineKey × LineBody)) (k q : LineKey) → find line_cmp q (filter (λ e. not (eq_by_cmp line_cmp k e.0)) entries) ≡ cond (eq_by_cmp line_cmp q k) None (find line_cmp q entries)
+find_filter entries k q =
+    find_lookup _ q ∙ lookup-filter-keys (eq_by_cmp line_cmp q) (λ x. not (eq_by_cmp line_cmp k x)) _ (passes k q) entries
+    ∙ turned (eq_by_cmp line_cmp q k) _ _ ∙ ap (cond (eq_by_cmp line_cmp q k) None) (sym (find_lookup entries q))
+
+from_entries-filter : (entries : List (LineKey × LineBody)) (k : LineKey) → from_entries {R = line_cmp} (filter (λ e. not (eq_by_cmp line_cmp k e.0)) entries) ≡ remove (from_entries entries) k
+from_entries-filter entries k = same_map key_total key_exact _ _ (λ q.
+    get-from_entries key_total _ q ∙ find_filter entries k q ∙ sym (get-remove key_total (from_entries entries) k q ∙ ap (cond (eq_by_cmp line_cmp q k) None) (get-from_entries key_total entries q)))
+
+map-filter : (k : LineKey) (lines : List Line) → map line_entry (filter (λ line. not (eq_by_cmp line_cmp k (line_entry line).0)) lines) ≡ filter (λ e. not (eq_by_cmp line_cmp k e.0)) (map line_entry lines)
+map-filter k [] = refl
+map-filter k (line ∷ lines) = kept (not (eq_by_cmp line_cmp k (line_entry line).0)) _ _ (map-filter k lines)
+  where
+    kept : (b : Bool) (rest : List Line) (entries : List (LineKey × LineBody)) → map line_entry rest ≡ entries → map line_entry (cond b (line ∷ rest) rest) ≡ cond b (line_entry line ∷ entries) entries
+    kept true rest entries e = ap (λ es. line_entry line ∷ es) e
+    kept false rest entries e = e
+
+-- the lines without one key
+pub lines_of-filter : (k : LineKey) (lines : List Line) → lines_of (filter (λ line. not (eq_by_cmp line_cmp k (line_entry line).0)) lines) ≡ remove (lines_of lines) k
+lines_of-filter k lines = ap from_entries (map-filter k lines) ∙ from_entries-filter (map line_entry lines) k
+
+not_found : (m : Lines) (k : LineKey) → get (remove m k) k ≡ None
+not_found m k = get-remove key_total m k k ∙ rw (same_tied k k refl) refl
+
+insert-remove : (m : Lines) (k : LineKey) (v : LineBody) → insert (remove m k) k v ≡ insert m k v
+insert-remove m k v = same_map key_total key_exact _ _ (λ q.
+    get-insert key_total (remove m k) k v q ∙ covered (eq_by_cmp line_cmp q k) (Some v) _ _ _ (get-remove key_total m k q) ∙ sym (get-insert key_total m k v q))
+  where
+    covered : {A : Type 0} (b : Bool) (x y z w : A) → y ≡ cond b w z → cond b x y ≡ cond b x z
+    covered true x y z w e = refl
+    covered false x y z w e = e
+
+-- a line put at the end of those without its key
+pub lines_of-push : (lines : List Line) (line : Line) (m : Lines) → lines_of lines ≡ remove m (line_entry line).0 → lines_of (lines ++ line ∷ []) ≡ insert m (line_entry line).0 (line_entry line).1
+lines_of-push lines line m without =
+    let k = (line_entry line).0 in
+    let new : find line_cmp k (map line_entry lines) ≡ None = sym (get-from_entries key_total (map line_entry lines) k) ∙ ap (λ (n : Lines). get n k) without ∙ not_found m k in
+    ap from_entries (map-append line_entry lines (line ∷ [])) ∙ from_entries_push key_total key_exact (map line_entry lines) k (line_entry line).1 new
+    ∙ ap (λ (n : Lines). insert n k (line_entry line).1) without ∙ insert-remove m k (line_entry line).1
+
+-- two runs are one
+pub after_changes-append : (xs ys : List LineChange) (m : Lines) → after_changes (xs ++ ys) m ≡ after_changes ys (after_changes xs m)
+after_changes-append [] ys m = refl
+after_changes-append (x ∷ xs) ys m = after_changes-append xs ys (after_change x m)
+
+pub contents_after-append : (schema : List ℕ) (xs ys : List LineChange) → contents_after schema (xs ++ ys) ≡ changed ys (contents_after schema xs)
+contents_after-append schema xs ys = λ i. record { schema = schema; lines = after_changes-append xs ys empty i }
+
+-- one change more
+pub after_changes-take : {X : Type 0} (f : X → LineChange) (xs : List X) (i : ℕ) (x : X) (m : Lines) → i < length xs → x ≡ get_or xs i x → after_changes (map f (take (i + 1) xs)) m ≡ after_change (f x) (after_changes (map f (take i xs)) m)
+after_changes-take f xs i x m h e =
+    rw add-one (ap (λ ys. after_changes (map f ys) m) (take-suc xs i x h)
+    ∙ ap (λ ys. after_changes ys m) (map-append f (take i xs) (get_or xs i x ∷ []))
+    ∙ after_changes-append (map f (take i xs)) (f (get_or xs i x) ∷ []) m
+    ∙ ap (λ y. after_change (f y) (after_changes (map f (take i xs)) m)) (sym e))

@@ -1,0 +1,18 @@
+-- What a keeper in memory holds.
+use Rattle.std.specs.Prelude.{◌≡◌, List, ℕ, map, refl}
+use Rattle.std.specs.FinMap.{empty, from_entries}
+use Rattle.ov_specs.specs.Lines.{Contents, LineChange, Lines, after_changes}
+use Rattle.ov_keeper.specs.declared.line.Line.{Line}
+use Rattle.ov_keeper.specs.Views.{line_entry}
+
+-- the schema's text, and the lines that the changes make, from none
+abbrev pub contents_after : List ℕ → List LineChange → Contents
+contents_after schema changes = record { schema = schema; lines = after_changes changes empty }
+
+-- the lines of a list, by their keys
+abbrev pub lines_of : List Line → Lines
+lines_of lines = from_entries (map line_entry lines)
+
+-- an open finds just these contents, so it finds some
+pub found : (contents : Contents) → ∥ ((held : Contents) × (held ≡ contents)) ∥₁
+found contents = ∣ (contents, refl) ∣₁

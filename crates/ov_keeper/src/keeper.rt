@@ -1,0 +1,52 @@
+ghost use Rattle.std.specs.Prelude.{◌≡◌, ◌⊎◌, ◌<◌, ◌≤◌, ◌-◌, ◌^◌, ℕ, IfOk, IfErr, OnOk};
+ghost use Rattle.ov_specs.specs.Lines.{Contents};
+ghost use Rattle.ov_keeper.specs.Views.{changes_view};
+ghost use Rattle.ov_keeper.specs.Keeping.{Keeps, Changes, Refuses, IsCommitFault, loaded_contents};
+
+use crate::fault::KeepFault;
+use crate::line::{Change, Line};
+use ov_base::Text;
+use std::alloc::Global;
+
+/// What a keeper was found to hold.
+#[derive(Drop)]
+pub struct Loaded {
+    /// The compact text of the schema.
+    pub schema: Text,
+    pub lines: Vec<Line>,
+}
+
+/// What keeps the schema and the lines, told by what an open at this moment would find.
+pub trait Keeper {
+    /// No wrong answer of the device has been taken as true so far.
+    ghost is_honest: { Self → Type 0 };
+
+    /// What an open at this moment may find, also one after a crash.
+    ghost leaves: { Self → Contents → Type 0 };
+
+    /// How often the device has failed.
+    ghost failed: { Self → ℕ };
+
+    /// How often the device has failed; it stays at 2^64-1.
+    fn failures(&self) -> u64
+        ensures { result ≡ failed self.now };
+
+    /// The text of the schema and all lines.
+    fn load(&mut self, alloc: Global) -> Result<Loaded, KeepFault>
+        ensures ok { is_honest self.new → IfOk result (λ loaded. (held : Contents) → leaves self.old held → held ≡ loaded_contents loaded) }
+        ensures same { is_honest self.new → Keeps (leaves self.old) (leaves self.new) }
+        ensures honest { is_honest self.new → is_honest self.old };
+
+    /// Makes all changes, in order, or none.
+    fn commit(&mut self, alloc: Global, changes: &[Change]) -> Result<(), KeepFault>
+        ensures ok { is_honest self.new → OnOk result (Changes (changes_view changes.now) (leaves self.old) (leaves self.new)) }
+        ensures err { is_honest self.new → IfErr result (Refuses (changes_view changes.now) (leaves self.old) (leaves self.new)) }
+        ensures kinds { IfErr result IsCommitFault }
+        // A failure of the device has a cause: its count rises, where it is not at its greatest.
+        ensures cause { result ≡ Err KeepFault.Device → (failed self.old < failed self.new) ⊎ (failed self.old ≡ 2 ^ 64 - 1) }
+        ensures counts { failed self.old ≤ failed self.new }
+        ensures honest { is_honest self.new → is_honest self.old };
+
+    // An open finds something.
+    ghost something: { (k : Self) → is_honest k → ∥ ((held : Contents) × leaves k held) ∥₁ };
+}

@@ -1,0 +1,13 @@
+//! What keeps a database between two runs of the program: the text of its schema and a line for each row (own). The laws of
+//! a keeper say what its calls make of what an open would find, also after a crash.
+#![tactic(auto)]
+
+mod fault;
+mod keeper;
+mod line;
+mod list;
+
+pub use fault::KeepFault;
+pub use keeper::{Keeper, Loaded};
+pub use line::{Change, Line};
+pub use list::ListKeeper;

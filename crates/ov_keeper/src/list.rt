@@ -1,0 +1,118 @@
+ghost use Rattle.std.specs.Prelude.{◌≡◌, ◌↔◌, IfOk, OnOk};
+ghost use Rattle.std.specs.FinMap.{empty, remove};
+ghost use Rattle.ov_specs.specs.Lines.{Contents, after_change, after_changes};
+ghost use Rattle.ov_keeper.specs.ListKeeper.{lines_of};
+ghost use Rattle.ov_keeper.specs.Views.{change_view, changes_view};
+
+use crate::fault::KeepFault;
+use crate::keeper::{Keeper, Loaded};
+use crate::line::{Change, Line};
+use ov_base::Text;
+use std::alloc::{AllocError, Global};
+use uuid::Uuid;
+
+/// A keeper in memory, for tests and small databases: a load takes time quadratic in the changes that were made. It
+/// fails for want of memory alone.
+#[derive(Drop)]
+pub struct ListKeeper {
+    schema: Text,
+    made: Vec<Change>,
+}
+
+impl ListKeeper {
+    /// A keeper of this schema's text, and of no line.
+    pub fn new(alloc: Global, schema: Text) -> ListKeeper
+        ensures { (held : Contents) → ⟦<ListKeeper as Keeper>⟧.leaves result held ↔ (held ≡ record { schema = schema; lines = empty }) }
+    {
+        ListKeeper {
+            schema,
+            made: Vec::new(alloc),
+        }
+    }
+
+    /// What it holds.
+    fn contents(&self, alloc: Global) -> Result<Loaded, AllocError>
+        ensures schema { IfOk result (λ loaded. loaded.schema ≡ self.now.schema) }
+        ensures lines { IfOk result (λ loaded. lines_of loaded.lines.items ≡ after_changes (changes_view self.now.made.items) empty) }
+    {
+        Ok(Loaded {
+            schema: Text::from_str(alloc, self.schema.as_str())?,
+            lines: lines_after(alloc, self.made.as_slice())?,
+        })
+    }
+}
+
+impl Keeper for ListKeeper {
+    ghost use Rattle.std.specs.Prelude.{◌≡◌};
+    ghost use Rattle.ov_keeper.specs.Views.{changes_view};
+    ghost use Rattle.ov_keeper.specs.ListKeeper.{contents_after, found};
+
+    ghost is_honest = { λ _. Unit {0} };
+
+    ghost leaves = { λ k held. held ≡ contents_after k.schema (changes_view k.made.items) };
+
+    ghost failed = { λ _. 0 };
+
+    ghost something = { λ k _. found (contents_after k.schema (changes_view k.made.items)) };
+
+    fn failures(&self) -> u64 {
+        0
+    }
+
+    fn load(&mut self, alloc: Global) -> Result<Loaded, KeepFault> {
+        match self.contents(alloc) {
+            Ok(loaded) => Ok(loaded),
+            Err(_) => Err(KeepFault::Memory),
+        }
+    }
+
+    fn commit(&mut self, alloc: Global, changes: &[Change]) -> Result<(), KeepFault> {
+        let Ok(mut more) = copy_all(alloc, changes) else {
+            return Err(KeepFault::Memory);
+        };
+        match self.made.append(&mut more) {
+            Ok(()) => Ok(()),
+            Err(_) => Err(KeepFault::Memory),
+        }
+    }
+}
+
+fn copy_all(alloc: Global, changes: &[Change]) -> Result<Vec<Change>, AllocError>
+    ensures { IfOk result (λ copies. copies.items ≡ changes.now) }
+{
+    let mut copies = Vec::new(alloc);
+    for change in changes {
+        copies.push(change.copy(alloc)?)?;
+    }
+    Ok(copies)
+}
+
+/// The lines that the changes make, from none.
+fn lines_after(alloc: Global, changes: &[Change]) -> Result<Vec<Line>, AllocError>
+    ensures { IfOk result (λ lines. lines_of lines.items ≡ after_changes (changes_view changes.now) empty) }
+{
+    let mut lines = Vec::new(alloc);
+    for change in changes {
+        make_change(alloc, change, &mut lines)?;
+    }
+    Ok(lines)
+}
+
+fn make_change(alloc: Global, change: &Change, lines: &mut Vec<Line>) -> Result<(), AllocError>
+    ensures { OnOk result (lines_of lines.new.items ≡ after_change (change_view change.now) (lines_of lines.old.items)) }
+{
+    match change {
+        Change::Put(line) => {
+            remove_line(lines, line.table.as_str(), line.id);
+            lines.push(line.copy(alloc)?)?;
+        }
+        Change::Remove { table, id } => remove_line(lines, table.as_str(), *id),
+    }
+    Ok(())
+}
+
+fn remove_line(lines: &mut Vec<Line>, table: &str, id: Uuid)
+    ensures { lines_of lines.new.items ≡ remove (lines_of lines.old.items) (table.now, id) }
+{
+    lines.retain(|line| !line.is_at(table, id));
+}

@@ -1,0 +1,25 @@
+-- Rows and databases as models store them.
+use Rattle.std.specs.Prelude.{ℕ, List, refl}
+use Rattle.std.specs.Coded.{Coded, code_by, coded×, coded_ℕ, coded_list}
+use Rattle.std.specs.FinMap as map
+use Rattle.ov_specs.specs.Database.{Columns, Database, Row}
+use Rattle.ov_specs.specs.Lines.{LineKey, line_cmp}
+use Rattle.ov_specs.specs.Value.{datum_code}
+
+-- the rows of an ascending list
+abbrev pub database_of : List (LineKey × Row) → Database
+database_of es = map.from_sorted {R = line_cmp} es
+
+-- ---- how a model stores them
+
+-- columns as a map (own)
+abbrev pub columns_code : Coded Columns
+columns_code = map.code (coded_list coded_ℕ) datum_code
+
+-- a row as a pair (own)
+abbrev pub row_code : Coded Row
+row_code = code_by (List ℕ × Columns) (coded× (coded_list coded_ℕ) columns_code) (λ r. (r.version, r.columns)) (λ p. record { version = p.0; columns = p.1 }) (λ _. refl)
+
+-- a database as a map (own)
+abbrev pub database_code : Coded Database
+database_code = map.code (coded× (coded_list coded_ℕ) (coded_list coded_ℕ)) row_code

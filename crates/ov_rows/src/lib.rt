@@ -1,0 +1,12 @@
+//! The rows of a database as they lie in memory (RFC 7047, 3.2): a key, the values of its columns, and the rows by their keys.
+#![tactic(auto)]
+
+mod columns;
+mod key;
+mod row;
+mod rows;
+
+pub use columns::Columns;
+pub use key::RowKey;
+pub use row::Row;
+pub use rows::Rows;

@@ -1,0 +1,23 @@
+use crate::columns::Columns;
+use std::marker::Model;
+use uuid::Uuid;
+
+/// A row (RFC 7047, 3.2).
+#[derive(Drop)]
+pub struct Row {
+    /// Its version, the column `_version`.
+    pub version: Uuid,
+    /// Its columns but `_uuid` and `_version`.
+    pub columns: Columns,
+}
+
+impl Model for Row {
+    ghost use Rattle.ov_specs.specs.Database as database;
+    ghost use Rattle.ov_rows.specs.Resident.{row_code};
+
+    ghost Value = { database.Row };
+
+    ghost coded = { row_code };
+
+    ghost view = { λ r. record { version = r.version; columns = r.columns } };
+}

@@ -1,0 +1,57 @@
+use std::alloc::AllocError;
+use thiserror::Error;
+
+/// Why a tree is no schema (RFC 7047, 3.2). The least that applies anywhere in the tree is answered, in this order; but
+/// a number that is no 64-bit integer goes before all else, and such a tree can't be given. The order is own.
+#[derive(Clone, Copy, Debug, PartialEq, Eq, Error)]
+pub enum SchemaFault {
+    /// A member is missing or of a wrong kind, an atomic type is unknown, or a range stands beside another type than
+    /// its own.
+    #[error("the schema is built wrong")]
+    Syntax,
+    /// The name of the schema, of a table or of a column is no `<id>`, or begins with an underscore.
+    #[error("a name of the schema is no identifier, or begins with an underscore")]
+    BadName,
+    /// The version is not three numbers with dots between.
+    #[error("the version of the schema is not three numbers with dots between")]
+    BadVersion,
+    /// A table has no columns.
+    #[error("a table of the schema has no columns")]
+    NoColumns,
+    /// `min`, `max` or `maxRows` is out of range, a length is negative, or a least is above its greatest.
+    #[error("a limit of the schema is out of range")]
+    BadRange,
+    /// A column is of the type "real", which this server leaves out.
+    #[error("the schema has reals, which are not supported")]
+    RealNotSupported,
+    /// A `refTable` names no table.
+    #[error("a column refers to a table that the schema does not have")]
+    UnknownRefTable,
+    /// A `refType` is neither "strong" nor "weak" or has no `refTable`, or a `refTable` stands beside another type than
+    /// "uuid".
+    #[error("a reference of the schema is built wrong")]
+    BadRefType,
+    /// An `enum` is no set of one atom or more of its type.
+    #[error("a list of choices is no set of one atom or more of its type")]
+    BadEnum,
+    /// An index is empty, names no column or one twice, or names one that is ephemeral.
+    #[error("an index is empty, or names a column that it can't have")]
+    BadIndex,
+    /// A map has strong references on one side and weak ones on the other.
+    #[error("a map has strong references on one side and weak ones on the other")]
+    StrongWeakMap,
+    /// A growth was refused. It may be answered at any place.
+    #[error("out of memory")]
+    Memory,
+}
+
+impl From<AllocError> for SchemaFault {
+    ghost use Rattle.ov_schema.specs.declared.fault.SchemaFault.TheVariants.{Memory};
+    ghost use Rattle.std.specs.Prelude.{◌≡◌};
+
+    ghost from_gives = { λ _ e. e ≡ Memory };
+
+    fn from(_refused: AllocError) -> SchemaFault {
+        SchemaFault::Memory
+    }
+}

@@ -1,3 +1,0 @@
-pub mod MemberLemmas
-pub mod ChoiceLemmas
-pub mod RefusalLemmas

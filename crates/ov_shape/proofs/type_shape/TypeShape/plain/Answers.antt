@@ -1,5 +1,0 @@
-use Rattle.std.proofs.Common.{refl}
-use Rattle.ov_shape.proofs.type_shape.TypeShape.plain.Goals as goal
-
-pub returns : goal.returns
-returns c = refl

@@ -1,4 +1,0 @@
-pub mod ShapeViews
-pub mod Sets
-pub mod Flaws
-pub mod Refusals

@@ -1,0 +1,38 @@
+-- From a store of a connection to what its files hold.
+use Rattle.std.proofs.Common.{◌≡◌, ◌≢◌, ◌∙◌, ◌⊎◌, inl, inr, ℕ, List, ap, sym, length, arith, subst}
+use Rattle.sqlite.specs.Store.{Ghosts}
+use Rattle.sqlite.specs.Effect.{Database}
+use Rattle.sqlite.specs.Schema.{Schema}
+use Rattle.sqlite.specs.State.{HasCleanDisk, Opens}
+use Rattle.sqlite.specs.Held.{Held as Connected, state}
+use Rattle.sqlite.specs.Start.{FindsIn}
+use Rattle.sqlite.specs.Files.{AreFoundIn}
+use Rattle.sqlite_wal.specs.Recovery.{Image}
+use Rattle.ov_specs.specs.Lines.{Contents}
+use Rattle.ov_store.specs.Tables.{no_schema, line_schema}
+use Rattle.ov_store.specs.StoreState.{StoreState, MayFind}
+use Rattle.ov_store.specs.Finding.{new_contents, IsNewStore, IsStoreOf, IsStoredIn}
+
+no_tables : (schema : Schema) → schema ≡ no_schema → schema ≢ line_schema
+no_tables schema blank tables = let same = ap (λ (s : Schema). length s.tables) (sym blank ∙ tables) in omega (arith, same)
+
+module _ {S : Type 0} (g : Ghosts S) where
+  -- a store of a connection that had no table is new
+  pub new_of_blank : (text : List ℕ) (c : Connected S) (s : StoreState S) → c.schema ≡ no_schema → IsStoreOf g text c s → IsNewStore g text c s
+  new_of_blank text c s blank (inl new) = new
+  new_of_blank text c s blank (inr old) = absurd (no_tables c.schema blank old.tables)
+
+  -- what an open finds is new, or what the files held
+  pub found_in : (image : Image) (text : List ℕ) (c : Connected S) (s : StoreState S) → (HasCleanDisk (state g c) → Opens (state g c)) → (HasCleanDisk (state g c) → FindsIn image (state g c))
+      → IsStoreOf g text c s → HasCleanDisk (state g s.connection) → (contents : Contents) → MayFind g s.connection contents → (contents ≡ new_contents text) ⊎ IsStoredIn image contents
+  found_in image text c s opens finds (inl new) clean contents found = inl (new.holds clean contents found)
+  found_in image text c s opens finds (inr old) clean contents found =
+      let early = old.honest clean in
+      let trees = (finds early).reads in
+      inr (record {
+        db = (state g c).now;
+        found = subst (λ (d : Database). AreFoundIn image d.trees) (sym (opens early).clean) trees;
+        text = s.schema;
+        format = old.format clean;
+        contents_are = old.holds clean (opens early) contents found;
+      })

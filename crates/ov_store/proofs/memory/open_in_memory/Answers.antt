@@ -1,0 +1,18 @@
+use Rattle.std.proofs.Common.{refl}
+use Rattle.sqlite_pool.specs.Pool.{state}
+use Rattle.sqlite_trees.proofs.Doubt.{no_doubt}
+use Rattle.sqlite.specs.State.{HasCleanDisk}
+use Rattle.sqlite.specs.Files.{file_state}
+use Rattle.ov_store.proofs.EmptyLemmas.{opens_empty}
+use Rattle.ov_store.proofs.memory.open_in_memory.Goals as goal
+
+pub returns-in-Ok-clause-clean : goal.returns-in-Ok-clause-clean
+unfolding state
+returns-in-Ok-clause-clean c = no_doubt _ refl
+
+pub returns-in-Ok-clause-empty : goal.returns-in-Ok-clause-empty
+unfolding state
+returns-in-Ok-clause-empty c =
+    let clean : HasCleanDisk (file_state c.in-Ok.connection) = no_doubt _ refl in
+    let opened = c.in-Ok.ensures.opened clean in
+    opens_empty _ (file_state c.in-Ok.connection) c.new-2.ensures.empty opened.0 opened.1 (c.in-Ok.ensures.found clean).reads

@@ -1,0 +1,75 @@
+//! How the program ends, by what it met.
+
+ghost use Rattle.std.specs.Prelude.{◌≡◌};
+ghost use Rattle.ov_words.specs.Causes.{by_words, by_schema, by_keeping, by_open, by_step, by_cause};
+
+use crate::ending::Ending;
+use crate::fault::WordFault;
+use ov_core::early::{KeepFault, OpenFault};
+use ov_core::{Cause, StepFault};
+use ov_schema::SchemaFileFault;
+
+/// Where the words give no settings.
+pub fn ending_of_words(fault: WordFault) -> Ending
+    ensures { result ≡ by_words fault }
+{
+    match fault {
+        WordFault::Refused => Ending::Arguments,
+        WordFault::Memory => Ending::Memory,
+    }
+}
+
+/// Where a file gives no schema.
+pub fn ending_of_schema(fault: SchemaFileFault) -> Ending
+    ensures { result ≡ by_schema fault }
+{
+    match fault {
+        SchemaFileFault::Memory => Ending::Memory,
+        SchemaFileFault::Unread | SchemaFileFault::NotJson | SchemaFileFault::Refused(_) => {
+            Ending::Schema
+        }
+    }
+}
+
+/// Where a keeper refuses.
+pub fn ending_of_keeping(fault: KeepFault) -> Ending
+    ensures { result ≡ by_keeping fault }
+{
+    match fault {
+        KeepFault::Memory => Ending::Memory,
+        KeepFault::Device | KeepFault::NotOurs | KeepFault::Format | KeepFault::TooLarge => {
+            Ending::Database
+        }
+    }
+}
+
+/// Where a database is not opened.
+pub fn ending_of_open(fault: OpenFault) -> Ending
+    ensures { result ≡ by_open fault }
+{
+    match fault {
+        OpenFault::SchemaDiffers | OpenFault::BadBody | OpenFault::Broken => Ending::Database,
+        OpenFault::Keeping(fault) => ending_of_keeping(fault),
+    }
+}
+
+/// Where a session is not opened.
+pub fn ending_of_step(fault: StepFault) -> Ending
+    ensures { result ≡ by_step fault }
+{
+    match fault {
+        StepFault::TooMany | StepFault::NotOpen => Ending::Streams,
+        StepFault::Memory => Ending::Memory,
+    }
+}
+
+/// Where a session was closed.
+pub fn ending_of_cause(cause: Cause) -> Ending
+    ensures { result ≡ by_cause cause }
+{
+    match cause {
+        Cause::InputEnded => Ending::InputEnded,
+        Cause::ReadFault | Cause::WriteFault | Cause::Damaged | Cause::Overrun => Ending::Streams,
+        Cause::Memory => Ending::Memory,
+    }
+}
