@@ -4,6 +4,7 @@ use crate::database::built_in_schema;
 use crate::session::serve;
 use ov_base::Text;
 use ov_core::Schema;
+use ov_core::early::{KeepFault, Keeper};
 use ov_schema::{read_schema, text_of};
 use ov_store::{store_in_file, store_in_memory};
 use ov_words::{
@@ -40,10 +41,7 @@ pub fn run<R: Wait + RandomSource, I: Read + Drop, O: Write + Drop>(
     let Ok(text) = text_of(host.alloc(), &schema) else {
         return Ending::Memory;
     };
-    match db {
-        None => serve_memory(rt, host.alloc(), text, schema, input, output),
-        Some(path) => serve_file(host, rt, path.as_str(), text, schema, input, output),
-    }
+    serve_database(host, rt, db, text, schema, input, output)
 }
 
 /// What the words say.
@@ -78,33 +76,37 @@ fn schema_of<R: Files>(rt: &R, alloc: Global, file: Option<Text>) -> Result<Sche
     }
 }
 
-/// Serves a database in memory.
-fn serve_memory<R: Wait + RandomSource, I: Read + Drop, O: Write + Drop>(
+/// Serves the database of a file, or one in memory where none is named. Nothing else of the program sees which store serves.
+fn serve_database<R: Wait + RandomSource, I: Read + Drop, O: Write + Drop>(
+    host: &HostRuntime,
     rt: &R,
-    alloc: Global,
+    db: Option<Text>,
     text: Text,
     schema: Schema,
     input: I,
     output: O,
 ) -> Ending {
-    match store_in_memory(alloc, text) {
-        Ok(store) => serve(rt, alloc, store, schema, input, output),
-        Err(fault) => ending_of_keeping(fault),
+    let alloc = host.alloc();
+    match db {
+        None => serve_store(rt, alloc, store_in_memory(alloc, text), schema, input, output),
+        Some(path) => {
+            let store = store_in_file(host, path.as_str(), text, Unknown);
+            serve_store(rt, alloc, store, schema, input, output)
+        }
     }
 }
 
-/// Serves the database of a file.
-fn serve_file<R: Wait + RandomSource, I: Read + Drop, O: Write + Drop>(
-    host: &HostRuntime,
+/// Serves the database of a store, where it could be opened.
+fn serve_store<R: Wait + RandomSource, K: Keeper + Drop, I: Read + Drop, O: Write + Drop>(
     rt: &R,
-    path: &str,
-    text: Text,
+    alloc: Global,
+    store: Result<K, KeepFault>,
     schema: Schema,
     input: I,
     output: O,
 ) -> Ending {
-    match store_in_file(host, path, text, Unknown) {
-        Ok(store) => serve(rt, host.alloc(), store, schema, input, output),
+    match store {
+        Ok(store) => serve(rt, alloc, store, schema, input, output),
         Err(fault) => ending_of_keeping(fault),
     }
 }

@@ -20,3 +20,4 @@ pub mod Expanding
 pub mod CutLaw
 pub mod Turns
 pub mod LineKeys
+pub mod Truths
