@@ -3,8 +3,6 @@
 
 mod bytes;
 mod real;
-#[cfg(test)]
-mod tests;
 mod text;
 mod told;
 mod tree;

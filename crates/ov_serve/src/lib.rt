@@ -4,8 +4,6 @@
 mod ends;
 mod send;
 mod serve;
-#[cfg(test)]
-mod tests;
 mod watched;
 
 pub use ends::{Clock, Sink, Source};

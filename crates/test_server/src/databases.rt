@@ -1,0 +1,181 @@
+use crate::rows::key_of;
+use ov_db::{Db, Delta, StoreAnswer};
+use ov_rows::{Row, RowKey};
+use std::alloc::{AllocError, Global};
+use std::test::Fail;
+use test_support::{
+    Faults, NetKeeper, Scripted, agrees, compact, follows, net, net_keeper, switch,
+};
+use uuid::Uuid;
+
+/// A database Net behind a script.
+///
+/// The commands are commits of one switch, `put NUMBER NAME` and `remove NUMBER`, and one of `nothing`; `row KEY`, whether there is a
+/// row of a key; `rows`, the switches; `sealed` and `failures`.
+#[derive(Drop)]
+struct Database {
+    db: Db<NetKeeper>,
+}
+
+/// The database of what a keeper holds.
+fn opened(alloc: Global, keeper: NetKeeper) -> Result<Db<NetKeeper>, Fail> {
+    Ok(Db::open(alloc, keeper, net(alloc)?)?)
+}
+
+/// The change of one switch.
+fn change_of(alloc: Global, number: u128, row: Option<Row>) -> Result<Delta, AllocError> {
+    let key = RowKey::new(alloc, "Switch", Uuid::from_u128(number))?;
+    let mut delta = Delta::new(alloc);
+    delta.insert(key, row)?;
+    Ok(delta)
+}
+
+/// The change that puts a switch of this name.
+fn put_of(alloc: Global, put: &str) -> Result<Delta, Fail> {
+    let (number, name) = put.split_once(" ").ok_or("no name")?;
+    let number = number.parse::<u128>()?;
+    let row = switch(alloc, name, 4)?;
+    Ok(change_of(alloc, number, Some(row))?)
+}
+
+/// The change that removes a switch.
+fn removal_of(alloc: Global, number: &str) -> Result<Delta, Fail> {
+    Ok(change_of(alloc, number.parse::<u128>()?, None)?)
+}
+
+/// The text of a switch: its number and its body.
+fn text_of(alloc: Global, key: &RowKey, row: &Row) -> Result<String, Fail> {
+    let body = compact(alloc, &row.columns.tree(alloc)?)?;
+    let id = key.id().as_u128();
+    Ok(format!(in alloc; "{id} {body};")?)
+}
+
+impl Database {
+    fn commit(&mut self, alloc: Global, delta: Delta) -> Result<String, Fail> {
+        let word = match self.db.commit(alloc, delta) {
+            StoreAnswer::Kept => "kept",
+            StoreAnswer::Exhausted => "exhausted",
+            StoreAnswer::Failed => "failed",
+        };
+        Ok(String::from_str(alloc, word)?)
+    }
+
+    /// The switches.
+    fn switches(&self, alloc: Global) -> Result<String, Fail> {
+        let mut text = String::new(alloc);
+        for (key, row) in &self.db.rows_of(alloc, "Switch")? {
+            text.push_str(text_of(alloc, key, row)?.as_str())?;
+        }
+        Ok(text)
+    }
+}
+
+impl Scripted for Database {
+    fn answer(&mut self, alloc: Global, command: &str) -> Result<String, Fail> {
+        let (word, rest) = command.split_once(" ").unwrap_or((command, ""));
+        match word {
+            "put" => self.commit(alloc, put_of(alloc, rest)?),
+            "remove" => self.commit(alloc, removal_of(alloc, rest)?),
+            "nothing" => self.commit(alloc, Delta::new(alloc)),
+            "row" => Ok(format!(in alloc; "{}", self.db.row(&key_of(alloc, rest)?).is_some())?),
+            "rows" => self.switches(alloc),
+            "sealed" => Ok(format!(in alloc; "{}", self.db.sealed())?),
+            "failures" => Ok(format!(in alloc; "{}", self.db.failures())?),
+            _ => Err(Fail::new("no command")),
+        }
+    }
+}
+
+/// Gives a database up, and opens what its keeper then has.
+fn reopened(alloc: Global, database: Database) -> Result<Database, Fail> {
+    let Database { db } = database;
+    let db = opened(alloc, db.into_keeper())?;
+    Ok(Database { db })
+}
+
+/// Runs a script over a new database whose keeper fails as it is told, and another over what the keeper then has.
+fn commits(alloc: Global, faults: Faults, script: &str, again: &str) -> Result<(), Fail> {
+    let db = opened(alloc, net_keeper(alloc, faults)?)?;
+    let mut database = Database { db };
+    follows(alloc, &mut database, script)?;
+    agrees(alloc, reopened(alloc, database)?, again)
+}
+
+/// All changes are made.
+const CHANGED: &str = r#"put 2 s2 -> kept
+put 1 s1 -> kept
+put 3 s3 -> kept
+put 2 s4 -> kept
+remove 3 -> kept
+remove 9 -> kept
+sealed -> false
+failures -> 0
+rows -> 1 {"load":4,"main":["set",[]],"name":"s1","ports":["set",[]]};2 {"load":4,"main":["set",[]],"name":"s4","ports":["set",[]]};"#;
+
+const TWO_ROWS: &str =
+    r#"rows -> 1 {"load":4,"main":["set",[]],"name":"s1","ports":["set",[]]};2 {"load":4,"main":["set",[]],"name":"s4","ports":["set",[]]};"#;
+
+const ONE_ROW: &str = r#"rows -> 1 {"load":4,"main":["set",[]],"name":"s1","ports":["set",[]]};"#;
+
+#[test]
+fn a_commit_makes_all_changes(rt: HostRuntime) -> Result<(), Fail> {
+    commits(rt.alloc(), Faults::NONE, CHANGED, TWO_ROWS)
+}
+
+#[test]
+fn a_row_is_found_by_its_key(rt: HostRuntime) -> Result<(), Fail> {
+    let script = "put 1 s1 -> kept
+row Switch 1 -> true
+row Switch 2 -> false
+row Port 1 -> false";
+    commits(rt.alloc(), Faults::NONE, script, ONE_ROW)
+}
+
+/// After a device that failed at a commit the rows are as before it, and nothing is committed any more.
+const FAILED: &str = r#"put 1 s1 -> kept
+put 1 s9 -> failed
+put 3 s3 -> failed
+remove 1 -> failed
+sealed -> true
+failures -> 1
+rows -> 1 {"load":4,"main":["set",[]],"name":"s1","ports":["set",[]]};"#;
+
+#[test]
+fn device_fails_at_commit(rt: HostRuntime) -> Result<(), Fail> {
+    let faults = Faults {
+        is_too_large: false,
+        good: 1,
+        bad: 1,
+    };
+    commits(rt.alloc(), faults, FAILED, ONE_ROW)
+}
+
+/// A commit without a change does not ask the device, which would fail.
+#[test]
+fn nothing_to_commit(rt: HostRuntime) -> Result<(), Fail> {
+    let faults = Faults {
+        is_too_large: false,
+        good: 0,
+        bad: 1,
+    };
+    let script = "nothing -> kept
+sealed -> false
+failures -> 0
+rows";
+    commits(rt.alloc(), faults, script, "rows")
+}
+
+#[test]
+fn a_commit_that_is_too_large_leaves_the_committed_rows(rt: HostRuntime) -> Result<(), Fail> {
+    let faults = Faults {
+        is_too_large: true,
+        good: 0,
+        bad: 0,
+    };
+    let script = r#"put 1 s2 -> exhausted
+put 1 s1 -> kept
+sealed -> false
+failures -> 0
+rows -> 1 {"load":4,"main":["set",[]],"name":"s1","ports":["set",[]]};"#;
+    commits(rt.alloc(), faults, script, ONE_ROW)
+}

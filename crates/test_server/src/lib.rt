@@ -1,0 +1,19 @@
+//! Tests of what serves: rows and their changes, transactions, the machine, streams, and one session over a reader and a writer.
+#![tactic(auto)]
+
+#[cfg(test)]
+mod databases;
+#[cfg(test)]
+mod machine;
+#[cfg(test)]
+mod rows;
+#[cfg(test)]
+mod serve;
+#[cfg(test)]
+mod streams;
+#[cfg(test)]
+mod transact;
+#[cfg(test)]
+mod transactions;
+#[cfg(test)]
+mod values;

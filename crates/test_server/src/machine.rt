@@ -1,0 +1,88 @@
+use ov_core::Core;
+use ov_keeper::ListKeeper;
+use std::alloc::Global;
+use std::test::Fail;
+use test_support::{Counter, NET, keeper_of, net, steps};
+
+/// One session is open at a time.
+const ONE_AT_A_TIME: &str = r#"open 0 -> Opened(Session { key: 0, serial: 1 })
+open 5 -> Refused(TooMany)
+moments -> 0;
+is_open 1 -> true"#;
+
+/// A serial is not used again.
+const SERIALS: &str = r#"open 0 -> Opened(Session { key: 0, serial: 1 })
+end 1 -> Done
+open 0 -> Opened(Session { key: 0, serial: 2 })
+is_open 1 -> false
+end 1 -> Refused(NotOpen)"#;
+
+/// A closed session is handed what waits, and nothing more.
+const CLOSED: &str = r#"open 0 -> Opened(Session { key: 0, serial: 1 })
+take 1 {"id":0,"method":"list_dbs","params":[]} -> Done
+close 1 -> true
+take 1 {"id":0,"method":"list_dbs","params":[]} -> Refused(NotOpen)
+close 1 -> false
+moments -> 0;0;0;
+frame 1 -> {"error":null,"id":0,"result":["Net"]}
+frame 1 -> none"#;
+
+/// What waits is handed out joined, and once.
+const HANDED_OUT: &str = r#"open 0 -> Opened(Session { key: 0, serial: 1 })
+take 1 {"id":0,"method":"list_dbs","params":[]} -> Done
+take 1 {"id":0,"method":"list_dbs","params":[]} -> Done
+take 1 {"id":0,"method":"list_dbs","params":[]} -> Done
+output 2
+frame 1 -> {"error":null,"id":0,"result":["Net"]}
+output 1 -> {"error":null,"id":0,"result":["Net"]}{"error":null,"id":0,"result":["Net"]}
+output 1"#;
+
+/// An earlier moment counts as the last one.
+const MOMENTS: &str = r#"tick 5 -> Done
+tick 3 -> Done
+open 9 -> Opened(Session { key: 0, serial: 1 })
+close 1 -> true
+moments -> 5;5;9;9;"#;
+
+#[test]
+fn one_session_is_open_at_a_time(rt: HostRuntime) -> Result<(), Fail> {
+    steps(rt.alloc(), ONE_AT_A_TIME)
+}
+
+#[test]
+fn serials_are_not_used_again(rt: HostRuntime) -> Result<(), Fail> {
+    steps(rt.alloc(), SERIALS)
+}
+
+#[test]
+fn a_closed_session_is_handed_what_waits_and_nothing_more(rt: HostRuntime) -> Result<(), Fail> {
+    steps(rt.alloc(), CLOSED)
+}
+
+#[test]
+fn what_waits_is_handed_out_joined_and_once(rt: HostRuntime) -> Result<(), Fail> {
+    steps(rt.alloc(), HANDED_OUT)
+}
+
+#[test]
+fn an_earlier_moment_counts_as_the_last_one(rt: HostRuntime) -> Result<(), Fail> {
+    steps(rt.alloc(), MOMENTS)
+}
+
+/// Why a machine over the keeper is not opened.
+fn refusal(alloc: Global, keeper: ListKeeper) -> Result<String, Fail> {
+    match Core::open(alloc, keeper, net(alloc)?, Counter::new()) {
+        Ok(_) => Ok(String::from_str(alloc, "opened")?),
+        Err(fault) => Ok(format!(in alloc; "{fault:?}")?),
+    }
+}
+
+#[test]
+fn a_database_that_does_not_fit_is_not_opened(rt: HostRuntime) -> Result<(), Fail> {
+    let alloc = rt.alloc();
+    let other = keeper_of(alloc, "{\"name\":\"Other\"}", "")?;
+    assert_eq!(rt; refusal(alloc, other)?.as_str(), "SchemaDiffers");
+    let filled = keeper_of(alloc, NET, "Port 1 0 {}")?;
+    assert_eq!(rt; refusal(alloc, filled)?.as_str(), "BadBody");
+    Ok(())
+}

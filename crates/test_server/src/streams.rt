@@ -1,0 +1,139 @@
+use std::alloc::Global;
+use std::test::Fail;
+use test_support::converses;
+
+const LISTED: &str = r#">{"id":0,"method":"list_dbs","params":[]}
+<{"error":null,"id":0,"result":["Net"]}"#;
+
+const ECHOED: &str = r#">{"id":[1],"method":"echo","params":["a\"b}", {"c": -5}]}
+<{"error":null,"id":[1],"result":["a\"b}",{"c":-5}]}"#;
+
+#[test]
+fn list_dbs_is_answered(rt: HostRuntime) -> Result<(), Fail> {
+    converses(rt.alloc(), LISTED)
+}
+
+#[test]
+fn echo_keeps_quotes(rt: HostRuntime) -> Result<(), Fail> {
+    converses(rt.alloc(), ECHOED)
+}
+
+const CONVERSATION: &str =
+    r#"{"id":0,"method":"list_dbs","params":[]}{"id":"x","method":"echo","params":["a\"}",{}]}{"id":1,"method":"transact","params":["Net",{"op":"insert","table":"Switch","row":{"name":"s1"}}]}{"id":2,"method":"transact","params":["Net",{"op":"select","table":"Switch","where":[]}]}"#;
+
+const ANSWERED: &str =
+    r#"{"error":null,"id":0,"result":["Net"]}{"error":null,"id":"x","result":["a\"}",{}]}{"error":null,"id":1,"result":[{"uuid":["uuid","00000000-0000-4000-8000-000000000002"]}]}{"error":null,"id":2,"result":[{"rows":[{"_uuid":["uuid","00000000-0000-4000-8000-000000000002"],"_version":["uuid","00000000-0000-4000-8000-000000000001"],"load":0,"main":["set",[]],"name":"s1","ports":["set",[]]}]}]}"#;
+
+/// A conversation in which the input comes in two pieces, cut at a place.
+fn cut_at(alloc: Global, place: usize) -> Result<String, Fail> {
+    let (first, second) = CONVERSATION.split_at_checked(place).ok_or("no place")?;
+    Ok(format!(in alloc; ">{first}\n>{second}\n<{ANSWERED}")?)
+}
+
+#[test]
+fn cut_at_every_place(rt: HostRuntime) -> Result<(), Fail> {
+    for place in 0..CONVERSATION.len() + 1 {
+        converses(rt.alloc(), cut_at(rt.alloc(), place)?.as_str())?;
+    }
+    Ok(())
+}
+
+/// A conversation in which the input comes byte by byte, and nothing is sent behind the answers.
+fn cut_everywhere(alloc: Global) -> Result<String, Fail> {
+    let mut conversation = String::new(alloc);
+    for byte in CONVERSATION.chars() {
+        conversation.push_str(format!(in alloc; ">{byte}\n")?.as_str())?;
+    }
+    conversation.push_str("<")?;
+    conversation.push_str(ANSWERED)?;
+    conversation.push_str("\n<")?;
+    Ok(conversation)
+}
+
+#[test]
+fn answered_byte_by_byte(rt: HostRuntime) -> Result<(), Fail> {
+    converses(rt.alloc(), cut_everywhere(rt.alloc())?.as_str())
+}
+
+/// What is sent for an input, and how many entries the history then has: for damage, an unfinished message, a real in an id, an
+/// unknown method, a notification, requests that are built wrong, a request, and nothing.
+const SMALL: [&str; 8] = [
+    r#">{"id":0,"method":"list_dbs","params":[]}] {"id":0,"method":"list_dbs","params":[]}
+<{"error":null,"id":0,"result":["Net"]}
+entries -> 3"#,
+    r#">{"id":0,"method":"echo","params":[
+<
+entries -> 1"#,
+    r#">{"id":1.5,"method":"echo","params":[]}
+<
+entries -> 2"#,
+    r#">{"id":1,"method":"get_server_id","params":[]}
+<{"error":"unknown method","id":1,"result":null}
+entries -> 2"#,
+    r#">{"id":null,"method":"list_dbs","params":[]}
+<
+entries -> 2"#,
+    r#">{"id":1,"method":"echo"}{"id":2,"method":"echo","params":[0.5]}{"id":3,"result":true}
+<{"error":"syntax error","id":1,"result":null}{"error":"reals not supported","id":2,"result":null}
+entries -> 4"#,
+    r#">{"id":0,"method":"list_dbs","params":[]}
+<{"error":null,"id":0,"result":["Net"]}
+entries -> 2"#,
+    r#">
+<
+entries -> 1"#,
+];
+
+#[test]
+fn small_inputs(rt: HostRuntime) -> Result<(), Fail> {
+    for conversation in SMALL {
+        converses(rt.alloc(), conversation)?;
+    }
+    Ok(())
+}
+
+/// An echo of a text of so many letters.
+fn echo_of(alloc: Global, letters: usize) -> Result<String, Fail> {
+    let letters = vec![in alloc; b'a'; letters]?;
+    let text = str::from_utf8(&letters)?;
+    Ok(format!(in alloc; "{{\"id\":0,\"method\":\"echo\",\"params\":[\"{text}\"]}}")?)
+}
+
+/// The reply to it.
+fn reply_of(alloc: Global, letters: usize) -> Result<String, Fail> {
+    let letters = vec![in alloc; b'a'; letters]?;
+    let text = str::from_utf8(&letters)?;
+    Ok(format!(in alloc; "{{\"error\":null,\"id\":0,\"result\":[\"{text}\"]}}")?)
+}
+
+/// A message of 1,048,576 bytes is answered, and one with a byte more is not.
+#[test]
+fn longest_message(rt: HostRuntime) -> Result<(), Fail> {
+    let alloc = rt.alloc();
+    let echo = echo_of(alloc, 1_048_538)?;
+    let reply = reply_of(alloc, 1_048_538)?;
+    assert_eq!(rt; (echo.len(), reply.len()), (1_048_576, 1_048_573));
+    converses(alloc, format!(in alloc; ">{echo}\n<{reply}")?.as_str())?;
+    let echo = echo_of(alloc, 1_048_539)?;
+    converses(alloc, format!(in alloc; ">{echo}\n<")?.as_str())
+}
+
+/// What comes of a closed session does nothing.
+const OPENED_AGAIN: &str = r#"open -> false
+entries -> 1
+tick -> true
+entries -> 2
+>{"id":0,
+entries -> 2
+finish -> true
+entries -> 3
+>"method":"list_dbs","params":[]}
+entries -> 3
+open -> true
+entries -> 4
+<"#;
+
+#[test]
+fn ended_and_opened_again(rt: HostRuntime) -> Result<(), Fail> {
+    converses(rt.alloc(), OPENED_AGAIN)
+}

@@ -1,0 +1,174 @@
+use std::test::Fail;
+use test_support::{Faults, converses, converses_over};
+
+/// A transaction without operations, an insert, and a select with all columns.
+const INSERTED: &str = r#">{"id":0,"method":"transact","params":["Net"]}
+<{"error":null,"id":0,"result":[]}
+>{"id":1,"method":"transact","params":["Net",{"op":"insert","table":"Switch","row":{"name":"s1"}}]}
+<{"error":null,"id":1,"result":[{"uuid":["uuid","00000000-0000-4000-8000-000000000003"]}]}
+>{"id":2,"method":"transact","params":["Net",{"op":"select","table":"Switch","where":[]}]}
+<{"error":null,"id":2,"result":[{"rows":[{"_uuid":["uuid","00000000-0000-4000-8000-000000000003"],"_version":["uuid","00000000-0000-4000-8000-000000000002"],"load":0,"main":["set",[]],"name":"s1","ports":["set",[]]}]}]}"#;
+
+/// Behind the operation that fails the results are null, and the table is as before. All that it wanted was drawn.
+const UNDONE: &str =
+    r#">{"id":1,"method":"transact","params":["Net",{"op":"insert","table":"Switch","row":{"name":"s1"}},{"op":"select","table":"Swich","where":[],"columns":[]},{"op":"insert","table":"Switch","row":{"name":"s2"}}]}
+<{"error":null,"id":1,"result":[{"uuid":["uuid","00000000-0000-4000-8000-000000000002"]},{"error":"unknown table"},null]}
+>{"id":2,"method":"transact","params":["Net",{"op":"select","table":"Switch","where":[],"columns":["name"]}]}
+<{"error":null,"id":2,"result":[{"rows":[]}]}
+>{"id":3,"method":"transact","params":["Net",{"op":"insert","table":"Switch","row":{"name":"s3"}}]}
+<{"error":null,"id":3,"result":[{"uuid":["uuid","00000000-0000-4000-8000-000000000006"]}]}"#;
+
+/// Of members with one name the last counts, and unknown members are passed over.
+const REPEATED: &str =
+    r#">{"id":1,"method":"transact","params":["Net",{"op":"insert","table":"Swich","table":"Switch","row":{"name":"a","name":"b"},"colour":1}]}
+<{"error":null,"id":1,"result":[{"uuid":["uuid","00000000-0000-4000-8000-000000000002"]}]}
+>{"id":2,"method":"transact","params":["Net",{"op":"select","table":"Switch","where":[],"columns":["name"]}]}
+<{"error":null,"id":2,"result":[{"rows":[{"name":"b"}]}]}"#;
+
+/// Nothing is drawn for a transaction that is not tried.
+const PARAMS: &str = r#">{"id":1,"method":"transact","params":[]}
+<{"error":"syntax error","id":1,"result":null}
+>{"id":2,"method":"transact","params":[1]}
+<{"error":"syntax error","id":2,"result":null}
+>{"id":3,"method":"transact","params":[null,{"op":"insert","table":"Switch","row":{"name":"s1"}}]}
+<{"error":"syntax error","id":3,"result":null}
+>{"id":4,"method":"transact","params":["net",{"op":"insert","table":"Switch","row":{"name":"s1"}}]}
+<{"error":"unknown database","id":4,"result":null}
+>{"id":5,"method":"transact","params":["Net",1]}
+<{"error":null,"id":5,"result":[{"error":"syntax error"}]}
+>{"id":6,"method":"transact","params":["Net",{"op":"insert","table":"Switch","row":{"name":"s1"}}]}
+<{"error":null,"id":6,"result":[{"uuid":["uuid","00000000-0000-4000-8000-000000000003"]}]}"#;
+
+/// Of what is refused nothing stays.
+const REFUSED: &str =
+    r#">{"id":1,"method":"transact","params":["Net",{"op":"erase"},{"op":"insert","table":"Switch","row":{"name":"s1"}}]}
+<{"error":null,"id":1,"result":[{"error":"unknown operation"},null]}
+>{"id":2,"method":"transact","params":["Net",{"op":"select","table":"Swich","where":[],"columns":["name"]}]}
+<{"error":null,"id":2,"result":[{"error":"unknown table"}]}
+>{"id":3,"method":"transact","params":["Net",{"op":"select","table":"Switch","where":[],"columns":["nam"]}]}
+<{"error":null,"id":3,"result":[{"error":"unknown column"}]}
+>{"id":4,"method":"transact","params":["Net",{"op":"insert","table":"Port","row":{"tag":4096}}]}
+<{"error":null,"id":4,"result":[{"error":"constraint violation"}]}
+>{"id":5,"method":"transact","params":["Net",{"op":"insert","table":"Port","row":{"tag":["set",[1,2]]}}]}
+<{"error":null,"id":5,"result":[{"error":"constraint violation"}]}
+>{"id":6,"method":"transact","params":["Net",{"op":"insert","table":"Port","row":{"tag":"x"}}]}
+<{"error":null,"id":6,"result":[{"error":"syntax error"}]}
+>{"id":7,"method":"transact","params":["Net",{"op":"select","table":"Port","where":[],"columns":["name"]}]}
+<{"error":null,"id":7,"result":[{"rows":[]}]}"#;
+
+/// After the device has failed nothing is committed any more, and what was committed is still read.
+const SEALED: &str =
+    r#">{"id":1,"method":"transact","params":["Net",{"op":"insert","table":"Switch","row":{"name":"s1"}}]}
+<{"error":null,"id":1,"result":[{"uuid":["uuid","00000000-0000-4000-8000-000000000002"]},{"error":"I/O error"}]}
+>{"id":2,"method":"transact","params":["Net",{"op":"select","table":"Switch","where":[],"columns":["name"]}]}
+<{"error":null,"id":2,"result":[{"rows":[]}]}
+>{"id":3,"method":"transact","params":["Net",{"op":"insert","table":"Switch","row":{"name":"s2"}}]}
+<{"error":null,"id":3,"result":[{"uuid":["uuid","00000000-0000-4000-8000-000000000005"]},{"error":"I/O error"}]}
+>{"id":4,"method":"transact","params":["Net"]}
+<{"error":null,"id":4,"result":[]}"#;
+
+/// The store has no room for the first commit, and makes the second.
+const NO_ROOM: &str =
+    r#">{"id":1,"method":"transact","params":["Net",{"op":"insert","table":"Switch","row":{"name":"s1"}}]}
+<{"error":null,"id":1,"result":[{"uuid":["uuid","00000000-0000-4000-8000-000000000002"]},{"error":"resources exhausted"}]}
+>{"id":2,"method":"transact","params":["Net",{"op":"insert","table":"Switch","row":{"name":"s2"}}]}
+<{"error":null,"id":2,"result":[{"uuid":["uuid","00000000-0000-4000-8000-000000000004"]}]}
+>{"id":3,"method":"transact","params":["Net",{"op":"select","table":"Switch","where":[],"columns":["name"]}]}
+<{"error":null,"id":3,"result":[{"rows":[{"name":"s2"}]}]}"#;
+
+/// Those rows are selected that meet all conditions.
+const SELECTED: &str =
+    r#">{"id":1,"method":"transact","params":["Net",{"op":"insert","table":"Switch","row":{"load":4,"name":"s1"}},{"op":"insert","table":"Switch","row":{"load":-1,"name":"s2"}}]}
+<{"error":null,"id":1,"result":[{"uuid":["uuid","00000000-0000-4000-8000-000000000002"]},{"uuid":["uuid","00000000-0000-4000-8000-000000000003"]}]}
+>{"id":2,"method":"transact","params":["Net",{"op":"select","table":"Switch","where":[["load",">",0]],"columns":["name"]}]}
+<{"error":null,"id":2,"result":[{"rows":[{"name":"s1"}]}]}
+>{"id":3,"method":"transact","params":["Net",{"op":"select","table":"Switch","where":[["load","<=",4]],"columns":["name"]}]}
+<{"error":null,"id":3,"result":[{"rows":[{"name":"s1"},{"name":"s2"}]}]}
+>{"id":4,"method":"transact","params":["Net",{"op":"select","table":"Switch","where":[["load","<=",4],["name","!=","s1"]],"columns":["name"]}]}
+<{"error":null,"id":4,"result":[{"rows":[{"name":"s2"}]}]}
+>{"id":5,"method":"transact","params":["Net",{"op":"select","table":"Switch","where":[["_uuid","==",["uuid","00000000-0000-4000-8000-000000000003"]]],"columns":["name"]}]}
+<{"error":null,"id":5,"result":[{"rows":[{"name":"s2"}]}]}
+>{"id":6,"method":"transact","params":["Net",{"op":"select","table":"Switch","where":[["_version","==",["uuid","00000000-0000-4000-8000-000000000001"]]],"columns":["name"]}]}
+<{"error":null,"id":6,"result":[{"rows":[{"name":"s1"},{"name":"s2"}]}]}
+>{"id":7,"method":"transact","params":["Net",{"op":"select","table":"Switch","where":[["load","excludes",4]],"columns":["name"]}]}
+<{"error":null,"id":7,"result":[{"rows":[{"name":"s2"}]}]}
+>{"id":8,"method":"transact","params":["Net",{"op":"select","table":"Switch","where":[["ports","includes",["set",[]]]],"columns":["name"]}]}
+<{"error":null,"id":8,"result":[{"rows":[{"name":"s1"},{"name":"s2"}]}]}
+>{"id":9,"method":"transact","params":["Net",{"op":"select","table":"Switch","where":[["ports","includes",["uuid","00000000-0000-4000-8000-000000000002"]]],"columns":["name"]}]}
+<{"error":null,"id":9,"result":[{"rows":[]}]}"#;
+
+/// The conditions are read one after another, each wholly, and before the columns. The last of these reads.
+const MISREAD: &str =
+    r#">{"id":1,"method":"transact","params":["Net",{"op":"select","table":"Switch","where":[["load","=="]],"columns":["nam"]}]}
+<{"error":null,"id":1,"result":[{"error":"syntax error"}]}
+>{"id":2,"method":"transact","params":["Net",{"op":"select","table":"Switch","where":[["lode","=",4]],"columns":["nam"]}]}
+<{"error":null,"id":2,"result":[{"error":"unknown column"}]}
+>{"id":3,"method":"transact","params":["Net",{"op":"select","table":"Switch","where":[["load","=",4]],"columns":["nam"]}]}
+<{"error":null,"id":3,"result":[{"error":"syntax error"}]}
+>{"id":4,"method":"transact","params":["Net",{"op":"select","table":"Switch","where":[["name","<","s1"]],"columns":["nam"]}]}
+<{"error":null,"id":4,"result":[{"error":"syntax error"}]}
+>{"id":5,"method":"transact","params":["Net",{"op":"select","table":"Switch","where":[["load","==","x"]],"columns":["nam"]}]}
+<{"error":null,"id":5,"result":[{"error":"syntax error"}]}
+>{"id":6,"method":"transact","params":["Net",{"op":"select","table":"Switch","where":[["load","==",["set",[1,2]]]],"columns":["nam"]}]}
+<{"error":null,"id":6,"result":[{"error":"syntax error"}]}
+>{"id":7,"method":"transact","params":["Net",{"op":"select","table":"Switch","where":[["load","==",4],["lode","==",4]],"columns":["nam"]}]}
+<{"error":null,"id":7,"result":[{"error":"unknown column"}]}
+>{"id":8,"method":"transact","params":["Net",{"op":"select","table":"Switch","where":[["main","==",["named-uuid","a"]]],"columns":["nam"]}]}
+<{"error":null,"id":8,"result":[{"error":"syntax error"}]}
+>{"id":9,"method":"transact","params":["Net",{"op":"select","table":"Switch","where":[["load","==",["set",[4,4]]]],"columns":["nam"]}]}
+<{"error":null,"id":9,"result":[{"error":"unknown column"}]}"#;
+
+#[test]
+fn inserted_rows_are_selected(rt: HostRuntime) -> Result<(), Fail> {
+    converses(rt.alloc(), INSERTED)
+}
+
+#[test]
+fn a_failed_operation_undoes_the_others(rt: HostRuntime) -> Result<(), Fail> {
+    converses(rt.alloc(), UNDONE)
+}
+
+#[test]
+fn the_last_of_equal_members_counts(rt: HostRuntime) -> Result<(), Fail> {
+    converses(rt.alloc(), REPEATED)
+}
+
+#[test]
+fn params_are_refused_in_order(rt: HostRuntime) -> Result<(), Fail> {
+    converses(rt.alloc(), PARAMS)
+}
+
+#[test]
+fn operations_are_refused(rt: HostRuntime) -> Result<(), Fail> {
+    converses(rt.alloc(), REFUSED)
+}
+
+#[test]
+fn a_failed_commit_seals_the_database(rt: HostRuntime) -> Result<(), Fail> {
+    let faults = Faults {
+        is_too_large: false,
+        good: 0,
+        bad: 1,
+    };
+    converses_over(rt.alloc(), faults, SEALED)
+}
+
+#[test]
+fn a_commit_without_room_changes_nothing(rt: HostRuntime) -> Result<(), Fail> {
+    let faults = Faults {
+        is_too_large: true,
+        good: 0,
+        bad: 0,
+    };
+    converses_over(rt.alloc(), faults, NO_ROOM)
+}
+
+#[test]
+fn rows_are_selected_by_conditions(rt: HostRuntime) -> Result<(), Fail> {
+    converses(rt.alloc(), SELECTED)
+}
+
+#[test]
+fn conditions_are_refused_in_order(rt: HostRuntime) -> Result<(), Fail> {
+    converses(rt.alloc(), MISREAD)
+}

@@ -1,0 +1,148 @@
+use ov_base::Text;
+use ov_store::{Store, reopen_after_crash};
+use sqlite::{Alter, Connection, Files, Options};
+use sqlite_disk::{Fuse, Memory};
+use sqlite_trees::store::Reopen;
+use std::alloc::Global;
+use std::test::Fail;
+use test_support::{Keeping, NET, Scripted};
+
+/// Two commits of several changes each.
+const SCRIPT: &str = "put Switch 1 0 one
+put Switch 2 0 two
+commit
+remove Switch 1
+put Switch 2 1 two again
+put Port 1 1 port
+commit";
+
+/// What may be found: how many commits were made, and then the lines of all these and of no other, or of the one that failed
+/// too. After a create that was refused there is nothing, or the whole new store.
+const ALLOWED: &str = "no database
+refused: nothing
+refused: a store
+made 0:
+made 0:Switch 1 0 one;Switch 2 0 two;
+made 1:Switch 1 0 one;Switch 2 0 two;
+made 1:Port 1 1 port;Switch 2 1 two again;
+made 2:Port 1 1 port;Switch 2 1 two again;";
+
+/// What is found in a database that is opened again, on which no store was made.
+fn found_again<S: Alter + Drop>(alloc: Global, again: Connection<S>) -> Result<&'static str, Fail> {
+    match Store::open(alloc, again) {
+        Ok(store) => {
+            let mut store = store;
+            let is_new = store.load_all(alloc)?.is_empty();
+            Ok(if is_new {
+                "refused: a store"
+            } else {
+                "refused: lines"
+            })
+        }
+        Err(refused) => Ok(if refused.connection.schema().tables.is_empty() {
+            "refused: nothing"
+        } else {
+            "refused: a part"
+        }),
+    }
+}
+
+/// What is found after a crash of a connection on which no store was made.
+fn found_of_refused<S: Alter + Reopen + Drop>(
+    alloc: Global,
+    connection: Connection<S>,
+) -> Result<&'static str, Fail> {
+    let mut left = connection.into_store();
+    if left.crash_and_reopen().is_err() {
+        return Ok("refused: not opened again");
+    }
+    match Connection::over(alloc, left) {
+        Ok(again) => found_again(alloc, again),
+        Err(_) => Ok("refused: no database"),
+    }
+}
+
+/// How many commits of the script are made, up to the first that is not.
+fn made<S: Scripted>(alloc: Global, keeping: &mut S) -> Result<u64, Fail> {
+    let mut made: u64 = 0;
+    for line in SCRIPT.lines() {
+        let answer = keeping.answer(alloc, line)?;
+        if answer.as_str() == "made" {
+            made = made.saturating_add(1);
+        } else if line == "commit" {
+            return Ok(made);
+        }
+    }
+    Ok(made)
+}
+
+/// What is found after that many commits.
+fn told<S: Alter + Drop>(alloc: Global, made: u64, again: Store<S>) -> Result<String, Fail> {
+    let lines = Keeping::new(alloc, again).answer(alloc, "lines")?;
+    Ok(format!(in alloc; "made {made}:{lines}")?)
+}
+
+/// What is found after a crash behind the script.
+fn found_of_made<S: Alter + Reopen + Drop>(alloc: Global, store: Store<S>) -> Result<String, Fail> {
+    let mut keeping = Keeping::new(alloc, store);
+    let made = made(alloc, &mut keeping)?;
+    match reopen_after_crash(alloc, keeping.into_keeper()) {
+        Some(again) => told(alloc, made, again),
+        None => Ok(String::from_str(alloc, "not opened again")?),
+    }
+}
+
+/// Makes a store, runs the script until a commit fails, and tells what is found after a crash.
+fn found<S: Alter + Reopen + Drop>(
+    alloc: Global,
+    connection: Connection<S>,
+) -> Result<String, Fail> {
+    if !connection.is_autocommit() {
+        return Err(Fail::new("in a transaction"));
+    }
+    match Store::create(connection, Text::from_str(alloc, NET)?) {
+        Ok(store) => found_of_made(alloc, store),
+        Err(refused) => {
+            let told = found_of_refused(alloc, refused.connection)?;
+            Ok(String::from_str(alloc, told)?)
+        }
+    }
+}
+
+/// The same over two files in memory, each of which fails after so many calls.
+fn found_over_fuses(alloc: Global, log_calls: u64, file_calls: u64) -> Result<String, Fail> {
+    let files = Files {
+        log: Fuse::new(Memory::new(alloc), log_calls),
+        db: Fuse::new(Memory::new(alloc), file_calls),
+    };
+    match Connection::open_files(alloc, files, Options::new(3)) {
+        Ok(connection) => found(alloc, connection),
+        Err(_) => Ok(String::from_str(alloc, "no database")?),
+    }
+}
+
+/// The first thing that is found and not allowed, where the log fails after each number of calls in turn, or the file does;
+/// otherwise what is found where neither fails.
+fn first_foreign(alloc: Global, is_log: bool) -> Result<String, Fail> {
+    for calls in 0..60u64 {
+        let answer = if is_log {
+            found_over_fuses(alloc, calls, u64::MAX)?
+        } else {
+            found_over_fuses(alloc, u64::MAX, calls)?
+        };
+        if !ALLOWED.lines().any(|line| line == answer.as_str()) {
+            return Ok(format!(in alloc; "{calls} {answer}")?);
+        }
+    }
+    found_over_fuses(alloc, u64::MAX, u64::MAX)
+}
+
+/// What is found where nothing fails.
+const WHOLE: &str = "made 2:Port 1 1 port;Switch 2 1 two again;";
+
+#[test]
+fn a_crash_leaves_no_part_of_a_commit(rt: HostRuntime) -> Result<(), Fail> {
+    assert_eq!(rt; first_foreign(rt.alloc(), true)?.as_str(), WHOLE);
+    assert_eq!(rt; first_foreign(rt.alloc(), false)?.as_str(), WHOLE);
+    Ok(())
+}

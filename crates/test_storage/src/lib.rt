@@ -1,0 +1,15 @@
+//! Tests of what is stored: keepers, the disk in memory, the store, and stored lines that are opened as rows.
+#![tactic(auto)]
+
+#[cfg(test)]
+mod crashes;
+#[cfg(test)]
+mod disks;
+#[cfg(test)]
+mod keepers;
+#[cfg(test)]
+mod opens;
+#[cfg(test)]
+mod refusals;
+#[cfg(test)]
+mod stores;

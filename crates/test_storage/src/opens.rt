@@ -1,0 +1,160 @@
+use ov_db::{Db, Delta};
+use ov_keeper::ListKeeper;
+use ov_rows::{Row, RowKey, Rows};
+use std::alloc::{AllocError, Global};
+use std::test::Fail;
+use test_support::{NET, Scripted, agrees, keeper_of, net, schema_of_text, switch};
+use uuid::Uuid;
+
+/// The schema Net in its version 0.
+const NET_0: &str =
+    r#"{"name":"Net","tables":{"Switch":{"columns":{"name":{"type":"string"}}}},"version":"0.0.0"}"#;
+
+/// Lines of both tables, in their order.
+const STORED: &str = r#"Port 3 4 {"name":"p1","peer":["set",[]],"tag":4095}
+Port 5 4 {"name":"","peer":["uuid","00000000-0000-0000-0000-000000000003"],"tag":["set",[]]}
+Switch 2 1 {"load":0,"main":["set",[]],"name":"s1","ports":["set",[]]}
+Switch 6 1 {"load":-9223372036854775808,"main":["uuid","00000000-0000-0000-0000-000000000003"],"name":"\"\u0001é","ports":["set",[["uuid","00000000-0000-0000-0000-000000000003"],["uuid","00000000-0000-0000-0000-000000000005"]]]}
+"#;
+
+/// The bodies of lines of Port that are a row or none: no JSON, no object, a column less, one more, one twice, another order, a
+/// space; values of another kind, out of their range, too many, not in order, not as they are written; a real.
+const BODIES: &str = r#"x -> a stored row does not fit the schema
+[] -> a stored row does not fit the schema
+{"name":"p1","peer":["set",[]]} -> a stored row does not fit the schema
+{"name":"p1","other":1,"peer":["set",[]],"tag":7} -> a stored row does not fit the schema
+{"_uuid":["uuid","00000000-0000-0000-0000-000000000002"],"name":"p1","peer":["set",[]],"tag":7} -> a stored row does not fit the schema
+{"name":"p0","name":"p1","peer":["set",[]],"tag":7} -> a stored row does not fit the schema
+{"peer":["set",[]],"name":"p1","tag":7} -> a stored row does not fit the schema
+{"name":"p1","peer":["set",[]],"tag": 7} -> a stored row does not fit the schema
+{"name":"p1","peer":["set",[]],"tag":7}x -> a stored row does not fit the schema
+{"name":1,"peer":["set",[]],"tag":7} -> a stored row does not fit the schema
+{"name":"p1","peer":["set",[]],"tag":4096} -> a stored row does not fit the schema
+{"name":"p1","peer":["set",[]],"tag":["set",[7,8]]} -> a stored row does not fit the schema
+{"name":"p1","peer":["set",[]],"tag":["set",[7]]} -> a stored row does not fit the schema
+{"name":"p1","peer":["uuid","00000000-0000-0000-0000-00000000000A"],"tag":7} -> a stored row does not fit the schema
+{"name":"p1","peer":["named-uuid","a"],"tag":7} -> a stored row does not fit the schema
+{"name":"p1","peer":["set",[]],"tag":7.0} -> a stored row does not fit the schema
+{"name":"\u0070","peer":["set",[]],"tag":7} -> a stored row does not fit the schema
+{"name":"p1","peer":["set",[]],"tag":7} -> Port 2 1 {"name":"p1","peer":["set",[]],"tag":7}"#;
+
+/// The text of a row, as that of its line.
+fn text_of_row(alloc: Global, key: &RowKey, row: &Row) -> Result<String, Fail> {
+    let body = row.columns.tree(alloc)?.to_bytes(alloc)?;
+    let table = key.table();
+    let id = key.id().as_u128();
+    let version = row.version.as_u128();
+    let body = str::from_utf8(body.as_slice())?;
+    Ok(format!(in alloc; "{table} {id} {version} {body}")?)
+}
+
+/// The texts of rows, each with the end of its line.
+fn text_of_rows(alloc: Global, rows: &Rows) -> Result<String, Fail> {
+    let mut text = String::new(alloc);
+    for (key, row) in rows.map() {
+        text.push_str(text_of_row(alloc, key, row)?.as_str())?;
+        text.push_str("\n")?;
+    }
+    Ok(text)
+}
+
+/// The rows of what a keeper holds, each as the text of its line; or why they can't be opened under the schema.
+fn rows_of(alloc: Global, keeper: ListKeeper, schema: &str) -> Result<String, Fail> {
+    let schema = schema_of_text(alloc, schema)?;
+    match Db::open(alloc, keeper, schema) {
+        Ok(db) => text_of_rows(alloc, db.rows()),
+        Err(fault) => Ok(format!(in alloc; "{fault}")?),
+    }
+}
+
+/// The same of these lines, and of the text of a schema that is stored with them.
+fn opened(alloc: Global, stored: &str, lines: &str, schema: &str) -> Result<String, Fail> {
+    rows_of(alloc, keeper_of(alloc, stored, lines)?, schema)
+}
+
+#[test]
+fn rows_are_opened_as_they_were_stored(rt: HostRuntime) -> Result<(), Fail> {
+    assert_eq!(rt; opened(rt.alloc(), NET, STORED, NET)?.as_str(), STORED);
+    Ok(())
+}
+
+/// What is opened of a line of Port with this body.
+#[derive(Drop)]
+struct Bodies;
+
+impl Scripted for Bodies {
+    fn answer(&mut self, alloc: Global, command: &str) -> Result<String, Fail> {
+        let line = format!(in alloc; "Port 2 1 {command}")?;
+        let told = opened(alloc, NET, line.as_str(), NET)?;
+        Ok(String::from_str(alloc, told.as_str().trim_end())?)
+    }
+}
+
+#[test]
+fn bodies_that_are_no_row_are_refused(rt: HostRuntime) -> Result<(), Fail> {
+    agrees(rt.alloc(), Bodies, BODIES)
+}
+
+#[test]
+fn a_line_of_another_table_is_refused(rt: HostRuntime) -> Result<(), Fail> {
+    let lines = r#"Port 2 1 {"name":"p1","peer":["set",[]],"tag":7}
+ports 2 1 {}"#;
+    assert_eq!(rt;
+        opened(rt.alloc(), NET, lines, NET)?.as_str(),
+        "a stored row does not fit the schema"
+    );
+    Ok(())
+}
+
+/// The schema is looked at before the lines.
+#[test]
+fn another_schema_is_refused(rt: HostRuntime) -> Result<(), Fail> {
+    let alloc = rt.alloc();
+    assert_eq!(rt;
+        opened(alloc, NET, "ports 2 1 {}", NET_0)?.as_str(),
+        "the stored schema is another one"
+    );
+    let spaced = format!(in alloc; "{NET} ")?;
+    assert_eq!(rt;
+        opened(alloc, spaced.as_str(), "", NET)?.as_str(),
+        "the stored schema is another one"
+    );
+    Ok(())
+}
+
+/// The changes that put a switch of this name.
+fn put_switch(alloc: Global, name: &str) -> Result<Delta, AllocError> {
+    let key = RowKey::new(alloc, "Switch", Uuid::from_u128(2))?;
+    let row = switch(alloc, name, 0)?;
+    let mut delta = Delta::new(alloc);
+    delta.insert(key, Some(row))?;
+    Ok(delta)
+}
+
+/// What the keeper holds after changes were committed beside what is opened.
+fn committed(alloc: Global, keeper: ListKeeper, delta: Delta) -> Result<ListKeeper, Fail> {
+    let mut db = Db::open(alloc, keeper, net(alloc)?)?;
+    db.commit(alloc, delta);
+    Ok(db.into_keeper())
+}
+
+/// What is opened after a switch of this name was put beside these lines.
+fn opened_again(alloc: Global, lines: &str, name: &str) -> Result<String, Fail> {
+    let keeper = keeper_of(alloc, NET, lines)?;
+    let keeper = committed(alloc, keeper, put_switch(alloc, name)?)?;
+    rows_of(alloc, keeper, NET)
+}
+
+/// What was committed is found again, by the table, the identifier, the version and the bytes of its line.
+#[test]
+fn committed_rows_are_opened_again(rt: HostRuntime) -> Result<(), Fail> {
+    let port = r#"Port 3 1 {"name":"p1","peer":["set",[]],"tag":["set",[]]}"#;
+    let told = opened_again(rt.alloc(), port, "s1")?;
+    assert_eq!(rt;
+        told.as_str(),
+        r#"Port 3 1 {"name":"p1","peer":["set",[]],"tag":["set",[]]}
+Switch 2 1 {"load":0,"main":["set",[]],"name":"s1","ports":["set",[]]}
+"#
+    );
+    Ok(())
+}

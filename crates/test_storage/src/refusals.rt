@@ -1,0 +1,145 @@
+use crate::stores::created;
+use ov_base::Text;
+use ov_keeper::KeepFault;
+use ov_store::{Store, store_over};
+use sqlite::{Alter, Connection};
+use std::alloc::Global;
+use std::test::Fail;
+use test_support::{Scripted, agrees};
+
+/// A statement by its word.
+fn statement(word: &str) -> &'static str {
+    match word {
+        "meta" => "CREATE TABLE meta(k TEXT PRIMARY KEY, v BLOB);",
+        "line" => {
+            "CREATE TABLE line(tbl TEXT, id BLOB, ver BLOB, body BLOB, PRIMARY KEY(tbl,id));"
+        }
+        "schema" => "INSERT INTO meta VALUES('schema',x'6f6c64');",
+        "format" => "INSERT INTO meta VALUES('format',x'31');",
+        "row" => {
+            "INSERT INTO line VALUES('Port',x'000102030405060708090a0b0c0d0e0f',x'000102030405060708090a0b0c0d0e0f',x'7b7d');"
+        }
+        "foreign" => "CREATE TABLE other(a);",
+        "view" => "CREATE VIEW v AS SELECT 1;",
+        "index" => "CREATE INDEX other ON line(ver);",
+        "text_id" =>
+            "CREATE TABLE line(tbl TEXT, id TEXT, ver BLOB, body BLOB, PRIMARY KEY(tbl,id));",
+        "seven" => "UPDATE meta SET v=x'37' WHERE k='format';",
+        "third" => "INSERT INTO meta VALUES('more',x'31');",
+        "short" => "UPDATE line SET id=x'000102030405060708090a0b0c0d0e';",
+        "no_version" => "UPDATE line SET ver=NULL;",
+        _ => "UPDATE line SET tbl=x'ff';",
+    }
+}
+
+/// What an open gives of the database that these statements make.
+const OPENED: &str = "meta line schema format -> old 0
+meta line schema format row -> old 1
+line -> not a database of this program
+meta schema format -> not a database of this program
+line meta schema format -> not a database of this program
+meta text_id schema format -> not a database of this program
+meta line schema format foreign -> not a database of this program
+meta line schema format index -> not a database of this program
+meta line -> another format
+meta line schema format third -> another format
+meta line schema format seven -> another format
+meta line schema format row short -> another format
+meta line schema format row no_version -> another format
+meta line schema format row no_text -> another format";
+
+/// What is made or opened of it, with the text `new` for a new one.
+const MADE_OR_OPENED: &str = " -> new 0
+meta line format schema row -> old 1
+meta line format -> another format
+view -> not a database of this program";
+
+/// The schema's text that a store has, and how many lines.
+fn told<S: Alter + Drop>(alloc: Global, store: Store<S>) -> Result<String, Fail> {
+    let mut store = store;
+    let lines = store.load_all(alloc)?.len();
+    Ok(format!(in alloc; "{} {lines}", store.schema_text().as_str())?)
+}
+
+/// Why there is no store.
+fn refused(alloc: Global, fault: KeepFault) -> Result<String, Fail> {
+    Ok(format!(in alloc; "{fault}")?)
+}
+
+/// What comes of the database of a connection, which may be a new one's, too.
+fn made_or_opened<S: Alter + Drop>(
+    alloc: Global,
+    connection: Connection<S>,
+    may_be_new: bool,
+) -> Result<String, Fail> {
+    if !connection.is_autocommit() {
+        return Err(Fail::new("in a transaction"));
+    }
+    if may_be_new {
+        return match store_over(alloc, connection, Text::from_str(alloc, "new")?) {
+            Ok(store) => told(alloc, store),
+            Err(fault) => refused(alloc, fault),
+        };
+    }
+    match Store::open(alloc, connection) {
+        Ok(store) => told(alloc, store),
+        Err(refusal) => refused(alloc, refusal.fault),
+    }
+}
+
+/// The same after these statements.
+fn found<S: Alter + Drop>(
+    alloc: Global,
+    connection: Connection<S>,
+    may_be_new: bool,
+    words: &str,
+) -> Result<String, Fail> {
+    let mut connection = connection;
+    for word in words.split_whitespace() {
+        connection.execute_batch(statement(word))?;
+    }
+    made_or_opened(alloc, connection, may_be_new)
+}
+
+/// The commands are the words of statements.
+#[derive(Drop)]
+struct Databases {
+    may_be_new: bool,
+}
+
+impl Scripted for Databases {
+    fn answer(&mut self, alloc: Global, command: &str) -> Result<String, Fail> {
+        let connection = Connection::open_in_memory(alloc)?;
+        found(alloc, connection, self.may_be_new, command)
+    }
+}
+
+#[test]
+fn an_open_tells_what_is_no_store(rt: HostRuntime) -> Result<(), Fail> {
+    agrees(rt.alloc(), Databases { may_be_new: false }, OPENED)
+}
+
+#[test]
+fn a_database_is_new_or_ours_or_foreign(rt: HostRuntime) -> Result<(), Fail> {
+    agrees(rt.alloc(), Databases { may_be_new: true }, MADE_OR_OPENED)
+}
+
+/// Why a second store is not made of a database.
+fn made_again<S: Alter + Drop>(alloc: Global, connection: Connection<S>) -> Result<String, Fail> {
+    let connection = created(alloc, connection)?.close();
+    if !connection.is_autocommit() {
+        return Err(Fail::new("in a transaction"));
+    }
+    match Store::create(connection, Text::from_str(alloc, "again")?) {
+        Ok(_) => Err(Fail::new("made again")),
+        Err(refusal) => refused(alloc, refusal.fault),
+    }
+}
+
+#[test]
+fn tables_are_made_once(rt: HostRuntime) -> Result<(), Fail> {
+    let connection = Connection::open_in_memory(rt.alloc())?;
+    let told = made_again(rt.alloc(), connection)?;
+    assert_eq!(rt; told.as_str(), "not a database of this program");
+    Ok(())
+}

@@ -1,0 +1,133 @@
+use ov_base::Text;
+use ov_store::{Store, store_in_memory};
+use sqlite::{Alter, Connection, Options};
+use std::alloc::Global;
+use std::test::Fail;
+use test_support::{Faults, Keeping, NET, agrees, failing, follows};
+
+/// A new store over a database that has nothing.
+pub(crate) fn created<S: Alter + Drop>(
+    alloc: Global,
+    connection: Connection<S>,
+) -> Result<Store<S>, Fail> {
+    if !connection.is_autocommit() {
+        return Err(Fail::new("in a transaction"));
+    }
+    let schema = Text::from_str(alloc, NET)?;
+    Ok(Store::create(connection, schema)?)
+}
+
+/// The store of a database that has one.
+fn opened<S: Alter + Drop>(alloc: Global, connection: Connection<S>) -> Result<Store<S>, Fail> {
+    if !connection.is_autocommit() {
+        return Err(Fail::new("in a transaction"));
+    }
+    Ok(Store::open(alloc, connection)?)
+}
+
+/// Lines that are put, put again, and removed.
+const TWO_COMMITS: &str = "schema -> new
+lines
+put Switch 1 0 one
+put Switch 2 0 two
+put Port 1 7 port
+commit -> made
+put Switch 1 1 one again
+remove Switch 2
+remove Switch 3
+commit -> made
+lines -> Port 1 7 port;Switch 1 1 one again;
+failures -> 0";
+
+/// What the next one who opens it finds.
+const FOUND: &str = "lines -> Port 1 7 port;Switch 1 1 one again;
+commit -> made
+remove Port 1
+commit -> made
+lines -> Switch 1 1 one again;";
+
+/// Runs a script over a store, and gives its connection back.
+fn kept<S: Alter + Drop>(
+    alloc: Global,
+    store: Store<S>,
+    script: &str,
+) -> Result<Connection<S>, Fail> {
+    let mut keeping = Keeping::new(alloc, store);
+    follows(alloc, &mut keeping, script)?;
+    Ok(keeping.into_keeper().close())
+}
+
+/// Runs a script over the store of a database.
+fn found<S: Alter + Drop>(
+    alloc: Global,
+    connection: Connection<S>,
+    script: &str,
+) -> Result<(), Fail> {
+    let store = opened(alloc, connection)?;
+    agrees(alloc, Keeping::new(alloc, store), script)
+}
+
+/// Runs a script over a new database in memory, closes it, and runs another over what its files hold then. A test holds no
+/// connection to files by itself, since each function that holds one is long to prove.
+fn found_after_a_close(alloc: Global, script: &str, next: &str) -> Result<(), Fail> {
+    let store = store_in_memory(alloc, Text::from_str(alloc, "new")?)?;
+    let Ok(files) = kept(alloc, store, script)?.close_files() else {
+        return Err(Fail::new("not closed"));
+    };
+    match Connection::open_files(alloc, files, Options::new(2)) {
+        Ok(again) => found(alloc, again, next),
+        Err(_) => Err(Fail::new("not opened again")),
+    }
+}
+
+#[test]
+fn a_commit_is_found_after_a_close(rt: HostRuntime) -> Result<(), Fail> {
+    found_after_a_close(rt.alloc(), TWO_COMMITS, FOUND)
+}
+
+/// Runs a script over a new store behind a keeper that fails as it is told.
+fn kept_by_failing<S: Alter + Drop>(
+    alloc: Global,
+    connection: Connection<S>,
+    faults: Faults,
+    script: &str,
+) -> Result<(), Fail> {
+    let keeper = failing(created(alloc, connection)?, faults);
+    agrees(alloc, Keeping::new(alloc, keeper), script)
+}
+
+#[test]
+fn a_device_that_fails_leaves_the_former_lines(rt: HostRuntime) -> Result<(), Fail> {
+    let script = "put Switch 1 0 one
+commit -> made
+put Switch 1 0 two
+commit -> the device failed
+failures -> 1
+lines -> Switch 1 0 one;
+commit -> made
+lines -> Switch 1 0 two;";
+    let faults = Faults {
+        is_too_large: false,
+        good: 1,
+        bad: 1,
+    };
+    let connection = Connection::open_in_memory(rt.alloc())?;
+    kept_by_failing(rt.alloc(), connection, faults, script)
+}
+
+#[test]
+fn changes_that_are_too_large_are_not_made(rt: HostRuntime) -> Result<(), Fail> {
+    let script = "put Switch 1 0 one
+commit -> too large to be stored
+failures -> 0
+lines
+commit -> made
+lines -> Switch 1 0 one;";
+    let faults = Faults {
+        is_too_large: true,
+        good: 9,
+        bad: 1,
+    };
+    let connection = Connection::open_in_memory(rt.alloc())?;
+    kept_by_failing(rt.alloc(), connection, faults, script)
+}

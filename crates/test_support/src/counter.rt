@@ -1,0 +1,24 @@
+use ov_txn::Draws;
+use uuid::Uuid;
+
+/// Draws the identifiers `00000000-0000-4000-8000-000000000001`, `..02` and so on.
+#[derive(Drop)]
+pub struct Counter {
+    drawn: u64,
+}
+
+impl Counter {
+    /// Nothing was drawn yet.
+    pub fn new() -> Counter {
+        Counter { drawn: 0 }
+    }
+}
+
+impl Draws for Counter {
+    ghost draws = { λ _ _ _. Unit {0} };
+
+    fn draw(&mut self) -> Uuid {
+        self.drawn = self.drawn.saturating_add(1);
+        Uuid::from_u128(0x4000_8000_0000_0000_0000 | self.drawn as u128)
+    }
+}

@@ -1,0 +1,55 @@
+ghost use Rattle.ov_specs.specs.Lines.{Contents};
+
+use ov_keeper::{Change, KeepFault, Keeper, Loaded};
+use std::alloc::Global;
+
+/// A keeper whose device fails when it is told to, over one that keeps: for tests of what stands over a keeper.
+#[derive(Drop)]
+pub struct FailingKeeper<K: Keeper> {
+    /// What keeps the schema and the lines.
+    pub inner: K,
+    /// Whether the next commit is refused as too large.
+    pub is_too_large: bool,
+    /// How many commits are made before the device fails.
+    pub good: u64,
+    /// How many commits fail then. The later ones are made.
+    pub bad: u64,
+    /// How often the device has failed.
+    pub failures: u64,
+}
+
+impl<K: Keeper> Keeper for FailingKeeper<K> {
+    ghost is_honest = { λ k. K.is_honest k.inner };
+
+    ghost leaves = { λ k held. K.leaves k.inner held };
+
+    ghost failed = { λ k. k.failures };
+
+    ghost something = { λ k honest. K.something k.inner honest };
+
+    fn failures(&self) -> u64 {
+        self.failures
+    }
+
+    fn load(&mut self, alloc: Global) -> Result<Loaded, KeepFault> {
+        self.inner.load(alloc)
+    }
+
+    fn commit(&mut self, alloc: Global, changes: &[Change]) -> Result<(), KeepFault> {
+        if self.is_too_large {
+            self.is_too_large = false;
+            return Err(KeepFault::TooLarge);
+        }
+        if self.good == 0 && self.bad > 0 {
+            self.bad -= 1;
+            self.failures = self.failures.saturating_add(1);
+            return Err(KeepFault::Device);
+        }
+        self.good = self.good.saturating_sub(1);
+        let answer = self.inner.commit(alloc, changes);
+        if answer == Err(KeepFault::Device) {
+            self.failures = self.failures.saturating_add(1);
+        }
+        answer
+    }
+}

@@ -1,0 +1,58 @@
+use crate::failing::FailingKeeper;
+use crate::lines::line_of;
+use crate::schemas::NET;
+use ov_base::Text;
+use ov_keeper::{Change, Keeper, ListKeeper};
+use std::alloc::Global;
+use std::test::Fail;
+
+/// A keeper in memory that fails when it is told to.
+pub type NetKeeper = FailingKeeper<ListKeeper>;
+
+/// When a keeper fails, as `FailingKeeper` tells.
+#[derive(Clone, Copy)]
+pub struct Faults {
+    /// Whether the next commit is refused as too large.
+    pub is_too_large: bool,
+    /// How many commits are made before the device fails.
+    pub good: u64,
+    /// How many commits fail then.
+    pub bad: u64,
+}
+
+impl Faults {
+    /// Never.
+    pub const NONE: Faults = Faults {
+        is_too_large: false,
+        good: 0,
+        bad: 0,
+    };
+}
+
+/// A keeper of this schema's text, and of these lines.
+pub fn keeper_of(alloc: Global, schema: &str, lines: &str) -> Result<ListKeeper, Fail> {
+    let mut changes = Vec::new(alloc);
+    for line in lines.lines() {
+        changes.push(Change::Put(line_of(alloc, line)?))?;
+    }
+    let mut keeper = ListKeeper::new(alloc, Text::from_str(alloc, schema)?);
+    keeper.commit(alloc, changes.as_slice())?;
+    Ok(keeper)
+}
+
+/// A keeper over another, failing as it is told.
+pub fn failing<K: Keeper>(inner: K, faults: Faults) -> FailingKeeper<K> {
+    FailingKeeper {
+        inner,
+        is_too_large: faults.is_too_large,
+        good: faults.good,
+        bad: faults.bad,
+        failures: 0,
+    }
+}
+
+/// A keeper of a new database Net, failing as it is told.
+pub fn net_keeper(alloc: Global, faults: Faults) -> Result<NetKeeper, Fail> {
+    let schema = Text::from_str(alloc, NET)?;
+    Ok(failing(ListKeeper::new(alloc, schema), faults))
+}

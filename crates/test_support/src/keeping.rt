@@ -1,0 +1,91 @@
+use crate::lines::{change_of, text_of_line};
+use crate::scripts::Scripted;
+use ov_keeper::{Change, Keeper, Line};
+use std::alloc::Global;
+use std::test::Fail;
+
+/// A keeper behind a script, and the changes of its next commit.
+///
+/// The commands are a change, `commit`, `lines`, `schema` and `failures`.
+#[derive(Drop)]
+pub struct Keeping<K: Keeper> {
+    keeper: K,
+    changes: Vec<Change>,
+}
+
+impl<K: Keeper + Drop> Keeping<K> {
+    pub fn new(alloc: Global, keeper: K) -> Keeping<K> {
+        Keeping {
+            keeper,
+            changes: Vec::new(alloc),
+        }
+    }
+
+    /// Gives the keeper back.
+    pub fn into_keeper(self) -> K {
+        let Keeping { keeper, changes: _ } = self;
+        keeper
+    }
+
+    /// Commits the changes: `made`, or why they are not, and then they wait for the next commit.
+    fn commit(&mut self, alloc: Global) -> Result<String, Fail> {
+        match self.keeper.commit(alloc, self.changes.as_slice()) {
+            Ok(()) => {
+                self.changes.clear();
+                Ok(String::from_str(alloc, "made")?)
+            }
+            Err(fault) => Ok(format!(in alloc; "{fault}")?),
+        }
+    }
+
+    /// All lines, or why they are not loaded.
+    fn lines(&mut self, alloc: Global) -> Result<String, Fail> {
+        match self.keeper.load(alloc) {
+            Ok(loaded) => text_of_lines(alloc, loaded.lines.as_slice()),
+            Err(fault) => Ok(format!(in alloc; "{fault}")?),
+        }
+    }
+
+    /// The text of the schema, or why it is not loaded.
+    fn schema(&mut self, alloc: Global) -> Result<String, Fail> {
+        match self.keeper.load(alloc) {
+            Ok(loaded) => Ok(String::from_str(alloc, loaded.schema.as_str())?),
+            Err(fault) => Ok(format!(in alloc; "{fault}")?),
+        }
+    }
+}
+
+impl<K: Keeper + Drop> Scripted for Keeping<K> {
+    fn answer(&mut self, alloc: Global, command: &str) -> Result<String, Fail> {
+        match command {
+            "commit" => self.commit(alloc),
+            "lines" => self.lines(alloc),
+            "schema" => self.schema(alloc),
+            "failures" => Ok(format!(in alloc; "{}", self.keeper.failures())?),
+            change => {
+                self.changes.push(change_of(alloc, change)?)?;
+                Ok(String::new(alloc))
+            }
+        }
+    }
+}
+
+/// The texts of lines in ascending order, with a semicolon behind each.
+fn text_of_lines(alloc: Global, lines: &[Line]) -> Result<String, Fail> {
+    let mut texts = Vec::new(alloc);
+    for line in lines {
+        texts.push(text_of_line(alloc, line)?)?;
+    }
+    texts.sort()?;
+    joined(alloc, texts.as_slice())
+}
+
+/// Texts with a semicolon behind each.
+fn joined(alloc: Global, texts: &[String]) -> Result<String, Fail> {
+    let mut all = String::new(alloc);
+    for text in texts {
+        all.push_str(text.as_str())?;
+        all.push_str(";")?;
+    }
+    Ok(all)
+}

@@ -1,0 +1,80 @@
+use crate::counter::Counter;
+use crate::keepers::{Faults, NetKeeper};
+use crate::machine::net_core;
+use crate::scripts::{Scripted, agrees};
+use ov_base::Bytes;
+use ov_streams::{StreamEvent, Streams};
+use std::alloc::Global;
+use std::test::Fail;
+
+/// The streams of a server behind a conversation.
+///
+/// A line is what session 1 sends behind `>`, or all that it was sent since then behind `<`. Other lines are `open`, `tick` and
+/// `finish`, which tell whether the event was served, and `entries` for how many there are in the history.
+#[derive(Drop)]
+struct Server {
+    streams: Streams<NetKeeper, Counter>,
+}
+
+impl Server {
+    /// Serves one event, and tells whether it was.
+    fn run(&mut self, alloc: Global, event: StreamEvent) -> Result<String, Fail> {
+        let mut events = Vec::new(alloc);
+        events.push(event)?;
+        let ran = self.streams.run(alloc, events);
+        Ok(format!(in alloc; "{}", ran.refused.is_none())?)
+    }
+
+    /// Feeds session 1.
+    fn feed(&mut self, alloc: Global, text: &str) -> Result<String, Fail> {
+        let bytes = Bytes::from_slice(alloc, text.as_bytes())?;
+        self.run(alloc, StreamEvent::Feed(1, bytes))?;
+        Ok(String::new(alloc))
+    }
+
+    /// What session 1 was sent, if it is not this.
+    fn output(&mut self, alloc: Global, want: &str) -> Result<String, Fail> {
+        let output = self.streams.output(alloc, 1)?;
+        if output.as_slice() == want.as_bytes() {
+            return Ok(String::new(alloc));
+        }
+        Ok(String::from_utf8(output.into_vec())?)
+    }
+
+    /// How many entries the history has.
+    fn entries(&self, alloc: Global) -> Result<String, Fail> {
+        Ok(format!(in alloc; "{}", self.streams.core().history().len())?)
+    }
+}
+
+impl Scripted for Server {
+    fn answer(&mut self, alloc: Global, command: &str) -> Result<String, Fail> {
+        if let Some(text) = command.strip_prefix(">") {
+            return self.feed(alloc, text);
+        }
+        if let Some(want) = command.strip_prefix("<") {
+            return self.output(alloc, want);
+        }
+        match command {
+            "open" => self.run(alloc, StreamEvent::Open),
+            "tick" => self.run(alloc, StreamEvent::Tick(50)),
+            "finish" => self.run(alloc, StreamEvent::Finish(1)),
+            "entries" => self.entries(alloc),
+            _ => Err(Fail::new("no command")),
+        }
+    }
+}
+
+/// Holds a conversation with session 1 of a new server over a new database Net, whose keeper fails as it is told.
+pub fn converses_over(alloc: Global, faults: Faults, conversation: &str) -> Result<(), Fail> {
+    let mut server = Server {
+        streams: Streams::new(net_core(alloc, faults)?),
+    };
+    server.run(alloc, StreamEvent::Open)?;
+    agrees(alloc, server, conversation)
+}
+
+/// The same over a keeper that keeps all.
+pub fn converses(alloc: Global, conversation: &str) -> Result<(), Fail> {
+    converses_over(alloc, Faults::NONE, conversation)
+}

@@ -1,0 +1,212 @@
+ghost use Rattle.std.specs.Prelude.{◌≡◌, option_map};
+
+use ov_atoms::{
+    Atom, AtomFault, AtomKind, Datum, Kinds, Names, NoNames, has_sixteen_bytes, is_id, read_atom,
+    read_datum, write_datum,
+};
+use ov_base::Text;
+use serde_json::Value;
+use std::alloc::{AllocError, Global};
+use std::cmp::Ordering;
+use std::test::Fail;
+use test_support::{Scripted, agrees};
+use uuid::Uuid;
+
+const INTEGERS: Kinds = Kinds::Single(AtomKind::Integer);
+
+const TEXTS: Kinds = Kinds::Single(AtomKind::Text);
+
+const UUIDS: Kinds = Kinds::Single(AtomKind::Uuid);
+
+const COUNTS: Kinds = Kinds::Pair(AtomKind::Text, AtomKind::Integer);
+
+/// The row "a" is the zero UUID, and there is no other.
+struct OneName;
+
+impl Names for OneName {
+    ghost use Rattle.std.specs.Prelude.{Some, None, if◌then◌else◌, codes};
+    ghost use Rattle.std.specs.Str.{bytes_eq};
+    ghost use Rattle.ov_specs.specs.Uuid.{zero_uuid};
+
+    ghost names = { λ _ name. if bytes_eq name (codes "a") then Some zero_uuid else None };
+
+    fn uuid_of(&self, name: &str) -> Option<Uuid> {
+        if name == "a" { Some(Uuid::nil()) } else { None }
+    }
+}
+
+const SETS_OF_INTEGERS: &str = r#"["set",[3,1,3]] -> ["set",[1,3]]
+["set",[7]] -> 7
+["set",[7,7]] -> 7
+7 -> 7
+["set",[]] -> ["set",[]]
+["set",[true]] -> syntax
+["set",[["set",[7]]]] -> syntax
+["set",7] -> syntax
+["set",[7],7] -> syntax
+["map",[]] -> syntax
+null -> syntax"#;
+
+const MAPS_OF_COUNTS: &str = r#"["map",[["b",1],["a",2]]] -> ["map",[["a",2],["b",1]]]
+["map",[["a",1]]] -> ["map",[["a",1]]]
+["map",[["a",1],["a",1]]] -> ["map",[["a",1]]]
+["map",[["a",1],["a",2]]] -> clash
+["map",[["a",1],["a",2],["a",null]]] -> syntax
+["map",[["a",1,1]]] -> syntax
+["map",[]] -> ["map",[]]
+["set",[]] -> syntax
+["a",1] -> syntax"#;
+
+const NUMBERS: &str = r#"9223372036854775807 -> 9223372036854775807
+-9223372036854775808 -> -9223372036854775808
+9223372036854775808 -> syntax
+18446744073709551615 -> syntax
+-9223372036854775809 -> syntax
+-0 -> syntax
+1.0 -> syntax"#;
+
+const STRINGS: &str = r#""" -> ""
+"\u00e9" -> "é"
+"a\u0000b" -> syntax
+["set",["b","B","ab"]] -> ["set",["B","ab","b"]]"#;
+
+const IDENTIFIERS: &str =
+    r#"["uuid","550e8400-e29b-41d4-a716-446655440000"] -> ["uuid","550e8400-e29b-41d4-a716-446655440000"]
+["uuid","550E8400-E29B-41D4-A716-446655440000"] -> ["uuid","550e8400-e29b-41d4-a716-446655440000"]
+["uuid","550e8400e29b41d4a716446655440000"] -> syntax
+["uuid","550e8400e29b-41d4-a716-4466-55440000"] -> syntax
+["uuid","550e8400-e29b-41d4-a716-44665544000g"] -> syntax
+"550e8400-e29b-41d4-a716-446655440000" -> syntax
+["named-uuid","a"] -> syntax"#;
+
+/// A value as it is written.
+fn text_of(alloc: Global, datum: &Datum) -> Result<String, Fail> {
+    Ok(write_datum(alloc, datum)?.to_string(alloc)?)
+}
+
+/// What a text of these kinds reads as, copied and written again, or the word of its refusal.
+#[derive(Drop)]
+struct Rewritten {
+    kinds: Kinds,
+}
+
+impl Scripted for Rewritten {
+    fn answer(&mut self, alloc: Global, command: &str) -> Result<String, Fail> {
+        let tree = Value::from_str(alloc, command)?;
+        let word = match read_datum(alloc, &tree, self.kinds, &NoNames) {
+            Ok(datum) => return text_of(alloc, &datum.copy(alloc)?),
+            Err(AtomFault::Syntax) => "syntax",
+            Err(AtomFault::Clash) => "clash",
+            Err(AtomFault::Memory) => "memory",
+        };
+        Ok(String::from_str(alloc, word)?)
+    }
+}
+
+/// Each text of these kinds is written as it says.
+fn are_rewritten(alloc: Global, kinds: Kinds, script: &str) -> Result<(), Fail> {
+    agrees(alloc, Rewritten { kinds }, script)
+}
+
+#[test]
+fn a_set_is_written_in_order_and_one_atom_bare(rt: HostRuntime) -> Result<(), Fail> {
+    are_rewritten(rt.alloc(), INTEGERS, SETS_OF_INTEGERS)
+}
+
+#[test]
+fn a_map_is_written_by_its_keys(rt: HostRuntime) -> Result<(), Fail> {
+    are_rewritten(rt.alloc(), COUNTS, MAPS_OF_COUNTS)
+}
+
+#[test]
+fn a_number_has_64_bits(rt: HostRuntime) -> Result<(), Fail> {
+    are_rewritten(rt.alloc(), INTEGERS, NUMBERS)
+}
+
+#[test]
+fn a_text_has_no_nul(rt: HostRuntime) -> Result<(), Fail> {
+    are_rewritten(rt.alloc(), TEXTS, STRINGS)
+}
+
+#[test]
+fn a_uuid_has_hyphens_and_is_written_in_lower_case(rt: HostRuntime) -> Result<(), Fail> {
+    are_rewritten(rt.alloc(), UUIDS, IDENTIFIERS)
+}
+
+/// Whether a text reads as an identifier, where one row has a name.
+fn is_named(alloc: Global, text: &str) -> Result<bool, Fail> {
+    let tree = Value::from_str(alloc, text)?;
+    let atom = read_atom(alloc, &tree, AtomKind::Uuid, &OneName);
+    Ok(atom.is_ok_and(|atom| atom.kind() == AtomKind::Uuid))
+}
+
+#[test]
+fn a_name_is_read_as_the_row_that_has_it(rt: HostRuntime) -> Result<(), Fail> {
+    assert!(rt; is_named(rt.alloc(), "[\"named-uuid\",\"a\"]")?);
+    assert!(rt; !is_named(rt.alloc(), "[\"named-uuid\",\"b\"]")?);
+    assert!(rt; !is_named(rt.alloc(), "[\"named-uuid\",\"a b\"]")?);
+    Ok(())
+}
+
+#[test]
+fn a_name_is_an_identifier(rt: HostRuntime) -> Result<(), Fail> {
+    assert!(rt; is_id("_a1") && !is_id("1a") && !is_id("") && !is_id("a-b"));
+    has_sixteen_bytes(&Uuid::nil());
+    Ok(())
+}
+
+/// The set of two numbers.
+fn numbers(alloc: Global) -> Result<Datum, AllocError> {
+    Datum::of_atoms(vec![in alloc; Atom::Integer(2), Atom::Integer(1)]?)
+}
+
+/// Whether a value is equal to its copy.
+fn is_copied(alloc: Global, datum: &Datum) -> Result<bool, AllocError> {
+    Ok(*datum == datum.copy(alloc)?)
+}
+
+#[test]
+fn sets_are_made_of_atoms(rt: HostRuntime) -> Result<(), Fail> {
+    let set = numbers(rt.alloc())?;
+    assert_eq!(rt; set.count(), 2);
+    assert!(rt; is_copied(rt.alloc(), &set)?);
+    Ok(())
+}
+
+#[test]
+fn one_atom_is_a_set(rt: HostRuntime) -> Result<(), Fail> {
+    let one = Datum::of_atom(rt.alloc(), Atom::Boolean(true))?;
+    assert_eq!(rt; one.atoms().map(|atoms| atoms.len()), Some(1));
+    assert!(rt; numbers(rt.alloc())? < one);
+    Ok(())
+}
+
+/// The map of a number to a text.
+fn pair(alloc: Global) -> Result<Datum, Fail> {
+    let text = Atom::Text(Text::from_str(alloc, "a")?);
+    let pairs = vec![in alloc; (Atom::Integer(1), text)]?;
+    Ok(Datum::of_pairs(alloc, pairs)?.ok_or("a clash")?)
+}
+
+#[test]
+fn maps_are_made_of_pairs(rt: HostRuntime) -> Result<(), Fail> {
+    let map = pair(rt.alloc())?;
+    assert_eq!(rt; map.pairs().map(|pairs| pairs.len()), Some(1));
+    assert!(rt; map.atoms().is_none());
+    Ok(())
+}
+
+#[test]
+fn a_default_has_one_pair_or_none(rt: HostRuntime) -> Result<(), Fail> {
+    assert_eq!(rt; Datum::nothing_of(rt.alloc(), COUNTS).count(), 0);
+    assert_eq!(rt; Datum::one_default_of(rt.alloc(), COUNTS)?.count(), 1);
+    Ok(())
+}
+
+#[test]
+fn atoms_stand_in_order(rt: HostRuntime) -> Result<(), Fail> {
+    let text = Atom::Text(Text::from_str(rt.alloc(), "a")?);
+    assert!(rt; text == text.copy(rt.alloc())? && Atom::Integer(9) < text);
+    assert_eq!(rt; Atom::Integer(-1).cmp(&Atom::Integer(0)), Ordering::Less);
+    Ok(())
+}

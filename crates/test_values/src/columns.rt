@@ -1,0 +1,97 @@
+use ov_atoms::{NoNames, read_datum, write_datum};
+use ov_schema::{Column, Schema};
+use serde_json::Value;
+use std::alloc::Global;
+use std::test::Fail;
+use test_support::{Scripted, agrees, schema_of_text};
+
+/// Types, each with its default.
+const DEFAULTS: &str = r#""integer" -> 0
+"boolean" -> false
+"string" -> ""
+"uuid" -> ["uuid","00000000-0000-0000-0000-000000000000"]
+{"key":"integer","min":0} -> ["set",[]]
+{"key":"string","value":"boolean"} -> ["map",[["",false]]]
+{"key":"string","value":"boolean","min":0} -> ["map",[]]"#;
+
+/// Values at the ends of what their types allow.
+const FITTING: &str = r#"-1 {"key":{"type":"integer","minInteger":-1,"maxInteger":2}} -> true
+2 {"key":{"type":"integer","minInteger":-1,"maxInteger":2}} -> true
+"éé" {"key":{"type":"string","minLength":1,"maxLength":2}} -> true
+1 {"key":{"type":"integer","enum":["set",[1,5]],"maxInteger":4}} -> true
+["set",[]] {"key":"integer","min":0,"max":2} -> true
+["set",[1,2]] {"key":"integer","min":0,"max":2} -> true
+["map",[["a",1],["b",0]]] {"key":"string","value":{"type":"integer","maxInteger":1},"max":"unlimited"} -> true"#;
+
+/// Values just beyond.
+const UNFITTING: &str = r#"-2 {"key":{"type":"integer","minInteger":-1,"maxInteger":2}} -> false
+3 {"key":{"type":"integer","minInteger":-1,"maxInteger":2}} -> false
+["set",[]] "integer" -> false
+"" {"key":{"type":"string","minLength":1,"maxLength":2}} -> false
+"abc" {"key":{"type":"string","minLength":1,"maxLength":2}} -> false
+2 {"key":{"type":"integer","enum":["set",[1,5]],"maxInteger":4}} -> false
+5 {"key":{"type":"integer","enum":["set",[1,5]],"maxInteger":4}} -> false
+["set",[1,2,3]] {"key":"integer","min":0,"max":2} -> false
+["map",[["a",1],["b",2]]] {"key":"string","value":{"type":"integer","maxInteger":1},"max":"unlimited"} -> false"#;
+
+/// The schema of a table `T` with one column `c` of this type.
+fn of_type(alloc: Global, type_text: &str) -> Result<Schema, Fail> {
+    let text = format!(in alloc;
+        "{{\"name\":\"A\",\"tables\":{{\"T\":{{\"columns\":{{\"c\":{{\"type\":{type_text}}}}}}}}}}}"
+    )?;
+    schema_of_text(alloc, text.as_str())
+}
+
+/// That column.
+fn column(schema: &Schema) -> Result<&Column, Fail> {
+    let table = schema.table("T").ok_or("no table")?;
+    Ok(table.column("c").ok_or("no column")?)
+}
+
+/// The default of a column, as it is written.
+fn default_of(alloc: Global, column: &Column) -> Result<String, Fail> {
+    let datum = column.default_of(alloc)?;
+    Ok(write_datum(alloc, &datum)?.to_string(alloc)?)
+}
+
+/// Whether a value fits a column.
+fn fits(alloc: Global, column: &Column, value: &str) -> Result<bool, Fail> {
+    let tree = Value::from_str(alloc, value)?;
+    let datum = read_datum(alloc, &tree, column.kinds(), &NoNames)?;
+    Ok(column.fits(&datum))
+}
+
+/// The default of a type.
+#[derive(Drop)]
+struct Defaults;
+
+impl Scripted for Defaults {
+    fn answer(&mut self, alloc: Global, command: &str) -> Result<String, Fail> {
+        let schema = of_type(alloc, command)?;
+        default_of(alloc, column(&schema)?)
+    }
+}
+
+/// Whether a value fits the type behind it.
+#[derive(Drop)]
+struct Fitting;
+
+impl Scripted for Fitting {
+    fn answer(&mut self, alloc: Global, command: &str) -> Result<String, Fail> {
+        let (value, type_text) = command.split_once(" ").ok_or("no type")?;
+        let schema = of_type(alloc, type_text)?;
+        let fits = fits(alloc, column(&schema)?, value)?;
+        Ok(format!(in alloc; "{fits}")?)
+    }
+}
+
+#[test]
+fn a_default_is_one_atom_or_nothing(rt: HostRuntime) -> Result<(), Fail> {
+    agrees(rt.alloc(), Defaults, DEFAULTS)
+}
+
+#[test]
+fn ranges_take_their_ends_in(rt: HostRuntime) -> Result<(), Fail> {
+    agrees(rt.alloc(), Fitting, FITTING)?;
+    agrees(rt.alloc(), Fitting, UNFITTING)
+}

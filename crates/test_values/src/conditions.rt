@@ -1,0 +1,199 @@
+use crate::shapes::{shapes, value_of};
+use ov_atoms::NoNames;
+use ov_conds::{Condition, ConditionFault, RowView};
+use ov_rows::Columns;
+use ov_schema::{Schema, Table};
+use serde_json::Value;
+use std::alloc::Global;
+use std::test::Fail;
+use test_support::{Scripted, agrees};
+use uuid::Uuid;
+
+/// Numbers stand in their order, and one is a set of one.
+const NUMBERS: &str = r#"{"load":6} ["load","<",7] -> true
+{"load":6} ["load","<",6] -> false
+{"load":6} ["load","<=",6] -> true
+{"load":6} ["load","<=",5] -> false
+{"load":6} ["load",">",5] -> true
+{"load":6} ["load",">",6] -> false
+{"load":6} ["load",">=",6] -> true
+{"load":6} ["load",">=",7] -> false
+{"load":6} ["load","==",6] -> true
+{"load":6} ["load","!=",6] -> false
+{"load":6} ["load","!=",7] -> true
+{"load":6} ["load","includes",6] -> true
+{"load":6} ["load","excludes",6] -> false
+{"load":6} ["load","excludes",7] -> true
+{"load":6} ["load","==",["set",[6,6]]] -> true
+{"load":-9223372036854775808} ["load","<",9223372036854775807] -> true
+{"load":9223372036854775807} ["load",">",-9223372036854775808] -> true
+{"load":-1} ["load","<",0] -> true"#;
+
+/// Sets are equal as wholes, include what they have, and exclude what they lack.
+const SETS: &str = r#"{"tags":["set",[1,2]]} ["tags","includes",1] -> true
+{"tags":["set",[1,2]]} ["tags","includes",["set",[]]] -> true
+{"tags":["set",[1,2]]} ["tags","includes",["set",[2,3]]] -> false
+{"tags":["set",[1,2]]} ["tags","includes",["set",[2,1]]] -> true
+{"tags":["set",[1,2]]} ["tags","excludes",["set",[2,3]]] -> false
+{"tags":["set",[1,2]]} ["tags","excludes",["set",[0,3]]] -> true
+{"tags":["set",[1,2]]} ["tags","excludes",["set",[]]] -> true
+{"tags":["set",[]]} ["tags","excludes",1] -> true
+{"tags":["set",[]]} ["tags","includes",["set",[]]] -> true
+{"tags":["set",[]]} ["tags","includes",1] -> false
+{"tags":["set",[1,2]]} ["tags","==",["set",[2,1,2]]] -> true
+{"tags":["set",[1,2]]} ["tags","==",1] -> false
+{"tags":["set",[1,2]]} ["tags","!=",["set",[1,2,3]]] -> true
+{"tag":["set",[]]} ["tag","==",["set",[]]] -> true
+{"tag":7} ["tag","includes",["set",[7,8]]] -> false
+{"names":["set",["a","b"]]} ["names","includes","b"] -> true
+{"flags":["set",[true,false]]} ["flags","==",["set",[false,true]]] -> true
+{"peers":["set",[]]} ["peers","!=",["set",[]]] -> false"#;
+
+/// A pair is in a map with its value alone.
+const MAPS: &str =
+    r#"{"counts":["map",[["a",1],["b",2]]]} ["counts","includes",["map",[["a",1]]]] -> true
+{"counts":["map",[["a",1],["b",2]]]} ["counts","includes",["map",[["a",2]]]] -> false
+{"counts":["map",[["a",1],["b",2]]]} ["counts","includes",["map",[["b",2],["a",1]]]] -> true
+{"counts":["map",[["a",1],["b",2]]]} ["counts","includes",["map",[]]] -> true
+{"counts":["map",[["a",1],["b",2]]]} ["counts","excludes",["map",[["a",2]]]] -> true
+{"counts":["map",[["a",1],["b",2]]]} ["counts","excludes",["map",[["a",2],["b",2]]]] -> false
+{"counts":["map",[["a",1],["b",2]]]} ["counts","excludes",["map",[["c",1]]]] -> true
+{"counts":["map",[["a",1]]]} ["counts","==",["map",[["a",1]]]] -> true
+{"counts":["map",[["a",1]]]} ["counts","==",["map",[["a",2]]]] -> false
+{"counts":["map",[["a",1]]]} ["counts","!=",["map",[]]] -> true"#;
+
+/// Texts, truth values and identifiers, and the columns that each row has.
+const OTHERS: &str = r#"{"name":"a"} ["name","==","a"] -> true
+{"name":"a"} ["name","!=","a"] -> false
+{"name":"a"} ["name","includes","a"] -> true
+{"name":"a"} ["name","excludes","b"] -> true
+{"flag":true} ["flag","==",true] -> true
+{"flag":true} ["flag","!=",false] -> true
+{"flag":true} ["flag","excludes",true] -> false
+{"peer":["uuid","00000000-0000-4000-8000-0000000000ab"]} ["peer","==",["uuid","00000000-0000-4000-8000-0000000000AB"]] -> true
+{"peers":["set",[["uuid","00000000-0000-4000-8000-0000000000ab"]]]} ["peers","includes",["uuid","00000000-0000-4000-8000-0000000000ab"]] -> true
+{} ["_uuid","==",["uuid","00000000-0000-4000-8000-000000000001"]] -> true
+{} ["_uuid","==",["uuid","00000000-0000-4000-8000-000000000002"]] -> false
+{} ["_uuid","excludes",["uuid","00000000-0000-4000-8000-000000000002"]] -> true
+{} ["_version","==",["uuid","00000000-0000-4000-8000-000000000002"]] -> true
+{} ["_version","!=",["uuid","00000000-0000-4000-8000-000000000001"]] -> true
+{} ["_version","includes",["uuid","00000000-0000-4000-8000-000000000001"]] -> false"#;
+
+/// A condition is refused by its shape, its column, its function and its value, in this order.
+const REFUSED: &str = r#"{} {} -> syntax
+{} [] -> syntax
+{} ["load","=="] -> syntax
+{} ["load","==",1,1] -> syntax
+{} [1,"==",1] -> syntax
+{} ["nowhere",1,1] -> syntax
+{} ["nowhere","===",1] -> column
+{} ["load","===","a"] -> syntax
+{} ["name","<","a"] -> syntax
+{} ["flag",">=",true] -> syntax
+{} ["tag","<",5] -> syntax
+{} ["tags",">",5] -> syntax
+{} ["counts","<=",["map",[]]] -> syntax
+{} ["_uuid",">",["uuid","00000000-0000-4000-8000-000000000001"]] -> syntax
+{} ["load","==","a"] -> syntax
+{} ["load","==",["set",[5,6]]] -> syntax
+{} ["load","==",["set",[]]] -> syntax
+{} ["_uuid","==",["set",[]]] -> syntax
+{} ["load","==",9223372036854775808] -> syntax
+{} ["peer","==",["named-uuid","a"]] -> syntax
+{} ["counts","==",["map",[["a",1],["a",2]]]] -> clash
+{} ["counts","==",["map",[["a",1],["a",2],[1,1]]]] -> syntax
+{} ["counts","<",["map",[["a",1],["a",2]]]] -> syntax
+{"digits":1} ["digits","==",["set",[1,2,3,4,99]]] -> false
+{"digit":1} ["digit","<",99] -> true"#;
+
+/// Puts the value that a tree gives to a column among those of a row.
+fn put(
+    alloc: Global,
+    table: &Table,
+    columns: &mut Columns,
+    name: &str,
+    tree: &Value,
+) -> Result<(), Fail> {
+    let datum = value_of(alloc, table, name, tree)?;
+    Ok(columns.insert(String::from_str(alloc, name)?, datum)?)
+}
+
+/// The values of a row.
+fn columns_of(alloc: Global, table: &Table, row: &str) -> Result<Columns, Fail> {
+    let row = Value::from_str(alloc, row)?;
+    let mut columns = Columns::new(alloc);
+    for (name, tree) in row.as_object().ok_or("no object")? {
+        put(alloc, table, &mut columns, name.as_str(), tree)?;
+    }
+    Ok(columns)
+}
+
+/// Whether a row with these values meets the condition, or the word of its refusal.
+fn judged(alloc: Global, table: &Table, columns: &Columns, tree: &Value) -> &'static str {
+    let row = RowView {
+        id: Uuid::from_u128(0x4000_8000_0000_0000_0001),
+        version: Uuid::from_u128(0x4000_8000_0000_0000_0002),
+        columns,
+    };
+    match Condition::read(alloc, table, tree, &NoNames) {
+        Ok(condition) => {
+            if condition.holds(&row) {
+                "true"
+            } else {
+                "false"
+            }
+        }
+        Err(ConditionFault::Syntax) => "syntax",
+        Err(ConditionFault::UnknownColumn) => "column",
+        Err(ConditionFault::Clash) => "clash",
+        Err(ConditionFault::Memory) => "memory",
+    }
+}
+
+/// The commands are a row and a condition behind it.
+#[derive(Drop)]
+struct Conditions {
+    schema: Schema,
+}
+
+impl Scripted for Conditions {
+    fn answer(&mut self, alloc: Global, command: &str) -> Result<String, Fail> {
+        let (row, condition) = command.split_once(" ").ok_or("no condition")?;
+        let table = self.schema.table("Port").ok_or("no table")?;
+        let condition = Value::from_str(alloc, condition)?;
+        let columns = columns_of(alloc, table, row)?;
+        let word = judged(alloc, table, &columns, &condition);
+        Ok(String::from_str(alloc, word)?)
+    }
+}
+
+/// The conditions hold or are refused as they say.
+fn are_judged(alloc: Global, script: &str) -> Result<(), Fail> {
+    let schema = shapes(alloc)?;
+    agrees(alloc, Conditions { schema }, script)
+}
+
+#[test]
+fn numbers_stand_in_their_order(rt: HostRuntime) -> Result<(), Fail> {
+    are_judged(rt.alloc(), NUMBERS)
+}
+
+#[test]
+fn sets_are_compared(rt: HostRuntime) -> Result<(), Fail> {
+    are_judged(rt.alloc(), SETS)
+}
+
+#[test]
+fn maps_are_compared(rt: HostRuntime) -> Result<(), Fail> {
+    are_judged(rt.alloc(), MAPS)
+}
+
+#[test]
+fn other_columns_are_compared(rt: HostRuntime) -> Result<(), Fail> {
+    are_judged(rt.alloc(), OTHERS)
+}
+
+#[test]
+fn conditions_are_refused_in_order(rt: HostRuntime) -> Result<(), Fail> {
+    are_judged(rt.alloc(), REFUSED)
+}

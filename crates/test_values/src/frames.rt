@@ -1,0 +1,70 @@
+use ov_base::{Bytes, Tree, Trees};
+use ov_rpc::{failure, note, reply};
+use std::alloc::Global;
+use std::test::Fail;
+use test_support::{Scripted, agrees, tree};
+
+/// Each frame is these bytes.
+const FRAMES: &str =
+    r#"reply [7,{"z":-1,"a":true}] ["OVN_Northbound"] -> {"error":null,"id":[7,{"a":true,"z":-1}],"result":["OVN_Northbound"]}
+failure "x" unknown method -> {"error":"unknown method","id":"x","result":null}
+note echo -> {"id":null,"method":"echo","params":[]}"#;
+
+fn text_of(frame: Bytes) -> Result<String, Fail> {
+    Ok(String::from_utf8(frame.into_vec())?)
+}
+
+fn reply_of(alloc: Global, id: Tree, outcome: &str) -> Result<String, Fail> {
+    let outcome = tree(alloc, outcome)?;
+    text_of(reply(alloc, id, outcome)?)
+}
+
+/// The commands are `reply ID RESULT`, `failure ID ERROR`, and `note METHOD` without params.
+#[derive(Drop)]
+struct Frames;
+
+impl Scripted for Frames {
+    fn answer(&mut self, alloc: Global, command: &str) -> Result<String, Fail> {
+        let (kind, rest) = command.split_once(" ").ok_or("no kind")?;
+        if kind == "note" {
+            return text_of(note(alloc, rest, Trees::new(Vec::new(alloc)))?);
+        }
+        let (id, rest) = rest.split_once(" ").ok_or("no id")?;
+        if kind == "reply" {
+            return reply_of(alloc, tree(alloc, id)?, rest);
+        }
+        text_of(failure(alloc, tree(alloc, id)?, rest)?)
+    }
+}
+
+#[test]
+fn each_frame_is_these_bytes(rt: HostRuntime) -> Result<(), Fail> {
+    agrees(rt.alloc(), Frames, FRAMES)
+}
+
+/// The frame that tells nobody of this error.
+fn failed(alloc: Global, error: &str) -> Result<String, Fail> {
+    text_of(failure(alloc, tree(alloc, "null")?, error)?)
+}
+
+#[test]
+fn texts_are_printed_with_these_escapes(rt: HostRuntime) -> Result<(), Fail> {
+    for (text, want) in [
+        ("\u{8}\t\n\u{c}\r\"\\", "\\b\\t\\n\\f\\r\\\"\\\\"),
+        (
+            "\u{0}\u{1}\u{7}\u{b}\u{e}\u{f}",
+            "\\u0000\\u0001\\u0007\\u000b\\u000e\\u000f",
+        ),
+        ("\u{10}\u{1a}\u{1b}\u{1f}", "\\u0010\\u001a\\u001b\\u001f"),
+        (" /'<>&\u{7f}", " /'<>&\u{7f}"),
+        (
+            "\u{80}\u{e9}\u{20ac}\u{2028}\u{feff}\u{1f600}",
+            "\u{80}\u{e9}\u{20ac}\u{2028}\u{feff}\u{1f600}",
+        ),
+    ] {
+        let frame = failed(rt.alloc(), text)?;
+        let want = format!(in rt.alloc(); "{{\"error\":\"{want}\",\"id\":null,\"result\":null}}")?;
+        assert_eq!(rt; frame.as_str(), want.as_str(), "at {want}");
+    }
+    Ok(())
+}

@@ -1,0 +1,28 @@
+//! Tests of what is told by the arguments alone: the words of the program, cuts, messages and frames, trees, values, schemas,
+//! conditions and mutations.
+#![tactic(auto)]
+
+#[cfg(test)]
+mod atoms;
+#[cfg(test)]
+mod columns;
+#[cfg(test)]
+mod conditions;
+#[cfg(test)]
+mod cuts;
+#[cfg(test)]
+mod frames;
+#[cfg(test)]
+mod messages;
+#[cfg(test)]
+mod mutations;
+#[cfg(test)]
+mod schema_files;
+#[cfg(test)]
+mod schemas;
+#[cfg(test)]
+mod shapes;
+#[cfg(test)]
+mod small_types;
+#[cfg(test)]
+mod words;

@@ -1,0 +1,280 @@
+use ov_base::{Text, Trees};
+use ov_rpc::{BadKind, Message, RpcFault, reply};
+use std::alloc::{AllocError, Global};
+use std::test::Fail;
+use test_support::{Scripted, agrees, compact};
+
+/// An id of any kind but null makes a call.
+const IDS: &str = r#"0 -> call 0 m []
+-7 -> call -7 m []
+9223372036854775807 -> call 9223372036854775807 m []
+-9223372036854775808 -> call -9223372036854775808 m []
+"a" -> call "a" m []
+"" -> call "" m []
+true -> call true m []
+false -> call false m []
+[1, "b"] -> call [1,"b"] m []
+{"b": 2, "a": [null]} -> call {"a":[null],"b":2} m []
+null -> note m []"#;
+
+/// A number in an id is an integer of 64 bits.
+const NUMBERS_OF_IDS: &str = r#"1.5 -> unreadable
+1.0 -> unreadable
+1e3 -> unreadable
+-0 -> unreadable
+9223372036854775808 -> unreadable
+-9223372036854775809 -> unreadable
+[0, 0.5] -> unreadable
+{"a": {"b": 1e0}} -> unreadable"#;
+
+/// An escaped quote; no id; an escaped name and a pair of surrogates.
+const MEMBERS: &str = r#"{"id":0,"method":"echo","params":["a\"b}"]} -> call 0 echo ["a\"b}"]
+{"method":"m","params":[1]} -> note m [1]
+{"\u0069d":1,"method":"\ud83d\ude00","params":[]} -> call 1 😀 []"#;
+
+/// The last of several members of one name counts.
+const REPEATED: &str =
+    r#"{"id":1.5,"method":7,"params":{},"id":2,"method":"m","params":[]} -> call 2 m []
+{"id":2,"method":"m","params":[],"id":null} -> note m []"#;
+
+/// A request that is built wrong is told to who asked. A method that is null is there, so a result beside it makes no answer.
+/// Of the last four nobody asked.
+const BUILT_WRONG: &str = r#"{"id":1,"params":[]} -> bad 1 syntax
+{"id":1,"method":"m"} -> bad 1 syntax
+{"id":1,"method":7,"params":[]} -> bad 1 syntax
+{"id":["a"],"method":"m","params":{}} -> bad ["a"] syntax
+{"id":1,"method":null,"params":[],"result":0} -> bad 1 syntax
+{"method":7,"params":[]} -> answer
+{"id":null,"method":"m","params":null} -> answer
+{} -> answer
+[] -> answer"#;
+
+/// A result or an error without a method is an answer.
+const ANSWERS: &str = r#"{"id":1,"result":[],"error":null} -> answer
+{"error":"x"} -> answer
+{"id":1,"result":null,"params":[]} -> answer"#;
+
+/// A real outside the id is told to who asked, also where the text is built wrong, or is an answer. A later member of the same
+/// name replaces it.
+const REALS: &str = r#"{"id":1,"method":"m","params":[0.5]} -> bad 1 reals
+{"id":1,"method":"m","params":[{"a":[-0]}]} -> bad 1 reals
+{"id":1,"method":"m","params":[9223372036854775808]} -> bad 1 reals
+{"id":"a","method":"m","params":[],"x":1e0} -> bad "a" reals
+{"id":1,"params":0.5} -> bad 1 reals
+{"id":1,"result":0.5} -> bad 1 reals
+{"method":"m","params":[0.5]} -> answer
+{"id":null,"method":"m","params":[0.5]} -> answer
+[0.5] -> answer
+{"id":1,"method":"m","params":[0.5],"params":[]} -> call 1 m []"#;
+
+/// A text that is no JSON: nothing, a number that no value is read of, more behind it, a comma too many, surrogates that stand
+/// alone.
+const NO_JSON: &str = r#" -> unreadable
+{"id":1,"method":"m","params":[1e999]} -> unreadable
+{"id":1,"method":"m","params":[]}{} -> unreadable
+{"id":1,"method":"m","params":[],} -> unreadable
+{"id":1,"method":"m","params":["\ud800"]} -> unreadable
+{"id":1,"method":"m","params":["\udc00\ud800"]} -> unreadable"#;
+
+/// The message of a text in words: `call ID METHOD PARAMS`, `note METHOD PARAMS`, `answer`, `bad ID KIND` or `unreadable`.
+fn words(alloc: Global, text: &[u8]) -> Result<String, Fail> {
+    match Message::read(alloc, text) {
+        Ok(message) => words_of(alloc, &message),
+        Err(RpcFault::Unreadable) => Ok(String::from_str(alloc, "unreadable")?),
+        Err(RpcFault::Memory) => Err(Fail::new("out of memory")),
+    }
+}
+
+fn words_of(alloc: Global, message: &Message) -> Result<String, Fail> {
+    match message {
+        Message::Call { id, method, params } => {
+            let id = compact(alloc, id)?;
+            let request = request(alloc, method, params)?;
+            Ok(format!(in alloc; "call {id} {request}")?)
+        }
+        Message::Note { method, params } => {
+            let request = request(alloc, method, params)?;
+            Ok(format!(in alloc; "note {request}")?)
+        }
+        Message::Answer => Ok(String::from_str(alloc, "answer")?),
+        Message::Bad { id, kind } => {
+            let id = compact(alloc, id)?;
+            let kind = match kind {
+                BadKind::Syntax => "syntax",
+                BadKind::Reals => "reals",
+            };
+            Ok(format!(in alloc; "bad {id} {kind}")?)
+        }
+    }
+}
+
+fn request(alloc: Global, method: &Text, params: &Trees) -> Result<String, Fail> {
+    let params = compact(alloc, &params.copy_as_tree(alloc)?)?;
+    let method = method.as_str();
+    Ok(format!(in alloc; "{method} {params}")?)
+}
+
+/// The commands are texts of messages, or ids of calls.
+#[derive(Drop)]
+struct Messages {
+    are_ids: bool,
+}
+
+impl Scripted for Messages {
+    fn answer(&mut self, alloc: Global, command: &str) -> Result<String, Fail> {
+        if !self.are_ids {
+            return words(alloc, command.as_bytes());
+        }
+        let text = format!(in alloc; "{{\"id\":{command},\"method\":\"m\",\"params\":[]}}")?;
+        words(alloc, text.as_bytes())
+    }
+}
+
+/// Each text is the message of its words.
+fn are_read(rt: &HostRuntime, script: &str) -> Result<(), Fail> {
+    agrees(rt.alloc(), Messages { are_ids: false }, script)
+}
+
+#[test]
+fn an_id_of_any_kind_but_null_makes_a_call(rt: HostRuntime) -> Result<(), Fail> {
+    agrees(rt.alloc(), Messages { are_ids: true }, IDS)
+}
+
+#[test]
+fn a_number_in_an_id_is_an_integer_of_64_bits(rt: HostRuntime) -> Result<(), Fail> {
+    agrees(rt.alloc(), Messages { are_ids: true }, NUMBERS_OF_IDS)
+}
+
+#[test]
+fn a_text_is_read_as_its_members_say(rt: HostRuntime) -> Result<(), Fail> {
+    are_read(&rt, MEMBERS)
+}
+
+#[test]
+fn white_space_and_order_and_unknown_members_mean_nothing(rt: HostRuntime) -> Result<(), Fail> {
+    let text =
+        b" {\n\t\"params\" : [ ] ,\r \"x\" : {} , \"method\" : \"m\" , \"id\" : 1 } ".as_slice();
+    assert_eq!(rt; words(rt.alloc(), text)?.as_str(), "call 1 m []");
+    Ok(())
+}
+
+#[test]
+fn the_last_of_several_members_of_one_name_counts(rt: HostRuntime) -> Result<(), Fail> {
+    are_read(&rt, REPEATED)
+}
+
+#[test]
+fn a_request_that_is_built_wrong_is_told_to_who_asked(rt: HostRuntime) -> Result<(), Fail> {
+    are_read(&rt, BUILT_WRONG)
+}
+
+#[test]
+fn a_result_or_an_error_without_a_method_is_an_answer(rt: HostRuntime) -> Result<(), Fail> {
+    are_read(&rt, ANSWERS)
+}
+
+#[test]
+fn a_real_outside_the_id_is_told_to_who_asked(rt: HostRuntime) -> Result<(), Fail> {
+    are_read(&rt, REALS)
+}
+
+#[test]
+fn a_text_that_is_no_json_is_unreadable(rt: HostRuntime) -> Result<(), Fail> {
+    are_read(&rt, NO_JSON)
+}
+
+/// A text with these bytes in a literal.
+fn text_with(alloc: Global, inside: &[u8]) -> Result<Vec<u8>, AllocError> {
+    let mut text = Vec::from_slice(alloc, b"{\"id\":1,\"method\":\"m\",\"params\":[\"")?;
+    text.extend_from_slice(inside)?;
+    text.extend_from_slice(b"\"]}")?;
+    Ok(text)
+}
+
+#[test]
+fn a_text_that_is_not_utf8_is_unreadable(rt: HostRuntime) -> Result<(), Fail> {
+    for inside in [
+        b"\xff".as_slice(),
+        b"\xc0\x80",
+        b"\xed\xa0\x80",
+        b"\xf4\x90\x80\x80",
+        b"\xe2\x82",
+    ] {
+        let text = text_with(rt.alloc(), inside)?;
+        assert_eq!(rt;
+            words(rt.alloc(), &text)?.as_str(),
+            "unreadable",
+            "at {inside:?}"
+        );
+    }
+    Ok(())
+}
+
+/// A call whose first parameter goes this many levels deep: each level is `open`, and then come as many of `close`.
+fn deep_call(alloc: Global, levels: u32, open: &[u8], close: &[u8]) -> Result<Vec<u8>, AllocError> {
+    let mut text = Vec::from_slice(alloc, b"{\"id\":1,\"method\":\"m\",\"params\":[")?;
+    for _ in 0..levels {
+        text.extend_from_slice(open)?;
+    }
+    text.extend_from_slice(b"1")?;
+    for _ in 0..levels {
+        text.extend_from_slice(close)?;
+    }
+    text.extend_from_slice(b"]}")?;
+    Ok(text)
+}
+
+/// Whether such a call is read.
+fn is_deep_call_read(alloc: Global, levels: u32, open: &[u8], close: &[u8]) -> Result<bool, Fail> {
+    let text = deep_call(alloc, levels, open, close)?;
+    Ok(words(alloc, &text)?.as_str() != "unreadable")
+}
+
+#[test]
+fn nesting_ends_at_127_levels_with_the_message_and_its_params(rt: HostRuntime) -> Result<(), Fail> {
+    for (open, close) in [(b"[".as_slice(), b"]".as_slice()), (b"{\"a\":", b"}")] {
+        for (levels, want) in [(1, true), (125, true), (126, false), (5000, false)] {
+            let is_read = is_deep_call_read(rt.alloc(), levels, open, close)?;
+            assert_eq!(rt; is_read, want, "at {levels} levels of {open:?}");
+        }
+    }
+    Ok(())
+}
+
+/// A call of a mebibyte.
+fn long_call(alloc: Global) -> Result<Vec<u8>, AllocError> {
+    let mut text = Vec::from_slice(alloc, b"{\"id\":1,\"method\":\"echo\",\"params\":[0")?;
+    for _ in 0..349_513 {
+        text.extend_from_slice(b",12")?;
+    }
+    text.extend_from_slice(b"]}")?;
+    Ok(text)
+}
+
+/// How many bytes the echo of a call has.
+fn length_of_echo(alloc: Global, text: &[u8]) -> Result<usize, Fail> {
+    let Message::Call { id, params, .. } = Message::read(alloc, text)? else {
+        return Err(Fail::new("no call"));
+    };
+    let frame = reply(alloc, id, params.into_tree())?;
+    Ok(frame.as_slice().len())
+}
+
+#[test]
+fn a_call_of_a_mebibyte_is_echoed(rt: HostRuntime) -> Result<(), Fail> {
+    let text = long_call(rt.alloc())?;
+    assert_eq!(rt; text.len(), 1_048_576);
+    assert_eq!(rt; length_of_echo(rt.alloc(), &text)?, 1_048_573);
+    Ok(())
+}
+
+#[test]
+fn a_fault_is_told_in_words(rt: HostRuntime) -> Result<(), Fail> {
+    for (fault, want) in [
+        (RpcFault::Unreadable, "the text is no message"),
+        (RpcFault::Memory, "out of memory"),
+    ] {
+        assert_eq!(rt; format!(in rt.alloc(); "{fault}")?.as_str(), want);
+    }
+    Ok(())
+}
