@@ -1,8 +1,8 @@
 ghost use Rattle.std.specs.Prelude.{◌≡◌, false};
 ghost use Rattle.serde_json.specs.View.{view};
-ghost use Rattle.ov_specs.specs.Tree.{has_real};
+ghost use Rattle.ov_specs.specs.wire.Tree.{has_real};
 
-use crate::{Bytes, Text, Told, Tree, Trees, has_real};
+use crate::{ByteTrace, Bytes, Text, Tree, Trees, has_real};
 use serde_json::{Value, json};
 use std::test::Fail;
 
@@ -104,8 +104,8 @@ fn trees_are_copied_from_a_slice(rt: HostRuntime) -> Result<(), Fail> {
 
 #[test]
 fn a_tape_takes_no_room(rt: HostRuntime) {
-    let mut told = Told::new();
+    let mut told = ByteTrace::new();
     told.add(b"ab");
     told.add(b"");
-    assert_eq!(rt; size_of::<Told>(), 0);
+    assert_eq!(rt; size_of::<ByteTrace>(), 0);
 }

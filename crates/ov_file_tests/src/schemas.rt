@@ -1,5 +1,4 @@
-use ov_schema::{SchemaFileFault, schema_from, schema_of, text_of};
-use ov_schema::Schema;
+use ov_schema::{Schema, SchemaFileFault, schema_from, schema_of, text_of};
 use std::alloc::Global;
 use std::io;
 use std::io::Read;

@@ -1,7 +1,6 @@
 use ov_base::Text;
 use ov_keeper::KeepFault;
-use ov_store::{store_in_memory, store_over};
-use ov_store::Store;
+use ov_store::{Store, store_in_memory, store_over};
 use sqlite::{Alter, Connection};
 use std::alloc::Global;
 use std::test::Fail;

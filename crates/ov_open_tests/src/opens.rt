@@ -1,13 +1,12 @@
 ghost use Rattle.std.specs.Prelude.{◌≡◌, IfOk, false};
 ghost use Rattle.serde_json.specs.View.{view};
-ghost use Rattle.ov_specs.specs.Tree.{has_real};
+ghost use Rattle.ov_specs.specs.wire.Tree.{has_real};
 
 use ov_atoms::{Atom, Datum};
 use ov_base::{Bytes, Text, Tree, has_real};
-use ov_rows::{Columns, Row, RowKey, Rows};
-use ov_db::{Db, Delta};
+use ov_db::{Db, Delta, OpenFault};
 use ov_keeper::{Change, Keeper, Line, ListKeeper};
-use ov_db::OpenFault;
+use ov_rows::{Columns, Row, RowKey, Rows};
 use ov_schema::Schema;
 use serde_json::Value;
 use std::alloc::Global;

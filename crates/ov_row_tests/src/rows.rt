@@ -1,9 +1,9 @@
 use crate::transactions::value;
 use ov_atoms::{Atom, Datum};
 use ov_base::{Text, Tree};
-use ov_rows::{Columns, Row, RowKey, Rows};
 use ov_db::{Db, Delta, StoreAnswer};
 use ov_keeper::{Keeper, ListKeeper};
+use ov_rows::{Columns, Row, RowKey, Rows};
 use ov_schema::Schema;
 use std::alloc::{AllocError, Global};
 use std::test::Fail;

@@ -1,13 +1,12 @@
 ghost use Rattle.std.specs.Prelude.{◌≡◌, IfOk, false};
 ghost use Rattle.serde_json.specs.View.{view};
-ghost use Rattle.ov_specs.specs.Tree.{has_real};
+ghost use Rattle.ov_specs.specs.wire.Tree.{has_real};
 
 use crate::rows::add;
 use ov_base::{Tree, Trees, has_real};
 use ov_rows::Rows;
-use ov_txn::Draws;
 use ov_schema::Schema;
-use ov_txn::{draws_for, exhausted, failed, perform};
+use ov_txn::{Draws, draws_for, exhausted, failed, perform};
 use serde_json::Value;
 use std::alloc::{AllocError, Global};
 use std::test::Fail;

@@ -1,9 +1,9 @@
 use crate::bench::{Bench, created, opened};
 use ov_store::open_in_memory;
-use test_support::FailingKeeper;
 use sqlite::{Alter, Connection, Options};
 use std::alloc::Global;
 use std::test::Fail;
+use test_support::FailingKeeper;
 
 /// Lines that are put, put again, and removed.
 const TWO_COMMITS: &str = "put Switch 1 one

@@ -1,9 +1,9 @@
-use ov_words::{Ending, line_of, status_of};
+use ov_words::{Ending, error_line_of, status_of};
 
 /// Each ending has its status, and its line where the status is not 0.
 #[test]
 fn tells_each_ending(rt: HostRuntime) {
-    assert!(rt; status_of(Ending::InputEnded) == 0 && line_of(Ending::InputEnded).is_none());
+    assert!(rt; status_of(Ending::InputEnded) == 0 && error_line_of(Ending::InputEnded).is_none());
     let rows = [
         (Ending::Arguments, 2, "ov_server: arguments"),
         (Ending::Schema, 3, "ov_server: schema"),
@@ -12,6 +12,6 @@ fn tells_each_ending(rt: HostRuntime) {
         (Ending::Memory, 6, "ov_server: memory"),
     ];
     for (ending, status, line) in rows.as_slice() {
-        assert!(rt; status_of(*ending) == *status && line_of(*ending) == Some(*line));
+        assert!(rt; status_of(*ending) == *status && error_line_of(*ending) == Some(*line));
     }
 }
