@@ -2,7 +2,6 @@ ghost use Rattle.std.specs.Prelude.{◌≡◌, ◌∷◌, [], T, IfOk, option_ma
 ghost use Rattle.std.specs.Bool.{OnTrue};
 ghost use Rattle.std.specs.FinMap.{is_sorted};
 ghost use Rattle.ov_specs.specs.values.Value as value;
-ghost use Rattle.ov_specs.specs.codes.ValueCode as value_codes;
 ghost use Rattle.ov_specs.specs.values.Reading.{has_clash};
 ghost use Rattle.ov_atoms.specs.Views.{atom_view, kinds_view, atoms_view, pairs_view};
 
@@ -27,12 +26,13 @@ pub(crate) enum SortedElements {
 }
 
 impl Model for Datum {
+    ghost use Rattle.ov_specs.specs.codes.ValueCode.{datum_code};
     ghost use Rattle.ov_specs.specs.values.Value as value;
     ghost use Rattle.ov_atoms.specs.Views.{sorted_view, IsAscending};
 
     ghost Value = { value.Datum };
 
-    ghost coded = { value_codes.datum_code };
+    ghost coded = { datum_code };
 
     ghost view = { λ d. sorted_view d.parts };
 

@@ -29,12 +29,12 @@ pub struct Condition {
 
 impl Model for Condition {
     ghost use Rattle.ov_specs.specs.operations.Conditions as conditions;
-    ghost use Rattle.ov_specs.specs.codes.ConditionCode as condition_codes;
+    ghost use Rattle.ov_specs.specs.codes.ConditionCode.{condition_code};
     ghost use Rattle.ov_conds.specs.Views.{function_view};
 
     ghost Value = { conditions.Condition };
 
-    ghost coded = { condition_codes.condition_code };
+    ghost coded = { condition_code };
 
     ghost view = { λ c. record { column = c.column; function = function_view c.function; value = c.value } };
 }

@@ -23,12 +23,12 @@ pub struct Mutation {
 
 impl Model for Mutation {
     ghost use Rattle.ov_specs.specs.operations.Mutators as mutators;
-    ghost use Rattle.ov_specs.specs.codes.MutationCode as mutation_codes;
+    ghost use Rattle.ov_specs.specs.codes.MutationCode.{mutation_code};
     ghost use Rattle.ov_mutate.specs.Views.{value_change_view};
 
     ghost Value = { mutators.Mutation };
 
-    ghost coded = { mutation_codes.mutation_code };
+    ghost coded = { mutation_code };
 
     ghost view = { λ m. record { column = m.column; change = value_change_view m.change } };
 }

@@ -26,11 +26,11 @@ pub(crate) struct Reference {
 
 impl Model for Reference {
     ghost use Rattle.ov_specs.specs.schema.SchemaTypes as types;
-    ghost use Rattle.ov_specs.specs.codes.SchemaCode as schema_codes;
+    ghost use Rattle.ov_specs.specs.codes.SchemaCode.{reference_code};
 
     ghost Value = { types.Reference };
 
-    ghost coded = { schema_codes.reference_code };
+    ghost coded = { reference_code };
 
     ghost view = { λ r. record { table = r.table; is_strong = r.is_strong } };
 }
@@ -50,13 +50,13 @@ pub(crate) struct BaseType {
 impl Model for BaseType {
     ghost use Rattle.std.specs.Prelude.{option_map};
     ghost use Rattle.ov_specs.specs.schema.SchemaTypes as types;
-    ghost use Rattle.ov_specs.specs.codes.SchemaCode as schema_codes;
+    ghost use Rattle.ov_specs.specs.codes.SchemaCode.{base_type_code};
     ghost use Rattle.ov_atoms.specs.Views.{kind_view};
     ghost use Rattle.ov_schema.specs.Sets.{set_in};
 
     ghost Value = { types.BaseType };
 
-    ghost coded = { schema_codes.base_type_code };
+    ghost coded = { base_type_code };
 
     ghost view = { λ b. record { kind = kind_view b.kind; choices = option_map set_in b.choices; least = b.least; greatest = b.greatest; shortest = b.shortest; longest = b.longest; refers = b.refers } };
 }

@@ -23,11 +23,11 @@ pub struct Column {
 
 impl Model for Column {
     ghost use Rattle.ov_specs.specs.schema.SchemaTypes as types;
-    ghost use Rattle.ov_specs.specs.codes.SchemaCode as schema_codes;
+    ghost use Rattle.ov_specs.specs.codes.SchemaCode.{column_code};
 
     ghost Value = { types.Column };
 
-    ghost coded = { schema_codes.column_code };
+    ghost coded = { column_code };
 
     ghost view = { λ c. record { type_of = c.type_of; is_ephemeral = c.is_ephemeral; is_mutable = c.is_mutable } };
 }

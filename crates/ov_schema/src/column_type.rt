@@ -27,11 +27,11 @@ pub(crate) struct ColumnType {
 
 impl Model for ColumnType {
     ghost use Rattle.ov_specs.specs.schema.SchemaTypes as types;
-    ghost use Rattle.ov_specs.specs.codes.SchemaCode as schema_codes;
+    ghost use Rattle.ov_specs.specs.codes.SchemaCode.{column_type_code};
 
     ghost Value = { types.ColumnType };
 
-    ghost coded = { schema_codes.column_type_code };
+    ghost coded = { column_type_code };
 
     ghost view = { λ t. record { key = t.key; value = t.value; min = t.min; max = t.max } };
 }

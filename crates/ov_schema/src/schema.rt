@@ -37,12 +37,12 @@ pub(crate) struct SchemaMembers {
 
 impl Model for Schema {
     ghost use Rattle.ov_specs.specs.schema.SchemaTypes as types;
-    ghost use Rattle.ov_specs.specs.codes.SchemaCode as schema_codes;
+    ghost use Rattle.ov_specs.specs.codes.SchemaCode.{schema_code};
     ghost use Rattle.ov_schema.specs.SchemaMembers.{schema_of_members};
 
     ghost Value = { types.Schema };
 
-    ghost coded = { schema_codes.schema_code };
+    ghost coded = { schema_code };
 
     ghost view = { λ s. schema_of_members s.tree s.parts };
 }

@@ -28,12 +28,12 @@ impl Model for Table {
     ghost use Rattle.std.specs.Prelude.{T};
     ghost use Rattle.std.specs.FinMap.{from_entries, is_sorted};
     ghost use Rattle.ov_specs.specs.schema.SchemaTypes as types;
-    ghost use Rattle.ov_specs.specs.codes.SchemaCode as schema_codes;
+    ghost use Rattle.ov_specs.specs.codes.SchemaCode.{table_code};
     ghost use Rattle.ov_schema.specs.Built.{indexes_in};
 
     ghost Value = { types.Table };
 
-    ghost coded = { schema_codes.table_code };
+    ghost coded = { table_code };
 
     ghost view = { λ t. record { columns = from_entries t.columns.items; max_rows = t.max_rows; is_root = t.is_root; indexes = indexes_in t.indexes.items } };
 

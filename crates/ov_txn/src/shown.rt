@@ -27,11 +27,11 @@ impl Model for ShownRow {
     ghost use Rattle.std.specs.Prelude.{List, ℕ};
     ghost use Rattle.std.specs.Coded.{coded×, coded_ℕ, coded_list};
     ghost use Rattle.ov_specs.specs.values.Value as value;
-    ghost use Rattle.ov_specs.specs.codes.ValueCode as value_codes;
+    ghost use Rattle.ov_specs.specs.codes.ValueCode.{datum_code};
 
     ghost Value = { List (List ℕ × value.Datum) };
 
-    ghost coded = { coded_list (coded× (coded_list coded_ℕ) value_codes.datum_code) };
+    ghost coded = { coded_list (coded× (coded_list coded_ℕ) datum_code) };
 
     ghost view = { λ r. r.columns.items };
 }
