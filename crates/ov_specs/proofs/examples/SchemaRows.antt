@@ -3,11 +3,16 @@ use Rattle.std.proofs.Common.{◌≡◌, ◌++◌, ℕ, List, [], Option, Some, 
 use Rattle.serde_json.specs.Read.{read}
 use Rattle.serde_json.proofs.OnLiterals.{serde_json_on_literals}
 use Rattle.ov_specs.specs.schema.SchemaTypes.{Schema}
-use Rattle.ov_specs.specs.schema.Schema.{SchemaRefusal, BadMember, BadName, BadVersion, NoColumns, BadRange, RealNotSupported, UnknownRefTable, BadRefType, BadEnum, BadIndex, StrongWeakMap, refusal_of, accepted}
+use Rattle.ov_specs.specs.schema.Schema.{SchemaRefusal, BadMember, BadName, BadVersion, NoColumns, BadRange, RealNotSupported, UnknownRefTable, BadRefType, BadEnum, BadIndex, StrongWeakMap, accepted}
+
+-- the refusal, if there is one
+abbrev refusal_in_answer : Result Schema SchemaRefusal → Option SchemaRefusal
+refusal_in_answer (Ok s) = None
+refusal_in_answer (Err refusal) = Some refusal
 
 -- the refusal of a text that is a tree; the inner None: it is accepted
 abbrev refusal_in : List ℕ → Option (Option SchemaRefusal)
-refusal_in text = option_map refusal_of (read text)
+refusal_in text = option_map (λ d. refusal_in_answer (accepted d)) (read text)
 
 -- ---- a network of switches and ports
 

@@ -1,10 +1,10 @@
 -- Worked transactions: an insert, a select after it, and one that is refused. Maps do not compute, so what is looked up in
 -- them and what they list is rewritten by their laws.
-use Rattle.std.proofs.Common.{◌≡◌, ℕ, pos, List, [], ◌∷◌, map, length, true, false, T, Some, None, Ok, refl, sym, ap, ◌∙◌, arith, codes}
+use Rattle.std.proofs.Common.{◌≡◌, ℕ, pos, List, [], ◌∷◌, map, true, false, T, Some, None, Ok, refl, sym, ap, ◌∙◌, codes}
 use Rattle.std.specs.declared.cmp.Ordering.{Ordering}
 use Rattle.std.specs.Cmp.{IsTotalOrder, on_total, then_total}
 use Rattle.std.specs.Cmp.Lexicographic.{nat_list_cmp_total}
-use Rattle.std.specs.FinMap.{FinMap, empty, get, insert, entries, len, is_sorted, put, IsAntisymmetric, nat_cmp-IsAntisymmetric, slice_cmp-IsAntisymmetric, same_map, from_entries, from_sorted, entries-from_sorted, entries-insert, len-entries, len-empty, get-empty, get-insert, get-from_entries, get-from_sorted}
+use Rattle.std.specs.FinMap.{FinMap, empty, get, insert, entries, is_sorted, put, IsAntisymmetric, nat_cmp-IsAntisymmetric, slice_cmp-IsAntisymmetric, same_map, from_entries, from_sorted, entries-from_sorted, entries-insert, len-entries, len-empty, get-empty, get-insert, get-from_entries, get-from_sorted}
 use Rattle.serde_json.specs.Data.{Data, number, unsigned, string, array, object, no_members, member, no_items, item, null}
 use Rattle.serde_json.specs.Read.{read}
 use Rattle.serde_json.proofs.OnLiterals.{serde_json_on_literals}

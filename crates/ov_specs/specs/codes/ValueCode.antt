@@ -1,5 +1,5 @@
 -- How a model stores an atom, and a value (own).
-use Rattle.std.specs.Prelude.{ℕ, ℤ, Bool, List, map, ◌⊎◌, ◌≡◌, refl}
+use Rattle.std.specs.Prelude.{ℕ, ℤ, Bool, List, ◌⊎◌, ◌≡◌, refl}
 use Rattle.std.specs.Coded.{Coded, code_by, coded⊎, coded_ℕ, coded_ℤ, coded_bool, coded_list}
 use Rattle.std.specs.FinMap as map
 use mathlib.Core.Logic.{inl, inr}

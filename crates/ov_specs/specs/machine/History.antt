@@ -1,5 +1,5 @@
 -- Histories: where a list of entries leads, what it sends, and what it asked (own).
-use Rattle.std.specs.Prelude.{ℕ, ◌==◌, List, [], ◌∷◌, ◌++◌, map, filter, if◌then◌else◌, Option, Some, None, option_map, option_and_then, IsSome}
+use Rattle.std.specs.Prelude.{ℕ, ◌==◌, List, [], ◌∷◌, ◌++◌, map, filter, if◌then◌else◌, Option, Some, None, option_map, option_and_then}
 use Rattle.std.specs.List.{flat_map}
 use Rattle.std.specs.Option.{option_or}
 use Rattle.ov_specs.specs.wire.Message.{Message}
@@ -14,10 +14,6 @@ then_sends sent s = record s { sent = sent ++ s.sent }
 abbrev pub run : State → List Entry → Option Stepped
 run s [] = Some (record { state = s; sent = [] })
 run s (e ∷ entries) = option_and_then (λ t. option_map (then_sends t.sent) (run t.state entries)) (step s e)
-
--- each choice suits where it stands (own)
-abbrev pub IsLegal : State → List Entry → Type 0
-IsLegal s history = IsSome (run s history)
 
 -- the frames sent to a session, in order (own)
 abbrev pub frames_to : ℕ → List Sent → List (List ℕ)

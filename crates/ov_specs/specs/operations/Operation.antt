@@ -1,8 +1,8 @@
 -- One operation of a transaction: what it makes of the rows, and its result (RFC 7047, 5.2).
-use Rattle.std.specs.Prelude.{ℕ, ◌&&◌, ◌||◌, not, List, [], ◌∷◌, ◌++◌, map, filter, Bool, true, false, if◌then◌else◌, Option, Some, None, option_and_then, option_map, option_to_list, is_some, codes, Result, Ok, Err}
+use Rattle.std.specs.Prelude.{ℕ, ◌&&◌, ◌||◌, not, List, [], ◌∷◌, ◌++◌, map, filter, Bool, if◌then◌else◌, Option, Some, None, option_and_then, option_map, option_to_list, codes, Result, Ok, Err}
 use Rattle.std.specs.List.{list_any, list_all, flat_map}
-use Rattle.std.specs.FinMap.{FinMap, empty, get, contains_key, insert, keys, entries}
-use Rattle.serde_json.specs.Data.{Data, object, string, array, Items, no_items, item, Members, no_members, member}
+use Rattle.std.specs.FinMap.{empty, get, contains_key, insert, keys, entries}
+use Rattle.serde_json.specs.Data.{Data, array, Items, no_items, item, Members, no_members, member}
 use Rattle.serde_json.specs.Find.{as_str, as_array, as_object}
 use Rattle.serde_json.specs.Find as find
 use Rattle.serde_json.specs.View.{items_of}
@@ -14,7 +14,7 @@ use Rattle.ov_specs.specs.rows.Lines.{LineKey}
 use Rattle.ov_specs.specs.wire.Message.{has_member}
 use Rattle.std.specs.Str.{bytes_eq}
 use Rattle.ov_specs.specs.values.Reading.{Reading, Reads, Unreadable, Clashing, reads, list_read}
-use Rattle.ov_specs.specs.schema.SchemaTypes.{Column, Table, Schema, name_cmp, kinds_of}
+use Rattle.ov_specs.specs.schema.SchemaTypes.{Column, Table, Schema, kinds_of}
 use Rattle.ov_specs.specs.values.Uuid.{Uuid, Names}
 use Rattle.ov_specs.specs.values.Value as value
 use Rattle.ov_specs.specs.values.Value.{Datum}

@@ -220,15 +220,6 @@ refusal_of_shape s = first_that_holds (
     ∷ (any_type is_strong_weak s, StrongWeakMap)
     ∷ [])
 
--- and before it that one is missing or of a wrong kind (own)
-abbrev pub refusal_or_none : Option SchemaShape → Option SchemaRefusal
-refusal_or_none None = Some BadMember
-refusal_or_none (Some s) = refusal_of_shape s
-
--- why a tree is no schema: a number that is no 64-bit integer goes before all else (own)
-abbrev pub refusal_of : Data → Option SchemaRefusal
-refusal_of d = if has_real d then Some RealNotSupported else refusal_or_none (schema_shape d)
-
 -- ---- the schema that is accepted
 
 -- the set of an `enum` (RFC 7047, 3.2, <base-type>)
@@ -291,11 +282,12 @@ abbrev pub refused_or : Schema → Option SchemaRefusal → Result Schema Schema
 refused_or schema None = Ok schema
 refused_or schema (Some refusal) = Err refusal
 
--- the schema of the members, or its refusal (own)
+-- the schema of the members, or its refusal; first of all that one is missing or of a wrong kind (own)
 abbrev pub judged : Data → Option SchemaShape → Result Schema SchemaRefusal
 judged d None = Err BadMember
 judged d (Some s) = refused_or (accepted_schema d s) (refusal_of_shape s)
 
--- the schema that a tree is, or why it is none (RFC 7047, 3.2; the refusals are own)
+-- The schema that a tree is, or why it is none: a number that is no 64-bit integer goes before all else (RFC 7047, 3.2; the
+-- refusals are own).
 abbrev pub accepted : Data → Result Schema SchemaRefusal
 accepted d = if has_real d then Err RealNotSupported else judged d (schema_shape d)
