@@ -1,11 +1,12 @@
 -- The mutations of a "mutate", and what they make of a column (RFC 7047, 5.1, <mutation>).
-use Rattle.std.specs.Prelude.{ℕ, ℤ, pos, ◌+ℤ◌, ◌-ℤ◌, ◌*ℤ◌, int_div, int_rem, int_le, ◌&&◌, ◌||◌, not, is_none, is_some, List, [], ◌∷◌, ◌++◌, map, filter, Bool, true, false, if◌then◌else◌, Option, Some, None, option_and_then, codes, Result, Ok, Err}
+use Rattle.std.specs.Prelude.{ℕ, ℤ, pos, ◌+ℤ◌, ◌-ℤ◌, ◌*ℤ◌, int_div, int_rem, int_le, ◌&&◌, ◌||◌, not, is_none, is_some, List, [], ◌∷◌, ◌++◌, map, filter, Bool, false, if◌then◌else◌, Option, Some, None, option_and_then, codes, Result, Ok, Err}
 use Rattle.std.specs.List.{list_any, list_all}
 use Rattle.std.specs.FinMap.{get, contains_key, keys, entries}
 use Rattle.serde_json.specs.Data.{Data}
 use Rattle.ov_specs.specs.operations.Conditions.{Triple, triple_read, is_scalar, is_integers, number_in, has_pair}
 use Rattle.ov_specs.specs.rows.Database.{same_atom}
 use Rattle.ov_specs.specs.schema.Fitting.{fits}
+use Rattle.ov_specs.specs.schema.Schema.{is_empty}
 use Rattle.std.specs.Str.{bytes_eq}
 use Rattle.ov_specs.specs.operations.Errors.{OpError, SyntaxError, UnknownColumn, ConstraintViolation}
 use Rattle.ov_specs.specs.values.Reading as reading
@@ -172,11 +173,6 @@ abbrev pub has_equal_two : List Atom → Bool
 has_equal_two [] = false
 has_equal_two (a ∷ atoms) = list_any (same_atom a) atoms || has_equal_two atoms
 
--- nothing, so that nothing is divided (own)
-abbrev pub is_empty : List Atom → Bool
-is_empty [] = true
-is_empty (a ∷ atoms) = false
-
 -- the value, where it fits the column (RFC 7047, 5.2.4, "constraint violation")
 abbrev pub fitting : ColumnType → Datum → Result Datum MutateError
 fitting t d = if fits t d then Ok d else Err Constraint
@@ -187,7 +183,7 @@ of_results t results =
     if not (list_all (is_atom_of Integers) results) then Err Range
     else (if has_equal_two results then Err Constraint else fitting t (Atoms (set_of results)))
 
--- each number of a set is computed (RFC 7047, 5.1, <mutator>)
+-- each number of a set is computed; in an empty one nothing is divided (RFC 7047, 5.1, <mutator>)
 abbrev pub all_computed : ColumnType → Operator → ℤ → List Atom → Result Datum MutateError
 all_computed t operator by atoms =
     if divides_by_zero operator by && not (is_empty atoms) then Err Domain else of_results t (map (computed_atom operator by) atoms)

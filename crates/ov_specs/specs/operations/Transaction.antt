@@ -1,8 +1,8 @@
 -- One transaction: operations in order, each on the rows that those before it left (RFC 7047, 4.1.3 and 5.2).
-use Rattle.std.specs.Prelude.{ℕ, ◌+◌, List, [], ◌∷◌, Bool, false, if◌then◌else◌, Option, Some, None, codes}
+use Rattle.std.specs.Prelude.{ℕ, ◌+◌, List, [], ◌∷◌, Bool, if◌then◌else◌, codes}
 use Rattle.serde_json.specs.Data.{Data, null, Items, no_items, item}
 use Rattle.ov_specs.specs.rows.Database.{Database}
-use Rattle.std.specs.Str.{bytes_eq}
+use Rattle.ov_specs.specs.values.Reading.{is_word}
 use Rattle.ov_specs.specs.operations.Errors.{OpError, ResourcesExhausted, InputOutput, error_tree}
 use Rattle.ov_specs.specs.operations.Operation.{Staged, OperationResult, Succeeds, Fails, text_at, operation}
 use Rattle.ov_specs.specs.schema.SchemaTypes.{Schema}
@@ -10,14 +10,9 @@ use Rattle.ov_specs.specs.values.Uuid.{Uuid}
 
 -- ---- what is drawn
 
--- the text is this one (own)
-abbrev pub is_word : Option (List ℕ) → List ℕ → Bool
-is_word None word = false
-is_word (Some text) word = bytes_eq text word
-
 -- an object whose "op" is "insert", whatever else it has (RFC 7047, 5.2.1)
 abbrev pub is_insert : Data → Bool
-is_insert d = is_word (text_at (codes "op") d) (codes "insert")
+is_insert d = is_word (codes "insert") (text_at (codes "op") d)
 
 -- how many of them (own)
 abbrev pub insert_count : Items → ℕ
