@@ -9,7 +9,8 @@ use Rattle.ov_specs.specs.wire.Frame.{reply_tree, failure_tree}
 abbrev pub database_names : List ℕ → Data
 database_names name = array (item (string name) no_items)
 
--- The reply to a call, where the database has this name: `list_dbs` (RFC 7047, 4.1.1), `echo` (RFC 7047, 4.1.11), and no other method yet (own).
+-- The reply to a call that needs neither schema nor rows, where the database has this name: `list_dbs` (RFC 7047, 4.1.1) and `echo`
+-- (RFC 7047, 4.1.11); each other method is unknown (own).
 abbrev pub reply_to : List ℕ → Data → List ℕ → Items → Data
 reply_to name id method params =
     if bytes_eq method (codes "list_dbs") then reply_tree id (database_names name)
