@@ -1,18 +1,12 @@
--- What a message is answered, as frames that wait.
-use Rattle.std.proofs.Common.{◌≡◌, ℕ, List, [], ◌∷◌, ◌++◌, map, refl, sym, ap, ◌∙◌, cond, eqb, Bool, true, false, codes}
+-- What is sent to a session, as frames that wait.
+use Rattle.std.proofs.Common.{◌≡◌, ℕ, List, [], ◌∷◌, ◌++◌, map, refl, sym, ap, ◌∙◌, cond, eqb, Bool, true, false}
 use Rattle.std.proofs.lemmas.List.{append-nil}
 use Rattle.std.proofs.lemmas.Bool.{eqb-true, eq-eqb, ne_eqb}
-use Rattle.serde_json.specs.Data.{Data, Items}
-use Rattle.ov_specs.specs.wire.Frame.{frame, failure_tree}
-use Rattle.ov_specs.specs.wire.Method.{reply_to}
-use Rattle.std.specs.Str.{bytes_eq}
+use Rattle.serde_json.specs.Data.{Data}
+use Rattle.ov_specs.specs.wire.Frame.{frame}
 use Rattle.ov_specs.specs.machine.Machine.{to_session}
 use Rattle.ov_specs.specs.machine.History.{frames_to}
 use Rattle.ov_core.specs.Outbox.{WaitingFrames, waiting_for, PostsFrame}
-
--- a method that is not known
-pub unknown : (name : List ℕ) (id : Data) (method : List ℕ) (params : Items) → bytes_eq method (codes "list_dbs") ≡ false → bytes_eq method (codes "echo") ≡ false → failure_tree id (codes "unknown method") ≡ reply_to name id method params
-unknown name id method params a b = rw (a, b) refl
 
 frames_by : (s other : ℕ) (b : Bool) → eqb s other ≡ b → (trees : List Data) → frames_to other (to_session s trees) ≡ cond b (map frame trees) []
 frames_by s other true e [] = refl

@@ -6,7 +6,7 @@ use Rattle.serde_json.specs.Find.{as_str}
 use Rattle.ov_specs.specs.rows.Database.{Database, same_database}
 use Rattle.ov_specs.specs.wire.Message.{Message, Call, Note, Answer, Bad}
 use Rattle.ov_specs.specs.wire.Frame.{reply_tree, failure_tree}
-use Rattle.ov_specs.specs.wire.Method.{reply_to, bad_text}
+use Rattle.ov_specs.specs.wire.Method.{database_names, bad_text}
 use Rattle.std.specs.Str.{bytes_eq}
 use Rattle.ov_specs.specs.schema.SchemaTypes.{Schema}
 use Rattle.ov_specs.specs.operations.Transaction.{draws_wanted, Transacted, transaction, exhausted_results, failed_results}
@@ -93,17 +93,14 @@ pub record Stepped : Type 0 where
 
 -- ---- the work on a message
 
--- what a message is answered at once: a call has one reply, what can't be taken an error, a notification and an answer nothing (JSON-RPC 1.0, 1)
-abbrev pub replies_to : State → Message → List Data
-replies_to s (Call id method params) = reply_to s.schema.name id method params ∷ []
-replies_to s (Note method params) = []
-replies_to s Answer = []
-replies_to s (Bad id kind) = failure_tree id (bad_text kind) ∷ []
-
 -- what a message asks for: to be answered at once, or a transaction (RFC 7047, 4.1)
 pub data Work : Type 0 where
   Answers : (trees : List Data) → Work
   Transact : (id : Data) (operations : Items) → Work
+
+-- a result, at once (JSON-RPC 1.0, 1.2)
+abbrev pub answered : Data → Data → Work
+answered id result = Answers (reply_tree id result ∷ [])
 
 -- an error in place of a result (JSON-RPC 1.0, 1.2)
 abbrev pub refused : Data → List ℕ → Work
@@ -122,7 +119,7 @@ transact_call s id (item d operations) = transact_call_on s id (as_str d) operat
 -- the schema of the database that is named, which is the one that is served, as it was read (RFC 7047, 4.1.2)
 abbrev pub schema_call_on : State → Data → Option (List ℕ) → Work
 schema_call_on s id None = refused id (codes "syntax error")
-schema_call_on s id (Some name) = if bytes_eq name s.schema.name then Answers (reply_tree id s.schema.tree ∷ []) else refused id (codes "unknown database")
+schema_call_on s id (Some name) = if bytes_eq name s.schema.name then answered id s.schema.tree else refused id (codes "unknown database")
 
 -- the params of "get_schema": the name of a database, and no more (RFC 7047, 4.1.2)
 abbrev pub schema_call : State → Data → Items → Work
@@ -130,19 +127,21 @@ schema_call s id no_items = refused id (codes "syntax error")
 schema_call s id (item d no_items) = schema_call_on s id (as_str d)
 schema_call s id (item d (item e items)) = refused id (codes "syntax error")
 
--- the work on a call: one of "transact" is a transaction, all else is answered at once (RFC 7047, 4.1)
+-- what a call asks for, method by method; no other is known (RFC 7047, 4.1.1, 4.1.2, 4.1.3, 4.1.11; the last is own)
 abbrev pub call_of : State → Data → List ℕ → Items → Work
 call_of s id method params =
-    if bytes_eq method (codes "transact") then transact_call s id params
+    if bytes_eq method (codes "list_dbs") then answered id (database_names s.schema.name)
     else (if bytes_eq method (codes "get_schema") then schema_call s id params
-    else Answers (replies_to s (Call id method params)))
+    else (if bytes_eq method (codes "transact") then transact_call s id params
+    else (if bytes_eq method (codes "echo") then answered id (array params)
+    else refused id (codes "unknown method"))))
 
--- the work on a message (RFC 7047, 4.1)
+-- what a message asks for: a notification and an answer ask for nothing, and what can't be taken is told so (JSON-RPC 1.0, 1)
 abbrev pub work_of : State → Message → Work
 work_of s (Call id method params) = call_of s id method params
-work_of s (Note method params) = Answers (replies_to s (Note method params))
-work_of s Answer = Answers (replies_to s Answer)
-work_of s (Bad id kind) = Answers (replies_to s (Bad id kind))
+work_of s (Note method params) = Answers []
+work_of s Answer = Answers []
+work_of s (Bad id kind) = refused id (bad_text kind)
 
 -- these trees, sent to the session (own)
 abbrev pub to_session : ℕ → List Data → List Sent
