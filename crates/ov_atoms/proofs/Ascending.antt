@@ -3,37 +3,21 @@ use Rattle.std.proofs.Common.{◌≡◌, ℕ, zero, suc, ◌+◌, ◌<◌, ◌�
 use Rattle.std.specs.Ordering.{is_lt}
 use Rattle.std.specs.FinMap.{is_sorted}
 use Rattle.std.specs.FinMap.Entries.{below_all}
-use Rattle.ov_specs.specs.Value as value
-use Rattle.ov_specs.specs.Value.{atom_cmp}
-use Rattle.ov_specs.proofs.Order.{atom_cmp_total}
+use Rattle.ov_specs.specs.values.Value as value
+use Rattle.ov_specs.specs.values.Value.{atom_cmp}
+use Rattle.ov_specs.proofs.laws.Order.{atom_cmp_total}
 use Rattle.ov_atoms.specs.declared.atom.Atom.{Atom}
 use Rattle.ov_atoms.specs.Views.{pair_view, pairs_view}
 use Rattle.ov_atoms.proofs.Building.{atom_order}
-
-both : (a b : Bool) → T a → T b → T (a && b)
-both true b p q = q
-both false b p q = p
-
-first : (a b : Bool) → T (a && b) → T a
-first true b h = tt
-first false b h = h
-
-second : (a b : Bool) → T (a && b) → T b
-second true b h = h
-second false b h = absurd h
-
-less : (o : Ordering) → T (is_lt o) → o ≡ Less
-less Less h = refl
-less Equal h = absurd h
-less Greater h = absurd h
+use Rattle.ov_specs.proofs.laws.Truths.{both_hold, left_holds, less_is, right_holds}
 
 below-less : (x y : value.Atom) (es : List (value.Atom × value.Atom)) → atom_cmp x y ≡ Less → T (below_all atom_cmp y es) → T (below_all atom_cmp x es)
 below-less x y [] p h = tt
 below-less x y (e ∷ es) p h =
-    both _ _ (subst (λ o. T (is_lt o)) (sym (atom_cmp_total.trans x y e.0 p (less _ (first _ _ h)))) tt) (below-less x y es p (second _ _ h))
+    both_hold _ _ (subst (λ o. T (is_lt o)) (sym (atom_cmp_total.trans x y e.0 p (less_is _ (left_holds _ _ h)))) tt) (below-less x y es p (right_holds _ _ h))
 
 in_front : (x y : value.Atom × value.Atom) (es : List (value.Atom × value.Atom)) → atom_cmp x.0 y.0 ≡ Less → T (is_sorted atom_cmp (y ∷ es)) → T (is_sorted atom_cmp (x ∷ y ∷ es))
-in_front x y es p h = both _ _ (both _ _ (subst (λ o. T (is_lt o)) (sym p) tt) (below-less x.0 y.0 es p (first _ _ h))) h
+in_front x y es p h = both_hold _ _ (both_hold _ _ (subst (λ o. T (is_lt o)) (sym p) tt) (below-less x.0 y.0 es p (left_holds _ _ h))) h
 
 -- the pair at i goes before the next one, from which on the pairs ascend
 pub ascend-from : (ps : List (Atom × Atom)) (i j k : ℕ) (x y : Atom × Atom) → j < length ps → j ≡ i + 1 → k ≡ j → atom_order (get_or ps i x).0 (get_or ps j y).0 ≡ Less

@@ -2,7 +2,7 @@ pub mod Lists
 pub mod Building
 pub mod Trees
 pub mod Plain
-pub mod Told
+pub mod AnswerLemmas
 pub mod Written
 pub mod Ordered
 pub mod Permuting

@@ -3,13 +3,13 @@ use Rattle.std.proofs.Common.{◌≡◌, List, [], ◌∷◌, Bool, true, false,
 use Rattle.std.specs.List.{list_any}
 use Rattle.std.specs.List.Sorted.{IsPermutation}
 use Rattle.std.specs.FinMap.{find, same_map, get-from_entries}
-use Rattle.std.proofs.lemmas.Bool.{and_parts}
+use Rattle.std.proofs.lemmas.Bool.{and_parts, or_parts}
 use Rattle.std.proofs.lemmas.List.Sorted.{list_any-IsPermutation}
-use Rattle.ov_specs.specs.Value.{Atom, AtomMap, atom_cmp, map_of}
-use Rattle.ov_specs.specs.Reading.{differ_at_one_key, has_clash}
-use Rattle.ov_specs.proofs.Order.{atom_cmp_total, atom_cmp-IsAntisymmetric}
-use Rattle.ov_specs.proofs.Inserting.{same}
-use Rattle.ov_specs.proofs.Clashing.{same-is, same-itself, same-swap, differ-swap, differ-itself, or_regroup}
+use Rattle.ov_specs.specs.values.Value.{Atom, AtomMap, atom_cmp, map_of}
+use Rattle.ov_specs.specs.values.Reading.{differ_at_one_key, has_clash}
+use Rattle.ov_specs.proofs.laws.Order.{atom_cmp_total, atom_cmp-IsAntisymmetric}
+use Rattle.ov_specs.proofs.laws.Inserting.{same}
+use Rattle.ov_specs.proofs.laws.Clashing.{same-is, same-itself, same-swap, differ-swap, differ-itself, or_regroup}
 
 abbrev Pair : Type 0
 Pair = Atom × Atom
@@ -19,10 +19,6 @@ Pair = Atom × Atom
 or_twice : (a b : Bool) → (a || (a || b)) ≡ (a || b)
 or_twice true b = refl
 or_twice false b = refl
-
-neither : (a b : Bool) → (a || b) ≡ false → (a ≡ false) × (b ≡ false)
-neither true b h = cc
-neither false b h = (refl, h)
 
 any_or : (f g : Pair → Bool) (es : List Pair) → list_any (λ p. f p || g p) es ≡ (list_any f es || list_any g es)
 any_or f g [] = refl
@@ -90,7 +86,7 @@ alike false h = cc
 same_value : (e : Pair) (q v : Atom) (es : List Pair) → differs es e ≡ false → same q e.0 ≡ true → list_any (is_pair q v) es ≡ true → e.1 ≡ v
 same_value e q v [] none at h = cc
 same_value e q v (p ∷ es) none at h =
-    let parts = neither (differ_at_one_key e p) (differs es e) none in
+    let parts = or_parts (differ_at_one_key e p) (differs es e) none in
     elim (is_pair q v p) as (λ b. is_pair q v p ≡ b → (b || list_any (is_pair q v) es) ≡ true → e.1 ≡ v) [
       | true ↦ λ here h.
           let is = and_parts (same q p.0) (same v p.1) here in
@@ -103,7 +99,7 @@ same_value e q v (p ∷ es) none at h =
 there-found : (q v : Atom) (es : List Pair) → has_clash es ≡ false → list_any (is_pair q v) es ≡ true → find atom_cmp q es ≡ Some v
 there-found q v [] none h = cc
 there-found q v (e ∷ es) none h =
-    let parts = neither (differs es e) (has_clash es) none in
+    let parts = or_parts (differs es e) (has_clash es) none in
     elim (same q e.0) as (λ b. same q e.0 ≡ b → ((b && same v e.1) || list_any (is_pair q v) es) ≡ true → cond b (Some e.1) (find atom_cmp q es) ≡ Some v) [
       | true ↦ λ at h.
           ap Some (elim (same v e.1) as (λ b. same v e.1 ≡ b → (b || list_any (is_pair q v) es) ≡ true → e.1 ≡ v) [

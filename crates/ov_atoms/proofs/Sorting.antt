@@ -7,14 +7,15 @@ use Rattle.std.specs.Cmp.{on_total}
 use Rattle.std.specs.FinMap.{same_map, get-from_entries, is_sorted}
 use Rattle.std.proofs.lemmas.List.Sorted.{list_any-IsPermutation}
 use Rattle.std.proofs.lemmas.List.Kept.{IsStrictlySortedBy-dedup}
-use Rattle.ov_specs.specs.Value as value
-use Rattle.ov_specs.specs.Value.{atom_cmp, marked, set_of}
-use Rattle.ov_specs.proofs.Order.{atom_cmp_total, atom_cmp-IsAntisymmetric}
-use Rattle.ov_specs.proofs.Inserting.{same, found}
-use Rattle.ov_specs.proofs.Clashing.{same-is}
+use Rattle.ov_specs.specs.values.Value as value
+use Rattle.ov_specs.specs.values.Value.{atom_cmp, marked, set_of}
+use Rattle.ov_specs.proofs.laws.Order.{atom_cmp_total, atom_cmp-IsAntisymmetric}
+use Rattle.ov_specs.proofs.laws.Inserting.{same, found}
+use Rattle.ov_specs.proofs.laws.Clashing.{same-is}
 use Rattle.ov_atoms.specs.declared.atom.Atom.{Atom}
 use Rattle.ov_atoms.specs.Views.{atom_view, atoms_view}
 use Rattle.ov_atoms.proofs.Building.{atom_order, atoms-ascend}
+use Rattle.ov_specs.proofs.laws.Truths.{cond-twice}
 
 -- equal atoms in the code
 abbrev pub equals : Atom → Atom → Bool
@@ -27,15 +28,11 @@ found-list_any q (x ∷ xs) = elim (same q (atom_view x)) as (λ b. cond b (Some
   | false ↦ found-list_any q xs
 ]
 
-twice : {A : Type 0} (b : Bool) (x y : A) → cond b x y ≡ cond b x (cond b x y)
-twice true x y = refl
-twice false x y = refl
-
 found-dedup_from : (q : value.Atom) (k : Atom) (xs : List Atom) → found q (atoms_view (dedup_from equals k xs)) ≡ found q (atoms_view (k ∷ xs))
 found-dedup_from q k [] = refl
 found-dedup_from q k (x ∷ xs) =
     elim (equals x k) as (λ b. equals x k ≡ b → found q (atoms_view (cond b (dedup_from equals k xs) (k ∷ dedup_from equals x xs))) ≡ found q (atoms_view (k ∷ x ∷ xs))) [
-      | true ↦ λ e. found-dedup_from q k xs ∙ (twice (same q (atom_view k)) (Some tt) (found q (atoms_view xs)) ∙ ap (λ a. cond (same q (atom_view k)) (Some tt) (cond (same q a) (Some tt) (found q (atoms_view xs)))) (sym (same-is (atom_view x) (atom_view k) e)))
+      | true ↦ λ e. found-dedup_from q k xs ∙ (cond-twice (same q (atom_view k)) (Some tt) (found q (atoms_view xs)) ∙ ap (λ a. cond (same q (atom_view k)) (Some tt) (cond (same q a) (Some tt) (found q (atoms_view xs)))) (sym (same-is (atom_view x) (atom_view k) e)))
       | false ↦ λ e. ap (cond (same q (atom_view k)) (Some tt)) (found-dedup_from q x xs)
     ] refl
 

@@ -2,39 +2,39 @@
 use Rattle.std.proofs.Common.{◌≡◌, length, Some, sym, ap, subst, ◌∙◌, Vec, Global}
 use Rattle.std.proofs.lemmas.List.{length-map}
 use Rattle.std.specs.FinMap.{keys, entries, len-entries}
-use Rattle.ov_specs.specs.Value as value
-use Rattle.ov_specs.specs.Writing.{set_tree, map_tree, tree}
-use Rattle.ov_specs.proofs.ReadingBack.{keys-set_of, entries-from_entries}
+use Rattle.ov_specs.specs.values.Value as value
+use Rattle.ov_specs.specs.values.Writing.{set_tree, map_tree, tree}
+use Rattle.ov_specs.proofs.laws.ReadingBack.{keys-set_of, entries-from_entries}
 use Rattle.ov_atoms.specs.declared.atom.Atom.{Atom}
-use Rattle.ov_atoms.specs.declared.datum.Parts.{Parts}
-use Rattle.ov_atoms.specs.declared.datum.Parts.TheVariants.{Atoms, Pairs}
-use Rattle.ov_atoms.specs.Views.{atoms_view, pairs_view, parts_view, IsAscending}
+use Rattle.ov_atoms.specs.declared.datum.SortedElements.{SortedElements}
+use Rattle.ov_atoms.specs.declared.datum.SortedElements.TheVariants.{Atoms, Pairs}
+use Rattle.ov_atoms.specs.Views.{atoms_view, pairs_view, sorted_view, IsAscending}
 
-pub atoms_in-atoms : (p : Parts) (atoms : Vec Atom Global) (d : value.Datum) → p ≡ Atoms atoms → IsAscending p → parts_view p ≡ d → Some (atoms_view atoms.items) ≡ value.atoms_in d
+pub atoms_in-atoms : (p : SortedElements) (atoms : Vec Atom Global) (d : value.Datum) → p ≡ Atoms atoms → IsAscending p → sorted_view p ≡ d → Some (atoms_view atoms.items) ≡ value.atoms_in d
 atoms_in-atoms p atoms d is ascending seen =
-    ap Some (sym (keys-set_of (atoms_view atoms.items) (subst IsAscending is ascending))) ∙ ap value.atoms_in (ap parts_view (sym is) ∙ seen)
+    ap Some (sym (keys-set_of (atoms_view atoms.items) (subst IsAscending is ascending))) ∙ ap value.atoms_in (ap sorted_view (sym is) ∙ seen)
 
-pub pairs_in-pairs : (p : Parts) (pairs : Vec (Atom × Atom) Global) (d : value.Datum) → p ≡ Pairs pairs → IsAscending p → parts_view p ≡ d → Some (pairs_view pairs.items) ≡ value.pairs_in d
+pub pairs_in-pairs : (p : SortedElements) (pairs : Vec (Atom × Atom) Global) (d : value.Datum) → p ≡ Pairs pairs → IsAscending p → sorted_view p ≡ d → Some (pairs_view pairs.items) ≡ value.pairs_in d
 pairs_in-pairs p pairs d is ascending seen =
-    ap Some (sym (entries-from_entries (pairs_view pairs.items) (subst IsAscending is ascending))) ∙ ap value.pairs_in (ap parts_view (sym is) ∙ seen)
+    ap Some (sym (entries-from_entries (pairs_view pairs.items) (subst IsAscending is ascending))) ∙ ap value.pairs_in (ap sorted_view (sym is) ∙ seen)
 
-pub set_tree-atoms : (p : Parts) (atoms : Vec Atom Global) (d : value.Datum) → p ≡ Atoms atoms → IsAscending p → parts_view p ≡ d → set_tree (atoms_view atoms.items) ≡ tree d
+pub set_tree-atoms : (p : SortedElements) (atoms : Vec Atom Global) (d : value.Datum) → p ≡ Atoms atoms → IsAscending p → sorted_view p ≡ d → set_tree (atoms_view atoms.items) ≡ tree d
 set_tree-atoms p atoms d is ascending seen =
-    sym (ap set_tree (keys-set_of (atoms_view atoms.items) (subst IsAscending is ascending))) ∙ ap tree (ap parts_view (sym is) ∙ seen)
+    sym (ap set_tree (keys-set_of (atoms_view atoms.items) (subst IsAscending is ascending))) ∙ ap tree (ap sorted_view (sym is) ∙ seen)
 
-pub map_tree-pairs : (p : Parts) (pairs : Vec (Atom × Atom) Global) (d : value.Datum) → p ≡ Pairs pairs → IsAscending p → parts_view p ≡ d → map_tree (pairs_view pairs.items) ≡ tree d
+pub map_tree-pairs : (p : SortedElements) (pairs : Vec (Atom × Atom) Global) (d : value.Datum) → p ≡ Pairs pairs → IsAscending p → sorted_view p ≡ d → map_tree (pairs_view pairs.items) ≡ tree d
 map_tree-pairs p pairs d is ascending seen =
-    sym (ap map_tree (entries-from_entries (pairs_view pairs.items) (subst IsAscending is ascending))) ∙ ap tree (ap parts_view (sym is) ∙ seen)
+    sym (ap map_tree (entries-from_entries (pairs_view pairs.items) (subst IsAscending is ascending))) ∙ ap tree (ap sorted_view (sym is) ∙ seen)
 
-pub count-atoms : (p : Parts) (atoms : Vec Atom Global) (d : value.Datum) → p ≡ Atoms atoms → IsAscending p → parts_view p ≡ d → length atoms.items ≡ value.count d
+pub count-atoms : (p : SortedElements) (atoms : Vec Atom Global) (d : value.Datum) → p ≡ Atoms atoms → IsAscending p → sorted_view p ≡ d → length atoms.items ≡ value.count d
 count-atoms p atoms d is ascending seen =
     let xs = atoms_view atoms.items in
     let kept = keys-set_of xs (subst IsAscending is ascending) in
     let own : length atoms.items ≡ length (keys (value.set_of xs)) = sym (length-map atoms.items _) ∙ ap length (sym kept) in
-    own ∙ (length-map (entries (value.set_of xs)) _ ∙ (sym (len-entries (value.set_of xs)) ∙ ap value.count (ap parts_view (sym is) ∙ seen)))
+    own ∙ (length-map (entries (value.set_of xs)) _ ∙ (sym (len-entries (value.set_of xs)) ∙ ap value.count (ap sorted_view (sym is) ∙ seen)))
 
-pub count-pairs : (p : Parts) (pairs : Vec (Atom × Atom) Global) (d : value.Datum) → p ≡ Pairs pairs → IsAscending p → parts_view p ≡ d → length pairs.items ≡ value.count d
+pub count-pairs : (p : SortedElements) (pairs : Vec (Atom × Atom) Global) (d : value.Datum) → p ≡ Pairs pairs → IsAscending p → sorted_view p ≡ d → length pairs.items ≡ value.count d
 count-pairs p pairs d is ascending seen =
     let ps = pairs_view pairs.items in
     let kept = entries-from_entries ps (subst IsAscending is ascending) in
-    sym (length-map pairs.items _) ∙ (ap length (sym kept) ∙ (sym (len-entries (value.map_of ps)) ∙ ap value.count (ap parts_view (sym is) ∙ seen)))
+    sym (length-map pairs.items _) ∙ (ap length (sym kept) ∙ (sym (len-entries (value.map_of ps)) ∙ ap value.count (ap sorted_view (sym is) ∙ seen)))

@@ -3,8 +3,8 @@ use Rattle.std.proofs.Common.{◌≡◌, ℕ, ◌≤◌, List, [], ◌∷◌, ma
 use Rattle.std.proofs.lemmas.List.{take_all, length-map}
 use Rattle.serde_json.specs.Data.{Data, string, array}
 use Rattle.serde_json.specs.View.{items_of}
-use Rattle.ov_specs.specs.Value as value
-use Rattle.ov_specs.specs.Writing.{two, atom_tree, pair_tree, set_tree, map_tree}
+use Rattle.ov_specs.specs.values.Value as value
+use Rattle.ov_specs.specs.values.Writing.{two, atom_tree, pair_tree, set_tree, map_tree}
 use Rattle.ov_atoms.specs.declared.atom.Atom.{Atom}
 use Rattle.ov_atoms.specs.Views.{atoms_view, pairs_view}
 

@@ -1,6 +1,6 @@
 ghost use Rattle.std.specs.Prelude.{◌≡◌, IfOk};
 ghost use Rattle.ov_atoms.specs.Views.{atom_view, kind_view};
-ghost use Rattle.ov_specs.specs.Value.{kind_of, default_atom};
+ghost use Rattle.ov_specs.specs.values.Value.{kind_of, default_atom};
 
 use crate::kind::AtomKind;
 use ov_base::Text;
@@ -61,8 +61,8 @@ impl Atom {
 
 impl PartialEq for Atom {
     ghost use Rattle.std.specs.Ordering.{eq_by_cmp, on};
-    ghost use Rattle.ov_specs.specs.Value.{atom_cmp};
-    ghost use Rattle.ov_specs.proofs.Order.{atom_cmp_total};
+    ghost use Rattle.ov_specs.specs.values.Value.{atom_cmp};
+    ghost use Rattle.ov_specs.proofs.laws.Order.{atom_cmp_total};
     ghost use Rattle.ov_atoms.specs.Views.{atom_view};
     ghost use Rattle.std.specs.Cmp.{partial_equiv_from_equiv, eq_by_cmp_equiv, on_total};
 
@@ -76,7 +76,7 @@ impl PartialEq for Atom {
 }
 
 impl Eq for Atom {
-    ghost use Rattle.ov_specs.proofs.Order.{atom_cmp_total};
+    ghost use Rattle.ov_specs.proofs.laws.Order.{atom_cmp_total};
     ghost use Rattle.ov_atoms.specs.Views.{atom_view};
     ghost use Rattle.std.specs.Cmp.{eq_by_cmp_equiv, on_total};
 
@@ -86,8 +86,8 @@ impl Eq for Atom {
 impl PartialOrd for Atom {
     ghost use Rattle.std.specs.Prelude.{Some, refl};
     ghost use Rattle.std.specs.Ordering.{on};
-    ghost use Rattle.ov_specs.specs.Value.{atom_cmp};
-    ghost use Rattle.ov_specs.proofs.Order.{atom_cmp_total};
+    ghost use Rattle.ov_specs.specs.values.Value.{atom_cmp};
+    ghost use Rattle.ov_specs.proofs.laws.Order.{atom_cmp_total};
     ghost use Rattle.ov_atoms.specs.Views.{atom_view};
     ghost use Rattle.std.specs.Cmp.{partial_order_from_agreeing_total, on_total};
 
@@ -103,8 +103,8 @@ impl PartialOrd for Atom {
 impl Ord for Atom {
     ghost use Rattle.std.specs.Prelude.{refl};
     ghost use Rattle.std.specs.Ordering.{on};
-    ghost use Rattle.ov_specs.specs.Value.{atom_cmp};
-    ghost use Rattle.ov_specs.proofs.Order.{atom_cmp_total};
+    ghost use Rattle.ov_specs.specs.values.Value.{atom_cmp};
+    ghost use Rattle.ov_specs.proofs.laws.Order.{atom_cmp_total};
     ghost use Rattle.ov_atoms.specs.Views.{atom_view};
     ghost use Rattle.std.specs.Cmp.{on_total};
 

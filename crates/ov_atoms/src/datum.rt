@@ -1,8 +1,8 @@
 ghost use Rattle.std.specs.Prelude.{◌≡◌, ◌∷◌, [], T, IfOk, option_map, if◌then◌else◌, Some, None};
 ghost use Rattle.std.specs.Bool.{OnTrue};
 ghost use Rattle.std.specs.FinMap.{is_sorted};
-ghost use Rattle.ov_specs.specs.Value as value;
-ghost use Rattle.ov_specs.specs.Reading.{has_clash};
+ghost use Rattle.ov_specs.specs.values.Value as value;
+ghost use Rattle.ov_specs.specs.values.Reading.{has_clash};
 ghost use Rattle.ov_atoms.specs.Views.{atom_view, kinds_view, atoms_view, pairs_view};
 
 use crate::atom::Atom;
@@ -15,25 +15,26 @@ use std::marker::Model;
 /// A value of a column: a finite set of atoms or a finite map (RFC 7047, 5.1, `<value>`). A scalar is a set of one.
 #[derive(Drop)]
 pub struct Datum {
-    pub(crate) parts: Parts,
+    pub(crate) parts: SortedElements,
 }
 
 /// Atoms, or pairs by their keys, ascending and without repeats.
 #[derive(Drop)]
-pub(crate) enum Parts {
+pub(crate) enum SortedElements {
     Atoms(Vec<Atom>),
     Pairs(Vec<(Atom, Atom)>),
 }
 
 impl Model for Datum {
-    ghost use Rattle.ov_specs.specs.Value as value;
-    ghost use Rattle.ov_atoms.specs.Views.{parts_view, IsAscending};
+    ghost use Rattle.ov_specs.specs.codes.ValueCode.{datum_code};
+    ghost use Rattle.ov_specs.specs.values.Value as value;
+    ghost use Rattle.ov_atoms.specs.Views.{sorted_view, IsAscending};
 
     ghost Value = { value.Datum };
 
-    ghost coded = { value.datum_code };
+    ghost coded = { datum_code };
 
-    ghost view = { λ d. parts_view d.parts };
+    ghost view = { λ d. sorted_view d.parts };
 
     ghost invariant = { λ d. IsAscending d.parts };
 }
@@ -46,7 +47,7 @@ impl Datum {
         let mut atoms = Vec::with_capacity(alloc, 1)?;
         atoms.push(atom)?;
         Ok(Datum {
-            parts: Parts::Atoms(atoms),
+            parts: SortedElements::Atoms(atoms),
         })
     }
 
@@ -59,7 +60,7 @@ impl Datum {
         atoms.sort()?;
         atoms.dedup();
         Ok(Datum {
-            parts: Parts::Atoms(atoms),
+            parts: SortedElements::Atoms(atoms),
         })
     }
 
@@ -72,7 +73,7 @@ impl Datum {
         pairs.sort()?;
         if do_ascend(pairs.as_slice()) {
             return Ok(Some(Datum {
-                parts: Parts::Pairs(pairs),
+                parts: SortedElements::Pairs(pairs),
             }));
         }
         Datum::of_repeated(alloc, pairs)
@@ -90,7 +91,7 @@ impl Datum {
             ascending.push(pair)?;
         }
         Ok(Some(Datum {
-            parts: Parts::Pairs(ascending),
+            parts: SortedElements::Pairs(ascending),
         }))
     }
 
@@ -100,10 +101,10 @@ impl Datum {
     {
         match kinds {
             Kinds::Single(_) => Datum {
-                parts: Parts::Atoms(Vec::new(alloc)),
+                parts: SortedElements::Atoms(Vec::new(alloc)),
             },
             Kinds::Pair(_, _) => Datum {
-                parts: Parts::Pairs(Vec::new(alloc)),
+                parts: SortedElements::Pairs(Vec::new(alloc)),
             },
         }
     }
@@ -118,7 +119,7 @@ impl Datum {
                 let mut pairs = Vec::new(alloc);
                 pairs.push((Atom::default_of(alloc, key), Atom::default_of(alloc, value)))?;
                 Ok(Datum {
-                    parts: Parts::Pairs(pairs),
+                    parts: SortedElements::Pairs(pairs),
                 })
             }
         }
@@ -129,8 +130,8 @@ impl Datum {
         ensures { option_map (λ xs. atoms_view xs.now) result ≡ value.atoms_in self.now }
     {
         match &self.parts {
-            Parts::Atoms(atoms) => Some(atoms.as_slice()),
-            Parts::Pairs(_) => None,
+            SortedElements::Atoms(atoms) => Some(atoms.as_slice()),
+            SortedElements::Pairs(_) => None,
         }
     }
 
@@ -139,8 +140,8 @@ impl Datum {
         ensures { option_map (λ ps. pairs_view ps.now) result ≡ value.pairs_in self.now }
     {
         match &self.parts {
-            Parts::Atoms(_) => None,
-            Parts::Pairs(pairs) => Some(pairs.as_slice()),
+            SortedElements::Atoms(_) => None,
+            SortedElements::Pairs(pairs) => Some(pairs.as_slice()),
         }
     }
 
@@ -149,8 +150,8 @@ impl Datum {
         ensures { result ≡ value.count self.now }
     {
         match &self.parts {
-            Parts::Atoms(atoms) => atoms.as_slice().len(),
-            Parts::Pairs(pairs) => pairs.as_slice().len(),
+            SortedElements::Atoms(atoms) => atoms.as_slice().len(),
+            SortedElements::Pairs(pairs) => pairs.as_slice().len(),
         }
     }
 
@@ -159,16 +160,16 @@ impl Datum {
         ensures { IfOk result (λ d. d ≡ self.now) }
     {
         match &self.parts {
-            Parts::Atoms(atoms) => {
+            SortedElements::Atoms(atoms) => {
                 let atoms = copy_atoms(alloc, atoms.as_slice())?;
                 Ok(Datum {
-                    parts: Parts::Atoms(atoms),
+                    parts: SortedElements::Atoms(atoms),
                 })
             }
-            Parts::Pairs(pairs) => {
+            SortedElements::Pairs(pairs) => {
                 let pairs = copy_pairs(alloc, pairs.as_slice())?;
                 Ok(Datum {
-                    parts: Parts::Pairs(pairs),
+                    parts: SortedElements::Pairs(pairs),
                 })
             }
         }

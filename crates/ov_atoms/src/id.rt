@@ -1,6 +1,6 @@
 ghost use Rattle.std.specs.Prelude.{◌≡◌};
 ghost use Rattle.std.specs.List.{list_all};
-ghost use Rattle.ov_specs.specs.Uuid.{is_id, begins_id, continues_id};
+ghost use Rattle.ov_specs.specs.values.Uuid.{is_id, begins_id, continues_id};
 
 /// Whether a text is an `<id>`, a name as `[a-zA-Z_][a-zA-Z0-9_]*` (RFC 7047, 3.1).
 pub fn is_id(name: &str) -> bool

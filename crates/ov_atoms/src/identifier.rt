@@ -1,8 +1,8 @@
 ghost use Rattle.std.specs.Prelude.{◌≡◌, ◌<◌, length, All, true};
 ghost use Rattle.serde_json.specs.View.{view};
 ghost use Rattle.uuid.specs.Text.{parsed, parsed_hyphenated};
-ghost use Rattle.ov_specs.specs.Uuid.{is_uuid};
-ghost use Rattle.ov_specs.specs.Reading.{uuid_read};
+ghost use Rattle.ov_specs.specs.values.Uuid.{is_uuid};
+ghost use Rattle.ov_specs.specs.values.Reading.{uuid_read};
 
 use crate::id::is_id;
 use crate::names::Names;

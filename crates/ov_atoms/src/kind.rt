@@ -1,5 +1,5 @@
 ghost use Rattle.std.specs.Prelude.{◌≡◌};
-ghost use Rattle.ov_specs.specs.Value.{kind_rank};
+ghost use Rattle.ov_specs.specs.values.Value.{kind_rank};
 ghost use Rattle.ov_atoms.specs.Views.{kind_view};
 
 /// An atomic type (RFC 7047, 3.2, `<atomic-type>`). "real" is left out (own).

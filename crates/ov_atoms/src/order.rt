@@ -1,11 +1,11 @@
-use crate::datum::{Datum, Parts};
+use crate::datum::{Datum, SortedElements};
 use std::cmp::Ordering;
 
 impl PartialEq for Datum {
     ghost use Rattle.std.specs.Ordering.{eq_by_cmp};
     ghost use Rattle.std.specs.Cmp.{partial_equiv_from_equiv, eq_by_cmp_equiv};
-    ghost use Rattle.ov_specs.specs.Value.{datum_cmp};
-    ghost use Rattle.ov_specs.proofs.DatumOrder.{datum_cmp_total};
+    ghost use Rattle.ov_specs.specs.values.Value.{datum_cmp};
+    ghost use Rattle.ov_specs.proofs.laws.DatumOrder.{datum_cmp_total};
 
     ghost eq = { eq_by_cmp datum_cmp };
 
@@ -19,7 +19,7 @@ impl PartialEq for Datum {
 
 impl Eq for Datum {
     ghost use Rattle.std.specs.Cmp.{eq_by_cmp_equiv};
-    ghost use Rattle.ov_specs.proofs.DatumOrder.{datum_cmp_total};
+    ghost use Rattle.ov_specs.proofs.laws.DatumOrder.{datum_cmp_total};
 
     ghost laws = { eq_by_cmp_equiv datum_cmp_total };
 }
@@ -27,8 +27,8 @@ impl Eq for Datum {
 impl PartialOrd for Datum {
     ghost use Rattle.std.specs.Prelude.{Some, refl};
     ghost use Rattle.std.specs.Cmp.{partial_order_from_agreeing_total};
-    ghost use Rattle.ov_specs.specs.Value.{datum_cmp};
-    ghost use Rattle.ov_specs.proofs.DatumOrder.{datum_cmp_total};
+    ghost use Rattle.ov_specs.specs.values.Value.{datum_cmp};
+    ghost use Rattle.ov_specs.proofs.laws.DatumOrder.{datum_cmp_total};
 
     ghost partial_cmp = { λ a b. Some (datum_cmp a b) };
 
@@ -41,8 +41,8 @@ impl PartialOrd for Datum {
 
 impl Ord for Datum {
     ghost use Rattle.std.specs.Prelude.{refl};
-    ghost use Rattle.ov_specs.specs.Value.{datum_cmp};
-    ghost use Rattle.ov_specs.proofs.DatumOrder.{datum_cmp_total};
+    ghost use Rattle.ov_specs.specs.values.Value.{datum_cmp};
+    ghost use Rattle.ov_specs.proofs.laws.DatumOrder.{datum_cmp_total};
 
     ghost cmp = { datum_cmp };
 
@@ -55,10 +55,10 @@ impl Ord for Datum {
     /// Element by element in ascending order, a beginning first; sets before maps.
     fn cmp(&self, other: &Datum) -> Ordering {
         match (&self.parts, &other.parts) {
-            (Parts::Atoms(a), Parts::Atoms(b)) => a.as_slice().cmp(b.as_slice()),
-            (Parts::Pairs(a), Parts::Pairs(b)) => a.as_slice().cmp(b.as_slice()),
-            (Parts::Atoms(_), Parts::Pairs(_)) => Ordering::Less,
-            (Parts::Pairs(_), Parts::Atoms(_)) => Ordering::Greater,
+            (SortedElements::Atoms(a), SortedElements::Atoms(b)) => a.as_slice().cmp(b.as_slice()),
+            (SortedElements::Pairs(a), SortedElements::Pairs(b)) => a.as_slice().cmp(b.as_slice()),
+            (SortedElements::Atoms(_), SortedElements::Pairs(_)) => Ordering::Less,
+            (SortedElements::Pairs(_), SortedElements::Atoms(_)) => Ordering::Greater,
         }
     }
 }

@@ -1,9 +1,9 @@
 ghost use Rattle.std.specs.Prelude.{◌≡◌, IfOk, true, option_map, option_and_then};
 ghost use Rattle.serde_json.specs.Find.{as_number, as_str};
 ghost use Rattle.serde_json.specs.View.{view, items_view};
-ghost use Rattle.ov_specs.specs.Uuid.{AreUuids};
-ghost use Rattle.ov_specs.specs.Value.{has_nul, is_atom_of, is_of};
-ghost use Rattle.ov_specs.specs.Reading.{integer_read, without_nul, atom_read, pair_read, each_read, atoms_read, pairs_read, reads};
+ghost use Rattle.ov_specs.specs.values.Uuid.{AreUuids};
+ghost use Rattle.ov_specs.specs.values.Value.{has_nul, is_atom_of, is_of};
+ghost use Rattle.ov_specs.specs.values.Reading.{integer_read, without_nul, atom_read, pair_read, each_read, atoms_read, pairs_read, reads};
 ghost use Rattle.ov_atoms.specs.Views.{kind_view, kinds_view, atom_view, pair_view, atoms_view, pairs_view};
 ghost use Rattle.ov_atoms.specs.Answers.{IsAnswer, reading_of};
 

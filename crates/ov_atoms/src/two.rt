@@ -1,6 +1,6 @@
 ghost use Rattle.std.specs.Prelude.{◌≡◌, option_map};
 ghost use Rattle.serde_json.specs.View.{view};
-ghost use Rattle.ov_specs.specs.Reading.{as_two, behind};
+ghost use Rattle.ov_specs.specs.values.Reading.{as_two, behind};
 
 use serde_json::Value;
 

@@ -1,15 +1,15 @@
 ghost use Rattle.std.specs.Prelude.{◌≡◌, IfOk, codes, true, false};
 ghost use Rattle.serde_json.specs.Data.{string, array};
 ghost use Rattle.serde_json.specs.View.{view, items_view, items_of};
-ghost use Rattle.ov_specs.specs.Tree.{has_real};
-ghost use Rattle.ov_specs.specs.Value.{Kinds, is_of};
-ghost use Rattle.ov_specs.specs.Uuid.{Names};
-ghost use Rattle.ov_specs.specs.Reading.{Reads, reads};
-ghost use Rattle.ov_specs.specs.Writing.{two, atom_tree, pair_tree, set_tree, map_tree, tree};
+ghost use Rattle.ov_specs.specs.wire.Tree.{has_real};
+ghost use Rattle.ov_specs.specs.values.Value.{Kinds, is_of};
+ghost use Rattle.ov_specs.specs.values.Uuid.{Names};
+ghost use Rattle.ov_specs.specs.values.Reading.{Reads, reads};
+ghost use Rattle.ov_specs.specs.values.Writing.{two, atom_tree, pair_tree, set_tree, map_tree, tree};
 ghost use Rattle.ov_atoms.specs.Views.{atom_view, pair_view, atoms_view, pairs_view};
 
 use crate::atom::Atom;
-use crate::datum::{Datum, Parts};
+use crate::datum::{Datum, SortedElements};
 use serde_json::Value;
 use std::alloc::{AllocError, Global};
 use uuid::Uuid;
@@ -99,7 +99,7 @@ pub fn write_datum(alloc: Global, datum: &Datum) -> Result<Value, AllocError>
     ensures reads_back { IfOk result (λ v. (names : Names) (kinds : Kinds) → is_of kinds datum.now ≡ true → reads names kinds (view v) ≡ Reads datum.now) }
 {
     match &datum.parts {
-        Parts::Atoms(atoms) => write_atoms(alloc, atoms.as_slice()),
-        Parts::Pairs(pairs) => write_pairs(alloc, pairs.as_slice()),
+        SortedElements::Atoms(atoms) => write_atoms(alloc, atoms.as_slice()),
+        SortedElements::Pairs(pairs) => write_pairs(alloc, pairs.as_slice()),
     }
 }

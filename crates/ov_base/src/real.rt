@@ -1,6 +1,6 @@
 ghost use Rattle.std.specs.Prelude.{◌≡◌};
 ghost use Rattle.serde_json.specs.View.{view, items_view, members_view};
-ghost use Rattle.ov_specs.specs.Tree.{has_real, items_have_real, members_have_real};
+ghost use Rattle.ov_specs.specs.wire.Tree.{has_real, items_have_real, members_have_real};
 
 use serde_json::{Map, Value};
 

@@ -1,7 +1,7 @@
 ghost use Rattle.std.specs.Prelude.{◌≡◌, IfOk, false};
 ghost use Rattle.serde_json.specs.Written.{compact_text};
 ghost use Rattle.serde_json.specs.View.{view};
-ghost use Rattle.ov_specs.specs.Tree.{has_real};
+ghost use Rattle.ov_specs.specs.wire.Tree.{has_real};
 
 use crate::bytes::Bytes;
 use serde_json::Value;
@@ -18,8 +18,8 @@ impl Model for Tree {
     ghost use Rattle.std.specs.Prelude.{◌≡◌, false};
     ghost use Rattle.serde_json.specs.Data.{Data};
     ghost use Rattle.serde_json.specs.View.{view as data_of};
-    ghost use Rattle.ov_specs.specs.Tree.{has_real};
-    ghost use Rattle.ov_specs.specs.TreeCode.{tree_code};
+    ghost use Rattle.ov_specs.specs.wire.Tree.{has_real};
+    ghost use Rattle.ov_specs.specs.codes.TreeCode.{tree_code};
 
     ghost Value = { Data };
 

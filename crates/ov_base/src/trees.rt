@@ -1,7 +1,7 @@
 ghost use Rattle.std.specs.Prelude.{◌≡◌, IfOk, false};
 ghost use Rattle.serde_json.specs.Data.{array};
 ghost use Rattle.serde_json.specs.View.{items_view};
-ghost use Rattle.ov_specs.specs.Tree.{items_have_real};
+ghost use Rattle.ov_specs.specs.wire.Tree.{items_have_real};
 
 use crate::tree::Tree;
 use serde_json::Value;
@@ -18,8 +18,8 @@ impl Model for Trees {
     ghost use Rattle.std.specs.Prelude.{◌≡◌, false};
     ghost use Rattle.serde_json.specs.Data.{Items};
     ghost use Rattle.serde_json.specs.View.{items_view};
-    ghost use Rattle.ov_specs.specs.Tree.{items_have_real};
-    ghost use Rattle.ov_specs.specs.TreeCode.{items_code};
+    ghost use Rattle.ov_specs.specs.wire.Tree.{items_have_real};
+    ghost use Rattle.ov_specs.specs.codes.TreeCode.{items_code};
 
     ghost Value = { Items };
 

@@ -4,34 +4,18 @@ use Rattle.std.specs.List.{list_any, list_all}
 use Rattle.std.specs.Ordering.{is_lt, ordering_reverse}
 use Rattle.std.specs.FinMap.{is_sorted}
 use Rattle.std.specs.FinMap.Entries.{below_all}
-use Rattle.ov_specs.specs.Value.{Atom, atom_cmp}
-use Rattle.ov_specs.proofs.Order.{atom_cmp_total, atom_cmp-IsAntisymmetric}
+use Rattle.ov_specs.specs.values.Value.{Atom, atom_cmp}
+use Rattle.ov_specs.proofs.laws.Order.{atom_cmp_total, atom_cmp-IsAntisymmetric}
 use Rattle.ov_conds.specs.Walks.{from_key, is_first}
+use Rattle.ov_specs.proofs.laws.Truths.{both_hold, left_holds, less_is, right_holds}
 
 -- ---- truth values
-
-pub first : (a b : Bool) → T (a && b) → T a
-first true b h = tt
-first false b h = h
-
-pub second : (a b : Bool) → T (a && b) → T b
-second true b h = h
-second false b h = absurd h
-
-both : (a b : Bool) → T a → T b → T (a && b)
-both true b p q = q
-both false b p q = p
 
 or_false : (a b : Bool) → b ≡ false → (a || b) ≡ a
 or_false true b e = refl
 or_false false b e = e
 
 -- ---- the order of keys
-
-pub less : (o : Ordering) → T (is_lt o) → o ≡ Less
-less Less h = refl
-less Equal h = absurd h
-less Greater h = absurd h
 
 -- a key that is not below k is below another: so is k
 reaches : (k x y : Atom) → is_lt (atom_cmp x k) ≡ false → atom_cmp x y ≡ Less → atom_cmp k y ≡ Less
@@ -57,7 +41,7 @@ module _ {A : Type 0} (key : A → Atom) where
   ascends-from_key k [] h = tt
   ascends-from_key k (x ∷ xs) h =
       elim (is_lt (atom_cmp (key x) k)) as (λ b. T (ascends (if b then from_key key k xs else x ∷ xs))) [
-        | true ↦ ascends-from_key k xs (second (below (key x) xs) (ascends xs) h)
+        | true ↦ ascends-from_key k xs (right_holds (below (key x) xs) (ascends xs) h)
         | false ↦ h
       ]
 
@@ -65,8 +49,8 @@ module _ {A : Type 0} (key : A → Atom) where
     pub none-below : (k : Atom) → ((x : A) → atom_cmp k (key x) ≡ Less → test x ≡ false) → (xs : List A) → T (below k xs) → list_any test xs ≡ false
     none-below k apart [] h = refl
     none-below k apart (x ∷ xs) h =
-        ap (λ b. b || list_any test xs) (apart x (less _ (first (is_lt (atom_cmp k (key x))) (below k xs) h)))
-        ∙ none-below k apart xs (second (is_lt (atom_cmp k (key x))) (below k xs) h)
+        ap (λ b. b || list_any test xs) (apart x (less_is _ (left_holds (is_lt (atom_cmp k (key x))) (below k xs) h)))
+        ∙ none-below k apart xs (right_holds (is_lt (atom_cmp k (key x))) (below k xs) h)
 
     none-after : (k x : Atom) → is_lt (atom_cmp x k) ≡ false → ((y : A) → atom_cmp k (key y) ≡ Less → test y ≡ false) → (xs : List A) → T (below x xs) → list_any test xs ≡ false
     none-after k x past apart xs h = none-below x (λ y up. apart y (reaches k x (key y) past up)) xs h
@@ -76,7 +60,7 @@ module _ {A : Type 0} (key : A → Atom) where
     list_any-from_key k apart [] = refl
     list_any-from_key k apart (x ∷ xs) =
         elim (is_lt (atom_cmp (key x) k)) as (λ b. is_lt (atom_cmp (key x) k) ≡ b → list_any test (if b then from_key key k xs else x ∷ xs) ≡ (test x || list_any test xs)) [
-          | true ↦ λ e. list_any-from_key k apart xs ∙ sym (ap (λ b. b || list_any test xs) (apart x (less _ (subst T (sym e) tt))))
+          | true ↦ λ e. list_any-from_key k apart xs ∙ sym (ap (λ b. b || list_any test xs) (apart x (less_is _ (subst T (sym e) tt))))
           | false ↦ λ e. refl
         ] refl
 
@@ -85,8 +69,8 @@ module _ {A : Type 0} (key : A → Atom) where
     is_first-any k apart [] h = refl
     is_first-any k apart (x ∷ xs) h =
         elim (is_lt (atom_cmp (key x) k)) as (λ b. is_lt (atom_cmp (key x) k) ≡ b → is_first test (if b then from_key key k xs else x ∷ xs) ≡ list_any test (if b then from_key key k xs else x ∷ xs)) [
-          | true ↦ λ e. is_first-any k apart xs (second (below (key x) xs) (ascends xs) h)
-          | false ↦ λ e. sym (or_false (test x) (list_any test xs) (none-after k (key x) e apart xs (first (below (key x) xs) (ascends xs) h)))
+          | true ↦ λ e. is_first-any k apart xs (right_holds (below (key x) xs) (ascends xs) h)
+          | false ↦ λ e. sym (or_false (test x) (list_any test xs) (none-after k (key x) e apart xs (left_holds (below (key x) xs) (ascends xs) h)))
         ] refl
 
     pub is_first-from_key : (k : Atom) → ((x : A) → atom_cmp (key x) k ≡ Less → test x ≡ false) → ((x : A) → atom_cmp k (key x) ≡ Less → test x ≡ false) → (xs : List A) → T (ascends xs)
@@ -98,19 +82,19 @@ module _ {A : Type 0} (key : A → Atom) where
 module _ {X : Type 0} where
   keys-below : (k : Atom) (es : List (Atom × X)) → T (below_all atom_cmp k es) → T (below (λ a. a) k (map (λ e. e.0) es))
   keys-below k [] h = tt
-  keys-below k (e ∷ es) h = both _ _ (first (is_lt (atom_cmp k e.0)) (below_all atom_cmp k es) h) (keys-below k es (second (is_lt (atom_cmp k e.0)) (below_all atom_cmp k es) h))
+  keys-below k (e ∷ es) h = both_hold _ _ (left_holds (is_lt (atom_cmp k e.0)) (below_all atom_cmp k es) h) (keys-below k es (right_holds (is_lt (atom_cmp k e.0)) (below_all atom_cmp k es) h))
 
   pub keys-ascend : (es : List (Atom × X)) → T (is_sorted atom_cmp es) → T (ascends (λ a. a) (map (λ e. e.0) es))
   keys-ascend [] h = tt
-  keys-ascend (e ∷ es) h = both _ _ (keys-below e.0 es (first (below_all atom_cmp e.0 es) (is_sorted atom_cmp es) h)) (keys-ascend es (second (below_all atom_cmp e.0 es) (is_sorted atom_cmp es) h))
+  keys-ascend (e ∷ es) h = both_hold _ _ (keys-below e.0 es (left_holds (below_all atom_cmp e.0 es) (is_sorted atom_cmp es) h)) (keys-ascend es (right_holds (below_all atom_cmp e.0 es) (is_sorted atom_cmp es) h))
 
   entries-below : (k : Atom) (es : List (Atom × X)) → T (below_all atom_cmp k es) → T (below (λ e. e.0) k es)
   entries-below k [] h = tt
-  entries-below k (e ∷ es) h = both _ _ (first (is_lt (atom_cmp k e.0)) (below_all atom_cmp k es) h) (entries-below k es (second (is_lt (atom_cmp k e.0)) (below_all atom_cmp k es) h))
+  entries-below k (e ∷ es) h = both_hold _ _ (left_holds (is_lt (atom_cmp k e.0)) (below_all atom_cmp k es) h) (entries-below k es (right_holds (is_lt (atom_cmp k e.0)) (below_all atom_cmp k es) h))
 
   pub entries-ascend : (es : List (Atom × X)) → T (is_sorted atom_cmp es) → T (ascends (λ e. e.0) es)
   entries-ascend [] h = tt
-  entries-ascend (e ∷ es) h = both _ _ (entries-below e.0 es (first (below_all atom_cmp e.0 es) (is_sorted atom_cmp es) h)) (entries-ascend es (second (below_all atom_cmp e.0 es) (is_sorted atom_cmp es) h))
+  entries-ascend (e ∷ es) h = both_hold _ _ (entries-below e.0 es (left_holds (below_all atom_cmp e.0 es) (is_sorted atom_cmp es) h)) (entries-ascend es (right_holds (below_all atom_cmp e.0 es) (is_sorted atom_cmp es) h))
 
 -- ---- walks
 
@@ -132,8 +116,8 @@ module _ {A C : Type 0} (key : A → Atom) (at : C → Atom) (same : A → C →
     all-later : (k : Atom) (xs : List A) (cs : List C) → T (below at k cs) → list_all (λ c. g (has (from_key key k xs) c)) cs ≡ list_all (λ c. g (has xs c)) cs
     all-later k xs [] h = refl
     all-later k xs (c ∷ cs) h =
-        let here = has-from_key k xs c (less _ (first (is_lt (atom_cmp k (at c))) (below at k cs) h)) in
-        let rest = all-later k xs cs (second (is_lt (atom_cmp k (at c))) (below at k cs) h) in
+        let here = has-from_key k xs c (less_is _ (left_holds (is_lt (atom_cmp k (at c))) (below at k cs) h)) in
+        let rest = all-later k xs cs (right_holds (is_lt (atom_cmp k (at c))) (below at k cs) h) in
         λ i. g (here i) && rest i
 
     -- a walk that asks for one element after another
@@ -143,6 +127,6 @@ module _ {A C : Type 0} (key : A → Atom) (at : C → Atom) (same : A → C →
     walk-all walk none one xs [] h j = none xs
     walk-all walk none one xs (c ∷ cs) h j =
         let here = is_first-has xs c h in
-        let later = walk-all walk none one (from_key key (at c) xs) cs (ascends-from_key key (at c) xs h) (second (below at (at c) cs) (ascends at cs) j)
-        ∙ all-later (at c) xs cs (first (below at (at c) cs) (ascends at cs) j) in
+        let later = walk-all walk none one (from_key key (at c) xs) cs (ascends-from_key key (at c) xs h) (right_holds (below at (at c) cs) (ascends at cs) j)
+        ∙ all-later (at c) xs cs (left_holds (below at (at c) cs) (ascends at cs) j) in
         one xs c cs ∙ λ i. g (here i) && later i

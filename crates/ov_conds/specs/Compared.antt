@@ -2,10 +2,10 @@
 use Rattle.std.specs.Prelude.{ℤ, int_lt, int_le, not, List, Bool, true, false, Option, None}
 use Rattle.std.specs.Cmp.Lexicographic.{pointwise}
 use Rattle.std.specs.FinMap.{keys, entries}
-use Rattle.ov_specs.specs.Conditions.{Function, Less, LessOrEqual, Greater, GreaterOrEqual, Equal, NotEqual, Includes, Excludes, lone_integer, stand}
-use Rattle.ov_specs.specs.Database.{is_atom, is_pair}
-use Rattle.ov_specs.specs.Value as value
-use Rattle.ov_specs.specs.Value.{Datum}
+use Rattle.ov_specs.specs.operations.Conditions.{Function, Less, LessOrEqual, Greater, GreaterOrEqual, Equal, NotEqual, Includes, Excludes, lone_integer, are_numbers_so}
+use Rattle.ov_specs.specs.rows.Database.{same_atom, same_pair}
+use Rattle.ov_specs.specs.values.Value as value
+use Rattle.ov_specs.specs.values.Value.{Datum}
 use Rattle.ov_conds.specs.Walks.{includes_atoms, includes_pairs, excludes_atoms, excludes_pairs}
 
 -- the atoms of a set, or the pairs of a map, ascending
@@ -25,8 +25,8 @@ number_of (Pairs pairs) = None
 
 -- the same set or map
 abbrev pub are_same : Elements → Elements → Bool
-are_same (Atoms a) (Atoms b) = pointwise is_atom a b
-are_same (Pairs a) (Pairs b) = pointwise is_pair a b
+are_same (Atoms a) (Atoms b) = pointwise same_atom a b
+are_same (Pairs a) (Pairs b) = pointwise same_pair a b
 are_same a b = false
 
 -- all of the value is in the column
@@ -43,10 +43,10 @@ excludes column value = true
 
 -- the column stands so to the value
 abbrev pub compares : Function → Elements → Elements → Bool
-compares Less column value = stand int_lt (number_of column) (number_of value)
-compares LessOrEqual column value = stand int_le (number_of column) (number_of value)
-compares Greater column value = stand int_lt (number_of value) (number_of column)
-compares GreaterOrEqual column value = stand int_le (number_of value) (number_of column)
+compares Less column value = are_numbers_so int_lt (number_of column) (number_of value)
+compares LessOrEqual column value = are_numbers_so int_le (number_of column) (number_of value)
+compares Greater column value = are_numbers_so int_lt (number_of value) (number_of column)
+compares GreaterOrEqual column value = are_numbers_so int_le (number_of value) (number_of column)
 compares Equal column value = are_same column value
 compares NotEqual column value = not (are_same column value)
 compares Includes column value = includes column value

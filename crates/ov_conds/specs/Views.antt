@@ -1,7 +1,7 @@
 -- The functions, the parts of a condition and the faults of the code, as those of the definitions.
 use Rattle.std.specs.Prelude.{◌≡◌, Result, Ok, Err}
 use Rattle.serde_json.specs.View.{view}
-use Rattle.ov_specs.specs.Conditions as conditions
+use Rattle.ov_specs.specs.operations.Conditions as conditions
 use Rattle.ov_atoms.specs.declared.fault.AtomFault.{AtomFault}
 use Rattle.ov_atoms.specs.declared.fault.AtomFault.TheVariants as atom
 use Rattle.ov_conds.specs.declared.fault.ConditionFault.{ConditionFault}
@@ -32,9 +32,9 @@ fault_of atom.Clash = Clash
 fault_of atom.Memory = Memory
 
 -- what is read, or the fault that there is in place of it; want of memory may be answered to anything
-abbrev pub IsRead : {A : Type 0} → Result A conditions.ConditionFault → Result A ConditionFault → Type 0
-IsRead read (Ok a) = read ≡ Ok a
-IsRead read (Err Syntax) = read ≡ Err conditions.Syntax
-IsRead read (Err UnknownColumn) = read ≡ Err conditions.NoColumn
-IsRead read (Err Clash) = read ≡ Err conditions.Clash
-IsRead read (Err Memory) = Unit {0}
+abbrev pub IsConditionRead : {A : Type 0} → Result A conditions.ConditionFault → Result A ConditionFault → Type 0
+IsConditionRead read (Ok a) = read ≡ Ok a
+IsConditionRead read (Err Syntax) = read ≡ Err conditions.BadCondition
+IsConditionRead read (Err UnknownColumn) = read ≡ Err conditions.NoColumn
+IsConditionRead read (Err Clash) = read ≡ Err conditions.Clash
+IsConditionRead read (Err Memory) = Unit {0}

@@ -1,8 +1,8 @@
 ghost use Rattle.std.specs.Prelude.{◌≡◌, int_lt, int_le};
 ghost use Rattle.std.specs.Cmp.Lexicographic.{pointwise};
 ghost use Rattle.ov_atoms.specs.Views.{atoms_view, pairs_view};
-ghost use Rattle.ov_specs.specs.Conditions.{stand};
-ghost use Rattle.ov_specs.specs.Database.{is_atom, is_pair};
+ghost use Rattle.ov_specs.specs.operations.Conditions.{are_numbers_so};
+ghost use Rattle.ov_specs.specs.rows.Database.{same_atom, same_pair};
 ghost use Rattle.ov_conds.specs.Compared as compared;
 ghost use Rattle.ov_conds.specs.ElementViews.{elements_view};
 ghost use Rattle.ov_conds.specs.Views.{function_view};
@@ -13,7 +13,7 @@ use crate::walk::{excludes_atoms, excludes_pairs, includes_atoms, includes_pairs
 use ov_atoms::Atom;
 
 fn is_below(first: Option<i64>, second: Option<i64>) -> bool
-    ensures { result ≡ stand int_lt first second }
+    ensures { result ≡ are_numbers_so int_lt first second }
 {
     match (first, second) {
         (Some(first), Some(second)) => first < second,
@@ -22,7 +22,7 @@ fn is_below(first: Option<i64>, second: Option<i64>) -> bool
 }
 
 fn is_at_most(first: Option<i64>, second: Option<i64>) -> bool
-    ensures { result ≡ stand int_le first second }
+    ensures { result ≡ are_numbers_so int_le first second }
 {
     match (first, second) {
         (Some(first), Some(second)) => first <= second,
@@ -31,13 +31,13 @@ fn is_at_most(first: Option<i64>, second: Option<i64>) -> bool
 }
 
 fn are_atoms(first: &[Atom], second: &[Atom]) -> bool
-    ensures { result ≡ pointwise is_atom (atoms_view first.now) (atoms_view second.now) }
+    ensures { result ≡ pointwise same_atom (atoms_view first.now) (atoms_view second.now) }
 {
     first == second
 }
 
 fn are_pairs(first: &[(Atom, Atom)], second: &[(Atom, Atom)]) -> bool
-    ensures { result ≡ pointwise is_pair (pairs_view first.now) (pairs_view second.now) }
+    ensures { result ≡ pointwise same_pair (pairs_view first.now) (pairs_view second.now) }
 {
     first == second
 }

@@ -1,10 +1,10 @@
 ghost use Rattle.std.specs.Prelude.{◌≡◌};
 ghost use Rattle.serde_json.specs.View.{view};
-ghost use Rattle.ov_specs.specs.Conditions.{row_value, holds, compares, value_read, condition_read};
-ghost use Rattle.ov_specs.specs.Database.{one_uuid};
-ghost use Rattle.ov_specs.specs.Reading.{reads};
-ghost use Rattle.ov_specs.specs.SchemaTypes.{kinds_of};
-ghost use Rattle.ov_conds.specs.Views.{function_view, IsRead};
+ghost use Rattle.ov_specs.specs.operations.Conditions.{column_value, holds, compares, value_read, condition_read};
+ghost use Rattle.ov_specs.specs.rows.Database.{one_uuid};
+ghost use Rattle.ov_specs.specs.values.Reading.{reads};
+ghost use Rattle.ov_specs.specs.schema.SchemaTypes.{kinds_of};
+ghost use Rattle.ov_conds.specs.Views.{function_view, IsConditionRead};
 
 use crate::elements::Elements;
 use crate::fault::ConditionFault;
@@ -28,12 +28,13 @@ pub struct Condition {
 }
 
 impl Model for Condition {
-    ghost use Rattle.ov_specs.specs.Conditions as conditions;
+    ghost use Rattle.ov_specs.specs.operations.Conditions as conditions;
+    ghost use Rattle.ov_specs.specs.codes.ConditionCode.{condition_code};
     ghost use Rattle.ov_conds.specs.Views.{function_view};
 
     ghost Value = { conditions.Condition };
 
-    ghost coded = { conditions.condition_code };
+    ghost coded = { condition_code };
 
     ghost view = { λ c. record { column = c.column; function = function_view c.function; value = c.value } };
 }
@@ -48,7 +49,7 @@ impl Condition {
         tree: &Value,
         names: &N,
     ) -> Result<Condition, ConditionFault>
-        ensures { IsRead (condition_read (N.names names.now) table.now (view tree.now)) result }
+        ensures { IsConditionRead (condition_read (N.names names.now) table.now (view tree.now)) result }
     {
         let Some(parts) = Triple::read(tree) else {
             return Err(ConditionFault::Syntax);
@@ -69,7 +70,7 @@ impl Condition {
 
     /// Whether a row meets the condition. A row that lacks the column meets none (RFC 7047, 5.1, `<condition>`).
     pub fn holds(&self, row: &RowView<'_>) -> bool
-        ensures { result ≡ holds (row_value row.now.id row.now.version row.now.columns.now) self.now }
+        ensures { result ≡ holds (column_value row.now.id row.now.version row.now.columns.now) self.now }
     {
         let name = self.column.as_str();
         if name == "_uuid" {
@@ -107,7 +108,7 @@ fn read_value<N: Names>(
     tree: &Value,
     names: &N,
 ) -> Result<Datum, ConditionFault>
-    ensures { IsRead (value_read column.now.type_of (reads (N.names names.now) (kinds_of column.now.type_of) (view tree.now))) result }
+    ensures { IsConditionRead (value_read column.now.type_of (reads (N.names names.now) (kinds_of column.now.type_of) (view tree.now))) result }
 {
     let value = read_datum(alloc, tree, column.kinds(), names)?;
     if column.is_scalar() && value.count() != 1 {

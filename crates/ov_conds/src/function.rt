@@ -1,5 +1,5 @@
 ghost use Rattle.std.specs.Prelude.{◌≡◌, ◌&&◌, is_none, option_map};
-ghost use Rattle.ov_specs.specs.Conditions.{function_of, is_integers, is_allowed_on, function_on};
+ghost use Rattle.ov_specs.specs.operations.Conditions.{function_of, is_integers, allows_function, function_on};
 ghost use Rattle.ov_conds.specs.Views.{function_view};
 
 use ov_atoms::{AtomKind, Kinds};
@@ -45,7 +45,7 @@ impl Function {
 
     /// Whether the column can be compared so: in order only where it holds one integer, otherwise whatever it holds.
     fn is_allowed_on(self, column: &Column) -> bool
-        ensures { result ≡ is_allowed_on column.now.type_of (function_view self) }
+        ensures { result ≡ allows_function column.now.type_of (function_view self) }
     {
         match self {
             Function::Less | Function::LessOrEqual | Function::Greater | Function::GreaterOrEqual =>

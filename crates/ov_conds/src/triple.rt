@@ -1,6 +1,6 @@
 ghost use Rattle.std.specs.Prelude.{◌≡◌, option_map};
 ghost use Rattle.serde_json.specs.View.{view};
-ghost use Rattle.ov_specs.specs.Conditions.{triple_read};
+ghost use Rattle.ov_specs.specs.operations.Conditions.{triple_read};
 ghost use Rattle.ov_conds.specs.Views.{triple_view};
 
 use serde_json::Value;

@@ -1,17 +1,12 @@
--- What a message is answered, as frames that wait.
-use Rattle.std.proofs.Common.{◌≡◌, ℕ, List, [], ◌∷◌, ◌++◌, map, refl, sym, ap, ◌∙◌, cond, eqb, Bool, true, false, codes}
+-- What is sent to a session, as frames that wait.
+use Rattle.std.proofs.Common.{◌≡◌, ℕ, List, [], ◌∷◌, ◌++◌, map, refl, sym, ap, ◌∙◌, cond, eqb, Bool, true, false}
 use Rattle.std.proofs.lemmas.List.{append-nil}
 use Rattle.std.proofs.lemmas.Bool.{eqb-true, eq-eqb, ne_eqb}
-use Rattle.serde_json.specs.Data.{Data, Items}
-use Rattle.ov_specs.specs.Frame.{frame, failure_tree}
-use Rattle.ov_specs.specs.Method.{is_text, reply_to}
-use Rattle.ov_specs.specs.Machine.{to_session}
-use Rattle.ov_specs.specs.History.{frames_to}
-use Rattle.ov_core.specs.Waiting.{Queues, waiting_for, Adds}
-
--- a method that is not known
-pub unknown : (name : List ℕ) (id : Data) (method : List ℕ) (params : Items) → is_text method (codes "list_dbs") ≡ false → is_text method (codes "echo") ≡ false → failure_tree id (codes "unknown method") ≡ reply_to name id method params
-unknown name id method params a b = rw (a, b) refl
+use Rattle.serde_json.specs.Data.{Data}
+use Rattle.ov_specs.specs.wire.Frame.{frame}
+use Rattle.ov_specs.specs.machine.Machine.{to_session}
+use Rattle.ov_specs.specs.machine.History.{frames_to}
+use Rattle.ov_core.specs.Outbox.{WaitingFrames, waiting_for, PostsFrame}
 
 frames_by : (s other : ℕ) (b : Bool) → eqb s other ≡ b → (trees : List Data) → frames_to other (to_session s trees) ≡ cond b (map frame trees) []
 frames_by s other true e [] = refl
@@ -31,7 +26,7 @@ pub frames_to-to_session : (s other : ℕ) (trees : List Data) → frames_to oth
 frames_to-to_session s other trees = frames_by s other (eqb other s) (turned other s (eqb other s) refl) trees
 
 -- a frame that was added is what is sent
-pub adds_sent : (s : ℕ) (bytes : List ℕ) (trees : List Data) (old new : Queues) → map frame trees ≡ bytes ∷ [] → Adds s bytes old new → (other : ℕ) → waiting_for other new ≡ waiting_for other old ++ frames_to other (to_session s trees)
+pub adds_sent : (s : ℕ) (bytes : List ℕ) (trees : List Data) (old new : WaitingFrames) → map frame trees ≡ bytes ∷ [] → PostsFrame s bytes old new → (other : ℕ) → waiting_for other new ≡ waiting_for other old ++ frames_to other (to_session s trees)
 adds_sent s bytes trees old new is added other = added other ∙ ap (λ fs. waiting_for other old ++ fs) (sym (frames_to-to_session s other trees ∙ ap (λ fs. cond (eqb other s) fs []) is))
 
 nothing_by : (b : Bool) → cond {A = List (List ℕ)} b [] [] ≡ []
@@ -39,5 +34,5 @@ nothing_by true = refl
 nothing_by false = refl
 
 -- where nothing is sent, nothing is added
-pub nothing_sent : (s : ℕ) (trees : List Data) (old : Queues) → map frame trees ≡ [] → (other : ℕ) → waiting_for other old ≡ waiting_for other old ++ frames_to other (to_session s trees)
+pub nothing_sent : (s : ℕ) (trees : List Data) (old : WaitingFrames) → map frame trees ≡ [] → (other : ℕ) → waiting_for other old ≡ waiting_for other old ++ frames_to other (to_session s trees)
 nothing_sent s trees old is other = sym (ap (λ fs. waiting_for other old ++ fs) (frames_to-to_session s other trees ∙ (ap (λ fs. cond (eqb other s) fs []) is ∙ nothing_by (eqb other s))) ∙ append-nil (waiting_for other old))

@@ -8,9 +8,9 @@ use Rattle.std.specs.BTreeMap.{BTreeMap, is_at, get}
 use Rattle.std.specs.Ordering.{nat_cmp, is_eq}
 use Rattle.std.specs.declared.cmp.Ordering.TheVariants.{Less, Equal, Greater}
 use Rattle.std.specs.Cmp.{nat_cmp_is}
-use Rattle.std.proofs.lemmas.List.{append-nil}
+use Rattle.std.proofs.lemmas.List.{append-nil, nil_from_length}
 use Rattle.std.proofs.lemmas.Bool.{eqb-true, eq-eqb, ne_eqb, cases_order, false≢true}
-use Rattle.ov_core.specs.Waiting.{Queues, waiting_for, queues_of, Adds, WaitsSame}
+use Rattle.ov_core.specs.Outbox.{WaitingFrames, waiting_for, outbox_of, PostsFrame, HasSameFrames}
 
 abbrev Deque : Type 0
 Deque = VecDeque (List ℕ) Global
@@ -26,12 +26,12 @@ look_more : (b : Bool) (d : Deque) (o : Option (List (List ℕ))) (p : Option De
 look_more true d o p again = refl
 look_more false d o p again = again
 
-look : (test : ℕ → Bool) (es : List (ℕ × Deque)) → lookup test (queues_of es) ≡ option_map (λ q. q.items) (lookup test es)
+look : (test : ℕ → Bool) (es : List (ℕ × Deque)) → lookup test (outbox_of es) ≡ option_map (λ q. q.items) (lookup test es)
 look test [] = refl
-look test (e ∷ es) = look_more (test e.0) e.1 (lookup test (queues_of es)) (lookup test es) (look test es)
+look test (e ∷ es) = look_more (test e.0) e.1 (lookup test (outbox_of es)) (lookup test es) (look test es)
 
 -- what waits is what the map has at the serial
-pub waiting_in : (m : Queued) (s : ℕ) → waiting_for s (queues_of m.entries) ≡ frames_in (get nat_cmp m s)
+pub waiting_in : (m : Queued) (s : ℕ) → waiting_for s (outbox_of m.entries) ≡ frames_in (get nat_cmp m s)
 waiting_in m s = ap (λ o. unwrap_or o []) (look (is_at (nat_cmp s)) m.entries)
 
 same_test : (a b : ℕ) → is_at (nat_cmp a) b ≡ eqb b a
@@ -45,7 +45,7 @@ same_test a b = elim (cases_order a b) [
 
 -- what waits after the map was updated at one serial
 pub waiting_after : (m n : Queued) (s : ℕ) (w : Option Deque) → ((q : ℕ) → get nat_cmp n q ≡ cond (is_at (nat_cmp s) q) w (get nat_cmp m q))
-    → (other : ℕ) → waiting_for other (queues_of n.entries) ≡ cond (eqb other s) (frames_in w) (waiting_for other (queues_of m.entries))
+    → (other : ℕ) → waiting_for other (outbox_of n.entries) ≡ cond (eqb other s) (frames_in w) (waiting_for other (outbox_of m.entries))
 waiting_after m n s w h other =
     waiting_in n other ∙ (ap frames_in (h other ∙ ap (λ b. cond b w (get nat_cmp m other)) (same_test s other)) ∙ (by_test (eqb other s)
     ∙ ap (cond (eqb other s) (frames_in w)) (sym (waiting_in m other))))
@@ -55,8 +55,8 @@ waiting_after m n s w h other =
     by_test false = refl
 
 -- a frame was put behind the others of its session, where there was memory for it
-pub pushed : (s : ℕ) (frame : List ℕ) (old new : Queues) (b : Bool) (before after : List (List ℕ)) → waiting_for s old ≡ before → after ≡ cond b (before ++ frame ∷ []) before
-    → ((other : ℕ) → waiting_for other new ≡ cond (eqb other s) after (waiting_for other old)) → MatchBool b (Adds s frame old new) (WaitsSame old new)
+pub pushed : (s : ℕ) (frame : List ℕ) (old new : WaitingFrames) (b : Bool) (before after : List (List ℕ)) → waiting_for s old ≡ before → after ≡ cond b (before ++ frame ∷ []) before
+    → ((other : ℕ) → waiting_for other new ≡ cond (eqb other s) after (waiting_for other old)) → MatchBool b (PostsFrame s frame old new) (HasSameFrames old new)
 pushed s frame old new true before after is more h = λ other. h other ∙ here other (eqb other s) refl
   where
     here : (other : ℕ) (b : Bool) → eqb other s ≡ b → cond b after (waiting_for other old) ≡ waiting_for other old ++ cond b (frame ∷ []) []
@@ -69,7 +69,7 @@ pushed s frame old new false before after is more h = λ other. h other ∙ here
     here other false e = refl
 
 -- a session's queue was given up, or nothing was done
-pub same_where_empty : (s : ℕ) (old new : Queues) → waiting_for s old ≡ [] → ((other : ℕ) → waiting_for other new ≡ cond (eqb other s) [] (waiting_for other old)) → WaitsSame old new
+pub same_where_empty : (s : ℕ) (old new : WaitingFrames) → waiting_for s old ≡ [] → ((other : ℕ) → waiting_for other new ≡ cond (eqb other s) [] (waiting_for other old)) → HasSameFrames old new
 same_where_empty s old new is h other = h other ∙ here (eqb other s) refl
   where
     here : (b : Bool) → eqb other s ≡ b → cond b [] (waiting_for other old) ≡ waiting_for other old
@@ -84,14 +84,9 @@ others_wait s other after waits differ = rw (ne_eqb other s differ) refl
 pub its_own : (s : ℕ) (after waits : List (List ℕ)) → cond (eqb s s) after waits ≡ after
 its_own s after waits = rw (eq-eqb s s refl) refl
 
--- a list of no length is empty
-pub no_items : {A : Type 0} (xs : List A) → length xs ≡ 0 → xs ≡ []
-no_items [] h = refl
-no_items (x ∷ xs) h = absurd (omega arith)
-
 -- where no frame was taken out, none waited
 pub nothing_popped : (o : Option (List ℕ)) (n : ℕ) (P : Type 0) (Q : List ℕ → Type 0) (items waits : List (List ℕ)) → MatchOption o ((n ≡ 0) × P) Q → n ≡ length items → waits ≡ items → IfNone o (waits ≡ [])
-nothing_popped None n P Q items waits none counts is = is ∙ no_items items (sym counts ∙ none.0)
+nothing_popped None n P Q items waits none counts is = is ∙ nil_from_length items (sym counts ∙ none.0)
 nothing_popped (Some frame) n P Q items waits none counts is = tt
 
 -- a list with one behind it is not empty
@@ -113,17 +108,17 @@ same_front (a ∷ xs) (b ∷ ys) x y h =
     cc
 
 -- what was added waits
-its_frame : (s : ℕ) (former : List ℕ) (before old : Queues) → Adds s former before old → waiting_for s old ≡ waiting_for s before ++ former ∷ []
+its_frame : (s : ℕ) (former : List ℕ) (before old : WaitingFrames) → PostsFrame s former before old → waiting_for s old ≡ waiting_for s before ++ former ∷ []
 its_frame s former before old added = added s ∙ ap (λ b. waiting_for s before ++ cond b (former ∷ []) []) (eq-eqb s s refl)
 
 -- where a frame was added, some frame waits
-pub some_waits : (s : ℕ) (former : List ℕ) (before old : Queues) → Adds s former before old → waiting_for s old ≡ [] → ⊥
+pub some_waits : (s : ℕ) (former : List ℕ) (before old : WaitingFrames) → PostsFrame s former before old → waiting_for s old ≡ [] → ⊥
 some_waits s former before old added none = not_empty (waiting_for s before) former (sym none ∙ its_frame s former before old added)
 
 -- another frame stands in place of the newest
-pub replaced : (s : ℕ) (frame popped : List ℕ) (kept after : List (List ℕ)) (old new : Queues) → waiting_for s old ≡ kept ++ popped ∷ [] → after ≡ kept ++ frame ∷ []
+pub replaced : (s : ℕ) (frame popped : List ℕ) (kept after : List (List ℕ)) (old new : WaitingFrames) → waiting_for s old ≡ kept ++ popped ∷ [] → after ≡ kept ++ frame ∷ []
     → ((other : ℕ) → waiting_for other new ≡ cond (eqb other s) after (waiting_for other old))
-    → (before : Queues) (former : List ℕ) → Adds s former before old → Adds s frame before new
+    → (before : WaitingFrames) (former : List ℕ) → PostsFrame s former before old → PostsFrame s frame before new
 replaced s frame popped kept after old new was is h before former added other = h other ∙ here (eqb other s) refl
   where
     front : kept ≡ waiting_for s before
@@ -140,5 +135,5 @@ popped_some None h = absurd (false≢true h)
 
 -- none was taken out of an empty queue
 pub popped_none : (o : Option (List ℕ)) (n : ℕ) (P : Type 0) (Q : List ℕ → Type 0) (items : List (List ℕ)) → MatchOption o ((n ≡ 0) × P) Q → is_some o ≡ false → n ≡ length items → items ≡ []
-popped_none None n P Q items cases none counts = no_items items (sym counts ∙ cases.0)
+popped_none None n P Q items cases none counts = nil_from_length items (sym counts ∙ cases.0)
 popped_none (Some popped) n P Q items cases none counts = absurd (false≢true (sym none))

@@ -5,39 +5,37 @@ use Rattle.std.specs.Prelude.{MatchBool, option_to_list, not, ◌||◌, filter, 
 use Rattle.std.proofs.lemmas.List.{append-nil, map-append}
 use Rattle.std.proofs.lemmas.List.Elements.{filter-append}
 use Rattle.std.proofs.lemmas.Bool.{le-leb, lt-leb, false≢true}
-use Rattle.ov_specs.specs.Machine as machine
-use Rattle.ov_specs.specs.Machine.{State, Sent, Stepped, step}
-use Rattle.ov_specs.specs.Uuid.{Uuid}
-use Rattle.ov_specs.specs.History.{run, frames_to, then_sends}
-use Rattle.ov_specs.specs.Frame.{frame}
-use Rattle.ov_specs.specs.Message.{Message}
+use Rattle.ov_specs.specs.machine.Machine as machine
+use Rattle.ov_specs.specs.machine.Machine.{State, Sent, Stepped, step}
+use Rattle.ov_specs.specs.values.Uuid.{Uuid}
+use Rattle.ov_specs.specs.machine.History.{run, frames_to, then_sends}
+use Rattle.ov_specs.specs.wire.Frame.{frame}
+use Rattle.ov_specs.specs.wire.Message.{Message}
 use Rattle.ov_core.specs.declared.event.Entry.{Entry}
 use Rattle.ov_core.specs.declared.event.Outcome.{Outcome}
 use Rattle.ov_core.specs.declared.event.Outcome.TheVariants as outcome
-use Rattle.ov_core.specs.declared.work.Worked.{Worked}
+use Rattle.ov_core.specs.declared.handle.Handled.{Handled}
 use Rattle.ov_core.specs.Entries.{entry_view, listed_attempts, is_closing}
-use Rattle.ov_core.specs.Waiting.{Queues, waiting_for, WaitsSame}
-use Rattle.ov_db.specs.Kept.{Kept}
-use Rattle.ov_core.specs.Working.{over, left_by, listed_first, Comes}
-use Rattle.ov_core.specs.Following.{Running, Moves}
+use Rattle.ov_core.specs.Outbox.{WaitingFrames, waiting_for, HasSameFrames}
+use Rattle.ov_db.specs.KeptDatabase.{KeptDatabase}
+use Rattle.ov_core.specs.Handling.{with_db, closed_if_no_memory, listed_first, IsHandled}
+use Rattle.ov_core.specs.Following.{CoreState, EntersEntry}
 use Rattle.ov_core.specs.Stepping.{closing, most_sessions, Closes, IsEntered}
 use Rattle.ov_core.specs.declared.event.Stepped.TheVariants as answer
+use Rattle.std.proofs.lemmas.Option.{same_Some}
 
 -- ---- histories
 
 -- what is sent in two parts
-frames_to-append : (s : ℕ) (xs ys : List Sent) → frames_to s (xs ++ ys) ≡ frames_to s xs ++ frames_to s ys
+pub frames_to-append : (s : ℕ) (xs ys : List Sent) → frames_to s (xs ++ ys) ≡ frames_to s xs ++ frames_to s ys
 frames_to-append s xs ys = ap (map (λ (t : Sent). frame t.tree)) (filter-append (λ (t : Sent). eqb t.session s) xs ys) ∙ map-append _ _ _
-
-some_inj : {A : Type 0} (x y : A) → Some x ≡ Some y → x ≡ y
-some_inj x y h = cc
 
 second : (h : List machine.Entry) (e : machine.Entry) (t u v : Stepped) (r : Option Stepped) → run v.state h ≡ r → option_map (then_sends v.sent) r ≡ Some t → step t.state e ≡ Some u
     → ((w : Stepped) → run v.state h ≡ Some w → step w.state e ≡ Some u → run v.state (h ++ e ∷ []) ≡ Some (record { state = u.state; sent = w.sent ++ u.sent }))
     → option_map (then_sends v.sent) (run v.state (h ++ e ∷ [])) ≡ Some (record { state = u.state; sent = t.sent ++ u.sent })
 second h e t u v None is k q again = cc
 second h e t u v (Some w) is k q again =
-    let same : then_sends v.sent w ≡ t = some_inj _ _ k in
+    let same : then_sends v.sent w ≡ t = same_Some _ _ k in
     let q' : step w.state e ≡ Some u = subst (λ (x : Stepped). step x.state e ≡ Some u) (sym same) q in
     rw (again w is q') (ap (λ (x : List Sent). Some (record { state = u.state; sent = x })) (sym (append_assoc v.sent w.sent u.sent) ∙ ap (λ (x : Stepped). x.sent ++ u.sent) same))
 
@@ -50,7 +48,7 @@ first h e t u (Some v) p q again = second h e t u v (run v.state h) refl p q (λ
 -- a run goes on by one step
 pub run_more : (s : State) (h : List machine.Entry) (e : machine.Entry) (t u : Stepped) → run s h ≡ Some t → step t.state e ≡ Some u → run s (h ++ e ∷ []) ≡ Some (record { state = u.state; sent = t.sent ++ u.sent })
 run_more s [] e t u p q =
-    let same : record { state = s; sent = [] } ≡ t = some_inj _ _ p in
+    let same : record { state = s; sent = [] } ≡ t = same_Some _ _ p in
     let at : step s e ≡ Some u = subst (λ (k : Stepped). step k.state e ≡ Some u) (sym same) q in
     rw at (ap (λ (k : List Sent). Some (record { state = u.state; sent = k })) (append-nil u.sent ∙ ap (λ (k : Stepped). k.sent ++ u.sent) same))
 run_more s (d ∷ h) e t u p q = first h e t u (step s d) p q (λ v w r k. run_more v.state h e w u r k)
@@ -58,8 +56,8 @@ run_more s (d ∷ h) e t u p q = first h e t u (step s d) p q (λ v w r k. run_m
 -- ---- what a step of the code leaves
 
 -- an entry that is a step of the machine, is kept, and whose frames wait
-pub moves_with : {K D : Type 0} (old new : Running K D) (e : machine.Entry) (x : Entry) (sent : List Sent) → step old.state e ≡ Some (record { state = new.state; sent = sent }) → new.kept ≡ old.kept ++ x ∷ [] → entry_view x ≡ e
-    → ((s : ℕ) → waiting_for s new.waiting ≡ waiting_for s old.waiting ++ frames_to s sent) → Moves old e new
+pub moves_with : {K D : Type 0} (old new : CoreState K D) (e : machine.Entry) (x : Entry) (sent : List Sent) → step old.state e ≡ Some (record { state = new.state; sent = sent }) → new.kept ≡ old.kept ++ x ∷ [] → entry_view x ≡ e
+    → ((s : ℕ) → waiting_for s new.outbox ≡ waiting_for s old.outbox ++ frames_to s sent) → EntersEntry old e new
 moves_with old new e x sent stepped kept is waits = record {
   sent = sent;
   stepped = stepped;
@@ -68,14 +66,14 @@ moves_with old new e x sent stepped kept is waits = record {
     sent = f.sent ++ sent;
     legal = run_more before history e (record { state = old.state; sent = f.sent }) (record { state = new.state; sent = sent }) f.legal stepped;
     kept = ap (map entry_view) kept ∙ (map-append entry_view old.kept (x ∷ []) ∙ (ap (λ (y : machine.Entry). map entry_view old.kept ++ y ∷ []) is ∙ ap (λ (h : List machine.Entry). h ++ e ∷ []) f.kept));
-    issued = λ s. frames_to-append s f.sent sent ∙ (ap (λ (fs : List (List ℕ)). fs ++ frames_to s sent) (f.issued s) ∙ (append_assoc (given s) (waiting_for s old.waiting) (frames_to s sent) ∙ ap (λ (fs : List (List ℕ)). given s ++ fs) (sym (waits s))));
+    issued = λ s. frames_to-append s f.sent sent ∙ (ap (λ (fs : List (List ℕ)). fs ++ frames_to s sent) (f.issued s) ∙ (append_assoc (given s) (waiting_for s old.outbox) (frames_to s sent) ∙ ap (λ (fs : List (List ℕ)). given s ++ fs) (sym (waits s))));
   };
 }
 
 -- a step that sends nothing
-pub moves_silent : {K D : Type 0} (old new : Running K D) (e : machine.Entry) (x : Entry) → step old.state e ≡ Some (record { state = new.state; sent = [] }) → new.kept ≡ old.kept ++ x ∷ [] → entry_view x ≡ e
-    → WaitsSame old.waiting new.waiting → Moves old e new
-moves_silent old new e x stepped kept is same = moves_with old new e x [] stepped kept is (λ s. same s ∙ sym (append-nil (waiting_for s old.waiting)))
+pub moves_silent : {K D : Type 0} (old new : CoreState K D) (e : machine.Entry) (x : Entry) → step old.state e ≡ Some (record { state = new.state; sent = [] }) → new.kept ≡ old.kept ++ x ∷ [] → entry_view x ≡ e
+    → HasSameFrames old.outbox new.outbox → EntersEntry old e new
+moves_silent old new e x stepped kept is same = moves_with old new e x [] stepped kept is (λ s. same s ∙ sym (append-nil (waiting_for s old.outbox)))
 
 -- at a moment that is not below the last one
 step_at : (s : State) (event : machine.Event) (c : machine.Choice) → s.moment ≤ c.moment → step s (record { event = event; choice = c }) ≡ machine.happens (record s { moment = c.moment }) c event
@@ -89,19 +87,19 @@ nothing_chosen m = record { moment = m; draws = []; outcomes = [] }
 abbrev pub entry_of : machine.Event → machine.Choice → machine.Entry
 entry_of event choice = record { event = event; choice = choice }
 
-pub ticked : {K D : Type 0} (old : Running K D) (m : ℕ) (x : Entry) (kept : List Entry) → old.state.moment ≤ m → kept ≡ old.kept ++ x ∷ [] → entry_view x ≡ entry_of machine.Tick (nothing_chosen m)
-    → Moves old (entry_of machine.Tick (nothing_chosen m)) (record old { state = record old.state { moment = m }; kept = kept })
+pub ticked : {K D : Type 0} (old : CoreState K D) (m : ℕ) (x : Entry) (kept : List Entry) → old.state.moment ≤ m → kept ≡ old.kept ++ x ∷ [] → entry_view x ≡ entry_of machine.Tick (nothing_chosen m)
+    → EntersEntry old (entry_of machine.Tick (nothing_chosen m)) (record old { state = record old.state { moment = m }; kept = kept })
 ticked old m x kept low added is = moves_silent old _ _ x (step_at old.state machine.Tick (nothing_chosen m) low) added is (λ s. refl)
 
-pub opened : {K D : Type 0} (old : Running K D) (m : ℕ) (x : Entry) (kept : List Entry) (sessions : List ℕ) → old.state.moment ≤ m → kept ≡ old.kept ++ x ∷ [] → entry_view x ≡ entry_of machine.Open (nothing_chosen m)
+pub opened : {K D : Type 0} (old : CoreState K D) (m : ℕ) (x : Entry) (kept : List Entry) (sessions : List ℕ) → old.state.moment ≤ m → kept ≡ old.kept ++ x ∷ [] → entry_view x ≡ entry_of machine.Open (nothing_chosen m)
     → sessions ≡ old.state.sessions ++ old.state.next ∷ []
-    → Moves old (entry_of machine.Open (nothing_chosen m)) (record old { state = record old.state { moment = m; sessions = sessions; next = old.state.next + 1 }; kept = kept })
+    → EntersEntry old (entry_of machine.Open (nothing_chosen m)) (record old { state = record old.state { moment = m; sessions = sessions; next = old.state.next + 1 }; kept = kept })
 opened old m x kept sessions low added is grown = moves_silent old _ _ x (step_at old.state machine.Open (nothing_chosen m) low ∙ rw grown refl) added is (λ s. refl)
 
-pub closed : {K D : Type 0} (old : Running K D) (m : ℕ) (s : ℕ) (cause : machine.Cause) (x : Entry) (kept : List Entry) (sessions : List ℕ) (waiting : Queues) → old.state.moment ≤ m → machine.is_open old.state s ≡ true → kept ≡ old.kept ++ x ∷ [] → entry_view x ≡ closing m s cause
-    → sessions ≡ (machine.without s old.state).sessions → WaitsSame old.waiting waiting
-    → Moves old (closing m s cause) (record old { state = record old.state { moment = m; sessions = sessions }; kept = kept; waiting = waiting })
-closed old m s cause x kept sessions waiting low there added is left same = moves_silent old _ _ x (step_at old.state (machine.Close s cause) (nothing_chosen m) low ∙ rw (there, left) refl) added is same
+pub closed : {K D : Type 0} (old : CoreState K D) (m : ℕ) (s : ℕ) (cause : machine.Cause) (x : Entry) (kept : List Entry) (sessions : List ℕ) (outbox : WaitingFrames) → old.state.moment ≤ m → machine.is_open old.state s ≡ true → kept ≡ old.kept ++ x ∷ [] → entry_view x ≡ closing m s cause
+    → sessions ≡ (machine.without_session s old.state).sessions → HasSameFrames old.outbox outbox
+    → EntersEntry old (closing m s cause) (record old { state = record old.state { moment = m; sessions = sessions }; kept = kept; outbox = outbox })
+closed old m s cause x kept sessions outbox low there added is left same = moves_silent old _ _ x (step_at old.state (machine.Close s cause) (nothing_chosen m) low ∙ rw (there, left) refl) added is same
 
 -- the one session
 pub alone : (o : Option ℕ) (s : ℕ) → list_any (λ n. eqb n s) (option_to_list o) ≡ true → [] ≡ filter (λ n. not (eqb n s)) (option_to_list o)
@@ -115,7 +113,7 @@ alone (Some n) s h = last (eqb n s) h
 -- ---- a message that was taken
 
 -- the database of a core
-abbrev pub kept_of : {K D : Type 0} → Running K D → Kept K
+abbrev pub kept_of : {K D : Type 0} → CoreState K D → KeptDatabase K
 kept_of core = record { schema = core.state.schema; committed = core.state.database; sealed = core.state.sealed; keeper = core.keeper }
 
 -- the entry of a message, with what was drawn for it and what is listed of it
@@ -140,7 +138,7 @@ taking_step s m n message draws o low there =
     ∙ rw there (ap (λ l. machine.takes (record s { moment = m }) (taking m n message draws o).choice n message l) (listed_alone o))
 
 -- where memory was refused, the session is left out
-left_closing : (n : ℕ) (o : Option Outcome) (s : State) → is_closing o ≡ true → left_by n o s ≡ machine.without n s
+left_closing : (n : ℕ) (o : Option Outcome) (s : State) → is_closing o ≡ true → closed_if_no_memory n o s ≡ machine.without_session n s
 left_closing n None s h = absurd (false≢true h)
 left_closing n (Some outcome.NoMemory) s h = refl
 left_closing n (Some outcome.Kept) s h = absurd (false≢true h)
@@ -148,11 +146,11 @@ left_closing n (Some outcome.Exhausted) s h = absurd (false≢true h)
 left_closing n (Some outcome.Failed) s h = absurd (false≢true h)
 
 -- and these sessions are left
-pub left_without : (n : ℕ) (o : Option Outcome) (s : State) (sessions : List ℕ) → is_closing o ≡ true → sessions ≡ (machine.without n s).sessions → left_by n o s ≡ record s { sessions = sessions }
+pub left_without : (n : ℕ) (o : Option Outcome) (s : State) (sessions : List ℕ) → is_closing o ≡ true → sessions ≡ (machine.without_session n s).sessions → closed_if_no_memory n o s ≡ record s { sessions = sessions }
 left_without n o s sessions closing are = left_closing n o s closing ∙ ap (λ (ss : List ℕ). record s { sessions = ss }) (sym are)
 
 -- and else the state stays
-pub left_open : (n : ℕ) (o : Option Outcome) (s : State) → is_closing o ≡ false → left_by n o s ≡ s
+pub left_open : (n : ℕ) (o : Option Outcome) (s : State) → is_closing o ≡ false → closed_if_no_memory n o s ≡ s
 left_open n None s h = refl
 left_open n (Some outcome.NoMemory) s h = absurd (false≢true (sym h))
 left_open n (Some outcome.Kept) s h = refl
@@ -160,26 +158,26 @@ left_open n (Some outcome.Exhausted) s h = refl
 left_open n (Some outcome.Failed) s h = refl
 
 -- the core after the work, at the moment, with these sessions
-abbrev pub after_work : {K D : Type 0} → Running K D → ℕ → List ℕ → List Entry → Queues → Kept K → D → Running K D
-after_work old m sessions entries waiting kept source = record {
+abbrev pub after_work : {K D : Type 0} → CoreState K D → ℕ → List ℕ → List Entry → WaitingFrames → KeptDatabase K → D → CoreState K D
+after_work old m sessions entries outbox kept source = record {
   state = record old.state { schema = kept.schema; database = kept.committed; sealed = kept.sealed; sessions = sessions; moment = m };
   kept = entries;
-  waiting = waiting;
+  outbox = outbox;
   keeper = kept.keeper;
   source = source;
 }
 
 -- the work was entered
-pub taken : {K D : Type 0} (old : Running K D) (m n : ℕ) (message : Message) (worked : Worked) (x : Entry) (entries : List Entry) (sessions : List ℕ) (waiting : Queues) (kept : Kept K) (source : D)
-    → old.state.moment ≤ m → machine.is_open old.state n ≡ true → entries ≡ old.kept ++ x ∷ [] → entry_view x ≡ taking m n message worked.draws.items worked.outcome
-    → left_by n worked.outcome (over (record old.state { moment = m }) kept) ≡ (after_work old m sessions entries waiting kept source).state
-    → Comes n (λ s. machine.work_of s message) (kept_of old) old.waiting worked kept waiting
-    → Moves old (taking m n message worked.draws.items worked.outcome) (after_work old m sessions entries waiting kept source)
-taken old m n message worked x entries sessions waiting kept source low there added is left comes =
+pub taken : {K D : Type 0} (old : CoreState K D) (m n : ℕ) (message : Message) (handled : Handled) (x : Entry) (entries : List Entry) (sessions : List ℕ) (outbox : WaitingFrames) (kept : KeptDatabase K) (source : D)
+    → old.state.moment ≤ m → machine.is_open old.state n ≡ true → entries ≡ old.kept ++ x ∷ [] → entry_view x ≡ taking m n message handled.draws.items handled.outcome
+    → closed_if_no_memory n handled.outcome (with_db (record old.state { moment = m }) kept) ≡ (after_work old m sessions entries outbox kept source).state
+    → IsHandled n (λ s. machine.work_of s message) (kept_of old) old.outbox handled kept outbox
+    → EntersEntry old (taking m n message handled.draws.items handled.outcome) (after_work old m sessions entries outbox kept source)
+taken old m n message handled x entries sessions outbox kept source low there added is left is_handled =
     let now : State = record old.state { moment = m } in
-    let came = comes now in
-    moves_with old (after_work old m sessions entries waiting kept source) (taking m n message worked.draws.items worked.outcome) x (machine.to_session n came.0)
-    (taking_step old.state m n message worked.draws.items worked.outcome low there ∙ (came.1 ∙ ap (λ (s : State). Some (record { state = s; sent = machine.to_session n came.0 })) left))
+    let came = is_handled now in
+    moves_with old (after_work old m sessions entries outbox kept source) (taking m n message handled.draws.items handled.outcome) x (machine.to_session n came.0)
+    (taking_step old.state m n message handled.draws.items handled.outcome low there ∙ (came.1 ∙ ap (λ (s : State). Some (record { state = s; sent = machine.to_session n came.0 })) left))
     added is came.2
 
 -- there is a place, and a serial
@@ -192,9 +190,9 @@ it_closed true o P Q h there = h
 it_closed false o P Q h there = absurd (false≢true (sym h.1 ∙ there))
 
 -- a Close for want of memory stands in place of a Take
-pub stood_in : {K D : Type 0} (draws : D → Uuid → D → Type 0) (at s : ℕ) (message : Message) (old new : Running K D) → Closes at s machine.Memory old new → IsEntered draws at (machine.Take s message) old answer.Closed new
+pub stood_in : {K D : Type 0} (draws : D → Uuid → D → Type 0) (at s : ℕ) (message : Message) (old new : CoreState K D) → Closes at s machine.Memory old new → IsEntered draws at (machine.Take s message) old answer.Closed new
 stood_in draws at s message old new c = record { entry = closing at s machine.Memory; tells = (inr refl, c.shut); moment = refl; drawn = c.drawn; moves = c.moves }
 
 -- a Close as it was asked for
-pub closed_as_asked : {K D : Type 0} (draws : D → Uuid → D → Type 0) (at s : ℕ) (cause : machine.Cause) (old new : Running K D) → Closes at s cause old new → IsEntered draws at (machine.Close s cause) old answer.Done new
+pub closed_as_asked : {K D : Type 0} (draws : D → Uuid → D → Type 0) (at s : ℕ) (cause : machine.Cause) (old new : CoreState K D) → Closes at s cause old new → IsEntered draws at (machine.Close s cause) old answer.Done new
 closed_as_asked draws at s cause old new c = record { entry = closing at s cause; tells = refl; moment = refl; drawn = c.drawn; moves = c.moves }

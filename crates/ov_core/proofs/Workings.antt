@@ -5,17 +5,17 @@ use Rattle.std.proofs.lemmas.List.{append-nil}
 use Rattle.std.proofs.lemmas.Bool.{eq-eqb, le-leb}
 use Rattle.serde_json.specs.Data.{Data, Items, array}
 use Rattle.serde_json.specs.Written.{compact_text}
-use Rattle.ov_specs.specs.Database.{Database, is_database}
-use Rattle.ov_specs.specs.Frame.{frame, reply_tree}
-use Rattle.ov_specs.specs.History.{frames_to}
-use Rattle.ov_specs.specs.Lines.{Contents}
-use Rattle.ov_specs.specs.Machine as machine
-use Rattle.ov_specs.specs.Machine.{State, Stepped, Work, Answers, Transact, works, transacts, changes, attempted, closed, without, to_session, results_of, suits_draws}
-use Rattle.ov_specs.specs.Transaction.{Transacted, transaction, draws_wanted, exhausted, failed}
-use Rattle.ov_specs.specs.Uuid.{Uuid}
+use Rattle.ov_specs.specs.rows.Database.{Database, same_database}
+use Rattle.ov_specs.specs.wire.Frame.{frame, reply_tree}
+use Rattle.ov_specs.specs.machine.History.{frames_to}
+use Rattle.ov_specs.specs.rows.Lines.{Contents}
+use Rattle.ov_specs.specs.machine.Machine as machine
+use Rattle.ov_specs.specs.machine.Machine.{State, Stepped, Work, Answers, Transact, works, transacts, commits_unless_sealed, attempted, closed, without_session, to_session, results_of, is_draw_count}
+use Rattle.ov_specs.specs.operations.Transaction.{Transacted, transaction, draws_wanted, exhausted_results, failed_results}
+use Rattle.ov_specs.specs.values.Uuid.{Uuid}
 use Rattle.ov_db.specs.Committing.{IsHeld}
 use Rattle.ov_db.specs.Changing.{Delta, applied}
-use Rattle.ov_db.specs.Kept.{Kept}
+use Rattle.ov_db.specs.KeptDatabase.{KeptDatabase}
 use Rattle.ov_core.proofs.Answered.{adds_sent, nothing_sent}
 use Rattle.ov_core.specs.declared.answer.Work.TheVariants as kinds
 use Rattle.ov_core.specs.declared.event.Outcome.{Outcome}
@@ -23,21 +23,21 @@ use Rattle.ov_core.specs.declared.event.Outcome.TheVariants as outcome
 use Rattle.ov_core.specs.declared.frames.Frames.{Frames}
 use Rattle.ov_core.specs.Leaving.{LeavesItsOwn}
 use Rattle.ov_core.specs.Preparing.{AreFrames}
-use Rattle.ov_core.specs.Waiting.{Queues, waiting_for, Adds, WaitsSame}
-use Rattle.ov_core.specs.Working.{IsWork, Waits, Commits, over, left_by, listed_first, Goes, IsAttempt}
+use Rattle.ov_core.specs.Outbox.{WaitingFrames, waiting_for, PostsFrame, HasSameFrames}
+use Rattle.ov_core.specs.Handling.{IsWork, PostsIfRoom, CommitsWithReply, with_db, closed_if_no_memory, listed_first, IsMachineStep, IsAttempt}
 
 -- ---- want of memory
 
 -- whatever would be changed
-changes_memory : (s : State) (n : ℕ) (id : Data) (t : Transacted) (sealed : Option Database) → changes s n id t sealed (Some machine.NoMemory) ≡ Some (closed s n)
+changes_memory : (s : State) (n : ℕ) (id : Data) (t : Transacted) (sealed : Option Database) → commits_unless_sealed s n id t sealed (Some machine.NoMemory) ≡ Some (closed s n)
 changes_memory s n id t None = refl
 changes_memory s n id t (Some d) = refl
 
 -- whatever the transaction does
 transacts_memory : (s : State) (n : ℕ) (id : Data) (t : Transacted) → transacts s n id t (Some machine.NoMemory) ≡ Some (closed s n)
-transacts_memory s n id t = by_test (is_database s.database t.database)
+transacts_memory s n id t = by_test (same_database s.database t.database)
   where
-    by_test : (b : Bool) → cond b (attempted s n (results_of id t.results) (Some machine.NoMemory)) (changes s n id t s.sealed (Some machine.NoMemory)) ≡ Some (closed s n)
+    by_test : (b : Bool) → cond b (attempted s n (results_of id t.results) (Some machine.NoMemory)) (commits_unless_sealed s n id t s.sealed (Some machine.NoMemory)) ≡ Some (closed s n)
     by_test true = refl
     by_test false = changes_memory s n id t s.sealed
 
@@ -47,28 +47,28 @@ works_memory s n (Answers trees) = refl
 works_memory s n (Transact id operations) = rw (le-leb 0 (draws_wanted operations) (omega arith)) (transacts_memory s n id (transaction s.schema s.database [] operations))
 
 -- the session at work is closed, and nothing else is changed
-pub gave_up : {K : Type 0} (n : ℕ) (go : State → Option Stepped) (old new : Kept K) (waited waits : Queues) → ((s : State) → go (over s old) ≡ Some (closed (over s old) n)) → ((s : State) → over s new ≡ over s old) → WaitsSame waited waits
-    → Goes n go old waited (Some outcome.NoMemory) new waits
+pub gave_up : {K : Type 0} (n : ℕ) (go : State → Option Stepped) (old new : KeptDatabase K) (waited waits : WaitingFrames) → ((s : State) → go (with_db s old) ≡ Some (closed (with_db s old) n)) → ((s : State) → with_db s new ≡ with_db s old) → HasSameFrames waited waits
+    → IsMachineStep n go old waited (Some outcome.NoMemory) new waits
 gave_up n go old new waited waits h same silent s =
-    ([], h s ∙ ap (λ (k : State). Some (record { state = without n k; sent = [] })) (sym (same s)), λ other. silent other ∙ sym (append-nil (waiting_for other waited)))
+    ([], h s ∙ ap (λ (k : State). Some (record { state = without_session n k; sent = [] })) (sym (same s)), λ other. silent other ∙ sym (append-nil (waiting_for other waited)))
 
 -- an attempt for which memory was refused
-pub attempt_gave_up : {K : Type 0} (n : ℕ) (id : Data) (draws : List Uuid) (operations : Items) (old new : Kept K) (waited waits : Queues) → ((s : State) → over s new ≡ over s old) → WaitsSame waited waits
+pub attempt_gave_up : {K : Type 0} (n : ℕ) (id : Data) (draws : List Uuid) (operations : Items) (old new : KeptDatabase K) (waited waits : WaitingFrames) → ((s : State) → with_db s new ≡ with_db s old) → HasSameFrames waited waits
     → IsAttempt n id draws operations old waited (Some outcome.NoMemory) new waits
 attempt_gave_up n id draws operations old new waited waits same silent =
     gave_up n (λ s. transacts s n id (transaction s.schema s.database draws operations) (Some machine.NoMemory)) old new waited waits
-    (λ s. transacts_memory (over s old) n id (transaction old.schema old.committed draws operations)) same silent
+    (λ s. transacts_memory (with_db s old) n id (transaction old.schema old.committed draws operations)) same silent
 
 -- ---- one tree is sent
 
-pub sent_one : {K : Type 0} (n : ℕ) (go : State → Option Stepped) (old new : Kept K) (o : Option Outcome) (waited waits : Queues) (tree : Data)
-    → ((s : State) → go (over s old) ≡ Some (record { state = left_by n o (over s new); sent = to_session n (tree ∷ []) })) → Adds n (frame tree) waited waits → Goes n go old waited o new waits
+pub sent_one : {K : Type 0} (n : ℕ) (go : State → Option Stepped) (old new : KeptDatabase K) (o : Option Outcome) (waited waits : WaitingFrames) (tree : Data)
+    → ((s : State) → go (with_db s old) ≡ Some (record { state = closed_if_no_memory n o (with_db s new); sent = to_session n (tree ∷ []) })) → PostsFrame n (frame tree) waited waits → IsMachineStep n go old waited o new waits
 sent_one n go old new o waited waits tree h added s = (tree ∷ [], h s, adds_sent n (frame tree) (tree ∷ []) waited waits refl added)
 
 -- the results are sent, and nothing is asked of the store
-pub answered : {K : Type 0} (n : ℕ) (id : Data) (results : Items) (go : Option machine.Outcome → State → Option Stepped) (old : Kept K) (o : Option Outcome) (waited waits : Queues)
-    → ((s : State) (c : Option machine.Outcome) → go c (over s old) ≡ attempted (over s old) n (results_of id results) c) → Waits n (Some (frame (reply_tree id (array results)))) waited o waits
-    → Goes n (go (listed_first o)) old waited o old waits
+pub answered : {K : Type 0} (n : ℕ) (id : Data) (results : Items) (go : Option machine.Outcome → State → Option Stepped) (old : KeptDatabase K) (o : Option Outcome) (waited waits : WaitingFrames)
+    → ((s : State) (c : Option machine.Outcome) → go c (with_db s old) ≡ attempted (with_db s old) n (results_of id results) c) → PostsIfRoom n (Some (frame (reply_tree id (array results)))) waited o waits
+    → IsMachineStep n (go (listed_first o)) old waited o old waits
 answered n id results go old None waited waits h added = sent_one n (go None) old old None waited waits (reply_tree id (array results)) (λ s. h s None) added
 answered n id results go old (Some outcome.NoMemory) waited waits h silent = gave_up n (go (Some machine.NoMemory)) old old waited waits (λ s. h s (Some machine.NoMemory)) (λ s. refl) silent
 answered n id results go old (Some outcome.Kept) waited waits h never = absurd never
@@ -76,21 +76,21 @@ answered n id results go old (Some outcome.Exhausted) waited waits h never = abs
 answered n id results go old (Some outcome.Failed) waited waits h never = absurd never
 
 -- a transaction that changes nothing
-pub unchanged : {K : Type 0} (n : ℕ) (id : Data) (draws : List Uuid) (operations : Items) (old : Kept K) (o : Option Outcome) (waited waits : Queues)
-    → is_database old.committed (transaction old.schema old.committed draws operations).database ≡ true
-    → Waits n (Some (frame (reply_tree id (array (transaction old.schema old.committed draws operations).results)))) waited o waits
+pub unchanged : {K : Type 0} (n : ℕ) (id : Data) (draws : List Uuid) (operations : Items) (old : KeptDatabase K) (o : Option Outcome) (waited waits : WaitingFrames)
+    → same_database old.committed (transaction old.schema old.committed draws operations).database ≡ true
+    → PostsIfRoom n (Some (frame (reply_tree id (array (transaction old.schema old.committed draws operations).results)))) waited o waits
     → IsAttempt n id draws operations old waited o old waits
-unchanged n id draws operations old o waited waits e waiting =
-    answered n id (transaction old.schema old.committed draws operations).results (λ c s. transacts s n id (transaction s.schema s.database draws operations) c) old o waited waits (λ s c. rw e refl) waiting
+unchanged n id draws operations old o waited waits e outbox =
+    answered n id (transaction old.schema old.committed draws operations).results (λ c s. transacts s n id (transaction s.schema s.database draws operations) c) old o waited waits (λ s c. rw e refl) outbox
 
 -- a transaction that would change a sealed database
-pub on_sealed : {K : Type 0} (n : ℕ) (id : Data) (draws : List Uuid) (operations : Items) (old : Kept K) (o : Option Outcome) (waited waits : Queues)
-    → is_database old.committed (transaction old.schema old.committed draws operations).database ≡ false → is_some old.sealed ≡ true
-    → Waits n (Some (frame (reply_tree id (array (failed (transaction old.schema old.committed draws operations).results))))) waited o waits
+pub on_sealed : {K : Type 0} (n : ℕ) (id : Data) (draws : List Uuid) (operations : Items) (old : KeptDatabase K) (o : Option Outcome) (waited waits : WaitingFrames)
+    → same_database old.committed (transaction old.schema old.committed draws operations).database ≡ false → is_some old.sealed ≡ true
+    → PostsIfRoom n (Some (frame (reply_tree id (array (failed_results (transaction old.schema old.committed draws operations).results))))) waited o waits
     → IsAttempt n id draws operations old waited o old waits
-on_sealed n id draws operations old o waited waits e sealed waiting =
+on_sealed n id draws operations old o waited waits e sealed outbox =
     let is = some_of old.sealed sealed in
-    answered n id (failed (transaction old.schema old.committed draws operations).results) (λ c s. transacts s n id (transaction s.schema s.database draws operations) c) old o waited waits (λ s c. rw (e, is.1) refl) waiting
+    answered n id (failed_results (transaction old.schema old.committed draws operations).results) (λ c s. transacts s n id (transaction s.schema s.database draws operations) c) old o waited waits (λ s c. rw (e, is.1) refl) outbox
   where
     some_of : (sealed : Option Database) → is_some sealed ≡ true → (d : Database) × (sealed ≡ Some d)
     some_of (Some d) h = (d, refl)
@@ -98,63 +98,63 @@ on_sealed n id draws operations old o waited waits e sealed waiting =
 
 -- ---- a commit
 
-pub committed : {K : Type 0} (n : ℕ) (id : Data) (draws : List Uuid) (operations : Items) (old new : Kept K) (frames : Frames) (delta : Delta) (o : Option Outcome) (waited waits : Queues)
-    → is_database old.committed (transaction old.schema old.committed draws operations).database ≡ false → old.sealed ≡ None
+pub committed : {K : Type 0} (n : ℕ) (id : Data) (draws : List Uuid) (operations : Items) (old new : KeptDatabase K) (frames : Frames) (delta : Delta) (o : Option Outcome) (waited waits : WaitingFrames)
+    → same_database old.committed (transaction old.schema old.committed draws operations).database ≡ false → old.sealed ≡ None
     → applied delta old.committed ≡ (transaction old.schema old.committed draws operations).database
-    → AreFrames id (transaction old.schema old.committed draws operations).results frames → Commits n frames delta old waited o new waits
+    → AreFrames id (transaction old.schema old.committed draws operations).results frames → CommitsWithReply n frames delta old waited o new waits
     → IsAttempt n id draws operations old waited o new waits
 committed n id draws operations old new frames delta None waited waits e unsealed is are never = absurd never
 committed {K} n id draws operations old new frames delta (Some outcome.Kept) waited waits e unsealed is are (made, added) =
     let t = transaction old.schema old.committed draws operations in
-    let schema : new.schema ≡ old.schema = ap (λ (k : Kept K). k.schema) made in
-    let d : new.committed ≡ t.database = ap (λ (k : Kept K). k.committed) made ∙ is in
-    let k : new.sealed ≡ None = ap (λ (k : Kept K). k.sealed) made ∙ unsealed in
-    sent_one n (λ s. transacts s n id (transaction s.schema s.database draws operations) (Some machine.Kept)) old new (Some outcome.Kept) waited waits (reply_tree id (array t.results)) (λ s. rw (e, unsealed, schema, d, k) refl) (rw (← are.kept) added)
+    let schema : new.schema ≡ old.schema = ap (λ (k : KeptDatabase K). k.schema) made in
+    let d : new.committed ≡ t.database = ap (λ (k : KeptDatabase K). k.committed) made ∙ is in
+    let k : new.sealed ≡ None = ap (λ (k : KeptDatabase K). k.sealed) made ∙ unsealed in
+    sent_one n (λ s. transacts s n id (transaction s.schema s.database draws operations) (Some machine.Committed)) old new (Some outcome.Kept) waited waits (reply_tree id (array t.results)) (λ s. rw (e, unsealed, schema, d, k) refl) (rw (← are.kept) added)
 committed {K} n id draws operations old new frames delta (Some outcome.Exhausted) waited waits e unsealed is are (made, added) =
     let t = transaction old.schema old.committed draws operations in
-    let schema : new.schema ≡ old.schema = ap (λ (k : Kept K). k.schema) made in
-    let d : new.committed ≡ old.committed = ap (λ (k : Kept K). k.committed) made in
-    let k : new.sealed ≡ None = ap (λ (k : Kept K). k.sealed) made ∙ unsealed in
-    sent_one n (λ s. transacts s n id (transaction s.schema s.database draws operations) (Some machine.Exhausted)) old new (Some outcome.Exhausted) waited waits (reply_tree id (array (exhausted t.results))) (λ s. rw (e, unsealed, schema, d, k) refl) (rw (← are.exhausted) added)
+    let schema : new.schema ≡ old.schema = ap (λ (k : KeptDatabase K). k.schema) made in
+    let d : new.committed ≡ old.committed = ap (λ (k : KeptDatabase K). k.committed) made in
+    let k : new.sealed ≡ None = ap (λ (k : KeptDatabase K). k.sealed) made ∙ unsealed in
+    sent_one n (λ s. transacts s n id (transaction s.schema s.database draws operations) (Some machine.Exhausted)) old new (Some outcome.Exhausted) waited waits (reply_tree id (array (exhausted_results t.results))) (λ s. rw (e, unsealed, schema, d, k) refl) (rw (← are.exhausted) added)
 committed {K} n id draws operations old new frames delta (Some outcome.Failed) waited waits e unsealed is are (made, added) =
     let t = transaction old.schema old.committed draws operations in
-    let schema : new.schema ≡ old.schema = ap (λ (k : Kept K). k.schema) made in
-    let d : new.committed ≡ old.committed = ap (λ (k : Kept K). k.committed) made in
-    let k : new.sealed ≡ Some t.database = ap (λ (k : Kept K). k.sealed) made ∙ ap Some is in
-    sent_one n (λ s. transacts s n id (transaction s.schema s.database draws operations) (Some machine.Failed)) old new (Some outcome.Failed) waited waits (reply_tree id (array (failed t.results))) (λ s. rw (e, unsealed, schema, d, k) refl) (rw (← are.failed) added)
+    let schema : new.schema ≡ old.schema = ap (λ (k : KeptDatabase K). k.schema) made in
+    let d : new.committed ≡ old.committed = ap (λ (k : KeptDatabase K). k.committed) made in
+    let k : new.sealed ≡ Some t.database = ap (λ (k : KeptDatabase K). k.sealed) made ∙ ap Some is in
+    sent_one n (λ s. transacts s n id (transaction s.schema s.database draws operations) (Some machine.Failed)) old new (Some outcome.Failed) waited waits (reply_tree id (array (failed_results t.results))) (λ s. rw (e, unsealed, schema, d, k) refl) (rw (← are.failed) added)
 committed {K} n id draws operations old new frames delta (Some outcome.NoMemory) waited waits e unsealed is are (same, silent) =
-    attempt_gave_up n id draws operations old new waited waits (λ s. ap (over s) same) silent
+    attempt_gave_up n id draws operations old new waited waits (λ s. ap (with_db s) same) silent
 
 -- ---- any work
 
 -- the draws suit
-pub suits_all : (o : Option machine.Outcome) (a b : ℕ) → a ≡ b → suits_draws o a b ≡ true
+pub suits_all : (o : Option machine.Outcome) (a b : ℕ) → a ≡ b → is_draw_count o a b ≡ true
 suits_all None a b e = eq-eqb a b e
-suits_all (Some machine.Kept) a b e = eq-eqb a b e
+suits_all (Some machine.Committed) a b e = eq-eqb a b e
 suits_all (Some machine.Exhausted) a b e = eq-eqb a b e
 suits_all (Some machine.Failed) a b e = eq-eqb a b e
 suits_all (Some machine.NoMemory) a b e = le-leb a b (omega arith)
 
 -- an attempt is the work on a transaction
-pub attempt_works : {K : Type 0} (n : ℕ) (id : Data) (draws : List Uuid) (operations : Items) (old new : Kept K) (o : Option Outcome) (waited waits : Queues) → length draws ≡ draws_wanted operations
-    → IsAttempt n id draws operations old waited o new waits → Goes n (λ s. works s n draws (listed_first o) (Transact id operations)) old waited o new waits
+pub attempt_works : {K : Type 0} (n : ℕ) (id : Data) (draws : List Uuid) (operations : Items) (old new : KeptDatabase K) (o : Option Outcome) (waited waits : WaitingFrames) → length draws ≡ draws_wanted operations
+    → IsAttempt n id draws operations old waited o new waits → IsMachineStep n (λ s. works s n draws (listed_first o) (Transact id operations)) old waited o new waits
 attempt_works n id draws operations old new o waited waits many tried s =
     let came = tried s in
     (came.0, rw (suits_all (listed_first o) (length draws) (draws_wanted operations) many) came.1, came.2)
 
 -- a frame that waits is what is sent
-waits_sent : (n : ℕ) (bytes : Option (List ℕ)) (trees : List Data) (old new : Queues) → map frame trees ≡ option_to_list bytes → Waits n bytes old None new
+waits_sent : (n : ℕ) (bytes : Option (List ℕ)) (trees : List Data) (old new : WaitingFrames) → map frame trees ≡ option_to_list bytes → PostsIfRoom n bytes old None new
     → (other : ℕ) → waiting_for other new ≡ waiting_for other old ++ frames_to other (to_session n trees)
 waits_sent n (Some bytes) trees old new is added = adds_sent n bytes trees old new is added
 waits_sent n None trees old new is silent = λ other. silent other ∙ nothing_sent n trees old is other
 
 -- nothing more waits
-silent_of : (n : ℕ) (bytes : Option (List ℕ)) (old new : Queues) → Waits n bytes old (Some outcome.NoMemory) new → WaitsSame old new
+silent_of : (n : ℕ) (bytes : Option (List ℕ)) (old new : WaitingFrames) → PostsIfRoom n bytes old (Some outcome.NoMemory) new → HasSameFrames old new
 silent_of n (Some bytes) old new silent = silent
 silent_of n None old new silent = silent
 
 -- nothing else comes of an answer
-no_other : (n : ℕ) (bytes : Option (List ℕ)) (old new : Queues) (o : Outcome) → Waits n bytes old (Some o) new → o ≡ outcome.NoMemory
+no_other : (n : ℕ) (bytes : Option (List ℕ)) (old new : WaitingFrames) (o : Outcome) → PostsIfRoom n bytes old (Some o) new → o ≡ outcome.NoMemory
 no_other n bytes old new outcome.NoMemory w = refl
 no_other n (Some bytes) old new outcome.Kept w = absurd w
 no_other n None old new outcome.Kept w = absurd w
@@ -164,20 +164,20 @@ no_other n (Some bytes) old new outcome.Failed w = absurd w
 no_other n None old new outcome.Failed w = absurd w
 
 -- answered at once
-at_once : (s : State) (n : ℕ) (w : Work) (bytes : Option (List ℕ)) (old new : Queues) → IsWork w (kinds.Answer bytes) → Waits n bytes old None new
+at_once : (s : State) (n : ℕ) (w : Work) (bytes : Option (List ℕ)) (old new : WaitingFrames) → IsWork w (kinds.Answer bytes) → PostsIfRoom n bytes old None new
     → (trees : List Data) × (works s n [] None w ≡ Some (record { state = s; sent = to_session n trees })) × ((other : ℕ) → waiting_for other new ≡ waiting_for other old ++ frames_to other (to_session n trees))
 at_once s n (Answers trees) bytes old new is waits = (trees, refl, waits_sent n bytes trees old new is waits)
 at_once s n (Transact id operations) bytes old new is waits = absurd is
 
 -- the work that is answered at once
-pub answers_work : {K : Type 0} (n : ℕ) (asked : State → Work) (bytes : Option (List ℕ)) (draws : List Uuid) (old : Kept K) (o : Option Outcome) (waited waits : Queues) → draws ≡ []
-    → ((s : State) → IsWork (asked (over s old)) (kinds.Answer bytes)) → Waits n bytes waited o waits → Goes n (λ s. works s n draws (listed_first o) (asked s)) old waited o old waits
-answers_work n asked bytes draws old None waited waits none is waiting = λ s.
-    let came = at_once (over s old) n (asked (over s old)) bytes waited waits (is s) waiting in
+pub answers_work : {K : Type 0} (n : ℕ) (asked : State → Work) (bytes : Option (List ℕ)) (draws : List Uuid) (old : KeptDatabase K) (o : Option Outcome) (waited waits : WaitingFrames) → draws ≡ []
+    → ((s : State) → IsWork (asked (with_db s old)) (kinds.Answer bytes)) → PostsIfRoom n bytes waited o waits → IsMachineStep n (λ s. works s n draws (listed_first o) (asked s)) old waited o old waits
+answers_work n asked bytes draws old None waited waits none is outbox = λ s.
+    let came = at_once (with_db s old) n (asked (with_db s old)) bytes waited waits (is s) outbox in
     (came.0, rw none came.1, came.2)
-answers_work n asked bytes draws old (Some o) waited waits none is waiting =
-    let refused : o ≡ outcome.NoMemory = no_other n bytes waited waits o waiting in
-    rw (refused, none) (gave_up n (λ s. works s n [] (Some machine.NoMemory) (asked s)) old old waited waits (λ s. works_memory (over s old) n (asked (over s old))) (λ s. refl) (silent_of n bytes waited waits (rw refused at waiting)))
+answers_work n asked bytes draws old (Some o) waited waits none is outbox =
+    let refused : o ≡ outcome.NoMemory = no_other n bytes waited waits o outbox in
+    rw (refused, none) (gave_up n (λ s. works s n [] (Some machine.NoMemory) (asked s)) old old waited waits (λ s. works_memory (with_db s old) n (asked (with_db s old))) (λ s. refl) (silent_of n bytes waited waits (rw refused at outbox)))
 
 -- the work that is a transaction
 pub transact_work : (w : Work) (id : Data) (operations : Items) → IsWork w (kinds.Transact id operations) → w ≡ Transact id operations
@@ -185,9 +185,9 @@ transact_work (Answers trees) id operations is = absurd is
 transact_work (Transact i o) id operations is = rw (is.0, is.1) refl
 
 -- want of memory before anything was tried
-pub nothing_drawn : {K : Type 0} (n : ℕ) (asked : State → Work) (old : Kept K) (draws : List Uuid) (waits : Queues) → draws ≡ [] → Goes n (λ s. works s n draws (Some machine.NoMemory) (asked s)) old waits (Some outcome.NoMemory) old waits
+pub nothing_drawn : {K : Type 0} (n : ℕ) (asked : State → Work) (old : KeptDatabase K) (draws : List Uuid) (waits : WaitingFrames) → draws ≡ [] → IsMachineStep n (λ s. works s n draws (Some machine.NoMemory) (asked s)) old waits (Some outcome.NoMemory) old waits
 nothing_drawn n asked old draws waits none =
-    rw none (gave_up n (λ s. works s n [] (Some machine.NoMemory) (asked s)) old old waits waits (λ s. works_memory (over s old) n (asked (over s old))) (λ s. refl) (λ other. refl))
+    rw none (gave_up n (λ s. works s n [] (Some machine.NoMemory) (asked s)) old old waits waits (λ s. works_memory (with_db s old) n (asked (with_db s old))) (λ s. refl) (λ other. refl))
 
 -- ---- what a crash leaves
 

@@ -1,7 +1,7 @@
 -- Events and entries of the code as those of the machine.
 use Rattle.std.specs.Prelude.{List, [], ◌∷◌, map, Bool, true, false, Option, Some, None}
 use Rattle.ov_rpc.specs.Message.{message_view}
-use Rattle.ov_specs.specs.Machine as machine
+use Rattle.ov_specs.specs.machine.Machine as machine
 use Rattle.ov_core.specs.declared.event.Cause.{Cause}
 use Rattle.ov_core.specs.declared.event.Cause.TheVariants.{InputEnded, ReadFault, WriteFault, Damaged, Overrun, Memory}
 use Rattle.ov_core.specs.declared.event.Event.{Event}
@@ -30,7 +30,7 @@ event_view Tick = machine.Tick
 
 -- an outcome (own)
 abbrev pub outcome_view : Outcome → machine.Outcome
-outcome_view Kept = machine.Kept
+outcome_view Kept = machine.Committed
 outcome_view Exhausted = machine.Exhausted
 outcome_view Failed = machine.Failed
 outcome_view NoMemory = machine.NoMemory

@@ -1,17 +1,17 @@
 -- Which histories a core has followed, and which frames were handed out of it.
 use Rattle.std.specs.Prelude.{◌≡◌, ℕ, ◌==◌, ◌++◌, List, [], ◌∷◌, map, if◌then◌else◌, Option, Some, option_to_list}
-use Rattle.ov_specs.specs.Machine as machine
-use Rattle.ov_specs.specs.Machine.{State, Sent}
-use Rattle.ov_specs.specs.History.{run, frames_to}
+use Rattle.ov_specs.specs.machine.Machine as machine
+use Rattle.ov_specs.specs.machine.Machine.{State, Sent}
+use Rattle.ov_specs.specs.machine.History.{run, frames_to}
 use Rattle.ov_core.specs.declared.event.Entry.{Entry}
 use Rattle.ov_core.specs.Entries.{entry_view}
-use Rattle.ov_core.specs.Waiting.{Queues, waiting_for}
+use Rattle.ov_core.specs.Outbox.{WaitingFrames, waiting_for}
 
 -- what contracts see of a core: its state, the entries that it keeps, the frames that wait, its keeper and its source of draws (own)
-pub record Running (K D : Type 0) : Type 0 where
+pub record CoreState (K D : Type 0) : Type 0 where
   pub state : State
   pub kept : List Entry
-  pub waiting : Queues
+  pub outbox : WaitingFrames
   pub keeper : K
   pub source : D
 
@@ -21,15 +21,15 @@ Keeps kept history = map entry_view kept ≡ history
 
 -- The history leads from the state before it to the core's state, the core keeps it, and of the frames that it sends to each
 -- session `given` were handed out and the others wait (own).
-pub record Follows {K D : Type 0} (before : State) (history : List machine.Entry) (given : ℕ → List (List ℕ)) (core : Running K D) : Type 0 where
+pub record Follows {K D : Type 0} (before : State) (history : List machine.Entry) (given : ℕ → List (List ℕ)) (core : CoreState K D) : Type 0 where
   pub sent : List Sent
   pub legal : run before history ≡ Some (record { state = core.state; sent = sent })
   pub kept : Keeps core.kept history
-  pub issued : (session : ℕ) → frames_to session sent ≡ given session ++ waiting_for session core.waiting
+  pub issued : (session : ℕ) → frames_to session sent ≡ given session ++ waiting_for session core.outbox
 
 -- whatever history and frames the core has followed, it follows the history with these entries behind it, and no frame is handed out (own)
-abbrev pub Enters : {K D : Type 0} → Running K D → List machine.Entry → Running K D → Type 0
-Enters old entries new =
+abbrev pub Extends : {K D : Type 0} → CoreState K D → List machine.Entry → CoreState K D → Type 0
+Extends old entries new =
     (before : State) (history : List machine.Entry) (given : ℕ → List (List ℕ)) → Follows before history given old → Follows before (history ++ entries) given new
 
 -- no frame was handed out of any session (own)
@@ -45,8 +45,8 @@ abbrev pub and_handed : (ℕ → List (List ℕ)) → ℕ → Option (List ℕ) 
 and_handed given session frame = and_all_handed given session (option_to_list frame)
 
 -- One entry was entered: it is a step of the machine, what it sends waits behind what waited, and the core follows it (own).
-pub record Moves {K D : Type 0} (old : Running K D) (entry : machine.Entry) (new : Running K D) : Type 0 where
+pub record EntersEntry {K D : Type 0} (old : CoreState K D) (entry : machine.Entry) (new : CoreState K D) : Type 0 where
   pub sent : List Sent
   pub stepped : machine.step old.state entry ≡ Some (record { state = new.state; sent = sent })
-  pub waits : (session : ℕ) → waiting_for session new.waiting ≡ waiting_for session old.waiting ++ frames_to session sent
-  pub follows : Enters old (entry ∷ []) new
+  pub waits : (session : ℕ) → waiting_for session new.outbox ≡ waiting_for session old.outbox ++ frames_to session sent
+  pub follows : Extends old (entry ∷ []) new

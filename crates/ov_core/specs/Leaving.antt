@@ -1,9 +1,9 @@
 -- What a crash leaves of a core.
 use Rattle.std.specs.Prelude.{◌≡◌}
 use Rattle.serde_json.specs.Written.{compact_text}
-use Rattle.ov_specs.specs.Database.{Database, AreLinesOf}
-use Rattle.ov_specs.specs.Lines.{Contents}
-use Rattle.ov_specs.specs.Machine.{State, Left}
+use Rattle.ov_specs.specs.rows.Database.{Database, AreLinesOf}
+use Rattle.ov_specs.specs.rows.Lines.{Contents}
+use Rattle.ov_specs.specs.machine.Machine.{State, Left}
 
 -- what is held has the text of the state's schema, and the lines of a database that a crash may leave of the state (own)
 abbrev pub LeavesItsOwn : State → Contents → Type 0

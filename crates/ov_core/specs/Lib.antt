@@ -1,6 +1,6 @@
 pub mod Entries
-pub mod Waiting
-pub mod Working
+pub mod Outbox
+pub mod Handling
 pub mod Preparing
 pub mod Following
 pub mod Stepping

@@ -1,14 +1,14 @@
 -- What one step of a core promises.
 use Rattle.std.specs.Prelude.{◌≡◌, ◌⊎◌, ℕ, ◌-◌, ◌^◌, ◌<◌, ◌||◌, nat_le, [], length, Bool, true, false}
-use Rattle.ov_specs.specs.Machine as machine
-use Rattle.ov_specs.specs.Machine.{State, is_open}
-use Rattle.ov_specs.specs.Uuid.{Uuid}
+use Rattle.ov_specs.specs.machine.Machine as machine
+use Rattle.ov_specs.specs.machine.Machine.{State, is_open}
+use Rattle.ov_specs.specs.values.Uuid.{Uuid}
 use Rattle.ov_txn.specs.Drawing.{DrawsFrom}
 use Rattle.ov_core.specs.declared.event.StepFault.{StepFault}
 use Rattle.ov_core.specs.declared.event.StepFault.TheVariants as fault
 use Rattle.ov_core.specs.declared.event.Stepped.{Stepped}
 use Rattle.ov_core.specs.declared.event.Stepped.TheVariants as answer
-use Rattle.ov_core.specs.Following.{Running, Moves}
+use Rattle.ov_core.specs.Following.{CoreState, EntersEntry}
 
 -- how many sessions may be open (own)
 abbrev pub most_sessions : ℕ
@@ -19,35 +19,35 @@ abbrev pub is_full : State → Bool
 is_full s = nat_le most_sessions (length s.sessions) || nat_le (2 ^ 64 - 1) s.next
 
 -- The answer, by the event, the state before, the entry, and the state after. A `Take` may be entered as a closing for want of memory (own).
-abbrev pub Tells : machine.Event → State → machine.Entry → State → Stepped → Type 0
-Tells machine.Open old entry new (answer.Opened session) = (entry.event ≡ machine.Open) × (session.serial ≡ old.next) × (session.key < most_sessions) × (is_full old ≡ false)
-Tells (machine.Take session message) old entry new answer.Done = (entry.event ≡ machine.Take session message) × (is_open new session ≡ true)
-Tells (machine.Take session message) old entry new answer.Closed =
+abbrev pub AnswersEvent : machine.Event → State → machine.Entry → State → Stepped → Type 0
+AnswersEvent machine.Open old entry new (answer.Opened session) = (entry.event ≡ machine.Open) × (session.serial ≡ old.next) × (session.key < most_sessions) × (is_full old ≡ false)
+AnswersEvent (machine.Take session message) old entry new answer.Done = (entry.event ≡ machine.Take session message) × (is_open new session ≡ true)
+AnswersEvent (machine.Take session message) old entry new answer.Closed =
     ((entry.event ≡ machine.Take session message) ⊎ (entry.event ≡ machine.Close session machine.Memory)) × (is_open new session ≡ false)
-Tells (machine.Close session cause) old entry new answer.Done = entry.event ≡ machine.Close session cause
-Tells machine.Tick old entry new answer.Done = entry.event ≡ machine.Tick
-Tells event old entry new stepped = ⊥
+AnswersEvent (machine.Close session cause) old entry new answer.Done = entry.event ≡ machine.Close session cause
+AnswersEvent machine.Tick old entry new answer.Done = entry.event ≡ machine.Tick
+AnswersEvent event old entry new stepped = ⊥
 
 -- the entry of an event, at the moment, with the draws that were made of the source (own)
-pub record IsEntered {K D : Type 0} (draws : D → Uuid → D → Type 0) (at : ℕ) (event : machine.Event) (old : Running K D) (stepped : Stepped) (new : Running K D) : Type 0 where
+pub record IsEntered {K D : Type 0} (draws : D → Uuid → D → Type 0) (at : ℕ) (event : machine.Event) (old : CoreState K D) (stepped : Stepped) (new : CoreState K D) : Type 0 where
   pub entry : machine.Entry
-  pub tells : Tells event old.state entry new.state stepped
+  pub tells : AnswersEvent event old.state entry new.state stepped
   pub moment : entry.choice.moment ≡ at
   pub drawn : DrawsFrom draws old.source entry.choice.draws new.source
-  pub moves : Moves old entry new
+  pub moves : EntersEntry old entry new
 
 -- when a fault is answered (own)
-abbrev pub Refusal : machine.Event → State → StepFault → Type 0
-Refusal machine.Open old fault.TooMany = is_full old ≡ true
-Refusal machine.Open old fault.Memory = is_full old ≡ false
-Refusal machine.Tick old fault.Memory = Unit {0}
-Refusal (machine.Take session message) old fault.NotOpen = is_open old session ≡ false
-Refusal (machine.Close session cause) old fault.NotOpen = is_open old session ≡ false
-Refusal event old fault = ⊥
+abbrev pub RefusesStep : machine.Event → State → StepFault → Type 0
+RefusesStep machine.Open old fault.TooMany = is_full old ≡ true
+RefusesStep machine.Open old fault.Memory = is_full old ≡ false
+RefusesStep machine.Tick old fault.Memory = Unit {0}
+RefusesStep (machine.Take session message) old fault.NotOpen = is_open old session ≡ false
+RefusesStep (machine.Close session cause) old fault.NotOpen = is_open old session ≡ false
+RefusesStep event old fault = ⊥
 
 -- the event was entered, or it was refused and nothing is changed (own)
-abbrev pub StepIs : {K D : Type 0} → (D → Uuid → D → Type 0) → ℕ → machine.Event → Running K D → Stepped → Running K D → Type 0
-StepIs draws at event old (answer.Refused fault) new = (new ≡ old) × Refusal event old.state fault
+abbrev pub StepIs : {K D : Type 0} → (D → Uuid → D → Type 0) → ℕ → machine.Event → CoreState K D → Stepped → CoreState K D → Type 0
+StepIs draws at event old (answer.Refused fault) new = (new ≡ old) × RefusesStep event old.state fault
 StepIs draws at event old (answer.Opened session) new = IsEntered draws at event old (answer.Opened session) new
 StepIs draws at event old answer.Done new = IsEntered draws at event old answer.Done new
 StepIs draws at event old answer.Closed new = IsEntered draws at event old answer.Closed new
@@ -57,7 +57,7 @@ abbrev pub closing : ℕ → ℕ → machine.Cause → machine.Entry
 closing at session cause = record { event = machine.Close session cause; choice = record { moment = at; draws = []; outcomes = [] } }
 
 -- the session was closed, and nothing was drawn (own)
-pub record Closes {K D : Type 0} (at session : ℕ) (cause : machine.Cause) (old new : Running K D) : Type 0 where
-  pub moves : Moves old (closing at session cause) new
+pub record Closes {K D : Type 0} (at session : ℕ) (cause : machine.Cause) (old new : CoreState K D) : Type 0 where
+  pub moves : EntersEntry old (closing at session cause) new
   pub shut : is_open new.state session ≡ false
   pub drawn : new.source ≡ old.source

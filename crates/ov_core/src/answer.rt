@@ -1,11 +1,10 @@
 ghost use Rattle.std.specs.Prelude.{◌≡◌, IfOk};
 ghost use Rattle.serde_json.specs.View.{view};
-ghost use Rattle.ov_specs.specs.Frame.{frame};
-ghost use Rattle.ov_specs.specs.Method.{names, reply_to, bad_text};
+ghost use Rattle.ov_specs.specs.wire.Method.{database_names, bad_text};
 ghost use Rattle.std.specs.Prelude.{Some};
-ghost use Rattle.ov_specs.specs.Machine.{State, work_of, call_of, transact_of, schema_of, schema_on, refused};
-ghost use Rattle.ov_rpc.specs.Message.{message_view, kind_view};
-ghost use Rattle.ov_core.specs.Working.{IsWork};
+ghost use Rattle.ov_specs.specs.machine.Machine.{State, work_of, call_of, transact_call, schema_call, schema_call_on, answered, refused};
+ghost use Rattle.ov_rpc.specs.Message.{message_view, bad_kind_view};
+ghost use Rattle.ov_core.specs.Handling.{IsWork};
 
 use ov_base::{Bytes, Text, Tree, Trees};
 use ov_rpc::{BadKind, Message, failure, reply};
@@ -24,38 +23,26 @@ pub(crate) enum Work {
 
 /// The names of the databases (RFC 7047, 4.1.1).
 fn names_of(alloc: Global, name: &Text) -> Result<Value, AllocError>
-    ensures { IfOk result (λ v. view v ≡ names name.now) }
+    ensures { IfOk result (λ v. view v ≡ database_names name.now) }
 {
     json!(in alloc; [name.as_str()])
 }
 
-/// The reply to a call that is answered at once, method by method (RFC 7047, 4.1).
-fn call_frame(
-    alloc: Global,
-    name: &Text,
-    id: Tree,
-    method: &str,
-    params: &Trees,
-) -> Result<Bytes, AllocError>
-    ensures { IfOk result (λ b. b ≡ frame (reply_to name.now id method.now params.now)) }
-{
-    if method == "list_dbs" {
-        reply(alloc, id, Tree::new(names_of(alloc, name)?))
-    } else if method == "echo" {
-        reply(alloc, id, params.copy_as_tree(alloc)?)
-    } else {
-        failure(alloc, id, "unknown method")
-    }
-}
-
 /// What is said of a request that can't be taken.
-fn text_of(kind: BadKind) -> &'static str
-    ensures { result.now ≡ bad_text (kind_view kind) }
+fn bad_kind_text(kind: BadKind) -> &'static str
+    ensures { result.now ≡ bad_text (bad_kind_view kind) }
 {
     match kind {
         BadKind::Syntax => "syntax error",
         BadKind::Reals => "reals not supported",
     }
+}
+
+/// A result, at once.
+fn answered_work(alloc: Global, id: Tree, tree: Tree) -> Result<Work, AllocError>
+    ensures { IfOk result (λ w. IsWork (answered id tree) w) }
+{
+    Ok(Work::Answer(Some(reply(alloc, id, tree)?)))
 }
 
 /// An error in place of a result.
@@ -67,7 +54,7 @@ fn refused_work(alloc: Global, id: Tree, text: &str) -> Result<Work, AllocError>
 
 /// What a call of "transact" asks for: its params are the database's name, and then the operations (RFC 7047, 4.1.3).
 fn transact_work(alloc: Global, name: &Text, id: Tree, params: &Trees) -> Result<Work, AllocError>
-    ensures { IfOk result (λ w. (s : State) → s.schema.name ≡ name.now → IsWork (transact_of s id params.now) w) }
+    ensures { IfOk result (λ w. (s : State) → s.schema.name ≡ name.now → IsWork (transact_call s id params.now) w) }
 {
     let items = params.as_slice();
     if items.is_empty() {
@@ -88,17 +75,17 @@ fn transact_work(alloc: Global, name: &Text, id: Tree, params: &Trees) -> Result
 
 /// The schema, where its database is named.
 fn schema_named(alloc: Global, schema: &Schema, id: Tree, name: &str) -> Result<Work, AllocError>
-    ensures { IfOk result (λ w. (s : State) → s.schema ≡ schema.now → IsWork (schema_on s id (Some name.now)) w) }
+    ensures { IfOk result (λ w. (s : State) → s.schema ≡ schema.now → IsWork (schema_call_on s id (Some name.now)) w) }
 {
     if name != schema.name().as_str() {
         return refused_work(alloc, id, "unknown database");
     }
-    Ok(Work::Answer(Some(reply(alloc, id, schema.tree().copy()?)?)))
+    answered_work(alloc, id, schema.tree().copy()?)
 }
 
 /// What a call of "get_schema" asks for: its only param is the database's name (RFC 7047, 4.1.2).
 fn schema_work(alloc: Global, schema: &Schema, id: Tree, params: &Trees) -> Result<Work, AllocError>
-    ensures { IfOk result (λ w. (s : State) → s.schema ≡ schema.now → IsWork (schema_of s id params.now) w) }
+    ensures { IfOk result (λ w. (s : State) → s.schema ≡ schema.now → IsWork (schema_call s id params.now) w) }
 {
     let items = params.as_slice();
     if items.len() != 1 {
@@ -120,13 +107,16 @@ fn call_work(
 ) -> Result<Work, AllocError>
     ensures { IfOk result (λ w. (s : State) → s.schema ≡ schema.now → IsWork (call_of s id method.now params.now) w) }
 {
-    if method == "transact" {
-        transact_work(alloc, schema.name(), id, params)
+    if method == "list_dbs" {
+        answered_work(alloc, id, Tree::new(names_of(alloc, schema.name())?))
     } else if method == "get_schema" {
         schema_work(alloc, schema, id, params)
+    } else if method == "transact" {
+        transact_work(alloc, schema.name(), id, params)
+    } else if method == "echo" {
+        answered_work(alloc, id, params.copy_as_tree(alloc)?)
     } else {
-        let frame = call_frame(alloc, schema.name(), id, method, params)?;
-        Ok(Work::Answer(Some(frame)))
+        refused_work(alloc, id, "unknown method")
     }
 }
 
@@ -138,7 +128,7 @@ pub(crate) fn work_of(alloc: Global, schema: &Schema, message: &Message) -> Resu
         Message::Call { id, method, params } => {
             call_work(alloc, schema, id.copy()?, method.as_str(), params)
         }
-        Message::Bad { id, kind } => refused_work(alloc, id.copy()?, text_of(*kind)),
+        Message::Bad { id, kind } => refused_work(alloc, id.copy()?, bad_kind_text(*kind)),
         Message::Note { .. } | Message::Answer => Ok(Work::Answer(None)),
     }
 }

@@ -1,12 +1,12 @@
 ghost use Rattle.std.specs.Prelude.{◌≡◌, Some, None};
 ghost use Rattle.serde_json.specs.Data.{array};
-ghost use Rattle.ov_specs.specs.Frame.{frame, reply_tree};
-ghost use Rattle.ov_specs.specs.Transaction.{failed as refused};
-ghost use Rattle.ov_core.specs.Working.{IsAttempt, Commits, Waits};
+ghost use Rattle.ov_specs.specs.wire.Frame.{frame, reply_tree};
+ghost use Rattle.ov_specs.specs.operations.Transaction.{failed_results as refused};
+ghost use Rattle.ov_core.specs.Handling.{IsAttempt, CommitsWithReply, PostsIfRoom};
 
 use crate::event::Outcome;
 use crate::frames::{Frames, reply_of};
-use crate::waiting::{Waiting, send};
+use crate::outbox::{Outbox, send};
 use ov_base::{Tree, Trees};
 use ov_db::{Db, Delta, StoreAnswer};
 use ov_keeper::Keeper;
@@ -18,42 +18,42 @@ use uuid::Uuid;
 pub(crate) fn attempt<K: Keeper + Drop>(
     db: &mut Db<K>,
     alloc: Global,
-    waiting: &mut Waiting,
+    outbox: &mut Outbox,
     session: u64,
     id: &Tree,
     draws: &[Uuid],
     operations: &Trees,
 ) -> Option<Outcome>
-    ensures { IsAttempt session id.now draws.now operations.now db.old waiting.old result db.new waiting.new }
+    ensures { IsAttempt session id.now draws.now operations.now db.old outbox.old result db.new outbox.new }
 {
     let Ok(performed) = perform(alloc, db.schema(), db.rows(), draws, operations) else {
         return Some(Outcome::NoMemory);
     };
     let Performed { results, delta } = performed;
     if delta.is_empty() {
-        return answer(alloc, waiting, session, id, results);
+        return answer(alloc, outbox, session, id, results);
     }
     if db.sealed() {
-        return answer_failed(alloc, waiting, session, id, &results);
+        return answer_failed(alloc, outbox, session, id, &results);
     }
     let Ok(frames) = Frames::new(alloc, id, results) else {
         return Some(Outcome::NoMemory);
     };
-    commit(db, alloc, waiting, session, frames, delta)
+    commit(db, alloc, outbox, session, frames, delta)
 }
 
 /// Lets the results wait as they are, where there is memory for it.
 fn answer(
     alloc: Global,
-    waiting: &mut Waiting,
+    outbox: &mut Outbox,
     session: u64,
     id: &Tree,
     results: Trees,
 ) -> Option<Outcome>
-    ensures { Waits session (Some (frame (reply_tree id.now (array results)))) waiting.old result waiting.new }
+    ensures { PostsIfRoom session (Some (frame (reply_tree id.now (array results)))) outbox.old result outbox.new }
 {
     match reply_of(alloc, id, results) {
-        Ok(frame) => send(alloc, waiting, session, Some(frame)),
+        Ok(frame) => send(alloc, outbox, session, Some(frame)),
         Err(_) => Some(Outcome::NoMemory),
     }
 }
@@ -61,15 +61,15 @@ fn answer(
 /// Lets the results wait with the error of a database that is sealed.
 fn answer_failed(
     alloc: Global,
-    waiting: &mut Waiting,
+    outbox: &mut Outbox,
     session: u64,
     id: &Tree,
     results: &Trees,
 ) -> Option<Outcome>
-    ensures { Waits session (Some (frame (reply_tree id.now (array (refused results.now))))) waiting.old result waiting.new }
+    ensures { PostsIfRoom session (Some (frame (reply_tree id.now (array (refused results.now))))) outbox.old result outbox.new }
 {
     match failed(alloc, results) {
-        Ok(results) => answer(alloc, waiting, session, id, results),
+        Ok(results) => answer(alloc, outbox, session, id, results),
         Err(_) => Some(Outcome::NoMemory),
     }
 }
@@ -79,30 +79,30 @@ fn answer_failed(
 fn commit<K: Keeper + Drop>(
     db: &mut Db<K>,
     alloc: Global,
-    waiting: &mut Waiting,
+    outbox: &mut Outbox,
     session: u64,
     frames: Frames,
     delta: Delta,
 ) -> Option<Outcome>
     requires { db.old.sealed ≡ None }
-    ensures { Commits session frames delta db.old waiting.old result db.new waiting.new }
+    ensures { CommitsWithReply session frames delta db.old outbox.old result db.new outbox.new }
 {
     let Frames {
         kept,
         exhausted,
         failed,
     } = frames;
-    if !waiting.push(alloc, session, kept) {
+    if !outbox.push(alloc, session, kept) {
         return Some(Outcome::NoMemory);
     }
     match db.commit(alloc, delta) {
         StoreAnswer::Kept => Some(Outcome::Kept),
         StoreAnswer::Exhausted => {
-            waiting.replace_newest(session, exhausted);
+            outbox.replace_newest(session, exhausted);
             Some(Outcome::Exhausted)
         }
         StoreAnswer::Failed => {
-            waiting.replace_newest(session, failed);
+            outbox.replace_newest(session, failed);
             Some(Outcome::Failed)
         }
     }

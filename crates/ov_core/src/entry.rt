@@ -6,14 +6,19 @@ use std::alloc::Global;
 use uuid::Uuid;
 
 /// An entry that nothing was chosen for but its moment.
-pub(crate) fn quiet(alloc: Global, moment: u64, event: Event) -> Entry
+pub(crate) fn entry_without_choice(alloc: Global, moment: u64, event: Event) -> Entry
     ensures { entry_view result ≡ record { event = event_view event; choice = record { moment = moment; draws = []; outcomes = [] } } }
 {
-    chosen(moment, event, Vec::new(alloc), Vec::new(alloc))
+    entry_with_choice(moment, event, Vec::new(alloc), Vec::new(alloc))
 }
 
 /// An entry with the identifiers that were drawn for it, and with what came of its attempts.
-pub(crate) fn chosen(moment: u64, event: Event, draws: Vec<Uuid>, outcomes: Vec<Attempt>) -> Entry
+pub(crate) fn entry_with_choice(
+    moment: u64,
+    event: Event,
+    draws: Vec<Uuid>,
+    outcomes: Vec<Attempt>,
+) -> Entry
     ensures { entry_view result ≡ record { event = event_view event; choice = record { moment = moment; draws = draws.items; outcomes = map attempt_view outcomes.items } } }
 {
     Entry {

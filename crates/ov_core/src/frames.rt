@@ -1,6 +1,6 @@
 ghost use Rattle.std.specs.Prelude.{◌≡◌, IfOk};
 ghost use Rattle.serde_json.specs.Data.{array};
-ghost use Rattle.ov_specs.specs.Frame.{frame, reply_tree};
+ghost use Rattle.ov_specs.specs.wire.Frame.{frame, reply_tree};
 ghost use Rattle.ov_core.specs.Preparing.{AreFrames};
 
 use ov_base::{Bytes, Tree, Trees};

@@ -8,9 +8,9 @@ pub mod early;
 mod entry;
 mod event;
 mod frames;
+mod handle;
 mod machine;
-mod waiting;
-mod work;
+mod outbox;
 
 pub use event::{Attempt, Cause, Choice, Entry, Event, Outcome, Session, StepFault, Stepped};
 pub use machine::Core;

@@ -1,21 +1,21 @@
 ghost use Rattle.std.specs.Prelude.{◌≡◌, ◌≢◌, ◌≤◌, ◌++◌, ℕ, List, [], max, false, MatchBool, IfOk, IfErr, IfNone, OnOk, OnErr, option_to_list};
 ghost use Rattle.serde_json.specs.Written.{compact_text};
-ghost use Rattle.ov_specs.specs.Lines.{Contents};
-ghost use Rattle.ov_specs.specs.History.{joined};
-ghost use Rattle.ov_specs.specs.Machine.{State, opening, is_open, Open as SpecOpen, Tick as SpecTick, Take as SpecTake, Entry as SpecEntry};
+ghost use Rattle.ov_specs.specs.rows.Lines.{Contents};
+ghost use Rattle.ov_specs.specs.machine.History.{joined};
+ghost use Rattle.ov_specs.specs.machine.Machine.{State, opening, is_open, Open as SpecOpen, Tick as SpecTick, Take as SpecTake, Entry as SpecEntry};
 ghost use Rattle.ov_rpc.specs.Message.{message_view};
-ghost use Rattle.ov_keeper.specs.Keeping.{Keeps};
+ghost use Rattle.ov_keeper.specs.Keeping.{LeavesNoMore};
 ghost use Rattle.ov_db.specs.Opening.{CanOpen, RefusesOpen};
 ghost use Rattle.ov_core.specs.Entries.{event_view, cause_view};
-ghost use Rattle.ov_core.specs.Waiting.{waiting_for};
+ghost use Rattle.ov_core.specs.Outbox.{waiting_for};
 ghost use Rattle.ov_core.specs.Following.{Follows, none_given, and_handed, and_all_handed};
 ghost use Rattle.ov_core.specs.Stepping.{StepIs, Closes};
 ghost use Rattle.ov_core.specs.Leaving.{LeavesItsOwn};
 
-use crate::entry::{chosen, is_closing, listed, quiet};
+use crate::entry::{entry_with_choice, entry_without_choice, is_closing, listed};
 use crate::event::{Cause, Entry, Event, Session, StepFault, Stepped};
-use crate::waiting::Waiting;
-use crate::work::{Worked, work};
+use crate::handle::{Handled, handle};
+use crate::outbox::Outbox;
 use ov_base::Bytes;
 use ov_db::{Db, OpenFault};
 use ov_keeper::Keeper;
@@ -35,7 +35,7 @@ pub struct Core<K: Keeper, D> {
     next: u64,
     moment: u64,
     history: VecDeque<Entry>,
-    waiting: Waiting,
+    outbox: Outbox,
     alloc: Global,
 }
 
@@ -43,19 +43,19 @@ impl<K: Keeper, D> Model for Core<K, D> {
     ghost use Rattle.std.specs.Prelude.{◌≡◌, ◌+◌, ◌≤◌, length, option_to_list};
     ghost use Rattle.std.specs.VecDeque.{deque_len, deque_capacity};
     ghost use Rattle.std.specs.Coded.{codes};
-    ghost use Rattle.ov_specs.specs.TreeCode.{tree_code, items_code};
-    ghost use Rattle.ov_specs.specs.SchemaTypes.{schema_code};
+    ghost use Rattle.ov_specs.specs.codes.TreeCode.{tree_code, items_code};
+    ghost use Rattle.ov_specs.specs.codes.SchemaCode.{schema_code};
     ghost use Rattle.ov_rows.specs.Resident.{database_code};
-    ghost use Rattle.ov_core.specs.Following.{Running};
+    ghost use Rattle.ov_core.specs.Following.{CoreState};
 
-    ghost Value = { Running K D };
+    ghost Value = { CoreState K D };
 
     ghost coded = { Prim.hlevel (codes, schema_code, database_code, tree_code, items_code, K.code, D.code) };
 
     ghost view = { λ c. record {
       state = record { schema = c.database.schema; database = c.database.committed; sealed = c.database.sealed; sessions = option_to_list c.session; next = c.next; moment = c.moment };
       kept = c.history.items;
-      waiting = c.waiting;
+      outbox = c.outbox;
       keeper = c.database.keeper;
       source = c.source;
     } };
@@ -77,7 +77,7 @@ impl<K: Keeper + Drop, D: Draws + Drop> Core<K, D> {
         // The keeper held the database under this schema.
         ensures held { IfOk result (λ core. K.is_honest core.keeper → (held : Contents) → K.leaves keeper held → CanOpen schema core.state.database held) }
         // Of an honest keeper an open finds nothing now that it might not have found before.
-        ensures same { IfOk result (λ core. K.is_honest core.keeper → Keeps (K.leaves keeper) (K.leaves core.keeper)) }
+        ensures same { IfOk result (λ core. K.is_honest core.keeper → LeavesNoMore (K.leaves keeper) (K.leaves core.keeper)) }
         ensures honest { IfOk result (λ core. K.is_honest core.keeper → K.is_honest keeper) }
         // A fault is the first that applies to what the keeper held, where its device was honest to the end of the call.
         ensures fault { IfErr result (λ fault. (later : K) × (K.is_honest later → (held : Contents) → K.leaves keeper held → RefusesOpen schema held fault)) }
@@ -90,7 +90,7 @@ impl<K: Keeper + Drop, D: Draws + Drop> Core<K, D> {
             next: 1,
             moment: 0,
             history: VecDeque::new(alloc),
-            waiting: Waiting::new(alloc),
+            outbox: Outbox::new(alloc),
             alloc,
         })
     }
@@ -150,14 +150,14 @@ impl<K: Keeper + Drop, D: Draws + Drop> Core<K, D> {
     pub fn next_frame(&mut self, session: Session) -> Option<Bytes>
         ensures handed { (before : State) (history : List SpecEntry) (given : ℕ → List (List ℕ)) → Follows before history given self.old
             → Follows before history (and_handed given session.serial result) self.new }
-        ensures oldest { waiting_for session.serial self.old.waiting ≡ option_to_list result ++ waiting_for session.serial self.new.waiting }
-        ensures none { IfNone result (waiting_for session.serial self.old.waiting ≡ []) }
-        ensures others { (other : ℕ) → other ≢ session.serial → waiting_for other self.new.waiting ≡ waiting_for other self.old.waiting }
-        ensures same { self.new ≡ record self.old { waiting = self.new.waiting } }
+        ensures oldest { waiting_for session.serial self.old.outbox ≡ option_to_list result ++ waiting_for session.serial self.new.outbox }
+        ensures none { IfNone result (waiting_for session.serial self.old.outbox ≡ []) }
+        ensures others { (other : ℕ) → other ≢ session.serial → waiting_for other self.new.outbox ≡ waiting_for other self.old.outbox }
+        ensures same { self.new ≡ record self.old { outbox = self.new.outbox } }
     {
-        let frame = self.waiting.pop(session.serial);
+        let frame = self.outbox.pop(session.serial);
         if !self.is_open(session) {
-            self.waiting.forget(session.serial);
+            self.outbox.forget(session.serial);
         }
         frame
     }
@@ -165,17 +165,17 @@ impl<K: Keeper + Drop, D: Draws + Drop> Core<K, D> {
     /// Hands out all frames that wait for the session, one behind the other with nothing between, also for a closed one. No
     /// bytes where nothing waits for it.
     pub fn take_output(&mut self, alloc: Global, session: Session) -> Result<Bytes, AllocError>
-        ensures all { IfOk result (λ b. b ≡ joined (waiting_for session.serial self.old.waiting)) }
-        ensures none_left { OnOk result (waiting_for session.serial self.new.waiting ≡ []) }
-        ensures others { OnOk result ((other : ℕ) → other ≢ session.serial → waiting_for other self.new.waiting ≡ waiting_for other self.old.waiting) }
+        ensures all { IfOk result (λ b. b ≡ joined (waiting_for session.serial self.old.outbox)) }
+        ensures none_left { OnOk result (waiting_for session.serial self.new.outbox ≡ []) }
+        ensures others { OnOk result ((other : ℕ) → other ≢ session.serial → waiting_for other self.new.outbox ≡ waiting_for other self.old.outbox) }
         ensures handed { OnOk result ((before : State) (history : List SpecEntry) (given : ℕ → List (List ℕ)) → Follows before history given self.old
-            → Follows before history (and_all_handed given session.serial (waiting_for session.serial self.old.waiting)) self.new) }
-        ensures same { OnOk result (self.new ≡ record self.old { waiting = self.new.waiting }) }
+            → Follows before history (and_all_handed given session.serial (waiting_for session.serial self.old.outbox)) self.new) }
+        ensures same { OnOk result (self.new ≡ record self.old { outbox = self.new.outbox }) }
         // Where memory is refused, nothing was handed out.
         ensures refused { OnErr result (self.new ≡ self.old) }
     {
-        let output = self.waiting.joined_for(alloc, session.serial)?;
-        self.waiting.clear(session.serial);
+        let output = self.outbox.joined_for(alloc, session.serial)?;
+        self.outbox.clear(session.serial);
         Ok(output)
     }
 
@@ -198,7 +198,7 @@ impl<K: Keeper + Drop, D: Draws + Drop> Core<K, D> {
             return Stepped::Refused(StepFault::Memory);
         }
         self.history
-            .push_back_reserved(quiet(self.alloc, moment, Event::Open));
+            .push_back_reserved(entry_without_choice(self.alloc, moment, Event::Open));
         let serial = self.next;
         self.session = Some(serial);
         self.next = serial + 1;
@@ -214,7 +214,7 @@ impl<K: Keeper + Drop, D: Draws + Drop> Core<K, D> {
             return Stepped::Refused(StepFault::Memory);
         }
         self.history
-            .push_back_reserved(quiet(self.alloc, moment, Event::Tick));
+            .push_back_reserved(entry_without_choice(self.alloc, moment, Event::Tick));
         self.moment = moment;
         Stepped::Done
     }
@@ -228,11 +228,14 @@ impl<K: Keeper + Drop, D: Draws + Drop> Core<K, D> {
         if !self.is_open(session) {
             return false;
         }
-        self.history
-            .push_back_reserved(quiet(self.alloc, moment, Event::Close(session, cause)));
+        self.history.push_back_reserved(entry_without_choice(
+            self.alloc,
+            moment,
+            Event::Close(session, cause),
+        ));
         self.session = None;
         self.moment = moment;
-        self.waiting.forget(session.serial);
+        self.outbox.forget(session.serial);
         true
     }
 
@@ -251,17 +254,21 @@ impl<K: Keeper + Drop, D: Draws + Drop> Core<K, D> {
             let _ = self.close_at(moment, session, Cause::Memory);
             return Stepped::Closed;
         }
-        let Worked { draws, outcome } = work(
+        let Handled { draws, outcome } = handle(
             alloc,
             &mut self.database,
             &mut self.source,
-            &mut self.waiting,
+            &mut self.outbox,
             session.serial,
             &message,
         );
         let event = Event::Take(session, message);
-        self.history
-            .push_back_reserved(chosen(moment, event, draws, listed(room, outcome)));
+        self.history.push_back_reserved(entry_with_choice(
+            moment,
+            event,
+            draws,
+            listed(room, outcome),
+        ));
         self.moment = moment;
         if is_closing(outcome) {
             self.session = None;

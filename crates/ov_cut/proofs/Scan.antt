@@ -5,18 +5,18 @@ use Rattle.std.proofs.lemmas.Bool.Decides.{nat_tests}
 use Rattle.std.proofs.lemmas.Bool.{eq-eqb, ne_eqb, le-ltb, lt-ltb, cases_eq, and_from, and_right}
 use Rattle.std.proofs.lemmas.List.Sums.{sum_by-append}
 use Rattle.std.proofs.lemmas.List.{append-nil, take_more, drop_more, length_push, length-take}
-use Rattle.ov_specs.specs.Balance.{bare, behind_quote, behind_backslash, has_equal_braces, is_balanced}
-use Rattle.ov_specs.specs.Cut.{cut_from, next, next_within, with_message, TooLong}
+use Rattle.ov_specs.specs.wire.Balance.{bare, behind_quote, behind_backslash, has_equal_braces, is_balanced}
+use Rattle.ov_specs.specs.wire.Cut.{cut_from, after_byte, after_byte_inside, with_message, TooLong}
 use Rattle.ov_cut.specs.declared.message.Mode.{Mode}
 use Rattle.ov_cut.specs.declared.message.Mode.TheVariants.{Outside, InLiteral, Escaped}
-use Rattle.ov_cut.specs.Message.{step_of, goes_on_in, Leaves}
+use Rattle.ov_cut.specs.Message.{mode_after, bare_in, LeavesMode}
 
 -- ---- one more byte of a message
 
 count_push : (p : ℕ → Bool) (xs : List ℕ) (x : ℕ) → count_by p (xs ++ x ∷ []) ≡ count_by p xs + cond (p x) 1 0
 count_push p xs x = omega (arith, sum_by-append (λ y. cond (p y) 1 0) xs (x ∷ []))
 
-in_literal : (b c : Bool) (depth : ℕ) (more : List ℕ) → cond b (bare more) (cond c (behind_backslash more) (behind_quote more)) ≡ goes_on_in (cond {A = Mode × ℕ} b (Outside, depth) (cond c (Escaped, depth) (InLiteral, depth))).0 more
+in_literal : (b c : Bool) (depth : ℕ) (more : List ℕ) → cond b (bare more) (cond c (behind_backslash more) (behind_quote more)) ≡ bare_in (cond {A = Mode × ℕ} b (Outside, depth) (cond c (Escaped, depth) (InLiteral, depth))).0 more
 in_literal true c depth more = refl
 in_literal false true depth more = refl
 in_literal false false depth more = refl
@@ -31,36 +31,36 @@ map_kept kept x None = refl
 map_kept kept x (Some rest) = ap Some (sym (append_assoc kept (x ∷ []) rest))
 
 -- outside a literal, by which byte it is
-outside_quote : (text : List ℕ) (depth x : ℕ) → x ≡ 34 → Leaves text Outside depth → Leaves (text ++ x ∷ []) InLiteral depth
+outside_quote : (text : List ℕ) (depth x : ℕ) → x ≡ 34 → LeavesMode text Outside depth → LeavesMode (text ++ x ∷ []) InLiteral depth
 outside_quote text depth x e l = record {
   kept = l.kept;
   reads = λ more. ap bare (append_assoc text (x ∷ []) more) ∙ (l.reads (x ∷ more) ∙ rw e refl);
   braces = l.braces;
 }
 
-outside_other : (text : List ℕ) (depth depth' x : ℕ) → x ≢ 34 → depth' + cond (eqb x 125) 1 0 ≡ depth + cond (eqb x 123) 1 0 → Leaves text Outside depth → Leaves (text ++ x ∷ []) Outside depth'
+outside_other : (text : List ℕ) (depth depth' x : ℕ) → x ≢ 34 → depth' + cond (eqb x 125) 1 0 ≡ depth + cond (eqb x 123) 1 0 → LeavesMode text Outside depth → LeavesMode (text ++ x ∷ []) Outside depth'
 outside_other text depth depth' x ne e l = record {
   kept = l.kept ++ x ∷ [];
   reads = λ more. ap bare (append_assoc text (x ∷ []) more) ∙ (l.reads (x ∷ more) ∙ (ap (λ b. option_map (λ rest. l.kept ++ rest) (cond b (behind_quote more) (option_map (λ rest. x ∷ rest) (bare more)))) (ne_eqb x 34 ne) ∙ map_kept l.kept x (bare more)));
   braces = omega (arith, l.braces, e, count_push (λ y. eqb y 123) l.kept x, count_push (λ y. eqb y 125) l.kept x);
 }
 
-at_step : (text : List ℕ) (mode mode' : Mode) (depth depth' x : ℕ) → step_of mode depth x ≡ (mode', depth') → Leaves (text ++ x ∷ []) mode' depth' → Leaves (text ++ x ∷ []) (step_of mode depth x).0 (step_of mode depth x).1
-at_step text mode mode' depth depth' x e l = let P : Mode × ℕ → Type 0 = λ p. Leaves (text ++ x ∷ []) p.0 p.1 in subst P (sym e) l
+at_step : (text : List ℕ) (mode mode' : Mode) (depth depth' x : ℕ) → mode_after mode depth x ≡ (mode', depth') → LeavesMode (text ++ x ∷ []) mode' depth' → LeavesMode (text ++ x ∷ []) (mode_after mode depth x).0 (mode_after mode depth x).1
+at_step text mode mode' depth depth' x e l = let P : Mode × ℕ → Type 0 = λ p. LeavesMode (text ++ x ∷ []) p.0 p.1 in subst P (sym e) l
 
-outside : (text : List ℕ) (depth x : ℕ) → 0 < depth → Leaves text Outside depth → Leaves (text ++ x ∷ []) (step_of Outside depth x).0 (step_of Outside depth x).1
+outside : (text : List ℕ) (depth x : ℕ) → 0 < depth → LeavesMode text Outside depth → LeavesMode (text ++ x ∷ []) (mode_after Outside depth x).0 (mode_after Outside depth x).1
 outside text depth x low l = elim (cases_eq x 34) [
-  | inl e ↦ at_step text Outside InLiteral depth depth x (ap (step_of Outside depth) e) (outside_quote text depth x e l)
+  | inl e ↦ at_step text Outside InLiteral depth depth x (ap (mode_after Outside depth) e) (outside_quote text depth x e l)
   | inr n ↦ elim (cases_eq x 123) [
-    | inl e ↦ at_step text Outside Outside depth (depth + 1) x (ap (step_of Outside depth) e) (outside_other text depth (depth + 1) x n (rw e (omega arith)) l)
+    | inl e ↦ at_step text Outside Outside depth (depth + 1) x (ap (mode_after Outside depth) e) (outside_other text depth (depth + 1) x n (rw e (omega arith)) l)
     | inr m ↦ elim (cases_eq x 125) [
-      | inl e ↦ at_step text Outside Outside depth (depth - 1) x (ap (step_of Outside depth) e) (outside_other text depth (depth - 1) x n (rw e (omega arith)) l)
+      | inl e ↦ at_step text Outside Outside depth (depth - 1) x (ap (mode_after Outside depth) e) (outside_other text depth (depth - 1) x n (rw e (omega arith)) l)
       | inr k ↦ at_step text Outside Outside depth depth x (rw (ne_eqb x 34 n, ne_eqb x 123 m, ne_eqb x 125 k) refl) (outside_other text depth depth x n (rw (ne_eqb x 123 m, ne_eqb x 125 k) refl) l)
     ]
   ]
 ]
 
-pub leaves_more : (text : List ℕ) (mode : Mode) (depth x : ℕ) → 0 < depth → Leaves text mode depth → Leaves (text ++ x ∷ []) (step_of mode depth x).0 (step_of mode depth x).1
+pub leaves_more : (text : List ℕ) (mode : Mode) (depth x : ℕ) → 0 < depth → LeavesMode text mode depth → LeavesMode (text ++ x ∷ []) (mode_after mode depth x).0 (mode_after mode depth x).1
 leaves_more text Escaped depth x low l = record {
   kept = l.kept;
   reads = λ more. ap bare (append_assoc text (x ∷ []) more) ∙ l.reads (x ∷ more);
@@ -79,7 +79,7 @@ outside_high false true d depth = omega arith
 outside_high false false true depth = omega arith
 outside_high false false false depth = omega arith
 
-pub step_high : (mode : Mode) (depth x : ℕ) → (step_of mode depth x).1 ≤ depth + 1
+pub step_high : (mode : Mode) (depth x : ℕ) → (mode_after mode depth x).1 ≤ depth + 1
 step_high Escaped depth x = omega arith
 step_high InLiteral depth x = omega (arith, same_depth (eqb x 34) (eqb x 92) depth)
 step_high Outside depth x = outside_high (eqb x 34) (eqb x 123) (eqb x 125) depth
@@ -97,7 +97,7 @@ after_other false true d depth h = refl
 after_other false false true depth h = refl
 after_other false false false depth h = refl
 
-pub balanced_by : (text : List ℕ) (mode : Mode) (depth : ℕ) → Leaves text mode depth → is_balanced text ≡ (is_outside mode && eqb depth 0)
+pub balanced_by : (text : List ℕ) (mode : Mode) (depth : ℕ) → LeavesMode text mode depth → is_balanced text ≡ (is_outside mode && eqb depth 0)
 balanced_by text Outside depth l =
     ap has_equal_braces (ap bare (sym (append-nil text)) ∙ l.reads [])
     ∙ (rw append-nil (let b = l.braces in grind (arith, nat_tests, b)))
@@ -105,17 +105,17 @@ balanced_by text InLiteral depth l = ap has_equal_braces (ap bare (sym (append-n
 balanced_by text Escaped depth l = ap has_equal_braces (ap bare (sym (append-nil text)) ∙ l.reads [])
 
 -- the last brace closes outside a literal
-pub closes_outside : (mode : Mode) (depth x : ℕ) → 0 < depth → (step_of mode depth x).1 ≡ 0 → is_outside (step_of mode depth x).0 ≡ true
+pub closes_outside : (mode : Mode) (depth x : ℕ) → 0 < depth → (mode_after mode depth x).1 ≡ 0 → is_outside (mode_after mode depth x).0 ≡ true
 closes_outside Escaped depth x low h = absurd (omega arith)
 closes_outside InLiteral depth x low h = let e = same_depth (eqb x 34) (eqb x 92) depth in absurd (omega arith)
 closes_outside Outside depth x low h = elim (cases_eq x 34) [
-  | inl e ↦ let s : (step_of Outside depth x).1 ≡ depth = ap (λ y. (step_of Outside depth y).1) e in absurd (omega arith)
+  | inl e ↦ let s : (mode_after Outside depth x).1 ≡ depth = ap (λ y. (mode_after Outside depth y).1) e in absurd (omega arith)
   | inr ne ↦ after_other (eqb x 34) (eqb x 123) (eqb x 125) depth (ne_eqb x 34 ne)
 ]
 
 -- ---- one more byte of the cut
 
-pub next_is : (most at : ℕ) (begun : List ℕ) (x : ℕ) → 0 < length begun → next most at begun x ≡ next_within most (begun ++ x ∷ [])
+pub next_is : (most at : ℕ) (begun : List ℕ) (x : ℕ) → 0 < length begun → after_byte most at begun x ≡ after_byte_inside most (begun ++ x ∷ [])
 next_is most at [] x h = absurd (omega arith)
 next_is most at (b ∷ begun) x h = refl
 
@@ -137,12 +137,12 @@ pub start_run : (most at : ℕ) (text : List ℕ) → slice_get text 0 ≡ Some 
 start_run most at [] h = cc
 start_run most at (x ∷ text) h = let e : x ≡ 123 = cc in rw e refl
 
-pub start_leaves : (text : List ℕ) → slice_get text 0 ≡ Some 123 → Leaves (take 1 text) Outside 1
+pub start_leaves : (text : List ℕ) → slice_get text 0 ≡ Some 123 → LeavesMode (take 1 text) Outside 1
 start_leaves [] h = cc
 start_leaves (x ∷ text) h = let e : x ≡ 123 = cc in rw e (record { kept = 123 ∷ []; reads = λ more. refl; braces = refl })
 
-module _ (text : List ℕ) (i : ℕ) (mode : Mode) (depth : ℕ) (p : Mode × ℕ) (within : i < length text) (some : 0 < i) (is : p ≡ step_of mode depth (get_or text i 0)) (l : Leaves (take i text) mode depth) (low : 0 < depth) where
-  pub scan_leaves : Leaves (take (i + 1) text) p.0 p.1
+module _ (text : List ℕ) (i : ℕ) (mode : Mode) (depth : ℕ) (p : Mode × ℕ) (within : i < length text) (some : 0 < i) (is : p ≡ mode_after mode depth (get_or text i 0)) (l : LeavesMode (take i text) mode depth) (low : 0 < depth) where
+  pub scan_leaves : LeavesMode (take (i + 1) text) p.0 p.1
   scan_leaves = rw (take_more text i 0 within, is) (leaves_more (take i text) mode depth (get_or text i 0) low l)
 
   balanced : is_balanced (take i text ++ get_or text i 0 ∷ []) ≡ (is_outside p.0 && eqb p.1 0)

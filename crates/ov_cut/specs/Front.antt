@@ -1,6 +1,6 @@
 -- What a text begins with; for private clauses.
 use Rattle.std.specs.Prelude.{◌≡◌, ℕ, ◌+◌, ◌<◌, ◌≤◌, List, [], length, take, drop, Some, None}
-use Rattle.ov_specs.specs.Cut.{cut_from, with_message, max_message, Stray, TooLong}
+use Rattle.ov_specs.specs.wire.Cut.{cut_from, with_message, max_message, Stray, TooLong}
 use Rattle.ov_cut.specs.declared.front.Front.{Front}
 use Rattle.ov_cut.specs.declared.front.Front.TheVariants as front
 

@@ -1,5 +1,5 @@
 pub mod Message
 pub mod Front
 pub mod Taking
-pub mod Cutting
-pub mod Settled
+pub mod CutterState
+pub mod AfterPiece

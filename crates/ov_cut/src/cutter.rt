@@ -1,10 +1,10 @@
 ghost use Rattle.std.specs.Prelude.{◌≡◌, ◌≢◌, ◌+◌, ◌≤◌, ℕ, List, [], ◌++◌, Some, IsSome, length, drop, if◌then◌else◌};
-ghost use Rattle.ov_specs.specs.Cut.{cut};
-ghost use Rattle.ov_cut.specs.Cutting.{StandsFor, IsBeginning, told_offset};
-ghost use Rattle.ov_cut.specs.Settled.{failed, settled, with_piece};
+ghost use Rattle.ov_specs.specs.wire.Cut.{cut};
+ghost use Rattle.ov_cut.specs.CutterState.{StandsFor, IsBeginning, offset_in_64_bits};
+ghost use Rattle.ov_cut.specs.AfterPiece.{with_fault, after_taking, with_piece};
 
 use crate::fault::CutFault;
-use crate::take::{Stop, Taken, take_messages};
+use crate::take::{CutEnd, Taken, take_messages};
 use ov_base::Bytes;
 use std::alloc::Global;
 use std::marker::Model;
@@ -27,9 +27,9 @@ pub struct Cutter {
 }
 
 impl Model for Cutter {
-    ghost use Rattle.ov_cut.specs.Cutting.{Cutting};
+    ghost use Rattle.ov_cut.specs.CutterState.{CutterState};
 
-    ghost Value = { Cutting };
+    ghost Value = { CutterState };
 
     ghost view = { λ c. record { start = c.start; rest = c.rest.items; fault = c.fault } };
 }
@@ -81,9 +81,9 @@ impl Cutter {
         let Taken {
             messages,
             used,
-            stop,
+            end,
         } = take_messages(alloc, &self.rest);
-        self.settle(used, stop);
+        self.finish_piece(used, end);
         self.report(messages)
     }
 
@@ -109,21 +109,21 @@ impl Cutter {
     }
 
     /// Lets go of the bytes that were used, and keeps the fault at which the taking stopped.
-    fn settle(&mut self, used: usize, stop: Stop)
+    fn finish_piece(&mut self, used: usize, end: CutEnd)
         requires { used ≤ length self.old.rest }
-        ensures { self.new ≡ settled self.old used stop }
+        ensures { self.new ≡ after_taking self.old used end }
     {
         self.start = moved(self.start, used);
-        match stop {
-            Stop::End => remove_front(&mut self.rest, used),
-            Stop::Stray => self.fail(CutFault::Damaged(self.start)),
-            Stop::TooLong => self.fail(CutFault::TooLong),
-            Stop::Memory => self.fail(CutFault::Memory),
+        match end {
+            CutEnd::End => remove_front(&mut self.rest, used),
+            CutEnd::Stray => self.fail(CutFault::Damaged(self.start)),
+            CutEnd::TooLong => self.fail(CutFault::TooLong),
+            CutEnd::Memory => self.fail(CutFault::Memory),
         }
     }
 
     fn fail(&mut self, fault: CutFault)
-        ensures { self.new ≡ failed self.old fault }
+        ensures { self.new ≡ with_fault self.old fault }
     {
         self.rest.clear();
         self.fault = Some(fault);
@@ -132,7 +132,7 @@ impl Cutter {
 
 /// The offset so many bytes behind another.
 fn moved(offset: u64, len: usize) -> u64
-    ensures { result ≡ told_offset (offset + len) }
+    ensures { result ≡ offset_in_64_bits (offset + len) }
 {
     offset.saturating_add(len as u64)
 }

@@ -16,7 +16,7 @@ pub(crate) enum Front {
 }
 
 /// What the text begins with.
-pub(crate) fn look(text: &[u8]) -> Front
+pub(crate) fn front_of(text: &[u8]) -> Front
     ensures { BeginsWith text.now result }
 {
     let gap = gap_len(text);

@@ -1,6 +1,6 @@
 ghost use Rattle.std.specs.Prelude.{◌≡◌, ◌<◌, ◌↔◌, slice_get, Some, IsTrue};
-ghost use Rattle.ov_specs.specs.Cut.{max_message};
-ghost use Rattle.ov_cut.specs.Message.{Finds, step_of};
+ghost use Rattle.ov_specs.specs.wire.Cut.{max_message};
+ghost use Rattle.ov_cut.specs.Message.{Finds, mode_after};
 
 /// The longest message, in bytes.
 const MAX_MESSAGE: usize = 1_048_576;
@@ -31,10 +31,10 @@ fn is_too_long(len: usize) -> bool
 }
 
 /// One more byte of a message: the mode behind it, and how many braces are open.
-fn step(mode: Mode, depth: usize, byte: u8) -> (Mode, usize)
+fn next_mode(mode: Mode, depth: usize, byte: u8) -> (Mode, usize)
     requires low { 0 < depth }
     requires high { depth < max_message }
-    ensures { result ≡ step_of mode depth byte }
+    ensures { result ≡ mode_after mode depth byte }
 {
     match mode {
         Mode::Escaped => (Mode::InLiteral, depth),
@@ -63,7 +63,7 @@ pub(crate) fn find(text: &[u8]) -> Found
         if is_too_long(i + 1) {
             return Found::TooLong;
         }
-        (mode, depth) = step(mode, depth, text[i]);
+        (mode, depth) = next_mode(mode, depth, text[i]);
         if depth == 0 {
             return Found::Whole(i + 1);
         }

@@ -1,6 +1,6 @@
 ghost use Rattle.std.specs.Prelude.{◌≡◌, ℕ, ◌+◌, ◌<◌, ◌≤◌, [], length, drop, slice_index, false};
-ghost use Rattle.ov_specs.specs.Balance.{is_space as is_gap};
-ghost use Rattle.ov_specs.specs.Cut.{cut_from};
+ghost use Rattle.ov_specs.specs.wire.Balance.{is_space as is_gap};
+ghost use Rattle.ov_specs.specs.wire.Cut.{cut_from};
 
 /// White space of JSON (RFC 8259, 2).
 pub(crate) fn is_space(byte: u8) -> bool

@@ -1,13 +1,13 @@
 ghost use Rattle.std.specs.Prelude.{◌≡◌, ◌++◌, ◌∷◌, [], if◌then◌else◌};
-ghost use Rattle.ov_cut.specs.Taking.{Takes};
+ghost use Rattle.ov_cut.specs.Taking.{IsTakenFrom};
 
-use crate::front::{Front, look};
+use crate::front::{Front, front_of};
 use ov_base::Bytes;
 use std::alloc::Global;
 
 /// Why no more messages were taken from a text.
 #[derive(Clone, Copy, Debug, PartialEq, Eq)]
-pub(crate) enum Stop {
+pub(crate) enum CutEnd {
     End,
     Stray,
     TooLong,
@@ -19,43 +19,43 @@ pub(crate) enum Stop {
 pub(crate) struct Taken {
     pub messages: Vec<Bytes>,
     pub used: usize,
-    pub stop: Stop,
+    pub end: CutEnd,
 }
 
 impl Taken {
-    fn new(messages: Vec<Bytes>, used: usize, stop: Stop) -> Taken
-        ensures { result ≡ record { messages = messages; used = used; stop = stop } }
+    fn new(messages: Vec<Bytes>, used: usize, end: CutEnd) -> Taken
+        ensures { result ≡ record { messages = messages; used = used; end = end } }
     {
         Taken {
             messages,
             used,
-            stop,
+            end,
         }
     }
 }
 
 /// Takes the messages that a text begins with.
 pub(crate) fn take_messages(alloc: Global, text: &[u8]) -> Taken
-    ensures { Takes text.now result }
+    ensures { IsTakenFrom text.now result }
 {
     let mut messages = Vec::new(alloc);
     let mut used = 0;
     'fronts: while used < text.len() {
-        match look(&text[used..]) {
-            Front::Rest(gap) => return Taken::new(messages, used + gap, Stop::End),
-            Front::Stray(gap) => return Taken::new(messages, used + gap, Stop::Stray),
-            Front::TooLong => return Taken::new(messages, used, Stop::TooLong),
+        match front_of(&text[used..]) {
+            Front::Rest(gap) => return Taken::new(messages, used + gap, CutEnd::End),
+            Front::Stray(gap) => return Taken::new(messages, used + gap, CutEnd::Stray),
+            Front::TooLong => return Taken::new(messages, used, CutEnd::TooLong),
             Front::Message(gap, len) => {
                 let begin = used + gap;
                 let end = begin + len;
                 if !push_message(alloc, &mut messages, &text[begin..end]) {
-                    return Taken::new(messages, used, Stop::Memory);
+                    return Taken::new(messages, used, CutEnd::Memory);
                 }
                 used = end;
             }
         }
     }
-    Taken::new(messages, used, Stop::End)
+    Taken::new(messages, used, CutEnd::End)
 }
 
 /// Adds a copy of the message, where there is memory for it.

@@ -2,10 +2,10 @@
 use Rattle.std.proofs.Common.{◌≡◌, List, [], ◌∷◌, ◌++◌, Bool, true, false, cond, Option, Some, None, is_some, refl, sym, ap, ◌∙◌}
 use Rattle.std.specs.FinMap.{get, insert, remove, contains_key, get-insert, get-remove, same_map}
 use Rattle.std.specs.Ordering.{eq_by_cmp}
-use Rattle.ov_specs.specs.Database.{Database, Row}
-use Rattle.ov_specs.specs.Lines.{LineKey, line_cmp}
-use Rattle.ov_specs.proofs.LineKeys.{key_exact, key_total, same_tied, tied_same}
-use Rattle.ov_db.specs.Adding.{without}
+use Rattle.ov_specs.specs.rows.Database.{Database, Row}
+use Rattle.ov_specs.specs.rows.Lines.{LineKey, line_cmp}
+use Rattle.ov_specs.proofs.laws.LineKeys.{key_exact, key_total, same_tied, tied_same}
+use Rattle.ov_db.specs.Adding.{without_rows}
 
 abbrev pub same : LineKey → LineKey → Bool
 same = eq_by_cmp line_cmp
@@ -42,13 +42,13 @@ absent db k h = not_some (get db k) h
 -- ---- several rows
 
 -- the last key goes first
-pub without-push : (ks : List LineKey) (k : LineKey) (db : Database) → without (ks ++ k ∷ []) db ≡ without ks (remove db k)
+pub without-push : (ks : List LineKey) (k : LineKey) (db : Database) → without_rows (ks ++ k ∷ []) db ≡ without_rows ks (remove db k)
 without-push [] k db = refl
 without-push (x ∷ ks) k db = ap (λ (d : Database). remove d x) (without-push ks k db)
 
 -- a row that is added and listed changes nothing of what was there before
-pub without-added : (ks : List LineKey) (k : LineKey) (r : Row) (db : Database) → contains_key db k ≡ false → without (ks ++ k ∷ []) (insert db k r) ≡ without ks db
-without-added ks k r db none = without-push ks k (insert db k r) ∙ ap (without ks) (remove-insert db k r (absent db k none))
+pub without-added : (ks : List LineKey) (k : LineKey) (r : Row) (db : Database) → contains_key db k ≡ false → without_rows (ks ++ k ∷ []) (insert db k r) ≡ without_rows ks db
+without-added ks k r db none = without-push ks k (insert db k r) ∙ ap (without_rows ks) (remove-insert db k r (absent db k none))
 
 -- ---- what stands at the keys behind one row more
 

@@ -11,12 +11,12 @@ use Rattle.std.specs.FinMap.{contains_key, empty, entries, find, from_entries, g
 use Rattle.std.proofs.lemmas.Bool.{and_parts}
 use Rattle.std.proofs.lemmas.Bool.Decides.{nat_tests}
 use Rattle.std.proofs.lemmas.Option.{same_Some}
-use Rattle.ov_specs.specs.Database.{Columns, Database, Row, line_of, AreLinesOf}
-use Rattle.ov_specs.specs.Lines.{LineKey, LineBody, Lines, line_cmp}
-use Rattle.ov_specs.specs.Message.{tree_of}
-use Rattle.ov_specs.specs.Method.{is_text}
-use Rattle.ov_specs.specs.SchemaTypes.{Table, Schema}
-use Rattle.ov_specs.proofs.LineKeys.{key_total, same_tied, tied_same}
+use Rattle.ov_specs.specs.rows.Database.{Columns, Database, Row, line_of, AreLinesOf}
+use Rattle.ov_specs.specs.rows.Lines.{LineKey, LineBody, Lines, line_cmp}
+use Rattle.ov_specs.specs.wire.Message.{tree_of}
+use Rattle.std.specs.Str.{bytes_eq}
+use Rattle.ov_specs.specs.schema.SchemaTypes.{Table, Schema}
+use Rattle.ov_specs.proofs.laws.LineKeys.{key_total, same_tied, tied_same}
 use Rattle.ov_keeper.specs.Keeping.{loaded_contents}
 use Rattle.ov_keeper.specs.Views.{line_entry}
 use Rattle.ov_db.specs.declared.fault.OpenFault.{OpenFault}
@@ -24,7 +24,7 @@ use Rattle.ov_db.specs.declared.fault.OpenFault.TheVariants.{SchemaDiffers, BadB
 use Rattle.ov_keeper.specs.declared.keeper.Loaded.{Loaded}
 use Rattle.ov_db.proofs.Added.{same}
 use Rattle.ov_db.specs.Opening.{CanOpen, RefusesOpen}
-use Rattle.ov_db.specs.Loading.{IsNoneBy, IsTaken, with_line, with_lines}
+use Rattle.ov_db.specs.Loading.{IsNotLoaded, IsLoaded, with_line, with_lines}
 use Rattle.ov_db.specs.Stored.{AreRowsOf, HasBadLine, columns_stored, row_of_columns, row_of_table, row_stored}
 
 module _ (schema : Schema) where
@@ -128,7 +128,7 @@ module _ (schema : Schema) where
 
 -- ---- a row is stored as the line that it was read from
 
-text_exact : (a b : List ℕ) → is_text a b ≡ true → a ≡ b
+text_exact : (a b : List ℕ) → bytes_eq a b ≡ true → a ≡ b
 text_exact [] [] h = refl
 text_exact [] (y ∷ ys) h = cc
 text_exact (x ∷ xs) [] h = cc
@@ -141,12 +141,12 @@ text_exact (x ∷ xs) (y ∷ ys) h =
     number_exact n m e = grind (arith, nat_tests, e)
 
 stored_as_line : (line : LineBody) (columns : Columns) (row : Row) → row_of_columns line columns ≡ Some row → line_of row ≡ line
-stored_as_line line columns row h = by (is_text (line_of made).1 line.1) refl h
+stored_as_line line columns row h = by (bytes_eq (line_of made).1 line.1) refl h
   where
     made : Row
     made = record { version = line.0; columns = columns }
 
-    by : (b : Bool) → is_text (line_of made).1 line.1 ≡ b → cond b (Some made) None ≡ Some row → line_of row ≡ line
+    by : (b : Bool) → bytes_eq (line_of made).1 line.1 ≡ b → cond b (Some made) None ≡ Some row → line_of row ≡ line
     by true same_bytes k = ap line_of (sym (same_Some made row k)) ∙ ap (λ bytes. (line.0, bytes)) (text_exact (line_of made).1 line.1 same_bytes)
     by false same_bytes k = cc
 
@@ -181,16 +181,6 @@ lines_of_rows schema lines database are key = by (get database key) (get lines k
 
 -- ---- the tree of a body
 
-pub tree_of_text : (text : List ℕ) (d : Data) → IsUtf8 text → read text ≡ Some d → tree_of text ≡ Some d
-tree_of_text text d u h = rw (is_utf8-from_IsUtf8 text u, h) refl
-
-pub tree_of_none : (text : List ℕ) → (IsUtf8 text → read text ≡ None) → tree_of text ≡ None
-tree_of_none text h = by (is_utf8 text) refl
-  where
-    by : (b : Bool) → is_utf8 text ≡ b → cond b (read text) None ≡ None
-    by true e = h (IsUtf8-from_is_utf8 text e)
-    by false e = refl
-
 -- ---- what is loaded, by the rows that its lines are
 
 module _ (schema : Schema) (loaded : Loaded) where
@@ -198,7 +188,7 @@ module _ (schema : Schema) (loaded : Loaded) where
   lines = map line_entry loaded.lines.items
 
   -- the rows of what can be opened, or the cause why it can't
-  pub opens : (result : Result Database OpenFault) → loaded.schema ≡ compact_text schema.tree → IsTaken (λ rows. rows) (with_lines schema lines empty) result
+  pub opens : (result : Result Database OpenFault) → loaded.schema ≡ compact_text schema.tree → IsLoaded (λ rows. rows) (with_lines schema lines empty) result
       → IfOk result (λ rows. CanOpen schema rows (loaded_contents loaded)) × IfErr result (RefusesOpen schema (loaded_contents loaded))
   opens (Ok rows) same_text is = (record { same_schema = same_text; rows = are_rows schema lines rows is }, tt)
   opens (Err BadBody) same_text is = (tt, (same_text, has_bad_line schema lines is))
@@ -215,7 +205,7 @@ module _ (schema : Schema) (entry : LineKey × LineBody) (database : Database) w
   pub line_added : (row : Row) → contains_key database entry.0 ≡ false → row_stored schema entry.0 entry.1 ≡ Some row → with_line schema entry database ≡ Some (insert database entry.0 row)
   line_added row h is = rw (h, is) refl
 
-  pub line_refused : (fault : OpenFault) → contains_key database entry.0 ≡ false → IsNoneBy (row_stored schema entry.0 entry.1) fault → IsNoneBy (with_line schema entry database) fault
+  pub line_refused : (fault : OpenFault) → contains_key database entry.0 ≡ false → IsNotLoaded (row_stored schema entry.0 entry.1) fault → IsNotLoaded (with_line schema entry database) fault
   line_refused BadBody h is = rw (h, is) refl
   line_refused (Keeping fault) h is = is
   line_refused SchemaDiffers h is = is

@@ -4,23 +4,17 @@ use Rattle.std.proofs.lemmas.Bool.Decides.{nat_tests}
 use Rattle.std.specs.FinMap.{find, is_sorted, get, contains_key, entries, entries_sorted, get-entries, get-insert, get-remove, len, len-entries, same_map}
 use Rattle.std.specs.FinMap.Entries.{below_all}
 use Rattle.std.specs.Ordering.{is_lt, is_eq}
-use Rattle.ov_specs.specs.Database.{Database, Row}
-use Rattle.ov_specs.specs.Lines.{LineKey, line_cmp}
-use Rattle.ov_specs.proofs.LineKeys.{key_exact, key_total, tied_same}
+use Rattle.ov_specs.specs.rows.Database.{Database, Row}
+use Rattle.ov_specs.specs.rows.Lines.{LineKey, line_cmp}
+use Rattle.ov_specs.proofs.laws.LineKeys.{key_exact, key_total, tied_same}
 use Rattle.ov_db.specs.Changing.{Delta, applied, with_row, with_rows}
 use Rattle.ov_db.specs.Placing.{IsSameBeside}
 use Rattle.ov_db.proofs.Added.{same}
+use Rattle.ov_specs.proofs.laws.Truths.{left_holds, right_holds, zero_is}
+use Rattle.std.proofs.lemmas.List.{nil_from_length}
 
 abbrev pub Changes : Type 0
 Changes = List (LineKey × Option Row)
-
-first : (a b : Bool) → T (a && b) → T a
-first true b p = tt
-first false b p = absurd p
-
-second : (a b : Bool) → T (a && b) → T b
-second true b p = p
-second false b p = absurd p
 
 not_tied : (o : Ordering) → T (is_lt o) → is_eq o ≡ false
 not_tied Less h = refl
@@ -31,14 +25,14 @@ not_tied Greater h = absurd h
 find-below : (k : LineKey) (es : Changes) → T (below_all line_cmp k es) → find line_cmp k es ≡ None
 find-below k [] h = refl
 find-below k (e ∷ es) h =
-    ap (λ b. cond b (Some e.1) (find line_cmp k es)) (not_tied (line_cmp k e.0) (first _ _ h)) ∙ find-below k es (second _ _ h)
+    ap (λ b. cond b (Some e.1) (find line_cmp k es)) (not_tied (line_cmp k e.0) (left_holds _ _ h)) ∙ find-below k es (right_holds _ _ h)
 
 -- the first key doesn't come again
 pub find-rest : (e : LineKey × Option Row) (es : Changes) → T (is_sorted line_cmp (e ∷ es)) → find line_cmp e.0 es ≡ None
-find-rest e es h = find-below e.0 es (first _ _ h)
+find-rest e es h = find-below e.0 es (left_holds _ _ h)
 
 pub sorted-rest : (e : LineKey × Option Row) (es : Changes) → T (is_sorted line_cmp (e ∷ es)) → T (is_sorted line_cmp es)
-sorted-rest e es h = second _ _ h
+sorted-rest e es h = right_holds _ _ h
 
 -- so what is found behind it is at another key
 pub apart : (e : LineKey × Option Row) (es : Changes) (q : LineKey) (c : Option Row) → T (is_sorted line_cmp (e ∷ es)) → find line_cmp q es ≡ Some c → same q e.0 ≡ false
@@ -79,7 +73,7 @@ in_turn false new rest old h = refl
 get-with_rows : (cs : Changes) (db : Database) (q : LineKey) → T (is_sorted line_cmp cs) → get (with_rows cs db) q ≡ or_before (find line_cmp q cs) (get db q)
 get-with_rows [] db q h = refl
 get-with_rows (c ∷ cs) db q h =
-    get-with_rows cs (with_row c.0 c.1 db) q (second _ _ h) ∙ ap (or_before (find line_cmp q cs)) (at_one c.0 c.1 db q)
+    get-with_rows cs (with_row c.0 c.1 db) q (right_holds _ _ h) ∙ ap (or_before (find line_cmp q cs)) (at_one c.0 c.1 db q)
     ∙ in_turn (same q c.0) c.1 (find line_cmp q cs) (get db q) (λ is. ap (λ k. find line_cmp k cs) (tied_same q c.0 is) ∙ find-rest c cs h)
 
 -- what the delta leaves at a key
@@ -161,13 +155,6 @@ all-placed rest db q r none left = by_test (contains_key db q) refl
     by_test true is = refl
     by_test false is = absurd (no (ap (find line_cmp q) (sym none) ∙ left is))
 
-no_length : {A : Type 0} (xs : List A) → length xs ≡ 0 → xs ≡ []
-no_length [] e = refl
-no_length (x ∷ xs) e = absurd (omega arith)
-
-is_zero : (n : ℕ) → (n == 0) ≡ true → n ≡ 0
-is_zero n h = grind (arith, nat_tests, h)
-
 -- without a change nothing is changed
 pub applied-none : (delta : Delta) (db : Database) → (len delta == 0) ≡ true → applied delta db ≡ db
-applied-none delta db h = ap (λ cs. with_rows cs db) (no_length (entries delta) (sym (len-entries delta) ∙ is_zero (len delta) h))
+applied-none delta db h = ap (λ cs. with_rows cs db) (nil_from_length (entries delta) (sym (len-entries delta) ∙ zero_is (len delta) h))

@@ -4,11 +4,11 @@ use Rattle.std.specs.Cmp.{eq_by_cmp_equiv, nat_eq_equiv}
 use Rattle.std.specs.Cmp.Lexicographic.{pointwise}
 use Rattle.std.specs.FinMap.{entries, keys}
 use Rattle.std.proofs.lemmas.Bool.{and_parts, and_from}
-use Rattle.ov_specs.specs.Database.{Database, Row, is_atom, is_pair, is_datum, are_columns, is_row, is_key, is_database}
-use Rattle.ov_specs.specs.Lines.{LineKey}
-use Rattle.ov_specs.specs.Method.{is_text}
-use Rattle.ov_specs.specs.Value.{Atom, Datum, Atoms, Pairs}
-use Rattle.ov_specs.proofs.Order.{atom_cmp_total}
+use Rattle.ov_specs.specs.rows.Database.{Database, Row, same_atom, same_pair, same_datum, same_columns, same_row, same_key, same_database}
+use Rattle.ov_specs.specs.rows.Lines.{LineKey}
+use Rattle.std.specs.Str.{bytes_eq}
+use Rattle.ov_specs.specs.values.Value.{Atom, Datum, Atoms, Pairs}
+use Rattle.ov_specs.proofs.laws.Order.{atom_cmp_total}
 
 pointwise-same : {A : Type 0} (f : A → A → Bool) → ((a : A) → f a a ≡ true) → (xs : List A) → pointwise f xs xs ≡ true
 pointwise-same f h [] = refl
@@ -25,27 +25,27 @@ pointwise-length f (x ∷ xs) (y ∷ ys) h =
 number-same : (n : ℕ) → nat_eq n n ≡ true
 number-same n = nat_eq_equiv.refl n
 
-text-same : (bytes : List ℕ) → is_text bytes bytes ≡ true
+text-same : (bytes : List ℕ) → bytes_eq bytes bytes ≡ true
 text-same bytes = pointwise-same nat_eq number-same bytes
 
-atom-same : (a : Atom) → is_atom a a ≡ true
+atom-same : (a : Atom) → same_atom a a ≡ true
 atom-same a = (eq_by_cmp_equiv atom_cmp_total).refl a
 
-pair-same : (p : Atom × Atom) → is_pair p p ≡ true
-pair-same p = and_from (is_atom p.0 p.0) (is_atom p.1 p.1) (atom-same p.0) (atom-same p.1)
+pair-same : (p : Atom × Atom) → same_pair p p ≡ true
+pair-same p = and_from (same_atom p.0 p.0) (same_atom p.1 p.1) (atom-same p.0) (atom-same p.1)
 
-datum-same : (d : Datum) → is_datum d d ≡ true
-datum-same (Atoms atoms) = pointwise-same is_atom atom-same (keys atoms)
-datum-same (Pairs pairs) = pointwise-same is_pair pair-same (entries pairs)
+datum-same : (d : Datum) → same_datum d d ≡ true
+datum-same (Atoms atoms) = pointwise-same same_atom atom-same (keys atoms)
+datum-same (Pairs pairs) = pointwise-same same_pair pair-same (entries pairs)
 
-columns-same : (cs : List (List ℕ × Datum)) → are_columns cs cs ≡ true
-columns-same cs = pointwise-same (λ c d. is_text c.0 d.0 && is_datum c.1 d.1) (λ c. and_from (is_text c.0 c.0) (is_datum c.1 c.1) (text-same c.0) (datum-same c.1)) cs
+columns-same : (cs : List (List ℕ × Datum)) → same_columns cs cs ≡ true
+columns-same cs = pointwise-same (λ c d. bytes_eq c.0 d.0 && same_datum c.1 d.1) (λ c. and_from (bytes_eq c.0 c.0) (same_datum c.1 c.1) (text-same c.0) (datum-same c.1)) cs
 
-row-same : (r : Row) → is_row r r ≡ true
-row-same r = and_from (is_text r.version r.version) (are_columns (entries r.columns) (entries r.columns)) (text-same r.version) (columns-same (entries r.columns))
+row-same : (r : Row) → same_row r r ≡ true
+row-same r = and_from (bytes_eq r.version r.version) (same_columns (entries r.columns) (entries r.columns)) (text-same r.version) (columns-same (entries r.columns))
 
-key-same : (k : LineKey) → is_key k k ≡ true
-key-same k = and_from (is_text k.0 k.0) (is_text k.1 k.1) (text-same k.0) (text-same k.1)
+key-same : (k : LineKey) → same_key k k ≡ true
+key-same k = and_from (bytes_eq k.0 k.0) (bytes_eq k.1 k.1) (text-same k.0) (text-same k.1)
 
-pub database-same : (db : Database) → is_database db db ≡ true
-database-same db = pointwise-same (λ r s. is_key r.0 s.0 && is_row r.1 s.1) (λ e. and_from (is_key e.0 e.0) (is_row e.1 e.1) (key-same e.0) (row-same e.1)) (entries db)
+pub database-same : (db : Database) → same_database db db ≡ true
+database-same db = pointwise-same (λ r s. same_key r.0 s.0 && same_row r.1 s.1) (λ e. and_from (same_key e.0 e.0) (same_row e.1 e.1) (key-same e.0) (row-same e.1)) (entries db)

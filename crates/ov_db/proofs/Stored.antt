@@ -3,10 +3,10 @@ use Rattle.std.proofs.Common.{◌≡◌, List, [], ◌∷◌, map, Bool, true, f
 use mathlib.Core.Logic.{inl, inr}
 use Rattle.std.specs.FinMap.{entries, get, get-insert, get-remove}
 use Rattle.std.proofs.Common.{ℕ}
-use Rattle.ov_specs.specs.Database.{Database, Row, line_of, AreLinesOf}
-use Rattle.ov_specs.specs.Lines.{LineKey, LineChange, Lines, Contents, after_change, after_changes}
+use Rattle.ov_specs.specs.rows.Database.{Database, Row, line_of, AreLinesOf}
+use Rattle.ov_specs.specs.rows.Lines.{LineKey, LineChange, Lines, Contents, after_change, after_changes}
 use Rattle.ov_keeper.specs.Keeping.{changed}
-use Rattle.ov_specs.proofs.LineKeys.{key_total}
+use Rattle.ov_specs.proofs.laws.LineKeys.{key_total}
 use Rattle.ov_db.specs.Changing.{Delta, applied, change_of, with_row, with_rows}
 use Rattle.ov_db.specs.Committing.{IsHeld}
 use Rattle.ov_db.proofs.Added.{same}

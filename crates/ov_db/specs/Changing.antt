@@ -1,8 +1,8 @@
 -- Changes of a database by their keys, and the database after them.
 use Rattle.std.specs.Prelude.{List, [], ◌∷◌, Option, Some, None}
 use Rattle.std.specs.FinMap.{FinMap, insert, remove, entries}
-use Rattle.ov_specs.specs.Database.{Database, Row, line_of}
-use Rattle.ov_specs.specs.Lines.{LineKey, LineChange, Put, Remove, line_cmp}
+use Rattle.ov_specs.specs.rows.Database.{Database, Row, line_of}
+use Rattle.ov_specs.specs.rows.Lines.{LineKey, LineChange, Put, Remove, line_cmp}
 
 -- at each key the new row, or none in its place (own)
 abbrev pub Delta : Type 0

@@ -1,15 +1,15 @@
 -- What a commit makes of a database, and what an open may find of it.
 use Rattle.std.specs.Prelude.{◌≡◌, ◌⊎◌, List, ℕ, Option, Some}
-use Rattle.ov_specs.specs.Database.{Database, AreLinesOf}
-use Rattle.ov_specs.specs.Lines.{Contents}
+use Rattle.ov_specs.specs.rows.Database.{Database, AreLinesOf}
+use Rattle.ov_specs.specs.rows.Lines.{Contents}
 use Rattle.ov_db.specs.declared.answer.StoreAnswer.{StoreAnswer}
 use Rattle.ov_db.specs.declared.answer.StoreAnswer.TheVariants.{Kept, Exhausted, Failed}
 use Rattle.ov_db.specs.Changing.{Delta, applied}
-use Rattle.ov_db.specs.Kept as kept
+use Rattle.ov_db.specs.KeptDatabase as kept
 
 -- Kept, the changes are made; exhausted, nothing is changed; failed, what they would have made is sealed. The keeper may be
 -- another after each of them (own).
-abbrev pub Commits : {K : Type 0} → Delta → kept.Kept K → StoreAnswer → kept.Kept K → Type 0
+abbrev pub Commits : {K : Type 0} → Delta → kept.KeptDatabase K → StoreAnswer → kept.KeptDatabase K → Type 0
 Commits delta old Kept new = new ≡ record old { committed = applied delta old.committed; keeper = new.keeper }
 Commits delta old Exhausted new = new ≡ record old { keeper = new.keeper }
 Commits delta old Failed new = new ≡ record old { sealed = Some (applied delta old.committed); keeper = new.keeper }

@@ -2,8 +2,8 @@
 use Rattle.std.specs.Prelude.{List, Option}
 use Rattle.std.specs.Coded.{Coded, coded×, coded_ℕ, coded_list, coded_option}
 use Rattle.std.specs.FinMap as map
-use Rattle.ov_specs.specs.Database.{Row}
-use Rattle.ov_specs.specs.Lines.{LineKey, line_cmp}
+use Rattle.ov_specs.specs.rows.Database.{Row}
+use Rattle.ov_specs.specs.rows.Lines.{LineKey, line_cmp}
 use Rattle.ov_rows.specs.Resident.{row_code}
 use Rattle.ov_db.specs.Changing.{Delta}
 

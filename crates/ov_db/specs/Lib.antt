@@ -2,7 +2,7 @@ pub mod Changing
 pub mod Placing
 pub mod Adding
 pub mod DeltaModel
-pub mod Kept
+pub mod KeptDatabase
 pub mod Committing
 pub mod Stored
 pub mod Loading

@@ -5,9 +5,9 @@ use Rattle.ov_keeper.specs.declared.fault.KeepFault.TheVariants.{Memory}
 use Rattle.ov_db.specs.declared.fault.OpenFault.{OpenFault}
 use Rattle.ov_db.specs.declared.fault.OpenFault.TheVariants.{SchemaDiffers, BadBody, Broken, Keeping}
 use Rattle.ov_db.specs.Stored.{row_stored}
-use Rattle.ov_specs.specs.Database.{Database}
-use Rattle.ov_specs.specs.Lines.{LineKey, LineBody}
-use Rattle.ov_specs.specs.SchemaTypes.{Schema}
+use Rattle.ov_specs.specs.rows.Database.{Database}
+use Rattle.ov_specs.specs.rows.Lines.{LineKey, LineBody}
+use Rattle.ov_specs.specs.schema.SchemaTypes.{Schema}
 
 -- the rows with the one that a line is, where they have none of its key yet
 abbrev pub with_line : Schema → LineKey × LineBody → Database → Option Database
@@ -19,13 +19,13 @@ with_lines schema [] rows = Some rows
 with_lines schema (entry ∷ entries) rows = option_and_then (with_lines schema entries) (with_line schema entry rows)
 
 -- nothing is given; want of memory may be answered to anything
-abbrev pub IsNoneBy : {A : Type 0} → Option A → OpenFault → Type 0
-IsNoneBy given BadBody = given ≡ None
-IsNoneBy given (Keeping fault) = fault ≡ Memory
-IsNoneBy given SchemaDiffers = ⊥
-IsNoneBy given Broken = ⊥
+abbrev pub IsNotLoaded : {A : Type 0} → Option A → OpenFault → Type 0
+IsNotLoaded given BadBody = given ≡ None
+IsNotLoaded given (Keeping fault) = fault ≡ Memory
+IsNotLoaded given SchemaDiffers = ⊥
+IsNotLoaded given Broken = ⊥
 
 -- what is given, or that it is nothing
-abbrev pub IsTaken : {A B : Type 0} → (A → B) → Option B → Result A OpenFault → Type 0
-IsTaken seen given (Ok a) = given ≡ Some (seen a)
-IsTaken seen given (Err fault) = IsNoneBy given fault
+abbrev pub IsLoaded : {A B : Type 0} → (A → B) → Option B → Result A OpenFault → Type 0
+IsLoaded seen given (Ok a) = given ≡ Some (seen a)
+IsLoaded seen given (Err fault) = IsNotLoaded given fault

@@ -1,9 +1,9 @@
 -- When an open is refused, and what it finds where it is not, by what the keeper holds (own).
 use Rattle.std.specs.Prelude.{◌≡◌, ◌≢◌}
 use Rattle.serde_json.specs.Written.{compact_text}
-use Rattle.ov_specs.specs.Database.{Database}
-use Rattle.ov_specs.specs.Lines.{Contents}
-use Rattle.ov_specs.specs.SchemaTypes.{Schema}
+use Rattle.ov_specs.specs.rows.Database.{Database}
+use Rattle.ov_specs.specs.rows.Lines.{Contents}
+use Rattle.ov_specs.specs.schema.SchemaTypes.{Schema}
 use Rattle.ov_db.specs.declared.fault.OpenFault.{OpenFault}
 use Rattle.ov_db.specs.declared.fault.OpenFault.TheVariants.{SchemaDiffers, BadBody, Broken, Keeping}
 use Rattle.ov_db.specs.Stored.{AreRowsOf, HasBadLine}

@@ -1,8 +1,8 @@
 -- Places that are made for new rows before they are put there.
 use Rattle.std.specs.Prelude.{◌≡◌, Some, None, true}
 use Rattle.std.specs.FinMap.{get, contains_key}
-use Rattle.ov_specs.specs.Database.{Database, Row}
-use Rattle.ov_specs.specs.Lines.{LineKey}
+use Rattle.ov_specs.specs.rows.Database.{Database, Row}
+use Rattle.ov_specs.specs.rows.Lines.{LineKey}
 use Rattle.ov_db.specs.Changing.{Delta}
 
 -- there is a row at each key that the changes give a row

@@ -3,21 +3,21 @@ use Rattle.std.specs.Prelude.{◌≡◌, ℕ, List, [], ◌∷◌, if◌then◌e
 use Rattle.std.specs.FinMap.{empty, get, insert, entries}
 use Rattle.serde_json.specs.Data.{Data}
 use Rattle.serde_json.specs.Find as find
-use Rattle.ov_specs.specs.Database.{Columns, Row, Database, line_of}
-use Rattle.ov_specs.specs.Fitting.{fits}
-use Rattle.ov_specs.specs.Lines.{LineKey, LineBody, Lines}
-use Rattle.ov_specs.specs.Message.{tree_of}
-use Rattle.ov_specs.specs.Method.{is_text}
-use Rattle.ov_specs.specs.Operation.{is_own, no_names}
-use Rattle.ov_specs.specs.Reading.{Reading, Reads, Syntax, Clash, reads}
-use Rattle.ov_specs.specs.SchemaTypes.{Column, Table, Schema, kinds_of}
-use Rattle.ov_specs.specs.Value.{Datum}
+use Rattle.ov_specs.specs.rows.Database.{Columns, Row, Database, line_of}
+use Rattle.ov_specs.specs.schema.Fitting.{fits}
+use Rattle.ov_specs.specs.rows.Lines.{LineKey, LineBody, Lines}
+use Rattle.ov_specs.specs.wire.Message.{tree_of}
+use Rattle.std.specs.Str.{bytes_eq}
+use Rattle.ov_specs.specs.operations.Operation.{is_own_column, no_names}
+use Rattle.ov_specs.specs.values.Reading.{Reading, Reads, Unreadable, Clashing, reads}
+use Rattle.ov_specs.specs.schema.SchemaTypes.{Column, Table, Schema, kinds_of}
+use Rattle.ov_specs.specs.values.Value.{Datum}
 
 -- the value, where there is one and it fits its column (RFC 7047, 3.2, <type>)
 abbrev pub fitting_value : Column → Reading Datum → Option Datum
 fitting_value column (Reads datum) = if fits column.type_of datum then Some datum else None
-fitting_value column Syntax = None
-fitting_value column Clash = None
+fitting_value column Unreadable = None
+fitting_value column Clashing = None
 
 -- the value that a body has for a column, as the member of its name (RFC 7047, 5.1, <row>)
 abbrev pub value_stored : Data → List ℕ × Column → Option Datum
@@ -28,12 +28,12 @@ value_stored body c = option_and_then (λ d. fitting_value c.1 (reads no_names (
 abbrev pub columns_stored : Data → List (List ℕ × Column) → Columns → Option Columns
 columns_stored body [] columns = Some columns
 columns_stored body (c ∷ cs) columns =
-    if is_own c.0 then columns_stored body cs columns
+    if is_own_column c.0 then columns_stored body cs columns
     else option_and_then (λ datum. columns_stored body cs (insert columns c.0 datum)) (value_stored body c)
 
 -- the row, where the very bytes of the line are those that it is stored as
 abbrev pub stored_as : LineBody → Row → Option Row
-stored_as line row = if is_text (line_of row).1 line.1 then Some row else None
+stored_as line row = if bytes_eq (line_of row).1 line.1 then Some row else None
 
 -- the row of these columns, under the version of the line
 abbrev pub row_of_columns : LineBody → Columns → Option Row

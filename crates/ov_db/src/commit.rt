@@ -1,10 +1,10 @@
 ghost use Rattle.std.specs.Prelude.{◌≡◌, [], map, true, false, is_some, IfOk, OnOk, None};
 ghost use Rattle.std.specs.FinMap.{entries, get, contains_key};
 ghost use Rattle.std.specs.Ordering.{eq_by_cmp};
-ghost use Rattle.ov_specs.specs.Database.{line_of};
-ghost use Rattle.ov_specs.specs.Lines.{LineKey, Remove, line_cmp};
+ghost use Rattle.ov_specs.specs.rows.Database.{line_of};
+ghost use Rattle.ov_specs.specs.rows.Lines.{LineKey, Remove, line_cmp};
 ghost use Rattle.ov_keeper.specs.Views.{changes_view, change_view, line_entry};
-ghost use Rattle.ov_db.specs.Adding.{without};
+ghost use Rattle.ov_db.specs.Adding.{without_rows};
 ghost use Rattle.ov_db.specs.Changing.{applied, change_of, with_row};
 ghost use Rattle.ov_db.specs.Placing.{IsPlaced, IsSameBeside};
 
@@ -65,7 +65,7 @@ pub(crate) fn place(
     added: &mut Vec<RowKey>,
 ) -> Result<(), AllocError>
     requires { added.old.items ≡ [] }
-    ensures added { without added.new.items rows.new ≡ rows.old }
+    ensures added { without_rows added.new.items rows.new ≡ rows.old }
     ensures same { OnOk result (IsSameBeside delta.now rows.old rows.new) }
     ensures placed { OnOk result (IsPlaced delta.now rows.new) }
 {
@@ -83,7 +83,7 @@ fn place_one(
     row: &Option<Row>,
     added: &mut Vec<RowKey>,
 ) -> Result<(), AllocError>
-    ensures added { without added.new.items rows.new ≡ without added.old.items rows.old }
+    ensures added { without_rows added.new.items rows.new ≡ without_rows added.old.items rows.old }
     ensures same { (other : LineKey) → eq_by_cmp line_cmp other key.now ≡ false → get rows.new other ≡ get rows.old other }
     ensures stays { (other : LineKey) → contains_key rows.old other ≡ true → contains_key rows.new other ≡ true }
     ensures placed { OnOk result (is_some row.now ≡ true → contains_key rows.new key.now ≡ true) }
@@ -102,7 +102,7 @@ fn place_at(
     added: &mut Vec<RowKey>,
 ) -> Result<(), AllocError>
     requires { contains_key rows.old key.now ≡ false }
-    ensures added { without added.new.items rows.new ≡ without added.old.items rows.old }
+    ensures added { without_rows added.new.items rows.new ≡ without_rows added.old.items rows.old }
     ensures same { (other : LineKey) → eq_by_cmp line_cmp other key.now ≡ false → get rows.new other ≡ get rows.old other }
     ensures stays { (other : LineKey) → contains_key rows.old other ≡ true → contains_key rows.new other ≡ true }
     ensures placed { OnOk result (contains_key rows.new key.now ≡ true) }
@@ -120,7 +120,7 @@ fn place_at(
 
 /// Takes the rows of these keys out again, the last one first.
 pub(crate) fn take_out(rows: &mut Rows, added: &mut Vec<RowKey>)
-    ensures { rows.new ≡ without added.old.items rows.old }
+    ensures { rows.new ≡ without_rows added.old.items rows.old }
 {
     while let Some(key) = added.pop() {
         rows.remove(&key);

@@ -2,9 +2,9 @@ ghost use Rattle.std.specs.Prelude.{◌≡◌, ◌⊎◌, ◌<◌, ◌==◌, ◌
 ghost use Rattle.std.specs.FinMap.{get, entries, len};
 ghost use Rattle.std.specs.List.{filter};
 ghost use Rattle.serde_json.specs.Written.{compact_text};
-ghost use Rattle.ov_specs.specs.Lines.{Contents};
-ghost use Rattle.ov_specs.specs.Method.{is_text};
-ghost use Rattle.ov_keeper.specs.Keeping.{Keeps};
+ghost use Rattle.ov_specs.specs.rows.Lines.{Contents};
+ghost use Rattle.std.specs.Str.{bytes_eq};
+ghost use Rattle.ov_keeper.specs.Keeping.{LeavesNoMore};
 ghost use Rattle.ov_db.specs.Committing.{Commits, MayHold};
 ghost use Rattle.ov_db.specs.Opening.{CanOpen, RefusesOpen};
 ghost use Rattle.ov_db.specs.declared.answer.StoreAnswer.TheVariants.{Kept, Failed};
@@ -37,13 +37,13 @@ impl<K: Keeper> Model for Db<K> {
     ghost use Rattle.std.specs.Prelude.{option_map};
     ghost use Rattle.std.specs.Coded.{codes};
     ghost use Rattle.serde_json.specs.Written.{compact_text};
-    ghost use Rattle.ov_specs.specs.SchemaTypes.{schema_code};
+    ghost use Rattle.ov_specs.specs.codes.SchemaCode.{schema_code};
     ghost use Rattle.ov_db.specs.Changing.{applied};
     ghost use Rattle.ov_db.specs.Committing.{MayHold};
-    ghost use Rattle.ov_db.specs.Kept.{Kept};
+    ghost use Rattle.ov_db.specs.KeptDatabase.{KeptDatabase};
     ghost use Rattle.ov_rows.specs.Resident.{database_code};
 
-    ghost Value = { Kept K };
+    ghost Value = { KeptDatabase K };
 
     ghost coded = { Prim.hlevel (codes, schema_code, database_code, K.code) };
 
@@ -61,7 +61,7 @@ impl<K: Keeper + Drop> Db<K> {
     pub fn open(alloc: Global, keeper: K, schema: Schema) -> Result<Db<K>, OpenFault>
         ensures rest { IfOk result (λ d. (d.schema ≡ schema) × (d.sealed ≡ None)) }
         ensures held { IfOk result (λ d. K.is_honest d.keeper → (held : Contents) → K.leaves keeper held → CanOpen schema d.committed held) }
-        ensures same { IfOk result (λ d. K.is_honest d.keeper → Keeps (K.leaves keeper) (K.leaves d.keeper)) }
+        ensures same { IfOk result (λ d. K.is_honest d.keeper → LeavesNoMore (K.leaves keeper) (K.leaves d.keeper)) }
         ensures honest { IfOk result (λ d. K.is_honest d.keeper → K.is_honest keeper) }
         ensures fault { IfErr result (λ fault. (later : K) × (K.is_honest later → (held : Contents) → K.leaves keeper held → RefusesOpen schema held fault)) }
     {
@@ -99,7 +99,7 @@ impl<K: Keeper + Drop> Db<K> {
 
     /// The rows of the table of this name, in ascending order of their identifiers.
     pub fn rows_of(&self, alloc: Global, table: &str) -> Result<Vec<(&RowKey, &Row)>, AllocError>
-        ensures { IfOk result (λ rows. map (λ r. (r.0.now, r.1.now)) rows.items ≡ filter (λ r. is_text r.0.0 table.now) (entries self.now.committed)) }
+        ensures { IfOk result (λ rows. map (λ r. (r.0.now, r.1.now)) rows.items ≡ filter (λ r. bytes_eq r.0.0 table.now) (entries self.now.committed)) }
     {
         self.rows.of_table(alloc, table)
     }

@@ -15,7 +15,7 @@ pub struct Delta {
 impl Model for Delta {
     ghost use Rattle.std.specs.Prelude.{T};
     ghost use Rattle.std.specs.FinMap.{is_sorted};
-    ghost use Rattle.ov_specs.specs.Lines.{line_cmp};
+    ghost use Rattle.ov_specs.specs.rows.Lines.{line_cmp};
     ghost use Rattle.ov_db.specs.Changing as changing;
     ghost use Rattle.ov_db.specs.DeltaModel.{delta_code, delta_of};
 

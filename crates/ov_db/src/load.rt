@@ -2,7 +2,7 @@ ghost use Rattle.std.specs.Prelude.{◌≡◌, map, Some, IfOk, IfErr, OnOk};
 ghost use Rattle.std.specs.FinMap.{empty};
 ghost use Rattle.ov_keeper.specs.Keeping.{loaded_contents};
 ghost use Rattle.ov_keeper.specs.Views.{line_entry};
-ghost use Rattle.ov_db.specs.Loading.{IsNoneBy, IsTaken, with_line, with_lines};
+ghost use Rattle.ov_db.specs.Loading.{IsNotLoaded, IsLoaded, with_line, with_lines};
 ghost use Rattle.ov_db.specs.Opening.{CanOpen, RefusesOpen};
 
 use crate::fault::OpenFault;
@@ -26,7 +26,7 @@ pub(crate) fn rows_of(alloc: Global, schema: &Schema, loaded: &Loaded) -> Result
 
 /// The rows that the lines are. Of two lines with one key the first counts.
 fn rows_of_lines(alloc: Global, schema: &Schema, lines: &[Line]) -> Result<Rows, OpenFault>
-    ensures { IsTaken (λ rows. rows) (with_lines schema.now (map line_entry lines.now) empty) result }
+    ensures { IsLoaded (λ rows. rows) (with_lines schema.now (map line_entry lines.now) empty) result }
 {
     let mut rows = Rows::new(alloc);
     for line in lines {
@@ -38,7 +38,7 @@ fn rows_of_lines(alloc: Global, schema: &Schema, lines: &[Line]) -> Result<Rows,
 /// Adds the row that a line is, where there is none of its key yet.
 fn add_line(alloc: Global, schema: &Schema, line: &Line, rows: &mut Rows) -> Result<(), OpenFault>
     ensures ok { OnOk result (with_line schema.now (line_entry line.now) rows.old ≡ Some rows.new) }
-    ensures err { IfErr result (IsNoneBy (with_line schema.now (line_entry line.now) rows.old)) }
+    ensures err { IfErr result (IsNotLoaded (with_line schema.now (line_entry line.now) rows.old)) }
 {
     let key = RowKey::new(alloc, line.table.as_str(), line.id)?;
     if rows.contains(&key) {

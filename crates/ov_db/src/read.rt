@@ -1,10 +1,10 @@
 ghost use Rattle.std.specs.Prelude.{◌≡◌};
 ghost use Rattle.std.specs.FinMap.{empty, entries};
 ghost use Rattle.serde_json.specs.View.{view};
-ghost use Rattle.ov_specs.specs.Message.{tree_of};
-ghost use Rattle.ov_specs.specs.Operation.{is_own};
+ghost use Rattle.ov_specs.specs.wire.Message.{tree_of};
+ghost use Rattle.ov_specs.specs.operations.Operation.{is_own_column};
 ghost use Rattle.ov_keeper.specs.Views.{line_entry};
-ghost use Rattle.ov_db.specs.Loading.{IsTaken};
+ghost use Rattle.ov_db.specs.Loading.{IsLoaded};
 ghost use Rattle.ov_db.specs.Stored.{columns_stored, row_of_table, row_stored, value_stored};
 
 use crate::fault::OpenFault;
@@ -18,7 +18,7 @@ use std::alloc::Global;
 /// The row that a stored line is. It is refused as `BadBody` where its table is none of the schema's, where its body has not
 /// for each column a value that fits, and where the row is stored as other bytes than these, be it by a space.
 pub(crate) fn row_of(alloc: Global, schema: &Schema, line: &Line) -> Result<Row, OpenFault>
-    ensures { IsTaken (λ row. row) (row_stored schema.now (line_entry line.now).0 (line_entry line.now).1) result }
+    ensures { IsLoaded (λ row. row) (row_stored schema.now (line_entry line.now).0 (line_entry line.now).1) result }
 {
     match schema.table(line.table.as_str()) {
         Some(table) => row_of_table(alloc, table, line),
@@ -28,7 +28,7 @@ pub(crate) fn row_of(alloc: Global, schema: &Schema, line: &Line) -> Result<Row,
 
 /// The row of a table that a stored line is.
 fn row_of_table(alloc: Global, table: &Table, line: &Line) -> Result<Row, OpenFault>
-    ensures { IsTaken (λ row. row) (row_of_table table.now (line_entry line.now).1) result }
+    ensures { IsLoaded (λ row. row) (row_of_table table.now (line_entry line.now).1) result }
 {
     let body = body_of(alloc, line.body.as_slice())?;
     let columns = columns_of(alloc, table, &body)?;
@@ -46,7 +46,7 @@ fn row_of_table(alloc: Global, table: &Table, line: &Line) -> Result<Row, OpenFa
 
 /// The tree that a body is.
 fn body_of(alloc: Global, body: &[u8]) -> Result<Value, OpenFault>
-    ensures { IsTaken view (tree_of body.now) result }
+    ensures { IsLoaded view (tree_of body.now) result }
 {
     match Value::from_slice(alloc, body) {
         Ok(tree) => Ok(tree),
@@ -57,7 +57,7 @@ fn body_of(alloc: Global, body: &[u8]) -> Result<Value, OpenFault>
 
 /// All columns of the table but those that rows have by themselves, each with the value that the body has for it.
 fn columns_of(alloc: Global, table: &Table, body: &Value) -> Result<Columns, OpenFault>
-    ensures { IsTaken (λ columns. columns) (columns_stored (view body.now) (entries table.now.columns) empty) result }
+    ensures { IsLoaded (λ columns. columns) (columns_stored (view body.now) (entries table.now.columns) empty) result }
 {
     let mut columns = Columns::new(alloc);
     for (name, column) in table.columns() {
@@ -71,7 +71,7 @@ fn columns_of(alloc: Global, table: &Table, body: &Value) -> Result<Columns, Ope
 
 /// The value that the body has for a column, where it fits.
 fn value_of(alloc: Global, body: &Value, name: &str, column: &Column) -> Result<Datum, OpenFault>
-    ensures { IsTaken (λ datum. datum) (value_stored (view body.now) (name.now, column.now)) result }
+    ensures { IsLoaded (λ datum. datum) (value_stored (view body.now) (name.now, column.now)) result }
 {
     let Some(tree) = body.get(name) else {
         return Err(OpenFault::BadBody);
@@ -85,7 +85,7 @@ fn value_of(alloc: Global, body: &Value, name: &str, column: &Column) -> Result<
 
 /// A column that each row has by itself (RFC 7047, 3.2).
 fn is_own(name: &str) -> bool
-    ensures { result ≡ is_own name.now }
+    ensures { result ≡ is_own_column name.now }
 {
     name == "_uuid" || name == "_version"
 }

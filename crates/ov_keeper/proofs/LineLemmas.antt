@@ -12,30 +12,27 @@ use Rattle.std.proofs.lemmas.List.{map-append}
 use Rattle.std.proofs.lemmas.Map.Entries.{lookup-filter-keys}
 use Rattle.std.proofs.lemmas.Map.Lookups.{CmpEqualImpliesEq, exact_pairs}
 use Rattle.std.proofs.Math.Seq.{take-suc}
-use Rattle.ov_specs.specs.Lines.{LineKey, LineBody, LineChange, Lines, line_cmp, after_change, after_changes}
+use Rattle.ov_specs.specs.rows.Lines.{LineKey, LineBody, LineChange, Lines, line_cmp, after_change, after_changes}
 use Rattle.ov_keeper.specs.declared.line.Line.{Line}
 use Rattle.ov_keeper.specs.Keeping.{changed}
 use Rattle.ov_keeper.specs.ListKeeper.{contents_after, lines_of}
 use Rattle.ov_keeper.specs.Views.{line_entry}
-use Rattle.ov_specs.proofs.LineKeys.{key_exact, key_total, tied_same, same_tied}
+use Rattle.ov_specs.proofs.laws.LineKeys.{key_exact, key_total, tied_same, same_tied}
+use Rattle.ov_specs.proofs.laws.Truths.{cond-not}
 
-find_lookup : (entries : List (LineKey × LineBody)) (q : LineKey) → find line_cmp q entries ≡ lookup (eq_by_cmp line_cmp q) entries
+pub find_lookup : (entries : List (LineKey × LineBody)) (q : LineKey) → find line_cmp q entries ≡ lookup (eq_by_cmp line_cmp q) entries
 find_lookup [] q = refl
 find_lookup (e ∷ entries) q = ap (cond (eq_by_cmp line_cmp q e.0) (Some e.1)) (find_lookup entries q)
 
-turned : {A : Type 0} (b : Bool) (x y : A) → cond (not b) x y ≡ cond b y x
-turned true x y = refl
-turned false x y = refl
-
-passes : (k q x : LineKey) → eq_by_cmp line_cmp q x ≡ true → not (eq_by_cmp line_cmp k x) ≡ not (eq_by_cmp line_cmp q k)
+pub passes : (k q x : LineKey) → eq_by_cmp line_cmp q x ≡ true → not (eq_by_cmp line_cmp k x) ≡ not (eq_by_cmp line_cmp q k)
 passes k q x h = ap not (ap (eq_by_cmp line_cmp k) (sym (tied_same q x h)) ∙ (eq_by_cmp_equiv key_total).symm k q)
 
-find_filter : (entries : List (LineKey × LineBody)) (k q : LineKey) → find line_cmp q (filter (λ e. not (eq_by_cmp line_cmp k e.0)) entries) ≡ cond (eq_by_cmp line_cmp q k) None (find line_cmp q entries)
+pub find_filter : (entries : List (LineKey × LineBody)) (k q : LineKey) → find line_cmp q (filter (λ e. not (eq_by_cmp line_cmp k e.0)) entries) ≡ cond (eq_by_cmp line_cmp q k) None (find line_cmp q entries)
 find_filter entries k q =
     find_lookup _ q ∙ lookup-filter-keys (eq_by_cmp line_cmp q) (λ x. not (eq_by_cmp line_cmp k x)) _ (passes k q) entries
-    ∙ turned (eq_by_cmp line_cmp q k) _ _ ∙ ap (cond (eq_by_cmp line_cmp q k) None) (sym (find_lookup entries q))
+    ∙ cond-not (eq_by_cmp line_cmp q k) _ _ ∙ ap (cond (eq_by_cmp line_cmp q k) None) (sym (find_lookup entries q))
 
-from_entries-filter : (entries : List (LineKey × LineBody)) (k : LineKey) → from_entries {R = line_cmp} (filter (λ e. not (eq_by_cmp line_cmp k e.0)) entries) ≡ remove (from_entries entries) k
+pub from_entries-filter : (entries : List (LineKey × LineBody)) (k : LineKey) → from_entries {R = line_cmp} (filter (λ e. not (eq_by_cmp line_cmp k e.0)) entries) ≡ remove (from_entries entries) k
 from_entries-filter entries k = same_map key_total key_exact _ _ (λ q.
     get-from_entries key_total _ q ∙ find_filter entries k q ∙ sym (get-remove key_total (from_entries entries) k q ∙ ap (cond (eq_by_cmp line_cmp q k) None) (get-from_entries key_total entries q)))
 
@@ -51,10 +48,10 @@ map-filter k (line ∷ lines) = kept (not (eq_by_cmp line_cmp k (line_entry line
 pub lines_of-filter : (k : LineKey) (lines : List Line) → lines_of (filter (λ line. not (eq_by_cmp line_cmp k (line_entry line).0)) lines) ≡ remove (lines_of lines) k
 lines_of-filter k lines = ap from_entries (map-filter k lines) ∙ from_entries-filter (map line_entry lines) k
 
-not_found : (m : Lines) (k : LineKey) → get (remove m k) k ≡ None
+pub not_found : (m : Lines) (k : LineKey) → get (remove m k) k ≡ None
 not_found m k = get-remove key_total m k k ∙ rw (same_tied k k refl) refl
 
-insert-remove : (m : Lines) (k : LineKey) (v : LineBody) → insert (remove m k) k v ≡ insert m k v
+pub insert-remove : (m : Lines) (k : LineKey) (v : LineBody) → insert (remove m k) k v ≡ insert m k v
 insert-remove m k v = same_map key_total key_exact _ _ (λ q.
     get-insert key_total (remove m k) k v q ∙ covered (eq_by_cmp line_cmp q k) (Some v) _ _ _ (get-remove key_total m k q) ∙ sym (get-insert key_total m k v q))
   where

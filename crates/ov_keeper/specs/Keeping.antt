@@ -1,7 +1,7 @@
 -- What a call of a keeper makes of the contents that an open now would find.
 use Rattle.std.specs.Prelude.{◌≡◌, ◌⊎◌, List, map}
 use Rattle.std.specs.FinMap.{from_entries}
-use Rattle.ov_specs.specs.Lines.{Contents, LineChange, after_changes}
+use Rattle.ov_specs.specs.rows.Lines.{Contents, LineChange, after_changes}
 use Rattle.ov_keeper.specs.declared.keeper.Loaded.{Loaded}
 use Rattle.ov_keeper.specs.declared.fault.KeepFault.{KeepFault}
 use Rattle.ov_keeper.specs.declared.fault.KeepFault.TheVariants.{Memory, Device, NotOurs, Format, TooLarge}
@@ -12,24 +12,24 @@ abbrev pub changed : List LineChange → Contents → Contents
 changed changes held = record held { lines = after_changes changes held.lines }
 
 -- all that may be found might be found before
-abbrev pub Keeps : (Contents → Type 0) → (Contents → Type 0) → Type 0
-Keeps old new = (held : Contents) → new held → old held
+abbrev pub LeavesNoMore : (Contents → Type 0) → (Contents → Type 0) → Type 0
+LeavesNoMore old new = (held : Contents) → new held → old held
 
 -- all that may be found is what might be found before, with all of the changes
-abbrev pub Changes : List LineChange → (Contents → Type 0) → (Contents → Type 0) → Type 0
-Changes changes old new = (held : Contents) → new held → (before : Contents) × old before × (held ≡ changed changes before)
+abbrev pub LeavesChanged : List LineChange → (Contents → Type 0) → (Contents → Type 0) → Type 0
+LeavesChanged changes old new = (held : Contents) → new held → (before : Contents) × old before × (held ≡ changed changes before)
 
 -- all that may be found is what might be found before, with all of the changes or with none
-abbrev pub MayChange : List LineChange → (Contents → Type 0) → (Contents → Type 0) → Type 0
-MayChange changes old new = (held : Contents) → new held → old held ⊎ ((before : Contents) × old before × (held ≡ changed changes before))
+abbrev pub MayLeaveChanged : List LineChange → (Contents → Type 0) → (Contents → Type 0) → Type 0
+MayLeaveChanged changes old new = (held : Contents) → new held → old held ⊎ ((before : Contents) × old before × (held ≡ changed changes before))
 
 -- what a refused commit leaves; what only an open can find is no answer to it
-abbrev pub Refuses : List LineChange → (Contents → Type 0) → (Contents → Type 0) → KeepFault → Type 0
-Refuses changes old new Device = MayChange changes old new
-Refuses changes old new Memory = Keeps old new
-Refuses changes old new TooLarge = Keeps old new
-Refuses changes old new NotOurs = ⊥
-Refuses changes old new Format = ⊥
+abbrev pub LeavesRefused : List LineChange → (Contents → Type 0) → (Contents → Type 0) → KeepFault → Type 0
+LeavesRefused changes old new Device = MayLeaveChanged changes old new
+LeavesRefused changes old new Memory = LeavesNoMore old new
+LeavesRefused changes old new TooLarge = LeavesNoMore old new
+LeavesRefused changes old new NotOurs = ⊥
+LeavesRefused changes old new Format = ⊥
 
 -- a commit is refused for want of memory, by the device, or for changes that are too large; the others only an open can find (own)
 abbrev pub IsCommitFault : KeepFault → Type 0

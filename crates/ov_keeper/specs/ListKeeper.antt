@@ -1,7 +1,7 @@
 -- What a keeper in memory holds.
 use Rattle.std.specs.Prelude.{◌≡◌, List, ℕ, map, refl}
 use Rattle.std.specs.FinMap.{empty, from_entries}
-use Rattle.ov_specs.specs.Lines.{Contents, LineChange, Lines, after_changes}
+use Rattle.ov_specs.specs.rows.Lines.{Contents, LineChange, Lines, after_changes}
 use Rattle.ov_keeper.specs.declared.line.Line.{Line}
 use Rattle.ov_keeper.specs.Views.{line_entry}
 
@@ -14,5 +14,5 @@ abbrev pub lines_of : List Line → Lines
 lines_of lines = from_entries (map line_entry lines)
 
 -- an open finds just these contents, so it finds some
-pub found : (contents : Contents) → ∥ ((held : Contents) × (held ≡ contents)) ∥₁
-found contents = ∣ (contents, refl) ∣₁
+pub some_contents : (contents : Contents) → ∥ ((held : Contents) × (held ≡ contents)) ∥₁
+some_contents contents = ∣ (contents, refl) ∣₁

@@ -1,6 +1,6 @@
 -- Lines and changes of the code as those of the definitions.
 use Rattle.std.specs.Prelude.{List, map}
-use Rattle.ov_specs.specs.Lines as lines
+use Rattle.ov_specs.specs.rows.Lines as lines
 use Rattle.ov_keeper.specs.declared.line.Change.{Change}
 use Rattle.ov_keeper.specs.declared.line.Change.TheVariants.{Put, Remove}
 use Rattle.ov_keeper.specs.declared.line.Line.{Line}

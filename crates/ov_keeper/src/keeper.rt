@@ -1,7 +1,7 @@
 ghost use Rattle.std.specs.Prelude.{◌≡◌, ◌⊎◌, ◌<◌, ◌≤◌, ◌-◌, ◌^◌, ℕ, IfOk, IfErr, OnOk};
-ghost use Rattle.ov_specs.specs.Lines.{Contents};
+ghost use Rattle.ov_specs.specs.rows.Lines.{Contents};
 ghost use Rattle.ov_keeper.specs.Views.{changes_view};
-ghost use Rattle.ov_keeper.specs.Keeping.{Keeps, Changes, Refuses, IsCommitFault, loaded_contents};
+ghost use Rattle.ov_keeper.specs.Keeping.{LeavesNoMore, LeavesChanged, LeavesRefused, IsCommitFault, loaded_contents};
 
 use crate::fault::KeepFault;
 use crate::line::{Change, Line};
@@ -34,13 +34,13 @@ pub trait Keeper {
     /// The text of the schema and all lines.
     fn load(&mut self, alloc: Global) -> Result<Loaded, KeepFault>
         ensures ok { is_honest self.new → IfOk result (λ loaded. (held : Contents) → leaves self.old held → held ≡ loaded_contents loaded) }
-        ensures same { is_honest self.new → Keeps (leaves self.old) (leaves self.new) }
+        ensures same { is_honest self.new → LeavesNoMore (leaves self.old) (leaves self.new) }
         ensures honest { is_honest self.new → is_honest self.old };
 
     /// Makes all changes, in order, or none.
     fn commit(&mut self, alloc: Global, changes: &[Change]) -> Result<(), KeepFault>
-        ensures ok { is_honest self.new → OnOk result (Changes (changes_view changes.now) (leaves self.old) (leaves self.new)) }
-        ensures err { is_honest self.new → IfErr result (Refuses (changes_view changes.now) (leaves self.old) (leaves self.new)) }
+        ensures ok { is_honest self.new → OnOk result (LeavesChanged (changes_view changes.now) (leaves self.old) (leaves self.new)) }
+        ensures err { is_honest self.new → IfErr result (LeavesRefused (changes_view changes.now) (leaves self.old) (leaves self.new)) }
         ensures kinds { IfErr result IsCommitFault }
         // A failure of the device has a cause: its count rises, where it is not at its greatest.
         ensures cause { result ≡ Err KeepFault.Device → (failed self.old < failed self.new) ⊎ (failed self.old ≡ 2 ^ 64 - 1) }
@@ -48,5 +48,5 @@ pub trait Keeper {
         ensures honest { is_honest self.new → is_honest self.old };
 
     // An open finds something.
-    ghost something: { (k : Self) → is_honest k → ∥ ((held : Contents) × leaves k held) ∥₁ };
+    ghost leaves_some: { (k : Self) → is_honest k → ∥ ((held : Contents) × leaves k held) ∥₁ };
 }

@@ -1,6 +1,6 @@
 ghost use Rattle.std.specs.Prelude.{◌≡◌, IfOk};
 ghost use Rattle.std.specs.Ordering.{eq_by_cmp};
-ghost use Rattle.ov_specs.specs.Lines.{line_cmp};
+ghost use Rattle.ov_specs.specs.rows.Lines.{line_cmp};
 ghost use Rattle.ov_keeper.specs.Views.{line_entry};
 
 use ov_base::{Bytes, Text};

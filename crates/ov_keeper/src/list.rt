@@ -1,6 +1,6 @@
 ghost use Rattle.std.specs.Prelude.{◌≡◌, ◌↔◌, IfOk, OnOk};
 ghost use Rattle.std.specs.FinMap.{empty, remove};
-ghost use Rattle.ov_specs.specs.Lines.{Contents, after_change, after_changes};
+ghost use Rattle.ov_specs.specs.rows.Lines.{Contents, after_change, after_changes};
 ghost use Rattle.ov_keeper.specs.ListKeeper.{lines_of};
 ghost use Rattle.ov_keeper.specs.Views.{change_view, changes_view};
 
@@ -45,7 +45,7 @@ impl ListKeeper {
 impl Keeper for ListKeeper {
     ghost use Rattle.std.specs.Prelude.{◌≡◌};
     ghost use Rattle.ov_keeper.specs.Views.{changes_view};
-    ghost use Rattle.ov_keeper.specs.ListKeeper.{contents_after, found};
+    ghost use Rattle.ov_keeper.specs.ListKeeper.{contents_after, some_contents};
 
     ghost is_honest = { λ _. Unit {0} };
 
@@ -53,7 +53,7 @@ impl Keeper for ListKeeper {
 
     ghost failed = { λ _. 0 };
 
-    ghost something = { λ k _. found (contents_after k.schema (changes_view k.made.items)) };
+    ghost leaves_some = { λ k _. some_contents (contents_after k.schema (changes_view k.made.items)) };
 
     fn failures(&self) -> u64 {
         0

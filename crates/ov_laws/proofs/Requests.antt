@@ -3,15 +3,17 @@ use Rattle.std.proofs.Common.{◌≡◌, ◌≢◌, ℕ, ◌+◌, ◌<◌, ◌�
 use Rattle.std.specs.Prelude.{◌||◌, MatchBool}
 use Rattle.std.proofs.lemmas.List.{append-nil}
 use Rattle.std.proofs.lemmas.Bool.{cases_Bool, cases_eq, cases_lt, eq-eqb, ne_eqb, false≢true, MatchBool-at_true, MatchBool-at_false}
-use Rattle.ov_specs.specs.Cut.{cut}
-use Rattle.ov_specs.specs.Message.{Message, asked}
-use Rattle.ov_specs.specs.Machine.{State, Entry, Open, Close, Cause, InputEnded, Damaged, Memory, Stepped, is_open, opening}
-use Rattle.ov_specs.specs.History.{requests, closed_by, or_else}
-use Rattle.ov_specs.specs.SchemaTypes.{Schema}
-use Rattle.ov_specs.specs.Database.{Database}
-use Rattle.ov_specs.specs.Streams.{StreamEvent, Opens, Feed, Finish, Passes, Streams, no_streams, fed, Enters, Feeds, Expands, ExpandsTimed}
-use Rattle.ov_specs.proofs.Turns.{Turn, or_else_none, requests_more, closed_by_more, turn_open, turn_tick, turn_close, turn_close_other, turn_take, turn_take_other}
+use Rattle.ov_specs.specs.wire.Cut.{cut}
+use Rattle.ov_specs.specs.wire.Message.{Message, asked}
+use Rattle.ov_specs.specs.machine.Machine.{State, Entry, Open, Close, Cause, InputEnded, Damaged, Memory, Stepped, is_open, opening}
+use Rattle.ov_specs.specs.machine.History.{requests, closed_by}
+use Rattle.std.specs.Option.{option_or}
+use Rattle.ov_specs.specs.schema.SchemaTypes.{Schema}
+use Rattle.ov_specs.specs.rows.Database.{Database}
+use Rattle.ov_specs.specs.machine.Streams.{StreamEvent, Opens, Feed, Finish, Passes, Streams, no_streams, with_fed, IsEntryAt, Feeds, Expands, ExpandsTimed}
+use Rattle.ov_specs.proofs.laws.Turns.{Turn, option_or_none, requests_more, closed_by_more, turn_open, turn_tick, turn_close, turn_close_other, turn_take, turn_take_other}
 use Rattle.ov_laws.specs.Requests.{AreAskedFor}
+use Rattle.ov_specs.proofs.laws.Truths.{or_nothing}
 
 -- Of a session, by whether it is open, the serial of the next one, its stream, what was taken of it and why it was closed: one
 -- that is still to come has nothing, an open one has all that its stream asks for, a closed one keeps the law.
@@ -36,15 +38,15 @@ keeps_same n stream {a} {b} {i} {j} {x} {y} {c} {d} p q r t k =
 
 -- what one entry makes of a session
 turned : (n : ℕ) (stream : List ℕ) (h : List Entry) (e : Entry) (t : State) (o : Bool) (next : ℕ) (taken : List Message) (cause : Option Cause) → Turn n e t o next taken cause
-    → Keeps n stream o next (requests h n ++ taken) (or_else (closed_by h n) cause) → KeepsAt n stream t (h ++ e ∷ [])
+    → Keeps n stream o next (requests h n ++ taken) (option_or (closed_by h n) cause) → KeepsAt n stream t (h ++ e ∷ [])
 turned n stream h e t o next taken cause turn k =
     let r : requests (h ++ e ∷ []) n ≡ requests h n ++ taken = requests_more h e n ∙ ap (λ l. requests h n ++ l) turn.taken_is in
-    let c : closed_by (h ++ e ∷ []) n ≡ or_else (closed_by h n) cause = closed_by_more h e n ∙ ap (or_else (closed_by h n)) turn.cause_is in
+    let c : closed_by (h ++ e ∷ []) n ≡ option_or (closed_by h n) cause = closed_by_more h e n ∙ ap (option_or (closed_by h n)) turn.cause_is in
     keeps_same n stream (sym turn.open_is) (sym turn.next_is) (sym r) (sym c) k
 
 -- an entry that is nothing to the session
 aside : (n : ℕ) (stream : List ℕ) (s : State) (h : List Entry) (e : Entry) (t : State) → Turn n e t (is_open s n) s.next [] None → KeepsAt n stream s h → KeepsAt n stream t (h ++ e ∷ [])
-aside n stream s h e t turn k = turned n stream h e t (is_open s n) s.next [] None turn (keeps_same n stream refl refl (sym (append-nil (requests h n))) (sym (or_else_none (closed_by h n))) k)
+aside n stream s h e t turn k = turned n stream h e t (is_open s n) s.next [] None turn (keeps_same n stream refl refl (sym (append-nil (requests h n))) (sym (option_or_none (closed_by h n))) k)
 
 -- a session that goes on is not one to come
 opened_before : (n : ℕ) (stream : List ℕ) (o : Bool) (next : ℕ) (taken : List Message) (cause : Option Cause) → Keeps n stream o next taken cause → o ≡ true → n < next
@@ -57,7 +59,7 @@ opened_before n stream o next taken cause k there = elim (cases_lt n next) [
 shut : (n : ℕ) (stream : List ℕ) (s : State) (h : List Entry) (e : Entry) (t : State) (taken : List Message) (cause : Cause) → Turn n e t false s.next taken (Some cause) → n < s.next → closed_by h n ≡ None
     → AreAskedFor (Some cause) (requests h n ++ taken) (asked stream).messages → KeepsAt n stream t (h ++ e ∷ [])
 shut n stream s h e t taken cause turn low none law =
-    let c : Some cause ≡ or_else (closed_by h n) (Some cause) = ap (λ o. or_else o (Some cause)) (sym none) in
+    let c : Some cause ≡ option_or (closed_by h n) (Some cause) = ap (λ o. option_or o (Some cause)) (sym none) in
     turned n stream h e t false s.next taken (Some cause) turn (keeps_same n stream refl refl refl c (record {
       to_come = λ high. absurd (omega arith);
       going = λ there. absurd (false≢true there);
@@ -76,12 +78,12 @@ module _ (at n : ℕ) (stream : List ℕ) where
   }
 
   -- want of memory closes it, with these messages still to be taken
-  by_memory : (s : State) (h : List Entry) (messages : List Message) (e : Entry) (t : Stepped) → n < s.next → closed_by h n ≡ None → requests h n ++ messages ≡ (asked stream).messages → Enters at s (Close n Memory) e t → KeepsAt n stream t.state (h ++ e ∷ [])
+  by_memory : (s : State) (h : List Entry) (messages : List Message) (e : Entry) (t : Stepped) → n < s.next → closed_by h n ≡ None → requests h n ++ messages ≡ (asked stream).messages → IsEntryAt at s (Close n Memory) e t → KeepsAt n stream t.state (h ++ e ∷ [])
   by_memory s h messages e t low none is enters =
       shut n stream s h e t.state [] Memory (turn_close n s e t enters.step Memory enters.event) low none (messages, ap (λ l. l ++ messages) (append-nil (requests h n)) ∙ is)
 
   -- damage closes it, behind the last message
-  by_damage : (s : State) (h : List Entry) (e : Entry) (t : Stepped) → n < s.next → closed_by h n ≡ None → requests h n ++ [] ≡ (asked stream).messages → Enters at s (Close n Damaged) e t → KeepsAt n stream t.state (h ++ e ∷ [])
+  by_damage : (s : State) (h : List Entry) (e : Entry) (t : Stepped) → n < s.next → closed_by h n ≡ None → requests h n ++ [] ≡ (asked stream).messages → IsEntryAt at s (Close n Damaged) e t → KeepsAt n stream t.state (h ++ e ∷ [])
   by_damage s h e t low none is enters = shut n stream s h e t.state [] Damaged (turn_close n s e t enters.step Damaged enters.event) low none is
 
   -- its own entries keep it
@@ -105,7 +107,7 @@ module _ (at n : ℕ) (stream : List ℕ) where
             let there' : is_open t.state n ≡ true = turn.open_is ∙ there in
             let on' : Feeds at t.state n messages damaged entries new = MatchBool-at_true (Feeds at t.state n messages damaged entries new) ((entries ≡ []) × (new ≡ t.state)) there' on in
             let r : requests (h ++ e ∷ []) n ≡ requests h n ++ message ∷ [] = requests_more h e n ∙ ap (λ l. requests h n ++ l) turn.taken_is in
-            let c : closed_by (h ++ e ∷ []) n ≡ None = closed_by_more h e n ∙ (ap (or_else (closed_by h n)) turn.cause_is ∙ (or_else_none (closed_by h n) ∙ none)) in
+            let c : closed_by (h ++ e ∷ []) n ≡ None = closed_by_more h e n ∙ (ap (option_or (closed_by h n)) turn.cause_is ∙ (option_or_none (closed_by h n) ∙ none)) in
             let low' : n < t.state.next = omega (arith, turn.next_is) in
             subst (KeepsAt n stream new) (append_assoc h (e ∷ []) entries) (feeds_own t.state (h ++ e ∷ []) messages damaged entries new there' low' c (ap (λ l. l ++ messages) r ∙ is') d on')
         | inr turn ↦
@@ -118,7 +120,7 @@ module _ (at n : ℕ) (stream : List ℕ) where
 
 module _ (at n : ℕ) (stream : List ℕ) (m : ℕ) (other : m ≢ n) where
   -- the other session is closed
-  closes_other : (s : State) (h : List Entry) (cause : Cause) (e : Entry) (t : Stepped) → Enters at s (Close m cause) e t → KeepsAt n stream s h → KeepsAt n stream t.state (h ++ e ∷ [])
+  closes_other : (s : State) (h : List Entry) (cause : Cause) (e : Entry) (t : Stepped) → IsEntryAt at s (Close m cause) e t → KeepsAt n stream s h → KeepsAt n stream t.state (h ++ e ∷ [])
   closes_other s h cause e t enters k = aside n stream s h e t.state (turn_close_other n s e t enters.step m cause other enters.event) k
 
   -- its entries keep this one
@@ -173,20 +175,16 @@ opens_own n stream s h e t turn is k =
     let nothing_asked : asked stream ≡ record { messages = []; damaged = false } = ap asked none_fed ∙ asked_nothing in
     turned n stream h e t (is_open s n || eqb s.next n) (s.next + 1) [] None turn (record {
       to_come = λ high. absurd (omega arith);
-      going = λ _. (or_else_none (closed_by h n) ∙ none, append-nil (requests h n) ∙ (none_taken ∙ sym (ap (λ a. a.messages) nothing_asked)), ap (λ a. a.damaged) nothing_asked);
+      going = λ _. (option_or_none (closed_by h n) ∙ none, append-nil (requests h n) ∙ (none_taken ∙ sym (ap (λ a. a.messages) nothing_asked)), ap (λ a. a.damaged) nothing_asked);
       gone = λ no_way. absurd (false≢true (sym no_way ∙ (ap (λ b. is_open s n || b) (eq-eqb s.next n is) ∙ ap (λ b. b || true) away)));
     })
 
 -- another session opens
 opens_other : (n : ℕ) (stream : List ℕ) (s : State) (h : List Entry) (e : Entry) (t : State) → Turn n e t (is_open s n || eqb s.next n) (s.next + 1) [] None → s.next ≢ n → KeepsAt n stream s h → KeepsAt n stream t (h ++ e ∷ [])
 opens_other n stream s h e t turn ne k =
-    let o : is_open s n ≡ (is_open s n || eqb s.next n) = sym (ap (λ b. is_open s n || b) (ne_eqb s.next n ne) ∙ or_false (is_open s n)) in
+    let o : is_open s n ≡ (is_open s n || eqb s.next n) = sym (ap (λ b. is_open s n || b) (ne_eqb s.next n ne) ∙ or_nothing (is_open s n)) in
     let later : Keeps n stream (is_open s n) (s.next + 1) (requests h n) (closed_by h n) = record { to_come = λ high. k.to_come (omega arith); going = k.going; gone = k.gone } in
-    turned n stream h e t (is_open s n || eqb s.next n) (s.next + 1) [] None turn (keeps_same n stream o refl (sym (append-nil (requests h n))) (sym (or_else_none (closed_by h n))) later)
-  where
-    or_false : (b : Bool) → (b || false) ≡ b
-    or_false true = refl
-    or_false false = refl
+    turned n stream h e t (is_open s n || eqb s.next n) (s.next + 1) [] None turn (keeps_same n stream o refl (sym (append-nil (requests h n))) (sym (option_or_none (closed_by h n))) later)
 
 -- what comes of an event that is nothing to a state
 abbrev Stays : State → Streams → List Entry → State → Streams → Type 0
@@ -194,17 +192,17 @@ Stays s streams entries new after = (entries ≡ []) × (new ≡ s) × (after �
 
 -- what comes of the end of an open session's bytes
 abbrev Ended : ℕ → State → Streams → ℕ → List Entry → State → Streams → Type 0
-Ended at s streams m entries new after = (e : Entry) × (t : Stepped) × (entries ≡ e ∷ []) × Enters at s (Close m InputEnded) e t × (new ≡ t.state) × (after ≡ streams)
+Ended at s streams m entries new after = (e : Entry) × (t : Stepped) × (entries ≡ e ∷ []) × IsEntryAt at s (Close m InputEnded) e t × (new ≡ t.state) × (after ≡ streams)
 
 -- what comes of bytes of an open session
 abbrev Pieces : ℕ → State → Streams → ℕ → List ℕ → List Entry → State → Streams → Type 0
 Pieces at s streams m bytes entries new after =
     (messages : List Message) × ((asked (streams m ++ bytes)).messages ≡ (asked (streams m)).messages ++ messages)
-    × Feeds at s m messages (asked (streams m ++ bytes)).damaged entries new × (after ≡ fed streams m bytes)
+    × Feeds at s m messages (asked (streams m ++ bytes)).damaged entries new × (after ≡ with_fed streams m bytes)
 
 module _ (at n : ℕ) (s : State) (streams : Streams) (h k : List Entry) (new : State) (after : Streams) (keeps : KeepsAt n (streams n) s h) where
   -- a session opens
-  expands_open : (e : Entry) (t : Stepped) → k ≡ e ∷ [] → Enters at s Open e t → new ≡ t.state → after ≡ streams → KeepsAt n (after n) new (h ++ k)
+  expands_open : (e : Entry) (t : Stepped) → k ≡ e ∷ [] → IsEntryAt at s Open e t → new ≡ t.state → after ≡ streams → KeepsAt n (after n) new (h ++ k)
   expands_open e t one enters state same = single n streams h k e t new after one state same (elim (cases_eq s.next n) [
     | inl is ↦ opens_own n (streams n) s h e t.state (turn_open n s e t enters.step enters.event) is keeps
     | inr ne ↦ opens_other n (streams n) s h e t.state (turn_open n s e t enters.step enters.event) ne keeps

@@ -1,7 +1,7 @@
 -- Which requests of a session stand in a history, by what its stream asks for (own).
 use Rattle.std.specs.Prelude.{◌≡◌, ◌++◌, List, Option, Some, None}
-use Rattle.ov_specs.specs.Message.{Message}
-use Rattle.ov_specs.specs.Machine.{Cause, InputEnded, ReadFault, WriteFault, Damaged, Overrun, Memory}
+use Rattle.ov_specs.specs.wire.Message.{Message}
+use Rattle.ov_specs.specs.machine.Machine.{Cause, InputEnded, ReadFault, WriteFault, Damaged, Overrun, Memory}
 
 -- What was taken of a session is all that its stream asks for, while it is open and where its input ended or was damaged;
 -- want of memory leaves the first of it; streams alone close a session for no other cause (own).

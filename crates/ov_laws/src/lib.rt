@@ -3,14 +3,14 @@
 
 ghost use Rattle.std.specs.Prelude.{◌≡◌, ◌↔◌, ◌++◌, ◌-◌, ℕ, List, [], Option, Some, None, true, length};
 ghost use Rattle.serde_json.specs.Data.{Data, Items};
-ghost use Rattle.ov_specs.specs.Cut.{Cut, cut, cut_from, IsCut, and_then, with_messages, max_message};
-ghost use Rattle.ov_specs.specs.Message.{asked};
-ghost use Rattle.ov_specs.specs.Machine.{State, Entry, Stepped, Outcome, Transact, works, to_session, results_of, opening};
-ghost use Rattle.ov_specs.specs.SchemaTypes.{Schema};
-ghost use Rattle.ov_specs.specs.Database.{Database};
-ghost use Rattle.ov_specs.specs.History.{requests, closed_by};
-ghost use Rattle.ov_specs.specs.Streams.{StreamEvent, Streams, no_streams, ExpandsTimed};
-ghost use Rattle.ov_specs.specs.Uuid.{Uuid};
+ghost use Rattle.ov_specs.specs.wire.Cut.{Cut, cut, cut_from, IsCut, continue_cut, with_messages, max_message};
+ghost use Rattle.ov_specs.specs.wire.Message.{asked};
+ghost use Rattle.ov_specs.specs.machine.Machine.{State, Entry, Stepped, Outcome, Transact, works, to_session, results_of, opening};
+ghost use Rattle.ov_specs.specs.schema.SchemaTypes.{Schema};
+ghost use Rattle.ov_specs.specs.rows.Database.{Database};
+ghost use Rattle.ov_specs.specs.machine.History.{requests, closed_by};
+ghost use Rattle.ov_specs.specs.machine.Streams.{StreamEvent, Streams, no_streams, ExpandsTimed};
+ghost use Rattle.ov_specs.specs.values.Uuid.{Uuid};
 ghost use Rattle.ov_laws.specs.Refused.{has_error};
 ghost use Rattle.ov_laws.specs.Requests.{AreAskedFor};
 
@@ -21,7 +21,7 @@ pub fn cut_is_its_relation()
 
 /// The cut of a stream goes on over pieces: behind a front it is determined by what the front's cut left.
 pub fn cut_goes_on()
-    ensures { (a b : List ℕ) → cut (a ++ b) ≡ and_then (cut a) (λ rest. cut_from max_message (length a) rest b) }
+    ensures { (a b : List ℕ) → cut (a ++ b) ≡ continue_cut (cut a) (λ rest. cut_from max_message (length a) rest b) }
 {}
 
 /// What is left of an undamaged front is looked at again from its first byte.

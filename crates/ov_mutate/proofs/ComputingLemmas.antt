@@ -4,17 +4,15 @@ use Rattle.std.specs.Prelude.{is_some, if◌then◌else◌}
 use Rattle.std.specs.List.{list_any, list_all}
 use Rattle.std.specs.FinMap.{keys, len, contains_key, get-from_entries, len-empty, len-insert}
 use Rattle.std.specs.FinMap.Entries.{is_some-find}
-use Rattle.ov_specs.specs.Database.{is_atom}
-use Rattle.ov_specs.specs.Mutators.{Operator, MutateError, Domain, Range, Constraint, computed_atom, divides_by_zero, has_equal_two, fitting, of_results, all_computed, Compute, mutated}
-use Rattle.ov_specs.specs.SchemaTypes.{ColumnType}
-use Rattle.ov_specs.specs.Value.{Atom, atom_cmp, Integers, is_atom_of, marked, Datum, Atoms, Pairs, atoms_in, set_of}
-use Rattle.ov_specs.proofs.Order.{atom_cmp_total}
+use Rattle.ov_specs.specs.rows.Database.{same_atom}
+use Rattle.ov_specs.specs.operations.Mutators.{Operator, MutateError, Domain, Range, Constraint, computed_atom, divides_by_zero, has_equal_two, fitting, of_results, all_computed, Compute, mutated}
+use Rattle.ov_specs.specs.schema.SchemaTypes.{ColumnType}
+use Rattle.ov_specs.specs.values.Value.{Atom, atom_cmp, Integers, is_atom_of, marked, Datum, Atoms, Pairs, atoms_in, set_of}
+use Rattle.ov_specs.proofs.laws.Order.{atom_cmp_total}
 use Rattle.ov_mutate.specs.Computing.{before, each_computed, distinct, and_distinct, set_computed}
-use Rattle.ov_mutate.proofs.LeftLemmas.{or-left, or-right}
-
-keys-marked : (xs : List Atom) → map (λ e. e.0) (map marked xs) ≡ xs
-keys-marked [] = refl
-keys-marked (x ∷ xs) = ap (λ ys. x ∷ ys) (keys-marked xs)
+use Rattle.ov_mutate.proofs.LeftLemmas.{or-left}
+use Rattle.ov_specs.proofs.laws.ReadingBack.{keys-marked}
+use Rattle.ov_specs.proofs.laws.Truths.{right_fails}
 
 -- what is made in all, where `done` was made of the first
 abbrev pub after : List Atom → Result (List Atom) MutateError → Result (List Atom) MutateError
@@ -31,8 +29,8 @@ after-nothing (Ok rest) = refl
 
 -- ---- two equal atoms
 
-contains_key-set_of : (xs : List Atom) (a : Atom) → contains_key (set_of xs) a ≡ list_any (is_atom a) xs
-contains_key-set_of xs a = ap is_some (get-from_entries atom_cmp_total (map marked xs) a) ∙ is_some-find atom_cmp a (map marked xs) ∙ ap (list_any (is_atom a)) (keys-marked xs)
+contains_key-set_of : (xs : List Atom) (a : Atom) → contains_key (set_of xs) a ≡ list_any (same_atom a) xs
+contains_key-set_of xs a = ap is_some (get-from_entries atom_cmp_total (map marked xs) a) ∙ is_some-find atom_cmp a (map marked xs) ∙ ap (list_any (same_atom a)) (keys-marked xs)
 
 len-set_of : (xs : List Atom) → len (set_of xs) ≤ length xs
 len-set_of [] = let none = len-empty atom_cmp (Unit {0}) in omega arith
@@ -48,14 +46,14 @@ len-set_of (x ∷ xs) =
 pub len-distinct : (xs : List Atom) → has_equal_two xs ≡ false → len (set_of xs) ≡ length xs
 len-distinct [] h = len-empty atom_cmp (Unit {0})
 len-distinct (x ∷ xs) h =
-    let new = contains_key-set_of xs x ∙ or-left (list_any (is_atom x) xs) (has_equal_two xs) h in
+    let new = contains_key-set_of xs x ∙ or-left (list_any (same_atom x) xs) (has_equal_two xs) h in
     len-insert atom_cmp_total (set_of xs) x tt ∙ ap (λ b. cond b (len (set_of xs)) (len (set_of xs) + 1)) new
-    ∙ (let rest = len-distinct xs (or-right (list_any (is_atom x) xs) (has_equal_two xs) h) in omega arith)
+    ∙ (let rest = len-distinct xs (right_fails (list_any (same_atom x) xs) (has_equal_two xs) h) in omega arith)
 
 pub len-equal_two : (xs : List Atom) → has_equal_two xs ≡ true → len (set_of xs) < length xs
 len-equal_two [] h = cc
 len-equal_two (x ∷ xs) h =
-    elim (list_any (is_atom x) xs) as (λ b. list_any (is_atom x) xs ≡ b → (b || has_equal_two xs) ≡ true → len (set_of (x ∷ xs)) < suc (length xs)) [
+    elim (list_any (same_atom x) xs) as (λ b. list_any (same_atom x) xs ≡ b → (b || has_equal_two xs) ≡ true → len (set_of (x ∷ xs)) < suc (length xs)) [
       | true ↦ λ e k.
           let all : len (set_of (x ∷ xs)) ≡ len (set_of xs) = len-insert atom_cmp_total (set_of xs) x tt ∙ ap (λ b. cond b (len (set_of xs)) (len (set_of xs) + 1)) (contains_key-set_of xs x ∙ e) in
           let most = len-set_of xs in

@@ -1,9 +1,9 @@
 -- What an operator makes of atoms, one after another.
 use Rattle.std.specs.Prelude.{ℤ, List, [], ◌∷◌, Option, Result, Ok, Err, if◌then◌else◌}
-use Rattle.ov_specs.specs.Mutators.{Operator, MutateError, Domain, Range, Constraint, computed, computed_atom, divides_by_zero, fitting, has_equal_two}
-use Rattle.ov_specs.specs.Reading.{in_64_bits}
-use Rattle.ov_specs.specs.SchemaTypes.{ColumnType}
-use Rattle.ov_specs.specs.Value.{Integers, is_atom_of, Atom, Datum, Atoms, set_of}
+use Rattle.ov_specs.specs.operations.Mutators.{Operator, MutateError, Domain, Range, Constraint, computed, computed_atom, divides_by_zero, fitting, has_equal_two}
+use Rattle.ov_specs.specs.values.Reading.{in_64_bits}
+use Rattle.ov_specs.specs.schema.SchemaTypes.{ColumnType}
+use Rattle.ov_specs.specs.values.Value.{Integers, is_atom_of, Atom, Datum, Atoms, set_of}
 
 -- a number of 64 bits, or none
 abbrev pub number_computed : Operator → ℤ → ℤ → Option ℤ

@@ -1,6 +1,6 @@
 -- What a call that reads a mutation, or applies one, may answer.
 use Rattle.std.specs.Prelude.{◌≡◌, ℤ, Option, Some, None, Result, Ok, Err}
-use Rattle.ov_specs.specs.Mutators as mutators
+use Rattle.ov_specs.specs.operations.Mutators as mutators
 use Rattle.ov_atoms.specs.declared.fault.AtomFault.{AtomFault}
 use Rattle.ov_atoms.specs.declared.fault.AtomFault.TheVariants as atom
 use Rattle.ov_mutate.specs.declared.fault.MutationFault.{MutationFault}
@@ -15,23 +15,23 @@ fault_of atom.Clash = Clash
 fault_of atom.Memory = Memory
 
 -- what is read, or the fault that there is in place of it; want of memory may be answered to anything
-abbrev pub IsRead : {A B : Type 0} → (A → B) → Result B mutators.MutationFault → Result A MutationFault → Type 0
-IsRead seen read (Ok a) = read ≡ Ok (seen a)
-IsRead seen read (Err Syntax) = read ≡ Err mutators.Syntax
-IsRead seen read (Err UnknownColumn) = read ≡ Err mutators.NoColumn
-IsRead seen read (Err Clash) = read ≡ Err mutators.Clash
-IsRead seen read (Err NotMutable) = read ≡ Err mutators.NotMutable
-IsRead seen read (Err Memory) = Unit {0}
+abbrev pub IsMutationRead : {A B : Type 0} → (A → B) → Result B mutators.MutationFault → Result A MutationFault → Type 0
+IsMutationRead seen read (Ok a) = read ≡ Ok (seen a)
+IsMutationRead seen read (Err Syntax) = read ≡ Err mutators.BadMutation
+IsMutationRead seen read (Err UnknownColumn) = read ≡ Err mutators.NoColumn
+IsMutationRead seen read (Err Clash) = read ≡ Err mutators.Clash
+IsMutationRead seen read (Err NotMutable) = read ≡ Err mutators.NotMutable
+IsMutationRead seen read (Err Memory) = Unit {0}
 
 -- the number that a mutation has, or its fault
 abbrev pub integer_or_syntax : Option ℤ → Result ℤ mutators.MutationFault
-integer_or_syntax None = Err mutators.Syntax
+integer_or_syntax None = Err mutators.BadMutation
 integer_or_syntax (Some n) = Ok n
 
 -- what is made, or the fault that there is in place of it; want of memory may be answered to anything
-abbrev pub IsMade : {A B : Type 0} → (A → B) → Result B mutators.MutateError → Result A MutateFault → Type 0
-IsMade seen answer (Ok a) = answer ≡ Ok (seen a)
-IsMade seen answer (Err made.Domain) = answer ≡ Err mutators.Domain
-IsMade seen answer (Err made.Range) = answer ≡ Err mutators.Range
-IsMade seen answer (Err made.Constraint) = answer ≡ Err mutators.Constraint
-IsMade seen answer (Err made.Memory) = Unit {0}
+abbrev pub IsMutated : {A B : Type 0} → (A → B) → Result B mutators.MutateError → Result A MutateFault → Type 0
+IsMutated seen answer (Ok a) = answer ≡ Ok (seen a)
+IsMutated seen answer (Err made.Domain) = answer ≡ Err mutators.Domain
+IsMutated seen answer (Err made.Range) = answer ≡ Err mutators.Range
+IsMutated seen answer (Err made.Constraint) = answer ≡ Err mutators.Constraint
+IsMutated seen answer (Err made.Memory) = Unit {0}

@@ -1,4 +1,4 @@
 pub mod Faults
 pub mod Views
 pub mod Computing
-pub mod Left
+pub mod Remaining

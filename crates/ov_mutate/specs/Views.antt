@@ -1,11 +1,11 @@
 -- The operators, mutators and changes of the code, as those of the definitions.
-use Rattle.ov_specs.specs.Mutators as mutators
+use Rattle.ov_specs.specs.operations.Mutators as mutators
 use Rattle.ov_mutate.specs.declared.mutator.Operator.{Operator}
 use Rattle.ov_mutate.specs.declared.mutator.Operator.TheVariants as operator
 use Rattle.ov_mutate.specs.declared.mutator.Mutator.{Mutator}
 use Rattle.ov_mutate.specs.declared.mutator.Mutator.TheVariants.{Computes, Inserts, Deletes}
-use Rattle.ov_mutate.specs.declared.change.Change.{Change}
-use Rattle.ov_mutate.specs.declared.change.Change.TheVariants.{Compute, Insert, Delete}
+use Rattle.ov_mutate.specs.declared.change.ValueChange.{ValueChange}
+use Rattle.ov_mutate.specs.declared.change.ValueChange.TheVariants.{Compute, Insert, Delete}
 
 -- an operator
 abbrev pub operator_view : Operator → mutators.Operator
@@ -22,7 +22,7 @@ mutator_view Inserts = mutators.Inserts
 mutator_view Deletes = mutators.Deletes
 
 -- what is done
-abbrev pub change_view : Change → mutators.Change
-change_view (Compute operator by) = mutators.Compute (operator_view operator) by
-change_view (Insert elements) = mutators.Insert elements
-change_view (Delete elements) = mutators.Delete elements
+abbrev pub value_change_view : ValueChange → mutators.Change
+value_change_view (Compute operator by) = mutators.Compute (operator_view operator) by
+value_change_view (Insert elements) = mutators.Insert elements
+value_change_view (Delete elements) = mutators.Delete elements

@@ -1,12 +1,12 @@
 ghost use Rattle.std.specs.Prelude.{◌≡◌};
-ghost use Rattle.ov_specs.specs.Mutators.{fitting, mutated};
+ghost use Rattle.ov_specs.specs.operations.Mutators.{fitting, mutated};
 ghost use Rattle.ov_atoms.specs.Views.{atoms_view};
 ghost use Rattle.ov_mutate.specs.Computing.{distinct, set_computed};
-ghost use Rattle.ov_mutate.specs.Faults.{IsMade};
-ghost use Rattle.ov_mutate.specs.Views.{operator_view, change_view};
+ghost use Rattle.ov_mutate.specs.Faults.{IsMutated};
+ghost use Rattle.ov_mutate.specs.Views.{operator_view, value_change_view};
 
 use crate::arithmetic::each_computed;
-use crate::change::Change;
+use crate::change::ValueChange;
 use crate::delete::deleted;
 use crate::fault::MutateFault;
 use crate::insert::inserted;
@@ -17,7 +17,7 @@ use std::alloc::Global;
 
 /// The value, where it fits the column.
 fn fitting(column: &Column, datum: Datum) -> Result<Datum, MutateFault>
-    ensures { IsMade (λ d. d) (fitting column.now.type_of datum) result }
+    ensures { IsMutated (λ d. d) (fitting column.now.type_of datum) result }
 {
     if column.fits(&datum) {
         Ok(datum)
@@ -29,7 +29,7 @@ fn fitting(column: &Column, datum: Datum) -> Result<Datum, MutateFault>
 /// The set of the atoms, where no two are equal and it fits the column. Equal ones merge, so that a set of fewer tells of
 /// them.
 fn distinct(column: &Column, atoms: Vec<Atom>) -> Result<Datum, MutateFault>
-    ensures { IsMade (λ d. d) (distinct column.now.type_of (atoms_view atoms.items)) result }
+    ensures { IsMutated (λ d. d) (distinct column.now.type_of (atoms_view atoms.items)) result }
 {
     let count = atoms.len();
     let datum = Datum::of_atoms(atoms)?;
@@ -47,13 +47,13 @@ fn set_computed(
     by: i64,
     atoms: &[Atom],
 ) -> Result<Datum, MutateFault>
-    ensures { IsMade (λ d. d) (set_computed column.now.type_of (operator_view operator) by (atoms_view atoms.now)) result }
+    ensures { IsMutated (λ d. d) (set_computed column.now.type_of (operator_view operator) by (atoms_view atoms.now)) result }
 {
     let results = each_computed(alloc, operator, by, atoms)?;
     distinct(column, results)
 }
 
-impl Change {
+impl ValueChange {
     /// What it makes of a value of the column.
     pub(crate) fn apply(
         &self,
@@ -61,15 +61,15 @@ impl Change {
         column: &Column,
         datum: &Datum,
     ) -> Result<Datum, MutateFault>
-        ensures { IsMade (λ d. d) (mutated column.now.type_of (change_view self.now) datum.now) result }
+        ensures { IsMutated (λ d. d) (mutated column.now.type_of (value_change_view self.now) datum.now) result }
     {
         match self {
-            Change::Compute(operator, by) => match datum.atoms() {
+            ValueChange::Compute(operator, by) => match datum.atoms() {
                 Some(atoms) => set_computed(alloc, column, *operator, *by, atoms),
                 None => Err(MutateFault::Constraint),
             },
-            Change::Insert(elements) => fitting(column, inserted(alloc, datum, elements)?),
-            Change::Delete(elements) => fitting(column, deleted(alloc, datum, elements)?),
+            ValueChange::Insert(elements) => fitting(column, inserted(alloc, datum, elements)?),
+            ValueChange::Delete(elements) => fitting(column, deleted(alloc, datum, elements)?),
         }
     }
 }

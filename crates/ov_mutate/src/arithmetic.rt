@@ -1,8 +1,8 @@
 ghost use Rattle.std.specs.Prelude.{◌≡◌, false};
-ghost use Rattle.ov_specs.specs.Mutators.{divides_by_zero};
+ghost use Rattle.ov_specs.specs.operations.Mutators.{divides_by_zero};
 ghost use Rattle.ov_atoms.specs.Views.{atom_view, atoms_view};
 ghost use Rattle.ov_mutate.specs.Computing.{number_computed, atom_computed, each_computed};
-ghost use Rattle.ov_mutate.specs.Faults.{IsMade};
+ghost use Rattle.ov_mutate.specs.Faults.{IsMutated};
 ghost use Rattle.ov_mutate.specs.Views.{operator_view};
 
 use crate::fault::MutateFault;
@@ -37,7 +37,7 @@ impl Operator {
 
     /// What it makes of an atom, which is a number.
     fn atom_computed(self, by: i64, atom: &Atom) -> Result<Atom, MutateFault>
-        ensures { IsMade atom_view (atom_computed (operator_view self) by (atom_view atom.now)) result }
+        ensures { IsMutated atom_view (atom_computed (operator_view self) by (atom_view atom.now)) result }
     {
         if self.divides_by_zero(by) {
             return Err(MutateFault::Domain);
@@ -59,7 +59,7 @@ pub(crate) fn each_computed(
     by: i64,
     atoms: &[Atom],
 ) -> Result<Vec<Atom>, MutateFault>
-    ensures { IsMade (λ v. atoms_view v.items) (each_computed (operator_view operator) by (atoms_view atoms.now)) result }
+    ensures { IsMutated (λ v. atoms_view v.items) (each_computed (operator_view operator) by (atoms_view atoms.now)) result }
 {
     let mut results = Vec::new(alloc);
     for atom in atoms {

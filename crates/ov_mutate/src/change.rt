@@ -1,11 +1,11 @@
 ghost use Rattle.std.specs.Prelude.{◌≡◌, is_some, codes, option_map};
 ghost use Rattle.serde_json.specs.View.{view};
-ghost use Rattle.ov_specs.specs.Mutators.{integer_given, deleted_kinds, change_read};
-ghost use Rattle.ov_specs.specs.Reading.{reads, as_two, behind};
-ghost use Rattle.ov_specs.specs.Value as value;
+ghost use Rattle.ov_specs.specs.operations.Mutators.{integer_of, deleted_kinds, change_read};
+ghost use Rattle.ov_specs.specs.values.Reading.{reads, as_two, behind};
+ghost use Rattle.ov_specs.specs.values.Value as value;
 ghost use Rattle.ov_atoms.specs.Views.{kinds_view};
-ghost use Rattle.ov_mutate.specs.Views.{change_view, mutator_view};
-ghost use Rattle.ov_mutate.specs.Faults.{IsRead, integer_or_syntax};
+ghost use Rattle.ov_mutate.specs.Views.{value_change_view, mutator_view};
+ghost use Rattle.ov_mutate.specs.Faults.{IsMutationRead, integer_or_syntax};
 
 use crate::fault::MutationFault;
 use crate::mutator::{Mutator, Operator};
@@ -18,7 +18,7 @@ use std::alloc::Global;
 /// What is done to a value: its numbers are computed, elements come, or elements go. A set of atoms that goes from a map
 /// is one of keys.
 #[derive(Drop)]
-pub(crate) enum Change {
+pub(crate) enum ValueChange {
     Compute(Operator, i64),
     Insert(Datum),
     Delete(Datum),
@@ -26,7 +26,7 @@ pub(crate) enum Change {
 
 /// The number that a tree is, as for a scalar.
 fn read_integer<N: Names>(alloc: Global, tree: &Value, names: &N) -> Result<i64, MutationFault>
-    ensures { IsRead (λ n. n) (integer_or_syntax (integer_given (reads (N.names names.now) (value.Single value.Integers) (view tree.now)))) result }
+    ensures { IsMutationRead (λ n. n) (integer_or_syntax (integer_of (reads (N.names names.now) (value.Single value.Integers) (view tree.now)))) result }
 {
     match read_datum(alloc, tree, Kinds::Single(AtomKind::Integer), names) {
         Ok(datum) => Elements::of(&datum).number().ok_or(MutationFault::Syntax),
@@ -69,7 +69,7 @@ fn deleted_kinds(kinds: Kinds, tree: &Value) -> Kinds
     }
 }
 
-impl Change {
+impl ValueChange {
     /// What is done by a mutator with the value that a tree stands for: one integer, or elements.
     pub(crate) fn read<N: Names>(
         alloc: Global,
@@ -77,22 +77,22 @@ impl Change {
         mutator: Mutator,
         tree: &Value,
         names: &N,
-    ) -> Result<Change, MutationFault>
-        ensures { IsRead change_view (change_read (N.names names.now) column.now.type_of (mutator_view mutator) (view tree.now)) result }
+    ) -> Result<ValueChange, MutationFault>
+        ensures { IsMutationRead value_change_view (change_read (N.names names.now) column.now.type_of (mutator_view mutator) (view tree.now)) result }
     {
         match mutator {
             Mutator::Computes(operator) => {
                 let by = read_integer(alloc, tree, names)?;
-                Ok(Change::Compute(operator, by))
+                Ok(ValueChange::Compute(operator, by))
             }
             Mutator::Inserts => {
                 let elements = read_datum(alloc, tree, column.kinds(), names)?;
-                Ok(Change::Insert(elements))
+                Ok(ValueChange::Insert(elements))
             }
             Mutator::Deletes => {
                 let kinds = deleted_kinds(column.kinds(), tree);
                 let elements = read_datum(alloc, tree, kinds, names)?;
-                Ok(Change::Delete(elements))
+                Ok(ValueChange::Delete(elements))
             }
         }
     }

@@ -1,9 +1,9 @@
 ghost use Rattle.std.specs.Prelude.{◌≡◌, IfOk};
-ghost use Rattle.ov_specs.specs.Database.{is_pair};
-ghost use Rattle.ov_specs.specs.Mutators.{deleted};
+ghost use Rattle.ov_specs.specs.rows.Database.{same_pair};
+ghost use Rattle.ov_specs.specs.operations.Mutators.{deleted};
 ghost use Rattle.ov_atoms.specs.Views.{pair_view, atoms_view, pairs_view};
 ghost use Rattle.ov_conds.specs.Walks.{is_first};
-ghost use Rattle.ov_mutate.specs.Left as left;
+ghost use Rattle.ov_mutate.specs.Remaining as left;
 
 use crate::insert::{copy_pair, map_of};
 use ov_atoms::{Atom, Datum};
@@ -11,8 +11,8 @@ use ov_conds::{Elements, atoms_from, pairs_from};
 use std::alloc::{AllocError, Global};
 
 /// The atoms that are not among those that go. Both ascend.
-fn atoms_left(alloc: Global, atoms: &[Atom], gone: &[Atom]) -> Result<Vec<Atom>, AllocError>
-    ensures { IfOk result (λ v. atoms_view v.items ≡ left.atoms_left (atoms_view gone.now) (atoms_view atoms.now)) }
+fn remaining_atoms(alloc: Global, atoms: &[Atom], gone: &[Atom]) -> Result<Vec<Atom>, AllocError>
+    ensures { IfOk result (λ v. atoms_view v.items ≡ left.remaining_atoms (atoms_view gone.now) (atoms_view atoms.now)) }
 {
     let mut left = Vec::new(alloc);
     let mut rest = gone;
@@ -27,18 +27,18 @@ fn atoms_left(alloc: Global, atoms: &[Atom], gone: &[Atom]) -> Result<Vec<Atom>,
 
 /// Whether the first of the pairs is this one.
 fn begins_with(pairs: &[(Atom, Atom)], pair: &(Atom, Atom)) -> bool
-    ensures { result ≡ is_first (λ p. is_pair p (pair_view pair.now)) (pairs_view pairs.now) }
+    ensures { result ≡ is_first (λ p. same_pair p (pair_view pair.now)) (pairs_view pairs.now) }
 {
     pairs.first() == Some(pair)
 }
 
 /// The pairs that are not among those that go. Both ascend by their keys.
-fn pairs_left(
+fn remaining_pairs(
     alloc: Global,
     pairs: &[(Atom, Atom)],
     gone: &[(Atom, Atom)],
 ) -> Result<Vec<(Atom, Atom)>, AllocError>
-    ensures { IfOk result (λ v. pairs_view v.items ≡ left.pairs_left (pairs_view gone.now) (pairs_view pairs.now)) }
+    ensures { IfOk result (λ v. pairs_view v.items ≡ left.remaining_pairs (pairs_view gone.now) (pairs_view pairs.now)) }
 {
     let mut left = Vec::new(alloc);
     let mut rest = gone;
@@ -76,11 +76,11 @@ pub(crate) fn deleted(alloc: Global, column: &Datum, elements: &Datum) -> Result
 {
     match (Elements::of(column), Elements::of(elements)) {
         (Elements::Atoms(atoms), Elements::Atoms(gone)) => {
-            let left = atoms_left(alloc, atoms, gone)?;
+            let left = remaining_atoms(alloc, atoms, gone)?;
             Datum::of_atoms(left)
         }
         (Elements::Pairs(pairs), Elements::Pairs(gone)) => {
-            let left = pairs_left(alloc, pairs, gone)?;
+            let left = remaining_pairs(alloc, pairs, gone)?;
             map_of(alloc, left)
         }
         (Elements::Pairs(pairs), Elements::Atoms(keys)) => {

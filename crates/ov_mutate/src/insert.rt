@@ -1,11 +1,11 @@
 ghost use Rattle.std.specs.Prelude.{◌≡◌, ◌++◌, IfOk, OnOk, false};
-ghost use Rattle.ov_specs.specs.Database.{is_atom};
-ghost use Rattle.ov_specs.specs.Mutators.{inserted};
-ghost use Rattle.ov_specs.specs.Reading.{has_clash};
-ghost use Rattle.ov_specs.specs.Value as value;
+ghost use Rattle.ov_specs.specs.rows.Database.{same_atom};
+ghost use Rattle.ov_specs.specs.operations.Mutators.{inserted};
+ghost use Rattle.ov_specs.specs.values.Reading.{has_clash};
+ghost use Rattle.ov_specs.specs.values.Value as value;
 ghost use Rattle.ov_atoms.specs.Views.{atom_view, pair_view, atoms_view, pairs_view};
 ghost use Rattle.ov_conds.specs.Walks.{is_first};
-ghost use Rattle.ov_mutate.specs.Left.{at_new_keys};
+ghost use Rattle.ov_mutate.specs.Remaining.{at_new_keys};
 
 use ov_atoms::{Atom, Datum};
 use ov_conds::{Elements, pairs_from};
@@ -41,7 +41,7 @@ fn copy_pairs(alloc: Global, pairs: &[(Atom, Atom)]) -> Result<Vec<(Atom, Atom)>
 
 /// Whether the first of the pairs has this key.
 fn begins_with(pairs: &[(Atom, Atom)], key: &Atom) -> bool
-    ensures { result ≡ is_first (λ p. is_atom p.0 (atom_view key.now)) (pairs_view pairs.now) }
+    ensures { result ≡ is_first (λ p. same_atom p.0 (atom_view key.now)) (pairs_view pairs.now) }
 {
     match pairs.first() {
         Some(pair) => pair.0 == *key,

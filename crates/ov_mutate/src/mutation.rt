@@ -1,9 +1,9 @@
 ghost use Rattle.std.specs.Prelude.{◌≡◌};
 ghost use Rattle.serde_json.specs.View.{view};
-ghost use Rattle.ov_specs.specs.Mutators.{mutation_read, mutated};
-ghost use Rattle.ov_mutate.specs.Faults.{IsRead, IsMade};
+ghost use Rattle.ov_specs.specs.operations.Mutators.{mutation_read, mutated};
+ghost use Rattle.ov_mutate.specs.Faults.{IsMutationRead, IsMutated};
 
-use crate::change::Change;
+use crate::change::ValueChange;
 use crate::fault::{MutateFault, MutationFault};
 use crate::mutator::Mutator;
 use ov_atoms::{Datum, Names};
@@ -18,18 +18,19 @@ use std::marker::Model;
 #[derive(Drop)]
 pub struct Mutation {
     column: Text,
-    change: Change,
+    change: ValueChange,
 }
 
 impl Model for Mutation {
-    ghost use Rattle.ov_specs.specs.Mutators as mutators;
-    ghost use Rattle.ov_mutate.specs.Views.{change_view};
+    ghost use Rattle.ov_specs.specs.operations.Mutators as mutators;
+    ghost use Rattle.ov_specs.specs.codes.MutationCode.{mutation_code};
+    ghost use Rattle.ov_mutate.specs.Views.{value_change_view};
 
     ghost Value = { mutators.Mutation };
 
-    ghost coded = { mutators.mutation_code };
+    ghost coded = { mutation_code };
 
-    ghost view = { λ m. record { column = m.column; change = change_view m.change } };
+    ghost view = { λ m. record { column = m.column; change = value_change_view m.change } };
 }
 
 impl Mutation {
@@ -43,7 +44,7 @@ impl Mutation {
         tree: &Value,
         names: &N,
     ) -> Result<Mutation, MutationFault>
-        ensures { IsRead (λ m. m) (mutation_read (N.names names.now) table.now (view tree.now)) result }
+        ensures { IsMutationRead (λ m. m) (mutation_read (N.names names.now) table.now (view tree.now)) result }
     {
         let Some(parts) = Triple::read(tree) else {
             return Err(MutationFault::Syntax);
@@ -57,7 +58,7 @@ impl Mutation {
         let Some(mutator) = Mutator::on(column, parts.word) else {
             return Err(MutationFault::Syntax);
         };
-        let change = Change::read(alloc, column, mutator, parts.value, names)?;
+        let change = ValueChange::read(alloc, column, mutator, parts.value, names)?;
         Ok(Mutation {
             column: Text::from_str(alloc, parts.column)?,
             change,
@@ -79,7 +80,7 @@ impl Mutation {
         column: &Column,
         datum: &Datum,
     ) -> Result<Datum, MutateFault>
-        ensures { IsMade (λ d. d) (mutated column.now.type_of self.now.change datum.now) result }
+        ensures { IsMutated (λ d. d) (mutated column.now.type_of self.now.change datum.now) result }
     {
         self.change.apply(alloc, column, datum)
     }

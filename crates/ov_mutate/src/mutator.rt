@@ -1,5 +1,5 @@
 ghost use Rattle.std.specs.Prelude.{◌≡◌, option_map};
-ghost use Rattle.ov_specs.specs.Mutators.{mutator_of, is_allowed_on, mutator_on};
+ghost use Rattle.ov_specs.specs.operations.Mutators.{mutator_of, allows_mutator, mutator_on};
 ghost use Rattle.ov_mutate.specs.Views.{mutator_view};
 
 use ov_conds::holds_integers;
@@ -41,7 +41,7 @@ impl Mutator {
 
     /// Whether it can be done to the column: computing where it holds integers, the others where it is no scalar.
     fn is_allowed_on(self, column: &Column) -> bool
-        ensures { result ≡ is_allowed_on column.now.type_of (mutator_view self) }
+        ensures { result ≡ allows_mutator column.now.type_of (mutator_view self) }
     {
         match self {
             Mutator::Computes(_) => holds_integers(column),

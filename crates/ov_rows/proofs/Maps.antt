@@ -8,21 +8,19 @@ use Rattle.std.specs.Map.{keys_of, lookup}
 use Rattle.std.specs.FinMap.{IsAntisymmetric, find, put, is_sorted, get, insert, remove, empty, from_sorted, get-from_sorted, entries-from_sorted, entries-insert, get-remove, same_map, same_entries_map, len-entries, len-empty}
 use Rattle.std.specs.FinMap.Entries.{below_all, by_order}
 use Rattle.std.specs.BTreeMap.{insert_entry, is_at}
-
-both : (a b : Bool) → T a → T b → T (a && b)
-both true b p q = q
-both false b p q = p
+use Rattle.ov_specs.proofs.laws.Truths.{both_hold}
+use Rattle.std.proofs.lemmas.List.{nil_from_length}
 
 module _ {K X : Type 0} (R : K → K → Ordering) where
   below : (k : K) (es : List (K × X)) → AllByRecursion (λ y. R k y ≡ Less) (keys_of es) → T (below_all R k es)
   below k [] h = tt
-  below k (x ∷ es) h = both _ _ (rw h.0 tt) (below k es h.1)
+  below k (x ∷ es) h = both_hold _ _ (rw h.0 tt) (below k es h.1)
 
   -- keys that ascend, as the code says it, ascend as the definitions say it
   pub ascends : (es : List (K × X)) → IsStrictlySortedBy R (keys_of es) → T (is_sorted R es)
   unfolding IsStrictlySortedBy
   ascends [] h = tt
-  ascends (x ∷ es) h = both _ _ (below x.0 es h.0) (ascends es h.1)
+  ascends (x ∷ es) h = both_hold _ _ (below x.0 es h.0) (ascends es h.1)
 
   find-lookup : (q : K) (es : List (K × X)) → find R q es ≡ lookup (is_at (R q)) es
   find-lookup q [] = refl
@@ -54,10 +52,6 @@ module _ {K X : Type 0} (R : K → K → Ordering) where
         get-lookup es' q h' ∙ is q ∙ ap (λ b. cond b None (lookup (is_at (R q)) es)) ((eq_by_cmp_equiv o).symm k q)
         ∙ sym (get-remove o (from_sorted es) k q ∙ ap (cond (eq_by_cmp R q k) None) (get-lookup es q h)))
 
-no_length : {A : Type 0} (xs : List A) → length xs ≡ 0 → xs ≡ []
-no_length [] e = refl
-no_length (x ∷ xs) e = absurd (omega arith)
-
 -- the empty list is the empty map
 pub from_sorted-nil : {K X : Type 0} (R : K → K → Ordering) → from_sorted {K = K} {X = X} {R = R} [] ≡ empty
-from_sorted-nil {X = X} R = same_entries_map _ _ (entries-from_sorted R [] tt ∙ sym (no_length _ (sym (len-entries empty) ∙ len-empty R X)))
+from_sorted-nil {X = X} R = same_entries_map _ _ (entries-from_sorted R [] tt ∙ sym (nil_from_length _ (sym (len-entries empty) ∙ len-empty R X)))

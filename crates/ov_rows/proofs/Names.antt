@@ -9,29 +9,26 @@ use Rattle.std.specs.List.Sorted.{IsStrictlySortedBy}
 use Rattle.std.specs.Map.{keys_of, lookup}
 use Rattle.std.specs.Ordering.{nat_cmp, eq_by_cmp, match_ordering}
 use Rattle.serde_json.specs.Data.{Members, no_members, member, put as put_member, Data}
-use Rattle.ov_specs.specs.SchemaTypes.{name_cmp}
-use Rattle.ov_specs.specs.Tree.{has_real, members_have_real}
-use Rattle.ov_specs.specs.Value.{Datum}
-use Rattle.ov_specs.proofs.Trees.{or_false}
+use Rattle.ov_specs.specs.schema.SchemaTypes.{name_cmp}
+use Rattle.ov_specs.specs.wire.Tree.{has_real, members_have_real}
+use Rattle.ov_specs.specs.values.Value.{Datum}
 use Rattle.ov_rows.specs.Named.{named, columns_of}
+use Rattle.ov_specs.proofs.laws.Truths.{both_hold}
+use Rattle.std.proofs.lemmas.Bool.{or_parts}
 
 abbrev name_order : String Global → String Global → Ordering
 name_order a b = name_cmp (string_bytes a) (string_bytes b)
 
-both : (a b : Bool) → T a → T b → T (a && b)
-both true b p q = q
-both false b p q = p
-
 module _ {X : Type 0} where
   below : (k : String Global) (es : List (String Global × X)) → AllByRecursion (λ y. name_order k y ≡ Less) (keys_of es) → T (below_all name_cmp (string_bytes k) (named es))
   below k [] h = tt
-  below k (x ∷ es) h = both _ _ (rw h.0 tt) (below k es h.1)
+  below k (x ∷ es) h = both_hold _ _ (rw h.0 tt) (below k es h.1)
 
   -- names that ascend, as the code says it
   pub names-ascend : (es : List (String Global × X)) → IsStrictlySortedBy name_order (keys_of es) → T (is_sorted name_cmp (named es))
   unfolding IsStrictlySortedBy
   names-ascend [] h = tt
-  names-ascend (x ∷ es) h = both _ _ (below x.0 es h.0) (names-ascend es h.1)
+  names-ascend (x ∷ es) h = both_hold _ _ (below x.0 es h.0) (names-ascend es h.1)
 
   find-named : (q : List ℕ) (es : List (String Global × X)) → find name_cmp q (named es) ≡ lookup (is_at (λ k. slice_cmp nat_cmp q (string_bytes k))) es
   find-named q [] = refl
@@ -66,7 +63,7 @@ or_both x y h k = rw (h, k) refl
 pub put-plain : (k : List ℕ) (d : Data) (ms : Members) → has_real d ≡ false → members_have_real ms ≡ false → members_have_real (put_member k d ms) ≡ false
 put-plain k d no_members h p = or_both (has_real d) false h refl
 put-plain k d (member l e ms) h p =
-    let parts = or_false (has_real e) (members_have_real ms) p in
+    let parts = or_parts (has_real e) (members_have_real ms) p in
     elim (slice_cmp nat_cmp k l) as (λ o. members_have_real (match_ordering o (member k d (member l e ms)) (member l d ms) (member l e (put_member k d ms))) ≡ false) [
       | Less ↦ or_both (has_real d) (members_have_real (member l e ms)) h p
       | Equal ↦ or_both (has_real d) (members_have_real ms) h parts.1

@@ -2,9 +2,9 @@
 use Rattle.std.specs.Prelude.{ℕ, List, map, String, string_bytes}
 use Rattle.std.specs.declared.alloc.Global.{Global}
 use Rattle.std.specs.FinMap.{from_sorted}
-use Rattle.ov_specs.specs.Database.{Columns}
-use Rattle.ov_specs.specs.SchemaTypes.{name_cmp}
-use Rattle.ov_specs.specs.Value.{Datum}
+use Rattle.ov_specs.specs.rows.Database.{Columns}
+use Rattle.ov_specs.specs.schema.SchemaTypes.{name_cmp}
+use Rattle.ov_specs.specs.values.Value.{Datum}
 
 -- values in a list, each with the bytes of its column's name
 abbrev pub named : {X : Type 0} → List (String Global × X) → List (List ℕ × X)

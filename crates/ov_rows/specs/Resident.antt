@@ -2,9 +2,9 @@
 use Rattle.std.specs.Prelude.{ℕ, List, refl}
 use Rattle.std.specs.Coded.{Coded, code_by, coded×, coded_ℕ, coded_list}
 use Rattle.std.specs.FinMap as map
-use Rattle.ov_specs.specs.Database.{Columns, Database, Row}
-use Rattle.ov_specs.specs.Lines.{LineKey, line_cmp}
-use Rattle.ov_specs.specs.Value.{datum_code}
+use Rattle.ov_specs.specs.rows.Database.{Columns, Database, Row}
+use Rattle.ov_specs.specs.rows.Lines.{LineKey, line_cmp}
+use Rattle.ov_specs.specs.codes.ValueCode.{datum_code}
 
 -- the rows of an ascending list
 abbrev pub database_of : List (LineKey × Row) → Database

@@ -2,9 +2,9 @@ ghost use Rattle.std.specs.Prelude.{◌≡◌, IfOk, OnOk, OnErr, false, map, op
 ghost use Rattle.std.specs.FinMap.{empty, get, contains_key, insert, entries};
 ghost use Rattle.serde_json.specs.Data.{put};
 ghost use Rattle.serde_json.specs.View.{members_view};
-ghost use Rattle.ov_specs.specs.Database.{object_of, written};
-ghost use Rattle.ov_specs.specs.Tree.{has_real};
-ghost use Rattle.ov_specs.specs.Writing.{tree};
+ghost use Rattle.ov_specs.specs.rows.Database.{object_of, written_column};
+ghost use Rattle.ov_specs.specs.wire.Tree.{has_real};
+ghost use Rattle.ov_specs.specs.values.Writing.{tree};
 
 use ov_atoms::{Datum, write_datum};
 use ov_base::Tree;
@@ -22,8 +22,8 @@ pub struct Columns {
 impl Model for Columns {
     ghost use Rattle.std.specs.Prelude.{T};
     ghost use Rattle.std.specs.FinMap.{is_sorted};
-    ghost use Rattle.ov_specs.specs.Database as database;
-    ghost use Rattle.ov_specs.specs.SchemaTypes.{name_cmp};
+    ghost use Rattle.ov_specs.specs.rows.Database as database;
+    ghost use Rattle.ov_specs.specs.schema.SchemaTypes.{name_cmp};
     ghost use Rattle.ov_rows.specs.Resident.{columns_code};
     ghost use Rattle.ov_rows.specs.Named.{named, columns_of};
 
@@ -71,7 +71,7 @@ impl Columns {
 
     /// The object of all columns, each with its written value, in ascending order of their names: the body of a line (own).
     pub fn tree(&self, alloc: Global) -> Result<Tree, AllocError>
-        ensures { IfOk result (λ tree. tree ≡ object_of (map written (entries self.now))) }
+        ensures { IfOk result (λ tree. tree ≡ object_of (map written_column (entries self.now))) }
     {
         let mut members = Map::new(alloc);
         for (name, datum) in &self.values {

@@ -15,7 +15,7 @@ pub struct RowKey {
 
 impl Model for RowKey {
     ghost use Rattle.std.specs.Coded.{coded×, coded_ℕ, coded_list};
-    ghost use Rattle.ov_specs.specs.Lines.{LineKey};
+    ghost use Rattle.ov_specs.specs.rows.Lines.{LineKey};
 
     ghost Value = { LineKey };
 
@@ -60,8 +60,8 @@ impl RowKey {
 impl PartialEq for RowKey {
     ghost use Rattle.std.specs.Ordering.{eq_by_cmp};
     ghost use Rattle.std.specs.Cmp.{partial_equiv_from_equiv, eq_by_cmp_equiv};
-    ghost use Rattle.ov_specs.specs.Lines.{line_cmp};
-    ghost use Rattle.ov_specs.proofs.LineKeys.{key_total};
+    ghost use Rattle.ov_specs.specs.rows.Lines.{line_cmp};
+    ghost use Rattle.ov_specs.proofs.laws.LineKeys.{key_total};
 
     ghost eq = { eq_by_cmp line_cmp };
 
@@ -74,7 +74,7 @@ impl PartialEq for RowKey {
 
 impl Eq for RowKey {
     ghost use Rattle.std.specs.Cmp.{eq_by_cmp_equiv};
-    ghost use Rattle.ov_specs.proofs.LineKeys.{key_total};
+    ghost use Rattle.ov_specs.proofs.laws.LineKeys.{key_total};
 
     ghost laws = { eq_by_cmp_equiv key_total };
 }
@@ -82,8 +82,8 @@ impl Eq for RowKey {
 impl PartialOrd for RowKey {
     ghost use Rattle.std.specs.Prelude.{Some, refl};
     ghost use Rattle.std.specs.Cmp.{partial_order_from_agreeing_total};
-    ghost use Rattle.ov_specs.specs.Lines.{line_cmp};
-    ghost use Rattle.ov_specs.proofs.LineKeys.{key_total};
+    ghost use Rattle.ov_specs.specs.rows.Lines.{line_cmp};
+    ghost use Rattle.ov_specs.proofs.laws.LineKeys.{key_total};
 
     ghost partial_cmp = { λ a b. Some (line_cmp a b) };
 
@@ -96,8 +96,8 @@ impl PartialOrd for RowKey {
 
 impl Ord for RowKey {
     ghost use Rattle.std.specs.Prelude.{refl};
-    ghost use Rattle.ov_specs.specs.Lines.{line_cmp};
-    ghost use Rattle.ov_specs.proofs.LineKeys.{key_total};
+    ghost use Rattle.ov_specs.specs.rows.Lines.{line_cmp};
+    ghost use Rattle.ov_specs.proofs.laws.LineKeys.{key_total};
 
     ghost cmp = { line_cmp };
 

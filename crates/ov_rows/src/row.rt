@@ -12,7 +12,7 @@ pub struct Row {
 }
 
 impl Model for Row {
-    ghost use Rattle.ov_specs.specs.Database as database;
+    ghost use Rattle.ov_specs.specs.rows.Database as database;
     ghost use Rattle.ov_rows.specs.Resident.{row_code};
 
     ghost Value = { database.Row };

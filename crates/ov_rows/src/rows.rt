@@ -1,7 +1,7 @@
 ghost use Rattle.std.specs.Prelude.{◌≡◌, map, option_copied, IfOk, OnOk, OnErr, None};
 ghost use Rattle.std.specs.List.{filter};
 ghost use Rattle.std.specs.FinMap.{empty, get, contains_key, insert, remove, entries};
-ghost use Rattle.ov_specs.specs.Method.{is_text};
+ghost use Rattle.std.specs.Str.{bytes_eq};
 
 use crate::key::RowKey;
 use crate::row::Row;
@@ -18,8 +18,8 @@ pub struct Rows {
 impl Model for Rows {
     ghost use Rattle.std.specs.Prelude.{T};
     ghost use Rattle.std.specs.FinMap.{is_sorted};
-    ghost use Rattle.ov_specs.specs.Database.{Database};
-    ghost use Rattle.ov_specs.specs.Lines.{line_cmp};
+    ghost use Rattle.ov_specs.specs.rows.Database.{Database};
+    ghost use Rattle.ov_specs.specs.rows.Lines.{line_cmp};
     ghost use Rattle.ov_rows.specs.Resident.{database_code, database_of};
 
     ghost Value = { Database };
@@ -64,7 +64,7 @@ impl Rows {
 
     /// The rows of the table of this name, in ascending order of their identifiers. All rows are looked at.
     pub fn of_table(&self, alloc: Global, table: &str) -> Result<Vec<(&RowKey, &Row)>, AllocError>
-        ensures { IfOk result (λ rows. map (λ r. (r.0.now, r.1.now)) rows.items ≡ filter (λ r. is_text r.0.0 table.now) (entries self.now)) }
+        ensures { IfOk result (λ rows. map (λ r. (r.0.now, r.1.now)) rows.items ≡ filter (λ r. bytes_eq r.0.0 table.now) (entries self.now)) }
     {
         let mut rows = Vec::new(alloc);
         for (key, row) in &self.rows {

@@ -13,9 +13,9 @@ use Rattle.serde_json.specs.Read.{read}
 use Rattle.serde_json.specs.View.{view, members_view}
 use Rattle.serde_json.specs.declared.value.Value.{Value, Object}
 use Rattle.serde_json.proofs.Views.{view-Object}
-use Rattle.ov_specs.specs.Tree.{has_real, members_have_real}
-use Rattle.ov_specs.specs.Message.{tree_of, message_in, message_of}
-use Rattle.ov_specs.proofs.Trees.{or_false}
+use Rattle.ov_specs.specs.wire.Tree.{has_real, members_have_real}
+use Rattle.ov_specs.specs.wire.Message.{tree_of, message_in, message_of}
+use Rattle.std.proofs.lemmas.Bool.{or_parts}
 
 member_case : (o : Ordering) (e f : Data) (rest : Option Data) → match_ordering o rest (Some e) rest ≡ Some f → has_real e ≡ false → (rest ≡ Some f → has_real f ≡ false) → has_real f ≡ false
 member_case Less e f rest h p q = q h
@@ -25,7 +25,7 @@ member_case Greater e f rest h p q = q h
 -- what is found among members without reals has none
 pub member_plain : (k : List ℕ) (ms : Members) (f : Data) → members_have_real ms ≡ false → get_member k ms ≡ Some f → has_real f ≡ false
 member_plain k no_members f h g = cc
-member_plain k (member l e ms) f h g = let p = or_false (has_real e) (members_have_real ms) h in
+member_plain k (member l e ms) f h g = let p = or_parts (has_real e) (members_have_real ms) h in
     member_case (slice_cmp nat_cmp k l) e f (get_member k ms) g p.0 (member_plain k ms f p.1)
 
 -- the same of what may be found

@@ -1,7 +1,7 @@
 ghost use Rattle.std.specs.Prelude.{◌≡◌, IfOk, codes};
 ghost use Rattle.serde_json.specs.Data.{null, string, object, member, no_members};
 ghost use Rattle.serde_json.specs.View.{view};
-ghost use Rattle.ov_specs.specs.Frame.{frame, reply_tree, failure_tree, note_tree};
+ghost use Rattle.ov_specs.specs.wire.Frame.{frame, reply_tree, failure_tree, note_tree};
 
 use ov_base::{Bytes, Tree, Trees};
 use serde_json::{Value, json};

@@ -1,5 +1,5 @@
 ghost use Rattle.std.specs.Prelude.{◌≡◌, Some, None, IfOk};
-ghost use Rattle.ov_specs.specs.Message.{message_in};
+ghost use Rattle.ov_specs.specs.wire.Message.{message_in};
 ghost use Rattle.ov_rpc.specs.Message.{message_view};
 
 use crate::fault::RpcFault;

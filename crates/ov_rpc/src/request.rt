@@ -2,10 +2,10 @@ ghost use Rattle.std.specs.Prelude.{◌≡◌, ◌≢◌, ℕ, List, None, optio
 ghost use Rattle.std.specs.Option.{ForSome};
 ghost use Rattle.serde_json.specs.View.{view, members_view};
 ghost use Rattle.serde_json.specs.Find.{get_member, as_str, as_array};
-ghost use Rattle.ov_specs.specs.Tree.{has_real};
-ghost use Rattle.ov_specs.specs.Message as rpc;
-ghost use Rattle.ov_specs.specs.Message.{not_null};
-ghost use Rattle.ov_rpc.specs.Message.{kind_view, message_view};
+ghost use Rattle.ov_specs.specs.wire.Tree.{has_real};
+ghost use Rattle.ov_specs.specs.wire.Message as rpc;
+ghost use Rattle.ov_specs.specs.wire.Message.{not_null};
+ghost use Rattle.ov_rpc.specs.Message.{bad_kind_view, message_view};
 
 use crate::message::{BadKind, Message};
 use ov_base::{Text, Tree, Trees, has_real};
@@ -51,7 +51,7 @@ fn asker_of(value: Value) -> Option<Tree>
     let Value::Object(mut members) = value else {
         return None;
     };
-    asker(taken(&mut members, "id"))
+    asker(take_member(&mut members, "id"))
 }
 
 /// A call, a notification, or a request that is built wrong: what a tree is that has no reals and is no answer.
@@ -62,9 +62,9 @@ fn request_of(value: Value) -> Message
     let Value::Object(mut members) = value else {
         return Message::Answer;
     };
-    let method = text_of(taken(&mut members, "method"));
-    let params = items_of(taken(&mut members, "params"));
-    let asker = asker(taken(&mut members, "id"));
+    let method = text_of(take_member(&mut members, "method"));
+    let params = items_of(take_member(&mut members, "params"));
+    let asker = asker(take_member(&mut members, "id"));
     request(method, params, asker)
 }
 
@@ -112,7 +112,7 @@ fn request(method: Option<Text>, params: Option<Trees>, asker: Option<Tree>) -> 
 
 /// What is wrong is told to who asked; where nobody did, nothing is.
 fn bad(asker: Option<Tree>, kind: BadKind) -> Message
-    ensures { message_view result ≡ rpc.bad asker (kind_view kind) }
+    ensures { message_view result ≡ rpc.bad asker (bad_kind_view kind) }
 {
     match asker {
         Some(id) => Message::Bad { id, kind },
@@ -121,7 +121,7 @@ fn bad(asker: Option<Tree>, kind: BadKind) -> Message
 }
 
 /// The member of this name, taken out of an object.
-fn taken(members: &mut Map<String, Value>, name: &str) -> Option<Value>
+fn take_member(members: &mut Map<String, Value>, name: &str) -> Option<Value>
     ensures value { option_map view result ≡ get_member name.now (members_view members.old.entries) }
     ensures others { (q : List ℕ) → q ≢ name.now → get_member q (members_view members.new.entries) ≡ get_member q (members_view members.old.entries) }
 {

@@ -4,7 +4,7 @@ use Rattle.std.specs.String.{string_bytes}
 use Rattle.serde_json.specs.Data.{Data}
 use Rattle.serde_json.specs.View.{view, members_view}
 use Rattle.serde_json.specs.declared.value.Value.{Value}
-use Rattle.ov_specs.specs.SchemaShape.{each_member}
+use Rattle.ov_specs.specs.schema.SchemaShape.{each_member}
 use Rattle.ov_atoms.proofs.Lists.{after}
 
 after-cons : {A : Type 0} (done : List A) (a : A) (rest : Option (List A)) → after done (option_map (λ xs. a ∷ xs) rest) ≡ after (done ++ a ∷ []) rest

@@ -14,18 +14,15 @@ use Rattle.std.specs.Map.{keys_of}
 use Rattle.std.specs.BTreeMap.{insert_entry}
 use Rattle.std.specs.FinMap.{FinMap, IsAntisymmetric, nat_cmp-IsAntisymmetric, slice_cmp-IsAntisymmetric, find, put, is_sorted, entries, insert, from_entries, from_sorted, same_map, get-entries, get-insert, get-from_entries, get-from_sorted, entries-from_sorted}
 use Rattle.std.specs.FinMap.Entries.{below_all, find-put}
-use Rattle.ov_specs.specs.SchemaTypes.{name_cmp}
+use Rattle.ov_specs.specs.schema.SchemaTypes.{name_cmp}
 use Rattle.ov_schema.specs.NamedViews.{named_view}
+use Rattle.ov_specs.proofs.laws.Truths.{both_hold}
 
 pub name_total : IsTotalOrder name_cmp
 name_total = nat_list_cmp_total
 
 name_exact : IsAntisymmetric name_cmp
 name_exact = slice_cmp-IsAntisymmetric nat_cmp-IsAntisymmetric
-
-both : (a b : Bool) → T a → T b → T (a && b)
-both true b p q = q
-both false b p q = p
 
 -- the entries of these, put over those of a map, the first one last
 abbrev pub put_over : {X : Type 0} → FinMap name_cmp X → List (List ℕ × X) → FinMap name_cmp X
@@ -67,13 +64,13 @@ module _ {X : Type 0} where
 
   below : (k : String Global) (es : List (String Global × X)) → AllByRecursion (λ y. string_cmp k y ≡ Less) (keys_of es) → T (below_all name_cmp (string_bytes k) (map named_view es))
   below k [] h = tt
-  below k (x ∷ es) h = both _ _ (rw h.0 tt) (below k es h.1)
+  below k (x ∷ es) h = both_hold _ _ (rw h.0 tt) (below k es h.1)
 
   -- names that ascend as they are stored ascend by their bytes
   pub named-ascend : (es : List (String Global × X)) → IsStrictlySortedBy string_cmp (keys_of es) → T (is_sorted name_cmp (map named_view es))
   unfolding IsStrictlySortedBy
   named-ascend [] h = tt
-  named-ascend (x ∷ es) h = both _ _ (below x.0 es h.0) (named-ascend es h.1)
+  named-ascend (x ∷ es) h = both_hold _ _ (below x.0 es h.0) (named-ascend es h.1)
 
   -- the last item goes over from the list to the map
   pub put_over-moved : (es before after : List (String Global × X)) (k : String Global) (v : X) → before ≡ after ++ (k, v) ∷ []

@@ -5,9 +5,9 @@ use Rattle.std.specs.Str.{IsUtf8, is_utf8}
 use Rattle.std.proofs.lemmas.Str.{is_utf8-from_IsUtf8, IsUtf8-from_is_utf8}
 use Rattle.serde_json.specs.Data.{Data}
 use Rattle.serde_json.specs.Read.{read}
-use Rattle.ov_specs.specs.Message.{tree_of}
-use Rattle.ov_specs.specs.Schema.{RealNotSupported, accepted}
-use Rattle.ov_specs.specs.Tree.{has_real}
+use Rattle.ov_specs.specs.wire.Message.{tree_of}
+use Rattle.ov_specs.specs.schema.Schema.{RealNotSupported, accepted}
+use Rattle.ov_specs.specs.wire.Tree.{has_real}
 use Rattle.ov_schema.specs.Texts.{RefusesText, RefusesFile}
 use Rattle.ov_schema.specs.declared.file_fault.SchemaFileFault.{SchemaFileFault}
 use Rattle.ov_schema.specs.declared.file_fault.SchemaFileFault.TheVariants.{Unread, NotJson, Refused, Memory}

@@ -1,13 +1,13 @@
 -- The faults of the code as refusals of the definitions.
 use Rattle.std.specs.Prelude.{Option, Some, None}
-use Rattle.ov_specs.specs.Schema as schema
-use Rattle.ov_specs.specs.Schema.{Refusal}
+use Rattle.ov_specs.specs.schema.Schema as schema
+use Rattle.ov_specs.specs.schema.Schema.{SchemaRefusal}
 use Rattle.ov_schema.specs.declared.fault.SchemaFault.{SchemaFault}
 use Rattle.ov_schema.specs.declared.fault.SchemaFault.TheVariants as fault
 
 -- what a fault says of the tree; want of memory says nothing
-abbrev pub refusal_view : SchemaFault → Option Refusal
-refusal_view fault.Syntax = Some schema.Syntax
+abbrev pub refusal_view : SchemaFault → Option SchemaRefusal
+refusal_view fault.Syntax = Some schema.BadMember
 refusal_view fault.BadName = Some schema.BadName
 refusal_view fault.BadVersion = Some schema.BadVersion
 refusal_view fault.NoColumns = Some schema.NoColumns

@@ -1,8 +1,8 @@
 -- What may be wrong at one place of a schema, by the code's names for it.
 use Rattle.std.specs.Prelude.{ℕ, pos, not, Bool, List, ◌||◌}
 use Rattle.std.specs.List.{list_any}
-use Rattle.ov_specs.specs.SchemaShape.{BaseShape, TypeShape, ColumnShape, TableShape, SchemaShape}
-use Rattle.ov_specs.specs.Schema.{is_empty, holds, any_table, has_table, below, is_real_type, is_bad_name, is_bad_base_range, is_bad_count, is_bad_reference, is_bad_enum, is_bad_index, is_strong_weak}
+use Rattle.ov_specs.specs.schema.SchemaShape.{BaseShape, TypeShape, ColumnShape, TableShape, SchemaShape}
+use Rattle.ov_specs.specs.schema.Schema.{is_empty, is_some_and, any_table, has_table, below, is_real_type, is_bad_name, is_bad_base_range, is_bad_count, is_bad_reference, is_bad_enum, is_bad_index, is_strong_weak}
 use Rattle.ov_schema.specs.declared.judge.flaws.BaseFlaw.{BaseFlaw}
 use Rattle.ov_schema.specs.declared.judge.flaws.BaseFlaw.TheVariants.{Range, Real, RefTable, RefType, Enum}
 use Rattle.ov_schema.specs.declared.judge.flaws.ColumnFlaw.{ColumnFlaw}
@@ -14,13 +14,13 @@ use Rattle.ov_schema.specs.declared.judge.flaws.TableFlaw.TheVariants as table
 abbrev pub base_has : SchemaShape → BaseFlaw → BaseShape → Bool
 base_has s Range b = is_bad_base_range b
 base_has s Real b = is_real_type b.of
-base_has s RefTable b = holds (λ name. not (has_table s name)) b.ref_table
+base_has s RefTable b = is_some_and (λ name. not (has_table s name)) b.ref_table
 base_has s RefType b = is_bad_reference b
 base_has s Enum b = is_bad_enum b
 
 -- of the keys or the values of a type
 abbrev pub types_have : SchemaShape → BaseFlaw → TypeShape → Bool
-types_have s flaw t = base_has s flaw t.key || holds (base_has s flaw) t.value
+types_have s flaw t = base_has s flaw t.key || is_some_and (base_has s flaw) t.value
 
 -- of a column
 abbrev pub column_has : SchemaShape → ColumnFlaw → List ℕ → ColumnShape → Bool

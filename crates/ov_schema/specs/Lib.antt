@@ -5,5 +5,5 @@ pub mod FaultViews
 pub mod Refusals
 pub mod NamedViews
 pub mod Built
-pub mod Parts
+pub mod SchemaMembers
 pub mod Texts

@@ -3,7 +3,7 @@ use Rattle.std.specs.Prelude.{ℕ, List, Vec, map, option_map}
 use Rattle.std.specs.Borrow.{Bor}
 use Rattle.std.specs.declared.alloc.Global.{Global}
 use Rattle.serde_json.specs.View.{view}
-use Rattle.ov_specs.specs.SchemaShape as shape
+use Rattle.ov_specs.specs.schema.SchemaShape as shape
 use Rattle.ov_atoms.specs.Views.{kind_view}
 use Rattle.ov_schema.specs.declared.parse.base_shape.TypeName.{TypeName}
 use Rattle.ov_schema.specs.declared.parse.base_shape.TypeName.TheVariants.{Kind, Real}

@@ -1,9 +1,9 @@
 -- What a text is as a schema, and what a fault says of it (RFC 7047, 3.2).
 use Rattle.std.specs.Prelude.{◌≡◌, ℕ, List, Some, None, Ok}
 use Rattle.serde_json.specs.Data.{Data}
-use Rattle.ov_specs.specs.Message.{tree_of}
-use Rattle.ov_specs.specs.Schema.{accepted}
-use Rattle.ov_specs.specs.SchemaTypes.{Schema}
+use Rattle.ov_specs.specs.wire.Message.{tree_of}
+use Rattle.ov_specs.specs.schema.Schema.{accepted}
+use Rattle.ov_specs.specs.schema.SchemaTypes.{Schema}
 use Rattle.ov_schema.specs.Refusals.{RefusesWith}
 use Rattle.ov_schema.specs.declared.file_fault.SchemaFileFault.{SchemaFileFault}
 use Rattle.ov_schema.specs.declared.file_fault.SchemaFileFault.TheVariants.{Unread, NotJson, Refused, Memory}

@@ -2,9 +2,9 @@ ghost use Rattle.std.specs.Prelude.{◌≡◌, IfOk};
 ghost use Rattle.std.specs.List.{list_any};
 ghost use Rattle.std.specs.FinMap.{contains_key};
 ghost use Rattle.std.specs.Ordering.{eq_by_cmp};
-ghost use Rattle.ov_specs.specs.Value.{atom_cmp};
-ghost use Rattle.ov_specs.specs.Schema.{base_of, reference_of};
-ghost use Rattle.ov_specs.specs.Fitting.{in_range, atom_fits};
+ghost use Rattle.ov_specs.specs.values.Value.{atom_cmp};
+ghost use Rattle.ov_specs.specs.schema.Schema.{accepted_base, reference_of};
+ghost use Rattle.ov_specs.specs.schema.Fitting.{in_range, atom_fits};
 ghost use Rattle.ov_atoms.specs.Views.{kind_view, atom_view, atoms_view};
 ghost use Rattle.ov_schema.specs.ShapeViews.{base_view};
 ghost use Rattle.ov_schema.specs.Sets.{set_in};
@@ -25,11 +25,12 @@ pub(crate) struct Reference {
 }
 
 impl Model for Reference {
-    ghost use Rattle.ov_specs.specs.SchemaTypes as types;
+    ghost use Rattle.ov_specs.specs.schema.SchemaTypes as types;
+    ghost use Rattle.ov_specs.specs.codes.SchemaCode.{reference_code};
 
     ghost Value = { types.Reference };
 
-    ghost coded = { types.reference_code };
+    ghost coded = { reference_code };
 
     ghost view = { λ r. record { table = r.table; is_strong = r.is_strong } };
 }
@@ -48,13 +49,14 @@ pub(crate) struct BaseType {
 
 impl Model for BaseType {
     ghost use Rattle.std.specs.Prelude.{option_map};
-    ghost use Rattle.ov_specs.specs.SchemaTypes as types;
+    ghost use Rattle.ov_specs.specs.schema.SchemaTypes as types;
+    ghost use Rattle.ov_specs.specs.codes.SchemaCode.{base_type_code};
     ghost use Rattle.ov_atoms.specs.Views.{kind_view};
     ghost use Rattle.ov_schema.specs.Sets.{set_in};
 
     ghost Value = { types.BaseType };
 
-    ghost coded = { types.base_type_code };
+    ghost coded = { base_type_code };
 
     ghost view = { λ b. record { kind = kind_view b.kind; choices = option_map set_in b.choices; least = b.least; greatest = b.greatest; shortest = b.shortest; longest = b.longest; refers = b.refers } };
 }
@@ -62,7 +64,7 @@ impl Model for BaseType {
 impl BaseType {
     /// The base type of these members.
     pub(crate) fn build(alloc: Global, shape: &BaseShape<'_>) -> Result<BaseType, AllocError>
-        ensures { IfOk result (λ b. b ≡ base_of (base_view shape.now)) }
+        ensures { IfOk result (λ b. b ≡ accepted_base (base_view shape.now)) }
     {
         let choices = read_choices(alloc, shape.of, shape.choices)?;
         let refers = reference_of(alloc, shape)?;

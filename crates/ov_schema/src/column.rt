@@ -1,8 +1,8 @@
 ghost use Rattle.std.specs.Prelude.{◌≡◌, IfOk};
-ghost use Rattle.ov_specs.specs.Fitting.{fits, default_of};
-ghost use Rattle.ov_specs.specs.Schema.{column_of, own_column};
-ghost use Rattle.ov_specs.specs.SchemaTypes.{kinds_of};
-ghost use Rattle.ov_specs.specs.Conditions.{is_scalar};
+ghost use Rattle.ov_specs.specs.schema.Fitting.{fits, default_of};
+ghost use Rattle.ov_specs.specs.schema.Schema.{accepted_column, own_column};
+ghost use Rattle.ov_specs.specs.schema.SchemaTypes.{kinds_of};
+ghost use Rattle.ov_specs.specs.operations.Conditions.{is_scalar};
 ghost use Rattle.ov_atoms.specs.Views.{kinds_view};
 ghost use Rattle.ov_schema.specs.ShapeViews.{column_view};
 
@@ -22,11 +22,12 @@ pub struct Column {
 }
 
 impl Model for Column {
-    ghost use Rattle.ov_specs.specs.SchemaTypes as types;
+    ghost use Rattle.ov_specs.specs.schema.SchemaTypes as types;
+    ghost use Rattle.ov_specs.specs.codes.SchemaCode.{column_code};
 
     ghost Value = { types.Column };
 
-    ghost coded = { types.column_code };
+    ghost coded = { column_code };
 
     ghost view = { λ c. record { type_of = c.type_of; is_ephemeral = c.is_ephemeral; is_mutable = c.is_mutable } };
 }
@@ -34,7 +35,7 @@ impl Model for Column {
 impl Column {
     /// The column of these members.
     pub(crate) fn build(alloc: Global, shape: &ColumnShape<'_>) -> Result<Column, AllocError>
-        ensures { IfOk result (λ c. c ≡ column_of (column_view shape.now)) }
+        ensures { IfOk result (λ c. c ≡ accepted_column (column_view shape.now)) }
     {
         Ok(Column {
             type_of: ColumnType::build(alloc, &shape.type_of)?,

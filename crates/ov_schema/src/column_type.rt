@@ -1,9 +1,9 @@
 ghost use Rattle.std.specs.Prelude.{◌≡◌, ◌&&◌, IfOk, option_map};
 ghost use Rattle.std.specs.List.{list_all};
-ghost use Rattle.ov_specs.specs.Schema.{base_of, max_of, type_of};
-ghost use Rattle.ov_specs.specs.SchemaTypes.{kinds_of};
-ghost use Rattle.ov_specs.specs.Conditions.{is_scalar};
-ghost use Rattle.ov_specs.specs.Fitting.{atom_fits, value_fits, fits, default_of};
+ghost use Rattle.ov_specs.specs.schema.Schema.{accepted_base, max_of, accepted_type};
+ghost use Rattle.ov_specs.specs.schema.SchemaTypes.{kinds_of};
+ghost use Rattle.ov_specs.specs.operations.Conditions.{is_scalar};
+ghost use Rattle.ov_specs.specs.schema.Fitting.{atom_fits, value_fits, fits, default_of};
 ghost use Rattle.ov_atoms.specs.Views.{kinds_view, atom_view, atoms_view, pairs_view};
 ghost use Rattle.ov_schema.specs.ShapeViews.{base_view, most_view, type_view};
 
@@ -26,11 +26,12 @@ pub(crate) struct ColumnType {
 }
 
 impl Model for ColumnType {
-    ghost use Rattle.ov_specs.specs.SchemaTypes as types;
+    ghost use Rattle.ov_specs.specs.schema.SchemaTypes as types;
+    ghost use Rattle.ov_specs.specs.codes.SchemaCode.{column_type_code};
 
     ghost Value = { types.ColumnType };
 
-    ghost coded = { types.column_type_code };
+    ghost coded = { column_type_code };
 
     ghost view = { λ t. record { key = t.key; value = t.value; min = t.min; max = t.max } };
 }
@@ -38,7 +39,7 @@ impl Model for ColumnType {
 impl ColumnType {
     /// The type of these members.
     pub(crate) fn build(alloc: Global, shape: &TypeShape<'_>) -> Result<ColumnType, AllocError>
-        ensures { IfOk result (λ t. t ≡ type_of (type_view shape.now)) }
+        ensures { IfOk result (λ t. t ≡ accepted_type (type_view shape.now)) }
     {
         Ok(ColumnType {
             key: BaseType::build(alloc, &shape.key)?,
@@ -131,7 +132,7 @@ fn optional_type(
     alloc: Global,
     shape: &Option<BaseShape<'_>>,
 ) -> Result<Option<BaseType>, AllocError>
-    ensures { IfOk result (λ o. o ≡ option_map base_of (option_map base_view shape.now)) }
+    ensures { IfOk result (λ o. o ≡ option_map accepted_base (option_map base_view shape.now)) }
 {
     match shape {
         Some(shape) => Ok(Some(BaseType::build(alloc, shape)?)),

@@ -1,5 +1,5 @@
 ghost use Rattle.std.specs.Prelude.{◌≡◌};
-ghost use Rattle.ov_specs.specs.Fitting.{is_between, char_count};
+ghost use Rattle.ov_specs.specs.schema.Fitting.{is_between, char_count};
 
 /// Whether a number is neither below the least nor above the greatest, where they are there.
 pub(crate) fn is_between(least: Option<i64>, greatest: Option<i64>, number: i128) -> bool

@@ -1,7 +1,7 @@
 ghost use Rattle.std.specs.Prelude.{◌≡◌, IfOk, map, Some, None};
 ghost use Rattle.std.specs.Option.{option_copied};
 ghost use Rattle.std.specs.FinMap.{entries, from_entries, find};
-ghost use Rattle.ov_specs.specs.SchemaTypes.{name_cmp};
+ghost use Rattle.ov_specs.specs.schema.SchemaTypes.{name_cmp};
 ghost use Rattle.ov_schema.specs.NamedViews.{named_view};
 
 use ov_base::Text;

@@ -3,10 +3,10 @@ ghost use Rattle.std.specs.Option.{option_copied};
 ghost use Rattle.std.specs.FinMap.{get};
 ghost use Rattle.serde_json.specs.Data.{Data};
 ghost use Rattle.serde_json.specs.View.{view};
-ghost use Rattle.ov_specs.specs.SchemaShape.{schema_shape};
-ghost use Rattle.ov_specs.specs.Schema.{judged, schema_of, accepted};
+ghost use Rattle.ov_specs.specs.schema.SchemaShape.{schema_shape};
+ghost use Rattle.ov_specs.specs.schema.Schema.{judged, accepted_schema, accepted};
 ghost use Rattle.ov_schema.specs.Built.{named_table_of};
-ghost use Rattle.ov_schema.specs.Parts.{parts_view};
+ghost use Rattle.ov_schema.specs.SchemaMembers.{schema_of_members};
 ghost use Rattle.ov_schema.specs.Refusals.{RefusesWith, JudgesWith};
 ghost use Rattle.ov_schema.specs.ShapeViews.{named_table_view, schema_view};
 
@@ -23,27 +23,28 @@ use std::marker::Model;
 /// A database's schema (RFC 7047, 3.2), with the whole tree that it was read from.
 #[derive(Drop)]
 pub struct Schema {
-    parts: Parts,
+    parts: SchemaMembers,
     tree: Tree,
 }
 
 /// What is read of a schema's tree.
 #[derive(Drop)]
-pub(crate) struct Parts {
+pub(crate) struct SchemaMembers {
     name: Text,
     version: Option<Text>,
     tables: Vec<(Text, Table)>,
 }
 
 impl Model for Schema {
-    ghost use Rattle.ov_specs.specs.SchemaTypes as types;
-    ghost use Rattle.ov_schema.specs.Parts.{parts_view};
+    ghost use Rattle.ov_specs.specs.schema.SchemaTypes as types;
+    ghost use Rattle.ov_specs.specs.codes.SchemaCode.{schema_code};
+    ghost use Rattle.ov_schema.specs.SchemaMembers.{schema_of_members};
 
     ghost Value = { types.Schema };
 
-    ghost coded = { types.schema_code };
+    ghost coded = { schema_code };
 
-    ghost view = { λ s. parts_view s.tree s.parts };
+    ghost view = { λ s. schema_of_members s.tree s.parts };
 }
 
 impl Schema {
@@ -54,7 +55,7 @@ impl Schema {
         ensures tree { IfOk result (λ s. s.tree ≡ tree) }
         ensures refused { IfErr result (λ fault. RefusesWith tree fault) }
     {
-        let parts = Parts::read(alloc, tree.as_value())?;
+        let parts = SchemaMembers::read(alloc, tree.as_value())?;
         Ok(Schema { parts, tree })
     }
 
@@ -87,10 +88,10 @@ impl Schema {
     }
 }
 
-impl Parts {
+impl SchemaMembers {
     /// What the tree says, unless it is refused.
-    fn read(alloc: Global, tree: &Value) -> Result<Parts, SchemaFault>
-        ensures ok { IfOk result (λ p. judged (view tree.now) (schema_shape (view tree.now)) ≡ Ok (parts_view (view tree.now) p)) }
+    fn read(alloc: Global, tree: &Value) -> Result<SchemaMembers, SchemaFault>
+        ensures ok { IfOk result (λ p. judged (view tree.now) (schema_shape (view tree.now)) ≡ Ok (schema_of_members (view tree.now) p)) }
         ensures refused { IfErr result (λ fault. JudgesWith (view tree.now) fault) }
     {
         let Some(shape) = SchemaShape::read(alloc, tree)? else {
@@ -98,15 +99,15 @@ impl Parts {
         };
         match shape.refusal(alloc)? {
             Some(fault) => Err(fault),
-            None => Ok(Parts::build(alloc, &shape)?),
+            None => Ok(SchemaMembers::build(alloc, &shape)?),
         }
     }
 
     /// The parts of a schema that has these members.
-    fn build(alloc: Global, shape: &SchemaShape<'_>) -> Result<Parts, AllocError>
-        ensures { IfOk result (λ p. (d : Data) → parts_view d p ≡ schema_of d (schema_view shape.now)) }
+    fn build(alloc: Global, shape: &SchemaShape<'_>) -> Result<SchemaMembers, AllocError>
+        ensures { IfOk result (λ p. (d : Data) → schema_of_members d p ≡ accepted_schema d (schema_view shape.now)) }
     {
-        Ok(Parts {
+        Ok(SchemaMembers {
             name: Text::from_str(alloc, shape.name)?,
             version: optional_text(alloc, shape.version)?,
             tables: tables_of(alloc, shape.tables.as_slice(), shape.has_root())?,

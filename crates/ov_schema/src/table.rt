@@ -1,7 +1,7 @@
 ghost use Rattle.std.specs.Prelude.{◌≡◌, ◌++◌, ◌||◌, not, IfOk, map};
 ghost use Rattle.std.specs.Option.{option_copied};
 ghost use Rattle.std.specs.FinMap.{get, entries};
-ghost use Rattle.ov_specs.specs.Schema.{own_column, own_columns, table_of};
+ghost use Rattle.ov_specs.specs.schema.Schema.{own_column, own_columns, accepted_table};
 ghost use Rattle.ov_schema.specs.Built.{named_column_of, indexes_in};
 ghost use Rattle.ov_schema.specs.NamedViews.{named_view};
 ghost use Rattle.ov_schema.specs.ShapeViews.{named_column_view, texts_view, indexes_view, table_view};
@@ -27,12 +27,13 @@ pub struct Table {
 impl Model for Table {
     ghost use Rattle.std.specs.Prelude.{T};
     ghost use Rattle.std.specs.FinMap.{from_entries, is_sorted};
-    ghost use Rattle.ov_specs.specs.SchemaTypes as types;
+    ghost use Rattle.ov_specs.specs.schema.SchemaTypes as types;
+    ghost use Rattle.ov_specs.specs.codes.SchemaCode.{table_code};
     ghost use Rattle.ov_schema.specs.Built.{indexes_in};
 
     ghost Value = { types.Table };
 
-    ghost coded = { types.table_code };
+    ghost coded = { table_code };
 
     ghost view = { λ t. record { columns = from_entries t.columns.items; max_rows = t.max_rows; is_root = t.is_root; indexes = indexes_in t.indexes.items } };
 
@@ -46,7 +47,7 @@ impl Table {
         shape: &TableShape<'_>,
         some_root: bool,
     ) -> Result<Table, AllocError>
-        ensures { IfOk result (λ t. t ≡ table_of some_root (table_view shape.now)) }
+        ensures { IfOk result (λ t. t ≡ accepted_table some_root (table_view shape.now)) }
     {
         let columns = columns_of(alloc, shape.columns.as_slice())?;
         Ok(Table {

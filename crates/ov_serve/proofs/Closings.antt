@@ -2,12 +2,13 @@
 use Rattle.std.proofs.Common.{◌≡◌, ℕ, List, [], ◌∷◌, ◌++◌, refl, sym, ap, subst, ◌∙◌, append_assoc, Bool, true, false, Option, Some, None, ◌⊎◌, inl, inr}
 use Rattle.std.proofs.lemmas.List.{append-nil}
 use Rattle.std.proofs.lemmas.Bool.{false≢true, MatchBool-at_true, MatchBool-at_false}
-use Rattle.ov_specs.specs.Message.{Message}
-use Rattle.ov_specs.specs.Machine.{State, Entry, Event, Open, Take, Close, Tick, Cause, InputEnded, ReadFault, WriteFault, Damaged, Overrun, Memory, Stepped, is_open, listed}
-use Rattle.ov_specs.specs.History.{closed_by, closes, or_else}
-use Rattle.ov_specs.specs.Streams.{Enters, Feeds}
-use Rattle.ov_specs.proofs.Turns.{Turn, or_else_none, closed_by_more, turn_close, turn_take}
-use Rattle.ov_serve.specs.Going.{stream_cause, IsShut, StandsAfter}
+use Rattle.ov_specs.specs.wire.Message.{Message}
+use Rattle.ov_specs.specs.machine.Machine.{State, Entry, Event, Open, Take, Close, Tick, Cause, InputEnded, ReadFault, WriteFault, Damaged, Overrun, Memory, Stepped, is_open, listed}
+use Rattle.ov_specs.specs.machine.History.{closed_by, closing_cause}
+use Rattle.std.specs.Option.{option_or}
+use Rattle.ov_specs.specs.machine.Streams.{IsEntryAt, Feeds}
+use Rattle.ov_specs.proofs.laws.Turns.{Turn, option_or_none, closed_by_more, turn_close, turn_take}
+use Rattle.ov_serve.specs.Progress.{stream_cause, IsShut, StandsAfter}
 
 -- a session that is open, and was not closed
 pub stands_open : (n : ℕ) (s : State) (h : List Entry) → is_open s n ≡ true → closed_by h n ≡ None → StandsAfter n s h
@@ -28,15 +29,15 @@ is_shut n s h stands away = MatchBool-at_false (closed_by h n ≡ None) (IsShut 
 -- one history behind another that did not close it
 pub closed_by-append : (h k : List Entry) (n : ℕ) → closed_by h n ≡ None → closed_by (h ++ k) n ≡ closed_by k n
 closed_by-append [] k n none = refl
-closed_by-append (e ∷ h) k n none = first (closes n e.event (listed 1 e.choice.outcomes)) (λ rest. closed_by-append h k n rest) none
+closed_by-append (e ∷ h) k n none = first (closing_cause n e.event (listed 1 e.choice.outcomes)) (λ rest. closed_by-append h k n rest) none
   where
-    first : (o : Option Cause) → (closed_by h n ≡ None → closed_by (h ++ k) n ≡ closed_by k n) → or_else o (closed_by h n) ≡ None → or_else o (closed_by (h ++ k) n) ≡ closed_by k n
+    first : (o : Option Cause) → (closed_by h n ≡ None → closed_by (h ++ k) n ≡ closed_by k n) → option_or o (closed_by h n) ≡ None → option_or o (closed_by (h ++ k) n) ≡ closed_by k n
     first None on rest = on rest
     first (Some cause) on rest = cc
 
 -- one closing more
-pub closed_by_closing : (h : List Entry) (e : Entry) (n : ℕ) (cause : Cause) → closed_by h n ≡ None → closes n e.event (listed 1 e.choice.outcomes) ≡ Some cause → closed_by (h ++ e ∷ []) n ≡ Some cause
-closed_by_closing h e n cause none is = closed_by_more h e n ∙ (ap (λ o. or_else o (closes n e.event (listed 1 e.choice.outcomes))) none ∙ is)
+pub closed_by_closing : (h : List Entry) (e : Entry) (n : ℕ) (cause : Cause) → closed_by h n ≡ None → closing_cause n e.event (listed 1 e.choice.outcomes) ≡ Some cause → closed_by (h ++ e ∷ []) n ≡ Some cause
+closed_by_closing h e n cause none is = closed_by_more h e n ∙ (ap (λ o. option_or o (closing_cause n e.event (listed 1 e.choice.outcomes))) none ∙ is)
 
 -- why a stream closes a session
 pub stream_cause_is : (what : Event) → (stream_cause what ≡ Damaged) ⊎ (stream_cause what ≡ Memory)
@@ -61,11 +62,11 @@ module _ (at n : ℕ) where
   })
 
   -- want of memory closed it
-  by_memory : (s : State) (h : List Entry) (e : Entry) (t : Stepped) → closed_by h n ≡ None → Enters at s (Close n Memory) e t → StandsAfter n t.state (h ++ e ∷ [])
+  by_memory : (s : State) (h : List Entry) (e : Entry) (t : Stepped) → closed_by h n ≡ None → IsEntryAt at s (Close n Memory) e t → StandsAfter n t.state (h ++ e ∷ [])
   by_memory s h e t none enters = shut_by h e t.state s.next [] Memory (turn_close n s e t enters.step Memory enters.event) (ap stream_cause enters.event) none
 
   -- damage closed it
-  by_damage : (s : State) (h : List Entry) (e : Entry) (t : Stepped) → closed_by h n ≡ None → Enters at s (Close n Damaged) e t → StandsAfter n t.state (h ++ e ∷ [])
+  by_damage : (s : State) (h : List Entry) (e : Entry) (t : Stepped) → closed_by h n ≡ None → IsEntryAt at s (Close n Damaged) e t → StandsAfter n t.state (h ++ e ∷ [])
   by_damage s h e t none enters = shut_by h e t.state s.next [] Damaged (turn_close n s e t enters.step Damaged enters.event) (ap stream_cause enters.event) none
 
   -- the entries of a piece
@@ -87,7 +88,7 @@ module _ (at n : ℕ) where
         | inl turn ↦
             let there' : is_open t.state n ≡ true = turn.open_is ∙ there in
             let on' : Feeds at t.state n messages damaged entries new = MatchBool-at_true (Feeds at t.state n messages damaged entries new) ((entries ≡ []) × (new ≡ t.state)) there' on in
-            let none' : closed_by (h ++ e ∷ []) n ≡ None = closed_by-append h (e ∷ []) n none ∙ (or_else_none (closes n e.event (listed 1 e.choice.outcomes)) ∙ turn.cause_is) in
+            let none' : closed_by (h ++ e ∷ []) n ≡ None = closed_by-append h (e ∷ []) n none ∙ (option_or_none (closing_cause n e.event (listed 1 e.choice.outcomes)) ∙ turn.cause_is) in
             subst (StandsAfter n new) (append_assoc h (e ∷ []) entries) (feeds_stand t.state (h ++ e ∷ []) messages damaged entries new there' none' on')
         | inr turn ↦
             let last : (entries ≡ []) × (new ≡ t.state) = MatchBool-at_false (Feeds at t.state n messages damaged entries new) ((entries ≡ []) × (new ≡ t.state)) turn.open_is on in

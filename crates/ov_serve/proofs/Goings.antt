@@ -3,20 +3,20 @@ use Rattle.std.proofs.Common.{◌≡◌, ℕ, List, [], ◌∷◌, ◌++◌, Boo
 use Rattle.std.specs.Prelude.{option_to_list, IfNone}
 use Rattle.std.proofs.lemmas.List.{append-nil}
 use Rattle.std.proofs.lemmas.Grind.{flat_map-append}
-use Rattle.ov_specs.specs.Machine.{State, Entry}
-use Rattle.ov_specs.specs.History.{joined}
-use Rattle.ov_core.specs.Waiting.{waiting_for}
-use Rattle.ov_core.specs.Following.{Running, Follows, Enters, and_handed, and_all_handed}
-use Rattle.ov_serve.specs.Serving.{Goes, WritesOf}
-use Rattle.ov_serve.specs.Going.{Sends}
+use Rattle.ov_specs.specs.machine.Machine.{State, Entry}
+use Rattle.ov_specs.specs.machine.History.{joined}
+use Rattle.ov_core.specs.Outbox.{waiting_for}
+use Rattle.ov_core.specs.Following.{CoreState, Follows, Extends, and_handed, and_all_handed}
+use Rattle.ov_serve.specs.Serving.{ExtendsHanding, WritesOf}
+use Rattle.ov_serve.specs.Progress.{Sends}
 
 -- the same frames were given
-given_same : {K D : Type 0} (before : State) (history : List Entry) (given given' : ℕ → List (List ℕ)) (core : Running K D) → ((s : ℕ) → given s ≡ given' s) → Follows before history given core → Follows before history given' core
+given_same : {K D : Type 0} (before : State) (history : List Entry) (given given' : ℕ → List (List ℕ)) (core : CoreState K D) → ((s : ℕ) → given s ≡ given' s) → Follows before history given core → Follows before history given' core
 given_same before history given given' core same f = record {
   sent = f.sent;
   legal = f.legal;
   kept = f.kept;
-  issued = λ s. f.issued s ∙ ap (λ (fs : List (List ℕ)). fs ++ waiting_for s core.waiting) (same s);
+  issued = λ s. f.issued s ∙ ap (λ (fs : List (List ℕ)). fs ++ waiting_for s core.outbox) (same s);
 }
 
 none_more : (b : Bool) (xs : List (List ℕ)) → xs ≡ xs ++ cond b [] []
@@ -29,36 +29,36 @@ some_more false xs fs gs = append-nil (xs ++ [])
 
 module _ {K D : Type 0} (n : ℕ) where
   -- entries alone
-  pub goes_by_entries : (a b : Running K D) (entries : List Entry) → Enters a entries b → Goes n a entries [] b
+  pub goes_by_entries : (a b : CoreState K D) (entries : List Entry) → Extends a entries b → ExtendsHanding n a entries [] b
   goes_by_entries a b entries enters before history given f =
       given_same before (history ++ entries) given (and_all_handed given n []) b (λ s. none_more (eqb s n) (given s)) (enters before history given f)
 
   -- nothing was done
-  pub goes_nowhere : (a : Running K D) → Goes n a [] [] a
+  pub goes_nowhere : (a : CoreState K D) → ExtendsHanding n a [] [] a
   goes_nowhere a = goes_by_entries a a [] (λ before history given f. subst (λ (h : List Entry). Follows before h given a) (sym (append-nil history)) f)
 
   -- a frame, if there is one
-  pub goes_by_frame : (a b : Running K D) (frame : Option (List ℕ)) → ((before : State) (history : List Entry) (given : ℕ → List (List ℕ)) → Follows before history given a → Follows before history (and_handed given n frame) b) → Goes n a [] (option_to_list frame) b
+  pub goes_by_frame : (a b : CoreState K D) (frame : Option (List ℕ)) → ((before : State) (history : List Entry) (given : ℕ → List (List ℕ)) → Follows before history given a → Follows before history (and_handed given n frame) b) → ExtendsHanding n a [] (option_to_list frame) b
   goes_by_frame a b frame handed before history given f =
       subst (λ (h : List Entry). Follows before h (and_all_handed given n (option_to_list frame)) b) (sym (append-nil history)) (handed before history given f)
 
   -- one part after another
-  pub goes_on : (a b c : Running K D) (es fs : List Entry) (xs ys : List (List ℕ)) → Goes n a es xs b → Goes n b fs ys c → Goes n a (es ++ fs) (xs ++ ys) c
+  pub goes_on : (a b c : CoreState K D) (es fs : List Entry) (xs ys : List (List ℕ)) → ExtendsHanding n a es xs b → ExtendsHanding n b fs ys c → ExtendsHanding n a (es ++ fs) (xs ++ ys) c
   goes_on a b c es fs xs ys first then before history given f =
       subst (λ (h : List Entry). Follows before h (and_all_handed given n (xs ++ ys)) c) (append_assoc history es fs)
       (given_same before ((history ++ es) ++ fs) (and_all_handed (and_all_handed given n xs) n ys) (and_all_handed given n (xs ++ ys)) c (λ s. some_more (eqb s n) (given s) xs ys)
       (then before (history ++ es) (and_all_handed given n xs) (first before history given f)))
 
   -- then more entries
-  pub goes_on_entering : (a b c : Running K D) (es fs : List Entry) (xs : List (List ℕ)) → Goes n a es xs b → Enters b fs c → Goes n a (es ++ fs) xs c
+  pub goes_on_entering : (a b c : CoreState K D) (es fs : List Entry) (xs : List (List ℕ)) → ExtendsHanding n a es xs b → Extends b fs c → ExtendsHanding n a (es ++ fs) xs c
   goes_on_entering a b c es fs xs first then before history given f =
       subst (λ (h : List Entry). Follows before h (and_all_handed given n xs) c) (append_assoc history es fs)
       (then before (history ++ es) (and_all_handed given n xs) (first before history given f))
 
   -- then more frames
-  pub goes_on_handing : (a b c : Running K D) (es : List Entry) (xs ys : List (List ℕ)) → Goes n a es xs b → Goes n b [] ys c → Goes n a es (xs ++ ys) c
+  pub goes_on_handing : (a b c : CoreState K D) (es : List Entry) (xs ys : List (List ℕ)) → ExtendsHanding n a es xs b → ExtendsHanding n b [] ys c → ExtendsHanding n a es (xs ++ ys) c
   goes_on_handing a b c es xs ys first then =
-      subst (λ (h : List Entry). Goes n a h (xs ++ ys) c) (append-nil es) (goes_on a b c es [] xs ys first then)
+      subst (λ (h : List Entry). ExtendsHanding n a h (xs ++ ys) c) (append-nil es) (goes_on a b c es [] xs ys first then)
 
 -- frames one after another
 pub joined-append : (xs ys : List (List ℕ)) → joined (xs ++ ys) ≡ joined xs ++ joined ys
@@ -74,10 +74,10 @@ writes_on true a b old mid new first then = then ∙ (ap (λ (bytes : List ℕ).
 writes_on false a b old mid new first then =
     (a ++ then.0, then.1 ∙ (ap (λ (bytes : List ℕ). bytes ++ then.0) first ∙ append_assoc old a then.0), (then.2.0, append_assoc a then.0 then.2.0 ∙ ap (λ (bytes : List ℕ). a ++ bytes) then.2.1))
 
-module _ {K D : Type 0} (n : ℕ) (a b c : Running K D) (frames : List (List ℕ)) (before told : List ℕ) (goes : Goes n a [] frames b) (written : told ≡ before ++ joined frames) where
+module _ {K D : Type 0} (n : ℕ) (a b c : CoreState K D) (frames : List (List ℕ)) (before told : List ℕ) (extends : ExtendsHanding n a [] frames b) (written : told ≡ before ++ joined frames) where
   -- one frame more was handed out, and written
-  pub goes-more : (frame : List ℕ) → ((s : State) (history : List Entry) (given : ℕ → List (List ℕ)) → Follows s history given b → Follows s history (and_handed given n (Some frame)) c) → Goes n a [] (frames ++ frame ∷ []) c
-  goes-more frame handed = goes_on_handing n a b c [] frames (frame ∷ []) goes (goes_by_frame n b c (Some frame) handed)
+  pub extends-more : (frame : List ℕ) → ((s : State) (history : List Entry) (given : ℕ → List (List ℕ)) → Follows s history given b → Follows s history (and_handed given n (Some frame)) c) → ExtendsHanding n a [] (frames ++ frame ∷ []) c
+  extends-more frame handed = goes_on_handing n a b c [] frames (frame ∷ []) extends (goes_by_frame n b c (Some frame) handed)
 
   pub writes-more : (is_whole : Bool) (frame bytes after : List ℕ) → bytes ≡ frame → WritesOf is_whole bytes told after → WritesOf is_whole (joined (frames ++ frame ∷ [])) before after
   writes-more is_whole frame bytes after same writes =
@@ -85,16 +85,16 @@ module _ {K D : Type 0} (n : ℕ) (a b c : Running K D) (frames : List (List ℕ
       (writes_on is_whole (joined frames) frame before told after written (subst (λ (all : List ℕ). WritesOf is_whole all told after) same writes))
 
   -- no frame was left, and what was written was handed on, or not
-  pub sends-last : (is_whole : Bool) (frame : Option (List ℕ)) (after : List ℕ) → frame ≡ None → waiting_for n b.waiting ≡ option_to_list frame ++ waiting_for n c.waiting → IfNone frame (waiting_for n b.waiting ≡ []) → ((s : State) (history : List Entry) (given : ℕ → List (List ℕ)) → Follows s history given b → Follows s history (and_handed given n frame) c) → after ≡ told → Sends n is_whole a c before after
+  pub sends-last : (is_whole : Bool) (frame : Option (List ℕ)) (after : List ℕ) → frame ≡ None → waiting_for n b.outbox ≡ option_to_list frame ++ waiting_for n c.outbox → IfNone frame (waiting_for n b.outbox ≡ []) → ((s : State) (history : List Entry) (given : ℕ → List (List ℕ)) → Follows s history given b → Follows s history (and_handed given n frame) c) → after ≡ told → Sends n is_whole a c before after
   sends-last is_whole frame after none oldest empty handed same = record {
     frames = frames;
-    goes = subst (λ (xs : List (List ℕ)). Goes n a [] xs c) (append-nil frames)
-        (goes_on_handing n a b c [] frames [] goes (subst (λ (o : Option (List ℕ)). Goes n b [] (option_to_list o) c) none (goes_by_frame n b c frame handed)));
+    extends = subst (λ (xs : List (List ℕ)). ExtendsHanding n a [] xs c) (append-nil frames)
+        (goes_on_handing n a b c [] frames [] extends (subst (λ (o : Option (List ℕ)). ExtendsHanding n b [] (option_to_list o) c) none (goes_by_frame n b c frame handed)));
     written = all_or_some is_whole;
     none_left = λ whole. left_none frame none oldest empty;
   }
     where
-      left_none : (o : Option (List ℕ)) → o ≡ None → waiting_for n b.waiting ≡ option_to_list o ++ waiting_for n c.waiting → IfNone o (waiting_for n b.waiting ≡ []) → waiting_for n c.waiting ≡ []
+      left_none : (o : Option (List ℕ)) → o ≡ None → waiting_for n b.outbox ≡ option_to_list o ++ waiting_for n c.outbox → IfNone o (waiting_for n b.outbox ≡ []) → waiting_for n c.outbox ≡ []
       left_none None is oldest' empty' = sym oldest' ∙ empty'
       left_none (Some frame') is oldest' empty' = cc
 

@@ -5,27 +5,29 @@ use Rattle.std.proofs.lemmas.List.{append-nil, map-append}
 use Rattle.std.proofs.lemmas.Grind.{flat_map-append}
 use Rattle.std.proofs.lemmas.List.Elements.{All-push}
 use Rattle.std.proofs.lemmas.Bool.{eq-eqb, false≢true}
-use Rattle.ov_specs.specs.Message.{Message, asked}
-use Rattle.ov_specs.specs.Machine as machine
-use Rattle.ov_specs.specs.Machine.{State, Sent, is_open, opening}
-use Rattle.ov_specs.specs.SchemaTypes.{Schema}
-use Rattle.ov_specs.specs.Database.{Database}
-use Rattle.ov_specs.specs.History.{joined, frames_to, closed_by}
-use Rattle.ov_specs.specs.Streams.{StreamEvent, Opens, Feed, Streams, no_streams, fed, Feeds, Expands, ExpandsTimed}
-use Rattle.ov_specs.proofs.Expanding.{one_after_another, one_event}
-use Rattle.ov_cut.specs.Cutting.{Cutting}
+use Rattle.ov_specs.specs.wire.Message.{Message, asked}
+use Rattle.ov_specs.specs.machine.Machine as machine
+use Rattle.ov_specs.specs.machine.Machine.{State, Sent, is_open, opening}
+use Rattle.ov_specs.specs.schema.SchemaTypes.{Schema}
+use Rattle.ov_specs.specs.rows.Database.{Database}
+use Rattle.ov_specs.specs.machine.History.{joined, frames_to, closed_by}
+use Rattle.ov_specs.specs.machine.Streams.{StreamEvent, Opens, Feed, Streams, no_streams, with_fed, Feeds, Expands, ExpandsTimed}
+use Rattle.ov_specs.proofs.laws.Expanding.{one_after_another, one_event}
+use Rattle.ov_cut.specs.CutterState.{CutterState}
 use Rattle.ov_core.specs.declared.event.Cause.{Cause}
 use Rattle.ov_core.specs.declared.event.Cause.TheVariants.{WriteFault, Damaged, Memory}
 use Rattle.ov_core.specs.Entries.{cause_view, entry_view}
-use Rattle.ov_core.specs.Waiting.{waiting_for}
-use Rattle.ov_core.specs.Following.{Running, Follows, Enters, and_all_handed}
+use Rattle.ov_core.specs.Outbox.{waiting_for}
+use Rattle.ov_core.specs.Following.{CoreState, Follows, Extends, and_all_handed}
 use Rattle.ov_core.specs.Stepping.{closing, Closes}
-use Rattle.ov_streams.specs.Feeding.{IsFed, Brings}
-use Rattle.ov_serve.specs.Serving.{Around, around, Goes, Pieces, most_piece_bytes, bytes_of, events_of, ToldBy, IsTold, ClosesAfter, ClosesFor, is_written, EndsAs, Served, WritesOf}
-use Rattle.ov_serve.specs.Going.{Sends, stream_cause, IsShut, StandsAfter, Serving, ServingOn}
+use Rattle.ov_streams.specs.Feeding.{IsFed, EntersPiece}
+use Rattle.ov_serve.specs.Serving.{IoState, io_state, ExtendsHanding, Pieces, most_piece_bytes, bytes_of, events_of, TellsMoments, IsCauseIn, ClosesAfter, ClosesFor, is_written, EndsAs, Served, WritesOf}
+use Rattle.ov_serve.specs.Progress.{Sends, stream_cause, IsShut, StandsAfter, ServedSoFar, ServedAndFed}
 use Rattle.ov_serve.proofs.Unopened.{close_sends, close_of_open, next_is_unopened}
 use Rattle.ov_serve.proofs.Closings.{not_closed, is_shut, closed_by-append, closed_by_closing, feeds_stand, stream_cause_is}
 use Rattle.ov_serve.proofs.Goings.{goes_on_entering, goes_on_handing, joined-append, writes_on}
+use Rattle.ov_streams.proofs.Entering.{enters_none}
+use Rattle.ov_streams.proofs.Suiting.{fed_own}
 
 -- one piece more
 pub bytes_of-more : (pieces : Pieces) (at : ℕ) (piece : List ℕ) → bytes_of (pieces ++ (at, piece) ∷ []) ≡ bytes_of pieces ++ piece
@@ -33,19 +35,15 @@ bytes_of-more pieces at piece =
     flat_map-append (λ (p : ℕ × List ℕ). p.1) pieces ((at, piece) ∷ []) ∙ ap (λ (bytes : List ℕ). bytes_of pieces ++ bytes) (append-nil piece)
 
 -- one moment more
-pub told_more : {C : Type 0} (tells : C → ℕ → C → Type 0) (a b c : C) (pieces : Pieces) (at : ℕ) (piece : List ℕ) → ToldBy tells a pieces b → tells b at c → ToldBy tells a (pieces ++ (at, piece) ∷ []) c
+pub told_more : {C : Type 0} (tells : C → ℕ → C → Type 0) (a b c : C) (pieces : Pieces) (at : ℕ) (piece : List ℕ) → TellsMoments tells a pieces b → tells b at c → TellsMoments tells a (pieces ++ (at, piece) ∷ []) c
 told_more tells a b c [] at piece same told = (c, subst (λ x. tells x at c) same told, refl)
 told_more tells a b c (p ∷ pieces) at piece (mid, first, others) told = (mid, first, told_more tells mid b c pieces at piece others told)
 
 -- the streams of a piece that an open session is fed
 piece_expands : (at n : ℕ) (s new : State) (before : Streams) (stream piece : List ℕ) (messages : List Message) (entries : List machine.Entry) → is_open s n ≡ true → before n ≡ stream
     → (asked (stream ++ piece)).messages ≡ (asked stream).messages ++ messages → Feeds at s n messages (asked (stream ++ piece)).damaged entries new
-    → Expands at s before (Feed n piece) entries new (fed before n piece)
+    → Expands at s before (Feed n piece) entries new (with_fed before n piece)
 piece_expands at n s new before stream piece messages entries there is more feeds = rw there (messages, rw is more, rw is feeds, refl)
-
--- the session's own stream
-fed_own : (before : Streams) (n : ℕ) (piece : List ℕ) → fed before n piece n ≡ before n ++ piece
-fed_own before n piece = rw (eq-eqb n n refl) refl
 
 -- nothing was given before the frames
 none_given_before : (n : ℕ) (given : ℕ → List (List ℕ)) (frames waits all : List (List ℕ)) → given n ≡ [] → all ≡ and_all_handed given n frames n ++ waits → all ≡ frames ++ waits
@@ -64,29 +62,29 @@ writes_of_all false frames waits all said said' is none (some, told, (others, be
     (some, told, (others ++ joined waits, sym (append_assoc some others (joined waits)) ∙ (ap (λ (bytes : List ℕ). bytes ++ joined waits) begins ∙ (sym (joined-append frames waits) ∙ ap joined (sym is)))))
 
 -- what a history from an opening says, by the frames that were handed out
-ends_as : {K D : Type 0} (n : ℕ) (cause : Cause) (old new : Running K D) (schema : Schema) (database : Database) (history entries : List machine.Entry) (given : ℕ → List (List ℕ)) (frames : List (List ℕ)) (said said' : List ℕ) → n ≡ old.state.next
-    → Follows (opening schema database) history given old → Follows (opening schema database) (history ++ entries) (and_all_handed given n frames) new → WritesOf (is_written cause) (joined frames) said said' → (is_written cause ≡ true → waiting_for n new.waiting ≡ [])
-    → IsTold cause (closed_by entries n) → EndsAs n cause schema database (history ++ entries) said said'
+ends_as : {K D : Type 0} (n : ℕ) (cause : Cause) (old new : CoreState K D) (schema : Schema) (database : Database) (history entries : List machine.Entry) (given : ℕ → List (List ℕ)) (frames : List (List ℕ)) (said said' : List ℕ) → n ≡ old.state.next
+    → Follows (opening schema database) history given old → Follows (opening schema database) (history ++ entries) (and_all_handed given n frames) new → WritesOf (is_written cause) (joined frames) said said' → (is_written cause ≡ true → waiting_for n new.outbox ≡ [])
+    → IsCauseIn cause (closed_by entries n) → EndsAs n cause schema database (history ++ entries) said said'
 ends_as n cause old new schema database history entries given frames said said' serial f f' written none_left told =
     let to_come = next_is_unopened schema database history (record { state = old.state; sent = f.sent }) n serial f.legal in
-    let none : given n ≡ [] = first_empty (given n) (waiting_for n old.waiting) (sym (f.issued n) ∙ to_come.silent) in
+    let none : given n ≡ [] = first_empty (given n) (waiting_for n old.outbox) (sym (f.issued n) ∙ to_come.silent) in
     record {
       reached = record { state = new.state; sent = f'.sent };
       legal = f'.legal;
-      written = writes_of_all (is_written cause) frames (waiting_for n new.waiting) (frames_to n f'.sent) said said' (none_given_before n given frames (waiting_for n new.waiting) (frames_to n f'.sent) none (f'.issued n)) none_left written;
-      told = subst (IsTold cause) (sym (closed_by-append history entries n to_come.no_cause)) told;
+      written = writes_of_all (is_written cause) frames (waiting_for n new.outbox) (frames_to n f'.sent) said said' (none_given_before n given frames (waiting_for n new.outbox) (frames_to n f'.sent) none (f'.issued n)) none_left written;
+      told = subst (IsCauseIn cause) (sym (closed_by-append history entries n to_come.no_cause)) told;
     }
 
-module _ {K D C : Type 0} (tells : C → ℕ → C → Type 0) (n : ℕ) (old : Running K D) (from : Around C) where
+module _ {K D C : Type 0} (tells : C → ℕ → C → Type 0) (n : ℕ) (old : CoreState K D) (from : IoState C) where
   -- all that waited was written, or a beginning of it
-  pub then_sent : (is_whole : Bool) (a b : Running K D) (to : Around C) (said : List ℕ) → Serving tells n true old from a to → Sends n is_whole a b to.written said → b.state ≡ a.state
-      → Serving tells n is_whole old from b (around to.read said to.clock)
+  pub then_sent : (is_whole : Bool) (a b : CoreState K D) (to : IoState C) (said : List ℕ) → ServedSoFar tells n true old from a to → Sends n is_whole a b to.written said → b.state ≡ a.state
+      → ServedSoFar tells n is_whole old from b (io_state to.read said to.clock)
   then_sent is_whole a b to said done sends same = record {
     entries = done.entries;
     frames = done.frames ++ sends.frames;
     pieces = done.pieces;
     streams = done.streams;
-    goes = goes_on_handing n old a b done.entries done.frames sends.frames done.goes sends.goes;
+    extends = goes_on_handing n old a b done.entries done.frames sends.frames done.extends sends.extends;
     read = done.read;
     written = subst (λ (bytes : List ℕ). WritesOf is_whole bytes from.written said) (sym (joined-append done.frames sends.frames)) (writes_on is_whole (joined done.frames) (joined sends.frames) from.written to.written said done.written sends.written);
     expands = subst (λ (s : State). ExpandsTimed old.state no_streams (events_of n done.pieces) done.entries s done.streams) (sym same) done.expands;
@@ -98,8 +96,8 @@ module _ {K D C : Type 0} (tells : C → ℕ → C → Type 0) (n : ℕ) (old : 
   }
 
   -- all that waited was written, and the cutter was given nothing more
-  pub then_sent_on : (a b : Running K D) (to : Around C) (said : List ℕ) (cutter : Cutting) → ServingOn tells n old from a to cutter → Sends n true a b to.written said → b.state ≡ a.state
-      → ServingOn tells n old from b (around to.read said to.clock) cutter
+  pub then_sent_on : (a b : CoreState K D) (to : IoState C) (said : List ℕ) (cutter : CutterState) → ServedAndFed tells n old from a to cutter → Sends n true a b to.written said → b.state ≡ a.state
+      → ServedAndFed tells n old from b (io_state to.read said to.clock) cutter
   unfolding then_sent
   then_sent_on a b to said cutter on sends same = record {
     done = then_sent true a b to said on.done sends same;
@@ -107,23 +105,23 @@ module _ {K D C : Type 0} (tells : C → ℕ → C → Type 0) (n : ℕ) (old : 
   }
 
   -- a piece was read and entered
-  pub then_fed : (a b : Running K D) (to : Around C) (at : ℕ) (piece heard : List ℕ) (clock : C) (cutter : Cutting) → is_open a.state n ≡ true → (done : Serving tells n true old from a to)
-      → length piece ≤ most_piece_bytes → heard ≡ to.read ++ piece → tells to.clock at clock → Brings at n (bytes_of done.pieces) piece a b cutter
-      → ServingOn tells n old from b (around heard to.written clock) cutter
+  pub then_fed : (a b : CoreState K D) (to : IoState C) (at : ℕ) (piece heard : List ℕ) (clock : C) (cutter : CutterState) → is_open a.state n ≡ true → (done : ServedSoFar tells n true old from a to)
+      → length piece ≤ most_piece_bytes → heard ≡ to.read ++ piece → tells to.clock at clock → EntersPiece at n (bytes_of done.pieces) piece a b cutter
+      → ServedAndFed tells n old from b (io_state heard to.written clock) cutter
   then_fed a b to at piece heard clock cutter there done short read told brings = record {
     done = record {
       entries = done.entries ++ brings.entries;
       frames = done.frames;
       pieces = done.pieces ++ (at, piece) ∷ [];
-      streams = fed done.streams n piece;
-      goes = goes_on_entering n old a b done.entries brings.entries done.frames done.goes brings.enters;
+      streams = with_fed done.streams n piece;
+      extends = goes_on_entering n old a b done.entries brings.entries done.frames done.extends brings.enters;
       read = read ∙ (ap (λ (bytes : List ℕ). bytes ++ piece) done.read ∙ (append_assoc from.read (bytes_of done.pieces) piece ∙ ap (λ (bytes : List ℕ). from.read ++ bytes) (sym (bytes_of-more done.pieces at piece))));
       written = done.written;
       expands =
-          subst (λ (l : List (ℕ × StreamEvent)). ExpandsTimed old.state no_streams l (done.entries ++ brings.entries) b.state (fed done.streams n piece))
+          subst (λ (l : List (ℕ × StreamEvent)). ExpandsTimed old.state no_streams l (done.entries ++ brings.entries) b.state (with_fed done.streams n piece))
           (ap (λ (l : List (ℕ × StreamEvent)). (0, Opens) ∷ l) (sym (map-append (λ (p : ℕ × List ℕ). (p.0, Feed n p.1)) done.pieces ((at, piece) ∷ []))))
-          (one_after_another old.state no_streams (events_of n done.pieces) done.entries a.state done.streams ((at, Feed n piece) ∷ []) brings.entries b.state (fed done.streams n piece) done.expands
-          (one_event at a.state done.streams (Feed n piece) brings.entries b.state (fed done.streams n piece)
+          (one_after_another old.state no_streams (events_of n done.pieces) done.entries a.state done.streams ((at, Feed n piece) ∷ []) brings.entries b.state (with_fed done.streams n piece) done.expands
+          (one_event at a.state done.streams (Feed n piece) brings.entries b.state (with_fed done.streams n piece)
           (piece_expands at n a.state b.state done.streams (bytes_of done.pieces) piece brings.messages brings.entries there done.stream brings.more brings.feeds)));
       stream = fed_own done.streams n piece ∙ (ap (λ (bytes : List ℕ). bytes ++ piece) done.stream ∙ sym (bytes_of-more done.pieces at piece));
       sizes = All-push (λ (p : ℕ × List ℕ). length p.1 ≤ most_piece_bytes) done.pieces (at, piece) done.sizes short;
@@ -135,14 +133,14 @@ module _ {K D C : Type 0} (tells : C → ℕ → C → Type 0) (n : ℕ) (old : 
   }
 
   -- the session is closed, by a last entry or without one
-  pub then_served : (a b : Running K D) (to : Around C) (cause : Cause) (last : List machine.Entry) → (done : Serving tells n (is_written cause) old from a to) → Enters a last b → ClosesFor n cause a.state last b.state → is_open b.state n ≡ false
-      → (is_written cause ≡ true → waiting_for n b.waiting ≡ [])
-      → ((before : State) (history : List machine.Entry) (given : ℕ → List (List ℕ)) → Follows before history given old → IsTold cause (closed_by (done.entries ++ last) n)) → Served tells n old from cause b to
+  pub then_served : (a b : CoreState K D) (to : IoState C) (cause : Cause) (last : List machine.Entry) → (done : ServedSoFar tells n (is_written cause) old from a to) → Extends a last b → ClosesFor n cause a.state last b.state → is_open b.state n ≡ false
+      → (is_written cause ≡ true → waiting_for n b.outbox ≡ [])
+      → ((before : State) (history : List machine.Entry) (given : ℕ → List (List ℕ)) → Follows before history given old → IsCauseIn cause (closed_by (done.entries ++ last) n)) → Served tells n old from cause b to
   then_served a b to cause last done enters closes shut none_left told = record {
     entries = done.entries ++ last;
     frames = done.frames;
     pieces = done.pieces;
-    goes = goes_on_entering n old a b done.entries last done.frames done.goes enters;
+    extends = goes_on_entering n old a b done.entries last done.frames done.extends enters;
     read = done.read;
     sizes = done.sizes;
     moments = done.moments;
@@ -158,16 +156,12 @@ module _ {K D C : Type 0} (tells : C → ℕ → C → Type 0) (n : ℕ) (old : 
     written = done.written;
     none_left = none_left;
     ends = λ schema database history given f.
-        ends_as n cause old b schema database history (done.entries ++ last) given done.frames from.written to.written done.serial f (goes_on_entering n old a b done.entries last done.frames done.goes enters (opening schema database) history given f) done.written none_left
+        ends_as n cause old b schema database history (done.entries ++ last) given done.frames from.written to.written done.serial f (goes_on_entering n old a b done.entries last done.frames done.extends enters (opening schema database) history given f) done.written none_left
         (told (opening schema database) history given f);
   }
 
--- no entry was entered
-enters_nothing : {K D : Type 0} (a : Running K D) → Enters a [] a
-enters_nothing a before history given f = subst (λ (h : List machine.Entry). Follows before h given a) (sym (append-nil history)) f
-
 -- the entry of a closing at the last moment
-closes_after : {K D : Type 0} (n : ℕ) (cause : machine.Cause) (a b : Running K D) → Closes a.state.moment n cause a b → ClosesAfter n cause a.state (closing a.state.moment n cause ∷ []) b.state
+closes_after : {K D : Type 0} (n : ℕ) (cause : machine.Cause) (a b : CoreState K D) → Closes a.state.moment n cause a b → ClosesAfter n cause a.state (closing a.state.moment n cause ∷ []) b.state
 closes_after n cause a b k = (
   closing a.state.moment n cause,
   record { state = b.state; sent = k.moves.sent },
@@ -177,10 +171,10 @@ closes_after n cause a b k = (
 )
 
 -- a closing leaves as much waiting as waited before
-waits_as_before : {K D : Type 0} (at n : ℕ) (cause : machine.Cause) (a b : Running K D) → Closes at n cause a b → waiting_for n b.waiting ≡ waiting_for n a.waiting
+waits_as_before : {K D : Type 0} (at n : ℕ) (cause : machine.Cause) (a b : CoreState K D) → Closes at n cause a b → waiting_for n b.outbox ≡ waiting_for n a.outbox
 waits_as_before at n cause a b k =
     let none : k.moves.sent ≡ [] = close_sends a.state (closing at n cause) (record { state = b.state; sent = k.moves.sent }) k.moves.stepped n cause refl in
-    k.moves.waits n ∙ (ap (λ (sent : List Sent). waiting_for n a.waiting ++ frames_to n sent) none ∙ append-nil (waiting_for n a.waiting))
+    k.moves.waits n ∙ (ap (λ (sent : List Sent). waiting_for n a.outbox ++ frames_to n sent) none ∙ append-nil (waiting_for n a.outbox))
 
 -- the closing of an open session is its cause
 closed_at_last : (at n : ℕ) (cause : machine.Cause) (h : List machine.Entry) → closed_by h n ≡ None → closed_by (h ++ closing at n cause ∷ []) n ≡ Some cause
@@ -191,35 +185,35 @@ closed_within : (n : ℕ) (s : State) (h : List machine.Entry) → StandsAfter n
 closed_within n s h stands gone = let shut = is_shut n s h stands gone in (shut, ap (λ (l : List machine.Entry). closed_by l n) (append-nil h) ∙ shut.cause)
 
 -- where a write failed, the stream may have closed the session
-told_within : (n : ℕ) (h : List machine.Entry) (what : machine.Event) → closed_by h n ≡ Some (stream_cause what) → IsTold WriteFault (closed_by h n)
+told_within : (n : ℕ) (h : List machine.Entry) (what : machine.Event) → closed_by h n ≡ Some (stream_cause what) → IsCauseIn WriteFault (closed_by h n)
 told_within n h what is = inr (elim (stream_cause_is what) [
   | inl e ↦ inl (is ∙ ap (λ c. Some c) e)
   | inr e ↦ inr (is ∙ ap (λ c. Some c) e)
 ])
 
 -- what the code finds is the cause of the history
-abbrev pub Finds : {K D : Type 0} → Cause → Running K D → Type 0
+abbrev pub Finds : {K D : Type 0} → Cause → CoreState K D → Type 0
 Finds cause core = (front : List machine.Entry) (last : machine.Entry) → map entry_view core.kept ≡ front ++ last ∷ [] → cause_view cause ≡ stream_cause last.event
 
 -- the cause that was found is that of the history
-found_cause : {K D : Type 0} (n : ℕ) (old a : Running K D) (cause : Cause) (entries : List machine.Entry) (frames : List (List ℕ)) → Goes n old entries frames a → StandsAfter n a.state entries → is_open a.state n ≡ false → Finds cause a
+found_cause : {K D : Type 0} (n : ℕ) (old a : CoreState K D) (cause : Cause) (entries : List machine.Entry) (frames : List (List ℕ)) → ExtendsHanding n old entries frames a → StandsAfter n a.state entries → is_open a.state n ≡ false → Finds cause a
     → (before : State) (history : List machine.Entry) (given : ℕ → List (List ℕ)) → Follows before history given old → closed_by (entries ++ []) n ≡ Some (cause_view cause)
-found_cause n old a cause entries frames goes stands gone finds before history given f =
+found_cause n old a cause entries frames extends stands gone finds before history given f =
     let within = closed_within n a.state entries stands gone in
     let shut = within.0 in
     let kept : map entry_view a.kept ≡ (history ++ shut.front) ++ shut.last ∷ [] =
-    (goes before history given f).kept ∙ (ap (λ (l : List machine.Entry). history ++ l) shut.parts ∙ sym (append_assoc history shut.front (shut.last ∷ []))) in
+    (extends before history given f).kept ∙ (ap (λ (l : List machine.Entry). history ++ l) shut.parts ∙ sym (append_assoc history shut.front (shut.last ∷ []))) in
     within.1 ∙ ap (λ c. Some c) (sym (finds (history ++ shut.front) shut.last kept))
 
-module _ {K D C : Type 0} (tells : C → ℕ → C → Type 0) (n : ℕ) (old : Running K D) (from : Around C) (a b : Running K D) (to : Around C) where
+module _ {K D C : Type 0} (tells : C → ℕ → C → Type 0) (n : ℕ) (old : CoreState K D) (from : IoState C) (a b : CoreState K D) (to : IoState C) where
   -- the open session was closed because of its reader, which gave nothing more
   pub by_reader : (cause : Cause) (closed : Bool) (heard : List ℕ) → is_written cause ≡ true → ((s t : State) (last : List machine.Entry) → ClosesAfter n (cause_view cause) s last t → ClosesFor n cause s last t)
-      → ((o : Option machine.Cause) → o ≡ Some (cause_view cause) → IsTold cause o) → is_open a.state n ≡ true → Serving tells n true old from a to → waiting_for n a.waiting ≡ []
-      → heard ≡ to.read → MatchBool closed (Closes a.state.moment n (cause_view cause) a b) ((b ≡ a) × (is_open a.state n ≡ false)) → Served tells n old from cause b (around heard to.written to.clock)
+      → ((o : Option machine.Cause) → o ≡ Some (cause_view cause) → IsCauseIn cause o) → is_open a.state n ≡ true → ServedSoFar tells n true old from a to → waiting_for n a.outbox ≡ []
+      → heard ≡ to.read → MatchBool closed (Closes a.state.moment n (cause_view cause) a b) ((b ≡ a) × (is_open a.state n ≡ false)) → Served tells n old from cause b (io_state heard to.written to.clock)
   by_reader cause true heard w for told there done empty same k =
       let shut : machine.Entry = closing a.state.moment n (cause_view cause) in
-      let d : Serving tells n (is_written cause) old from a to = subst (λ (v : Bool). Serving tells n v old from a to) (sym w) done in
-      subst (λ (bytes : List ℕ). Served tells n old from cause b (around bytes to.written to.clock)) (sym same)
+      let d : ServedSoFar tells n (is_written cause) old from a to = subst (λ (v : Bool). ServedSoFar tells n v old from a to) (sym w) done in
+      subst (λ (bytes : List ℕ). Served tells n old from cause b (io_state bytes to.written to.clock)) (sym same)
       (then_served tells n old from a b to cause (shut ∷ []) d
       k.moves.follows (for a.state b.state (shut ∷ []) (closes_after n (cause_view cause) a b k)) k.shut
       (λ _. waits_as_before a.state.moment n (cause_view cause) a b k ∙ empty)
@@ -227,7 +221,7 @@ module _ {K D C : Type 0} (tells : C → ℕ → C → Type 0) (n : ℕ) (old : 
   by_reader cause false heard w for told there done empty same k = absurd (false≢true (sym k.1 ∙ there))
 
   -- the writer failed, and the session was closed, if it was still open
-  pub by_writer : (closed : Bool) → Serving tells n false old from a to → MatchBool closed (Closes a.state.moment n machine.WriteFault a b) ((b ≡ a) × (is_open a.state n ≡ false)) → Served tells n old from WriteFault b to
+  pub by_writer : (closed : Bool) → ServedSoFar tells n false old from a to → MatchBool closed (Closes a.state.moment n machine.WriteFault a b) ((b ≡ a) × (is_open a.state n ≡ false)) → Served tells n old from WriteFault b to
   by_writer true done k =
       let shut : machine.Entry = closing a.state.moment n machine.WriteFault in
       let there : is_open a.state n ≡ true = close_of_open a.state shut (record { state = b.state; sent = k.moves.sent }) k.moves.stepped n machine.WriteFault refl in
@@ -235,21 +229,21 @@ module _ {K D C : Type 0} (tells : C → ℕ → C → Type 0) (n : ℕ) (old : 
       (λ before history given f. inl (closed_at_last a.state.moment n machine.WriteFault done.entries (not_closed n a.state done.entries done.stands there)))
   by_writer false done k =
       let within = closed_within n a.state done.entries done.stands k.1 in
-      subst (λ (v : Running K D). Served tells n old from WriteFault v to) (sym k.0)
-      (then_served tells n old from a a to WriteFault [] done (enters_nothing a) (inl (k.1, refl, refl)) k.1 (λ whole. absurd (false≢true whole))
+      subst (λ (v : CoreState K D). Served tells n old from WriteFault v to) (sym k.0)
+      (then_served tells n old from a a to WriteFault [] done (enters_none a) (inl (k.1, refl, refl)) k.1 (λ whole. absurd (false≢true whole))
       (λ before history given f. told_within n (done.entries ++ []) within.0.last.event within.1))
 
   -- the session was closed by what was read of it
-  pub by_stream : (cause : Cause) → (cause ≡ Damaged) ⊎ (cause ≡ Memory) → Finds cause a → is_open a.state n ≡ false → Serving tells n true old from a to → waiting_for n a.waiting ≡ [] → Served tells n old from cause a to
+  pub by_stream : (cause : Cause) → (cause ≡ Damaged) ⊎ (cause ≡ Memory) → Finds cause a → is_open a.state n ≡ false → ServedSoFar tells n true old from a to → waiting_for n a.outbox ≡ [] → Served tells n old from cause a to
   by_stream cause (inl e) finds gone done empty =
       subst (λ (v : Cause). Served tells n old from v a to) (sym e)
-      (then_served tells n old from a a to Damaged [] done (enters_nothing a) (gone, refl, refl) gone (λ _. empty) (λ before history given f. found before history given f ∙ ap (λ (v : Cause). Some (cause_view v)) e))
+      (then_served tells n old from a a to Damaged [] done (enters_none a) (gone, refl, refl) gone (λ _. empty) (λ before history given f. found before history given f ∙ ap (λ (v : Cause). Some (cause_view v)) e))
     where
       found : (before : State) (history : List machine.Entry) (given : ℕ → List (List ℕ)) → Follows before history given old → closed_by (done.entries ++ []) n ≡ Some (cause_view cause)
-      found before history given f = found_cause n old a cause done.entries done.frames done.goes done.stands gone finds before history given f
+      found before history given f = found_cause n old a cause done.entries done.frames done.extends done.stands gone finds before history given f
   by_stream cause (inr e) finds gone done empty =
       subst (λ (v : Cause). Served tells n old from v a to) (sym e)
-      (then_served tells n old from a a to Memory [] done (enters_nothing a) (gone, refl, refl) gone (λ _. empty) (λ before history given f. found before history given f ∙ ap (λ (v : Cause). Some (cause_view v)) e))
+      (then_served tells n old from a a to Memory [] done (enters_none a) (gone, refl, refl) gone (λ _. empty) (λ before history given f. found before history given f ∙ ap (λ (v : Cause). Some (cause_view v)) e))
     where
       found : (before : State) (history : List machine.Entry) (given : ℕ → List (List ℕ)) → Follows before history given old → closed_by (done.entries ++ []) n ≡ Some (cause_view cause)
-      found before history given f = found_cause n old a cause done.entries done.frames done.goes done.stands gone finds before history given f
+      found before history given f = found_cause n old a cause done.entries done.frames done.extends done.stands gone finds before history given f

@@ -3,64 +3,61 @@ use Rattle.std.proofs.Common.{◌≡◌, ℕ, ◌≤◌, List, [], ◌∷◌, le
 use Rattle.std.specs.Prelude.{◌||◌}
 use Rattle.std.proofs.lemmas.List.Elements.{All-nil}
 use Rattle.std.proofs.lemmas.Bool.{eq-eqb}
-use Rattle.ov_specs.specs.Cut.{cut}
-use Rattle.ov_specs.specs.Message.{asked}
-use Rattle.ov_specs.specs.Machine as machine
-use Rattle.ov_specs.specs.Machine.{State, is_open, listed}
-use Rattle.ov_specs.specs.Uuid.{Uuid}
-use Rattle.ov_specs.specs.History.{closes, or_else}
-use Rattle.ov_specs.specs.Streams as streams
-use Rattle.ov_specs.specs.Streams.{Opens, no_streams, Expands, ExpandsTimed}
-use Rattle.ov_specs.proofs.Expanding.{one_event}
-use Rattle.ov_specs.proofs.Turns.{turn_open}
-use Rattle.ov_cut.specs.Cutting.{Cutting, StandsFor}
+use Rattle.ov_specs.specs.wire.Cut.{cut}
+use Rattle.ov_specs.specs.wire.Message.{asked}
+use Rattle.ov_specs.specs.machine.Machine as machine
+use Rattle.ov_specs.specs.machine.Machine.{State, is_open, listed}
+use Rattle.ov_specs.specs.values.Uuid.{Uuid}
+use Rattle.ov_specs.specs.machine.History.{closing_cause}
+use Rattle.std.specs.Option.{option_or}
+use Rattle.ov_specs.specs.machine.Streams as streams
+use Rattle.ov_specs.specs.machine.Streams.{Opens, no_streams, Expands, ExpandsTimed}
+use Rattle.ov_specs.proofs.laws.Expanding.{one_event}
+use Rattle.ov_specs.proofs.laws.Turns.{turn_open}
+use Rattle.ov_cut.specs.CutterState.{CutterState, StandsFor}
 use Rattle.ov_core.specs.declared.event.Session.{Session}
 use Rattle.ov_core.specs.declared.event.Stepped.TheVariants as answer
-use Rattle.ov_core.specs.Following.{Running}
+use Rattle.ov_core.specs.Following.{CoreState}
 use Rattle.ov_core.specs.Stepping.{IsEntered}
 use Rattle.ov_streams.specs.Feeding.{IsFed}
-use Rattle.ov_serve.specs.Serving.{Around, most_piece_bytes}
-use Rattle.ov_serve.specs.Going.{ServingOn}
+use Rattle.ov_serve.specs.Serving.{IoState, most_piece_bytes}
+use Rattle.ov_serve.specs.Progress.{ServedAndFed}
 use Rattle.ov_serve.proofs.Closings.{stands_open}
 use Rattle.ov_serve.proofs.Goings.{goes_by_entries}
+use Rattle.ov_specs.proofs.laws.Truths.{or_truth}
 
 nothing_damaged : (asked []).damaged ≡ false
 unfolding asked cut
 nothing_damaged = refl
 
 -- a cutter of which nothing was asked yet
-fed_nothing : (cutter : Cutting) → StandsFor [] [] cutter → IsFed [] cutter
+fed_nothing : (cutter : CutterState) → StandsFor [] [] cutter → IsFed [] cutter
 fed_nothing cutter stands = record {
   given = [];
   stands = stands;
   whole = nothing_damaged;
 }
 
--- the second of two
-or_true : (b : Bool) → (b || true) ≡ true
-or_true true = refl
-or_true false = refl
-
 -- an entry that closes nothing
-none_behind : (o : Option machine.Cause) → o ≡ None → or_else o None ≡ None
-none_behind o is = ap (λ v. or_else v None) is
+none_behind : (o : Option machine.Cause) → o ≡ None → option_or o None ≡ None
+none_behind o is = ap (λ v. option_or v None) is
 
 -- a session that was opened
-pub serving_opened : {K D C : Type 0} (draws : D → Uuid → D → Type 0) (tells : C → ℕ → C → Type 0) (session : Session) (old new : Running K D) (from : Around C) (cutter : Cutting) → StandsFor [] [] cutter
-    → IsEntered draws (max 0 old.state.moment) machine.Open old (answer.Opened session) new → ServingOn tells session.serial old from new from cutter
+pub serving_opened : {K D C : Type 0} (draws : D → Uuid → D → Type 0) (tells : C → ℕ → C → Type 0) (session : Session) (old new : CoreState K D) (from : IoState C) (cutter : CutterState) → StandsFor [] [] cutter
+    → IsEntered draws (max 0 old.state.moment) machine.Open old (answer.Opened session) new → ServedAndFed tells session.serial old from new from cutter
 serving_opened {K} {D} {C} draws tells session old new from cutter stands entered =
     let t : machine.Stepped = record { state = new.state; sent = entered.moves.sent } in
-    let enters : streams.Enters 0 old.state machine.Open entered.entry t = record { event = entered.tells.0; moment = entered.moment; step = entered.moves.stepped } in
+    let enters : streams.IsEntryAt 0 old.state machine.Open entered.entry t = record { event = entered.tells.0; moment = entered.moment; step = entered.moves.stepped } in
     let expands : Expands 0 old.state no_streams Opens (entered.entry ∷ []) new.state no_streams = (entered.entry, t, refl, enters, refl, refl) in
     let turn = turn_open session.serial old.state entered.entry t entered.moves.stepped entered.tells.0 in
-    let there : is_open new.state session.serial ≡ true = turn.open_is ∙ rw (eq-eqb old.state.next session.serial (sym entered.tells.1)) (or_true (is_open old.state session.serial)) in
+    let there : is_open new.state session.serial ≡ true = turn.open_is ∙ rw (eq-eqb old.state.next session.serial (sym entered.tells.1)) (or_truth (is_open old.state session.serial)) in
     record {
       done = record {
         entries = entered.entry ∷ [];
         frames = [];
         pieces = [];
         streams = no_streams;
-        goes = goes_by_entries session.serial old new (entered.entry ∷ []) entered.moves.follows;
+        extends = goes_by_entries session.serial old new (entered.entry ∷ []) entered.moves.follows;
         read = sym (append-nil from.read);
         written = sym (append-nil from.written);
         expands = one_event 0 old.state no_streams Opens (entered.entry ∷ []) new.state no_streams expands;
@@ -68,7 +65,7 @@ serving_opened {K} {D} {C} draws tells session old new from cutter stands entere
         sizes = All-nil (λ (p : ℕ × List ℕ). length p.1 ≤ most_piece_bytes);
         moments = refl;
         serial = entered.tells.1;
-        stands = stands_open session.serial new.state (entered.entry ∷ []) there (none_behind (closes session.serial entered.entry.event (listed 1 entered.entry.choice.outcomes)) turn.cause_is);
+        stands = stands_open session.serial new.state (entered.entry ∷ []) there (none_behind (closing_cause session.serial entered.entry.event (listed 1 entered.entry.choice.outcomes)) turn.cause_is);
       };
       fed = λ _. fed_nothing cutter stands;
     }

@@ -5,106 +5,97 @@ use Rattle.std.proofs.lemmas.List.{map-append}
 use Rattle.std.proofs.lemmas.List.Elements.{filter-append}
 use Rattle.std.proofs.lemmas.Bool.{cases_eq, and_parts, ne_eqb, false≢true}
 use Rattle.serde_json.specs.Data.{Data}
-use Rattle.ov_specs.specs.Frame.{frame}
-use Rattle.ov_specs.specs.Message.{Message}
-use Rattle.ov_specs.specs.Machine.{State, Sent, Entry, Event, Open, Take, Close, Tick, Cause, Outcome, NoMemory, Kept, Exhausted, Failed, Listed, listed, Stepped, step, happens, takes, attempted, closed, when, is_open, is_quiet, to_session, none_listed, opening, Work, Answers, Transact, work_of, works, transacts, changes, commits, answers, results_of, suits_draws}
-use Rattle.ov_specs.specs.Database.{Database, is_database}
-use Rattle.ov_specs.specs.SchemaTypes.{Schema}
-use Rattle.ov_specs.specs.Transaction.{draws_wanted, Transacted, transaction, exhausted, failed}
-use Rattle.ov_specs.specs.Uuid.{Uuid}
-use Rattle.ov_specs.specs.History.{run, then_sends, frames_to, closes, closed_by, or_else}
-use Rattle.ov_specs.proofs.Turns.{turn_open, turn_tick, turn_close, turn_close_other, turn_take, turn_take_other}
+use Rattle.ov_specs.specs.wire.Frame.{frame}
+use Rattle.ov_specs.specs.wire.Message.{Message}
+use Rattle.ov_specs.specs.machine.Machine.{State, Sent, Entry, Event, Open, Take, Close, Tick, Cause, Outcome, NoMemory, Committed, Exhausted, Failed, Listed, listed, Stepped, step, happens, takes, attempted, closed, when, is_open, is_without_choice, to_session, none_listed, opening, Work, Answers, Transact, work_of, works, transacts, commits_unless_sealed, commits, sends_results, results_of, is_draw_count}
+use Rattle.ov_specs.specs.rows.Database.{Database, same_database}
+use Rattle.ov_specs.specs.schema.SchemaTypes.{Schema}
+use Rattle.ov_specs.specs.operations.Transaction.{draws_wanted, Transacted, transaction, exhausted_results, failed_results}
+use Rattle.ov_specs.specs.values.Uuid.{Uuid}
+use Rattle.ov_specs.specs.machine.History.{run, then_sends, frames_to, closing_cause, closed_by}
+use Rattle.std.specs.Option.{option_or}
+use Rattle.ov_specs.proofs.laws.Turns.{turn_open, turn_tick, turn_close, turn_close_other, turn_take, turn_take_other, stepped}
 use Rattle.ov_core.proofs.Answered.{frames_to-to_session}
+use Rattle.ov_core.proofs.Steps.{frames_to-append}
+use Rattle.std.proofs.lemmas.Option.{same_Some}
 
 -- ---- what a step sends
-
--- what is sent in two parts
-frames_to-append : (n : ℕ) (xs ys : List Sent) → frames_to n (xs ++ ys) ≡ frames_to n xs ++ frames_to n ys
-frames_to-append n xs ys = ap (map (λ (t : Sent). frame t.tree)) (filter-append (λ (t : Sent). eqb t.session n) xs ys) ∙ map-append _ _ _
 
 -- a choice that suits
 suits : {A : Type 0} (b : Bool) (o : Option A) (x : A) → when b o ≡ Some x → (b ≡ true) × (o ≡ Some x)
 suits true o x h = (refl, h)
 suits false o x h = cc
 
--- what a step makes is one
-the_same : {A : Type 0} (x y : A) → Some x ≡ Some y → x ≡ y
-the_same x y h = cc
-
 -- the state at the moment of the entry
 abbrev now : State → Entry → State
 now s e = record s { moment = e.choice.moment }
 
--- a step is what the event makes happen
-happened : (s : State) (e : Entry) (t : Stepped) (what : Event) → e.event ≡ what → step s e ≡ Some t → happens (now s e) e.choice what ≡ Some t
-happened s e t what is h = (suits (leb s.moment e.choice.moment) (happens (now s e) e.choice what) t (sym (ap (λ v. when (leb s.moment e.choice.moment) (happens (now s e) e.choice v)) is) ∙ h)).1
-
 -- what is sent to one session is nothing to another
 sends_aside : (x t : Stepped) (m : ℕ) (trees : List Data) → x.sent ≡ to_session m trees → Some x ≡ Some t → (n : ℕ) → n ≢ m → frames_to n t.sent ≡ []
 sends_aside x t m trees sent h n other =
-    ap (λ (v : Stepped). frames_to n v.sent) (sym (the_same x t h)) ∙ (ap (frames_to n) sent ∙ (frames_to-to_session m n trees ∙ rw (ne_eqb n m other) refl))
+    ap (λ (v : Stepped). frames_to n v.sent) (sym (same_Some x t h)) ∙ (ap (frames_to n) sent ∙ (frames_to-to_session m n trees ∙ rw (ne_eqb n m other) refl))
 
 -- an attempt sends nothing to another session
 attempt_aside : (s : State) (m : ℕ) (trees : List Data) (o : Option Outcome) (t : Stepped) → attempted s m trees o ≡ Some t → (n : ℕ) → n ≢ m → frames_to n t.sent ≡ []
 attempt_aside s m trees None t h n other = sends_aside (record { state = s; sent = to_session m trees }) t m trees refl h n other
-attempt_aside s m trees (Some NoMemory) t h n other = ap (λ (v : Stepped). frames_to n v.sent) (sym (the_same (closed s m) t h))
-attempt_aside s m trees (Some Kept) t h n other = cc
+attempt_aside s m trees (Some NoMemory) t h n other = ap (λ (v : Stepped). frames_to n v.sent) (sym (same_Some (closed s m) t h))
+attempt_aside s m trees (Some Committed) t h n other = cc
 attempt_aside s m trees (Some Exhausted) t h n other = cc
 attempt_aside s m trees (Some Failed) t h n other = cc
 
 -- nor does a commit
 commit_aside : (s : State) (m : ℕ) (id : Data) (r : Transacted) (o : Option Outcome) (t : Stepped) → commits s m id r o ≡ Some t → (n : ℕ) → n ≢ m → frames_to n t.sent ≡ []
 commit_aside s m id r None t h n other = cc
-commit_aside s m id r (Some Kept) t h n other = sends_aside (answers (record s { database = r.database }) m id r.results) t m (results_of id r.results) refl h n other
-commit_aside s m id r (Some Exhausted) t h n other = sends_aside (answers s m id (exhausted r.results)) t m (results_of id (exhausted r.results)) refl h n other
-commit_aside s m id r (Some Failed) t h n other = sends_aside (answers (record s { sealed = Some r.database }) m id (failed r.results)) t m (results_of id (failed r.results)) refl h n other
-commit_aside s m id r (Some NoMemory) t h n other = ap (λ (v : Stepped). frames_to n v.sent) (sym (the_same (closed s m) t h))
+commit_aside s m id r (Some Committed) t h n other = sends_aside (sends_results (record s { database = r.database }) m id r.results) t m (results_of id r.results) refl h n other
+commit_aside s m id r (Some Exhausted) t h n other = sends_aside (sends_results s m id (exhausted_results r.results)) t m (results_of id (exhausted_results r.results)) refl h n other
+commit_aside s m id r (Some Failed) t h n other = sends_aside (sends_results (record s { sealed = Some r.database }) m id (failed_results r.results)) t m (results_of id (failed_results r.results)) refl h n other
+commit_aside s m id r (Some NoMemory) t h n other = ap (λ (v : Stepped). frames_to n v.sent) (sym (same_Some (closed s m) t h))
 
 -- nor does a transaction that would change the database
-change_aside : (s : State) (m : ℕ) (id : Data) (r : Transacted) (sealed : Option Database) (o : Option Outcome) (t : Stepped) → changes s m id r sealed o ≡ Some t → (n : ℕ) → n ≢ m → frames_to n t.sent ≡ []
+change_aside : (s : State) (m : ℕ) (id : Data) (r : Transacted) (sealed : Option Database) (o : Option Outcome) (t : Stepped) → commits_unless_sealed s m id r sealed o ≡ Some t → (n : ℕ) → n ≢ m → frames_to n t.sent ≡ []
 change_aside s m id r None o t h n other = commit_aside s m id r o t h n other
-change_aside s m id r (Some d) o t h n other = attempt_aside s m (results_of id (failed r.results)) o t h n other
+change_aside s m id r (Some d) o t h n other = attempt_aside s m (results_of id (failed_results r.results)) o t h n other
 
 -- nor does any transaction
-transact_aside : (s : State) (m : ℕ) (id : Data) (r : Transacted) (o : Option Outcome) (t : Stepped) (b : Bool) → cond b (attempted s m (results_of id r.results) o) (changes s m id r s.sealed o) ≡ Some t → (n : ℕ) → n ≢ m → frames_to n t.sent ≡ []
+transact_aside : (s : State) (m : ℕ) (id : Data) (r : Transacted) (o : Option Outcome) (t : Stepped) (b : Bool) → cond b (attempted s m (results_of id r.results) o) (commits_unless_sealed s m id r s.sealed o) ≡ Some t → (n : ℕ) → n ≢ m → frames_to n t.sent ≡ []
 transact_aside s m id r o t true h n other = attempt_aside s m (results_of id r.results) o t h n other
 transact_aside s m id r o t false h n other = change_aside s m id r s.sealed o t h n other
 
 -- nor does any work
 work_aside : (s : State) (m : ℕ) (draws : List Uuid) (o : Option Outcome) (w : Work) (t : Stepped) → works s m draws o w ≡ Some t → (n : ℕ) → n ≢ m → frames_to n t.sent ≡ []
-work_aside s m draws o (Answers trees) t h n other = attempt_aside s m trees o t (suits (suits_draws o (length draws) 0) (attempted s m trees o) t h).1 n other
+work_aside s m draws o (Answers trees) t h n other = attempt_aside s m trees o t (suits (is_draw_count o (length draws) 0) (attempted s m trees o) t h).1 n other
 work_aside s m draws o (Transact id operations) t h n other =
     let r : Transacted = transaction s.schema s.database draws operations in
-    transact_aside s m id r o t (is_database s.database r.database) (suits (suits_draws o (length draws) (draws_wanted operations)) (transacts s m id r o) t h).1 n other
+    transact_aside s m id r o t (same_database s.database r.database) (suits (is_draw_count o (length draws) (draws_wanted operations)) (transacts s m id r o) t h).1 n other
 
 module _ (s : State) (e : Entry) (t : Stepped) (h : step s e ≡ Some t) where
   -- an opening sends nothing
   open_sends : e.event ≡ Open → t.sent ≡ []
   open_sends is =
       let x : Stepped = record { state = record (now s e) { sessions = s.sessions ++ s.next ∷ []; next = s.next + 1 }; sent = [] } in
-      ap (λ (v : Stepped). v.sent) (sym (the_same x t (suits (is_quiet e.choice) (Some x) t (happened s e t Open is h)).1))
+      ap (λ (v : Stepped). v.sent) (sym (same_Some x t (suits (is_without_choice e.choice) (Some x) t (stepped s e t Open is h)).1))
 
   -- time sends nothing
   tick_sends : e.event ≡ Tick → t.sent ≡ []
   tick_sends is =
       let x : Stepped = record { state = now s e; sent = [] } in
-      ap (λ (v : Stepped). v.sent) (sym (the_same x t (suits (is_quiet e.choice) (Some x) t (happened s e t Tick is h)).1))
+      ap (λ (v : Stepped). v.sent) (sym (same_Some x t (suits (is_without_choice e.choice) (Some x) t (stepped s e t Tick is h)).1))
 
   -- what a closing makes, of an open session
-  closing_makes : (m : ℕ) (cause : Cause) → e.event ≡ Close m cause → ((is_quiet e.choice && is_open s m) ≡ true) × (Some (closed (now s e) m) ≡ Some t)
-  closing_makes m cause is = suits (is_quiet e.choice && is_open s m) (Some (closed (now s e) m)) t (happened s e t (Close m cause) is h)
+  closing_makes : (m : ℕ) (cause : Cause) → e.event ≡ Close m cause → ((is_without_choice e.choice && is_open s m) ≡ true) × (Some (closed (now s e) m) ≡ Some t)
+  closing_makes m cause is = suits (is_without_choice e.choice && is_open s m) (Some (closed (now s e) m)) t (stepped s e t (Close m cause) is h)
 
   -- a closing sends nothing
   pub close_sends : (m : ℕ) (cause : Cause) → e.event ≡ Close m cause → t.sent ≡ []
-  close_sends m cause is = ap (λ (v : Stepped). v.sent) (sym (the_same (closed (now s e) m) t (closing_makes m cause is).1))
+  close_sends m cause is = ap (λ (v : Stepped). v.sent) (sym (same_Some (closed (now s e) m) t (closing_makes m cause is).1))
 
   -- an open session is closed
   pub close_of_open : (m : ℕ) (cause : Cause) → e.event ≡ Close m cause → is_open s m ≡ true
-  close_of_open m cause is = (and_parts (is_quiet e.choice) (is_open s m) (closing_makes m cause is).0).1
+  close_of_open m cause is = (and_parts (is_without_choice e.choice) (is_open s m) (closing_makes m cause is).0).1
 
   -- what taking a message makes, of an open session
   taking_makes : (m : ℕ) (message : Message) → e.event ≡ Take m message → (is_open s m ≡ true) × (takes (now s e) e.choice m message (listed 1 e.choice.outcomes) ≡ Some t)
-  taking_makes m message is = suits (is_open s m) (takes (now s e) e.choice m message (listed 1 e.choice.outcomes)) t (happened s e t (Take m message) is h)
+  taking_makes m message is = suits (is_open s m) (takes (now s e) e.choice m message (listed 1 e.choice.outcomes)) t (stepped s e t (Take m message) is h)
 
   -- another session is sent nothing for a message
   take_aside : (m : ℕ) (message : Message) → e.event ≡ Take m message → (n : ℕ) → n ≢ m → frames_to n t.sent ≡ []
@@ -125,7 +116,7 @@ pub record Awaits (n : ℕ) (s : State) (e : Entry) (t : Stepped) : Type 0 where
   pub grows : s.next ≤ t.state.next
   pub to_come : ToCome n t.state
   pub silent : s.next ≤ n → frames_to n t.sent ≡ []
-  pub no_cause : s.next ≤ n → closes n e.event (listed 1 e.choice.outcomes) ≡ None
+  pub no_cause : s.next ≤ n → closing_cause n e.event (listed 1 e.choice.outcomes) ≡ None
 
 module _ (n : ℕ) (s : State) (e : Entry) (t : Stepped) (h : step s e ≡ Some t) (to_come : ToCome n s) where
   awaits_open : e.event ≡ Open → Awaits n s e t
@@ -228,7 +219,7 @@ run_parts s e h t r = first_part (step s e) refl r
     second_part : (u : Stepped) → step s e ≡ Some u → (o : Option Stepped) → run u.state h ≡ o → option_map (then_sends u.sent) o ≡ Some t → Runs s e h t
     second_part u is None k p = cc
     second_part u is (Some w) k p =
-        let same : then_sends u.sent w ≡ t = the_same (then_sends u.sent w) t p in
+        let same : then_sends u.sent w ≡ t = same_Some (then_sends u.sent w) t p in
         record { first = u; rest = w; stepped = is; runs = k; state = ap (λ (v : Stepped). v.state) same; sent = ap (λ (v : Stepped). v.sent) same }
 
     first_part : (o : Option Stepped) → step s e ≡ o → option_and_then (λ u. option_map (then_sends u.sent) (run u.state h)) o ≡ Some t → Runs s e h t
@@ -243,7 +234,7 @@ pub record Unopened (n : ℕ) (s : State) (h : List Entry) (t : Stepped) : Type 
 
 pub unopened : (n : ℕ) (s : State) (h : List Entry) (t : Stepped) → ToCome n s → run s h ≡ Some t → t.state.next ≤ n → Unopened n s h t
 unopened n s [] t to_come r high =
-    let same : record { state = s; sent = [] } ≡ t = the_same (record { state = s; sent = [] }) t r in
+    let same : record { state = s; sent = [] } ≡ t = same_Some (record { state = s; sent = [] }) t r in
     let next : s.next ≡ t.state.next = ap (λ (v : Stepped). v.state.next) same in
     record { low = omega arith; silent = ap (λ (v : Stepped). frames_to n v.sent) (sym same); no_cause = refl }
 unopened n s (e ∷ h) t to_come r high =
@@ -255,7 +246,7 @@ unopened n s (e ∷ h) t to_come r high =
     record {
       low = low;
       silent = ap (frames_to n) (sym parts.sent) ∙ (frames_to-append n parts.first.sent parts.rest.sent ∙ (ap (λ (fs : List (List ℕ)). fs ++ frames_to n parts.rest.sent) (one.silent low) ∙ others.silent));
-      no_cause = ap (λ (o : Option Cause). or_else o (closed_by h n)) (one.no_cause low) ∙ others.no_cause;
+      no_cause = ap (λ (o : Option Cause). option_or o (closed_by h n)) (one.no_cause low) ∙ others.no_cause;
     }
 
 -- a history from its opening says nothing of the next session

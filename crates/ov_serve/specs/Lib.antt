@@ -1,3 +1,3 @@
 pub mod Ends
 pub mod Serving
-pub mod Going
+pub mod Progress

@@ -1,35 +1,35 @@
 -- What a session's serving makes of a core and of what stands around it.
 use Rattle.std.specs.Prelude.{◌≡◌, ◌⊎◌, ◌≤◌, ℕ, List, [], ◌∷◌, ◌++◌, map, length, Bool, true, false, Option, Some}
 use Rattle.std.specs.List.{All, flat_map}
-use Rattle.ov_specs.specs.Machine as machine
-use Rattle.ov_specs.specs.Machine.{State, is_open, opening}
-use Rattle.ov_specs.specs.SchemaTypes.{Schema}
-use Rattle.ov_specs.specs.Database.{Database}
-use Rattle.ov_specs.specs.History.{run, joined, out, closed_by}
-use Rattle.ov_specs.specs.Streams as streams
-use Rattle.ov_specs.specs.Streams.{StreamEvent, Opens, Feed, Streams, no_streams, ExpandsTimed}
+use Rattle.ov_specs.specs.machine.Machine as machine
+use Rattle.ov_specs.specs.machine.Machine.{State, is_open, opening}
+use Rattle.ov_specs.specs.schema.SchemaTypes.{Schema}
+use Rattle.ov_specs.specs.rows.Database.{Database}
+use Rattle.ov_specs.specs.machine.History.{run, joined, out, closed_by}
+use Rattle.ov_specs.specs.machine.Streams as streams
+use Rattle.ov_specs.specs.machine.Streams.{StreamEvent, Opens, Feed, Streams, no_streams, ExpandsTimed}
 use Rattle.ov_core.specs.declared.event.Cause.{Cause}
 use Rattle.ov_core.specs.declared.event.Cause.TheVariants.{InputEnded, ReadFault, WriteFault, Damaged, Overrun, Memory}
-use Rattle.ov_core.specs.Waiting.{waiting_for}
-use Rattle.ov_core.specs.Following.{Running, Follows, and_all_handed}
+use Rattle.ov_core.specs.Outbox.{waiting_for}
+use Rattle.ov_core.specs.Following.{CoreState, Follows, and_all_handed}
 use Rattle.ov_serve.specs.Ends.{one_more}
 
 -- what stands around a core: the bytes that were read and written so far, and the clock (own)
-pub record Around (C : Type 0) : Type 0 where
+pub record IoState (C : Type 0) : Type 0 where
   pub read : List ℕ
   pub written : List ℕ
   pub clock : C
 
 -- these bytes and this clock (own)
-abbrev pub around : {C : Type 0} → List ℕ → List ℕ → C → Around C
-around read written clock = record { read = read; written = written; clock = clock }
+abbrev pub io_state : {C : Type 0} → List ℕ → List ℕ → C → IoState C
+io_state read written clock = record { read = read; written = written; clock = clock }
 
 -- ---- frames handed out
 
 -- Whatever history and frames the core has followed, it follows the history with these entries behind it, and these frames of
 -- the session were handed out on the way (own).
-abbrev pub Goes : {K D : Type 0} → ℕ → Running K D → List machine.Entry → List (List ℕ) → Running K D → Type 0
-Goes n old entries frames new =
+abbrev pub ExtendsHanding : {K D : Type 0} → ℕ → CoreState K D → List machine.Entry → List (List ℕ) → CoreState K D → Type 0
+ExtendsHanding n old entries frames new =
     (before : State) (history : List machine.Entry) (given : ℕ → List (List ℕ)) → Follows before history given old
     → Follows before (history ++ entries) (and_all_handed given n frames) new
 
@@ -65,25 +65,25 @@ abbrev pub events_of : ℕ → Pieces → List (ℕ × StreamEvent)
 events_of n pieces = (0, Opens) ∷ map (λ p. (p.0, Feed n p.1)) pieces
 
 -- the clock told the moments of the pieces, one after another (own)
-abbrev pub ToldBy : {C : Type 0} → (C → ℕ → C → Type 0) → C → Pieces → C → Type 0
-ToldBy tells old [] new = new ≡ old
-ToldBy {C} tells old (p ∷ pieces) new = (mid : C) × tells old p.0 mid × ToldBy tells mid pieces new
+abbrev pub TellsMoments : {C : Type 0} → (C → ℕ → C → Type 0) → C → Pieces → C → Type 0
+TellsMoments tells old [] new = new ≡ old
+TellsMoments {C} tells old (p ∷ pieces) new = (mid : C) × tells old p.0 mid × TellsMoments tells mid pieces new
 
 -- ---- why a session was closed
 
 -- The cause that is told is that of the history. Where a write failed, the stream may have closed the session before (own).
-abbrev pub IsTold : Cause → Option machine.Cause → Type 0
-IsTold InputEnded closed = closed ≡ Some machine.InputEnded
-IsTold ReadFault closed = closed ≡ Some machine.ReadFault
-IsTold WriteFault closed = (closed ≡ Some machine.WriteFault) ⊎ ((closed ≡ Some machine.Damaged) ⊎ (closed ≡ Some machine.Memory))
-IsTold Damaged closed = closed ≡ Some machine.Damaged
-IsTold Memory closed = closed ≡ Some machine.Memory
-IsTold Overrun closed = ⊥
+abbrev pub IsCauseIn : Cause → Option machine.Cause → Type 0
+IsCauseIn InputEnded closed = closed ≡ Some machine.InputEnded
+IsCauseIn ReadFault closed = closed ≡ Some machine.ReadFault
+IsCauseIn WriteFault closed = (closed ≡ Some machine.WriteFault) ⊎ ((closed ≡ Some machine.Damaged) ⊎ (closed ≡ Some machine.Memory))
+IsCauseIn Damaged closed = closed ≡ Some machine.Damaged
+IsCauseIn Memory closed = closed ≡ Some machine.Memory
+IsCauseIn Overrun closed = ⊥
 
 -- one entry closes the session for this cause, at the last moment (own)
 abbrev pub ClosesAfter : ℕ → machine.Cause → State → List machine.Entry → State → Type 0
 ClosesAfter n cause mid last new =
-    (entry : machine.Entry) × (t : machine.Stepped) × (last ≡ entry ∷ []) × streams.Enters 0 mid (machine.Close n cause) entry t × (new ≡ t.state)
+    (entry : machine.Entry) × (t : machine.Stepped) × (last ≡ entry ∷ []) × streams.IsEntryAt 0 mid (machine.Close n cause) entry t × (new ≡ t.state)
 
 -- the session was closed by what was read, and no entry follows (own)
 abbrev pub ClosesWithin : ℕ → State → List machine.Entry → State → Type 0
@@ -116,18 +116,18 @@ pub record EndsAs (n : ℕ) (cause : Cause) (schema : Schema) (database : Databa
   pub reached : machine.Stepped
   pub legal : run (opening schema database) history ≡ Some reached
   pub written : WritesOf (is_written cause) (out n reached.sent) said said'
-  pub told : IsTold cause (closed_by history n)
+  pub told : IsCauseIn cause (closed_by history n)
 
 -- What was done from the opening of the session to its closing (own).
-pub record Served {K D C : Type 0} (tells : C → ℕ → C → Type 0) (n : ℕ) (old : Running K D) (from : Around C) (cause : Cause) (new : Running K D) (to : Around C) : Type 0 where
+pub record Served {K D C : Type 0} (tells : C → ℕ → C → Type 0) (n : ℕ) (old : CoreState K D) (from : IoState C) (cause : Cause) (new : CoreState K D) (to : IoState C) : Type 0 where
   -- what the core entered, what it handed out, and what was read
   pub entries : List machine.Entry
   pub frames : List (List ℕ)
   pub pieces : Pieces
-  pub goes : Goes n old entries frames new
+  pub extends : ExtendsHanding n old entries frames new
   pub read : to.read ≡ from.read ++ bytes_of pieces
   pub sizes : ArePieces pieces
-  pub moments : ToldBy tells from.clock pieces to.clock
+  pub moments : TellsMoments tells from.clock pieces to.clock
   -- the entries are those of the stream events, and then perhaps a closing
   pub front : List machine.Entry
   pub last : List machine.Entry
@@ -140,17 +140,17 @@ pub record Served {K D C : Type 0} (tells : C → ℕ → C → Type 0) (n : ℕ
   pub shut : is_open new.state n ≡ false
   -- the frames were written, and none is left waiting; or a beginning of them where a write failed
   pub written : WritesOf (is_written cause) (joined frames) from.written to.written
-  pub none_left : is_written cause ≡ true → waiting_for n new.waiting ≡ []
+  pub none_left : is_written cause ≡ true → waiting_for n new.outbox ≡ []
   -- whatever history the core has followed from its opening, this is what it says of the session with the entries behind it
   pub ends : (schema : Schema) (database : Database) (history : List machine.Entry) (given : ℕ → List (List ℕ)) → Follows (opening schema database) history given old
       → EndsAs n cause schema database (history ++ entries) from.written to.written
 
 -- What the ends tell of a cause: the input ended only where the reader met its end, and a failure is counted where one is told
 -- and nowhere else (own).
-abbrev pub Tells : Cause → Bool → ℕ → ℕ → ℕ → ℕ → Type 0
-Tells InputEnded at_end reads reads' writes writes' = (at_end ≡ true) × (reads' ≡ reads) × (writes' ≡ writes)
-Tells ReadFault at_end reads reads' writes writes' = (reads' ≡ one_more reads) × (writes' ≡ writes)
-Tells WriteFault at_end reads reads' writes writes' = (reads' ≡ reads) × (writes' ≡ one_more writes)
-Tells Damaged at_end reads reads' writes writes' = (reads' ≡ reads) × (writes' ≡ writes)
-Tells Memory at_end reads reads' writes writes' = (reads' ≡ reads) × (writes' ≡ writes)
-Tells Overrun at_end reads reads' writes writes' = ⊥
+abbrev pub CauseMatchesCounts : Cause → Bool → ℕ → ℕ → ℕ → ℕ → Type 0
+CauseMatchesCounts InputEnded at_end reads reads' writes writes' = (at_end ≡ true) × (reads' ≡ reads) × (writes' ≡ writes)
+CauseMatchesCounts ReadFault at_end reads reads' writes writes' = (reads' ≡ one_more reads) × (writes' ≡ writes)
+CauseMatchesCounts WriteFault at_end reads reads' writes writes' = (reads' ≡ reads) × (writes' ≡ one_more writes)
+CauseMatchesCounts Damaged at_end reads reads' writes writes' = (reads' ≡ reads) × (writes' ≡ writes)
+CauseMatchesCounts Memory at_end reads reads' writes writes' = (reads' ≡ reads) × (writes' ≡ writes)
+CauseMatchesCounts Overrun at_end reads reads' writes writes' = ⊥

@@ -4,7 +4,7 @@ ghost use Rattle.ov_serve.specs.Ends.{one_more, met_end};
 /// A reader whose bytes contracts name.
 pub trait Source {
     /// The bytes that were read so far.
-    ghost told: { Self → List ℕ };
+    ghost bytes_read: { Self → List ℕ };
 
     /// The end of the input was met.
     ghost at_end: { Self → Bool };
@@ -16,10 +16,10 @@ pub trait Source {
     /// room is the end of the input.
     fn read(&mut self, piece: &mut [u8]) -> Option<usize>
         ensures within { IfSome result (λ n. n ≤ length piece.new) }
-        ensures told { IfSome result (λ n. told self.new ≡ told self.old ++ take n piece.new) }
+        ensures trace { IfSome result (λ n. bytes_read self.new ≡ bytes_read self.old ++ take n piece.new) }
         ensures end { IfSome result (λ n. at_end self.new ≡ met_end n (length piece.new) (at_end self.old)) }
         ensures good { IfSome result (λ n. faults self.new ≡ faults self.old) }
-        ensures none { IfNone result ((told self.new ≡ told self.old) × (at_end self.new ≡ at_end self.old) × (faults self.new ≡ one_more (faults self.old))) };
+        ensures none { IfNone result ((bytes_read self.new ≡ bytes_read self.old) × (at_end self.new ≡ at_end self.old) × (faults self.new ≡ one_more (faults self.old))) };
 
     /// Whether the end of the input was met.
     fn ended(&self) -> bool
@@ -33,7 +33,7 @@ pub trait Source {
 /// A writer whose bytes contracts name.
 pub trait Sink {
     /// The bytes that were written so far. A writer that gathers bytes may still hold some of them, until a flush.
-    ghost told: { Self → List ℕ };
+    ghost bytes_written: { Self → List ℕ };
 
     /// The last call of `write` or `flush` was a flush that succeeded, so nothing that was written is still held.
     ghost is_flushed: { Self → Bool };
@@ -45,14 +45,14 @@ pub trait Sink {
     fn write(&mut self, bytes: &[u8]) -> Option<usize>
         ensures within { IfSome result (λ n. n ≤ length bytes.now) }
         ensures some { IfSome result (λ n. 0 < length bytes.now → 0 < n) }
-        ensures told { IfSome result (λ n. told self.new ≡ told self.old ++ take n bytes.now) }
+        ensures trace { IfSome result (λ n. bytes_written self.new ≡ bytes_written self.old ++ take n bytes.now) }
         ensures held { is_flushed self.new ≡ false }
         ensures good { IfSome result (λ n. faults self.new ≡ faults self.old) }
-        ensures none { IfNone result ((told self.new ≡ told self.old) × (faults self.new ≡ one_more (faults self.old))) };
+        ensures none { IfNone result ((bytes_written self.new ≡ bytes_written self.old) × (faults self.new ≡ one_more (faults self.old))) };
 
     /// Hands on what was written and is still held. False is an error.
     fn flush(&mut self) -> bool
-        ensures told { told self.new ≡ told self.old }
+        ensures trace { bytes_written self.new ≡ bytes_written self.old }
         ensures flushed { is_flushed self.new ≡ result }
         ensures good { result ≡ true → faults self.new ≡ faults self.old }
         ensures bad { result ≡ false → faults self.new ≡ one_more (faults self.old) };

@@ -1,6 +1,6 @@
 ghost use Rattle.std.specs.Prelude.{◌≡◌, true};
 ghost use Rattle.ov_serve.specs.Serving.{WritesOf};
-ghost use Rattle.ov_serve.specs.Going.{Counts, Sends};
+ghost use Rattle.ov_serve.specs.Progress.{CountsFailures, Sends};
 
 use crate::ends::Sink;
 use ov_core::early::{Draws, Keeper};
@@ -12,10 +12,10 @@ pub(crate) fn write_waiting<K: Keeper + Drop, D: Draws + Drop, W: Sink>(
     session: Session,
     writer: &mut W,
 ) -> bool
-    ensures sends { Sends session.serial result core.old core.new (W.told writer.old) (W.told writer.new) }
+    ensures sends { Sends session.serial result core.old core.new (W.bytes_written writer.old) (W.bytes_written writer.new) }
     ensures state { core.new.state ≡ core.old.state }
     ensures flushed { result ≡ true → W.is_flushed writer.new ≡ true }
-    ensures faults { Counts result (W.faults writer.old) (W.faults writer.new) }
+    ensures faults { CountsFailures result (W.faults writer.old) (W.faults writer.new) }
 {
     while let Some(frame) = core.next_frame(session) {
         if !write_frame(writer, frame.as_slice()) {
@@ -27,8 +27,8 @@ pub(crate) fn write_waiting<K: Keeper + Drop, D: Draws + Drop, W: Sink>(
 
 /// Writes the bytes whole, in as many writes as it takes. False where the writer failed.
 fn write_frame<W: Sink>(writer: &mut W, bytes: &[u8]) -> bool
-    ensures written { WritesOf result bytes.now (W.told writer.old) (W.told writer.new) }
-    ensures faults { Counts result (W.faults writer.old) (W.faults writer.new) }
+    ensures written { WritesOf result bytes.now (W.bytes_written writer.old) (W.bytes_written writer.new) }
+    ensures faults { CountsFailures result (W.faults writer.old) (W.faults writer.new) }
 {
     let mut rest = bytes;
     while !rest.is_empty() {

@@ -1,11 +1,11 @@
 ghost use Rattle.std.specs.Prelude.{◌≡◌, ◌⊎◌, ◌++◌, ℕ, List, [], ◌∷◌, map, true, IfOk, IfErr};
-ghost use Rattle.ov_specs.specs.Machine.{is_open, Entry as SpecEntry, Open as SpecOpen};
+ghost use Rattle.ov_specs.specs.machine.Machine.{is_open, Entry as SpecEntry, Open as SpecOpen};
 ghost use Rattle.ov_core.specs.Entries.{cause_view, event_view, entry_view};
-ghost use Rattle.ov_core.specs.Following.{Running};
-ghost use Rattle.ov_core.specs.Stepping.{Refusal};
-ghost use Rattle.ov_streams.specs.Feeding.{IsFed, Brings};
-ghost use Rattle.ov_serve.specs.Serving.{Around, around, Served, is_written, Tells};
-ghost use Rattle.ov_serve.specs.Going.{stream_cause, ServingOn};
+ghost use Rattle.ov_core.specs.Following.{CoreState};
+ghost use Rattle.ov_core.specs.Stepping.{RefusesStep};
+ghost use Rattle.ov_streams.specs.Feeding.{IsFed, EntersPiece};
+ghost use Rattle.ov_serve.specs.Serving.{IoState, io_state, Served, is_written, CauseMatchesCounts};
+ghost use Rattle.ov_serve.specs.Progress.{stream_cause, ServedAndFed};
 
 use crate::ends::{Clock, Sink, Source};
 use crate::send::write_waiting;
@@ -34,11 +34,11 @@ pub fn serve_one<R: Wait, K: Keeper + Drop, D: Draws + Drop, S: Source, W: Sink,
     writer: &mut W,
     clock: &mut C,
 ) -> Result<Cause, StepFault>
-    ensures served { IfOk result (λ cause. Served C.tells core.old.state.next core.old (around (S.told reader.old) (W.told writer.old) clock.old)
-        cause core.new (around (S.told reader.new) (W.told writer.new) clock.new)) }
+    ensures served { IfOk result (λ cause. Served C.tells core.old.state.next core.old (io_state (S.bytes_read reader.old) (W.bytes_written writer.old) clock.old)
+        cause core.new (io_state (S.bytes_read reader.new) (W.bytes_written writer.new) clock.new)) }
     ensures flushed { IfOk result (λ cause. is_written cause ≡ true → W.is_flushed writer.new ≡ true) }
-    ensures ends { IfOk result (λ cause. Tells cause (S.at_end reader.new) (S.faults reader.old) (S.faults reader.new) (W.faults writer.old) (W.faults writer.new)) }
-    ensures refused { IfErr result (λ fault. (core.new ≡ core.old) × Refusal SpecOpen core.old.state fault) }
+    ensures ends { IfOk result (λ cause. CauseMatchesCounts cause (S.at_end reader.new) (S.faults reader.old) (S.faults reader.new) (W.faults writer.old) (W.faults writer.new)) }
+    ensures refused { IfErr result (λ fault. (core.new ≡ core.old) × RefusesStep SpecOpen core.old.state fault) }
     ensures untouched { IfErr result (λ fault. (reader.new ≡ reader.old) × (writer.new ≡ writer.old) × (clock.new ≡ clock.old)) }
 {
     let session = match core.step(alloc, 0, Event::Open) {
@@ -61,11 +61,11 @@ fn serve_session<R: Wait, K: Keeper + Drop, D: Draws + Drop, S: Source, W: Sink,
     writer: &mut W,
     clock: &mut C,
 ) -> Cause
-    ensures served { (first : Running K D) (from : Around C)
-        → ServingOn C.tells session.serial first from core.old (around (S.told reader.old) (W.told writer.old) clock.old) cutter.old
-        → Served C.tells session.serial first from result core.new (around (S.told reader.new) (W.told writer.new) clock.new) }
+    ensures served { (first : CoreState K D) (from : IoState C)
+        → ServedAndFed C.tells session.serial first from core.old (io_state (S.bytes_read reader.old) (W.bytes_written writer.old) clock.old) cutter.old
+        → Served C.tells session.serial first from result core.new (io_state (S.bytes_read reader.new) (W.bytes_written writer.new) clock.new) }
     ensures flushed { is_written result ≡ true → W.is_flushed writer.new ≡ true }
-    ensures ends { Tells result (S.at_end reader.new) (S.faults reader.old) (S.faults reader.new) (W.faults writer.old) (W.faults writer.new) }
+    ensures ends { CauseMatchesCounts result (S.at_end reader.new) (S.faults reader.old) (S.faults reader.new) (W.faults writer.old) (W.faults writer.new) }
 {
     let mut piece = [0u8; PIECE_BYTES];
     for _ in rt.forever() {
@@ -102,7 +102,7 @@ fn serve_piece<K: Keeper + Drop, D: Draws + Drop, C: Clock>(
 )
     requires { is_open core.old.state session.serial ≡ true }
     ensures { (stream : List ℕ) → IsFed stream cutter.old
-        → (at : ℕ) × C.tells clock.old at clock.new × Brings at session.serial stream piece.now core.old core.new cutter.new }
+        → (at : ℕ) × C.tells clock.old at clock.new × EntersPiece at session.serial stream piece.now core.old core.new cutter.new }
 {
     let at = clock.now();
     feed_session(core, alloc, at, session, cutter, piece);

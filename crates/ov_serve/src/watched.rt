@@ -2,7 +2,7 @@ ghost use Rattle.std.specs.Prelude.{◌≡◌, [], false};
 ghost use Rattle.ov_serve.specs.Ends.{one_more};
 
 use crate::ends::{Sink, Source};
-use ov_base::Told;
+use ov_base::ByteTrace;
 use std::io::{Read, Write};
 
 /// A reader or a writer of std's as a source or a sink. An interrupted call counts as a failure, and so does a write of no
@@ -10,7 +10,7 @@ use std::io::{Read, Write};
 #[derive(Drop)]
 pub struct Watched<T> {
     inner: T,
-    told: Told,
+    trace: ByteTrace,
     ended: bool,
     flushed: bool,
     failures: u64,
@@ -20,14 +20,14 @@ impl<T> Watched<T> {
     /// It was asked for nothing yet.
     pub fn new(inner: T) -> Watched<T>
         ensures inner { result.inner ≡ inner }
-        ensures told { result.told.bytes ≡ [] }
+        ensures trace { result.trace.bytes ≡ [] }
         ensures ended { result.ended ≡ false }
         ensures flushed { result.flushed ≡ false }
         ensures failures { result.failures ≡ 0 }
     {
         Watched {
             inner,
-            told: Told::new(),
+            trace: ByteTrace::new(),
             ended: false,
             flushed: false,
             failures: 0,
@@ -50,7 +50,7 @@ impl<T> Watched<T> {
 }
 
 impl<R: Read> Source for Watched<R> {
-    ghost told = { λ w. w.told.bytes };
+    ghost bytes_read = { λ w. w.trace.bytes };
 
     ghost at_end = { λ w. w.ended };
 
@@ -59,7 +59,7 @@ impl<R: Read> Source for Watched<R> {
     fn read(&mut self, piece: &mut [u8]) -> Option<usize> {
         match self.inner.read(piece) {
             Ok(n) => {
-                self.told.add(&piece[..n]);
+                self.trace.add(&piece[..n]);
                 if n == 0 && !piece.is_empty() {
                     self.ended = true;
                 }
@@ -82,7 +82,7 @@ impl<R: Read> Source for Watched<R> {
 }
 
 impl<W: Write> Sink for Watched<W> {
-    ghost told = { λ w. w.told.bytes };
+    ghost bytes_written = { λ w. w.trace.bytes };
 
     ghost is_flushed = { λ w. w.flushed };
 
@@ -92,7 +92,7 @@ impl<W: Write> Sink for Watched<W> {
         self.flushed = false;
         match self.inner.write(bytes) {
             Ok(n) if n > 0 || bytes.is_empty() => {
-                self.told.add(&bytes[..n]);
+                self.trace.add(&bytes[..n]);
                 Some(n)
             }
             _ => {

@@ -8,12 +8,12 @@ mod session;
 mod start;
 
 use crate::start::run;
-use ov_words::{line_of, status_of};
+use ov_words::{error_line_of, status_of};
 use std::process::ExitCode;
 
 fn main(rt: HostRuntime) -> ExitCode {
     let ending = run(&rt, &rt, rt.stdin(), rt.stdout());
-    if let Some(line) = line_of(ending) {
+    if let Some(line) = error_line_of(ending) {
         let _ = eprintln!(rt; "{line}");
     }
     ExitCode::from(status_of(ending))

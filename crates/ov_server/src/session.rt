@@ -1,12 +1,12 @@
 ghost use Rattle.std.specs.Prelude.{◌≡◌, ◌≢◌, ◌⊎◌, [], true, IfOk, IfErr};
-ghost use Rattle.ov_specs.specs.Lines.{Contents};
-ghost use Rattle.ov_specs.specs.Machine.{opening};
+ghost use Rattle.ov_specs.specs.rows.Lines.{Contents};
+ghost use Rattle.ov_specs.specs.machine.Machine.{opening};
 ghost use Rattle.ov_db.specs.Opening.{CanOpen};
 ghost use Rattle.ov_core.specs.Following.{Follows, none_given};
 ghost use Rattle.ov_core.specs.declared.event.Cause.{Cause as Closing};
 ghost use Rattle.ov_core.specs.declared.event.StepFault.{StepFault as Fault};
 ghost use Rattle.ov_db.specs.declared.fault.OpenFault.{OpenFault as Refusal};
-ghost use Rattle.ov_serve.specs.Serving.{around, Served, is_written, Tells};
+ghost use Rattle.ov_serve.specs.Serving.{io_state, Served, is_written, CauseMatchesCounts};
 ghost use Rattle.ov_words.specs.Causes.{by_open, by_step, by_cause};
 
 use crate::clock::StillClock;
@@ -86,10 +86,10 @@ fn serve_core<R: Wait, K: Keeper + Drop, D: Draws + Drop, S: Source, W: Sink, C:
     clock: &mut C,
 ) -> Ending
     ensures told { ((cause : Closing) × (result ≡ by_cause cause)
-        × Served C.tells core.old.state.next core.old (around (S.told reader.old) (W.told writer.old) clock.old)
-        cause core.new (around (S.told reader.new) (W.told writer.new) clock.new)
+        × Served C.tells core.old.state.next core.old (io_state (S.bytes_read reader.old) (W.bytes_written writer.old) clock.old)
+        cause core.new (io_state (S.bytes_read reader.new) (W.bytes_written writer.new) clock.new)
         × (is_written cause ≡ true → W.is_flushed writer.new ≡ true)
-        × Tells cause (S.at_end reader.new) (S.faults reader.old) (S.faults reader.new) (W.faults writer.old) (W.faults writer.new))
+        × CauseMatchesCounts cause (S.at_end reader.new) (S.faults reader.old) (S.faults reader.new) (W.faults writer.old) (W.faults writer.new))
         ⊎ ((fault : Fault) × (result ≡ by_step fault) × (core.new ≡ core.old) × (reader.new ≡ reader.old) × (writer.new ≡ writer.old)) }
     ensures kind { (result ≢ Ending.Arguments) × (result ≢ Ending.Schema) }
 {

@@ -88,7 +88,14 @@ fn serve_database<R: Wait + RandomSource, I: Read + Drop, O: Write + Drop>(
 ) -> Ending {
     let alloc = host.alloc();
     match db {
-        None => serve_store(rt, alloc, store_in_memory(alloc, text), schema, input, output),
+        None => serve_store(
+            rt,
+            alloc,
+            store_in_memory(alloc, text),
+            schema,
+            input,
+            output,
+        ),
         Some(path) => {
             let store = store_in_file(host, path.as_str(), text, Unknown);
             serve_store(rt, alloc, store, schema, input, output)

@@ -19,18 +19,19 @@ use Rattle.sqlite_rules.specs.Edit.{is_taken, are_fresh, put_all, without_all}
 use Rattle.sqlite_rules.specs.Calls.{ids_of}
 use Rattle.sqlite_rules.specs.Cast.{cast_row}
 use Rattle.sqlite.specs.State.{State}
-use Rattle.ov_specs.specs.Lines.{LineKey, LineBody, line_cmp}
-use Rattle.ov_specs.proofs.LineKeys.{key_total, key_exact, tied_same}
+use Rattle.ov_specs.specs.rows.Lines.{LineKey, LineBody, line_cmp}
+use Rattle.ov_specs.proofs.laws.LineKeys.{key_total, key_exact, tied_same}
 use Rattle.ov_store.specs.Tables.{line_table}
 use Rattle.ov_store.specs.Format.{IsLine, IsMeta, entry, stored_lines}
 use Rattle.ov_store.specs.Changing.{IsNumbered, IsStored, after_update}
-use Rattle.ov_store.proofs.EntryLemmas.{same_cond, insert_again}
+use Rattle.ov_store.proofs.EntryLemmas.{same_cond}
 use Rattle.ov_store.proofs.RowLemmas.{passes, passes_key}
 use Rattle.ov_store.proofs.RemoveLemmas.{left_rows, left_lines, filter_numbered}
 use Rattle.ov_store.proofs.InsertLemmas.{either, line_row}
 use Rattle.ov_store.proofs.PutLemmas.{Agree, find_put, put_numbered, new_line}
 use Rattle.ov_store.proofs.OpenLemmas.{map_all, every_shuffled}
 use Rattle.ov_store.proofs.UpdateLemmas.{again, put_for, Updates}
+use Rattle.ov_keeper.proofs.LineLemmas.{insert-remove}
 
 cast_int : (n : ℤ) → cast Integer (Int n) ≡ Int n
 unfolding unary
@@ -163,4 +164,4 @@ module _ (t i v b : List ℕ) (named : IsUtf8 t) (id_sixteen : length i ≡ 16) 
         ap stored_lines rows_are ∙ put_lines d.rows rest news fresh ready
         ∙ ap (λ n. cond (nat_lt 0 n) (insert (stored_lines rest) k body) (stored_lines rest)) (sym d.counted)
         ∙ ap (λ l. cond (nat_lt 0 count) (insert {R = line_cmp} l k body) l) (left_lines t i (old.now.trees 2))
-        ∙ ap (λ l. cond (nat_lt 0 count) l (remove m k)) (insert_again m k body)
+        ∙ ap (λ l. cond (nat_lt 0 count) l (remove m k)) (insert-remove m k body)

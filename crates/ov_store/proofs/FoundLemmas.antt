@@ -6,29 +6,25 @@ use Rattle.sqlite.specs.Tree.{Trees}
 use Rattle.sqlite.specs.Effect.{Database}
 use Rattle.sqlite.specs.State.{HasCleanDisk, Survives, KeepsCommit, IsUnchanged}
 use Rattle.sqlite.specs.Held.{Held as Connected, state}
-use Rattle.ov_specs.specs.Lines.{Contents, LineChange, Lines, after_changes}
-use Rattle.ov_keeper.specs.Keeping.{Keeps, Changes, MayChange, Refuses, IsCommitFault, changed}
+use Rattle.ov_specs.specs.rows.Lines.{Contents, LineChange, Lines, after_changes}
+use Rattle.ov_keeper.specs.Keeping.{LeavesNoMore, LeavesChanged, MayLeaveChanged, LeavesRefused, IsCommitFault, changed}
 use Rattle.ov_keeper.specs.declared.fault.KeepFault.{KeepFault}
 use Rattle.ov_keeper.specs.declared.fault.KeepFault.TheVariants.{Memory, Device, NotOurs, Format, TooLarge}
 use Rattle.ov_store.specs.Format.{held, stored_schema, stored_lines, IsMeta}
-use Rattle.ov_store.specs.Changing.{MayBeStored, Stores, IsMade}
+use Rattle.ov_store.specs.Changing.{MayBeStored, Stores, IsCommitImage}
 use Rattle.ov_store.specs.StoreState.{MayFind}
 use Rattle.ov_store.specs.Making.{IsNew}
 use Rattle.ov_store.proofs.OpenLemmas.{schema_is}
 use Rattle.std.specs.FinMap.{empty}
 use Rattle.sqlite.proofs.StateLemmas.{survives_then}
-use Rattle.ov_store.specs.declared.write.Stop.{Stop}
-use Rattle.ov_store.specs.Stop.{IsBefore}
+use Rattle.ov_store.specs.declared.write.WriteError.{WriteError}
+use Rattle.ov_store.specs.WriteError.{IsBefore}
 use Rattle.ov_store.proofs.RunLemmas.{nothing_then, survives_as}
-
-pub nothing_left : {X : Type 0} (xs : List X) → length xs ≡ 0 → xs ≡ []
-nothing_left [] e = refl
-nothing_left (x ∷ xs) e = absurd (omega arith)
 
 pub is_zero : (n : ℕ) → true ≡ (n == 0) → n ≡ 0
 is_zero n e = grind (arith, nat_tests)
 
-pub refused : (changes : List LineChange) (A B : Contents → Type 0) (fault : KeepFault) → IsCommitFault fault → fault ≢ Device → Keeps A B → Refuses changes A B fault
+pub refused : (changes : List LineChange) (A B : Contents → Type 0) (fault : KeepFault) → IsCommitFault fault → fault ≢ Device → LeavesNoMore A B → LeavesRefused changes A B fault
 refused changes A B Memory kind other kept = kept
 refused changes A B TooLarge kind other kept = kept
 refused changes A B Device kind other kept = absurd (other refl)
@@ -57,7 +53,7 @@ module _ {S : Type 0} (g : Ghosts S) (settled : (s : S) (db : Trees) → IsTrue 
   pub was_found : (c : Connected S) → IsTrue (state g c).is_open → (state g c).now ≡ (state g c).committed → MayFind g c (held (state g c).now.trees)
   was_found c up same = ((g.view c.store).committed, stays c.store up, ap (λ (d : Database). held d.trees) same)
 
-  pub stores_changes : (text : List ℕ) (changes : List LineChange) (old new : Connected S) → Stores text (after_changes changes) (state g old) (state g new) → Changes changes (MayFind g old) (MayFind g new)
+  pub stores_changes : (text : List ℕ) (changes : List LineChange) (old new : Connected S) → Stores text (after_changes changes) (state g old) (state g new) → LeavesChanged changes (MayFind g old) (MayFind g new)
   stores_changes text changes old new done h found =
       let trees : found.0 ≡ (g.view new.store).committed = settled new.store found.0 done.is_open found.1 in (
         held (state g old).now.trees,
@@ -66,7 +62,7 @@ module _ {S : Type 0} (g : Ghosts S) (settled : (s : S) (db : Trees) → IsTrue 
       )
 
   pub crash_changes : (text : List ℕ) (changes : List LineChange) (old new : Connected S) → HasCleanDisk (state g new) → MayBeStored text (state g old)
-      → Survives (state g old) (state g new) (λ trees. (text : List ℕ) → MayBeStored text (state g old) → IsMade (after_changes changes) (state g old) trees) → MayChange changes (MayFind g old) (MayFind g new)
+      → Survives (state g old) (state g new) (λ trees. (text : List ℕ) → MayBeStored text (state g old) → IsCommitImage (after_changes changes) (state g old) trees) → MayLeaveChanged changes (MayFind g old) (MayFind g new)
   crash_changes text changes old new clean may s h found = elim (s.crash clean found.0 found.1) [
     | inl before ↦ inl (found.0, before, found.2)
     | inr made ↦ let it = made text may in inr (held (state g old).now.trees, was_found old it.was_open it.was_settled, found.2 ∙ held_changed changes (state g old).now.trees found.0 it.meta it.lines_are)
@@ -78,14 +74,14 @@ module _ {S : Type 0} (g : Ghosts S) (settled : (s : S) (db : Trees) → IsTrue 
       let before : db ≡ (g.view old.store).committed = settled new.store db same.0.is_open found ∙ ap (λ (d : Database). d.trees) (same.0.committed_is ∙ kept.committed same.0.was_open) in
       subst (g.recovers old.store) (sym before) (stays old.store (kept.was_open same.0.was_open))
 
-  pub kept_found : (old mid new : Connected S) → KeepsCommit (state g old) (state g mid) → IsUnchanged (state g mid) (state g new) → Keeps (MayFind g old) (MayFind g new)
+  pub kept_found : (old mid new : Connected S) → KeepsCommit (state g old) (state g mid) → IsUnchanged (state g mid) (state g new) → LeavesNoMore (MayFind g old) (MayFind g new)
   kept_found old mid new kept same h found = (found.0, kept_left old mid new kept same found.0 found.1, found.2)
 
   -- a write that was refused: only a failed device may leave what its commit writes
-  pub refused_left : (old mid new : Connected S) (P : Trees → Type 0) (fault : KeepFault) (stop : Stop) → (IsBefore stop → Survives (state g old) (state g mid) (λ _. ⊥)) → Survives (state g old) (state g mid) P
-      → (HasCleanDisk (state g mid) → KeepsCommit (state g old) (state g mid)) → Survives (state g mid) (state g new) (λ _. ⊥) → (HasCleanDisk (state g new) → fault ≢ Device → IsBefore stop ⊎ IsUnchanged (state g mid) (state g new))
+  pub refused_left : (old mid new : Connected S) (P : Trees → Type 0) (fault : KeepFault) (failure : WriteError) → (IsBefore failure → Survives (state g old) (state g mid) (λ _. ⊥)) → Survives (state g old) (state g mid) P
+      → (HasCleanDisk (state g mid) → KeepsCommit (state g old) (state g mid)) → Survives (state g mid) (state g new) (λ _. ⊥) → (HasCleanDisk (state g new) → fault ≢ Device → IsBefore failure ⊎ IsUnchanged (state g mid) (state g new))
       → Survives (state g old) (state g new) (λ trees. (fault ≡ Device) × P trees)
-  refused_left old mid new P fault stop before crash unmoved survives shown = go (device_or fault)
+  refused_left old mid new P fault failure before crash unmoved survives shown = go (device_or fault)
     where
       whole : Survives (state g old) (state g new) P
       whole = survives_then (state g old) (state g mid) (state g new) P (λ _. ⊥) P (λ _ db made. made) (λ _ db none. absurd none) crash survives
@@ -98,7 +94,7 @@ module _ {S : Type 0} (g : Ghosts S) (settled : (s : S) (db : Trees) → IsTrue 
       ]))
 
   -- a call that commits nothing
-  pub survives_found : (old new : Connected S) → HasCleanDisk (state g new) → Survives (state g old) (state g new) (λ _. ⊥) → Keeps (MayFind g old) (MayFind g new)
+  pub survives_found : (old new : Connected S) → HasCleanDisk (state g new) → Survives (state g old) (state g new) (λ _. ⊥) → LeavesNoMore (MayFind g old) (MayFind g new)
   survives_found old new clean s h found = elim (s.crash clean found.0 found.1) [ inl before ↦ (found.0, before, found.2) | inr none ↦ absurd none ]
 
   pub found_is : (c : Connected S) → IsTrue (state g c).is_open → (state g c).now ≡ (state g c).committed → (contents : Contents) → MayFind g c contents → contents ≡ held (state g c).now.trees

@@ -23,12 +23,12 @@ use Rattle.sqlite_trees.proofs.ListLemmas.{all_weaker}
 use Rattle.sqlite_value.specs.Keys.{first_key}
 use Rattle.sqlite_trees.specs.Tree.{rowid}
 use Rattle.sqlite.specs.Effect.{Database, IsDatabase}
-use Rattle.ov_specs.specs.Lines.{LineKey, LineBody, line_cmp}
-use Rattle.ov_specs.proofs.LineKeys.{key_total, key_exact, tied_same}
+use Rattle.ov_specs.specs.rows.Lines.{LineKey, LineBody, line_cmp}
+use Rattle.ov_specs.proofs.laws.LineKeys.{key_total, key_exact, tied_same}
 use Rattle.ov_store.specs.Tables.{line_schema}
 use Rattle.ov_store.specs.Format.{IsLine, entry, stored_lines}
 use Rattle.ov_store.specs.Changing.{IsNumbered}
-use Rattle.ov_store.specs.Reading.{shown}
+use Rattle.ov_store.specs.Reading.{line_selected}
 use Rattle.ov_store.proofs.RowLemmas.{equal_texts, equal_blobs, truth_of, same_number, map_then}
 use Rattle.ov_store.proofs.OpenLemmas.{map_all, every_shuffled}
 
@@ -160,10 +160,10 @@ one_key : (rows : List Row) → AllByRecursion IsLine rows → (r : Row) → IsL
 one_key rows lines r l apart one = all_three IsLine (Apart r) (OneNumber r) (OneKey r) (λ s m a n. same_key r s l m a n) rows lines apart one
 
 -- the lines that were read are those that are stored
-pub lines_same : (db : Database) (read : List Row) → db.schema ≡ line_schema → IsDatabase db → AllByRecursion IsLine (db.trees 2) → IsNumbered (db.trees 2) → IsPermutation (map shown (db.trees 2)) read
+pub lines_same : (db : Database) (read : List Row) → db.schema ≡ line_schema → IsDatabase db → AllByRecursion IsLine (db.trees 2) → IsNumbered (db.trees 2) → IsPermutation (map line_selected (db.trees 2)) read
     → stored_lines (db.trees 2) ≡ from_entries (map entry read)
 lines_same db read has sound lines numbered same =
     let rows = db.trees 2 in
     let keys = all_three IsLine (λ r. AllByRecursion (Apart r) rows) (λ r. AllByRecursion (OneNumber r) rows) (λ r. AllByRecursion (OneKey r) rows) (one_key rows lines) rows lines (unique db has sound) numbered in
     let ones = map_all _ entry rows (all_weaker _ _ (λ r inner. map_all _ entry rows inner) rows keys) in
-    same_entries (map entry rows) (map entry read) (subst (λ xs. IsPermutation xs (map entry read)) (map_then shown entry rows) (IsPermutation-map entry (map shown rows) read same)) ones
+    same_entries (map entry rows) (map entry read) (subst (λ xs. IsPermutation xs (map entry read)) (map_then line_selected entry rows) (IsPermutation-map entry (map line_selected rows) read same)) ones

@@ -14,14 +14,14 @@ use Rattle.std.specs.Cmp.{eq_by_cmp_equiv}
 use Rattle.std.specs.Ordering.{is_eq}
 use Rattle.ov_store.specs.Format.{IsLine, IsMeta, IsFormatRow, IsSchemaRow, stored_schema}
 use Rattle.ov_store.specs.Changing.{IsNumbered}
-use Rattle.ov_store.specs.Reading.{shown, meta_shown, ReadsFormat, ReadsSchema, ReadsMeta}
+use Rattle.ov_store.specs.Reading.{line_selected, meta_selected, ReadsFormat, ReadsSchema, ReadsMeta}
 
 pub every_shuffled : {X : Type 0} (P : X → Type 0) (xs ys : List X) → IsPermutation xs ys → AllByRecursion P xs → AllByRecursion P ys
 every_shuffled P xs ys same all = recursion_from_All P ys (All-permutation P xs ys same (All-from_recursion P xs all))
 
 -- ---- the lines
 
-pub line_shown : (r : Row) → IsLine r → IsLine (shown r)
+pub line_shown : (r : Row) → IsLine r → IsLine (line_selected r)
 line_shown r l = record {
   number = l.number;
   tbl = l.tbl;
@@ -38,7 +38,7 @@ line_shown r l = record {
   ver_sixteen = l.ver_sixteen;
 }
 
-shown_line : (r : Row) → IsLine (shown r) → IsLine r
+shown_line : (r : Row) → IsLine (line_selected r) → IsLine r
 shown_line r l = record {
   number = l.number;
   tbl = l.tbl;
@@ -63,18 +63,18 @@ pub map_all : {X Y : Type 0} (P : Y → Type 0) (f : X → Y) (xs : List X) → 
 map_all P f [] all = tt
 map_all P f (x ∷ xs) all = (all.0, map_all P f xs all.1)
 
-module _ (stored read : List Row) (same : IsPermutation (map shown stored) read) where
+module _ (stored read : List Row) (same : IsPermutation (map line_selected stored) read) where
   pub lines_stored : AllByRecursion IsLine read → AllByRecursion IsLine stored
-  lines_stored all = all_weaker _ _ shown_line stored (all_map IsLine shown stored (every_shuffled IsLine read (map shown stored) (IsPermutation-sym (map shown stored) read same) all))
+  lines_stored all = all_weaker _ _ shown_line stored (all_map IsLine line_selected stored (every_shuffled IsLine read (map line_selected stored) (IsPermutation-sym (map line_selected stored) read same) all))
 
   pub lines_read : AllByRecursion IsLine stored → AllByRecursion IsLine read
-  lines_read all = every_shuffled IsLine (map shown stored) read same (map_all IsLine shown stored (all_weaker _ _ line_shown stored all))
+  lines_read all = every_shuffled IsLine (map line_selected stored) read same (map_all IsLine line_selected stored (all_weaker _ _ line_shown stored all))
 
   pub numbers_stored : IsNumbered read → IsNumbered stored
   numbers_stored numbered =
-      let back = IsPermutation-sym (map shown stored) read same in
-      let outer = all_map _ shown stored (every_shuffled _ read (map shown stored) back numbered) in
-      all_weaker _ _ (λ r ones. all_map _ shown stored (every_shuffled _ read (map shown stored) back ones)) stored outer
+      let back = IsPermutation-sym (map line_selected stored) read same in
+      let outer = all_map _ line_selected stored (every_shuffled _ read (map line_selected stored) back numbered) in
+      all_weaker _ _ (λ r ones. all_map _ line_selected stored (every_shuffled _ read (map line_selected stored) back ones)) stored outer
 
 -- ---- the rows of `meta`
 
@@ -108,38 +108,38 @@ map_two f (x ∷ []) a b e = absurd (omega (arith, ap length e))
 map_two f (x ∷ y ∷ []) a b e = (x, y, refl, ap (λ zs. get_or zs 0 a) e, ap (λ zs. get_or zs 1 b) e)
 map_two f (x ∷ y ∷ z ∷ more) a b e = absurd (omega (arith, ap length e))
 
-format_row : (x a : Row) → meta_shown x ≡ a → ReadsFormat a → IsFormatRow x
+format_row : (x a : Row) → meta_selected x ≡ a → ReadsFormat a → IsFormatRow x
 format_row x a e f = record { key = ap (λ r. column r 0) e ∙ f.key; value = ap (λ r. column r 1) e ∙ f.value }
 
-schema_row : (text : List ℕ) (x a : Row) → meta_shown x ≡ a → ReadsSchema text a → IsSchemaRow text x
+schema_row : (text : List ℕ) (x a : Row) → meta_selected x ≡ a → ReadsSchema text a → IsSchemaRow text x
 schema_row text x a e s = record { key = ap (λ r. column r 0) e ∙ s.key; value = ap (λ r. column r 1) e ∙ s.value; utf8 = s.utf8 }
 
-reads_format : (x : Row) → IsFormatRow x → ReadsFormat (meta_shown x)
+reads_format : (x : Row) → IsFormatRow x → ReadsFormat (meta_selected x)
 reads_format x f = record { key = f.key; value = f.value }
 
-reads_schema : (text : List ℕ) (x : Row) → IsSchemaRow text x → ReadsSchema text (meta_shown x)
+reads_schema : (text : List ℕ) (x : Row) → IsSchemaRow text x → ReadsSchema text (meta_selected x)
 reads_schema text x s = record { key = s.key; value = s.value; utf8 = s.utf8 }
 
-module _ (text : List ℕ) (stored read : List Row) (same : IsPermutation (map meta_shown stored) read) where
+module _ (text : List ℕ) (stored read : List Row) (same : IsPermutation (map meta_selected stored) read) where
   pub meta_stored : ReadsMeta text read → IsMeta text stored
-  meta_stored m = go (pair_of (map meta_shown stored) m.first m.second (subst (IsPermutation (map meta_shown stored)) m.all same)) m.are
+  meta_stored m = go (pair_of (map meta_selected stored) m.first m.second (subst (IsPermutation (map meta_selected stored)) m.all same)) m.are
     where
-      go : (map meta_shown stored ≡ m.first ∷ m.second ∷ []) ⊎ (map meta_shown stored ≡ m.second ∷ m.first ∷ []) → (ReadsFormat m.first × ReadsSchema text m.second) ⊎ (ReadsSchema text m.first × ReadsFormat m.second) → IsMeta text stored
-      go (inl e) (inl p) = let t = map_two meta_shown stored m.first m.second e in record { first = t.0; second = t.1; all = t.2; are = inl (format_row t.0 m.first t.3 p.0, schema_row text t.1 m.second t.4 p.1) }
-      go (inl e) (inr p) = let t = map_two meta_shown stored m.first m.second e in record { first = t.0; second = t.1; all = t.2; are = inr (schema_row text t.0 m.first t.3 p.0, format_row t.1 m.second t.4 p.1) }
-      go (inr e) (inl p) = let t = map_two meta_shown stored m.second m.first e in record { first = t.0; second = t.1; all = t.2; are = inr (schema_row text t.0 m.second t.3 p.1, format_row t.1 m.first t.4 p.0) }
-      go (inr e) (inr p) = let t = map_two meta_shown stored m.second m.first e in record { first = t.0; second = t.1; all = t.2; are = inl (format_row t.0 m.second t.3 p.1, schema_row text t.1 m.first t.4 p.0) }
+      go : (map meta_selected stored ≡ m.first ∷ m.second ∷ []) ⊎ (map meta_selected stored ≡ m.second ∷ m.first ∷ []) → (ReadsFormat m.first × ReadsSchema text m.second) ⊎ (ReadsSchema text m.first × ReadsFormat m.second) → IsMeta text stored
+      go (inl e) (inl p) = let t = map_two meta_selected stored m.first m.second e in record { first = t.0; second = t.1; all = t.2; are = inl (format_row t.0 m.first t.3 p.0, schema_row text t.1 m.second t.4 p.1) }
+      go (inl e) (inr p) = let t = map_two meta_selected stored m.first m.second e in record { first = t.0; second = t.1; all = t.2; are = inr (schema_row text t.0 m.first t.3 p.0, format_row t.1 m.second t.4 p.1) }
+      go (inr e) (inl p) = let t = map_two meta_selected stored m.second m.first e in record { first = t.0; second = t.1; all = t.2; are = inr (schema_row text t.0 m.second t.3 p.1, format_row t.1 m.first t.4 p.0) }
+      go (inr e) (inr p) = let t = map_two meta_selected stored m.second m.first e in record { first = t.0; second = t.1; all = t.2; are = inl (format_row t.0 m.second t.3 p.1, schema_row text t.1 m.first t.4 p.0) }
 
   pub meta_read : IsMeta text stored → ReadsMeta text read
   meta_read m =
-      let shows = ap (map meta_shown) m.all in
-      go (pair_of read (meta_shown m.first) (meta_shown m.second) (IsPermutation-sym _ read (subst (λ xs. IsPermutation xs read) shows same))) m.are
+      let shows = ap (map meta_selected) m.all in
+      go (pair_of read (meta_selected m.first) (meta_selected m.second) (IsPermutation-sym _ read (subst (λ xs. IsPermutation xs read) shows same))) m.are
     where
-      go : (read ≡ meta_shown m.first ∷ meta_shown m.second ∷ []) ⊎ (read ≡ meta_shown m.second ∷ meta_shown m.first ∷ []) → (IsFormatRow m.first × IsSchemaRow text m.second) ⊎ (IsSchemaRow text m.first × IsFormatRow m.second) → ReadsMeta text read
-      go (inl e) (inl p) = record { first = meta_shown m.first; second = meta_shown m.second; all = e; are = inl (reads_format m.first p.0, reads_schema text m.second p.1) }
-      go (inl e) (inr p) = record { first = meta_shown m.first; second = meta_shown m.second; all = e; are = inr (reads_schema text m.first p.0, reads_format m.second p.1) }
-      go (inr e) (inl p) = record { first = meta_shown m.second; second = meta_shown m.first; all = e; are = inr (reads_schema text m.second p.1, reads_format m.first p.0) }
-      go (inr e) (inr p) = record { first = meta_shown m.second; second = meta_shown m.first; all = e; are = inl (reads_format m.second p.1, reads_schema text m.first p.0) }
+      go : (read ≡ meta_selected m.first ∷ meta_selected m.second ∷ []) ⊎ (read ≡ meta_selected m.second ∷ meta_selected m.first ∷ []) → (IsFormatRow m.first × IsSchemaRow text m.second) ⊎ (IsSchemaRow text m.first × IsFormatRow m.second) → ReadsMeta text read
+      go (inl e) (inl p) = record { first = meta_selected m.first; second = meta_selected m.second; all = e; are = inl (reads_format m.first p.0, reads_schema text m.second p.1) }
+      go (inl e) (inr p) = record { first = meta_selected m.first; second = meta_selected m.second; all = e; are = inr (reads_schema text m.first p.0, reads_format m.second p.1) }
+      go (inr e) (inl p) = record { first = meta_selected m.second; second = meta_selected m.first; all = e; are = inr (reads_schema text m.second p.1, reads_format m.first p.0) }
+      go (inr e) (inr p) = record { first = meta_selected m.second; second = meta_selected m.first; all = e; are = inl (reads_format m.second p.1, reads_schema text m.first p.0) }
 
 -- ---- the text of the schema
 

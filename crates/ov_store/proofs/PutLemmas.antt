@@ -13,11 +13,12 @@ use Rattle.sqlite_value.proofs.OrderLemmas.{value_cmp_total}
 use Rattle.std.specs.List.{AllByRecursion}
 use Rattle.sqlite_rules.specs.Edit.{is_taken, are_fresh}
 use Rattle.sqlite.specs.State.{State}
-use Rattle.ov_specs.specs.Lines.{LineKey, LineBody, line_cmp}
-use Rattle.ov_specs.proofs.LineKeys.{key_total, key_exact}
+use Rattle.ov_specs.specs.rows.Lines.{LineKey, LineBody, line_cmp}
+use Rattle.ov_specs.proofs.laws.LineKeys.{key_total, key_exact}
 use Rattle.ov_store.specs.Format.{IsLine, IsMeta, entry, stored_lines}
 use Rattle.ov_store.specs.Changing.{IsNumbered, IsStored}
 use Rattle.ov_store.proofs.InsertLemmas.{line_row, Inserts}
+use Rattle.ov_specs.proofs.laws.Truths.{equal_is, right_fails}
 
 abbrev eq : LineKey → LineKey → Bool
 eq = eq_by_cmp line_cmp
@@ -51,22 +52,13 @@ none_agree e (r ∷ rows) none = (λ is. absurd (let apart = first_apart e.0 (en
 taken_first : (r new : Row) (b : Bool) → (is_eq (value_cmp (rowid r) (rowid new)) || b) ≡ false → value_cmp (rowid r) (rowid new) ≡ Equal → ⊥
 taken_first r new b h e = let t : (is_eq Equal || b) ≡ false = rw e at h in cc
 
-equal_is : (o : Ordering) → is_eq o ≡ true → o ≡ Equal
-equal_is Less e = cc
-equal_is Equal e = refl
-equal_is Greater e = cc
-
-taken_rest : (a b : Bool) → (a || b) ≡ false → b ≡ false
-taken_rest true b h = cc
-taken_rest false b h = h
-
 pub find_put : (new : Row) (rows : List Row) (q : LineKey) → is_taken rows new ≡ false → Agree (entry new) rows
     → find line_cmp q (map entry (put_row new rows)) ≡ cond (eq q (entry new).0) (Some (entry new).1) (find line_cmp q (map entry rows))
 find_put new [] q fresh agree = refl
 find_put new (r ∷ rs) q fresh agree =
     let k = (entry new).0 in
     let e = entry r in
-    let next = find_put new rs q (taken_rest _ _ fresh) agree.1 in
+    let next = find_put new rs q (right_fails _ _ fresh) agree.1 in
     let P = λ (o : Ordering). value_cmp (rowid r) (rowid new) ≡ o
     → find line_cmp q (map entry (match_ordering o (r ∷ put_row new rs) (new ∷ rs) (new ∷ r ∷ rs))) ≡ cond (eq q k) (Some (entry new).1) (cond (eq q e.0) (Some e.1) (find line_cmp q (map entry rs))) in
     elim (value_cmp (rowid r) (rowid new)) as P [
@@ -79,7 +71,7 @@ find_put new (r ∷ rs) q fresh agree =
 fresh_numbers : (new : Row) (rows : List Row) → is_taken rows new ≡ false → AllByRecursion (λ r. column r 0 ≡ column new 0 → ⊥) rows
 fresh_numbers new [] fresh = tt
 fresh_numbers new (r ∷ rows) fresh =
-    (λ e. taken_first r new _ fresh (equal_is (value_cmp (rowid r) (rowid new)) (ap (λ v. is_eq (value_cmp v (rowid new))) e ∙ (eq_by_cmp_equiv value_cmp_total).refl (rowid new))), fresh_numbers new rows (taken_rest _ _ fresh))
+    (λ e. taken_first r new _ fresh (equal_is (value_cmp (rowid r) (rowid new)) (ap (λ v. is_eq (value_cmp v (rowid new))) e ∙ (eq_by_cmp_equiv value_cmp_total).refl (rowid new))), fresh_numbers new rows (right_fails _ _ fresh))
 
 pub put_numbered : (new : Row) (rows : List Row) → is_taken rows new ≡ false → IsNumbered rows → IsNumbered (put_row new rows)
 put_numbered new rows fresh numbered =

@@ -13,7 +13,7 @@ use Rattle.sqlite_resolve.specs.declared.compiled.Compiled.{Compiled}
 use Rattle.sqlite_schema.specs.declared.command.Returning.{Returning}
 use Rattle.sqlite.proofs.Callers.{reads_as}
 use Rattle.ov_store.specs.Tables.{line_schema, select_text, meta_select_text}
-use Rattle.ov_store.specs.Reading.{shown, meta_shown}
+use Rattle.ov_store.specs.Reading.{line_selected, meta_selected}
 use Rattle.ov_store.specs.Querying.{IsAsBefore}
 use Rattle.ov_store.proofs.Texts.{query, select_is, select_plain, meta_query, meta_select_is, meta_select_plain}
 use Rattle.ov_store.proofs.RowLemmas.{map_then}
@@ -23,25 +23,25 @@ each : {X Y : Type 0} (f : X → Y) (xs : List X) → flat_map (λ x. f x ∷ []
 each f [] = refl
 each f (x ∷ xs) = ap (λ ys. f x ∷ ys) (each f xs)
 
-pub selects : (old new : State) (rows : List Row) → old.now.schema ≡ line_schema → Shown select_text [] old new rows → IsPermutation (map shown (old.now.trees 2)) rows
+pub selects : (old new : State) (rows : List Row) → old.now.schema ≡ line_schema → Shown select_text [] old new rows → IsPermutation (map line_selected (old.now.trees 2)) rows
 selects old new rows has h =
     let read = reads_as select_text [] old new line_schema has _ select_is.0 select_plain select_is.1 rows h in
     let db = old.now.trees in
     let a : IsAnswer query (overlay db []) [] rows = read.answer Null in
-    let kept : a.kept ≡ map (λ r. ([], shown r)) (db 2) = a.distinct ∙ ap (map (output query)) (a.grouped ∙ each (λ r. [] ∷ r ∷ []) (db 2)) ∙ map_then (λ r. [] ∷ r ∷ []) (output query) (db 2) in
-    let same : IsPermutation (map (λ (o : Output). o.1) (map (λ r. ([], shown r)) (db 2))) (map (λ (o : Output). o.1) a.ordered) =
+    let kept : a.kept ≡ map (λ r. ([], line_selected r)) (db 2) = a.distinct ∙ ap (map (output query)) (a.grouped ∙ each (λ r. [] ∷ r ∷ []) (db 2)) ∙ map_then (λ r. [] ∷ r ∷ []) (output query) (db 2) in
+    let same : IsPermutation (map (λ (o : Output). o.1) (map (λ r. ([], line_selected r)) (db 2))) (map (λ (o : Output). o.1) a.ordered) =
     IsPermutation-map (λ (o : Output). o.1) _ _ (subst (λ k. IsPermutation k a.ordered) kept a.same) in
-    subst (λ xs. IsPermutation xs rows) (map_then (λ r. ([], shown r)) (λ (o : Output). o.1) (db 2)) (subst (IsPermutation _) (sym a.shown) same)
+    subst (λ xs. IsPermutation xs rows) (map_then (λ r. ([], line_selected r)) (λ (o : Output). o.1) (db 2)) (subst (IsPermutation _) (sym a.shown) same)
 
-pub selects_meta : (old new : State) (rows : List Row) → old.now.schema ≡ line_schema → Shown meta_select_text [] old new rows → IsPermutation (map meta_shown (old.now.trees 0)) rows
+pub selects_meta : (old new : State) (rows : List Row) → old.now.schema ≡ line_schema → Shown meta_select_text [] old new rows → IsPermutation (map meta_selected (old.now.trees 0)) rows
 selects_meta old new rows has h =
     let read = reads_as meta_select_text [] old new line_schema has _ meta_select_is.0 meta_select_plain meta_select_is.1 rows h in
     let db = old.now.trees in
     let a : IsAnswer meta_query (overlay db []) [] rows = read.answer Null in
-    let kept : a.kept ≡ map (λ r. ([], meta_shown r)) (db 0) = a.distinct ∙ ap (map (output meta_query)) (a.grouped ∙ each (λ r. [] ∷ r ∷ []) (db 0)) ∙ map_then (λ r. [] ∷ r ∷ []) (output meta_query) (db 0) in
-    let same : IsPermutation (map (λ (o : Output). o.1) (map (λ r. ([], meta_shown r)) (db 0))) (map (λ (o : Output). o.1) a.ordered) =
+    let kept : a.kept ≡ map (λ r. ([], meta_selected r)) (db 0) = a.distinct ∙ ap (map (output meta_query)) (a.grouped ∙ each (λ r. [] ∷ r ∷ []) (db 0)) ∙ map_then (λ r. [] ∷ r ∷ []) (output meta_query) (db 0) in
+    let same : IsPermutation (map (λ (o : Output). o.1) (map (λ r. ([], meta_selected r)) (db 0))) (map (λ (o : Output). o.1) a.ordered) =
     IsPermutation-map (λ (o : Output). o.1) _ _ (subst (λ k. IsPermutation k a.ordered) kept a.same) in
-    subst (λ xs. IsPermutation xs rows) (map_then (λ r. ([], meta_shown r)) (λ (o : Output). o.1) (db 0)) (subst (IsPermutation _) (sym a.shown) same)
+    subst (λ xs. IsPermutation xs rows) (map_then (λ r. ([], meta_selected r)) (λ (o : Output). o.1) (db 0)) (subst (IsPermutation _) (sym a.shown) same)
 
 opened_by : (sql : List ℕ) (old new : State) (c : Compiled) (params : Row) (rows : List Row) (o : Option Returning) → ShowsRows old new sql c params rows o → IsTrue old.is_open
 opened_by sql old new c params rows None h = h.3.0.was_open

@@ -15,12 +15,12 @@ use Rattle.sqlite_trees.proofs.ListLemmas.{filter_same, filter-map, all_weaker, 
 use Rattle.sqlite_rules.specs.Edit.{id_in, without_all}
 use Rattle.sqlite_rules.specs.Calls.{ids_of}
 use Rattle.sqlite.specs.State.{State}
-use Rattle.ov_specs.specs.Lines.{line_cmp}
-use Rattle.ov_store.proofs.EntryLemmas.{from_entries-filter}
+use Rattle.ov_specs.specs.rows.Lines.{line_cmp}
 use Rattle.ov_store.specs.Format.{IsLine, IsFormat, entry, stored_lines}
 use Rattle.ov_store.specs.Changing.{IsNumbered, IsStored}
 use Rattle.ov_store.proofs.RowLemmas.{passes, passes_key, without_all_filter, same_number}
 use Rattle.ov_store.proofs.DeleteLemmas.{Deletes}
+use Rattle.ov_keeper.proofs.LineLemmas.{from_entries-filter}
 
 -- the second has the number of the first
 abbrev same : Row → Row → Bool

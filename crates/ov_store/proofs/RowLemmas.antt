@@ -20,9 +20,10 @@ use Rattle.sqlite_sql.specs.Ops.{binary, is_true, from_truth}
 use Rattle.sqlite_sql.specs.declared.ops.BinaryOp.TheVariants.{Compare}
 use Rattle.sqlite_sql.specs.declared.ops.CompareOp.TheVariants.{Eq}
 use Rattle.sqlite.specs.Collation.TheVariants.{Binary}
-use Rattle.ov_specs.specs.Lines.{line_cmp}
+use Rattle.ov_specs.specs.rows.Lines.{line_cmp}
 use Rattle.ov_store.specs.Format.{IsLine, entry}
 use Rattle.ov_store.proofs.Texts.{gone}
+use Rattle.ov_specs.proofs.laws.Truths.{equal_is}
 
 -- the row passes the test of the DELETE
 abbrev pub passes : List ℕ → List ℕ → Row → Bool
@@ -61,11 +62,6 @@ pub passes_key : (t i : List ℕ) (r : Row) → IsLine r → passes t i r ≡ eq
 passes_key t i r l =
     and_true _ _ ∙ ap₂ ◌&&◌ (equal_to_text (column r 1) l.tbl t l.tbl_is) (equal_to_blob (column r 2) l.id i l.id_is)
     ∙ sym (is_eq_then (slice_cmp nat_cmp t (bytes (column r 1))) (slice_cmp nat_cmp i (bytes (column r 2))))
-
-equal_is : (o : Ordering) → is_eq o ≡ true → o ≡ Equal
-equal_is Less e = cc
-equal_is Equal e = refl
-equal_is Greater e = cc
 
 same_int : (m n : ℤ) → is_eq (int_cmp m n) ≡ true → m ≡ n
 same_int m n h = int_cmp-IsAntisymmetric m n (equal_is _ h)

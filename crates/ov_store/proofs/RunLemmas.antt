@@ -10,7 +10,7 @@ use Rattle.sqlite.specs.Order.{Row}
 use Rattle.sqlite.specs.declared.error.Error.{Error}
 use Rattle.sqlite_trees.specs.Tree.{Trees}
 use Rattle.sqlite.proofs.StateLemmas.{survives_then}
-use Rattle.ov_specs.specs.Lines.{Lines}
+use Rattle.ov_specs.specs.rows.Lines.{Lines}
 use Rattle.ov_store.specs.Changing.{IsStored, MayBeStored, Makes}
 
 pub makes_none : (text : List ℕ) (f : Lines → Lines) (s : State) → IsTrue s.in_transaction → MayBeStored text s → ((m : Lines) → f m ≡ m) → Makes text f s s

@@ -6,7 +6,7 @@ use Rattle.sqlite.specs.Order.{Row, column}
 use Rattle.sqlite.specs.Tree.{Trees}
 use Rattle.sqlite.specs.Effect.{Database}
 use Rattle.sqlite.specs.State.{State}
-use Rattle.ov_specs.specs.Lines.{LineKey, LineBody, Lines}
+use Rattle.ov_specs.specs.rows.Lines.{LineKey, LineBody, Lines}
 use Rattle.ov_store.specs.Format.{IsFormat, entry, stored_lines}
 
 -- rows with one number are one line (own)
@@ -32,7 +32,7 @@ pub record Makes (text : List ℕ) (f : Lines → Lines) (old new : State) : Typ
   pub committed : new.committed ≡ old.committed
 
 -- one line was added, where its key had none (own)
-pub record Adds (text : List ℕ) (k : LineKey) (v : LineBody) (old new : State) : Type 0 where
+pub record AddsLine (text : List ℕ) (k : LineKey) (v : LineBody) (old new : State) : Type 0 where
   pub mode : IsTrue new.in_transaction
   pub opens : IsTrue new.is_open → IsTrue old.is_open
   pub stored : MayBeStored text new
@@ -55,7 +55,7 @@ pub record Stores (text : List ℕ) (f : Lines → Lines) (old new : State) : Ty
   pub meta : new.now.trees 0 ≡ old.now.trees 0
 
 -- what the commit writes to the disk, if it gets that far (own)
-pub record IsMade (f : Lines → Lines) (old : State) (trees : Trees) : Type 0 where
+pub record IsCommitImage (f : Lines → Lines) (old : State) (trees : Trees) : Type 0 where
   pub was_open : IsTrue old.is_open
   pub was_settled : old.now ≡ old.committed
   pub lines_are : stored_lines (trees 2) ≡ f (stored_lines (old.now.trees 2))

@@ -7,7 +7,7 @@ use Rattle.sqlite.specs.Held.{Held as Connected, state}
 use Rattle.sqlite.specs.Effect.{Database}
 use Rattle.sqlite.specs.Files.{AreFoundIn}
 use Rattle.sqlite_wal.specs.Recovery.{Image}
-use Rattle.ov_specs.specs.Lines.{Contents}
+use Rattle.ov_specs.specs.rows.Lines.{Contents}
 use Rattle.ov_store.specs.Tables.{no_schema, line_schema}
 use Rattle.ov_store.specs.Format.{IsFormat, held}
 use Rattle.ov_store.specs.StoreState.{StoreState, MayFind}

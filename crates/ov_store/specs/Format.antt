@@ -8,7 +8,7 @@ use Rattle.sqlite.specs.Order.{Row, column, value_cmp}
 use Rattle.sqlite_value.specs.Order.{bytes}
 use Rattle.sqlite.specs.Tree.{Trees}
 use Rattle.sqlite.specs.Effect.{Database}
-use Rattle.ov_specs.specs.Lines.{LineKey, LineBody, Lines, Contents}
+use Rattle.ov_specs.specs.rows.Lines.{LineKey, LineBody, Lines, Contents}
 use Rattle.ov_store.specs.Tables.{line_schema}
 
 -- a row of `line`: its number, and the table's name, the identifier, the version and the body (own)

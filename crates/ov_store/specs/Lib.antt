@@ -1,12 +1,12 @@
 pub mod Tables
 pub mod Format
 pub mod Changing
-pub mod Stop
+pub mod WriteError
 pub mod StoreState
-pub mod Found
+pub mod SomeHeld
 pub mod Reading
 pub mod Querying
-pub mod Parts
+pub mod LineColumns
 pub mod Making
 pub mod Finding
 pub mod Refusing

@@ -5,12 +5,12 @@ use Rattle.sqlite.specs.declared.types.Value.TheVariants.{Int, Text, Blob}
 use Rattle.sqlite.specs.Order.{Row, column}
 
 -- a row of `line` as it is read: its number, and the four columns (own)
-abbrev pub shown : Row → Row
-shown r = column r 0 ∷ column r 1 ∷ column r 2 ∷ column r 3 ∷ column r 4 ∷ []
+abbrev pub line_selected : Row → Row
+line_selected r = column r 0 ∷ column r 1 ∷ column r 2 ∷ column r 3 ∷ column r 4 ∷ []
 
 -- a row of `meta` as it is read: the two columns (own)
-abbrev pub meta_shown : Row → Row
-meta_shown r = column r 1 ∷ column r 2 ∷ []
+abbrev pub meta_selected : Row → Row
+meta_selected r = column r 1 ∷ column r 2 ∷ []
 
 -- the value is no number (own)
 abbrev pub IsNoNumber : Value → Type 0

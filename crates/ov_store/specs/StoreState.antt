@@ -5,7 +5,7 @@ use Rattle.sqlite.specs.Store.{Ghosts}
 use Rattle.sqlite.specs.Tree.{Trees}
 use Rattle.sqlite.specs.State.{HasCleanDisk}
 use Rattle.sqlite.specs.Held.{Held as Connected, held_code, state}
-use Rattle.ov_specs.specs.Lines.{Contents}
+use Rattle.ov_specs.specs.rows.Lines.{Contents}
 use Rattle.ov_store.specs.Format.{held}
 use Rattle.ov_store.specs.Changing.{MayBeStored}
 

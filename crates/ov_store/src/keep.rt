@@ -8,7 +8,7 @@ impl<S: Alter> Keeper for Store<S> {
     ghost use Rattle.sqlite.specs.State.{HasCleanDisk};
     ghost use Rattle.sqlite.specs.Held.{state};
     ghost use Rattle.ov_store.specs.StoreState.{MayFind};
-    ghost use Rattle.ov_store.specs.Found.{found_something};
+    ghost use Rattle.ov_store.specs.SomeHeld.{some_held};
 
     ghost is_honest = { λ s. HasCleanDisk (state S.Store s.connection) };
 
@@ -16,7 +16,7 @@ impl<S: Alter> Keeper for Store<S> {
 
     ghost failed = { λ s. s.failures };
 
-    ghost something = { λ s clean. found_something _ (S.Store.survives s.connection.store clean) };
+    ghost leaves_some = { λ s clean. some_held _ (S.Store.survives s.connection.store clean) };
 
     fn failures(&self) -> u64 {
         self.failures()

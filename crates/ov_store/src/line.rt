@@ -3,7 +3,7 @@
 ghost use Rattle.std.specs.Prelude.{◌≡◌, MatchOption, IfOk};
 ghost use Rattle.ov_keeper.specs.Views.{line_entry};
 ghost use Rattle.ov_store.specs.Format.{IsLine, entry};
-ghost use Rattle.ov_store.specs.Parts.{parts_entry};
+ghost use Rattle.ov_store.specs.LineColumns.{columns_entry};
 ghost use Rattle.sqlite.specs.Order.{column};
 ghost use Rattle.sqlite.specs.declared.types.Value.TheVariants.{Int};
 
@@ -16,7 +16,7 @@ use uuid::Uuid;
 
 /// The columns of a row that is a line.
 #[derive(Clone, Copy)]
-pub(crate) struct Parts<'a> {
+pub(crate) struct LineColumns<'a> {
     pub number: i64,
     pub table: &'a str,
     pub id: Uuid,
@@ -25,15 +25,15 @@ pub(crate) struct Parts<'a> {
 }
 
 /// The row's columns, if it is a line.
-pub(crate) fn parts_of(row: &Row) -> Option<Parts<'_>>
-    ensures { MatchOption result (¬ IsLine row.now) (λ parts. IsLine row.now × (column row.now 0 ≡ Int parts.number) × (parts_entry parts ≡ entry row.now)) }
+pub(crate) fn line_columns_of(row: &Row) -> Option<LineColumns<'_>>
+    ensures { MatchOption result (¬ IsLine row.now) (λ parts. IsLine row.now × (column row.now 0 ≡ Int parts.number) × (columns_entry parts ≡ entry row.now)) }
 {
     let number = number_at(row, 0)?;
     let table = text_at(row, 1)?;
     let id = uuid_at(row, 2)?;
     let version = uuid_at(row, 3)?;
     let body = blob_at(row, 4)?;
-    Some(Parts {
+    Some(LineColumns {
         number,
         table,
         id,
@@ -42,10 +42,10 @@ pub(crate) fn parts_of(row: &Row) -> Option<Parts<'_>>
     })
 }
 
-impl Parts<'_> {
+impl LineColumns<'_> {
     /// A line of these columns.
     pub(crate) fn to_line(&self, alloc: Global) -> Result<Line, AllocError>
-        ensures { IfOk result (λ line. line_entry line ≡ parts_entry self.now) }
+        ensures { IfOk result (λ line. line_entry line ≡ columns_entry self.now) }
     {
         Ok(Line {
             table: Text::from_str(alloc, self.table)?,

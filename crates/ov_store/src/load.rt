@@ -1,7 +1,7 @@
 ghost use Rattle.std.specs.Prelude.{◌≡◌, ◌≢◌, ◌⊎◌, ◌<◌, ◌≤◌, ◌-◌, ◌^◌, IfOk, Err};
 ghost use Rattle.sqlite.specs.State.{HasCleanDisk};
 ghost use Rattle.sqlite.specs.Held.{state};
-ghost use Rattle.ov_keeper.specs.Keeping.{Keeps};
+ghost use Rattle.ov_keeper.specs.Keeping.{LeavesNoMore};
 ghost use Rattle.ov_keeper.specs.ListKeeper.{lines_of};
 ghost use Rattle.ov_store.specs.StoreState.{MayFind};
 
@@ -17,7 +17,7 @@ impl<S: Alter> Store<S> {
     /// All lines.
     pub fn load_all(&mut self, alloc: Global) -> Result<Vec<Line>, KeepFault>
         ensures ok { HasCleanDisk (state S.Store self.new.connection) → IfOk result (λ lines. (contents : _) → MayFind S.Store self.old.connection contents → contents ≡ record { schema = self.old.schema; lines = lines_of lines.items }) }
-        ensures same { HasCleanDisk (state S.Store self.new.connection) → Keeps (MayFind S.Store self.old.connection) (MayFind S.Store self.new.connection) }
+        ensures same { HasCleanDisk (state S.Store self.new.connection) → LeavesNoMore (MayFind S.Store self.old.connection) (MayFind S.Store self.new.connection) }
         ensures honest { HasCleanDisk (state S.Store self.new.connection) → HasCleanDisk (state S.Store self.old.connection) }
         // A failure of the device has a cause: the count rises, where it is not at its greatest.
         ensures cause { result ≡ Err KeepFault.Device → (self.old.failures < self.new.failures) ⊎ (self.old.failures ≡ 2 ^ 64 - 1) }

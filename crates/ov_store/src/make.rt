@@ -5,9 +5,9 @@ ghost use Rattle.sqlite.specs.State.{HasCleanDisk, Survives, KeepsCommit};
 ghost use Rattle.sqlite.specs.Held.{state};
 ghost use Rattle.ov_store.specs.Tables.{no_schema};
 ghost use Rattle.ov_store.specs.Making.{HasSchema, HasMeta, HasTables, AddsMeta, IsFilled, IsNew, IsNewFile};
-ghost use Rattle.ov_store.specs.Stop.{IsBefore};
+ghost use Rattle.ov_store.specs.WriteError.{IsBefore};
 
-use crate::write::Stop;
+use crate::write::WriteError;
 use ov_base::Text;
 use sqlite::types::ValueRef;
 use sqlite::{Alter, Connection, Error, Transaction};
@@ -78,7 +78,7 @@ fn make_all<S: Alter>(tx: &mut Transaction<'_, S>, schema: &Text) -> Result<(), 
 }
 
 /// Makes the database of a schema's text and no line, in one transaction.
-pub(crate) fn make<S: Alter>(conn: &mut Connection<S>, schema: &Text) -> Result<(), Stop>
+pub(crate) fn make<S: Alter>(conn: &mut Connection<S>, schema: &Text) -> Result<(), WriteError>
     requires { conn.old.in_transaction ≡ false }
     ensures mode { conn.new.in_transaction ≡ false }
     ensures ok { HasCleanDisk (state S.Store conn.new) → HasSchema no_schema (state S.Store conn.old) → OnOk result (IsNew schema.now (state S.Store conn.new)) }
@@ -89,10 +89,10 @@ pub(crate) fn make<S: Alter>(conn: &mut Connection<S>, schema: &Text) -> Result<
     let mut tx = conn.transaction();
     match make_all(&mut tx, schema) {
         Ok(()) => {}
-        Err(error) => return Err(Stop::Before(error)),
+        Err(error) => return Err(WriteError::Before(error)),
     }
     match tx.commit() {
         Ok(()) => Ok(()),
-        Err(error) => Err(Stop::AtCommit(error)),
+        Err(error) => Err(WriteError::AtCommit(error)),
     }
 }

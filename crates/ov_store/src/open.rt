@@ -13,7 +13,7 @@ ghost use Rattle.ov_store.specs.StoreState.{MayFind};
 
 use crate::commit::{fault_at, fault_of};
 use crate::make::make;
-use crate::meta::schema_of;
+use crate::meta::schema_text_of;
 use crate::query::{line_rows, meta_rows};
 use crate::rows::test_rows;
 use crate::schema::{is_blank, is_ours};
@@ -40,7 +40,7 @@ fn read_meta<S: Alter>(alloc: Global, conn: &mut Connection<S>) -> Result<Text, 
         Ok(rows) => rows,
         Err(error) => return Err(fault_of(&error)),
     };
-    let Some(text) = schema_of(rows.as_slice()) else {
+    let Some(text) = schema_text_of(rows.as_slice()) else {
         return Err(KeepFault::Format);
     };
     match Text::from_str(alloc, text) {
@@ -60,10 +60,10 @@ fn make_new<S: Alter>(conn: &mut Connection<S>, schema: &Text) -> Result<(), Kee
 {
     // Its clause says that all is committed, here and below.
     let _before = conn.is_autocommit();
-    let Err(stop) = make(conn, schema) else {
+    let Err(failure) = make(conn, schema) else {
         return Ok(());
     };
-    let fault = fault_at(conn, &stop);
+    let fault = fault_at(conn, &failure);
     let _after = conn.is_autocommit();
     Err(fault)
 }

@@ -6,7 +6,7 @@ ghost use Rattle.ov_keeper.specs.Views.{line_entry};
 ghost use Rattle.ov_store.specs.Format.{IsLine, entry};
 ghost use Rattle.ov_store.specs.Changing.{IsNumbered};
 
-use crate::line::parts_of;
+use crate::line::line_columns_of;
 use ov_keeper::{KeepFault, Line};
 use sqlite::Row;
 use std::alloc::{AllocError, Global};
@@ -31,7 +31,7 @@ pub(crate) fn test_rows(rows: &[Row]) -> Result<(), KeepFault>
 {
     let mut last = None;
     for row in rows {
-        let Some(parts) = parts_of(row) else {
+        let Some(parts) = line_columns_of(row) else {
             return Err(KeepFault::Format);
         };
         if !is_above(parts.number, last) {
@@ -48,7 +48,7 @@ pub(crate) fn lines_of(alloc: Global, rows: &[Row]) -> Result<Option<Vec<Line>>,
 {
     let mut lines = Vec::with_capacity(alloc, rows.len())?;
     for row in rows {
-        let Some(parts) = parts_of(row) else {
+        let Some(parts) = line_columns_of(row) else {
             return Ok(None);
         };
         lines.push(parts.to_line(alloc)?)?;

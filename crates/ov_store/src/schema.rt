@@ -53,7 +53,7 @@ fn are_line_columns(columns: &[Column]) -> bool
     }
 }
 
-fn is_key(key: &Items<usize>, places: &[usize]) -> bool
+fn has_places(key: &Items<usize>, places: &[usize]) -> bool
     ensures { IsTrue result ↔ (key.now ≡ places.now) }
 {
     key.as_slice() == places
@@ -64,7 +64,7 @@ fn is_only_key(uniques: &[Items<usize>], places: &[usize]) -> bool
     ensures { IsTrue result ↔ (uniques.now ≡ places.now ∷ []) }
 {
     match uniques {
-        [key] => is_key(key, places),
+        [key] => has_places(key, places),
         _ => false,
     }
 }

@@ -19,7 +19,7 @@ pub(crate) fn number_at(row: &Row, at: usize) -> Option<i64>
 }
 
 /// Whether it is this text.
-pub(crate) fn is_text(row: &Row, at: usize, text: &[u8]) -> bool
+pub(crate) fn is_text_at(row: &Row, at: usize, text: &[u8]) -> bool
     ensures { IsTrue result ↔ (column row.now at ≡ Text text.now) }
 {
     match row.get_ref(at) {
@@ -29,7 +29,7 @@ pub(crate) fn is_text(row: &Row, at: usize, text: &[u8]) -> bool
 }
 
 /// Whether it is a blob of these bytes.
-pub(crate) fn is_blob(row: &Row, at: usize, blob: &[u8]) -> bool
+pub(crate) fn is_blob_at(row: &Row, at: usize, blob: &[u8]) -> bool
     ensures { IsTrue result ↔ (column row.now at ≡ Blob blob.now) }
 {
     match row.get_ref(at) {

@@ -2,10 +2,10 @@ ghost use Rattle.std.specs.Prelude.{◌≡◌, ◌<◌, length, false, IsTrue, O
 ghost use Rattle.std.specs.FinMap.{insert, remove};
 ghost use Rattle.sqlite.specs.State.{HasCleanDisk, Survives, KeepsCommit, IsUnchanged};
 ghost use Rattle.sqlite.specs.Held.{state};
-ghost use Rattle.ov_specs.specs.Lines.{after_change, after_changes};
+ghost use Rattle.ov_specs.specs.rows.Lines.{after_change, after_changes};
 ghost use Rattle.ov_keeper.specs.Views.{change_view, changes_view, line_entry};
-ghost use Rattle.ov_store.specs.Stop.{IsBefore};
-ghost use Rattle.ov_store.specs.Changing.{MayBeStored, Makes, Adds, after_update, Stores, IsMade};
+ghost use Rattle.ov_store.specs.WriteError.{IsBefore};
+ghost use Rattle.ov_store.specs.Changing.{MayBeStored, Makes, AddsLine, after_update, Stores, IsCommitImage};
 
 use ov_keeper::{Change, Line};
 use sqlite::types::ValueRef;
@@ -30,7 +30,7 @@ fn remove_line<S: Alter>(tx: &mut Transaction<'_, S>, table: &str, id: Uuid) -> 
 }
 
 /// The sixteen bytes of an identifier.
-fn bytes_of(id: &Uuid) -> &[u8]
+fn id_bytes(id: &Uuid) -> &[u8]
     ensures bytes { result.now ≡ id.now }
     ensures sixteen { length result.now ≡ 16 }
 {
@@ -49,8 +49,8 @@ fn update_line<S: Alter>(tx: &mut Transaction<'_, S>, line: &Line) -> Result<boo
 {
     let values = [
         ValueRef::Text(line.table.as_str().as_bytes()),
-        ValueRef::Blob(bytes_of(&line.id)),
-        ValueRef::Blob(bytes_of(&line.version)),
+        ValueRef::Blob(id_bytes(&line.id)),
+        ValueRef::Blob(id_bytes(&line.version)),
         ValueRef::Blob(line.body.as_slice()),
     ];
     let changed = tx.execute(
@@ -63,7 +63,7 @@ fn update_line<S: Alter>(tx: &mut Transaction<'_, S>, line: &Line) -> Result<boo
 fn insert_line<S: Alter>(tx: &mut Transaction<'_, S>, line: &Line) -> Result<(), Error>
     ensures same_reference { tx.new.conn.ghost_name ≡ tx.old.conn.ghost_name }
     ensures ok { HasCleanDisk (state S.Store tx.new.conn.now) → IsTrue (state S.Store tx.old.conn.now).in_transaction → (text : _) → MayBeStored text (state S.Store tx.old.conn.now)
-        → OnOk result (Adds text (line_entry line.now).0 (line_entry line.now).1 (state S.Store tx.old.conn.now) (state S.Store tx.new.conn.now)) }
+        → OnOk result (AddsLine text (line_entry line.now).0 (line_entry line.now).1 (state S.Store tx.old.conn.now) (state S.Store tx.new.conn.now)) }
     ensures opened { HasCleanDisk (state S.Store tx.new.conn.now) → IsTrue (state S.Store tx.old.conn.now).in_transaction → OnOk result (IsTrue (state S.Store tx.old.conn.now).is_open) }
     ensures goes_on { HasCleanDisk (state S.Store tx.new.conn.now) → IsTrue (state S.Store tx.old.conn.now).in_transaction → OnOk result (IsTrue (state S.Store tx.new.conn.now).in_transaction) }
     ensures kept { HasCleanDisk (state S.Store tx.new.conn.now) → IsTrue (state S.Store tx.old.conn.now).in_transaction → KeepsCommit (state S.Store tx.old.conn.now) (state S.Store tx.new.conn.now) }
@@ -71,8 +71,8 @@ fn insert_line<S: Alter>(tx: &mut Transaction<'_, S>, line: &Line) -> Result<(),
 {
     let values = [
         ValueRef::Text(line.table.as_str().as_bytes()),
-        ValueRef::Blob(bytes_of(&line.id)),
-        ValueRef::Blob(bytes_of(&line.version)),
+        ValueRef::Blob(id_bytes(&line.id)),
+        ValueRef::Blob(id_bytes(&line.version)),
         ValueRef::Blob(line.body.as_slice()),
     ];
     tx.execute(
@@ -129,13 +129,13 @@ fn apply_all<S: Alter>(tx: &mut Transaction<'_, S>, changes: &[Change]) -> Resul
 
 /// Where a write stopped: before the commit, which then changed nothing, or at the commit.
 #[derive(Debug, Drop)]
-pub enum Stop {
+pub enum WriteError {
     Before(Error),
     AtCommit(Error),
 }
 
 /// Makes the changes in one transaction.
-pub fn write_all<S: Alter>(conn: &mut Connection<S>, changes: &[Change]) -> Result<(), Stop>
+pub fn write_all<S: Alter>(conn: &mut Connection<S>, changes: &[Change]) -> Result<(), WriteError>
     requires autocommit { conn.old.in_transaction ≡ false }
     requires some { 0 < length changes.now }
     ensures mode { conn.new.in_transaction ≡ false }
@@ -143,21 +143,21 @@ pub fn write_all<S: Alter>(conn: &mut Connection<S>, changes: &[Change]) -> Resu
         → OnOk result (Stores text (after_changes (changes_view changes.now)) (state S.Store conn.old) (state S.Store conn.new)) }
     ensures before { IfErr result (λ s. IsBefore s → Survives (state S.Store conn.old) (state S.Store conn.new) (λ _. ⊥)) }
     ensures crash { Survives (state S.Store conn.old) (state S.Store conn.new)
-        (λ trees. (text : _) → MayBeStored text (state S.Store conn.old) → IsMade (after_changes (changes_view changes.now)) (state S.Store conn.old) trees) }
+        (λ trees. (text : _) → MayBeStored text (state S.Store conn.old) → IsCommitImage (after_changes (changes_view changes.now)) (state S.Store conn.old) trees) }
     ensures unmoved { HasCleanDisk (state S.Store conn.new) → OnErr result (KeepsCommit (state S.Store conn.old) (state S.Store conn.new)) }
     ensures kept { HasCleanDisk (state S.Store conn.new) → (text : _) → MayBeStored text (state S.Store conn.old) → MayBeStored text (state S.Store conn.new) }
 {
     if !conn.is_autocommit() {
-        return Err(Stop::Before(Error::InvalidQuery));
+        return Err(WriteError::Before(Error::InvalidQuery));
     }
     let mut tx = conn.transaction();
     match apply_all(&mut tx, changes) {
         Ok(()) => {}
-        Err(error) => return Err(Stop::Before(error)),
+        Err(error) => return Err(WriteError::Before(error)),
     }
     match tx.commit() {
         Ok(()) => Ok(()),
-        Err(error) => Err(Stop::AtCommit(error)),
+        Err(error) => Err(WriteError::AtCommit(error)),
     }
 }
 

@@ -2,9 +2,8 @@ use crate::rows::put;
 use crate::step::Step;
 use anyhow::{Context, Result, bail};
 use ov_base::Text;
-use ov_store::open_in_memory;
 use ov_keeper::{Change, Keeper};
-use ov_store::Store;
+use ov_store::{Store, open_in_memory};
 use sqlite::{Alter, Connection};
 use std::time::Instant;
 

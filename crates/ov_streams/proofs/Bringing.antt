@@ -3,19 +3,19 @@ use Rattle.std.proofs.Common.{◌≡◌, ◌≢◌, ℕ, List, [], ◌∷◌, �
 use Rattle.std.specs.Prelude.{MatchBool}
 use Rattle.std.proofs.lemmas.List.{append-nil}
 use Rattle.std.proofs.lemmas.Bool.{false≢true, cases_Bool}
-use Rattle.ov_specs.specs.Cut.{Cut, Damage, Stray, TooLong, cut}
-use Rattle.ov_specs.specs.Message.{Message, Asked, asked, asked_of, with_asked, message_in}
-use Rattle.ov_specs.specs.Machine as machine
-use Rattle.ov_specs.specs.Machine.{State, Entry, Stepped, is_open}
-use Rattle.ov_specs.specs.Streams as streams
-use Rattle.ov_specs.specs.Streams.{Feeds}
-use Rattle.ov_specs.proofs.Turns.{turn_close}
+use Rattle.ov_specs.specs.wire.Cut.{Cut, Damage, Stray, TooLong, cut}
+use Rattle.ov_specs.specs.wire.Message.{Message, Asked, asked, asked_of, with_asked, message_in}
+use Rattle.ov_specs.specs.machine.Machine as machine
+use Rattle.ov_specs.specs.machine.Machine.{State, Entry, Stepped, is_open}
+use Rattle.ov_specs.specs.machine.Streams as streams
+use Rattle.ov_specs.specs.machine.Streams.{Feeds}
+use Rattle.ov_specs.proofs.laws.Turns.{turn_close}
 use Rattle.ov_cut.specs.declared.fault.CutFault.{CutFault}
 use Rattle.ov_cut.specs.declared.fault.CutFault.TheVariants as fault
-use Rattle.ov_cut.specs.Cutting.{Cutting, StandsFor, IsBeginning, told}
-use Rattle.ov_core.specs.Following.{Running, Enters}
-use Rattle.ov_streams.specs.Feeding.{IsFed, Brings}
-use Rattle.ov_streams.specs.Entering.{EntersAll, Shuts, cause_of_fault}
+use Rattle.ov_cut.specs.CutterState.{CutterState, StandsFor, IsBeginning, fault_of_damage}
+use Rattle.ov_core.specs.Following.{CoreState, Extends}
+use Rattle.ov_streams.specs.Feeding.{IsFed, EntersPiece}
+use Rattle.ov_streams.specs.Entering.{EntersTexts, ClosesByEntry, cause_of_fault}
 use Rattle.ov_streams.proofs.Entering.{FeedsAsked, by_memory, enters_more}
 
 -- ---- what is asked by more texts
@@ -39,7 +39,7 @@ closed_test : (b : Bool) (P Q : Type 0) → MatchBool b P Q → (b ≡ true → 
 closed_test true P Q h open_case shut_case = open_case refl h
 closed_test false P Q h open_case shut_case = shut_case refl h
 
-shut_by : (n : ℕ) (at : ℕ) (s : State) (cause : machine.Cause) (e : Entry) (t : Stepped) (new : State) → streams.Enters at s (machine.Close n cause) e t → new ≡ t.state → is_open new n ≡ true → ⊥
+shut_by : (n : ℕ) (at : ℕ) (s : State) (cause : machine.Cause) (e : Entry) (t : Stepped) (new : State) → streams.IsEntryAt at s (machine.Close n cause) e t → new ≡ t.state → is_open new n ≡ true → ⊥
 shut_by n at s cause e t new enters same there =
     false≢true (sym ((turn_close n s e t enters.step cause enters.event).open_is) ∙ (ap (λ v. is_open v n) (sym same) ∙ there))
 
@@ -61,18 +61,18 @@ undamaged at s n ms false entries new f there = refl
 
 -- ---- how damage is told
 
-told_none : (d : Option Damage) (f : Option CutFault) → told d ≡ f → f ≡ None → is_some d ≡ false
+told_none : (d : Option Damage) (f : Option CutFault) → fault_of_damage d ≡ f → f ≡ None → is_some d ≡ false
 told_none None f h e = refl
 told_none (Some (Stray n)) f h e = cc
 told_none (Some TooLong) f h e = cc
 
-told_some : (d : Option Damage) (f : Option CutFault) (why : CutFault) → told d ≡ f → f ≡ Some why → is_some d ≡ true
+told_some : (d : Option Damage) (f : Option CutFault) (why : CutFault) → fault_of_damage d ≡ f → f ≡ Some why → is_some d ≡ true
 told_some None f why h e = cc
 told_some (Some x) f why h e = refl
 
 -- ---- the piece
 
-module _ {K D : Type 0} (at n : ℕ) (stream piece : List ℕ) (texts : List (List ℕ)) (old mid : Running K D) (before after : Cutting) (f : IsFed stream before) (all : EntersAll at n texts old mid) where
+module _ {K D : Type 0} (at n : ℕ) (stream piece : List ℕ) (texts : List (List ℕ)) (old mid : CoreState K D) (before after : CutterState) (f : IsFed stream before) (all : EntersTexts at n texts old mid) where
   -- what is asked with the piece, by the texts that it ends and others behind them
   split : (others : List (List ℕ)) (e : Bool) → (f.given ++ texts) ++ others ≡ (cut (stream ++ piece)).messages → is_some (cut (stream ++ piece)).damage ≡ e
       → asked (stream ++ piece) ≡ with_all (asked stream).messages (asked_of (texts ++ others) e)
@@ -83,8 +83,8 @@ module _ {K D : Type 0} (at n : ℕ) (stream piece : List ℕ) (texts : List (Li
       ∙ ap (λ (ts : List (List ℕ)). with_all (asked_of ts (is_some (cut stream).damage)).messages (asked_of (texts ++ others) e)) (sym f.stands.messages)))
 
   brings : (others : List (List ℕ)) (e : Bool) → asked (stream ++ piece) ≡ with_all (asked stream).messages (asked_of (texts ++ others) e)
-      → (entries : List Entry) (new : Running K D) → Enters old entries new → FeedsAsked at old.state n (asked_of (texts ++ others) e) entries new.state
-      → (is_open new.state n ≡ true → IsFed (stream ++ piece) after) → Brings at n stream piece old new after
+      → (entries : List Entry) (new : CoreState K D) → Extends old entries new → FeedsAsked at old.state n (asked_of (texts ++ others) e) entries new.state
+      → (is_open new.state n ≡ true → IsFed (stream ++ piece) after) → EntersPiece at n stream piece old new after
   brings others e is entries new enters feeds on = record {
     messages = (asked_of (texts ++ others) e).messages;
     more = ap (λ (a : Asked). a.messages) is;
@@ -95,13 +95,13 @@ module _ {K D : Type 0} (at n : ℕ) (stream piece : List ℕ) (texts : List (Li
   }
 
   -- a text closed the session
-  pub at_text : (others : List (List ℕ)) → (f.given ++ texts) ++ others ≡ (cut (stream ++ piece)).messages → is_open mid.state n ≡ false → Brings at n stream piece old mid after
+  pub at_text : (others : List (List ℕ)) → (f.given ++ texts) ++ others ≡ (cut (stream ++ piece)).messages → is_open mid.state n ≡ false → EntersPiece at n stream piece old mid after
   at_text others p away =
       let e : Bool = is_some (cut (stream ++ piece)).damage in
       brings others e (split others e p refl) all.entries mid all.enters (all.ends away others e) (λ there. absurd (false≢true (sym away ∙ there)))
 
   -- memory was refused for more texts
-  pub at_memory : (others : List (List ℕ)) → (f.given ++ texts) ++ others ≡ (cut (stream ++ piece)).messages → is_open mid.state n ≡ true → (new : Running K D) → Shuts at n machine.Memory mid new → Brings at n stream piece old new after
+  pub at_memory : (others : List (List ℕ)) → (f.given ++ texts) ++ others ≡ (cut (stream ++ piece)).messages → is_open mid.state n ≡ true → (new : CoreState K D) → ClosesByEntry at n machine.Memory mid new → EntersPiece at n stream piece old new after
   at_memory others p there new s =
       let e : Bool = is_some (cut (stream ++ piece)).damage in
       let x : Asked = asked_of others e in
@@ -114,7 +114,7 @@ module _ {K D : Type 0} (at n : ℕ) (stream piece : List ℕ) (texts : List (Li
     whole = append-nil (f.given ++ texts) ∙ sym now.messages
 
     -- damage is new
-    pub at_damage : (why : CutFault) → after.fault ≡ Some why → (new : Running K D) → Shuts at n machine.Damaged mid new → Brings at n stream piece old new after
+    pub at_damage : (why : CutFault) → after.fault ≡ Some why → (new : CoreState K D) → ClosesByEntry at n machine.Damaged mid new → EntersPiece at n stream piece old new after
     at_damage why is new s =
         let last = subst (λ (v : State). FeedsAsked at mid.state n (asked_of [] true) (s.entry ∷ []) v) s.adds.state (s.step, inr (refl, s.is), refl) in
         brings [] true (split [] true whole (told_some (cut (stream ++ piece)).damage after.fault why now.fault is)) (all.entries ++ s.entry ∷ []) new
@@ -122,7 +122,7 @@ module _ {K D : Type 0} (at n : ℕ) (stream piece : List ℕ) (texts : List (Li
         (λ open'. absurd (false≢true (sym (ap (λ (v : State). is_open v n) (sym s.adds.state) ∙ s.shut) ∙ open')))
 
     -- the piece ends no stream
-    pub at_end : after.fault ≡ None → Brings at n stream piece old mid after
+    pub at_end : after.fault ≡ None → EntersPiece at n stream piece old mid after
     at_end is =
         let split' = split [] false whole (told_none (cut (stream ++ piece)).damage after.fault now.fault is) in
         let feeds = all.goes_on there [] false [] mid.state refl in
@@ -134,12 +134,12 @@ module _ {K D : Type 0} (at n : ℕ) (stream piece : List ℕ) (texts : List (Li
         })
 
 -- the cutter told a fault
-pub at_fault : {K D : Type 0} (at n : ℕ) (stream piece : List ℕ) (texts : List (List ℕ)) (old mid : Running K D) (before after : Cutting) (f : IsFed stream before) (all : EntersAll at n texts old mid)
-    (told : Option CutFault) (why : CutFault) → told ≡ Some why → told ≡ after.fault → (told ≢ Some fault.Memory → StandsFor (stream ++ piece) (f.given ++ texts) after) → IsBeginning (f.given ++ texts) (cut (stream ++ piece)).messages
-    → is_open mid.state n ≡ true → (new : Running K D) → Shuts at n (cause_of_fault why) mid new → Brings at n stream piece old new after
-at_fault at n stream piece texts old mid before after f all told (fault.Damaged x) is same stands begins there new s =
+pub at_fault : {K D : Type 0} (at n : ℕ) (stream piece : List ℕ) (texts : List (List ℕ)) (old mid : CoreState K D) (before after : CutterState) (f : IsFed stream before) (all : EntersTexts at n texts old mid)
+    (fault_of_damage : Option CutFault) (why : CutFault) → fault_of_damage ≡ Some why → fault_of_damage ≡ after.fault → (fault_of_damage ≢ Some fault.Memory → StandsFor (stream ++ piece) (f.given ++ texts) after) → IsBeginning (f.given ++ texts) (cut (stream ++ piece)).messages
+    → is_open mid.state n ≡ true → (new : CoreState K D) → ClosesByEntry at n (cause_of_fault why) mid new → EntersPiece at n stream piece old new after
+at_fault at n stream piece texts old mid before after f all fault_of_damage (fault.Damaged x) is same stands begins there new s =
     at_damage at n stream piece texts old mid before after f all (stands (λ h. let g : Some (fault.Damaged x) ≡ Some fault.Memory = sym is ∙ h in cc)) there (fault.Damaged x) (sym same ∙ is) new s
-at_fault at n stream piece texts old mid before after f all told fault.TooLong is same stands begins there new s =
+at_fault at n stream piece texts old mid before after f all fault_of_damage fault.TooLong is same stands begins there new s =
     at_damage at n stream piece texts old mid before after f all (stands (λ h. let g : Some fault.TooLong ≡ Some fault.Memory = sym is ∙ h in cc)) there fault.TooLong (sym same ∙ is) new s
-at_fault at n stream piece texts old mid before after f all told fault.Memory is same stands begins there new s =
+at_fault at n stream piece texts old mid before after f all fault_of_damage fault.Memory is same stands begins there new s =
     at_memory at n stream piece texts old mid before after f all begins.0 begins.1 there new s

@@ -3,29 +3,29 @@ use Rattle.std.proofs.Common.{◌≡◌, ℕ, ◌+◌, ◌<◌, ◌≤◌, List,
 use Rattle.std.specs.Prelude.{MatchBool}
 use Rattle.std.proofs.lemmas.List.{append-nil, drop_more}
 use Rattle.std.proofs.lemmas.Bool.{false≢true}
-use Rattle.ov_specs.specs.Message.{Message, Asked, asked_of, with_asked, message_in}
-use Rattle.ov_specs.specs.Machine as machine
-use Rattle.ov_specs.specs.Machine.{State, Entry, Stepped, is_open}
-use Rattle.ov_specs.specs.Uuid.{Uuid}
-use Rattle.ov_specs.specs.Streams as streams
-use Rattle.ov_specs.specs.Streams.{Feeds}
-use Rattle.ov_specs.proofs.Turns.{turn_close}
+use Rattle.ov_specs.specs.wire.Message.{Message, Asked, asked_of, with_asked, message_in}
+use Rattle.ov_specs.specs.machine.Machine as machine
+use Rattle.ov_specs.specs.machine.Machine.{State, Entry, Stepped, is_open}
+use Rattle.ov_specs.specs.values.Uuid.{Uuid}
+use Rattle.ov_specs.specs.machine.Streams as streams
+use Rattle.ov_specs.specs.machine.Streams.{Feeds}
+use Rattle.ov_specs.proofs.laws.Turns.{turn_close}
 use Rattle.ov_core.specs.declared.event.Stepped.{Stepped as Reply}
 use Rattle.ov_core.specs.declared.event.Stepped.TheVariants as answer
 use Rattle.ov_core.specs.declared.event.StepFault.TheVariants as fault
-use Rattle.ov_core.specs.Following.{Running, Follows, Enters}
+use Rattle.ov_core.specs.Following.{CoreState, Follows, Extends}
 use Rattle.ov_core.specs.Stepping.{StepIs, IsEntered}
-use Rattle.ov_streams.specs.Entering.{Adds, Shuts, Takes, ComesOf, EntersOne, EntersAll}
+use Rattle.ov_streams.specs.Entering.{ExtendsByStep, ClosesByEntry, TakesMessage, TextOutcome, EntersText, EntersTexts}
 
 -- ---- what a step of the core is
 
-adds : {K D : Type 0} {draws : D → Uuid → D → Type 0} {at : ℕ} {event : machine.Event} {old new : Running K D} {r : Reply} (e : IsEntered draws at event old r new)
-    → Adds old e.entry (record { state = new.state; sent = e.moves.sent }) new
+adds : {K D : Type 0} {draws : D → Uuid → D → Type 0} {at : ℕ} {event : machine.Event} {old new : CoreState K D} {r : Reply} (e : IsEntered draws at event old r new)
+    → ExtendsByStep old e.entry (record { state = new.state; sent = e.moves.sent }) new
 adds e = record { state = refl; enters = e.moves.follows }
 
 -- the session is open, so a closing of it is entered
-pub shuts : {K D : Type 0} (draws : D → Uuid → D → Type 0) (at n : ℕ) (cause : machine.Cause) (old new : Running K D) (r : Reply) → is_open old.state n ≡ true
-    → StepIs draws (max at old.state.moment) (machine.Close n cause) old r new → Shuts at n cause old new
+pub shuts : {K D : Type 0} (draws : D → Uuid → D → Type 0) (at n : ℕ) (cause : machine.Cause) (old new : CoreState K D) (r : Reply) → is_open old.state n ≡ true
+    → StepIs draws (max at old.state.moment) (machine.Close n cause) old r new → ClosesByEntry at n cause old new
 shuts draws at n cause old new (answer.Opened session) there e = absurd e.tells
 shuts draws at n cause old new answer.Done there e = let t : Stepped = record { state = new.state; sent = e.moves.sent } in record {
   entry = e.entry;
@@ -40,20 +40,20 @@ shuts draws at n cause old new (answer.Refused fault.Memory) there (same, why) =
 shuts draws at n cause old new (answer.Refused fault.NotOpen) there (same, why) = absurd (false≢true (sym why ∙ there))
 
 -- the session is open, so its message is taken, or it is closed for want of memory
-pub took : {K D : Type 0} (draws : D → Uuid → D → Type 0) (at n : ℕ) (text : List ℕ) (message : Message) (old new : Running K D) (r : Reply) → is_open old.state n ≡ true → message_in text ≡ Some message
-    → StepIs draws (max at old.state.moment) (machine.Take n message) old r new → EntersOne at n text old new
+pub took : {K D : Type 0} (draws : D → Uuid → D → Type 0) (at n : ℕ) (text : List ℕ) (message : Message) (old new : CoreState K D) (r : Reply) → is_open old.state n ≡ true → message_in text ≡ Some message
+    → StepIs draws (max at old.state.moment) (machine.Take n message) old r new → EntersText at n text old new
 took draws at n text message old new (answer.Opened session) there is e = absurd e.tells
 took draws at n text message old new answer.Done there is e = record {
   entry = e.entry;
   step = record { state = new.state; sent = e.moves.sent };
   adds = adds e;
-  comes = inl (e.tells.1, (message, is, record { event = e.tells.0; moment = e.moment; step = e.moves.stepped }));
+  outcome = inl (e.tells.1, (message, is, record { event = e.tells.0; moment = e.moment; step = e.moves.stepped }));
 }
 took draws at n text message old new answer.Closed there is e = record {
   entry = e.entry;
   step = record { state = new.state; sent = e.moves.sent };
   adds = adds e;
-  comes = inr (
+  outcome = inr (
     e.tells.1,
     elim e.tells.0 [
       | inl taken ↦ inl (message, is, record { event = taken; moment = e.moment; step = e.moves.stepped })
@@ -66,17 +66,17 @@ took draws at n text message old new (answer.Refused fault.Memory) there is (sam
 took draws at n text message old new (answer.Refused fault.NotOpen) there is (same, why) = absurd (false≢true (sym why ∙ there))
 
 -- an unreadable text closed the session
-pub was_unreadable : {K D : Type 0} (at n : ℕ) (text : List ℕ) (old new : Running K D) → message_in text ≡ None → Shuts at n machine.Damaged old new → EntersOne at n text old new
-was_unreadable at n text old new none s = record { entry = s.entry; step = s.step; adds = s.adds; comes = inr (s.shut, inr (inr (none, s.is))) }
+pub was_unreadable : {K D : Type 0} (at n : ℕ) (text : List ℕ) (old new : CoreState K D) → message_in text ≡ None → ClosesByEntry at n machine.Damaged old new → EntersText at n text old new
+was_unreadable at n text old new none s = record { entry = s.entry; step = s.step; adds = s.adds; outcome = inr (s.shut, inr (inr (none, s.is))) }
 
 -- want of memory closed the session
-pub wanted_memory : {K D : Type 0} (at n : ℕ) (text : List ℕ) (old new : Running K D) → Shuts at n machine.Memory old new → EntersOne at n text old new
-wanted_memory at n text old new s = record { entry = s.entry; step = s.step; adds = s.adds; comes = inr (s.shut, inr (inl s.is)) }
+pub wanted_memory : {K D : Type 0} (at n : ℕ) (text : List ℕ) (old new : CoreState K D) → ClosesByEntry at n machine.Memory old new → EntersText at n text old new
+wanted_memory at n text old new s = record { entry = s.entry; step = s.step; adds = s.adds; outcome = inr (s.shut, inr (inl s.is)) }
 
 -- ---- what comes of one text, before others
 
 -- want of memory closes the session, whatever was to come
-pub by_memory : (at : ℕ) (s : State) (n : ℕ) (ms : List Message) (d : Bool) (e : Entry) (t : Stepped) → streams.Enters at s (machine.Close n machine.Memory) e t → Feeds at s n ms d (e ∷ []) t.state
+pub by_memory : (at : ℕ) (s : State) (n : ℕ) (ms : List Message) (d : Bool) (e : Entry) (t : Stepped) → streams.IsEntryAt at s (machine.Close n machine.Memory) e t → Feeds at s n ms d (e ∷ []) t.state
 by_memory at s n [] true e t h = (t, inl h, refl)
 by_memory at s n [] false e t h = (t, inl h, refl)
 by_memory at s n (m ∷ ms) d e t h = (t, inl (h, refl, refl))
@@ -95,14 +95,14 @@ asked_more : (text : List ℕ) (texts : List (List ℕ)) (d : Bool) (o : Option 
 asked_more text texts d o e = ap (λ (p : Option Message). with_asked p (asked_of texts d)) e
 
 -- the text was taken, and the others go on from there
-pub taken_then : (at n : ℕ) (text : List ℕ) (texts : List (List ℕ)) (d : Bool) (s : State) (e : Entry) (t : Stepped) (more : List Entry) (last : State) → is_open t.state n ≡ true → Takes at n text s e t
+pub taken_then : (at n : ℕ) (text : List ℕ) (texts : List (List ℕ)) (d : Bool) (s : State) (e : Entry) (t : Stepped) (more : List Entry) (last : State) → is_open t.state n ≡ true → TakesMessage at n text s e t
     → FeedsAsked at t.state n (asked_of texts d) more last → FeedsAsked at s n (asked_of (text ∷ texts) d) (e ∷ more) last
 taken_then at n text texts d s e t more last there (message, is, h) f =
     feeds_as at s n _ _ _ _ (asked_more text texts d (Some message) is) (t, inr (h, at_test _ true _ _ there f))
 
 -- the text closed the session
 pub ended_by : (at n : ℕ) (text : List ℕ) (texts : List (List ℕ)) (d : Bool) (s : State) (e : Entry) (t : Stepped) → is_open t.state n ≡ false
-    → (Takes at n text s e t ⊎ (streams.Enters at s (machine.Close n machine.Memory) e t ⊎ ((message_in text ≡ None) × streams.Enters at s (machine.Close n machine.Damaged) e t)))
+    → (TakesMessage at n text s e t ⊎ (streams.IsEntryAt at s (machine.Close n machine.Memory) e t ⊎ ((message_in text ≡ None) × streams.IsEntryAt at s (machine.Close n machine.Damaged) e t)))
     → FeedsAsked at s n (asked_of (text ∷ texts) d) (e ∷ []) t.state
 ended_by at n text texts d s e t shut (inl (message, is, h)) = feeds_as at s n _ _ _ _ (asked_more text texts d (Some message) is) (t, inr (h, at_test _ false _ _ shut (refl, refl)))
 ended_by at n text texts d s e t shut (inr (inl h)) = by_memory at s n (asked_of (text ∷ texts) d).messages (asked_of (text ∷ texts) d).damaged e t h
@@ -110,15 +110,15 @@ ended_by at n text texts d s e t shut (inr (inr (none, h))) = feeds_as at s n _ 
 
 -- ---- the loop
 
-pub enters_none : {K D : Type 0} (core : Running K D) → Enters core [] core
+pub enters_none : {K D : Type 0} (core : CoreState K D) → Extends core [] core
 enters_none core before history given h = subst (λ (k : List Entry). Follows before k given core) (sym (append-nil history)) h
 
-pub enters_more : {K D : Type 0} (old mid new : Running K D) (entries more : List Entry) → Enters old entries mid → Enters mid more new → Enters old (entries ++ more) new
+pub enters_more : {K D : Type 0} (old mid new : CoreState K D) (entries more : List Entry) → Extends old entries mid → Extends mid more new → Extends old (entries ++ more) new
 enters_more old mid new entries more one two before history given h =
     subst (λ (k : List Entry). Follows before k given new) (append_assoc history entries more) (two before (history ++ entries) given (one before history given h))
 
 -- what is still to come of these texts, whatever follows them, comes of all of them
-abbrev pub Continues : {K D : Type 0} → ℕ → ℕ → List (List ℕ) → List (List ℕ) → Running K D → Running K D → List Entry → Type 0
+abbrev pub Continues : {K D : Type 0} → ℕ → ℕ → List (List ℕ) → List (List ℕ) → CoreState K D → CoreState K D → List Entry → Type 0
 Continues at n all rest first now entries =
     (others : List (List ℕ)) (damaged : Bool) (more : List Entry) (last : State)
     → FeedsAsked at now.state n (asked_of (rest ++ others) damaged) more last
@@ -130,11 +130,11 @@ rest_is : (texts : List (List ℕ)) (i : ℕ) (text : List ℕ) (others : List (
 rest_is texts i text others d h e =
     ap (λ (ts : List (List ℕ)). asked_of (ts ++ others) d) (drop_more texts i text h ∙ ap (λ (t : List ℕ). t ∷ drop (i + 1) texts) (sym e))
 
-module _ {K D : Type 0} (at n : ℕ) (first now new : Running K D) (texts : List (List ℕ)) (i : ℕ) (text : List ℕ) (within : i < length texts) (is : text ≡ get_or texts i text)
-    (entries : List Entry) (en : Enters first entries now) (on : Continues at n texts (drop i texts) first now entries) (one : EntersOne at n text now new) where
+module _ {K D : Type 0} (at n : ℕ) (first now new : CoreState K D) (texts : List (List ℕ)) (i : ℕ) (text : List ℕ) (within : i < length texts) (is : text ≡ get_or texts i text)
+    (entries : List Entry) (en : Extends first entries now) (on : Continues at n texts (drop i texts) first now entries) (one : EntersText at n text now new) where
   -- the session is still open
   pub continues : is_open new.state n ≡ true → Continues at n texts (drop (i + 1) texts) first new (entries ++ one.entry ∷ [])
-  continues there others damaged more last f = elim one.comes [
+  continues there others damaged more last f = elim one.outcome [
     | inl (still, taken) ↦
         subst (λ (k : List Entry). FeedsAsked at first.state n (asked_of (texts ++ others) damaged) k last) (sym (append_assoc entries (one.entry ∷ []) more))
         (on others damaged (one.entry ∷ more) last (feeds_as at now.state n _ _ _ _ (rest_is texts i text others damaged within is)
@@ -143,16 +143,16 @@ module _ {K D : Type 0} (at n : ℕ) (first now new : Running K D) (texts : List
     | inr (shut, how) ↦ absurd (false≢true (sym (ap (λ (s : State). is_open s n) (sym one.adds.state) ∙ shut) ∙ there))
   ]
 
-  pub enters_it : Enters first (entries ++ one.entry ∷ []) new
+  pub enters_it : Extends first (entries ++ one.entry ∷ []) new
   enters_it = enters_more first now new entries (one.entry ∷ []) en one.adds.enters
 
   -- the session was closed
-  pub ended : is_open new.state n ≡ false → EntersAll at n texts first new
+  pub ended : is_open new.state n ≡ false → EntersTexts at n texts first new
   ended away = record {
     entries = entries ++ one.entry ∷ [];
     enters = enters_it;
     goes_on = λ there. absurd (false≢true (sym away ∙ there));
-    ends = λ _ others damaged. elim one.comes [
+    ends = λ _ others damaged. elim one.outcome [
       | inl (still, taken) ↦ absurd (false≢true (sym (ap (λ (s : State). is_open s n) one.adds.state ∙ away) ∙ still))
       | inr (shut, how) ↦
           on others damaged (one.entry ∷ []) new.state (feeds_as at now.state n _ _ _ _ (rest_is texts i text others damaged within is)
@@ -162,7 +162,7 @@ module _ {K D : Type 0} (at n : ℕ) (first now new : Running K D) (texts : List
   }
 
 -- all texts were entered, and the session is open
-pub all_entered : {K D : Type 0} (at n : ℕ) (first now : Running K D) (texts : List (List ℕ)) (entries : List Entry) → Enters first entries now → Continues at n texts [] first now entries → is_open now.state n ≡ true → EntersAll at n texts first now
+pub all_entered : {K D : Type 0} (at n : ℕ) (first now : CoreState K D) (texts : List (List ℕ)) (entries : List Entry) → Extends first entries now → Continues at n texts [] first now entries → is_open now.state n ≡ true → EntersTexts at n texts first now
 all_entered at n first now texts entries en on there = record {
   entries = entries;
   enters = en;

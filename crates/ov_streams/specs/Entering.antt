@@ -1,51 +1,51 @@
 -- What comes of some of the messages of a piece; for private clauses.
 use Rattle.std.specs.Prelude.{◌≡◌, ◌⊎◌, ℕ, ◌++◌, List, [], ◌∷◌, Bool, true, false, Some, None}
-use Rattle.ov_specs.specs.Message.{Message, message_in, asked_of}
-use Rattle.ov_specs.specs.Machine as machine
-use Rattle.ov_specs.specs.Machine.{State, Entry, Stepped, is_open}
-use Rattle.ov_specs.specs.Streams as streams
-use Rattle.ov_specs.specs.Streams.{Feeds}
+use Rattle.ov_specs.specs.wire.Message.{Message, message_in, asked_of}
+use Rattle.ov_specs.specs.machine.Machine as machine
+use Rattle.ov_specs.specs.machine.Machine.{State, Entry, Stepped, is_open}
+use Rattle.ov_specs.specs.machine.Streams as streams
+use Rattle.ov_specs.specs.machine.Streams.{Feeds}
 use Rattle.ov_cut.specs.declared.fault.CutFault.{CutFault}
 use Rattle.ov_cut.specs.declared.fault.CutFault.TheVariants as fault
-use Rattle.ov_core.specs.Following.{Running, Enters}
+use Rattle.ov_core.specs.Following.{CoreState, Extends}
 
 -- one entry was entered, which is a step of the machine to the core's state (own)
-pub record Adds {K D : Type 0} (old : Running K D) (entry : Entry) (step : Stepped) (new : Running K D) : Type 0 where
+pub record ExtendsByStep {K D : Type 0} (old : CoreState K D) (entry : Entry) (step : Stepped) (new : CoreState K D) : Type 0 where
   pub state : step.state ≡ new.state
-  pub enters : Enters old (entry ∷ []) new
+  pub enters : Extends old (entry ∷ []) new
 
 -- the session was closed by an entry of its own (own)
-pub record Shuts {K D : Type 0} (at n : ℕ) (cause : machine.Cause) (old new : Running K D) : Type 0 where
+pub record ClosesByEntry {K D : Type 0} (at n : ℕ) (cause : machine.Cause) (old new : CoreState K D) : Type 0 where
   pub entry : Entry
   pub step : Stepped
-  pub adds : Adds old entry step new
-  pub is : streams.Enters at old.state (machine.Close n cause) entry step
+  pub adds : ExtendsByStep old entry step new
+  pub is : streams.IsEntryAt at old.state (machine.Close n cause) entry step
   pub shut : is_open step.state n ≡ false
 
 -- the message that the text is was taken (own)
-abbrev pub Takes : ℕ → ℕ → List ℕ → State → Entry → Stepped → Type 0
-Takes at n text s entry step = (message : Message) × (message_in text ≡ Some message) × streams.Enters at s (machine.Take n message) entry step
+abbrev pub TakesMessage : ℕ → ℕ → List ℕ → State → Entry → Stepped → Type 0
+TakesMessage at n text s entry step = (message : Message) × (message_in text ≡ Some message) × streams.IsEntryAt at s (machine.Take n message) entry step
 
 -- The message that the text is was taken, and the session is open; or it is closed: with the message taken, for want of memory, or
 -- as damaged by an unreadable text (own).
-abbrev pub ComesOf : ℕ → ℕ → List ℕ → State → Entry → Stepped → Type 0
-ComesOf at n text s entry step =
-    ((is_open step.state n ≡ true) × Takes at n text s entry step)
-    ⊎ ((is_open step.state n ≡ false) × (Takes at n text s entry step ⊎ (streams.Enters at s (machine.Close n machine.Memory) entry step
-    ⊎ ((message_in text ≡ None) × streams.Enters at s (machine.Close n machine.Damaged) entry step))))
+abbrev pub TextOutcome : ℕ → ℕ → List ℕ → State → Entry → Stepped → Type 0
+TextOutcome at n text s entry step =
+    ((is_open step.state n ≡ true) × TakesMessage at n text s entry step)
+    ⊎ ((is_open step.state n ≡ false) × (TakesMessage at n text s entry step ⊎ (streams.IsEntryAt at s (machine.Close n machine.Memory) entry step
+    ⊎ ((message_in text ≡ None) × streams.IsEntryAt at s (machine.Close n machine.Damaged) entry step))))
 
 -- one text was entered (own)
-pub record EntersOne {K D : Type 0} (at n : ℕ) (text : List ℕ) (old new : Running K D) : Type 0 where
+pub record EntersText {K D : Type 0} (at n : ℕ) (text : List ℕ) (old new : CoreState K D) : Type 0 where
   pub entry : Entry
   pub step : Stepped
-  pub adds : Adds old entry step new
-  pub comes : ComesOf at n text old.state entry step
+  pub adds : ExtendsByStep old entry step new
+  pub outcome : TextOutcome at n text old.state entry step
 
 -- These texts were entered, whatever texts and damage follow them: where the session is still open, what comes of those goes on
 -- from here; else nothing comes of them (own).
-pub record EntersAll {K D : Type 0} (at n : ℕ) (texts : List (List ℕ)) (old new : Running K D) : Type 0 where
+pub record EntersTexts {K D : Type 0} (at n : ℕ) (texts : List (List ℕ)) (old new : CoreState K D) : Type 0 where
   pub entries : List Entry
-  pub enters : Enters old entries new
+  pub enters : Extends old entries new
   pub goes_on : is_open new.state n ≡ true → (others : List (List ℕ)) (damaged : Bool) (more : List Entry) (last : State)
       → Feeds at new.state n (asked_of others damaged).messages (asked_of others damaged).damaged more last
       → Feeds at old.state n (asked_of (texts ++ others) damaged).messages (asked_of (texts ++ others) damaged).damaged (entries ++ more) last

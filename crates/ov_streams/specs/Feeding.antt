@@ -1,23 +1,23 @@
 -- What comes of a piece of an open session's stream.
 use Rattle.std.specs.Prelude.{◌≡◌, ℕ, ◌++◌, List, true, false}
-use Rattle.ov_specs.specs.Message.{Message, asked}
-use Rattle.ov_specs.specs.Machine.{Entry, is_open}
-use Rattle.ov_specs.specs.Streams.{Feeds}
-use Rattle.ov_cut.specs.Cutting.{Cutting, StandsFor}
-use Rattle.ov_core.specs.Following.{Running, Enters}
+use Rattle.ov_specs.specs.wire.Message.{Message, asked}
+use Rattle.ov_specs.specs.machine.Machine.{Entry, is_open}
+use Rattle.ov_specs.specs.machine.Streams.{Feeds}
+use Rattle.ov_cut.specs.CutterState.{CutterState, StandsFor}
+use Rattle.ov_core.specs.Following.{CoreState, Extends}
 
 -- the cutter was given this stream, which is not damaged
-pub record IsFed (stream : List ℕ) (cutter : Cutting) : Type 0 where
+pub record IsFed (stream : List ℕ) (cutter : CutterState) : Type 0 where
   pub given : List (List ℕ)
   pub stands : StandsFor stream given cutter
   pub whole : (asked stream).damaged ≡ false
 
 -- The messages that the piece ends were entered, and then damage, if it is new. Where the session is still open the cutter was
 -- given the longer stream.
-pub record Brings {K D : Type 0} (at n : ℕ) (stream piece : List ℕ) (old new : Running K D) (cutter : Cutting) : Type 0 where
+pub record EntersPiece {K D : Type 0} (at n : ℕ) (stream piece : List ℕ) (old new : CoreState K D) (cutter : CutterState) : Type 0 where
   pub messages : List Message
   pub more : (asked (stream ++ piece)).messages ≡ (asked stream).messages ++ messages
   pub entries : List Entry
   pub feeds : Feeds at old.state n messages (asked (stream ++ piece)).damaged entries new.state
-  pub enters : Enters old entries new
+  pub enters : Extends old entries new
   pub goes_on : is_open new.state n ≡ true → IsFed (stream ++ piece) cutter

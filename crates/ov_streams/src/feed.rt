@@ -1,8 +1,8 @@
 ghost use Rattle.std.specs.Prelude.{◌≡◌, ℕ, List, true};
-ghost use Rattle.ov_specs.specs.Machine.{is_open};
+ghost use Rattle.ov_specs.specs.machine.Machine.{is_open};
 ghost use Rattle.ov_core.specs.Entries.{cause_view};
-ghost use Rattle.ov_streams.specs.Feeding.{IsFed, Brings};
-ghost use Rattle.ov_streams.specs.Entering.{EntersAll, EntersOne, Shuts, cause_of_fault};
+ghost use Rattle.ov_streams.specs.Feeding.{IsFed, EntersPiece};
+ghost use Rattle.ov_streams.specs.Entering.{EntersTexts, EntersText, ClosesByEntry, cause_of_fault};
 
 use ov_base::Bytes;
 use ov_core::early::{Draws, Keeper};
@@ -22,7 +22,7 @@ pub fn feed_session<K: Keeper + Drop, D: Draws + Drop>(
     piece: &[u8],
 )
     requires { is_open core.old.state session.serial ≡ true }
-    ensures { (stream : List ℕ) → IsFed stream cutter.old → Brings moment session.serial stream piece.now core.old core.new cutter.new }
+    ensures { (stream : List ℕ) → IsFed stream cutter.old → EntersPiece moment session.serial stream piece.now core.old core.new cutter.new }
 {
     let fed = cutter.feed(alloc, piece);
     enter_all(core, alloc, moment, session, &fed.messages);
@@ -54,7 +54,7 @@ fn enter_all<K: Keeper + Drop, D: Draws + Drop>(
     texts: &[Bytes],
 )
     requires { is_open core.old.state session.serial ≡ true }
-    ensures { EntersAll moment session.serial texts.now core.old core.new }
+    ensures { EntersTexts moment session.serial texts.now core.old core.new }
 {
     for text in texts {
         enter_one(core, alloc, moment, session, text.as_slice());
@@ -73,7 +73,7 @@ fn enter_one<K: Keeper + Drop, D: Draws + Drop>(
     text: &[u8],
 )
     requires { is_open core.old.state session.serial ≡ true }
-    ensures { EntersOne moment session.serial text.now core.old core.new }
+    ensures { EntersText moment session.serial text.now core.old core.new }
 {
     match Message::read(alloc, text) {
         Ok(message) => {
@@ -97,7 +97,7 @@ fn close_at<K: Keeper + Drop, D: Draws + Drop>(
     cause: Cause,
 )
     requires { is_open core.old.state session.serial ≡ true }
-    ensures { Shuts moment session.serial (cause_view cause) core.old core.new }
+    ensures { ClosesByEntry moment session.serial (cause_view cause) core.old core.new }
 {
     let _ = core.step(alloc, moment, Event::Close(session, cause));
 }

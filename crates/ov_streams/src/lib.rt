@@ -3,7 +3,7 @@
 
 mod event;
 mod feed;
-pub mod lane;
+pub mod session_stream;
 mod streams;
 
 pub use event::{Ran, StreamEvent};

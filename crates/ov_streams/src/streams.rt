@@ -1,16 +1,16 @@
 ghost use Rattle.std.specs.Prelude.{◌≡◌, ◌≤◌, ◌++◌, ℕ, List, [], ◌∷◌, MatchResult, IfOk, OnErr, IfSome, IfNone, length, take, slice_get, Some};
-ghost use Rattle.ov_specs.specs.Machine.{Entry, opening};
-ghost use Rattle.ov_specs.specs.SchemaTypes.{Schema};
-ghost use Rattle.ov_specs.specs.Database.{Database};
-ghost use Rattle.ov_specs.specs.History.{joined};
-ghost use Rattle.ov_specs.specs.Streams.{StreamEvent as SpecEvent};
+ghost use Rattle.ov_specs.specs.machine.Machine.{Entry, opening};
+ghost use Rattle.ov_specs.specs.schema.SchemaTypes.{Schema};
+ghost use Rattle.ov_specs.specs.rows.Database.{Database};
+ghost use Rattle.ov_specs.specs.machine.History.{joined};
+ghost use Rattle.ov_specs.specs.machine.Streams.{StreamEvent as SpecEvent};
 ghost use Rattle.ov_core.specs.Following.{Follows, none_given, and_all_handed};
-ghost use Rattle.ov_core.specs.Waiting.{waiting_for};
-ghost use Rattle.ov_streams.specs.Running.{Suits, Serves, MayBeRefused, event_view, events_view};
+ghost use Rattle.ov_core.specs.Outbox.{waiting_for};
+ghost use Rattle.ov_streams.specs.Running.{FollowsEvents, RunsEvents, MayBeRefused, stream_event_view, stream_events_view};
 
 use crate::event::{Ran, StreamEvent};
 use crate::feed::feed_session;
-use crate::lane::Lane;
+use crate::session_stream::SessionStream;
 use ov_base::Bytes;
 use ov_core::early::{Draws, Keeper};
 use ov_core::{Cause, Core, Event, Session, StepFault, Stepped};
@@ -22,21 +22,21 @@ use std::marker::Model;
 #[derive(Drop)]
 pub struct Streams<K: Keeper, D> {
     core: Core<K, D>,
-    lane: Option<Lane>,
+    session_stream: Option<SessionStream>,
 }
 
 impl<K: Keeper, D> Model for Streams<K, D> {
     ghost use Rattle.std.specs.Coded.{codes};
-    ghost use Rattle.ov_specs.specs.SchemaTypes.{schema_code};
+    ghost use Rattle.ov_specs.specs.codes.SchemaCode.{schema_code};
     ghost use Rattle.ov_rows.specs.Resident.{database_code};
-    ghost use Rattle.ov_specs.specs.TreeCode.{tree_code, items_code};
-    ghost use Rattle.ov_streams.specs.Running.{Streaming};
+    ghost use Rattle.ov_specs.specs.codes.TreeCode.{tree_code, items_code};
+    ghost use Rattle.ov_streams.specs.Running.{StreamsState};
 
-    ghost Value = { Streaming K D };
+    ghost Value = { StreamsState K D };
 
     ghost coded = { Prim.hlevel (codes, schema_code, database_code, tree_code, items_code, K.code, D.code) };
 
-    ghost view = { λ s. record { core = s.core; lane = s.lane } };
+    ghost view = { λ s. record { core = s.core; session_stream = s.session_stream } };
 }
 
 impl<K: Keeper + Drop, D: Draws + Drop> Streams<K, D> {
@@ -44,9 +44,12 @@ impl<K: Keeper + Drop, D: Draws + Drop> Streams<K, D> {
     pub fn new(core: Core<K, D>) -> Streams<K, D>
         ensures same { result.core ≡ core }
         // The empty list of events suits it.
-        ensures none { (schema : Schema) (database : Database) → Follows (opening schema database) [] none_given core → Suits schema database [] [] none_given result }
+        ensures none { (schema : Schema) (database : Database) → Follows (opening schema database) [] none_given core → FollowsEvents schema database [] [] none_given result }
     {
-        Streams { core, lane: None }
+        Streams {
+            core,
+            session_stream: None,
+        }
     }
 
     /// The core.
@@ -60,7 +63,7 @@ impl<K: Keeper + Drop, D: Draws + Drop> Streams<K, D> {
     pub fn run(&mut self, alloc: Global, events: Vec<StreamEvent>) -> Ran
         ensures served { result.served ≤ length events.items }
         // Whatever list suited before, it suits now with the events that were served behind it.
-        ensures suits { Serves (events_view (take result.served events.items)) self.old self.new }
+        ensures suits { RunsEvents (stream_events_view (take result.served events.items)) self.old self.new }
         ensures whole { IfNone result.refused (result.served ≡ length events.items) }
         ensures refused { IfSome result.refused (λ fault. IfSome (slice_get events.items result.served) MayBeRefused) }
     {
@@ -82,9 +85,9 @@ impl<K: Keeper + Drop, D: Draws + Drop> Streams<K, D> {
 
     /// Hands out and joins the frames that wait for session n; none where memory is refused.
     pub fn output(&mut self, alloc: Global, session: u64) -> Result<Bytes, AllocError>
-        ensures all { IfOk result (λ b. b ≡ joined (waiting_for session self.old.core.waiting)) }
-        ensures handed { IfOk result (λ b. (schema : Schema) (database : Database) (list : List SpecEvent) (history : List Entry) (given : ℕ → List (List ℕ)) → Suits schema database list history given self.old
-            → Suits schema database list history (and_all_handed given session (waiting_for session self.old.core.waiting)) self.new) }
+        ensures all { IfOk result (λ b. b ≡ joined (waiting_for session self.old.core.outbox)) }
+        ensures handed { IfOk result (λ b. (schema : Schema) (database : Database) (list : List SpecEvent) (history : List Entry) (given : ℕ → List (List ℕ)) → FollowsEvents schema database list history given self.old
+            → FollowsEvents schema database list history (and_all_handed given session (waiting_for session self.old.core.outbox)) self.new) }
         ensures refused { OnErr result (self.new ≡ self.old) }
     {
         self.core.take_output(
@@ -99,7 +102,7 @@ impl<K: Keeper + Drop, D: Draws + Drop> Streams<K, D> {
     /// Serves one event.
     fn serve(&mut self, alloc: Global, event: &StreamEvent) -> Result<(), StepFault>
         ensures { MatchResult result
-            (λ _. Serves (event_view event.now ∷ []) self.old self.new)
+            (λ _. RunsEvents (stream_event_view event.now ∷ []) self.old self.new)
             (λ _. (self.new ≡ self.old) × MayBeRefused event.now) }
     {
         match event {
@@ -118,11 +121,11 @@ impl<K: Keeper + Drop, D: Draws + Drop> Streams<K, D> {
 
     /// Opens a session with a cutter of its own.
     fn open(&mut self, alloc: Global) -> Result<(), StepFault>
-        ensures { MatchResult result (λ _. Serves (event_view StreamEvent.Open ∷ []) self.old self.new) (λ _. self.new ≡ self.old) }
+        ensures { MatchResult result (λ _. RunsEvents (stream_event_view StreamEvent.Open ∷ []) self.old self.new) (λ _. self.new ≡ self.old) }
     {
         match self.core.step(alloc, 0, Event::Open) {
             Stepped::Opened(session) => {
-                self.lane = Some(Lane {
+                self.session_stream = Some(SessionStream {
                     session,
                     cutter: Cutter::new(alloc),
                 });
@@ -135,7 +138,7 @@ impl<K: Keeper + Drop, D: Draws + Drop> Streams<K, D> {
 
     /// Lets time pass.
     fn tick(&mut self, alloc: Global, moment: u64) -> Result<(), StepFault>
-        ensures { MatchResult result (λ _. Serves (event_view (StreamEvent.Tick moment) ∷ []) self.old self.new) (λ _. self.new ≡ self.old) }
+        ensures { MatchResult result (λ _. RunsEvents (stream_event_view (StreamEvent.Tick moment) ∷ []) self.old self.new) (λ _. self.new ≡ self.old) }
     {
         match self.core.step(alloc, moment, Event::Tick) {
             Stepped::Done => Ok(()),
@@ -146,7 +149,7 @@ impl<K: Keeper + Drop, D: Draws + Drop> Streams<K, D> {
 
     /// Closes the session, whose bytes ended, if it is open.
     fn finish(&mut self, session: u64)
-        ensures { Serves (event_view (StreamEvent.Finish session) ∷ []) self.old self.new }
+        ensures { RunsEvents (stream_event_view (StreamEvent.Finish session) ∷ []) self.old self.new }
     {
         let session = Session {
             key: 0,
@@ -159,31 +162,31 @@ impl<K: Keeper + Drop, D: Draws + Drop> Streams<K, D> {
 
     /// Feeds the session, if it is open.
     fn feed(&mut self, alloc: Global, session: u64, bytes: &[u8])
-        ensures { Serves (event_view (StreamEvent.Feed session bytes.now) ∷ []) self.old self.new }
+        ensures { RunsEvents (stream_event_view (StreamEvent.Feed session bytes.now) ∷ []) self.old self.new }
     {
-        let Some(lane) = self.lane.take() else {
+        let Some(session_stream) = self.session_stream.take() else {
             return;
         };
-        let Lane {
+        let SessionStream {
             session: owner,
             mut cutter,
-        } = lane;
+        } = session_stream;
         if owner.serial != session {
-            self.lane = Some(Lane {
+            self.session_stream = Some(SessionStream {
                 session: owner,
                 cutter,
             });
             return;
         }
         if !self.core.is_open(owner) {
-            self.lane = Some(Lane {
+            self.session_stream = Some(SessionStream {
                 session: owner,
                 cutter,
             });
             return;
         }
         feed_session(&mut self.core, alloc, 0, owner, &mut cutter, bytes);
-        self.lane = Some(Lane {
+        self.session_stream = Some(SessionStream {
             session: owner,
             cutter,
         });

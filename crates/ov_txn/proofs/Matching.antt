@@ -3,11 +3,11 @@ use Rattle.std.proofs.Common.{◌≡◌, ℕ, zero, suc, ◌+◌, ◌<◌, List,
 use Rattle.std.specs.Prelude.{Result, Ok, Err}
 use Rattle.serde_json.specs.View.{view, items_view}
 use Rattle.serde_json.specs.declared.value.Value.{Value}
-use Rattle.ov_specs.specs.Conditions.{Condition, condition_read}
-use Rattle.ov_specs.specs.Errors.{OpError}
-use Rattle.ov_specs.specs.Operation.{and_others, conditions_read}
-use Rattle.ov_specs.specs.SchemaTypes.{Table}
-use Rattle.ov_specs.specs.Uuid.{Names}
+use Rattle.ov_specs.specs.operations.Conditions.{Condition, condition_read}
+use Rattle.ov_specs.specs.operations.Errors.{OpError}
+use Rattle.ov_specs.specs.operations.Operation.{and_others, conditions_read}
+use Rattle.ov_specs.specs.schema.SchemaTypes.{Table}
+use Rattle.ov_specs.specs.values.Uuid.{Names}
 
 and_others-push : (read : List Condition) (c : Condition) (others : Result (List Condition) OpError) → and_others read (and_others (c ∷ []) others) ≡ and_others (read ++ c ∷ []) others
 and_others-push read c (Err error) = refl

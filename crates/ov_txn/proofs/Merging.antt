@@ -6,16 +6,17 @@ use Rattle.std.specs.FinMap.{FinMap, put, is_sorted, from_sorted, remove, get, e
 use Rattle.std.specs.FinMap.Entries.{below_all, by_order, where_key, is_sorted-where_key, find-where_key}
 use Rattle.std.specs.List.{filter, flat_map}
 use Rattle.std.specs.Ordering.{is_lt, is_eq, eq_by_cmp, ordering_reverse}
-use Rattle.ov_specs.specs.Database.{Database, Row}
-use Rattle.ov_specs.specs.Lines.{LineKey, line_cmp}
-use Rattle.ov_specs.specs.Method.{is_text}
-use Rattle.ov_specs.proofs.LineKeys.{key_exact, key_total}
+use Rattle.ov_specs.specs.rows.Database.{Database, Row}
+use Rattle.ov_specs.specs.rows.Lines.{LineKey, line_cmp}
+use Rattle.std.specs.Str.{bytes_eq}
+use Rattle.ov_specs.proofs.laws.LineKeys.{key_exact, key_total}
 use Rattle.ov_db.specs.Changing.{Delta, applied, with_row, with_rows}
 use Rattle.ov_db.specs.DeltaModel.{delta_of}
 use Rattle.ov_rows.specs.Resident.{database_of}
 use Rattle.ov_db.proofs.Places.{Changes, get-applied, or_before}
 use Rattle.ov_txn.specs.Staging.{row_made}
 use Rattle.ov_txn.proofs.Equal.{drop-at}
+use Rattle.ov_specs.proofs.laws.Truths.{both_hold, cond-not, left_holds, less_is, right_holds}
 
 abbrev pub Entries : Type 0
 Entries = List (LineKey × Row)
@@ -33,10 +34,6 @@ abbrev pub placed : Changes → Entries → Entries
 placed [] es = es
 placed (c ∷ cs) es = placed cs (place c.0 c.1 es)
 
-turned : {A : Type 0} (b : Bool) (x y : A) → cond (not b) x y ≡ cond b y x
-turned true x y = refl
-turned false x y = refl
-
 module _ {X : Type 0} (m : FinMap line_cmp X) (p : LineKey → Bool) where
   part_sorted : T (is_sorted line_cmp (where_key line_cmp p (entries m)))
   part_sorted = is_sorted-where_key line_cmp p (entries m) (entries_sorted m)
@@ -50,7 +47,7 @@ module _ {X : Type 0} (m : FinMap line_cmp X) (p : LineKey → Bool) where
 entries-remove : (db : Database) (k : LineKey) → entries (remove db k) ≡ where_key line_cmp (other_than k) (entries db)
 entries-remove db k =
     ap (λ (d : Database). entries d) (same_map key_total key_exact (remove db k) (database_of (where_key line_cmp (other_than k) (entries db))) (λ q.
-    get-remove key_total db k q ∙ ap (λ b. cond b None (get db q)) ((eq_by_cmp_equiv key_total).symm q k) ∙ sym (get-part db (other_than k) q ∙ turned (eq_by_cmp line_cmp k q) (get db q) None)))
+    get-remove key_total db k q ∙ ap (λ b. cond b None (get db q)) ((eq_by_cmp_equiv key_total).symm q k) ∙ sym (get-part db (other_than k) q ∙ cond-not (eq_by_cmp line_cmp k q) (get db q) None)))
     ∙ entries-from_sorted line_cmp _ (part_sorted db (other_than k))
 
 entries-with_row : (k : LineKey) (o : Option Row) (db : Database) → entries (with_row k o db) ≡ place k o (entries db)
@@ -66,37 +63,20 @@ placed_is cs es h = sym (entries-with_rows cs (database_of es) ∙ ap (placed cs
 
 -- ---- what stands first
 
-first : (a b : Bool) → T (a && b) → T a
-first true b p = tt
-first false b p = absurd p
-
-second : (a b : Bool) → T (a && b) → T b
-second true b p = p
-second false b p = absurd p
-
-both : (a b : Bool) → T a → T b → T (a && b)
-both true b p q = q
-both false b p q = p
-
-less : (o : Ordering) → T (is_lt o) → o ≡ Less
-less Less p = refl
-less Equal p = absurd p
-less Greater p = absurd p
-
 module _ {X : Type 0} where
   pub sorted_rest : (e : LineKey × X) (es : List (LineKey × X)) → T (is_sorted line_cmp (e ∷ es)) → T (is_sorted line_cmp es)
-  sorted_rest e es h = second _ _ h
+  sorted_rest e es h = right_holds _ _ h
 
   pub below_rest : (e : LineKey × X) (es : List (LineKey × X)) → T (is_sorted line_cmp (e ∷ es)) → T (below_all line_cmp e.0 es)
-  below_rest e es h = first _ _ h
+  below_rest e es h = left_holds _ _ h
 
   below_more : (k l : LineKey) (es : List (LineKey × X)) → line_cmp k l ≡ Less → T (below_all line_cmp l es) → T (below_all line_cmp k es)
   below_more k l [] p h = tt
-  below_more k l (e ∷ es) p h = both _ _ (subst (λ r. T (is_lt r)) (sym (key_total.trans k l e.0 p (less _ (first _ _ h)))) tt) (below_more k l es p (second _ _ h))
+  below_more k l (e ∷ es) p h = both_hold _ _ (subst (λ r. T (is_lt r)) (sym (key_total.trans k l e.0 p (less_is _ (left_holds _ _ h)))) tt) (below_more k l es p (right_holds _ _ h))
 
   -- what is below the first is below all
   pub below_sorted : (k : LineKey) (e : LineKey × X) (es : List (LineKey × X)) → line_cmp k e.0 ≡ Less → T (is_sorted line_cmp (e ∷ es)) → T (below_all line_cmp k (e ∷ es))
-  below_sorted k e es p h = both _ _ (subst (λ r. T (is_lt r)) (sym p) tt) (below_more k e.0 es p (first _ _ h))
+  below_sorted k e es p h = both_hold _ _ (subst (λ r. T (is_lt r)) (sym p) tt) (below_more k e.0 es p (left_holds _ _ h))
 
   below_same : (k l : LineKey) (es : List (LineKey × X)) → k ≡ l → T (below_all line_cmp l es) → T (below_all line_cmp k es)
   below_same k l es e h = subst (λ x. T (below_all line_cmp x es)) (sym e) h
@@ -117,17 +97,17 @@ place_behind r k None es p = ap (λ o. cond (not (is_eq o)) (r ∷ where_key lin
 pub placed_behind : (r : LineKey × Row) (cs : Changes) (es : Entries) → T (below_all line_cmp r.0 cs) → placed cs (r ∷ es) ≡ r ∷ placed cs es
 placed_behind r [] es h = refl
 placed_behind r (c ∷ cs) es h =
-    ap (placed cs) (place_behind r c.0 c.1 es (after_less r.0 c.0 (less _ (first _ _ h)))) ∙ placed_behind r cs (place c.0 c.1 es) (second _ _ h)
+    ap (placed cs) (place_behind r c.0 c.1 es (after_less r.0 c.0 (less_is _ (left_holds _ _ h)))) ∙ placed_behind r cs (place c.0 c.1 es) (right_holds _ _ h)
 
 put_front : (k : LineKey) (row : Row) (es : Entries) → T (below_all line_cmp k es) → put line_cmp k row es ≡ (k, row) ∷ es
 put_front k row [] h = refl
-put_front k row (e ∷ es) h = ap (λ o. by_order o ((k, row) ∷ e ∷ es) ((e.0, row) ∷ es) (e ∷ put line_cmp k row es)) (less _ (first _ _ h))
+put_front k row (e ∷ es) h = ap (λ o. by_order o ((k, row) ∷ e ∷ es) ((e.0, row) ∷ es) (e ∷ put line_cmp k row es)) (less_is _ (left_holds _ _ h))
 
 all_others : (k : LineKey) (es : Entries) → T (below_all line_cmp k es) → where_key line_cmp (other_than k) es ≡ es
 all_others k [] h = refl
 all_others k (e ∷ es) h =
     let others = where_key line_cmp (other_than k) es in
-    ap (λ o. cond (not (is_eq o)) (e ∷ others) others) (less _ (first _ _ h)) ∙ ap (λ rest. e ∷ rest) (all_others k es (second _ _ h))
+    ap (λ o. cond (not (is_eq o)) (e ∷ others) others) (less_is _ (left_holds _ _ h)) ∙ ap (λ rest. e ∷ rest) (all_others k es (right_holds _ _ h))
 
 -- a change below all rows
 pub placed_first : (k : LineKey) (o : Option Row) (cs : Changes) (es : Entries) → T (below_all line_cmp k cs) → T (below_all line_cmp k es) → placed ((k, o) ∷ cs) es ≡ row_made (k, o) ++ placed cs es
@@ -149,12 +129,12 @@ placed_over k None cs r es g e h =
     let same_key = key_exact r.0 k e in
     let others = where_key line_cmp (other_than k) es in
     ap (placed cs) (ap (λ o. cond (not (is_eq o)) (r ∷ others) others) (ap (line_cmp k) same_key ∙ sym (ap (λ q. line_cmp q k) same_key) ∙ e)
-    ∙ all_others k es (below_same k r.0 es (sym same_key) (first _ _ h)))
+    ∙ all_others k es (below_same k r.0 es (sym same_key) (left_holds _ _ h)))
 
 -- changes where there is no row
 pub placed_all : (cs : Changes) → T (is_sorted line_cmp cs) → placed cs [] ≡ flat_map row_made cs
 placed_all [] h = refl
-placed_all (c ∷ cs) h = placed_first c.0 c.1 cs [] (first _ _ h) tt ∙ ap (λ rest. row_made (c.0, c.1) ++ rest) (placed_all cs (second _ _ h))
+placed_all (c ∷ cs) h = placed_first c.0 c.1 cs [] (left_holds _ _ h) tt ∙ ap (λ rest. row_made (c.0, c.1) ++ rest) (placed_all cs (right_holds _ _ h))
 
 -- ---- two lists that are gone through side by side
 
@@ -228,7 +208,7 @@ in_part false change old = refl
 
 module _ (table : List ℕ) (delta : Delta) (db : Database) where
   abbrev of_it : LineKey → Bool
-  of_it k = is_text k.0 table
+  of_it k = bytes_eq k.0 table
 
   abbrev its_changes : Changes
   its_changes = where_key line_cmp of_it (entries delta)
@@ -243,7 +223,7 @@ module _ (table : List ℕ) (delta : Delta) (db : Database) where
   its_rows_sorted = part_sorted db of_it
 
   -- the table's rows after its changes are its rows after all changes
-  pub of_table_after : entries (with_rows its_changes (database_of its_rows)) ≡ filter (λ r. is_text r.0.0 table) (entries (applied delta db))
+  pub of_table_after : entries (with_rows its_changes (database_of its_rows)) ≡ filter (λ r. bytes_eq r.0.0 table) (entries (applied delta db))
   of_table_after =
       ap (λ (d : Database). entries d) (same_map key_total key_exact (with_rows its_changes (database_of its_rows)) (database_of (where_key line_cmp of_it (entries (applied delta db)))) (λ q.
       ap (λ (cs : Changes). get (with_rows cs (database_of its_rows)) q) (sym (entries-from_sorted line_cmp its_changes its_changes_sorted))

@@ -4,13 +4,13 @@ use Rattle.std.proofs.lemmas.List.{drop_more}
 use Rattle.serde_json.specs.Data.{Data, null, Items, no_items, item}
 use Rattle.serde_json.specs.View.{view, items_view}
 use Rattle.serde_json.specs.declared.value.Value.{Value}
-use Rattle.ov_specs.specs.Database.{Database}
-use Rattle.ov_specs.specs.Errors.{OpError, error_tree}
-use Rattle.ov_specs.specs.Operation.{Staged, Does, Refuses, operation}
-use Rattle.ov_specs.specs.SchemaTypes.{Schema}
-use Rattle.ov_specs.specs.Transaction.{Transacted, and_item, nulls, goes_on, perform, transaction}
-use Rattle.ov_specs.specs.Uuid.{Uuid}
-use Rattle.ov_txn.specs.Going.{nulls_after, items_append, prefixed}
+use Rattle.ov_specs.specs.rows.Database.{Database}
+use Rattle.ov_specs.specs.operations.Errors.{OpError, error_tree}
+use Rattle.ov_specs.specs.operations.Operation.{Staged, Succeeds, Fails, operation}
+use Rattle.ov_specs.specs.schema.SchemaTypes.{Schema}
+use Rattle.ov_specs.specs.operations.Transaction.{Transacted, and_item, nulls, after_operation, perform, transaction}
+use Rattle.ov_specs.specs.values.Uuid.{Uuid}
+use Rattle.ov_txn.specs.Results.{nulls_after, items_append, prefixed}
 use Rattle.ov_txn.specs.Staging.{staged}
 
 pub items_at : (vs : List Value) (i : ℕ) (v : Value) → i < length vs → v ≡ get_or vs i v → items_view (drop i vs) ≡ item (view v) (items_view (drop (i + 1) vs))
@@ -35,19 +35,19 @@ module _ (schema : Schema) (before : Database) (version : Uuid) where
   at_start draws operations h e = ap (λ ds. transaction schema before ds operations) (drop_more draws 0 version h ∙ ap (λ y. y ∷ drop 1 draws) (sym e))
 
   -- an operation with a result
-  pub at_does : (all : Transacted) (g g' : Staged) (d r : Data) (rest rs ds : Items) → rest ≡ item d ds → all ≡ prefixed rs (perform schema before version g rest) → operation schema version g d ≡ Does r g'
+  pub at_does : (all : Transacted) (g g' : Staged) (d r : Data) (rest rs ds : Items) → rest ≡ item d ds → all ≡ prefixed rs (perform schema before version g rest) → operation schema version g d ≡ Succeeds r g'
       → all ≡ prefixed (and_item rs r) (perform schema before version g' ds)
   at_does all g g' d r rest rs ds at h e =
       h ∙ ap (λ ys. prefixed rs (perform schema before version g ys)) at
-      ∙ ap (λ did. prefixed rs (goes_on before did ds (λ w. perform schema before version w ds))) e
+      ∙ ap (λ did. prefixed rs (after_operation before did ds (λ w. perform schema before version w ds))) e
       ∙ ap (λ ys. record (perform schema before version g' ds) { results = ys }) (sym (append_and rs r (perform schema before version g' ds).results))
 
   -- an operation that is refused
-  pub at_refuses : (all : Transacted) (g : Staged) (d : Data) (error : OpError) (rest rs ds : Items) → rest ≡ item d ds → all ≡ prefixed rs (perform schema before version g rest) → operation schema version g d ≡ Refuses error
+  pub at_refuses : (all : Transacted) (g : Staged) (d : Data) (error : OpError) (rest rs ds : Items) → rest ≡ item d ds → all ≡ prefixed rs (perform schema before version g rest) → operation schema version g d ≡ Fails error
       → all ≡ record { results = nulls_after (and_item rs (error_tree error)) ds; database = before }
   at_refuses all g d error rest rs ds at h e =
       h ∙ ap (λ ys. prefixed rs (perform schema before version g ys)) at
-      ∙ ap (λ did. prefixed rs (goes_on before did ds (λ w. perform schema before version w ds))) e
+      ∙ ap (λ did. prefixed rs (after_operation before did ds (λ w. perform schema before version w ds))) e
       ∙ ap (λ ys. record { results = ys; database = before }) (sym (append_and rs (error_tree error) (nulls ds)) ∙ nulls_is (and_item rs (error_tree error)) ds)
 
   -- no operation is left

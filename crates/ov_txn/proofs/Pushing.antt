@@ -6,9 +6,9 @@ use Rattle.std.specs.Ordering.{nat_cmp, match_ordering}
 use Rattle.std.specs.Cmp.Lexicographic.{slice_cmp}
 use Rattle.serde_json.specs.Data.{Data, Items, no_items, item, Members, no_members, member, put}
 use Rattle.serde_json.specs.View.{items_of}
-use Rattle.ov_specs.specs.Tree.{has_real, items_have_real, members_have_real}
-use Rattle.ov_specs.proofs.Trees.{or_false}
-use Rattle.ov_specs.specs.Transaction.{and_item}
+use Rattle.ov_specs.specs.wire.Tree.{has_real, items_have_real, members_have_real}
+use Rattle.ov_specs.specs.operations.Transaction.{and_item}
+use Rattle.std.proofs.lemmas.Bool.{or_parts}
 
 pub push_item : (xs : List Data) (d : Data) → items_of (xs ++ d ∷ []) ≡ and_item (items_of xs) d
 push_item [] d = refl
@@ -31,5 +31,5 @@ put_at Greater k l d e ms h g f p = rw (g, p) refl
 pub put_plain : (k : List ℕ) (d : Data) (ms : Members) → has_real d ≡ false → members_have_real ms ≡ false → members_have_real (put k d ms) ≡ false
 put_plain k d no_members h f = rw h refl
 put_plain k d (member l e ms) h f =
-    let parts = or_false (has_real e) (members_have_real ms) f in
+    let parts = or_parts (has_real e) (members_have_real ms) f in
     put_at (slice_cmp nat_cmp k l) k l d e ms h parts.0 parts.1 (put_plain k d ms h parts.1)

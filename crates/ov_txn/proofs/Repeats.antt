@@ -6,14 +6,15 @@ use Rattle.std.specs.List.{list_any, list_all}
 use Rattle.std.specs.Cmp.{eq_by_cmp_equiv, partial_equiv_from_equiv}
 use Rattle.std.specs.Cmp.Lexicographic.{pointwise, nat_list_eq_equiv}
 use Rattle.std.specs.FinMap.{keys, entries}
-use Rattle.ov_specs.specs.Database.{Row, is_atom, is_pair, is_datum, are_columns}
-use Rattle.ov_specs.specs.Method.{is_text}
-use Rattle.ov_specs.specs.Lines.{LineKey}
-use Rattle.ov_specs.specs.Conditions.{Condition, holds}
-use Rattle.ov_specs.specs.Operation.{column_of, columns_of, is_matching, without_repeats}
-use Rattle.ov_specs.specs.Value.{Datum, Atoms, Pairs}
-use Rattle.ov_specs.proofs.Order.{atom_cmp_total}
+use Rattle.ov_specs.specs.rows.Database.{Row, same_atom, same_pair, same_datum, same_columns}
+use Rattle.std.specs.Str.{bytes_eq}
+use Rattle.ov_specs.specs.rows.Lines.{LineKey}
+use Rattle.ov_specs.specs.operations.Conditions.{Condition, holds}
+use Rattle.ov_specs.specs.operations.Operation.{entry_value, projection, is_matching, without_repeats}
+use Rattle.ov_specs.specs.values.Value.{Datum, Atoms, Pairs}
+use Rattle.ov_specs.proofs.laws.Order.{atom_cmp_total}
 use Rattle.ov_txn.proofs.Equal.{drop-at}
+use Rattle.ov_specs.proofs.laws.Truths.{or_nothing, or_truth}
 
 abbrev pub Shown : Type 0
 Shown = List (List ℕ × Datum)
@@ -34,47 +35,39 @@ module _ {A : Type 0} (E : A → A → Bool) (on : PassesOn E) where
       let b = and_parts (E y z) (pointwise E ys zs) k in
       and_from (E x z) (pointwise E xs zs) (on x y z a.0 b.0) (pointwise_passes xs ys zs a.1 b.1)
 
-text_passes : PassesOn is_text
+text_passes : PassesOn bytes_eq
 text_passes = (partial_equiv_from_equiv nat_list_eq_equiv).trans
 
-atom_passes : PassesOn is_atom
+atom_passes : PassesOn same_atom
 atom_passes = (partial_equiv_from_equiv (eq_by_cmp_equiv atom_cmp_total)).trans
 
-pair_passes : PassesOn is_pair
+pair_passes : PassesOn same_pair
 pair_passes p q r h k =
-    let a = and_parts (is_atom p.0 q.0) (is_atom p.1 q.1) h in
-    let b = and_parts (is_atom q.0 r.0) (is_atom q.1 r.1) k in
-    and_from (is_atom p.0 r.0) (is_atom p.1 r.1) (atom_passes p.0 q.0 r.0 a.0 b.0) (atom_passes p.1 q.1 r.1 a.1 b.1)
+    let a = and_parts (same_atom p.0 q.0) (same_atom p.1 q.1) h in
+    let b = and_parts (same_atom q.0 r.0) (same_atom q.1 r.1) k in
+    and_from (same_atom p.0 r.0) (same_atom p.1 r.1) (atom_passes p.0 q.0 r.0 a.0 b.0) (atom_passes p.1 q.1 r.1 a.1 b.1)
 
-datum_passes : PassesOn is_datum
-datum_passes (Atoms a) (Atoms b) (Atoms c) h k = pointwise_passes is_atom atom_passes (keys a) (keys b) (keys c) h k
+datum_passes : PassesOn same_datum
+datum_passes (Atoms a) (Atoms b) (Atoms c) h k = pointwise_passes same_atom atom_passes (keys a) (keys b) (keys c) h k
 datum_passes (Atoms a) (Atoms b) (Pairs c) h k = absurd (false≢true k)
 datum_passes (Atoms a) (Pairs b) z h k = absurd (false≢true h)
 datum_passes (Pairs a) (Atoms b) z h k = absurd (false≢true h)
 datum_passes (Pairs a) (Pairs b) (Atoms c) h k = absurd (false≢true k)
-datum_passes (Pairs a) (Pairs b) (Pairs c) h k = pointwise_passes is_pair pair_passes (entries a) (entries b) (entries c) h k
+datum_passes (Pairs a) (Pairs b) (Pairs c) h k = pointwise_passes same_pair pair_passes (entries a) (entries b) (entries c) h k
 
 abbrev is_cell : List ℕ × Datum → List ℕ × Datum → Bool
-is_cell c d = is_text c.0 d.0 && is_datum c.1 d.1
+is_cell c d = bytes_eq c.0 d.0 && same_datum c.1 d.1
 
 cell_passes : PassesOn is_cell
 cell_passes x y z h k =
-    let a = and_parts (is_text x.0 y.0) (is_datum x.1 y.1) h in
-    let b = and_parts (is_text y.0 z.0) (is_datum y.1 z.1) k in
-    and_from (is_text x.0 z.0) (is_datum x.1 z.1) (text_passes x.0 y.0 z.0 a.0 b.0) (datum_passes x.1 y.1 z.1 a.1 b.1)
+    let a = and_parts (bytes_eq x.0 y.0) (same_datum x.1 y.1) h in
+    let b = and_parts (bytes_eq y.0 z.0) (same_datum y.1 z.1) k in
+    and_from (bytes_eq x.0 z.0) (same_datum x.1 z.1) (text_passes x.0 y.0 z.0 a.0 b.0) (datum_passes x.1 y.1 z.1 a.1 b.1)
 
-columns_pass : PassesOn are_columns
+columns_pass : PassesOn same_columns
 columns_pass = pointwise_passes is_cell cell_passes
 
 -- ---- the walk from the front
-
-or_true : (b : Bool) → (b || true) ≡ true
-or_true true = refl
-or_true false = refl
-
-or_false : (b : Bool) → (b || false) ≡ b
-or_false true = refl
-or_false false = refl
 
 filter-all : {A : Type 0} (xs : List A) → filter (λ x. true) xs ≡ xs
 filter-all [] = refl
@@ -111,7 +104,7 @@ module _ {A : Type 0} (E : A → A → Bool) where
   once (x ∷ xs) = x ∷ filter (λ y. not (E x y)) (once xs)
 
   among-push : (kept : List A) (x y : A) → among (kept ++ x ∷ []) y ≡ (among kept y || E x y)
-  among-push kept x y = list_any-append (λ k. E k y) kept (x ∷ []) ∙ ap (λ b. among kept y || b) (or_false (E x y))
+  among-push kept x y = list_any-append (λ k. E k y) kept (x ∷ []) ∙ ap (λ b. among kept y || b) (or_nothing (E x y))
 
   filter-both : (kept : List A) (x : A) (ys : List A) → filter (fresh (kept ++ x ∷ [])) ys ≡ filter (fresh kept) (filter (λ y. not (E x y)) ys)
   filter-both kept x [] = refl
@@ -122,7 +115,7 @@ module _ {A : Type 0} (E : A → A → Bool) where
   among-passes on (k ∷ kept) x y h e =
       elim (E k x) as (λ b. E k x ≡ b → (b || among kept x) ≡ true → (E k y || among kept y) ≡ true) [
         | true ↦ λ is g. rw (on k x y is e) refl
-        | false ↦ λ is g. rw (among-passes on kept x y g e) (or_true (E k y))
+        | false ↦ λ is g. rw (among-passes on kept x y g e) (or_truth (E k y))
       ] refl h
 
   absorbed : PassesOn E → (kept : List A) (x : A) → among kept x ≡ true → (ys : List A) → filter (fresh kept) (filter (λ y. not (E x y)) ys) ≡ filter (fresh kept) ys
@@ -138,47 +131,47 @@ module _ {A : Type 0} (E : A → A → Bool) where
         | false ↦ λ h. kept_with-once on (kept ++ x ∷ []) xs ∙ (append_assoc kept (x ∷ []) _ ∙ ap (λ zs. kept ++ (x ∷ zs)) (filter-both kept x (once xs)))
       ] refl
 
-without_repeats-once : (rows : List Shown) → without_repeats rows ≡ once are_columns rows
+without_repeats-once : (rows : List Shown) → without_repeats rows ≡ once same_columns rows
 without_repeats-once [] = refl
-without_repeats-once (row ∷ rows) = ap (λ others. row ∷ filter (λ other. not (are_columns row other)) others) (without_repeats-once rows)
+without_repeats-once (row ∷ rows) = ap (λ others. row ∷ filter (λ other. not (same_columns row other)) others) (without_repeats-once rows)
 
 -- of the rows that are equal the first alone, found by one walk from the front
-pub without_repeats-kept : (rows : List Shown) → without_repeats rows ≡ kept_with are_columns [] rows
-without_repeats-kept rows = without_repeats-once rows ∙ sym (kept_with-once are_columns columns_pass [] rows ∙ filter-all (once are_columns rows))
+pub without_repeats-kept : (rows : List Shown) → without_repeats rows ≡ kept_with same_columns [] rows
+without_repeats-kept rows = without_repeats-once rows ∙ sym (kept_with-once same_columns columns_pass [] rows ∙ filter-all (once same_columns rows))
 
 -- ---- the rows of a table
 
 -- a row that meets all conditions
 abbrev pub is_met : List Condition → LineKey × Row → Bool
-is_met conditions r = list_all (holds (column_of r)) conditions
+is_met conditions r = list_all (holds (entry_value r)) conditions
 
 -- the table's rows that meet all conditions
-pub matching-of_table : (table : List ℕ) (conditions : List Condition) (rows : List (LineKey × Row)) → filter (is_matching table conditions) rows ≡ filter (is_met conditions) (filter (λ r. is_text r.0.0 table) rows)
+pub matching-of_table : (table : List ℕ) (conditions : List Condition) (rows : List (LineKey × Row)) → filter (is_matching table conditions) rows ≡ filter (is_met conditions) (filter (λ r. bytes_eq r.0.0 table) rows)
 matching-of_table table conditions [] = refl
 matching-of_table table conditions (r ∷ rows) =
     let others = filter (is_matching table conditions) rows in
-    let of_table = filter (λ r. is_text r.0.0 table) rows in
-    elim (is_text r.0.0 table) as (λ b. cond (b && is_met conditions r) (r ∷ others) others ≡ filter (is_met conditions) (cond b (r ∷ of_table) of_table)) [
+    let of_table = filter (λ r. bytes_eq r.0.0 table) rows in
+    elim (bytes_eq r.0.0 table) as (λ b. cond (b && is_met conditions r) (r ∷ others) others ≡ filter (is_met conditions) (cond b (r ∷ of_table) of_table)) [
       | true ↦ ap (λ (rest : List (LineKey × Row)). cond (is_met conditions r) (r ∷ rest) rest) (matching-of_table table conditions rows)
       | false ↦ matching-of_table table conditions rows
     ]
 
 -- what is kept, with what is shown of those of these rows that meet all conditions
 abbrev pub shown_with : List (List ℕ) → List Condition → List Shown → List (LineKey × Row) → List Shown
-shown_with names conditions kept rows = kept_with are_columns kept (map (columns_of names) (filter (is_met conditions) rows))
+shown_with names conditions kept rows = kept_with same_columns kept (map (projection names) (filter (is_met conditions) rows))
 
 module _ {A : Type 0} (f : A → LineKey × Row) (names : List (List ℕ)) (conditions : List Condition) (kept : List Shown) (rows : List A) (i : ℕ) (r : A) (p : i < length rows) (at : r ≡ get_or rows i r) where
   here : map f (drop i rows) ≡ f r ∷ map f (drop (i + 1) rows)
   here = ap (map f) (drop-at rows i r p at)
 
-  pub shown-new : is_met conditions (f r) ≡ true → among are_columns kept (columns_of names (f r)) ≡ false
-      → shown_with names conditions kept (map f (drop i rows)) ≡ shown_with names conditions (kept ++ columns_of names (f r) ∷ []) (map f (drop (i + 1) rows))
+  pub shown-new : is_met conditions (f r) ≡ true → among same_columns kept (projection names (f r)) ≡ false
+      → shown_with names conditions kept (map f (drop i rows)) ≡ shown_with names conditions (kept ++ projection names (f r) ∷ []) (map f (drop (i + 1) rows))
   shown-new h k = ap (shown_with names conditions kept) here ∙ new
     where
-      new : shown_with names conditions kept (f r ∷ map f (drop (i + 1) rows)) ≡ shown_with names conditions (kept ++ columns_of names (f r) ∷ []) (map f (drop (i + 1) rows))
+      new : shown_with names conditions kept (f r ∷ map f (drop (i + 1) rows)) ≡ shown_with names conditions (kept ++ projection names (f r) ∷ []) (map f (drop (i + 1) rows))
       new = rw (h, k) refl
 
-  pub shown-again : is_met conditions (f r) ≡ true → among are_columns kept (columns_of names (f r)) ≡ true
+  pub shown-again : is_met conditions (f r) ≡ true → among same_columns kept (projection names (f r)) ≡ true
       → shown_with names conditions kept (map f (drop i rows)) ≡ shown_with names conditions kept (map f (drop (i + 1) rows))
   shown-again h k = ap (shown_with names conditions kept) here ∙ again
     where

@@ -3,9 +3,9 @@ use Rattle.std.proofs.Common.{◌≡◌, ◌<◌, ◌+◌, ◌==◌, ℕ, Bool, 
 use Rattle.std.proofs.lemmas.Bool.Decides.{nat_tests}
 use Rattle.std.specs.Cmp.Lexicographic.{as_long}
 use Rattle.std.specs.FinMap.{contains_key, empty, empty_of_len, entries, get, get-empty, get-insert, insert, len, len-empty, len-entries, len-insert, same_map}
-use Rattle.ov_specs.specs.Database.{Database, Row, is_database}
-use Rattle.ov_specs.specs.Lines.{LineKey, line_cmp}
-use Rattle.ov_specs.proofs.LineKeys.{key_exact, key_total}
+use Rattle.ov_specs.specs.rows.Database.{Database, Row, same_database}
+use Rattle.ov_specs.specs.rows.Lines.{LineKey, line_cmp}
+use Rattle.ov_specs.proofs.laws.LineKeys.{key_exact, key_total}
 use Rattle.ov_db.specs.Changing.{Delta, applied}
 use Rattle.ov_db.proofs.Added.{same}
 use Rattle.ov_db.proofs.Places.{get-applied, or_before}
@@ -54,14 +54,14 @@ grown-insert delta db key row grown absent =
     let before = grown.0 in
     (omega (arith, many, before), λ h. omega (arith, many, before))
 
-as_many : (a b : Database) → is_database a b ≡ true → len a ≡ len b
+as_many : (a b : Database) → same_database a b ≡ true → len a ≡ len b
 as_many a b h = len-entries a ∙ as_long _ (entries a) (entries b) h ∙ sym (len-entries b)
 
 -- there are no changes exactly where the rows are the same
-pub least : (delta : Delta) (db : Database) → IsGrown delta db → (len delta == 0) ≡ is_database db (applied delta db)
-least delta db grown = by_test (is_database db (applied delta db)) (len delta) refl refl
+pub least : (delta : Delta) (db : Database) → IsGrown delta db → (len delta == 0) ≡ same_database db (applied delta db)
+least delta db grown = by_test (same_database db (applied delta db)) (len delta) refl refl
   where
-    by_test : (b : Bool) (n : ℕ) → is_database db (applied delta db) ≡ b → len delta ≡ n → (n == 0) ≡ b
+    by_test : (b : Bool) (n : ℕ) → same_database db (applied delta db) ≡ b → len delta ≡ n → (n == 0) ≡ b
     by_test true n is many =
         let equal = as_many db (applied delta db) is in
         let more = grown.1 in
@@ -69,7 +69,7 @@ least delta db grown = by_test (is_database db (applied delta db)) (len delta) r
       where
         by_zero : (n m : ℕ) → m ≡ n → (0 < m → 0 < 0) → (n == 0) ≡ true
         by_zero n m is never = grind (arith, nat_tests, is, never)
-    by_test false n is many = apart n (λ none. unequal (sym is ∙ ap (is_database db) (applied-none delta db (many ∙ none)) ∙ database-same db))
+    by_test false n is many = apart n (λ none. unequal (sym is ∙ ap (same_database db) (applied-none delta db (many ∙ none)) ∙ database-same db))
       where
         unequal : false ≡ true → ⊥
         unequal e = cc
@@ -77,5 +77,5 @@ least delta db grown = by_test (is_database db (applied delta db)) (len delta) r
         apart : (n : ℕ) → (n ≡ 0 → ⊥) → (n == 0) ≡ false
         apart n never = grind (arith, nat_tests, never)
 
-pub least-empty : (db : Database) → (len (empty {X = Option Row} {R = line_cmp}) == 0) ≡ is_database db db
-least-empty db = least empty db (grown-empty db) ∙ ap (is_database db) (applied-empty db)
+pub least-empty : (db : Database) → (len (empty {X = Option Row} {R = line_cmp}) == 0) ≡ same_database db db
+least-empty db = least empty db (grown-empty db) ∙ ap (same_database db) (applied-empty db)

@@ -1,4 +1,4 @@
 pub mod Drawing
 pub mod Errors
-pub mod Going
+pub mod Results
 pub mod Staging

@@ -5,12 +5,12 @@ use Rattle.std.specs.FinMap.{len}
 use Rattle.ov_db.specs.Changing.{Delta, applied}
 use Rattle.ov_rows.specs.Resident.{database_code}
 use Rattle.serde_json.specs.Data.{Data}
-use Rattle.ov_specs.specs.Database.{Database, Row}
-use Rattle.ov_specs.specs.Lines.{LineKey}
-use Rattle.ov_specs.specs.Operation as spec
-use Rattle.ov_specs.specs.Uuid.{Uuid}
-use Rattle.ov_txn.specs.declared.fault.Stop.{Stop}
-use Rattle.ov_txn.specs.declared.fault.Stop.TheVariants.{Refused, Memory}
+use Rattle.ov_specs.specs.rows.Database.{Database, Row}
+use Rattle.ov_specs.specs.rows.Lines.{LineKey}
+use Rattle.ov_specs.specs.operations.Operation as spec
+use Rattle.ov_specs.specs.values.Uuid.{Uuid}
+use Rattle.ov_txn.specs.declared.fault.OpFault.{OpFault}
+use Rattle.ov_txn.specs.declared.fault.OpFault.TheVariants.{Refused, Memory}
 use Rattle.ov_txn.specs.Errors.{error_view}
 
 -- the rows as they are, and the draws but those that are used
@@ -18,9 +18,9 @@ abbrev pub staged : Database → List Uuid → ℕ → spec.Staged
 staged rows draws used = record { rows = rows; draws = drop used draws }
 
 -- the result of an operation, or its error; want of memory may be answered to anything
-abbrev pub IsDone : spec.Did → Result Data Stop → spec.Staged → Type 0
-IsDone did (Ok result) g = did ≡ spec.Does result g
-IsDone did (Err (Refused error)) g = did ≡ spec.Refuses (error_view error)
+abbrev pub IsDone : spec.OperationResult → Result Data OpFault → spec.Staged → Type 0
+IsDone did (Ok result) g = did ≡ spec.Succeeds result g
+IsDone did (Err (Refused error)) g = did ≡ spec.Fails (error_view error)
 IsDone did (Err Memory) g = Unit {0}
 
 -- ---- the rows of a transaction

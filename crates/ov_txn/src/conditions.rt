@@ -1,11 +1,11 @@
 ghost use Rattle.std.specs.Prelude.{◌≡◌};
 ghost use Rattle.std.specs.List.{list_all};
 ghost use Rattle.serde_json.specs.View.{items_view};
-ghost use Rattle.ov_specs.specs.Conditions.{row_value, holds};
-ghost use Rattle.ov_specs.specs.Operation as spec;
-ghost use Rattle.ov_txn.specs.Errors.{IsGiven};
+ghost use Rattle.ov_specs.specs.operations.Conditions.{column_value, holds};
+ghost use Rattle.ov_specs.specs.operations.Operation as spec;
+ghost use Rattle.ov_txn.specs.Errors.{IsOpResult};
 
-use crate::fault::Stop;
+use crate::fault::OpFault;
 use ov_atoms::NoNames;
 use ov_conds::{Condition, RowView};
 use ov_rows::{Row, RowKey};
@@ -18,8 +18,8 @@ pub(crate) fn conditions_of(
     alloc: Global,
     table: &Table,
     items: &[Value],
-) -> Result<Vec<Condition>, Stop>
-    ensures { IsGiven (λ v. v.items) (spec.conditions_read spec.no_names table.now (items_view items.now)) result }
+) -> Result<Vec<Condition>, OpFault>
+    ensures { IsOpResult (λ v. v.items) (spec.conditions_read spec.no_names table.now (items_view items.now)) result }
 {
     let mut conditions = Vec::new(alloc);
     for item in items {
@@ -33,7 +33,7 @@ pub(crate) fn conditions_of(
 
 /// Whether a row meets all conditions.
 fn meets(conditions: &[Condition], row: &RowView<'_>) -> bool
-    ensures { result ≡ list_all (holds (row_value row.now.id row.now.version row.now.columns.now)) conditions.now }
+    ensures { result ≡ list_all (holds (column_value row.now.id row.now.version row.now.columns.now)) conditions.now }
 {
     for condition in conditions {
         if !condition.holds(row) {
@@ -45,7 +45,7 @@ fn meets(conditions: &[Condition], row: &RowView<'_>) -> bool
 
 /// Whether a row meets all conditions, its key and version among its columns.
 pub(crate) fn is_matching(conditions: &[Condition], key: &RowKey, row: &Row) -> bool
-    ensures { result ≡ list_all (holds (spec.column_of (key.now, row.now))) conditions.now }
+    ensures { result ≡ list_all (holds (spec.entry_value (key.now, row.now))) conditions.now }
 {
     let seen = RowView {
         id: key.id(),

@@ -1,7 +1,7 @@
 ghost use Rattle.std.specs.Prelude.{◌≡◌, length, IfOk, OnErr};
 ghost use Rattle.serde_json.specs.View.{view, items_view};
-ghost use Rattle.ov_specs.specs.Transaction.{is_insert, inserts, draws_wanted};
-ghost use Rattle.ov_specs.specs.Uuid.{Uuid as Bytes16};
+ghost use Rattle.ov_specs.specs.operations.Transaction.{is_insert, insert_count, draws_wanted};
+ghost use Rattle.ov_specs.specs.values.Uuid.{Uuid as Bytes16};
 ghost use Rattle.ov_txn.specs.Drawing.{DrawsFrom};
 
 use crate::member::text_at;
@@ -30,7 +30,7 @@ fn is_insert(operation: &Value) -> bool
 }
 
 fn count_inserts(operations: &[Value]) -> usize
-    ensures { result ≡ inserts (items_view operations.now) }
+    ensures { result ≡ insert_count (items_view operations.now) }
 {
     let mut count: usize = 0;
     for operation in operations {

@@ -1,5 +1,5 @@
 ghost use Rattle.std.specs.Prelude.{◌≡◌};
-ghost use Rattle.ov_specs.specs.Errors.{error_text};
+ghost use Rattle.ov_specs.specs.operations.Errors.{error_text};
 ghost use Rattle.ov_txn.specs.Errors.{error_view};
 
 use ov_conds::ConditionFault;
@@ -38,36 +38,36 @@ impl OpError {
 
 /// Why an operation has no result.
 #[derive(Clone, Copy, Debug, PartialEq, Eq)]
-pub(crate) enum Stop {
+pub(crate) enum OpFault {
     /// It is refused, and the client is told.
     Refused(OpError),
     /// A growth was refused.
     Memory,
 }
 
-impl From<AllocError> for Stop {
-    ghost use Rattle.ov_txn.specs.declared.fault.Stop.TheVariants.{Memory};
+impl From<AllocError> for OpFault {
+    ghost use Rattle.ov_txn.specs.declared.fault.OpFault.TheVariants.{Memory};
     ghost use Rattle.std.specs.Prelude.{◌≡◌};
 
     ghost from_gives = { λ _ e. e ≡ Memory };
 
-    fn from(_refused: AllocError) -> Stop {
-        Stop::Memory
+    fn from(_refused: AllocError) -> OpFault {
+        OpFault::Memory
     }
 }
 
-impl From<ConditionFault> for Stop {
-    ghost use Rattle.ov_txn.specs.Errors.{stop_of};
+impl From<ConditionFault> for OpFault {
+    ghost use Rattle.ov_txn.specs.Errors.{fault_of_condition};
     ghost use Rattle.std.specs.Prelude.{◌≡◌};
 
-    ghost from_gives = { λ fault e. e ≡ stop_of fault };
+    ghost from_gives = { λ fault e. e ≡ fault_of_condition fault };
 
-    fn from(fault: ConditionFault) -> Stop {
+    fn from(fault: ConditionFault) -> OpFault {
         match fault {
-            ConditionFault::Syntax => Stop::Refused(OpError::Syntax),
-            ConditionFault::UnknownColumn => Stop::Refused(OpError::UnknownColumn),
-            ConditionFault::Memory => Stop::Memory,
-            ConditionFault::Clash => Stop::Refused(OpError::Constraint),
+            ConditionFault::Syntax => OpFault::Refused(OpError::Syntax),
+            ConditionFault::UnknownColumn => OpFault::Refused(OpError::UnknownColumn),
+            ConditionFault::Memory => OpFault::Memory,
+            ConditionFault::Clash => OpFault::Refused(OpError::Constraint),
         }
     }
 }

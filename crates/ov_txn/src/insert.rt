@@ -1,13 +1,13 @@
 ghost use Rattle.std.specs.Prelude.{◌≡◌, IfOk};
 ghost use Rattle.serde_json.specs.View.{view};
-ghost use Rattle.ov_specs.specs.Operation as spec;
-ghost use Rattle.ov_specs.specs.Value as value;
-ghost use Rattle.ov_specs.specs.Writing.{atom_tree};
+ghost use Rattle.ov_specs.specs.operations.Operation as spec;
+ghost use Rattle.ov_specs.specs.values.Value as value;
+ghost use Rattle.ov_specs.specs.values.Writing.{atom_tree};
 ghost use Rattle.ov_txn.specs.Staging.{staged, IsDone};
 
-use crate::fault::{OpError, Stop};
-use crate::given::new_columns;
+use crate::fault::{OpError, OpFault};
 use crate::member::text_at;
+use crate::row_values::new_columns;
 use crate::stage::Stage;
 use ov_base::Tree;
 use ov_rows::{Columns, Row, RowKey};
@@ -47,16 +47,16 @@ fn put_row(
     stage: &mut Stage<'_>,
     table: &str,
     columns: Columns,
-) -> Result<Tree, Stop>
+) -> Result<Tree, OpFault>
     ensures done { IsDone (spec.put_row version (staged stage.old.now draws.now used.old) table.now columns) result (staged stage.new.now draws.now used.new) }
     ensures frame { stage.new ≡ record stage.old { now = stage.new.now } }
 {
     let Some(id) = draws.get(*used).copied() else {
-        return Err(Stop::Refused(OpError::ResourcesExhausted));
+        return Err(OpFault::Refused(OpError::ResourcesExhausted));
     };
     let key = RowKey::new(alloc, table, id)?;
     if stage.contains(&key) {
-        return Err(Stop::Refused(OpError::DuplicateUuid));
+        return Err(OpFault::Refused(OpError::DuplicateUuid));
     }
     let tree = insert_result(alloc, id)?;
     stage.insert(key, Row { version, columns })?;
@@ -73,21 +73,21 @@ pub(crate) fn insert_row(
     used: &mut usize,
     stage: &mut Stage<'_>,
     operation: &Value,
-) -> Result<Tree, Stop>
+) -> Result<Tree, OpFault>
     ensures done { IsDone (spec.insert_row schema.now version (staged stage.old.now draws.now used.old) (view operation.now)) result (staged stage.new.now draws.now used.new) }
     ensures frame { stage.new ≡ record stage.old { now = stage.new.now } }
 {
     let Some(name) = text_at(operation, "table") else {
-        return Err(Stop::Refused(OpError::Syntax));
+        return Err(OpFault::Refused(OpError::Syntax));
     };
     let Some(table) = schema.table(name) else {
-        return Err(Stop::Refused(OpError::UnknownTable));
+        return Err(OpFault::Refused(OpError::UnknownTable));
     };
     if operation.get("uuid").is_some() || operation.get("uuid-name").is_some() {
-        return Err(Stop::Refused(OpError::Syntax));
+        return Err(OpFault::Refused(OpError::Syntax));
     }
     let Some(members) = operation.get("row").and_then(Value::as_object) else {
-        return Err(Stop::Refused(OpError::Syntax));
+        return Err(OpFault::Refused(OpError::Syntax));
     };
     let columns = new_columns(alloc, table, members)?;
     put_row(alloc, version, draws, used, stage, name, columns)

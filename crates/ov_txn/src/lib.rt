@@ -1,16 +1,16 @@
 //! One transaction: its operations in order, each on the rows that those before it left (RFC 7047, 4.1.3 and 5.2).
 #![tactic(auto)]
 
-mod choose;
 mod conditions;
 mod draws;
 mod fault;
-mod given;
 mod insert;
 mod member;
 mod merge;
 mod operation;
+mod projection;
 mod results;
+mod row_values;
 mod select;
 mod shown;
 mod stage;

@@ -3,8 +3,8 @@ ghost use Rattle.std.specs.List.{filter, flat_map};
 ghost use Rattle.std.specs.FinMap.{entries, is_sorted};
 ghost use Rattle.ov_db.specs.Changing.{with_rows};
 ghost use Rattle.ov_rows.specs.Resident.{database_of};
-ghost use Rattle.ov_specs.specs.Lines.{line_cmp};
-ghost use Rattle.ov_specs.specs.Method.{is_text};
+ghost use Rattle.ov_specs.specs.rows.Lines.{line_cmp};
+ghost use Rattle.std.specs.Str.{bytes_eq};
 ghost use Rattle.ov_txn.specs.Staging.{row_made};
 
 use ov_db::Delta;
@@ -18,7 +18,7 @@ pub(crate) fn changes_of<'a>(
     delta: &'a Delta,
     table: &str,
 ) -> Result<Vec<(&'a RowKey, &'a Option<Row>)>, AllocError>
-    ensures { IfOk result (λ changes. map (λ c. (c.0.now, c.1.now)) changes.items ≡ filter (λ c. is_text c.0.0 table.now) (entries delta.now)) }
+    ensures { IfOk result (λ changes. map (λ c. (c.0.now, c.1.now)) changes.items ≡ filter (λ c. bytes_eq c.0.0 table.now) (entries delta.now)) }
 {
     let mut changes = Vec::new(alloc);
     for (key, change) in delta.map() {

@@ -1,9 +1,9 @@
 ghost use Rattle.std.specs.Prelude.{◌≡◌};
 ghost use Rattle.serde_json.specs.View.{view};
-ghost use Rattle.ov_specs.specs.Operation as spec;
+ghost use Rattle.ov_specs.specs.operations.Operation as spec;
 ghost use Rattle.ov_txn.specs.Staging.{staged, IsDone};
 
-use crate::fault::{OpError, Stop};
+use crate::fault::{OpError, OpFault};
 use crate::insert::insert_row;
 use crate::member::text_at;
 use crate::select::select_rows;
@@ -23,16 +23,16 @@ pub(crate) fn operate(
     used: &mut usize,
     stage: &mut Stage<'_>,
     operation: &Value,
-) -> Result<Tree, Stop>
+) -> Result<Tree, OpFault>
     ensures done { IsDone (spec.operation schema.now version (staged stage.old.now draws.now used.old) (view operation.now)) result (staged stage.new.now draws.now used.new) }
     ensures frame { stage.new ≡ record stage.old { now = stage.new.now } }
 {
     match text_at(operation, "op") {
-        None => Err(Stop::Refused(OpError::Syntax)),
+        None => Err(OpFault::Refused(OpError::Syntax)),
         Some(op) if op == "insert" => {
             insert_row(alloc, schema, version, draws, used, stage, operation)
         }
         Some(op) if op == "select" => select_rows(alloc, schema, stage, operation),
-        Some(_) => Err(Stop::Refused(OpError::UnknownOperation)),
+        Some(_) => Err(OpFault::Refused(OpError::UnknownOperation)),
     }
 }

@@ -1,11 +1,11 @@
 ghost use Rattle.std.specs.Prelude.{◌≡◌, IfOk, OnOk};
 ghost use Rattle.serde_json.specs.Data.{no_items};
 ghost use Rattle.serde_json.specs.View.{view, items_view};
-ghost use Rattle.ov_specs.specs.Errors as spec;
-ghost use Rattle.ov_specs.specs.Transaction.{and_item, and_error};
-ghost use Rattle.ov_specs.specs.Transaction as transaction;
+ghost use Rattle.ov_specs.specs.operations.Errors as spec;
+ghost use Rattle.ov_specs.specs.operations.Transaction.{and_item, and_error};
+ghost use Rattle.ov_specs.specs.operations.Transaction as transaction;
 ghost use Rattle.ov_txn.specs.Errors.{error_view};
-ghost use Rattle.ov_txn.specs.Going.{nulls_after};
+ghost use Rattle.ov_txn.specs.Results.{nulls_after};
 
 use crate::fault::OpError;
 use ov_base::{Tree, Trees};
@@ -23,8 +23,8 @@ impl Model for Results {
     ghost use Rattle.std.specs.Prelude.{◌≡◌, false};
     ghost use Rattle.serde_json.specs.Data.{Items};
     ghost use Rattle.serde_json.specs.View.{items_view};
-    ghost use Rattle.ov_specs.specs.Tree.{items_have_real};
-    ghost use Rattle.ov_specs.specs.TreeCode.{items_code};
+    ghost use Rattle.ov_specs.specs.wire.Tree.{items_have_real};
+    ghost use Rattle.ov_specs.specs.codes.TreeCode.{items_code};
 
     ghost Value = { Items };
 
@@ -108,14 +108,14 @@ fn and_error(alloc: Global, results: &Trees, error: OpError) -> Result<Trees, Al
 /// What is answered where the store has no room for the changes: a copy of the results with `resources exhausted` behind
 /// them (own).
 pub fn exhausted(alloc: Global, results: &Trees) -> Result<Trees, AllocError>
-    ensures { IfOk result (λ t. t ≡ transaction.exhausted results.now) }
+    ensures { IfOk result (λ t. t ≡ transaction.exhausted_results results.now) }
 {
     and_error(alloc, results, OpError::ResourcesExhausted)
 }
 
 /// What is answered where the store fails: a copy of the results with `I/O error` behind them (RFC 7047, 4.1.3).
 pub fn failed(alloc: Global, results: &Trees) -> Result<Trees, AllocError>
-    ensures { IfOk result (λ t. t ≡ transaction.failed results.now) }
+    ensures { IfOk result (λ t. t ≡ transaction.failed_results results.now) }
 {
     and_error(alloc, results, OpError::InputOutput)
 }

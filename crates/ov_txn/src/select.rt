@@ -2,16 +2,16 @@ ghost use Rattle.std.specs.Prelude.{◌≡◌, ◌∷◌, [], ℕ, List, IfOk, m
 ghost use Rattle.std.specs.List.{list_any};
 ghost use Rattle.serde_json.specs.Data.{array};
 ghost use Rattle.serde_json.specs.View.{view, items_view};
-ghost use Rattle.ov_specs.specs.Database.{are_columns, object_of};
-ghost use Rattle.ov_specs.specs.Operation as spec;
-ghost use Rattle.ov_specs.specs.Tree.{items_have_real};
-ghost use Rattle.ov_specs.specs.Uuid.{Uuid};
+ghost use Rattle.ov_specs.specs.rows.Database.{same_columns, object_of};
+ghost use Rattle.ov_specs.specs.operations.Operation as spec;
+ghost use Rattle.ov_specs.specs.wire.Tree.{items_have_real};
+ghost use Rattle.ov_specs.specs.values.Uuid.{Uuid};
 ghost use Rattle.ov_txn.specs.Staging.{staged, IsDone};
 
-use crate::choose::chosen_columns;
 use crate::conditions::{conditions_of, is_matching};
-use crate::fault::{OpError, Stop};
+use crate::fault::{OpError, OpFault};
 use crate::member::text_at;
+use crate::projection::chosen_columns;
 use crate::shown::ShownRow;
 use crate::stage::Stage;
 use ov_base::{Text, Tree};
@@ -22,7 +22,7 @@ use std::alloc::{AllocError, Global};
 
 /// Whether an equal one is among the rows.
 fn is_among(rows: &[ShownRow], shown: &ShownRow) -> bool
-    ensures { result ≡ list_any (λ row. are_columns row shown.now) rows.now }
+    ensures { result ≡ list_any (λ row. same_columns row shown.now) rows.now }
 {
     for row in rows {
         if row.is_same(shown) {
@@ -41,7 +41,7 @@ fn shown_rows(
     conditions: &[Condition],
     names: &[Text],
 ) -> Result<Vec<ShownRow>, AllocError>
-    ensures { IfOk result (λ v. v.items ≡ spec.without_repeats (map (spec.columns_of names.now) (spec.matching stage.now.now table.now conditions.now))) }
+    ensures { IfOk result (λ v. v.items ≡ spec.without_repeats (map (spec.projection names.now) (spec.matching stage.now.now table.now conditions.now))) }
 {
     let mut shown = Vec::new(alloc);
     let rows = stage.rows_of(alloc, table)?;
@@ -57,7 +57,7 @@ fn shown_rows(
 }
 
 fn trees_of(alloc: Global, rows: &[ShownRow]) -> Result<Vec<Value>, AllocError>
-    ensures trees { IfOk result (λ v. map view v.items ≡ map spec.shown rows.now) }
+    ensures trees { IfOk result (λ v. map view v.items ≡ map spec.written_row rows.now) }
     ensures plain { IfOk result (λ v. items_have_real (items_view v.items) ≡ false) }
 {
     let mut trees = Vec::new(alloc);
@@ -82,7 +82,7 @@ fn select_result(
     conditions: &[Condition],
     names: &[Text],
 ) -> Result<Tree, AllocError>
-    ensures { IfOk result (λ t. t ≡ spec.select_result (spec.without_repeats (map (spec.columns_of names.now) (spec.matching stage.now.now table.now conditions.now)))) }
+    ensures { IfOk result (λ t. t ≡ spec.select_result (spec.without_repeats (map (spec.projection names.now) (spec.matching stage.now.now table.now conditions.now)))) }
 {
     let shown = shown_rows(alloc, stage, table, conditions, names)?;
     let items = trees_of(alloc, shown.as_slice())?;
@@ -95,17 +95,17 @@ pub(crate) fn select_rows(
     schema: &Schema,
     stage: &Stage<'_>,
     operation: &Value,
-) -> Result<Tree, Stop>
+) -> Result<Tree, OpFault>
     ensures { (draws : List Uuid) (used : ℕ) → IsDone (spec.select_rows schema.now (staged stage.now.now draws used) (view operation.now)) result (staged stage.now.now draws used) }
 {
     let Some(name) = text_at(operation, "table") else {
-        return Err(Stop::Refused(OpError::Syntax));
+        return Err(OpFault::Refused(OpError::Syntax));
     };
     let Some(table) = schema.table(name) else {
-        return Err(Stop::Refused(OpError::UnknownTable));
+        return Err(OpFault::Refused(OpError::UnknownTable));
     };
     let Some(items) = operation.get("where").and_then(Value::as_array) else {
-        return Err(Stop::Refused(OpError::Syntax));
+        return Err(OpFault::Refused(OpError::Syntax));
     };
     let conditions = conditions_of(alloc, table, items.as_slice())?;
     let names = chosen_columns(alloc, table, operation.get("columns"))?;

@@ -3,11 +3,11 @@ ghost use Rattle.std.specs.Cmp.Lexicographic.{pointwise};
 ghost use Rattle.serde_json.specs.Data.{object, put};
 ghost use Rattle.serde_json.specs.View.{members_view};
 ghost use Rattle.ov_atoms.specs.Views.{atoms_view, pairs_view};
-ghost use Rattle.ov_specs.specs.Database.{is_atom, is_pair, is_datum, are_columns, one_uuid};
-ghost use Rattle.ov_specs.specs.Method.{is_text};
-ghost use Rattle.ov_specs.specs.Operation as spec;
-ghost use Rattle.ov_specs.specs.Tree.{has_real};
-ghost use Rattle.ov_specs.specs.Writing.{tree};
+ghost use Rattle.ov_specs.specs.rows.Database.{same_atom, same_pair, same_datum, same_columns, one_uuid};
+ghost use Rattle.std.specs.Str.{bytes_eq};
+ghost use Rattle.ov_specs.specs.operations.Operation as spec;
+ghost use Rattle.ov_specs.specs.wire.Tree.{has_real};
+ghost use Rattle.ov_specs.specs.values.Writing.{tree};
 
 use ov_atoms::{Atom, Datum, write_datum};
 use ov_base::{Text, Tree};
@@ -26,11 +26,12 @@ pub(crate) struct ShownRow {
 impl Model for ShownRow {
     ghost use Rattle.std.specs.Prelude.{List, ℕ};
     ghost use Rattle.std.specs.Coded.{coded×, coded_ℕ, coded_list};
-    ghost use Rattle.ov_specs.specs.Value as value;
+    ghost use Rattle.ov_specs.specs.values.Value as value;
+    ghost use Rattle.ov_specs.specs.codes.ValueCode.{datum_code};
 
     ghost Value = { List (List ℕ × value.Datum) };
 
-    ghost coded = { coded_list (coded× (coded_list coded_ℕ) value.datum_code) };
+    ghost coded = { coded_list (coded× (coded_list coded_ℕ) datum_code) };
 
     ghost view = { λ r. r.columns.items };
 }
@@ -49,7 +50,7 @@ fn column_of(
     row: &Row,
     name: &str,
 ) -> Result<Option<Datum>, AllocError>
-    ensures { IfOk result (λ o. o ≡ spec.column_of (key.now, row.now) name.now) }
+    ensures { IfOk result (λ o. o ≡ spec.entry_value (key.now, row.now) name.now) }
 {
     if name == "_uuid" {
         return Ok(Some(one_uuid(alloc, key.id())?));
@@ -64,20 +65,20 @@ fn column_of(
 }
 
 fn are_atoms(a: &[Atom], b: &[Atom]) -> bool
-    ensures { result ≡ pointwise is_atom (atoms_view a.now) (atoms_view b.now) }
+    ensures { result ≡ pointwise same_atom (atoms_view a.now) (atoms_view b.now) }
 {
     a == b
 }
 
 fn are_pairs(a: &[(Atom, Atom)], b: &[(Atom, Atom)]) -> bool
-    ensures { result ≡ pointwise is_pair (pairs_view a.now) (pairs_view b.now) }
+    ensures { result ≡ pointwise same_pair (pairs_view a.now) (pairs_view b.now) }
 {
     a == b
 }
 
 /// The same set or map.
 fn is_datum(a: &Datum, b: &Datum) -> bool
-    ensures { result ≡ is_datum a.now b.now }
+    ensures { result ≡ same_datum a.now b.now }
 {
     match a.atoms() {
         Some(atoms) => match b.atoms() {
@@ -96,7 +97,7 @@ fn is_datum(a: &Datum, b: &Datum) -> bool
 
 /// The same value in the same column.
 fn is_cell(a: &(Text, Datum), b: &(Text, Datum)) -> bool
-    ensures { result ≡ (is_text a.now.0 b.now.0 && is_datum a.now.1 b.now.1) }
+    ensures { result ≡ (bytes_eq a.now.0 b.now.0 && same_datum a.now.1 b.now.1) }
 {
     a.0.as_str() == b.0.as_str() && is_datum(&a.1, &b.1)
 }
@@ -109,7 +110,7 @@ impl ShownRow {
         key: &RowKey,
         row: &Row,
     ) -> Result<ShownRow, AllocError>
-        ensures { IfOk result (λ r. r ≡ spec.columns_of names.now (key.now, row.now)) }
+        ensures { IfOk result (λ r. r ≡ spec.projection names.now (key.now, row.now)) }
     {
         let mut columns = Vec::new(alloc);
         for name in names {
@@ -122,7 +123,7 @@ impl ShownRow {
 
     /// The same values in the same columns.
     pub(crate) fn is_same(&self, other: &ShownRow) -> bool
-        ensures { result ≡ are_columns self.now other.now }
+        ensures { result ≡ same_columns self.now other.now }
     {
         let columns = self.columns.as_slice();
         let others = other.columns.as_slice();
@@ -139,7 +140,7 @@ impl ShownRow {
 
     /// The row as it is shown (RFC 7047, 5.1, `<row>`).
     pub(crate) fn tree(&self, alloc: Global) -> Result<Tree, AllocError>
-        ensures { IfOk result (λ t. t ≡ spec.shown self.now) }
+        ensures { IfOk result (λ t. t ≡ spec.written_row self.now) }
     {
         let mut members = Map::new(alloc);
         for (name, datum) in &self.columns {

@@ -2,8 +2,8 @@ ghost use Rattle.std.specs.Prelude.{◌≡◌, ◌==◌, false, map, IfOk, OnOk,
 ghost use Rattle.std.specs.List.{filter};
 ghost use Rattle.std.specs.FinMap.{contains_key, insert, entries, len};
 ghost use Rattle.ov_db.specs.Changing.{applied};
-ghost use Rattle.ov_specs.specs.Database.{is_database};
-ghost use Rattle.ov_specs.specs.Method.{is_text};
+ghost use Rattle.ov_specs.specs.rows.Database.{same_database};
+ghost use Rattle.std.specs.Str.{bytes_eq};
 
 use crate::merge::{changes_of, merged};
 use ov_db::Delta;
@@ -68,7 +68,7 @@ impl<'a> Stage<'a> {
         alloc: Global,
         table: &str,
     ) -> Result<Vec<(&RowKey, &Row)>, AllocError>
-        ensures { IfOk result (λ rows. map (λ r. (r.0.now, r.1.now)) rows.items ≡ filter (λ r. is_text r.0.0 table.now) (entries self.now.now)) }
+        ensures { IfOk result (λ rows. map (λ r. (r.0.now, r.1.now)) rows.items ≡ filter (λ r. bytes_eq r.0.0 table.now) (entries self.now.now)) }
     {
         let rows = self.rows.of_table(alloc, table)?;
         if self.delta.is_empty() {
@@ -81,7 +81,7 @@ impl<'a> Stage<'a> {
     /// What the operations have changed. It is empty exactly where the rows are as before them.
     pub(crate) fn into_delta(self) -> Delta
         ensures made { applied result self.entry.before ≡ self.entry.now }
-        ensures least { (len result == 0) ≡ is_database self.entry.before self.entry.now }
+        ensures least { (len result == 0) ≡ same_database self.entry.before self.entry.now }
     {
         let Stage { rows: _, delta } = self;
         delta

@@ -2,13 +2,13 @@ ghost use Rattle.std.specs.Prelude.{◌≡◌, ◌==◌, IfOk};
 ghost use Rattle.std.specs.FinMap.{empty, len};
 ghost use Rattle.serde_json.specs.View.{items_view};
 ghost use Rattle.ov_db.specs.Changing.{applied};
-ghost use Rattle.ov_specs.specs.Database.{is_database};
-ghost use Rattle.ov_specs.specs.Errors as spec;
-ghost use Rattle.ov_specs.specs.Transaction.{and_item, transaction};
+ghost use Rattle.ov_specs.specs.rows.Database.{same_database};
+ghost use Rattle.ov_specs.specs.operations.Errors as spec;
+ghost use Rattle.ov_specs.specs.operations.Transaction.{and_item, transaction};
 ghost use Rattle.ov_txn.specs.Errors.{error_view};
-ghost use Rattle.ov_txn.specs.Going.{nulls_after};
+ghost use Rattle.ov_txn.specs.Results.{nulls_after};
 
-use crate::fault::{OpError, Stop};
+use crate::fault::{OpError, OpFault};
 use crate::operation::operate;
 use crate::results::{Results, error_tree};
 use crate::stage::Stage;
@@ -61,7 +61,7 @@ pub fn perform(
 ) -> Result<Performed, AllocError>
     ensures results { IfOk result (λ p. p.results ≡ (transaction schema.now rows.now draws.now operations.now).results) }
     ensures delta { IfOk result (λ p. applied p.delta rows.now ≡ (transaction schema.now rows.now draws.now operations.now).database) }
-    ensures least { IfOk result (λ p. (len p.delta == 0) ≡ is_database rows.now (transaction schema.now rows.now draws.now operations.now).database) }
+    ensures least { IfOk result (λ p. (len p.delta == 0) ≡ same_database rows.now (transaction schema.now rows.now draws.now operations.now).database) }
 {
     let mut results = Results::new(alloc);
     let mut stage = Stage::new(alloc, rows);
@@ -78,8 +78,8 @@ pub fn perform(
             alloc, schema, version, draws, &mut used, &mut stage, &trees[i],
         ) {
             Ok(tree) => results.push(tree)?,
-            Err(Stop::Memory) => return Err(AllocError),
-            Err(Stop::Refused(error)) => {
+            Err(OpFault::Memory) => return Err(AllocError),
+            Err(OpFault::Refused(error)) => {
                 let (_tried, others) = trees.split_at(i + 1);
                 return refused(alloc, results, error, others);
             }

@@ -8,11 +8,11 @@ use Rattle.clap.specs.declared.error.kind.ErrorKind.TheVariants.{OutOfMemory}
 use Rattle.clap.proofs.WalkLemmas.{first_value-rows}
 use Rattle.ov_words.specs.Faults.{fault_by}
 use Rattle.ov_words.specs.declared.fault.WordFault.TheVariants.{Refused}
-use Rattle.ov_words.specs.Words.{app, is_file, is_set, settings_by, value_of}
+use Rattle.ov_words.specs.Words.{app, is_file, is_set, settings_by, option_value}
 
 -- the value that the matches have is the one that the words give
 pub value_of-matches : (words : List Text) (m : ArgMatches) (name : Text) → rows_of (found_of m) ≡ matches_of app words
-    → first_value (found_of m) name ≡ value_of words name
+    → first_value (found_of m) name ≡ option_value words name
 value_of-matches words m name e = first_value-rows (found_of m) name ∙ ap (first_of name) e
 
 is_file-true : (file : Option Text) → file ≢ Some [] → is_file file ≡ true

@@ -13,10 +13,10 @@ status Streams = 5
 status Memory = 6
 
 -- the line: the program's name, and what failed
-abbrev pub line : Ending → Option (List ℕ)
-line InputEnded = None
-line Arguments = Some (codes "ov_server: arguments")
-line Schema = Some (codes "ov_server: schema")
-line Database = Some (codes "ov_server: database")
-line Streams = Some (codes "ov_server: input or output")
-line Memory = Some (codes "ov_server: memory")
+abbrev pub error_line : Ending → Option (List ℕ)
+error_line InputEnded = None
+error_line Arguments = Some (codes "ov_server: arguments")
+error_line Schema = Some (codes "ov_server: schema")
+error_line Database = Some (codes "ov_server: database")
+error_line Streams = Some (codes "ov_server: input or output")
+error_line Memory = Some (codes "ov_server: memory")

@@ -15,16 +15,16 @@ abbrev pub flag_rule : Text → Rule
 flag_rule name = record (new_rule name) { long = Some name; action = Some SetTrue }
 
 -- a command without flags of `clap`'s own
-abbrev pub bare : App → App
-bare a = record a { top = record a.top { disable_help_flag = true; disable_version_flag = true } }
+abbrev pub without_help : App → App
+without_help a = record a { top = record a.top { disable_help_flag = true; disable_version_flag = true } }
 
 -- `ov_server [--schema FILE] [--db FILE] [--stdio]`
 abbrev pub app : App
-app = with_rule (with_rule (with_rule (bare (new_app (codes "ov_server"))) (option_rule (codes "schema"))) (option_rule (codes "db"))) (flag_rule (codes "stdio"))
+app = with_rule (with_rule (with_rule (without_help (new_app (codes "ov_server"))) (option_rule (codes "schema"))) (option_rule (codes "db"))) (flag_rule (codes "stdio"))
 
 -- the value of an option or flag, if it has one
-abbrev pub value_of : List Text → Text → Option Text
-value_of words name = first_of name (matches_of app words)
+abbrev pub option_value : List Text → Text → Option Text
+option_value words name = first_of name (matches_of app words)
 
 -- a file may not be named by the empty text
 abbrev pub is_file : Option Text → Bool
@@ -45,4 +45,4 @@ settings_by (k ∷ ks) schema db streams = None
 
 -- the settings that the words give, or none where they are refused
 abbrev pub settings_of : List Text → Option Settings
-settings_of words = settings_by (fault_of app words) (value_of words (codes "schema")) (value_of words (codes "db")) (value_of words (codes "stdio"))
+settings_of words = settings_by (fault_of app words) (option_value words (codes "schema")) (option_value words (codes "db")) (option_value words (codes "stdio"))

@@ -1,5 +1,5 @@
 ghost use Rattle.std.specs.Prelude.{◌≡◌, option_map};
-ghost use Rattle.ov_words.specs.Endings.{line, status};
+ghost use Rattle.ov_words.specs.Endings.{error_line, status};
 
 /// How the program ended.
 #[derive(Clone, Copy, Debug, PartialEq, Eq)]
@@ -33,8 +33,8 @@ pub fn status_of(ending: Ending) -> u8
 }
 
 /// The line that is said on standard error, without its end. Where the status is 0, none is.
-pub fn line_of(ending: Ending) -> Option<&'static str>
-    ensures { option_map (λ text. text.now) result ≡ line ending }
+pub fn error_line_of(ending: Ending) -> Option<&'static str>
+    ensures { option_map (λ text. text.now) result ≡ error_line ending }
 {
     match ending {
         Ending::InputEnded => None,

@@ -14,6 +14,6 @@ pub use causes::{
     ending_of_cause, ending_of_keeping, ending_of_open, ending_of_schema, ending_of_step,
     ending_of_words,
 };
-pub use ending::{Ending, line_of, status_of};
+pub use ending::{Ending, error_line_of, status_of};
 pub use fault::WordFault;
 pub use settings::{Settings, read_words};

@@ -1,4 +1,4 @@
-ghost use Rattle.ov_specs.specs.Lines.{Contents};
+ghost use Rattle.ov_specs.specs.rows.Lines.{Contents};
 
 use ov_keeper::{Change, KeepFault, Keeper, Loaded};
 use std::alloc::Global;
@@ -25,7 +25,7 @@ impl<K: Keeper> Keeper for FailingKeeper<K> {
 
     ghost failed = { λ k. k.failures };
 
-    ghost something = { λ k honest. K.something k.inner honest };
+    ghost leaves_some = { λ k honest. K.leaves_some k.inner honest };
 
     fn failures(&self) -> u64 {
         self.failures

@@ -1,6 +1,6 @@
 ghost use Rattle.std.specs.Prelude.{◌≡◌, IfOk, false};
 ghost use Rattle.serde_json.specs.View.{view};
-ghost use Rattle.ov_specs.specs.Tree.{has_real};
+ghost use Rattle.ov_specs.specs.wire.Tree.{has_real};
 
 use ov_base::{Tree, Trees, has_real};
 use serde_json::Value;

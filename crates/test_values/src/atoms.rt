@@ -26,7 +26,7 @@ struct OneName;
 impl Names for OneName {
     ghost use Rattle.std.specs.Prelude.{Some, None, if◌then◌else◌, codes};
     ghost use Rattle.std.specs.Str.{bytes_eq};
-    ghost use Rattle.ov_specs.specs.Uuid.{zero_uuid};
+    ghost use Rattle.ov_specs.specs.values.Uuid.{zero_uuid};
 
     ghost names = { λ _ name. if bytes_eq name (codes "a") then Some zero_uuid else None };
 

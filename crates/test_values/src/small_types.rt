@@ -1,4 +1,4 @@
-use ov_base::{Bytes, Text, Told, Trees, has_real};
+use ov_base::{ByteTrace, Bytes, Text, Trees, has_real};
 use serde_json::Value;
 use std::alloc::Global;
 use std::test::Fail;
@@ -121,8 +121,8 @@ fn trees_are_copied_from_a_slice(rt: HostRuntime) -> Result<(), Fail> {
 
 #[test]
 fn a_tape_takes_no_room(rt: HostRuntime) {
-    let mut told = Told::new();
+    let mut told = ByteTrace::new();
     told.add(b"ab");
     told.add(b"");
-    assert_eq!(rt; size_of::<Told>(), 0);
+    assert_eq!(rt; size_of::<ByteTrace>(), 0);
 }

@@ -1,5 +1,5 @@
 use ov_base::Text;
-use ov_words::{Ending, Settings, WordFault, line_of, read_words, status_of};
+use ov_words::{Ending, Settings, WordFault, error_line_of, read_words, status_of};
 use std::alloc::Global;
 use std::test::Fail;
 use test_support::{Scripted, agrees};
@@ -89,7 +89,7 @@ fn refuses_words(rt: HostRuntime) -> Result<(), Fail> {
 /// Each ending has its status, and its line where the status is not 0.
 #[test]
 fn tells_each_ending(rt: HostRuntime) {
-    assert!(rt; status_of(Ending::InputEnded) == 0 && line_of(Ending::InputEnded).is_none());
+    assert!(rt; status_of(Ending::InputEnded) == 0 && error_line_of(Ending::InputEnded).is_none());
     let rows = [
         (Ending::Arguments, 2, "ov_server: arguments"),
         (Ending::Schema, 3, "ov_server: schema"),
@@ -98,6 +98,6 @@ fn tells_each_ending(rt: HostRuntime) {
         (Ending::Memory, 6, "ov_server: memory"),
     ];
     for (ending, status, line) in rows.as_slice() {
-        assert!(rt; status_of(*ending) == *status && line_of(*ending) == Some(*line));
+        assert!(rt; status_of(*ending) == *status && error_line_of(*ending) == Some(*line));
     }
 }

@@ -1,6 +1,6 @@
 ghost use Rattle.std.specs.Prelude.{◌≡◌, IfOk};
 ghost use Rattle.std.specs.List.{list_any};
-ghost use Rattle.ov_specs.specs.Schema.{any_table, has_table};
+ghost use Rattle.ov_specs.specs.schema.Schema.{any_table, has_table};
 ghost use Rattle.ov_schema.specs.ShapeViews.{base_view, column_view, table_view, schema_view};
 ghost use Rattle.ov_schema.specs.Flaws.{base_has, types_have, column_has, table_has, shape_has};
 

@@ -1,7 +1,7 @@
 ghost use Rattle.std.specs.Prelude.{◌≡◌, not};
 ghost use Rattle.std.specs.List.{list_any};
 ghost use Rattle.std.specs.Str.{bytes_eq};
-ghost use Rattle.ov_specs.specs.Schema.{column_named, is_lasting, has_twice, is_bad_index};
+ghost use Rattle.ov_specs.specs.schema.Schema.{column_named, is_lasting, has_twice, is_bad_index};
 ghost use Rattle.ov_schema.specs.ShapeViews.{texts_view, table_view};
 
 use crate::parse::table_shape::TableShape;

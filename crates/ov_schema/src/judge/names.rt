@@ -1,5 +1,5 @@
 ghost use Rattle.std.specs.Prelude.{◌≡◌, false};
-ghost use Rattle.ov_specs.specs.Schema.{is_bad_name, is_digit, is_version};
+ghost use Rattle.ov_specs.specs.schema.Schema.{is_bad_name, is_digit, is_version};
 
 use ov_atoms::is_id;
 

@@ -1,5 +1,5 @@
 ghost use Rattle.std.specs.Prelude.{◌≡◌, Some, IfOk, option_map};
-ghost use Rattle.ov_specs.specs.Schema.{any_base, any_type, has_bad_name, has_bad_version, has_bad_range, is_strong_weak, refusal_of_shape};
+ghost use Rattle.ov_specs.specs.schema.Schema.{any_base, any_type, has_bad_name, has_bad_version, has_bad_range, is_strong_weak, refusal_of_shape};
 ghost use Rattle.ov_schema.specs.ShapeViews.{schema_view};
 ghost use Rattle.ov_schema.specs.Flaws.{base_has};
 ghost use Rattle.ov_schema.specs.FaultViews.{refusal_view};

@@ -1,9 +1,9 @@
 ghost use Rattle.std.specs.Prelude.{◌≡◌, None, not, option_map, IfOk};
 ghost use Rattle.std.specs.FinMap.{keys};
 ghost use Rattle.serde_json.specs.View.{view};
-ghost use Rattle.ov_specs.specs.Value.{set_of};
-ghost use Rattle.ov_specs.specs.Reading.{atoms_read};
-ghost use Rattle.ov_specs.specs.Schema.{is_empty, choices_of};
+ghost use Rattle.ov_specs.specs.values.Value.{set_of};
+ghost use Rattle.ov_specs.specs.values.Reading.{atoms_read};
+ghost use Rattle.ov_specs.specs.schema.Schema.{is_empty, choices_of};
 ghost use Rattle.ov_atoms.specs.Views.{kind_view};
 ghost use Rattle.ov_schema.specs.ShapeViews.{name_view};
 ghost use Rattle.ov_schema.specs.Sets.{set_in};

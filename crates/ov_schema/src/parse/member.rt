@@ -1,7 +1,7 @@
 ghost use Rattle.std.specs.Prelude.{◌≡◌, option_map, option_and_then};
 ghost use Rattle.serde_json.specs.Find.{get, as_str, as_bool, as_object};
 ghost use Rattle.serde_json.specs.View.{view, members_view};
-ghost use Rattle.ov_specs.specs.SchemaShape.{optional, whole_number};
+ghost use Rattle.ov_specs.specs.schema.SchemaShape.{optional, whole_number};
 
 use serde_json::{Map, Value};
 

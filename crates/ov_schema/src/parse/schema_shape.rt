@@ -1,6 +1,6 @@
 ghost use Rattle.std.specs.Prelude.{◌≡◌, IfOk, map, option_map};
 ghost use Rattle.serde_json.specs.View.{view, members_view};
-ghost use Rattle.ov_specs.specs.SchemaShape.{each_member, table_shape, schema_shape};
+ghost use Rattle.ov_specs.specs.schema.SchemaShape.{each_member, table_shape, schema_shape};
 ghost use Rattle.ov_schema.specs.ShapeViews.{named_table_view, schema_view};
 
 use crate::parse::member::{members_at, optional_text, text_at};

@@ -1,8 +1,9 @@
 ghost use Rattle.std.specs.Prelude.{◌≡◌, IfOk, [], map, option_map, unwrap_or, codes};
 ghost use Rattle.serde_json.specs.Find.{get, as_str};
 ghost use Rattle.serde_json.specs.View.{view, items_view, members_view};
-ghost use Rattle.ov_specs.specs.Reading.{each_read};
-ghost use Rattle.ov_specs.specs.SchemaShape.{optional, each_member, list_of, column_shape, table_shape};
+ghost use Rattle.ov_specs.specs.values.Reading.{each_read};
+ghost use Rattle.ov_specs.specs.schema.SchemaShape.{optional, each_member, column_shape, table_shape};
+ghost use Rattle.ov_specs.specs.values.Reading.{list_read};
 ghost use Rattle.ov_schema.specs.ShapeViews.{named_column_view, texts_view, indexes_view, table_view};
 
 use crate::parse::member::{members_at, optional_bool, optional_number};
@@ -70,7 +71,7 @@ fn optional_indexes<'a>(
     alloc: Global,
     tree: &'a Value,
 ) -> Result<Option<Vec<Vec<&'a str>>>, AllocError>
-    ensures { IfOk result (λ o. option_map (λ v. indexes_view v.items) o ≡ option_map (λ o2. unwrap_or o2 []) (optional (list_of (list_of as_str)) (get (codes "indexes") (view tree.now)))) }
+    ensures { IfOk result (λ o. option_map (λ v. indexes_view v.items) o ≡ option_map (λ o2. unwrap_or o2 []) (optional (list_read (list_read as_str)) (get (codes "indexes") (view tree.now)))) }
 {
     match tree.get("indexes") {
         Some(member) => match member.as_array() {
@@ -85,7 +86,7 @@ fn indexes_of<'a>(
     alloc: Global,
     items: &'a Vec<Value>,
 ) -> Result<Option<Vec<Vec<&'a str>>>, AllocError>
-    ensures { IfOk result (λ o. option_map (λ v. indexes_view v.items) o ≡ each_read (list_of as_str) (items_view items.now.items)) }
+    ensures { IfOk result (λ o. option_map (λ v. indexes_view v.items) o ≡ each_read (list_read as_str) (items_view items.now.items)) }
 {
     let mut indexes = Vec::new(alloc);
     for item in items {
@@ -99,7 +100,7 @@ fn indexes_of<'a>(
 
 /// The texts of an array, or none where it is no array of texts.
 fn texts_of<'a>(alloc: Global, tree: &'a Value) -> Result<Option<Vec<&'a str>>, AllocError>
-    ensures { IfOk result (λ o. option_map (λ v. texts_view v.items) o ≡ list_of as_str (view tree.now)) }
+    ensures { IfOk result (λ o. option_map (λ v. texts_view v.items) o ≡ list_read as_str (view tree.now)) }
 {
     match tree.as_array() {
         Some(items) => each_text(alloc, items),

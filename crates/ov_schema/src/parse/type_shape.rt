@@ -1,7 +1,7 @@
 ghost use Rattle.std.specs.Prelude.{◌≡◌, None, option_map};
 ghost use Rattle.serde_json.specs.Find.{get};
 ghost use Rattle.serde_json.specs.View.{view};
-ghost use Rattle.ov_specs.specs.SchemaShape.{optional, base_shape, most, type_members, type_shape, column_shape};
+ghost use Rattle.ov_specs.specs.schema.SchemaShape.{optional, base_shape, most, type_members, type_shape, column_shape};
 ghost use Rattle.ov_schema.specs.ShapeViews.{base_view, most_view, type_view, column_view};
 
 use crate::parse::base_shape::{BaseShape, TypeName};

@@ -1,6 +1,6 @@
 use Rattle.std.proofs.Common.{◌-◌, drop, T}
 use Rattle.std.specs.FinMap.{is_sorted}
-use Rattle.ov_specs.specs.Value.{atom_cmp}
+use Rattle.ov_specs.specs.values.Value.{atom_cmp}
 use Rattle.ov_atoms.specs.Views.{pairs_view}
 use Rattle.ov_atoms.proofs.datum.do_ascend.Given as goal
 

@@ -1,8 +1,8 @@
 use Rattle.std.proofs.Common.{◌≡◌, ◌++◌, [], true, false, refl, sym, ap, arith, ◌∙◌, append-nil}
 use Rattle.std.proofs.lemmas.Grind.{common_steps}
-use Rattle.ov_specs.specs.Value.{map_of}
-use Rattle.ov_specs.specs.Reading.{has_clash}
-use Rattle.ov_specs.proofs.Clashing.{has_clash-ascending}
+use Rattle.ov_specs.specs.values.Value.{map_of}
+use Rattle.ov_specs.specs.values.Reading.{has_clash}
+use Rattle.ov_specs.proofs.laws.Clashing.{has_clash-ascending}
 use Rattle.ov_atoms.specs.Views.{pairs_view}
 use Rattle.ov_atoms.proofs.Building.{clash-other, clash-again, map-again, clash-new, map-new, pairs-ascend}
 use Rattle.ov_atoms.proofs.datum.merge_pairs.Goals as goal

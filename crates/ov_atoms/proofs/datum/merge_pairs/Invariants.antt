@@ -1,6 +1,6 @@
 use Rattle.std.proofs.Common.{◌≡◌, ◌++◌}
-use Rattle.ov_specs.specs.Value.{map_of}
-use Rattle.ov_specs.specs.Reading.{has_clash}
+use Rattle.ov_specs.specs.values.Value.{map_of}
+use Rattle.ov_specs.specs.values.Reading.{has_clash}
 use Rattle.std.specs.BTreeMap.{IsOrdered}
 use Rattle.ov_atoms.proofs.Building.{atom_order}
 use Rattle.ov_atoms.specs.Views.{pairs_view}

@@ -1,6 +1,6 @@
 use Rattle.std.proofs.Common.{ap, sym, ◌∙◌}
-use Rattle.ov_specs.specs.Uuid.{is_uuid}
-use Rattle.ov_specs.proofs.Uuids.{is_uuid_from}
+use Rattle.ov_specs.specs.values.Uuid.{is_uuid}
+use Rattle.ov_specs.proofs.laws.Uuids.{is_uuid_from}
 use Rattle.ov_atoms.proofs.identifier.has_sixteen_bytes.Goals as goal
 
 pub returns : goal.returns

@@ -1,5 +1,5 @@
 use Rattle.std.proofs.Common.{◌≡◌, drop}
-use Rattle.ov_specs.specs.Value.{has_nul}
+use Rattle.ov_specs.specs.values.Value.{has_nul}
 use Rattle.ov_atoms.proofs.read.has_nul.Given as goal
 
 abbrev pub invariant-loop-byte : goal.invariant-loop-byte

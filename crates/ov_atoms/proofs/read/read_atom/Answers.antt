@@ -1,8 +1,8 @@
 use Rattle.std.proofs.Common.{sym, ap, ◌∙◌, option_map}
 use Rattle.serde_json.specs.View.{view}
-use Rattle.ov_specs.proofs.OfKinds.{atom_read_is_of}
+use Rattle.ov_specs.proofs.laws.OfKinds.{atom_read_is_of}
 use Rattle.ov_atoms.specs.Views.{kind_view, atom_view}
-use Rattle.ov_atoms.proofs.Told.{if_ok}
+use Rattle.ov_atoms.proofs.AnswerLemmas.{if_ok}
 use Rattle.ov_atoms.proofs.read.read_atom.Goals as goal
 
 pub returns-clause-of_kind : goal.returns-clause-of_kind

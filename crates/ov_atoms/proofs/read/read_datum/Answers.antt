@@ -1,10 +1,10 @@
 use Rattle.std.proofs.Common.{◌≡◌, Some, sym, ap, ◌∙◌, option_map}
 use Rattle.serde_json.specs.View.{view}
-use Rattle.ov_specs.specs.Value.{Single, Pair, Atoms, set_of, is_of}
-use Rattle.ov_specs.specs.Reading.{atoms_read, pairs_read, set_reading, map_reading}
-use Rattle.ov_specs.proofs.OfKinds.{reads_is_of}
+use Rattle.ov_specs.specs.values.Value.{Single, Pair, Atoms, set_of, is_of}
+use Rattle.ov_specs.specs.values.Reading.{atoms_read, pairs_read, set_reading, map_reading}
+use Rattle.ov_specs.proofs.laws.OfKinds.{reads_is_of}
 use Rattle.ov_atoms.specs.Views.{kind_view, kinds_view, atoms_view, pairs_view}
-use Rattle.ov_atoms.proofs.Told.{if_ok, map_reading-unclashed}
+use Rattle.ov_atoms.proofs.AnswerLemmas.{if_ok, map_reading-unclashed}
 use Rattle.ov_atoms.proofs.read.read_datum.Goals as goal
 
 pub returns-in_ok-of_atoms-in-Some-clause-of_kinds : goal.returns-in_ok-of_atoms-in-Some-clause-of_kinds

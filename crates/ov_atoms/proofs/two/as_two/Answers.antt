@@ -1,7 +1,7 @@
 use Rattle.std.proofs.Common.{◌≡◌, List, [], ◌∷◌, length, None, option_and_then, refl, ap, ◌∙◌}
 use Rattle.serde_json.specs.View.{items_view}
 use Rattle.serde_json.specs.declared.value.Value.{Value}
-use Rattle.ov_specs.specs.Reading.{two_items}
+use Rattle.ov_specs.specs.values.Reading.{two_items}
 use Rattle.ov_atoms.proofs.two.as_two.Goals as goal
 
 two_items-other : (vs : List Value) → (length vs ≡ 2 → ⊥) → None ≡ two_items (items_view vs)

@@ -1,7 +1,7 @@
 use Rattle.std.proofs.Common.{◌≡◌, map, take, false}
 use Rattle.serde_json.specs.View.{view, items_view}
-use Rattle.ov_specs.specs.Tree.{items_have_real}
-use Rattle.ov_specs.specs.Writing.{atom_tree}
+use Rattle.ov_specs.specs.wire.Tree.{items_have_real}
+use Rattle.ov_specs.specs.values.Writing.{atom_tree}
 use Rattle.ov_atoms.specs.Views.{atoms_view}
 use Rattle.ov_atoms.proofs.write.write_atoms.Given as goal
 

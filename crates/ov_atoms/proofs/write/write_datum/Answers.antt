@@ -1,8 +1,8 @@
 use Rattle.std.proofs.Common.{ap, ◌∙◌}
 use Rattle.std.proofs.lemmas.Result.{IfOk-weaker}
-use Rattle.ov_specs.specs.Reading.{reads}
-use Rattle.ov_specs.specs.Writing.{set_tree, map_tree}
-use Rattle.ov_specs.proofs.ReadingBack.{reads-tree}
+use Rattle.ov_specs.specs.values.Reading.{reads}
+use Rattle.ov_specs.specs.values.Writing.{set_tree, map_tree}
+use Rattle.ov_specs.proofs.laws.ReadingBack.{reads-tree}
 use Rattle.ov_atoms.specs.Views.{atoms_view, pairs_view}
 use Rattle.ov_atoms.proofs.Trees.{set_tree-atoms, map_tree-pairs}
 use Rattle.ov_atoms.proofs.write.write_datum.Goals as goal

@@ -2,7 +2,7 @@ use Rattle.std.proofs.Common.{arith, map, ap, ◌∙◌, codes}
 use Rattle.std.proofs.lemmas.Grind.{common_steps}
 use Rattle.std.proofs.lemmas.Result.{IfOk-weaker}
 use Rattle.serde_json.specs.View.{view, items_view}
-use Rattle.ov_specs.specs.Tree.{has_real}
+use Rattle.ov_specs.specs.wire.Tree.{has_real}
 use Rattle.ov_atoms.proofs.Plain.{plain-push, listed_plain}
 use Rattle.ov_atoms.proofs.Written.{map_tree-made}
 use Rattle.ov_atoms.proofs.write.write_pairs.Goals as goal

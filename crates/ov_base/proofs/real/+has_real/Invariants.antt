@@ -1,6 +1,6 @@
 use Rattle.std.proofs.Common.{◌≡◌, drop}
 use Rattle.serde_json.specs.View.{items_view, members_view}
-use Rattle.ov_specs.specs.Tree.{items_have_real, members_have_real}
+use Rattle.ov_specs.specs.wire.Tree.{items_have_real, members_have_real}
 use Rattle.ov_base.proofs.real.+has_real.Given as goal
 
 abbrev pub invariant-items_have_real-loop-item : goal.invariant-items_have_real-loop-item

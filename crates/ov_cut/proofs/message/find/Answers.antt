@@ -1,7 +1,7 @@
 use Rattle.std.proofs.Common.{◌∙◌, ◌≡◌, ℕ, ◌<◌, ◌≤◌, Bool, true, false, arith, get_or, refl}
 use Rattle.std.specs.Prelude.{◌↔◌, IsTrue}
-use Rattle.ov_specs.specs.Cut.{max_message}
-use Rattle.ov_cut.specs.Message.{step_of}
+use Rattle.ov_specs.specs.wire.Cut.{max_message}
+use Rattle.ov_cut.specs.Message.{mode_after}
 use Rattle.ov_cut.proofs.Scan.{step_high, start_run, start_leaves, scan_leaves, scan_more, scan_long}
 use Rattle.ov_cut.proofs.message.find.Goals as goal
 
@@ -21,13 +21,13 @@ loop-i-init c = record {
 }
 
 pub returns-then-is_too_long : goal.returns-then-is_too_long
-returns-then-is_too_long c = λ at. c.loop-i.invariant.run at ∙ scan_long _ _ _ _ (step_of c.loop-i.mode c.loop-i.depth (get_or c.args.text.now c.loop-i.i 0)) (omega arith) (omega arith) refl c.loop-i.invariant.leaves c.loop-i.invariant.low _ at (omega (arith, is_over c.is_too_long.ensures c.if-is_too_long.true))
+returns-then-is_too_long c = λ at. c.loop-i.invariant.run at ∙ scan_long _ _ _ _ (mode_after c.loop-i.mode c.loop-i.depth (get_or c.args.text.now c.loop-i.i 0)) (omega arith) (omega arith) refl c.loop-i.invariant.leaves c.loop-i.invariant.low _ at (omega (arith, is_over c.is_too_long.ensures c.if-is_too_long.true))
 
 pub loop-i-preserved : goal.loop-i-preserved
 loop-i-preserved c = record {
-  run = λ at. c.loop-i.invariant.run at ∙ scan_more _ _ _ _ c.step.result (omega arith) (omega arith) c.step.ensures c.loop-i.invariant.leaves c.loop-i.invariant.low _ at (omega (arith, is_within c.is_too_long.ensures c.if-is_too_long.false)) (omega arith);
-  leaves = scan_leaves _ _ _ _ c.step.result (omega arith) (omega arith) c.step.ensures c.loop-i.invariant.leaves c.loop-i.invariant.low;
+  run = λ at. c.loop-i.invariant.run at ∙ scan_more _ _ _ _ c.next_mode.result (omega arith) (omega arith) c.next_mode.ensures c.loop-i.invariant.leaves c.loop-i.invariant.low _ at (omega (arith, is_within c.is_too_long.ensures c.if-is_too_long.false)) (omega arith);
+  leaves = scan_leaves _ _ _ _ c.next_mode.result (omega arith) (omega arith) c.next_mode.ensures c.loop-i.invariant.leaves c.loop-i.invariant.low;
   low = omega arith;
-  high = let h = step_high c.loop-i.mode c.loop-i.depth (get_or c.args.text.now c.loop-i.i 0) in rw c.step.ensures (omega (arith, h));
+  high = let h = step_high c.loop-i.mode c.loop-i.depth (get_or c.args.text.now c.loop-i.i 0) in rw c.next_mode.ensures (omega (arith, h));
   short = omega (arith, is_within c.is_too_long.ensures c.if-is_too_long.false);
 }

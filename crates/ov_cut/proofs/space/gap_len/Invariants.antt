@@ -1,5 +1,5 @@
 use Rattle.std.proofs.Common.{◌≡◌, ℕ, ◌+◌, [], drop}
-use Rattle.ov_specs.specs.Cut.{cut_from}
+use Rattle.ov_specs.specs.wire.Cut.{cut_from}
 use Rattle.ov_cut.proofs.space.gap_len.Given as goal
 
 abbrev pub invariant-loop-i : goal.invariant-loop-i

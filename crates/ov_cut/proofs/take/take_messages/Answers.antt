@@ -1,5 +1,5 @@
 use Rattle.std.proofs.Common.{◌∙◌, ◌+◌, List, ℕ, [], sym, ap, arith, drop}
-use Rattle.ov_specs.specs.Cut.{cut_from, with_messages, max_message}
+use Rattle.ov_specs.specs.wire.Cut.{cut_from, with_messages, max_message}
 use Rattle.ov_cut.proofs.take.take_messages.Goals as goal
 
 pub returns-then-not-push_message : goal.returns-then-not-push_message

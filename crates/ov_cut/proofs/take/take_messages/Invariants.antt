@@ -1,5 +1,5 @@
 use Rattle.std.proofs.Common.{length, ◌-◌, ◌≡◌, ◌≤◌, ℕ, ◌+◌, [], drop}
-use Rattle.ov_specs.specs.Cut.{cut_from, with_messages, max_message}
+use Rattle.ov_specs.specs.wire.Cut.{cut_from, with_messages, max_message}
 use Rattle.ov_cut.proofs.take.take_messages.Given as goal
 
 abbrev pub invariant-fronts : goal.invariant-fronts

@@ -1,8 +1,8 @@
 use Rattle.std.proofs.Common.{◌≡◌, ◌∷◌, T, Option, Some, refl, sym, ap, subst, ◌∙◌}
 use Rattle.std.specs.FinMap.{find, get, contains_key, entries, is_sorted, get-from_sorted, entries-from_sorted}
-use Rattle.ov_specs.specs.Database.{Database, Row}
-use Rattle.ov_specs.specs.Lines.{LineKey, line_cmp}
-use Rattle.ov_specs.proofs.LineKeys.{same_tied}
+use Rattle.ov_specs.specs.rows.Database.{Database, Row}
+use Rattle.ov_specs.specs.rows.Lines.{LineKey, line_cmp}
+use Rattle.ov_specs.proofs.laws.LineKeys.{same_tied}
 use Rattle.ov_db.specs.Changing.{Delta, with_rows}
 use Rattle.ov_db.proofs.Places.{Changes, apart, sorted-rest, found-first, found-later, no-place, row-stays}
 use Rattle.ov_db.proofs.commit.make.Goals as goal

@@ -1,7 +1,7 @@
 use Rattle.std.proofs.Common.{◌≡◌, T, Some, true}
 use Rattle.std.specs.FinMap.{find, is_sorted, contains_key}
-use Rattle.ov_specs.specs.Database.{Row}
-use Rattle.ov_specs.specs.Lines.{LineKey, line_cmp}
+use Rattle.ov_specs.specs.rows.Database.{Row}
+use Rattle.ov_specs.specs.rows.Lines.{LineKey, line_cmp}
 use Rattle.ov_db.specs.Changing.{with_rows}
 use Rattle.ov_db.proofs.commit.make.Given as goal
 

@@ -17,10 +17,3 @@ returns-in-Err-clause-err c =
     let is : c.in_ok-key.key ≡ entry.0 = c.in_ok-key.ensures ∙ ap (λ table. (table, c.args.line.now.id)) c.as_str.ensures in
     let absent : contains_key c.args.rows.now entry.0 ≡ false = ap (contains_key c.args.rows.now) (sym is) ∙ sym c.if-contains.ensures in
     line_refused c.args.schema.now entry c.args.rows.now c.in-Err.fault absent c.in-Err.ensures
-
-pub returns-in-Ok-in_ok-clause-ok : goal.returns-in-Ok-in_ok-clause-ok
-returns-in-Ok-in_ok-clause-ok c =
-    let entry = line_entry c.args.line.now in
-    let is : c.in_ok-key.key ≡ entry.0 = c.in_ok-key.ensures ∙ ap (λ table. (table, c.args.line.now.id)) c.as_str.ensures in
-    let absent : contains_key c.args.rows.now entry.0 ≡ false = ap (contains_key c.args.rows.now) (sym is) ∙ sym c.if-contains.ensures in
-    line_added c.args.schema.now entry c.args.rows.now c.in-Ok.row absent c.in-Ok.ensures ∙ ap Some (ap (λ key. insert c.args.rows.now key c.in-Ok.row) (sym is) ∙ sym c.in_ok.ensures.ok)

@@ -1,6 +1,6 @@
 use Rattle.std.proofs.Common.{◌∙◌, ap, sym}
 use Rattle.std.specs.FinMap.{empty}
-use Rattle.ov_specs.specs.Lines.{after_change}
+use Rattle.ov_specs.specs.rows.Lines.{after_change}
 use Rattle.ov_keeper.specs.Views.{change_view}
 use Rattle.ov_keeper.proofs.LineLemmas.{after_changes-take}
 use Rattle.ov_keeper.proofs.list.lines_after.Goals as goal

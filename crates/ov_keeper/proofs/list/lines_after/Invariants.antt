@@ -1,6 +1,6 @@
 use Rattle.std.proofs.Common.{◌≡◌, take}
 use Rattle.std.specs.FinMap.{empty}
-use Rattle.ov_specs.specs.Lines.{after_changes}
+use Rattle.ov_specs.specs.rows.Lines.{after_changes}
 use Rattle.ov_keeper.specs.ListKeeper.{lines_of}
 use Rattle.ov_keeper.specs.Views.{changes_view}
 use Rattle.ov_keeper.proofs.list.lines_after.Given as goal

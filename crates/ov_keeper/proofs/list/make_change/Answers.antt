@@ -1,5 +1,5 @@
 use Rattle.std.proofs.Common.{rules, ◌∙◌, ap, sym}
-use Rattle.ov_specs.specs.Lines.{after_change}
+use Rattle.ov_specs.specs.rows.Lines.{after_change}
 use Rattle.ov_keeper.specs.declared.line.Change.{Change}
 use Rattle.ov_keeper.specs.ListKeeper.{lines_of}
 use Rattle.ov_keeper.specs.Views.{change_view}

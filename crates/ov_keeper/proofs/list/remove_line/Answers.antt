@@ -1,7 +1,7 @@
 use Rattle.std.proofs.Common.{rules, ◌∙◌, ap, not}
 use Rattle.std.specs.Ordering.{eq_by_cmp}
 use Rattle.std.proofs.lemmas.Fn.{filter_same}
-use Rattle.ov_specs.specs.Lines.{line_cmp}
+use Rattle.ov_specs.specs.rows.Lines.{line_cmp}
 use Rattle.ov_keeper.specs.ListKeeper.{lines_of}
 use Rattle.ov_keeper.specs.Views.{line_entry}
 use Rattle.ov_keeper.proofs.LineLemmas.{lines_of-filter}

@@ -1,6 +1,6 @@
 use Rattle.std.proofs.Common.{◌≡◌, IfOk, subst, ap, ◌∙◌}
-use Rattle.ov_specs.specs.Reading.{has_clash}
-use Rattle.ov_specs.specs.Value.{Datum, Atoms, Pairs, set_of, map_of}
+use Rattle.ov_specs.specs.values.Reading.{has_clash}
+use Rattle.ov_specs.specs.values.Value.{Datum, Atoms, Pairs, set_of, map_of}
 use Rattle.ov_mutate.proofs.LeftLemmas.{deleted-atoms, clash-deleted_pairs, deleted-pairs, clash-deleted_keys, deleted-keys}
 use Rattle.ov_mutate.proofs.delete.deleted.Goals as goal
 

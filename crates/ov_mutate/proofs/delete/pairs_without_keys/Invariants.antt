@@ -1,6 +1,6 @@
 use Rattle.std.proofs.Common.{◌≡◌, ◌++◌, drop}
 use Rattle.ov_atoms.specs.Views.{atoms_view, pairs_view}
-use Rattle.ov_mutate.specs.Left as left
+use Rattle.ov_mutate.specs.Remaining as left
 use Rattle.ov_mutate.proofs.delete.pairs_without_keys.Given as goal
 
 abbrev pub invariant-loop-pair : goal.invariant-loop-pair

@@ -1,6 +1,6 @@
 use Rattle.std.proofs.Common.{◌≡◌, IfOk, subst, ap, ◌∙◌}
-use Rattle.ov_specs.specs.Reading.{has_clash}
-use Rattle.ov_specs.specs.Value.{Datum, Pairs, map_of}
+use Rattle.ov_specs.specs.values.Reading.{has_clash}
+use Rattle.ov_specs.specs.values.Value.{Datum, Pairs, map_of}
 use Rattle.ov_mutate.proofs.LeftLemmas.{clash-inserted, inserted-pairs}
 use Rattle.ov_mutate.proofs.insert.inserted.Goals as goal
 

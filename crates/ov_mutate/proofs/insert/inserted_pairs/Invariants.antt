@@ -1,6 +1,6 @@
 use Rattle.std.proofs.Common.{◌≡◌, ◌++◌, drop}
 use Rattle.ov_atoms.specs.Views.{pairs_view}
-use Rattle.ov_mutate.specs.Left.{at_new_keys}
+use Rattle.ov_mutate.specs.Remaining.{at_new_keys}
 use Rattle.ov_mutate.proofs.insert.inserted_pairs.Given as goal
 
 abbrev pub invariant-loop-pair : goal.invariant-loop-pair

@@ -1,7 +1,7 @@
 use Rattle.std.proofs.Common.{sym, ap, ◌∙◌}
 use Rattle.serde_json.specs.View.{view, items_view}
 use Rattle.serde_json.proofs.Views.{view-Array}
-use Rattle.ov_specs.specs.Tree.{has_real, items_have_real}
+use Rattle.ov_specs.specs.wire.Tree.{has_real, items_have_real}
 use Rattle.ov_rpc.proofs.request.items_of.Goals as goal
 
 pub new-requires : goal.new-requires

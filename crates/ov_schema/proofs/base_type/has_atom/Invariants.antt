@@ -1,7 +1,7 @@
 use Rattle.std.proofs.Common.{◌≡◌, drop}
 use Rattle.std.specs.List.{list_any}
 use Rattle.std.specs.Ordering.{eq_by_cmp}
-use Rattle.ov_specs.specs.Value.{atom_cmp}
+use Rattle.ov_specs.specs.values.Value.{atom_cmp}
 use Rattle.ov_atoms.specs.Views.{atom_view, atoms_view}
 use Rattle.ov_schema.proofs.base_type.has_atom.Given as goal
 

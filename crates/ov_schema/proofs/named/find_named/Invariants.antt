@@ -1,6 +1,6 @@
 use Rattle.std.proofs.Common.{◌≡◌, drop}
 use Rattle.std.specs.FinMap.{find}
-use Rattle.ov_specs.specs.SchemaTypes.{name_cmp}
+use Rattle.ov_specs.specs.schema.SchemaTypes.{name_cmp}
 use Rattle.ov_schema.proofs.named.find_named.Given as goal
 
 abbrev pub invariant-loop-known : goal.invariant-loop-known

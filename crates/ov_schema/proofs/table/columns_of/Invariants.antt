@@ -1,5 +1,5 @@
 use Rattle.std.proofs.Common.{◌≡◌, ◌++◌, map, take}
-use Rattle.ov_specs.specs.Schema.{own_columns}
+use Rattle.ov_specs.specs.schema.Schema.{own_columns}
 use Rattle.ov_schema.specs.Built.{named_column_of}
 use Rattle.ov_schema.specs.NamedViews.{named_view}
 use Rattle.ov_schema.specs.ShapeViews.{named_column_view}

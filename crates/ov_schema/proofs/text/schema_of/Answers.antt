@@ -1,6 +1,6 @@
 use Rattle.std.proofs.Common.{◌≡◌, ◌∙◌, ap, sym, Some, Ok}
 use Rattle.serde_json.specs.View.{view}
-use Rattle.ov_specs.specs.Schema.{accepted}
+use Rattle.ov_specs.specs.schema.Schema.{accepted}
 use Rattle.ov_schema.proofs.TextLemmas.{no_tree, some_tree, real_refused}
 use Rattle.ov_schema.proofs.text.schema_of.Goals as goal
 

@@ -3,7 +3,7 @@ use Rattle.ov_serve.proofs.send.write_frame.Given as goal
 
 abbrev pub invariant-loop-rest : goal.invariant-loop-rest
 invariant-loop-rest g l =
-    (written : List ℕ) × (g.W.Sink.told l.writer ≡ g.W.Sink.told l.initial.writer ++ written) × (written ++ l.rest ≡ l.bytes)
+    (written : List ℕ) × (g.W.Sink.bytes_written l.writer ≡ g.W.Sink.bytes_written l.initial.writer ++ written) × (written ++ l.rest ≡ l.bytes)
     × (g.W.Sink.faults l.writer ≡ g.W.Sink.faults l.initial.writer)
 
 abbrev pub decreases-loop-rest : goal.decreases-loop-rest

@@ -2,55 +2,55 @@ use Rattle.std.proofs.Common.{rules, ◌≡◌, ◌≤◌, ℕ, ◌++◌, true, 
 use Rattle.std.proofs.lemmas.List.{length-take}
 use Rattle.ov_core.specs.declared.event.Cause.TheVariants.{InputEnded, ReadFault}
 use Rattle.ov_core.specs.Entries.{entry_view}
-use Rattle.ov_serve.specs.Serving.{around, most_piece_bytes, bytes_of}
+use Rattle.ov_serve.specs.Serving.{io_state, most_piece_bytes, bytes_of}
 use Rattle.ov_serve.proofs.Servings.{then_sent, then_sent_on, then_fed, by_reader, by_writer, by_stream}
 use Rattle.ov_serve.proofs.serve.serve_session.Goals as goal
 
 pub returns-then-not-write_waiting-clause-served :
     goal.returns-then-not-write_waiting-clause-served
 returns-then-not-write_waiting-clause-served g c first from start =
-    let to = around (g.S.Source.told c.loop.reader) (g.W.Sink.told c.loop.writer) c.loop.clock in
+    let to = io_state (g.S.Source.bytes_read c.loop.reader) (g.W.Sink.bytes_written c.loop.writer) c.loop.clock in
     let on = c.loop.invariant.0 first from start in
-    let sent = then_sent g.C.Clock.tells c.args.session.serial first from false c.loop.core c.write_waiting.new.core to (g.W.Sink.told c.write_waiting.new.writer) on.done c.if-not-write_waiting.ensures.sends c.if-not-write_waiting.ensures.state in
-    by_writer g.C.Clock.tells c.args.session.serial first from c.write_waiting.new.core c.close.new.self (around (g.S.Source.told c.loop.reader) (g.W.Sink.told c.write_waiting.new.writer) c.loop.clock) c.close.result sent c.close.ensures
+    let sent = then_sent g.C.Clock.tells c.args.session.serial first from false c.loop.core c.write_waiting.new.core to (g.W.Sink.bytes_written c.write_waiting.new.writer) on.done c.if-not-write_waiting.ensures.sends c.if-not-write_waiting.ensures.state in
+    by_writer g.C.Clock.tells c.args.session.serial first from c.write_waiting.new.core c.close.new.self (io_state (g.S.Source.bytes_read c.loop.reader) (g.W.Sink.bytes_written c.write_waiting.new.writer) c.loop.clock) c.close.result sent c.close.ensures
 
 pub returns-then-not-is_open-clause-served : goal.returns-then-not-is_open-clause-served
 returns-then-not-is_open-clause-served g c first from start =
-    let to = around (g.S.Source.told c.loop.reader) (g.W.Sink.told c.loop.writer) c.loop.clock in
+    let to = io_state (g.S.Source.bytes_read c.loop.reader) (g.W.Sink.bytes_written c.loop.writer) c.loop.clock in
     let on = c.loop.invariant.0 first from start in
-    let sent = then_sent g.C.Clock.tells c.args.session.serial first from true c.loop.core c.write_waiting.new.core to (g.W.Sink.told c.write_waiting.new.writer) on.done c.if-not-write_waiting.ensures.sends c.if-not-write_waiting.ensures.state in
-    by_stream g.C.Clock.tells c.args.session.serial first from c.write_waiting.new.core c.write_waiting.new.core (around (g.S.Source.told c.loop.reader) (g.W.Sink.told c.write_waiting.new.writer) c.loop.clock) c.cause_of_closing.result c.cause_of_closing.ensures.one_of
+    let sent = then_sent g.C.Clock.tells c.args.session.serial first from true c.loop.core c.write_waiting.new.core to (g.W.Sink.bytes_written c.write_waiting.new.writer) on.done c.if-not-write_waiting.ensures.sends c.if-not-write_waiting.ensures.state in
+    by_stream g.C.Clock.tells c.args.session.serial first from c.write_waiting.new.core c.write_waiting.new.core (io_state (g.S.Source.bytes_read c.loop.reader) (g.W.Sink.bytes_written c.write_waiting.new.writer) c.loop.clock) c.cause_of_closing.result c.cause_of_closing.ensures.one_of
     (λ front last is. c.cause_of_closing.ensures.found front last (ap (λ kept. map entry_view kept) c.history.ensures ∙ is)) (sym c.if-not-is_open.ensures) sent (c.if-not-write_waiting.ensures.sends.none_left refl)
 
 pub returns-in-Some-eq0-clause-served : goal.returns-in-Some-eq0-clause-served
 returns-in-Some-eq0-clause-served g c first from start =
-    let to = around (g.S.Source.told c.loop.reader) (g.W.Sink.told c.loop.writer) c.loop.clock in
+    let to = io_state (g.S.Source.bytes_read c.loop.reader) (g.W.Sink.bytes_written c.loop.writer) c.loop.clock in
     let on = c.loop.invariant.0 first from start in
-    let sent = then_sent g.C.Clock.tells c.args.session.serial first from true c.loop.core c.write_waiting.new.core to (g.W.Sink.told c.write_waiting.new.writer) on.done c.if-not-write_waiting.ensures.sends c.if-not-write_waiting.ensures.state in
+    let sent = then_sent g.C.Clock.tells c.args.session.serial first from true c.loop.core c.write_waiting.new.core to (g.W.Sink.bytes_written c.write_waiting.new.writer) on.done c.if-not-write_waiting.ensures.sends c.if-not-write_waiting.ensures.state in
     let none : c.in-Some-eq0.field-0 ≡ 0 = first_of (omega arith, search rules, cc) in
-    let heard = c.in-Some-eq0.ensures.told ∙ ap (λ (k : ℕ). g.S.Source.told c.loop.reader ++ take k c.read.new.piece) none in
-    by_reader g.C.Clock.tells c.args.session.serial first from c.write_waiting.new.core c.close-in-Some-eq0.new.self (around (g.S.Source.told c.loop.reader) (g.W.Sink.told c.write_waiting.new.writer) c.loop.clock)
-    InputEnded c.close-in-Some-eq0.result (g.S.Source.told c.read.new.self) refl (λ s t last k. k) (λ o is. is) (sym c.if-not-is_open.ensures) sent (c.if-not-write_waiting.ensures.sends.none_left refl) (heard ∙ append-nil (g.S.Source.told c.loop.reader)) c.close-in-Some-eq0.ensures
+    let heard = c.in-Some-eq0.ensures.trace ∙ ap (λ (k : ℕ). g.S.Source.bytes_read c.loop.reader ++ take k c.read.new.piece) none in
+    by_reader g.C.Clock.tells c.args.session.serial first from c.write_waiting.new.core c.close-in-Some-eq0.new.self (io_state (g.S.Source.bytes_read c.loop.reader) (g.W.Sink.bytes_written c.write_waiting.new.writer) c.loop.clock)
+    InputEnded c.close-in-Some-eq0.result (g.S.Source.bytes_read c.read.new.self) refl (λ s t last k. k) (λ o is. is) (sym c.if-not-is_open.ensures) sent (c.if-not-write_waiting.ensures.sends.none_left refl) (heard ∙ append-nil (g.S.Source.bytes_read c.loop.reader)) c.close-in-Some-eq0.ensures
 
 pub returns-in-None-read-clause-served : goal.returns-in-None-read-clause-served
 returns-in-None-read-clause-served g c first from start =
-    let to = around (g.S.Source.told c.loop.reader) (g.W.Sink.told c.loop.writer) c.loop.clock in
+    let to = io_state (g.S.Source.bytes_read c.loop.reader) (g.W.Sink.bytes_written c.loop.writer) c.loop.clock in
     let on = c.loop.invariant.0 first from start in
-    let sent = then_sent g.C.Clock.tells c.args.session.serial first from true c.loop.core c.write_waiting.new.core to (g.W.Sink.told c.write_waiting.new.writer) on.done c.if-not-write_waiting.ensures.sends c.if-not-write_waiting.ensures.state in
-    by_reader g.C.Clock.tells c.args.session.serial first from c.write_waiting.new.core c.close-in-None-read.new.self (around (g.S.Source.told c.loop.reader) (g.W.Sink.told c.write_waiting.new.writer) c.loop.clock)
-    ReadFault c.close-in-None-read.result (g.S.Source.told c.read.new.self) refl (λ s t last k. k) (λ o is. is) (sym c.if-not-is_open.ensures) sent (c.if-not-write_waiting.ensures.sends.none_left refl) c.in-None-read.ensures.none.0 c.close-in-None-read.ensures
+    let sent = then_sent g.C.Clock.tells c.args.session.serial first from true c.loop.core c.write_waiting.new.core to (g.W.Sink.bytes_written c.write_waiting.new.writer) on.done c.if-not-write_waiting.ensures.sends c.if-not-write_waiting.ensures.state in
+    by_reader g.C.Clock.tells c.args.session.serial first from c.write_waiting.new.core c.close-in-None-read.new.self (io_state (g.S.Source.bytes_read c.loop.reader) (g.W.Sink.bytes_written c.write_waiting.new.writer) c.loop.clock)
+    ReadFault c.close-in-None-read.result (g.S.Source.bytes_read c.read.new.self) refl (λ s t last k. k) (λ o is. is) (sym c.if-not-is_open.ensures) sent (c.if-not-write_waiting.ensures.sends.none_left refl) c.in-None-read.ensures.none.0 c.close-in-None-read.ensures
 
 pub loop-preserved : goal.loop-preserved
 loop-preserved g c = (
   λ first from start.
-      let to = around (g.S.Source.told c.loop.reader) (g.W.Sink.told c.loop.writer) c.loop.clock in
+      let to = io_state (g.S.Source.bytes_read c.loop.reader) (g.W.Sink.bytes_written c.loop.writer) c.loop.clock in
       let on = c.loop.invariant.0 first from start in
-      let sent = then_sent_on g.C.Clock.tells c.args.session.serial first from c.loop.core c.write_waiting.new.core to (g.W.Sink.told c.write_waiting.new.writer) c.loop.cutter on c.if-not-write_waiting.ensures.sends c.if-not-write_waiting.ensures.state in
+      let sent = then_sent_on g.C.Clock.tells c.args.session.serial first from c.loop.core c.write_waiting.new.core to (g.W.Sink.bytes_written c.write_waiting.new.writer) c.loop.cutter on c.if-not-write_waiting.ensures.sends c.if-not-write_waiting.ensures.state in
       let there = sym c.if-not-is_open.ensures in
       let short : length (take c.in-Some-read.n c.read.new.piece) ≤ most_piece_bytes = omega (arith, length-take {A = ℕ}) in
       let brought = c.serve_piece.ensures (bytes_of sent.done.pieces) (sent.fed there) in
-      then_fed g.C.Clock.tells c.args.session.serial first from c.write_waiting.new.core c.serve_piece.new.core (around (g.S.Source.told c.loop.reader) (g.W.Sink.told c.write_waiting.new.writer) c.loop.clock)
-      brought.0 (take c.in-Some-read.n c.read.new.piece) (g.S.Source.told c.read.new.self) c.serve_piece.new.clock c.serve_piece.new.cutter there sent.done short c.in-Some-read.ensures.told brought.1 brought.2,
+      then_fed g.C.Clock.tells c.args.session.serial first from c.write_waiting.new.core c.serve_piece.new.core (io_state (g.S.Source.bytes_read c.loop.reader) (g.W.Sink.bytes_written c.write_waiting.new.writer) c.loop.clock)
+      brought.0 (take c.in-Some-read.n c.read.new.piece) (g.S.Source.bytes_read c.read.new.self) c.serve_piece.new.clock c.serve_piece.new.cutter there sent.done short c.in-Some-read.ensures.trace brought.1 brought.2,
   c.in-Some-read.ensures.good ∙ c.loop.invariant.1,
   c.if-not-write_waiting.ensures.faults ∙ c.loop.invariant.2,
 )

@@ -4,10 +4,10 @@ use Rattle.std.proofs.lemmas.Option.{same_Some}
 use Rattle.serde_json.specs.Data.{Data}
 use Rattle.serde_json.specs.Find.{get, as_str}
 use Rattle.serde_json.proofs.OnLiterals.{serde_json_on_literals}
-use Rattle.ov_specs.specs.Schema.{Refusal, RealNotSupported, accepted, judged, refused_or, schema_of, refusal_of_shape}
-use Rattle.ov_specs.specs.SchemaShape.{SchemaShape, TableShape, given, optional, named_parts, table_shape, schema_shape}
-use Rattle.ov_specs.specs.SchemaTypes.{Schema}
-use Rattle.ov_specs.specs.Tree.{has_real}
+use Rattle.ov_specs.specs.schema.Schema.{SchemaRefusal, RealNotSupported, accepted, judged, refused_or, accepted_schema, refusal_of_shape}
+use Rattle.ov_specs.specs.schema.SchemaShape.{SchemaShape, TableShape, where_read, optional, named_parts, table_shape, schema_shape}
+use Rattle.ov_specs.specs.schema.SchemaTypes.{Schema}
+use Rattle.ov_specs.specs.wire.Tree.{has_real}
 use Rattle.std.specs.Str.{is_utf8}
 use Rattle.std.proofs.lemmas.Result.{IfOk-weaker}
 use Rattle.serde_json.specs.Read.{read}
@@ -25,7 +25,7 @@ shape_of name version tables = record { name = name; version = version; tables =
 
 -- the members have that name
 shape_name : (n : Option (List ℕ)) (v c : Option (Option (List ℕ))) (t : Option (List (List ℕ × TableShape))) (shape : SchemaShape)
-    → given n (λ name. given v (λ version. given c (λ cksum. given t (λ tables. Some (shape_of name version tables))))) ≡ Some shape → n ≡ Some shape.name
+    → where_read n (λ name. where_read v (λ version. where_read c (λ cksum. where_read t (λ tables. Some (shape_of name version tables))))) ≡ Some shape → n ≡ Some shape.name
 shape_name None v c t shape h = cc
 shape_name (Some n) None c t shape h = cc
 shape_name (Some n) (Some v) None t shape h = cc
@@ -33,7 +33,7 @@ shape_name (Some n) (Some v) (Some c) None shape h = cc
 shape_name (Some n) (Some v) (Some c) (Some t) shape h = ap (λ (s : SchemaShape). Some s.name) (same_Some (shape_of n v t) shape h)
 
 -- a schema that is not refused is the one of the members
-not_refused : (built s : Schema) (o : Option Refusal) → refused_or built o ≡ Ok s → built.name ≡ s.name
+not_refused : (built s : Schema) (o : Option SchemaRefusal) → refused_or built o ≡ Ok s → built.name ≡ s.name
 not_refused built s None h = cc
 not_refused built s (Some refusal) h = cc
 
@@ -43,7 +43,7 @@ accepted_name d s h = by_real (has_real d) h
   where
     by_shape : (o : Option SchemaShape) → schema_shape d ≡ o → judged d o ≡ Ok s → name_at d ≡ Some s.name
     by_shape None is h = cc
-    by_shape (Some shape) is h = shape_name (name_at d) (optional as_str (get (codes "version") d)) (optional as_str (get (codes "cksum") d)) (option_and_then (named_parts table_shape) (get (codes "tables") d)) shape is ∙ ap Some (not_refused (schema_of d shape) s (refusal_of_shape shape) h)
+    by_shape (Some shape) is h = shape_name (name_at d) (optional as_str (get (codes "version") d)) (optional as_str (get (codes "cksum") d)) (option_and_then (named_parts table_shape) (get (codes "tables") d)) shape is ∙ ap Some (not_refused (accepted_schema d shape) s (refusal_of_shape shape) h)
 
     by_real : (b : Bool) → cond b (Err RealNotSupported) (judged d (schema_shape d)) ≡ Ok s → name_at d ≡ Some s.name
     by_real true h = cc

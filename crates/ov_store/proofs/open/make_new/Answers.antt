@@ -12,5 +12,5 @@ returns-clause-left g c blank =
     let mid = c.make.new.conn in
     let P = λ (trees : Trees). IsNewFile c.args.schema.now trees in
     let whole = survives_as (state g.S.Store old) (state g.S.Store mid) _ P c.make.ensures.crash (λ clean db h. elim (c.make.ensures.crash.crash clean db h) [ inl was ↦ inl was | inr made ↦ inr (made blank) ]) in
-    refused_left g.S.Store g.met.S.Store.settled g.met.S.Store.stays old mid c.fault_at-fault.new.conn P c.fault_at-fault.result c.in-Err.stop c.in-Err.ensures.before whole
+    refused_left g.S.Store g.met.S.Store.settled g.met.S.Store.stays old mid c.fault_at-fault.new.conn P c.fault_at-fault.result c.in-Err.failure c.in-Err.ensures.before whole
     c.in-Err.ensures.unmoved c.fault_at-fault.ensures.survives c.fault_at-fault.ensures.shown

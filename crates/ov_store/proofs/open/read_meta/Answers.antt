@@ -9,7 +9,7 @@ pub returns-in_default-clause-format : goal.returns-in_default-clause-format
 returns-in_default-clause-format g c clean has err text m =
     let stored = (state g.S.Store c.args.conn.now).now.trees 0 in
     let it = c.in-Ok.ensures.rows clean (λ _. has) in
-    let none = rw c.in_default.is at c.schema_of.ensures in
+    let none = rw c.in_default.is at c.schema_text_of.ensures in
     none text (subst (ReadsMeta text) (sym c.as_slice.ensures.value) (meta_read text stored c.in-Ok.rows.items it.1 m))
 
 pub returns-in-Ok-from_str-clause-ok : goal.returns-in-Ok-from_str-clause-ok

@@ -1,7 +1,7 @@
 use Rattle.std.proofs.Common.{◌+◌, refl, arith, take, ◌∙◌}
 use Rattle.sqlite.specs.State.{HasCleanDisk}
 use Rattle.sqlite.specs.Held.{state}
-use Rattle.ov_specs.specs.Lines.{after_changes, after_change}
+use Rattle.ov_specs.specs.rows.Lines.{after_changes, after_change}
 use Rattle.ov_keeper.specs.Views.{change_view, changes_view}
 use Rattle.ov_keeper.proofs.LineLemmas.{after_changes-take}
 use Rattle.ov_store.proofs.RunLemmas.{makes_none, makes_then, keeps_now, keeps_then, nothing_now, nothing_then}

@@ -2,7 +2,7 @@ use Rattle.std.proofs.Common.{◌≡◌, ◌<◌, take, IsTrue}
 use Rattle.sqlite.specs.State.{HasCleanDisk, Survives, KeepsCommit}
 use Rattle.sqlite.specs.Held.{state}
 use Rattle.std.specs.Prelude.{List, ℕ}
-use Rattle.ov_specs.specs.Lines.{after_changes}
+use Rattle.ov_specs.specs.rows.Lines.{after_changes}
 use Rattle.ov_keeper.specs.Views.{changes_view}
 use Rattle.ov_store.specs.Changing.{MayBeStored, Makes}
 use Rattle.ov_store.proofs.write.apply_all.Given as goal

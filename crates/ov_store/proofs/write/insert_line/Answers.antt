@@ -15,10 +15,10 @@ returns-clause-ok g c clean mode text may =
     let b = c.args.line.now.body in
     let ran = c.in_ok-execute.ensures.runs clean mode in
     let stored = may ran.1.was_open in
-    let d = inserts old new t i v b c.in_ok-execute.field-0 stored.format.schema (rw (c.as_bytes.ensures.value, c.as_str.ensures, c.bytes_of.ensures.bytes, c.bytes_of-2.ensures.bytes, c.as_slice.ensures) at ran.0) in
+    let d = inserts old new t i v b c.in_ok-execute.field-0 stored.format.schema (rw (c.as_bytes.ensures.value, c.as_str.ensures, c.id_bytes.ensures.bytes, c.id_bytes-2.ensures.bytes, c.as_slice.ensures) at ran.0) in
     let named = subst IsUtf8 (c.as_bytes.ensures.value ∙ c.as_str.ensures) c.as_bytes.ensures.utf8 in
-    let id_sixteen = subst (λ (bytes : List ℕ). length bytes ≡ 16) c.bytes_of.ensures.bytes c.bytes_of.ensures.sixteen in
-    let ver_sixteen = subst (λ (bytes : List ℕ). length bytes ≡ 16) c.bytes_of-2.ensures.bytes c.bytes_of-2.ensures.sixteen in
+    let id_sixteen = subst (λ (bytes : List ℕ). length bytes ≡ 16) c.id_bytes.ensures.bytes c.id_bytes.ensures.sixteen in
+    let ver_sixteen = subst (λ (bytes : List ℕ). length bytes ≡ 16) c.id_bytes-2.ensures.bytes c.id_bytes-2.ensures.sixteen in
     record {
       mode = ran.1.mode;
       opens = λ _. ran.1.was_open;

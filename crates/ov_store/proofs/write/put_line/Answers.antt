@@ -2,13 +2,13 @@ use Rattle.std.proofs.Common.{◌≡◌, ◌∙◌, ap, subst, sym, false, None,
 use Rattle.std.specs.FinMap.{get, insert}
 use Rattle.sqlite.specs.State.{HasCleanDisk}
 use Rattle.sqlite.specs.Held.{state}
-use Rattle.ov_specs.specs.Lines.{LineKey, LineBody, line_cmp}
+use Rattle.ov_specs.specs.rows.Lines.{LineKey, LineBody, line_cmp}
 use Rattle.ov_keeper.specs.Views.{line_entry}
 use Rattle.ov_store.specs.Format.{stored_lines}
 use Rattle.ov_store.specs.Changing.{Makes, after_update}
-use Rattle.ov_store.proofs.EntryLemmas.{none_after_remove, insert_again}
 use Rattle.ov_store.proofs.RunLemmas.{on_ok}
 use Rattle.ov_store.proofs.write.put_line.Goals as goal
+use Rattle.ov_keeper.proofs.LineLemmas.{not_found, insert-remove}
 
 pub returns-clause-ok : goal.returns-clause-ok
 returns-clause-ok g c clean mode text may =
@@ -19,12 +19,12 @@ returns-clause-ok g c clean mode text may =
     let v : LineBody = (line_entry c.args.line.now).1 in
     let early : HasCleanDisk mid = omega (arith, c.insert_line.ensures.survives.clean) in
     let one : Makes text (after_update false k v) old mid = subst (λ is_found. Makes text (after_update is_found k v) old mid) c.if-branch.false (c.in_ok-update_line.ensures.ok early mode text may) in
-    let none : get {R = line_cmp} (stored_lines (mid.now.trees 2)) k ≡ None = subst (λ m. get {R = line_cmp} m k ≡ None) (sym one.lines_are) (none_after_remove (stored_lines (old.now.trees 2)) k) in
+    let none : get {R = line_cmp} (stored_lines (mid.now.trees 2)) k ≡ None = subst (λ m. get {R = line_cmp} m k ≡ None) (sym one.lines_are) (not_found (stored_lines (old.now.trees 2)) k) in
     on_ok c.insert_line.result (c.insert_line.ensures.ok clean one.mode text one.stored) (λ two. record {
       mode = two.mode;
       opens = λ up. one.opens (two.opens up);
       stored = two.stored;
-      lines_are = two.lines_are none ∙ ap (λ m. insert {R = line_cmp} m k v) one.lines_are ∙ insert_again (stored_lines (old.now.trees 2)) k v;
+      lines_are = two.lines_are none ∙ ap (λ m. insert {R = line_cmp} m k v) one.lines_are ∙ insert-remove (stored_lines (old.now.trees 2)) k v;
       meta = two.meta ∙ one.meta;
       committed = two.committed ∙ one.committed;
     })

@@ -5,10 +5,10 @@ use Rattle.sqlite.specs.Held.{state}
 use Rattle.sqlite.proofs.StateLemmas.{survives_then}
 use Rattle.sqlite.proofs.Callers.{survives_begin}
 use Rattle.std.specs.Prelude.{List, ℕ}
-use Rattle.ov_specs.specs.Lines.{after_changes}
+use Rattle.ov_specs.specs.rows.Lines.{after_changes}
 use Rattle.ov_keeper.specs.Views.{changes_view}
 use Rattle.ov_store.specs.Format.{stored_lines}
-use Rattle.ov_store.specs.Changing.{MayBeStored, IsMade}
+use Rattle.ov_store.specs.Changing.{MayBeStored, IsCommitImage}
 use Rattle.ov_store.proofs.write.write_all.Goals as goal
 
 pub returns-in-Err-commit-clause-crash : goal.returns-in-Err-commit-clause-crash
@@ -17,7 +17,7 @@ returns-in-Err-commit-clause-crash g c =
     let last = c.apply_all.new.tx.conn.now in
     let end = c.commit.new.self.0 in
     let begun = c.transaction-tx.ensures.begun in
-    let P = λ (trees : Trees). (text : List ℕ) → MayBeStored text (state g.S.Store old) → IsMade (after_changes (changes_view c.args.changes.now)) (state g.S.Store old) trees in
+    let P = λ (trees : Trees). (text : List ℕ) → MayBeStored text (state g.S.Store old) → IsCommitImage (after_changes (changes_view c.args.changes.now)) (state g.S.Store old) trees in
     let made = λ (clean : HasCleanDisk (state g.S.Store last)). (rw begun at c.in-Ok.ensures.ok) clean refl in
     let whole = survives_then (state g.S.Store old) (state g.S.Store last) (state g.S.Store end) (λ _. ⊥) (λ db. db ≡ (state g.S.Store last).now.trees) P (λ _ db none. absurd none)
     (λ clean db is text may.

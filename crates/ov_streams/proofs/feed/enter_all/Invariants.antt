@@ -1,11 +1,11 @@
 use Rattle.std.proofs.Common.{◌≡◌, List, drop, true}
-use Rattle.ov_specs.specs.Machine.{Entry, is_open}
-use Rattle.ov_core.specs.Following.{Enters}
+use Rattle.ov_specs.specs.machine.Machine.{Entry, is_open}
+use Rattle.ov_core.specs.Following.{Extends}
 use Rattle.ov_streams.proofs.Entering.{Continues}
 use Rattle.ov_streams.proofs.feed.enter_all.Given as goal
 
 abbrev pub invariant-loop-text : goal.invariant-loop-text
 invariant-loop-text g l = record {
   there : is_open l.core.state l.session.serial ≡ true;
-  entered : (entries : List Entry) × Enters l.fn.core entries l.core × Continues l.moment l.session.serial l.texts (drop l.text-index l.texts) l.fn.core l.core entries;
+  entered : (entries : List Entry) × Extends l.fn.core entries l.core × Continues l.moment l.session.serial l.texts (drop l.text-index l.texts) l.fn.core l.core entries;
 }

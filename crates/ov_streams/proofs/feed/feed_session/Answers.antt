@@ -1,5 +1,5 @@
 use Rattle.std.proofs.Common.{◌≡◌, ◌∙◌, None, sym, true, false, rules}
-use Rattle.ov_specs.specs.Machine.{is_open}
+use Rattle.ov_specs.specs.machine.Machine.{is_open}
 use Rattle.ov_streams.proofs.Bringing.{at_text, at_fault, at_end}
 use Rattle.ov_streams.proofs.feed.feed_session.Goals as goal
 

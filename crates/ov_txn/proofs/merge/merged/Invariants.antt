@@ -1,6 +1,6 @@
 use Rattle.std.proofs.Common.{◌≡◌, ◌++◌, ◌+◌, ◌-◌, ◌≤◌, T, drop, length, map}
 use Rattle.std.specs.FinMap.{is_sorted}
-use Rattle.ov_specs.specs.Lines.{line_cmp}
+use Rattle.ov_specs.specs.rows.Lines.{line_cmp}
 use Rattle.ov_txn.proofs.Merging.{placed}
 use Rattle.ov_txn.proofs.merge.merged.Given as goal
 

@@ -1,7 +1,7 @@
 use Rattle.std.proofs.Common.{◌<◌, map, length, ap, ◌∙◌}
 use Rattle.serde_json.specs.View.{view, items_view}
-use Rattle.ov_specs.specs.Operation.{shown}
-use Rattle.ov_specs.specs.Tree.{items_have_real}
+use Rattle.ov_specs.specs.operations.Operation.{written_row}
+use Rattle.ov_specs.specs.wire.Tree.{items_have_real}
 use Rattle.ov_atoms.proofs.Plain.{plain-push}
 use Rattle.ov_txn.proofs.Equal.{map-take}
 use Rattle.ov_txn.proofs.select.trees_of.Goals as goal
@@ -14,6 +14,6 @@ loop-row-preserved c =
     let within : c.loop-row.row-index < length rows = c.loop-row-test.true in
     record {
       trees = ap (map view) c.in_ok-push.ensures.items
-          ∙ map-take view shown trees value rows c.loop-row.row-index c.row-item.result within c.row-item.is c.loop-row.invariant.trees (c.into_value.ensures.same ∙ c.in_ok-tree.ensures);
+          ∙ map-take view written_row trees value rows c.loop-row.row-index c.row-item.result within c.row-item.is c.loop-row.invariant.trees (c.into_value.ensures.same ∙ c.in_ok-tree.ensures);
       plain = ap (λ vs. items_have_real (items_view vs)) c.in_ok-push.ensures.items ∙ plain-push trees value c.loop-row.invariant.plain c.into_value.ensures.plain;
     }

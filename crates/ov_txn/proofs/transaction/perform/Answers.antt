@@ -4,12 +4,12 @@ use Rattle.std.proofs.lemmas.Result.{IfOk-weaker}
 use Rattle.std.specs.FinMap.{len}
 use Rattle.serde_json.specs.View.{view, items_view}
 use Rattle.ov_db.specs.Changing.{Delta, applied}
-use Rattle.ov_specs.specs.Database.{is_database}
-use Rattle.ov_specs.specs.Errors.{error_tree}
-use Rattle.ov_specs.specs.Operation.{Refuses, operation}
-use Rattle.ov_specs.specs.Transaction.{transaction, and_item}
+use Rattle.ov_specs.specs.rows.Database.{same_database}
+use Rattle.ov_specs.specs.operations.Errors.{error_tree}
+use Rattle.ov_specs.specs.operations.Operation.{Fails, operation}
+use Rattle.ov_specs.specs.operations.Transaction.{transaction, and_item}
 use Rattle.ov_txn.specs.Errors.{error_view}
-use Rattle.ov_txn.specs.Going.{nulls_after}
+use Rattle.ov_txn.specs.Results.{nulls_after}
 use Rattle.ov_txn.specs.Staging.{Stage, staged}
 use Rattle.ov_txn.proofs.Performing.{items_at, at_does, at_refuses, at_end}
 use Rattle.ov_txn.proofs.Stages.{applied-empty, least-empty}
@@ -25,7 +25,7 @@ returns-in-Err-Refused-clause-results c =
     let tree = c.index-trees-i.result in
     let g = staged c.loop-i.stage.now c.args.draws.now c.loop-i.used in
     let error = error_view c.in-Err-Refused.error in
-    let refuses : operation schema c.in-Some.version g (view tree) ≡ Refuses error = rw c.in-Err-Refused.field-0-is at c.in-Err-Refused.ensures.done in
+    let refuses : operation schema c.in-Some.version g (view tree) ≡ Fails error = rw c.in-Err-Refused.field-0-is at c.in-Err-Refused.ensures.done in
     let all = ap (λ t. t.results) (at_refuses schema before c.in-Some.version (transaction schema before c.args.draws.now (items_view trees)) g (view tree) error (items_view (drop i trees)) c.loop-i.results (items_view (drop (i + 1) trees))
     (items_at trees i tree within c.index-trees-i.is) c.loop-i.invariant.going refuses) in
     let given : IfOk c.refused.result (λ p. p.results ≡ nulls_after (and_item c.loop-i.results (error_tree error)) (items_view c.split_at.result.1.now)) = rw c.in-Err-Refused.field-0-is at c.refused.ensures.results in
@@ -43,7 +43,7 @@ returns-in-Err-Refused-clause-delta c =
     let tree = c.index-trees-i.result in
     let g = staged c.loop-i.stage.now c.args.draws.now c.loop-i.used in
     let error = error_view c.in-Err-Refused.error in
-    let refuses : operation schema c.in-Some.version g (view tree) ≡ Refuses error = rw c.in-Err-Refused.field-0-is at c.in-Err-Refused.ensures.done in
+    let refuses : operation schema c.in-Some.version g (view tree) ≡ Fails error = rw c.in-Err-Refused.field-0-is at c.in-Err-Refused.ensures.done in
     let kept = ap (λ t. t.database) (at_refuses schema before c.in-Some.version (transaction schema before c.args.draws.now (items_view trees)) g (view tree) error (items_view (drop i trees)) c.loop-i.results (items_view (drop (i + 1) trees))
     (items_at trees i tree within c.index-trees-i.is) c.loop-i.invariant.going refuses) in
     let same = sym kept ∙ ap (λ ds. (transaction schema before c.args.draws.now ds).database) c.as_slice-trees.ensures.same in
@@ -59,11 +59,11 @@ returns-in-Err-Refused-clause-least c =
     let tree = c.index-trees-i.result in
     let g = staged c.loop-i.stage.now c.args.draws.now c.loop-i.used in
     let error = error_view c.in-Err-Refused.error in
-    let refuses : operation schema c.in-Some.version g (view tree) ≡ Refuses error = rw c.in-Err-Refused.field-0-is at c.in-Err-Refused.ensures.done in
+    let refuses : operation schema c.in-Some.version g (view tree) ≡ Fails error = rw c.in-Err-Refused.field-0-is at c.in-Err-Refused.ensures.done in
     let kept = ap (λ t. t.database) (at_refuses schema before c.in-Some.version (transaction schema before c.args.draws.now (items_view trees)) g (view tree) error (items_view (drop i trees)) c.loop-i.results (items_view (drop (i + 1) trees))
     (items_at trees i tree within c.index-trees-i.is) c.loop-i.invariant.going refuses) in
     let same = sym kept ∙ ap (λ ds. (transaction schema before c.args.draws.now ds).database) c.as_slice-trees.ensures.same in
-    IfOk-weaker c.refused.result _ _ (λ p h. ap (λ (delta : Delta). len delta == 0) h ∙ least-empty before ∙ ap (is_database before) same) c.refused.ensures.delta
+    IfOk-weaker c.refused.result _ _ (λ p h. ap (λ (delta : Delta). len delta == 0) h ∙ least-empty before ∙ ap (same_database before) same) c.refused.ensures.delta
 
 pub loop-i-preserved : goal.loop-i-preserved
 loop-i-preserved c =

@@ -1,7 +1,7 @@
 use Rattle.std.proofs.Common.{◌≡◌, drop}
 use Rattle.serde_json.specs.View.{items_view}
-use Rattle.ov_specs.specs.Transaction as spec
-use Rattle.ov_txn.specs.Going.{prefixed}
+use Rattle.ov_specs.specs.operations.Transaction as spec
+use Rattle.ov_txn.specs.Results.{prefixed}
 use Rattle.ov_txn.specs.Staging.{staged}
 use Rattle.ov_txn.proofs.transaction.perform.Given as goal
 

@@ -1,7 +1,7 @@
 use Rattle.std.proofs.Common.{◌≡◌, ◌∙◌, [], Err, ap, codes, map, refl, sym}
 use Rattle.std.proofs.lemmas.Result.{err_from_is_err_and}
 use Rattle.clap.specs.Words.{Text, fault_of}
-use Rattle.ov_words.specs.Words.{app, settings_of, value_of}
+use Rattle.ov_words.specs.Words.{app, settings_of, option_value}
 use Rattle.ov_words.specs.declared.fault.WordFault.TheVariants.{Refused}
 use Rattle.ov_words.proofs.WordsLemmas.{settings_by-db, settings_by-fault, settings_by-schema, settings_by-taken, value_of-matches}
 use Rattle.ov_words.proofs.settings.read_words.Goals as goal

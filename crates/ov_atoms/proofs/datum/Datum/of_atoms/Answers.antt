@@ -1,8 +1,8 @@
 use Rattle.std.proofs.Common.{map, T, sym, ap, subst, ◌∙◌}
 use Rattle.std.specs.FinMap.{is_sorted}
 use Rattle.std.proofs.lemmas.List.Filters.{dedup_is}
-use Rattle.ov_specs.specs.Value as value
-use Rattle.ov_specs.specs.Value.{atom_cmp, marked, set_of}
+use Rattle.ov_specs.specs.values.Value as value
+use Rattle.ov_specs.specs.values.Value.{atom_cmp, marked, set_of}
 use Rattle.ov_atoms.specs.Views.{atoms_view}
 use Rattle.ov_atoms.proofs.Sorting.{equals, set_of-dedup, dedup-ascends}
 use Rattle.ov_atoms.proofs.datum.Datum.of_atoms.Goals as goal

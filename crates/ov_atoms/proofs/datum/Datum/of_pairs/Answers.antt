@@ -2,9 +2,9 @@ use Rattle.std.proofs.Common.{◌≡◌, T, cond, Some, None, IfOk, sym, ap, sub
 use Rattle.std.specs.Bool.{OnTrue}
 use Rattle.std.specs.FinMap.{is_sorted}
 use Rattle.std.proofs.lemmas.List.Sorted.{IsPermutation-map}
-use Rattle.ov_specs.specs.Value as value
-use Rattle.ov_specs.specs.Value.{atom_cmp, map_of}
-use Rattle.ov_specs.proofs.Clashing.{has_clash-ascending}
+use Rattle.ov_specs.specs.values.Value as value
+use Rattle.ov_specs.specs.values.Value.{atom_cmp, map_of}
+use Rattle.ov_specs.proofs.laws.Clashing.{has_clash-ascending}
 use Rattle.ov_atoms.specs.Views.{pair_view, pairs_view}
 use Rattle.ov_atoms.proofs.Permuting.{pairs-permuted}
 use Rattle.ov_atoms.proofs.datum.Datum.of_pairs.Goals as goal

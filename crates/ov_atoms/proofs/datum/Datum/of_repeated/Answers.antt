@@ -1,6 +1,6 @@
 use Rattle.std.proofs.Common.{◌++◌, T, sym, ap, subst, ◌∙◌, append-nil}
 use Rattle.std.specs.FinMap.{is_sorted}
-use Rattle.ov_specs.specs.Value.{atom_cmp}
+use Rattle.ov_specs.specs.values.Value.{atom_cmp}
 use Rattle.ov_atoms.specs.Views.{pairs_view}
 use Rattle.ov_atoms.proofs.Building.{pairs-ascend}
 use Rattle.ov_atoms.proofs.datum.Datum.of_repeated.Goals as goal

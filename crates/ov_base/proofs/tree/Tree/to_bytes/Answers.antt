@@ -1,7 +1,7 @@
 use Rattle.std.proofs.Common.{◌∙◌, ap}
 use Rattle.serde_json.specs.Written.{compact_text}
 use Rattle.serde_json.specs.View.{view}
-use Rattle.ov_specs.proofs.Trees.{has_no_float}
+use Rattle.ov_specs.proofs.laws.Trees.{has_no_float}
 use Rattle.ov_base.proofs.tree.Tree.to_bytes.Goals as goal
 
 pub returns : goal.returns

@@ -3,7 +3,7 @@ use Rattle.std.proofs.lemmas.List.{take_all}
 use Rattle.serde_json.specs.Data.{array}
 use Rattle.serde_json.specs.View.{view, items_view, items_of}
 use Rattle.serde_json.proofs.Views.{view-Array}
-use Rattle.ov_specs.specs.Tree.{has_real, items_have_real}
+use Rattle.ov_specs.specs.wire.Tree.{has_real, items_have_real}
 use Rattle.ov_base.proofs.trees.Trees.copy_as_tree.Goals as goal
 
 pub new-requires : goal.new-requires

@@ -1,7 +1,7 @@
 use Rattle.std.proofs.Common.{◌∙◌, ap, map, arith}
 use Rattle.std.proofs.lemmas.List.{take_all}
 use Rattle.serde_json.specs.View.{view, items_of}
-use Rattle.ov_specs.specs.Tree.{items_have_real}
+use Rattle.ov_specs.specs.wire.Tree.{items_have_real}
 use Rattle.ov_base.proofs.trees.Trees.from_slice.Goals as goal
 
 pub new-requires : goal.new-requires

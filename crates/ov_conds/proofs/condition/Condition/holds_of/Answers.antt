@@ -1,5 +1,5 @@
 use Rattle.std.proofs.Common.{ap, ◌∙◌}
-use Rattle.ov_specs.specs.Conditions.{Condition, compares}
+use Rattle.ov_specs.specs.operations.Conditions.{Condition, compares}
 use Rattle.ov_conds.specs.Compared as compared
 use Rattle.ov_conds.specs.Views.{function_view}
 use Rattle.ov_conds.proofs.CompareLemmas.{compares-elements_of}

@@ -1,7 +1,7 @@
 use Rattle.std.proofs.Common.{◌≡◌, List, [], ◌∷◌, length, None, option_and_then, refl, ap, ◌∙◌}
 use Rattle.serde_json.specs.View.{items_view}
 use Rattle.serde_json.specs.declared.value.Value.{Value}
-use Rattle.ov_specs.specs.Conditions.{three_items}
+use Rattle.ov_specs.specs.operations.Conditions.{three_items}
 use Rattle.ov_conds.proofs.triple.Triple.read.Goals as goal
 
 three_items-other : (vs : List Value) → (length vs ≡ 3 → ⊥) → None ≡ three_items (items_view vs)

@@ -1,7 +1,7 @@
 use Rattle.std.proofs.Common.{◌≡◌, ◌≤◌, refl, true, rules}
 use Rattle.ov_core.proofs.Steps.{closed, alone}
 use Rattle.ov_core.specs.Entries.{cause_view}
-use Rattle.ov_specs.specs.Machine.{is_open}
+use Rattle.ov_specs.specs.machine.Machine.{is_open}
 use Rattle.ov_core.proofs.machine.Core.close_at.Goals as goal
 
 pub returns : goal.returns
@@ -10,7 +10,7 @@ returns g c =
     let there : is_open c.args.self.now.state c.args.session.serial ≡ true = search rules in
     let here = rw (← c.self.view_is) at there in
     rw (← c.self.view_is) (record {
-      moves = closed _ c.args.moment c.args.session.serial (cause_view c.args.cause) c.quiet.result _ _ _ low here c.push_back_reserved.ensures.items c.quiet.ensures
+      moves = closed _ c.args.moment c.args.session.serial (cause_view c.args.cause) c.entry_without_choice.result _ _ _ low here c.push_back_reserved.ensures.items c.entry_without_choice.ensures
           (alone c.self.inside.session c.args.session.serial here) c.forget.ensures;
       shut = refl;
       drawn = refl;

@@ -1,6 +1,6 @@
 use Rattle.std.proofs.Common.{◌≡◌, ◌≤◌, None, refl, arith, rules}
 use Rattle.ov_core.proofs.Steps.{opened, nothing_chosen, entry_of, not_full}
-use Rattle.ov_specs.specs.Machine.{Open}
+use Rattle.ov_specs.specs.machine.Machine.{Open}
 use Rattle.ov_core.proofs.machine.Core.open_session.Goals as goal
 
 pub returns : goal.returns
@@ -12,5 +12,5 @@ returns g c =
       tells = (refl, refl, omega arith, not_full c.self.inside.session c.self.inside.next none (search rules) (omega arith));
       moment = refl;
       drawn = refl;
-      moves = opened _ c.args.moment c.quiet.result _ _ low (rw (← c.reserve.ensures.items) c.push_back_reserved.ensures.items) c.quiet.ensures (rw none refl);
+      moves = opened _ c.args.moment c.entry_without_choice.result _ _ low (rw (← c.reserve.ensures.items) c.push_back_reserved.ensures.items) c.entry_without_choice.ensures (rw none refl);
     })

@@ -1,9 +1,9 @@
 use Rattle.std.proofs.Common.{◌≡◌, ◌∙◌, ap, max}
-use Rattle.ov_core.specs.Following.{Running}
+use Rattle.ov_core.specs.Following.{CoreState}
 use Rattle.ov_core.proofs.Steps.{closed_as_asked}
 use Rattle.ov_core.proofs.machine.Core.step.Goals as goal
 
 pub returns-then-close_at : goal.returns-then-close_at
 returns-then-close_at g c =
-    let at : c.max-moment.result ≡ max c.args.moment c.args.self.now.state.moment = c.max-moment.ensures ∙ ap (λ (r : Running _ _). max c.args.moment r.state.moment) c.self.view_is in
+    let at : c.max-moment.result ≡ max c.args.moment c.args.self.now.state.moment = c.max-moment.ensures ∙ ap (λ (r : CoreState _ _). max c.args.moment r.state.moment) c.self.view_is in
     rw (c.in-Close.is, ← at) (closed_as_asked _ _ _ _ _ _ c.if-close_at.ensures)

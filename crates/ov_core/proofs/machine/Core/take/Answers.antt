@@ -1,7 +1,7 @@
 use Rattle.std.proofs.Common.{◌≡◌, ◌≤◌, [], refl, true, rules, inl, sym, ◌∙◌}
 use Rattle.ov_core.proofs.Steps.{taken, taking, entered_as, alone, it_closed, stood_in, left_without, left_open}
 use Rattle.ov_rpc.specs.Message.{message_view}
-use Rattle.ov_specs.specs.Machine.{is_open}
+use Rattle.ov_specs.specs.machine.Machine.{is_open}
 use Rattle.ov_core.proofs.machine.Core.take.Goals as goal
 
 pub returns-in_default : goal.returns-in_default
@@ -21,15 +21,15 @@ returns-then-is_closing g c =
     let there : is_open c.args.self.now.state c.args.session.serial ≡ true = search rules in
     let here = rw (← c.self.view_is) at there in
     rw (← c.self.view_is) (record {
-      entry = taking c.args.moment c.args.session.serial (message_view c.args.message) c.work-draws.result.draws.items c.work-draws.result.outcome;
+      entry = taking c.args.moment c.args.session.serial (message_view c.args.message) c.handle-draws.result.draws.items c.handle-draws.result.outcome;
       tells = (inl refl, refl);
       moment = refl;
-      drawn = c.work-draws.ensures.drawn;
-      moves = taken _ c.args.moment c.args.session.serial (message_view c.args.message) c.work-draws.result c.chosen.result c.push_back_reserved.new.self.items [] c.work-draws.new.waiting c.work-draws.new.database c.work-draws.new.source low here
+      drawn = c.handle-draws.ensures.drawn;
+      moves = taken _ c.args.moment c.args.session.serial (message_view c.args.message) c.handle-draws.result c.entry_with_choice.result c.push_back_reserved.new.self.items [] c.handle-draws.new.outbox c.handle-draws.new.database c.handle-draws.new.source low here
           (rw (← c.reserve.ensures.items) c.push_back_reserved.ensures.items)
-          (entered_as c.args.moment c.args.session.serial (message_view c.args.message) c.work-draws.result.draws.items c.work-draws.result.outcome _ c.chosen.result c.chosen.ensures c.listed.ensures)
-          (left_without c.args.session.serial c.work-draws.result.outcome _ [] (sym c.is_closing.ensures ∙ c.if-is_closing.true) (alone c.self.inside.session c.args.session.serial here))
-          c.work-draws.ensures.comes;
+          (entered_as c.args.moment c.args.session.serial (message_view c.args.message) c.handle-draws.result.draws.items c.handle-draws.result.outcome _ c.entry_with_choice.result c.entry_with_choice.ensures c.listed.ensures)
+          (left_without c.args.session.serial c.handle-draws.result.outcome _ [] (sym c.is_closing.ensures ∙ c.if-is_closing.true) (alone c.self.inside.session c.args.session.serial here))
+          c.handle-draws.ensures.is_handled;
     })
 
 pub returns : goal.returns
@@ -38,13 +38,13 @@ returns g c =
     let there : is_open c.args.self.now.state c.args.session.serial ≡ true = search rules in
     let here = rw (← c.self.view_is) at there in
     rw (← c.self.view_is) (record {
-      entry = taking c.args.moment c.args.session.serial (message_view c.args.message) c.work-draws.result.draws.items c.work-draws.result.outcome;
+      entry = taking c.args.moment c.args.session.serial (message_view c.args.message) c.handle-draws.result.draws.items c.handle-draws.result.outcome;
       tells = (refl, here);
       moment = refl;
-      drawn = c.work-draws.ensures.drawn;
-      moves = taken _ c.args.moment c.args.session.serial (message_view c.args.message) c.work-draws.result c.chosen.result c.push_back_reserved.new.self.items _ c.work-draws.new.waiting c.work-draws.new.database c.work-draws.new.source low here
+      drawn = c.handle-draws.ensures.drawn;
+      moves = taken _ c.args.moment c.args.session.serial (message_view c.args.message) c.handle-draws.result c.entry_with_choice.result c.push_back_reserved.new.self.items _ c.handle-draws.new.outbox c.handle-draws.new.database c.handle-draws.new.source low here
           (rw (← c.reserve.ensures.items) c.push_back_reserved.ensures.items)
-          (entered_as c.args.moment c.args.session.serial (message_view c.args.message) c.work-draws.result.draws.items c.work-draws.result.outcome _ c.chosen.result c.chosen.ensures c.listed.ensures)
-          (left_open c.args.session.serial c.work-draws.result.outcome _ (sym c.is_closing.ensures ∙ c.if-is_closing.false))
-          c.work-draws.ensures.comes;
+          (entered_as c.args.moment c.args.session.serial (message_view c.args.message) c.handle-draws.result.draws.items c.handle-draws.result.outcome _ c.entry_with_choice.result c.entry_with_choice.ensures c.listed.ensures)
+          (left_open c.args.session.serial c.handle-draws.result.outcome _ (sym c.is_closing.ensures ∙ c.if-is_closing.false))
+          c.handle-draws.ensures.is_handled;
     })

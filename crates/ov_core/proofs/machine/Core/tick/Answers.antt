@@ -1,6 +1,6 @@
 use Rattle.std.proofs.Common.{◌≤◌, refl, rules}
 use Rattle.ov_core.proofs.Steps.{ticked, nothing_chosen, entry_of}
-use Rattle.ov_specs.specs.Machine.{Tick}
+use Rattle.ov_specs.specs.machine.Machine.{Tick}
 use Rattle.ov_core.proofs.machine.Core.tick.Goals as goal
 
 pub returns : goal.returns
@@ -11,5 +11,5 @@ returns g c =
       tells = refl;
       moment = refl;
       drawn = refl;
-      moves = ticked _ c.args.moment c.quiet.result _ low (rw (← c.reserve.ensures.items) c.push_back_reserved.ensures.items) c.quiet.ensures;
+      moves = ticked _ c.args.moment c.entry_without_choice.result _ low (rw (← c.reserve.ensures.items) c.push_back_reserved.ensures.items) c.entry_without_choice.ensures;
     })

@@ -1,5 +1,5 @@
 use Rattle.std.proofs.Common.{sym, ap}
-use Rattle.ov_specs.specs.Database.{Database}
+use Rattle.ov_specs.specs.rows.Database.{Database}
 use Rattle.ov_db.proofs.Places.{applied-none}
 use Rattle.ov_db.proofs.db.Db.commit.Goals as goal
 

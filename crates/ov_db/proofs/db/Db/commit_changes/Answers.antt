@@ -1,10 +1,10 @@
 use Rattle.std.proofs.Common.{◌≡◌, Some, sym, ap, subst, ◌∙◌}
 use mathlib.Core.Logic.{inl, inr}
-use Rattle.ov_specs.specs.Database.{Database, AreLinesOf}
-use Rattle.ov_keeper.specs.Keeping.{Refuses}
+use Rattle.ov_specs.specs.rows.Database.{Database, AreLinesOf}
+use Rattle.ov_keeper.specs.Keeping.{LeavesRefused}
 use Rattle.ov_keeper.specs.Views.{changes_view}
 use Rattle.ov_db.specs.Changing.{applied}
-use Rattle.ov_db.specs.Kept.{Kept}
+use Rattle.ov_db.specs.KeptDatabase.{KeptDatabase}
 use Rattle.ov_db.proofs.Places.{applied-same}
 use Rattle.ov_db.proofs.Stored.{found, found_changed, unsealed_held, still_none}
 use Rattle.ov_db.proofs.db.Db.commit_changes.Goals as goal
@@ -12,7 +12,7 @@ use Rattle.ov_db.proofs.db.Db.commit_changes.Goals as goal
 pub invariant_of-self-in-Ok-commit : goal.invariant_of-self-in-Ok-commit
 invariant_of-self-in-Ok-commit g c honest held leaves =
     let rows = c.self.inside.rows in
-    let unsealed = ap (λ (k : Kept _). k.sealed) c.self.view_is ∙ c.requires in
+    let unsealed = ap (λ (k : KeptDatabase _). k.sealed) c.self.view_is ∙ c.requires in
     let changes = ap changes_view c.as_slice.ensures.value ∙ c.in-Ok.ensures in
     let made = c.in-Ok-commit.ensures.ok honest held leaves in
     let before = found _ rows made.0 (unsealed_held _ rows _ made.0 unsealed (c.self.invariant (c.commit.ensures.honest honest) made.0 made.1)) in
@@ -23,10 +23,10 @@ invariant_of-self-in-Ok-commit g c honest held leaves =
 pub invariant_of-self-in-Device-1 : goal.invariant_of-self-in-Device-1
 invariant_of-self-in-Device-1 g c honest held leaves =
     let rows = c.self.inside.rows in
-    let unsealed = ap (λ (k : Kept _). k.sealed) c.self.view_is ∙ c.requires in
+    let unsealed = ap (λ (k : KeptDatabase _). k.sealed) c.self.view_is ∙ c.requires in
     let changes = ap changes_view c.as_slice.ensures.value ∙ c.in-Ok.ensures in
     let back : c.take_out-in-Err-Device.new.rows ≡ rows = c.take_out-in-Err-Device.ensures ∙ c.in-Ok-place.ensures.added in
-    let may = subst (Refuses (changes_view c.as_slice.result.now) (g.K.Keeper.leaves c.self.inside.keeper) (g.K.Keeper.leaves c.commit.new.self)) c.in-Err-Device.field-0-is (c.in-Err-Device.ensures.err honest) in
+    let may = subst (LeavesRefused (changes_view c.as_slice.result.now) (g.K.Keeper.leaves c.self.inside.keeper) (g.K.Keeper.leaves c.commit.new.self)) c.in-Err-Device.field-0-is (c.in-Err-Device.ensures.err honest) in
     let was = c.self.invariant (c.commit.ensures.honest honest) in
     elim (may held leaves) [
       | inl same ↦
@@ -41,7 +41,7 @@ invariant_of-self-in-Device-1 g c honest held leaves =
 pub returns-in-Ok-commit-clause-commits : goal.returns-in-Ok-commit-clause-commits
 returns-in-Ok-commit-clause-commits g c =
     let delta = c.args.delta in
-    let schema = ap (λ (k : Kept _). k.schema) c.self.view_is in
-    let rows = c.make.ensures ∙ applied-same delta c.self.inside.rows c.place.new.rows c.in-Ok-place.ensures.same ∙ ap (λ (k : Kept _). applied delta k.committed) c.self.view_is in
-    let sealed = still_none c.self.inside.failed (λ d. applied d c.self.inside.rows) (λ d. applied d c.make.new.rows) (ap (λ (k : Kept _). k.sealed) c.self.view_is ∙ c.requires) ∙ sym c.requires in
+    let schema = ap (λ (k : KeptDatabase _). k.schema) c.self.view_is in
+    let rows = c.make.ensures ∙ applied-same delta c.self.inside.rows c.place.new.rows c.in-Ok-place.ensures.same ∙ ap (λ (k : KeptDatabase _). applied delta k.committed) c.self.view_is in
+    let sealed = still_none c.self.inside.failed (λ d. applied d c.self.inside.rows) (λ d. applied d c.make.new.rows) (ap (λ (k : KeptDatabase _). k.sealed) c.self.view_is ∙ c.requires) ∙ sym c.requires in
     λ i. record { schema = schema i; committed = rows i; sealed = sealed i; keeper = c.commit.new.self }

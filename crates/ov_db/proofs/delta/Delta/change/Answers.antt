@@ -1,6 +1,6 @@
 use Rattle.std.proofs.Common.{sym, ap, ◌∙◌}
 use Rattle.std.specs.FinMap.{get}
-use Rattle.ov_specs.specs.Lines.{line_cmp}
+use Rattle.ov_specs.specs.rows.Lines.{line_cmp}
 use Rattle.ov_db.specs.Changing.{Delta}
 use Rattle.ov_rows.proofs.Maps.{get-lookup}
 use Rattle.ov_db.proofs.delta.Delta.change.Goals as goal

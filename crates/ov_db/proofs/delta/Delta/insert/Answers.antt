@@ -1,7 +1,7 @@
 use Rattle.std.proofs.Common.{ap, ◌∙◌}
 use Rattle.std.specs.FinMap.{insert}
-use Rattle.ov_specs.specs.Lines.{line_cmp}
-use Rattle.ov_specs.proofs.LineKeys.{key_total}
+use Rattle.ov_specs.specs.rows.Lines.{line_cmp}
+use Rattle.ov_specs.proofs.laws.LineKeys.{key_total}
 use Rattle.ov_db.specs.Changing.{Delta}
 use Rattle.ov_rows.proofs.Maps.{ascends, from_sorted-insert}
 use Rattle.ov_db.proofs.delta.Delta.insert.Goals as goal

@@ -2,7 +2,7 @@ use Rattle.std.proofs.Common.{◌≡◌, ◌==◌, ℕ, Bool, true, false, lengt
 use Rattle.std.proofs.lemmas.Bool.Decides.{nat_tests}
 use Rattle.std.specs.Bool.{IsTrue}
 use Rattle.std.specs.FinMap.{len, len-entries, entries-from_sorted}
-use Rattle.ov_specs.specs.Lines.{line_cmp}
+use Rattle.ov_specs.specs.rows.Lines.{line_cmp}
 use Rattle.ov_db.specs.Changing.{Delta}
 use Rattle.ov_db.specs.DeltaModel.{delta_of}
 use Rattle.ov_db.proofs.delta.Delta.is_empty.Goals as goal

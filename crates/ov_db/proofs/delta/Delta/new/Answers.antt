@@ -1,5 +1,5 @@
 use Rattle.std.proofs.Common.{ap, ◌∙◌}
-use Rattle.ov_specs.specs.Lines.{line_cmp}
+use Rattle.ov_specs.specs.rows.Lines.{line_cmp}
 use Rattle.ov_db.specs.DeltaModel.{delta_of}
 use Rattle.ov_rows.proofs.Maps.{from_sorted-nil}
 use Rattle.ov_db.proofs.delta.Delta.new.Goals as goal

@@ -1,6 +1,6 @@
 use Rattle.std.proofs.Common.{rules}
 use Rattle.ov_keeper.specs.Views.{line_entry}
-use Rattle.ov_specs.proofs.LineKeys.{test_tied}
+use Rattle.ov_specs.proofs.laws.LineKeys.{test_tied}
 use Rattle.ov_keeper.proofs.line.Line.is_at.Goals as goal
 
 pub returns-then-eq : goal.returns-then-eq

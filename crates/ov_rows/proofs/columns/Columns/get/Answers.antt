@@ -1,6 +1,6 @@
 use Rattle.std.proofs.Common.{sym, ap, ◌∙◌}
 use Rattle.std.specs.FinMap.{get}
-use Rattle.ov_specs.specs.Database.{Columns}
+use Rattle.ov_specs.specs.rows.Database.{Columns}
 use Rattle.ov_rows.proofs.Names.{get-columns_of}
 use Rattle.ov_rows.proofs.columns.Columns.get.Goals as goal
 

@@ -1,6 +1,6 @@
 use Rattle.std.proofs.Common.{ap, ◌∙◌, string_bytes}
 use Rattle.std.specs.FinMap.{insert}
-use Rattle.ov_specs.specs.Database.{Columns}
+use Rattle.ov_specs.specs.rows.Database.{Columns}
 use Rattle.ov_rows.proofs.Names.{names-ascend, columns_of-insert}
 use Rattle.ov_rows.proofs.columns.Columns.insert.Goals as goal
 

@@ -1,5 +1,5 @@
 use Rattle.std.proofs.Common.{ap, ◌∙◌}
-use Rattle.ov_specs.specs.SchemaTypes.{name_cmp}
+use Rattle.ov_specs.specs.schema.SchemaTypes.{name_cmp}
 use Rattle.ov_rows.specs.Named.{columns_of}
 use Rattle.ov_rows.proofs.Maps.{from_sorted-nil}
 use Rattle.ov_rows.proofs.columns.Columns.new.Goals as goal

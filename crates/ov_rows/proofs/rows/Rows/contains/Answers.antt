@@ -1,7 +1,7 @@
 use Rattle.std.proofs.Common.{is_some, sym, ap, ◌∙◌}
 use Rattle.std.specs.FinMap.{contains_key}
-use Rattle.ov_specs.specs.Database.{Database}
-use Rattle.ov_specs.specs.Lines.{line_cmp}
+use Rattle.ov_specs.specs.rows.Database.{Database}
+use Rattle.ov_specs.specs.rows.Lines.{line_cmp}
 use Rattle.ov_rows.proofs.Maps.{get-lookup}
 use Rattle.ov_rows.proofs.rows.Rows.contains.Goals as goal
 

@@ -1,7 +1,7 @@
 use Rattle.std.proofs.Common.{sym, ap, ◌∙◌}
 use Rattle.std.specs.FinMap.{entries, entries-from_sorted}
-use Rattle.ov_specs.specs.Database.{Database}
-use Rattle.ov_specs.specs.Lines.{line_cmp}
+use Rattle.ov_specs.specs.rows.Database.{Database}
+use Rattle.ov_specs.specs.rows.Lines.{line_cmp}
 use Rattle.ov_rows.proofs.rows.Rows.map.Goals as goal
 
 pub returns : goal.returns

@@ -1,5 +1,5 @@
 use Rattle.std.proofs.Common.{ap, ◌∙◌}
-use Rattle.ov_specs.specs.Lines.{line_cmp}
+use Rattle.ov_specs.specs.rows.Lines.{line_cmp}
 use Rattle.ov_rows.specs.Resident.{database_of}
 use Rattle.ov_rows.proofs.Maps.{from_sorted-nil}
 use Rattle.ov_rows.proofs.rows.Rows.new.Goals as goal

@@ -1,8 +1,8 @@
 use Rattle.std.proofs.Common.{ap, ◌∙◌}
 use Rattle.std.specs.FinMap.{remove}
-use Rattle.ov_specs.specs.Database.{Database}
-use Rattle.ov_specs.specs.Lines.{line_cmp}
-use Rattle.ov_specs.proofs.LineKeys.{key_exact, key_total}
+use Rattle.ov_specs.specs.rows.Database.{Database}
+use Rattle.ov_specs.specs.rows.Lines.{line_cmp}
+use Rattle.ov_specs.proofs.laws.LineKeys.{key_exact, key_total}
 use Rattle.ov_rows.proofs.Maps.{ascends, from_sorted-remove}
 use Rattle.ov_rows.proofs.rows.Rows.remove.Goals as goal
 

@@ -1,6 +1,6 @@
 use Rattle.std.proofs.Common.{◌≡◌, drop}
 use Rattle.std.specs.List.{list_all}
-use Rattle.ov_specs.specs.Fitting.{atom_fits}
+use Rattle.ov_specs.specs.schema.Fitting.{atom_fits}
 use Rattle.ov_atoms.specs.Views.{atoms_view}
 use Rattle.ov_schema.proofs.column_type.ColumnType.atoms_fit.Given as goal
 

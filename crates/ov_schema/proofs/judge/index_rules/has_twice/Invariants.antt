@@ -1,5 +1,5 @@
 use Rattle.std.proofs.Common.{◌≡◌, drop}
-use Rattle.ov_specs.specs.Schema.{has_twice}
+use Rattle.ov_specs.specs.schema.Schema.{has_twice}
 use Rattle.ov_schema.specs.ShapeViews.{texts_view}
 use Rattle.ov_schema.proofs.judge.index_rules.has_twice.Given as goal
 

@@ -1,5 +1,5 @@
 use Rattle.std.proofs.Common.{◌≡◌, false, drop}
-use Rattle.ov_specs.specs.Schema.{is_version}
+use Rattle.ov_specs.specs.schema.Schema.{is_version}
 use Rattle.ov_schema.proofs.judge.names.is_version.Given as goal
 
 abbrev pub invariant-loop-byte : goal.invariant-loop-byte

@@ -1,7 +1,7 @@
 use Rattle.std.proofs.Common.{◌++◌, [], ◌∷◌, map, option_map, ap, sym, ◌∙◌}
 use Rattle.std.proofs.lemmas.List.{map-append}
 use Rattle.serde_json.specs.View.{members_view}
-use Rattle.ov_specs.specs.SchemaShape.{each_member, table_shape}
+use Rattle.ov_specs.specs.schema.SchemaShape.{each_member, table_shape}
 use Rattle.ov_atoms.proofs.Lists.{after}
 use Rattle.ov_schema.specs.ShapeViews.{table_view, named_table_view}
 use Rattle.ov_schema.proofs.MemberLemmas.{after-member}

@@ -1,6 +1,6 @@
 use Rattle.std.proofs.Common.{◌≡◌, map}
 use Rattle.serde_json.specs.View.{members_view}
-use Rattle.ov_specs.specs.SchemaShape.{each_member, column_shape}
+use Rattle.ov_specs.specs.schema.SchemaShape.{each_member, column_shape}
 use Rattle.ov_atoms.proofs.Lists.{after}
 use Rattle.ov_schema.specs.ShapeViews.{named_column_view}
 use Rattle.ov_schema.proofs.parse.table_shape.columns_of.Given as goal

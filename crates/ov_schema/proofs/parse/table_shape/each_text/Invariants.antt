@@ -1,7 +1,7 @@
 use Rattle.std.proofs.Common.{◌≡◌, drop}
 use Rattle.serde_json.specs.Find.{as_str}
 use Rattle.serde_json.specs.View.{items_view}
-use Rattle.ov_specs.specs.Reading.{each_read}
+use Rattle.ov_specs.specs.values.Reading.{each_read}
 use Rattle.ov_atoms.proofs.Lists.{after}
 use Rattle.ov_schema.specs.ShapeViews.{texts_view}
 use Rattle.ov_schema.proofs.parse.table_shape.each_text.Given as goal

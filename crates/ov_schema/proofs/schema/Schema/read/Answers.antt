@@ -1,9 +1,9 @@
 use Rattle.std.proofs.Common.{◌≡◌, Ok, sym, subst, ◌∙◌}
 use Rattle.std.proofs.lemmas.Result.{err_from_is_err_and}
-use Rattle.ov_specs.specs.SchemaShape.{schema_shape}
-use Rattle.ov_specs.specs.Schema.{judged}
-use Rattle.ov_schema.specs.Parts.{parts_view}
-use Rattle.ov_schema.specs.Refusals.{IsToldBy, JudgesWith}
+use Rattle.ov_specs.specs.schema.SchemaShape.{schema_shape}
+use Rattle.ov_specs.specs.schema.Schema.{judged}
+use Rattle.ov_schema.specs.SchemaMembers.{schema_of_members}
+use Rattle.ov_schema.specs.Refusals.{IsRefusalOf, JudgesWith}
 use Rattle.ov_schema.specs.FaultViews.{refusal_view}
 use Rattle.ov_schema.proofs.RefusalLemmas.{accepted-plain}
 use Rattle.ov_schema.proofs.schema.Schema.read.Goals as goal
@@ -11,12 +11,12 @@ use Rattle.ov_schema.proofs.schema.Schema.read.Goals as goal
 pub returns-clause-ok : goal.returns-clause-ok
 returns-clause-ok c =
     accepted-plain c.args.tree c.as_value.ensures.plain
-    ∙ subst (λ d. judged d (schema_shape d) ≡ Ok (parts_view d c.in_ok-parts.parts)) c.as_value.ensures.same c.in_ok-parts.ensures.ok
+    ∙ subst (λ d. judged d (schema_shape d) ≡ Ok (schema_of_members d c.in_ok-parts.parts)) c.as_value.ensures.same c.in_ok-parts.ensures.ok
 
 pub returns-in_err-parts-clause-refused : goal.returns-in_err-parts-clause-refused
 returns-in_err-parts-clause-refused c =
     let p = err_from_is_err_and c.from_residual.result c.from_residual.ensures.1 in
     let fault = c.in_err-parts.field-0.0 in
     rw (p.1, p.2)
-    (subst (IsToldBy (refusal_view fault)) (sym (accepted-plain c.args.tree c.as_value.ensures.plain))
+    (subst (IsRefusalOf (refusal_view fault)) (sym (accepted-plain c.args.tree c.as_value.ensures.plain))
     (subst (λ d. JudgesWith d fault) c.as_value.ensures.same c.in_err-parts.ensures.refused))

@@ -1,6 +1,6 @@
 use Rattle.std.proofs.Common.{ap, sym, ◌∙◌}
 use Rattle.std.specs.FinMap.{find, get, get-from_entries}
-use Rattle.ov_specs.specs.SchemaTypes.{name_cmp, Schema}
+use Rattle.ov_specs.specs.schema.SchemaTypes.{name_cmp, Schema}
 use Rattle.ov_schema.proofs.NamedLemmas.{name_total}
 use Rattle.ov_schema.proofs.schema.Schema.table.Goals as goal
 

@@ -1,7 +1,7 @@
 use Rattle.std.proofs.Common.{T, ◌++◌, map, sym, ap, ◌∙◌, subst}
 use Rattle.std.specs.FinMap.{entries_sorted, is_sorted}
-use Rattle.ov_specs.specs.Schema.{own_columns}
-use Rattle.ov_specs.specs.SchemaTypes.{name_cmp}
+use Rattle.ov_specs.specs.schema.Schema.{own_columns}
+use Rattle.ov_specs.specs.schema.SchemaTypes.{name_cmp}
 use Rattle.ov_schema.specs.Built.{named_column_of}
 use Rattle.ov_schema.specs.ShapeViews.{named_column_view, indexes_view, table_view}
 use Rattle.ov_schema.proofs.BuildingLemmas.{table_of-parts}

@@ -1,6 +1,6 @@
 use Rattle.std.proofs.Common.{ap, sym, ◌∙◌}
 use Rattle.std.specs.FinMap.{entries}
-use Rattle.ov_specs.specs.SchemaTypes.{Table}
+use Rattle.ov_specs.specs.schema.SchemaTypes.{Table}
 use Rattle.ov_schema.proofs.NamedLemmas.{entries-from_entries}
 use Rattle.ov_schema.proofs.table.Table.columns.Goals as goal
 

@@ -2,21 +2,22 @@ use Rattle.std.proofs.Common.{◌≡◌, ◌≢◌, inl, inr, sym, ap, subst, ar
 use Rattle.sqlite.specs.State.{HasCleanDisk}
 use Rattle.sqlite.specs.Held.{state}
 use Rattle.std.specs.Prelude.{List, ℕ}
-use Rattle.ov_specs.specs.Lines.{after_changes}
-use Rattle.ov_keeper.specs.Keeping.{Keeps, Changes, MayChange, changed}
+use Rattle.ov_specs.specs.rows.Lines.{after_changes}
+use Rattle.ov_keeper.specs.Keeping.{LeavesNoMore, LeavesChanged, MayLeaveChanged, changed}
 use Rattle.ov_keeper.specs.Views.{changes_view}
 use Rattle.sqlite.specs.Tree.{Trees}
 use Rattle.sqlite.proofs.StateLemmas.{survives_then}
-use Rattle.ov_store.specs.Changing.{MayBeStored, IsMade}
+use Rattle.ov_store.specs.Changing.{MayBeStored, IsCommitImage}
 use Rattle.ov_store.specs.StoreState.{StoreState, MayFind}
-use Rattle.ov_store.proofs.FoundLemmas.{nothing_left, is_zero, refused, stores_changes, crash_changes, kept_found, survives_found}
+use Rattle.ov_store.proofs.FoundLemmas.{is_zero, refused, stores_changes, crash_changes, kept_found, survives_found}
 use Rattle.ov_store.proofs.RunLemmas.{nothing_then}
 use Rattle.ov_keeper.specs.declared.fault.KeepFault.TheVariants.{Device}
 use Rattle.ov_store.proofs.store.Store.commit.Goals as goal
+use Rattle.std.proofs.lemmas.List.{nil_from_length}
 
 pub returns-then-is_empty-clause-ok : goal.returns-then-is_empty-clause-ok
 returns-then-is_empty-clause-ok g c clean h found =
-    let none = nothing_left c.args.changes.now (is_zero _ c.if-is_empty.ensures) in (h, found, sym (ap (λ changes. changed (changes_view changes) h) none))
+    let none = nil_from_length c.args.changes.now (is_zero _ c.if-is_empty.ensures) in (h, found, sym (ap (λ changes. changed (changes_view changes) h) none))
 
 pub returns-in_default-clause-ok : goal.returns-in_default-clause-ok
 returns-in_default-clause-ok g c clean =
@@ -25,7 +26,7 @@ returns-in_default-clause-ok g c clean =
     let early : HasCleanDisk (state g.S.Store old) = omega (arith, c.write_all.ensures.crash.clean) in
     let same : old ≡ c.args.self.now.connection = ap (λ (s : StoreState _). s.connection) c.self.view_is in
     let done = c.in_default.ensures.ok clean c.self.inside.schema (c.self.invariant.1 early) in
-    subst (λ was. Changes (changes_view c.args.changes.now) (MayFind g.S.Store was) (MayFind g.S.Store new)) same
+    subst (λ was. LeavesChanged (changes_view c.args.changes.now) (MayFind g.S.Store was) (MayFind g.S.Store new)) same
     (stores_changes g.S.Store g.met.S.Store.settled g.met.S.Store.stays c.self.inside.schema (changes_view c.args.changes.now) old new done)
 
 pub returns-then-eq-clause-err : goal.returns-then-eq-clause-err
@@ -38,9 +39,9 @@ returns-then-eq-clause-err g c clean =
     let middle : HasCleanDisk (state g.S.Store mid) = omega (arith, c.fault_at-fault.ensures.survives.clean) in
     let early : HasCleanDisk (state g.S.Store old) = omega (arith, c.write_all.ensures.crash.clean) in
     let same : old ≡ c.args.self.now.connection = ap (λ (s : StoreState _). s.connection) c.self.view_is in
-    let P = λ (trees : Trees). (text : List ℕ) → MayBeStored text (state g.S.Store old) → IsMade (after_changes (changes_view c.args.changes.now)) (state g.S.Store old) trees in
+    let P = λ (trees : Trees). (text : List ℕ) → MayBeStored text (state g.S.Store old) → IsCommitImage (after_changes (changes_view c.args.changes.now)) (state g.S.Store old) trees in
     let whole = survives_then (state g.S.Store old) (state g.S.Store mid) (state g.S.Store new) P (λ _. ⊥) P (λ _ db h. h) (λ _ db none. absurd none) c.write_all.ensures.crash c.fault_at-fault.ensures.survives in
-    rw (c.count_failure.ensures.fault, moved) (subst (λ was. MayChange (changes_view c.args.changes.now) (MayFind g.S.Store was) (MayFind g.S.Store new)) same
+    rw (c.count_failure.ensures.fault, moved) (subst (λ was. MayLeaveChanged (changes_view c.args.changes.now) (MayFind g.S.Store was) (MayFind g.S.Store new)) same
     (crash_changes g.S.Store g.met.S.Store.settled g.met.S.Store.stays c.self.inside.schema (changes_view c.args.changes.now) old new late (c.self.invariant.1 early) whole))
 
 pub returns-clause-err : goal.returns-clause-err
@@ -52,9 +53,9 @@ returns-clause-err g c clean =
     let same : old ≡ c.args.self.now.connection = ap (λ (s : StoreState _). s.connection) c.self.view_is in
     let middle : HasCleanDisk (state g.S.Store mid) = omega (arith, c.fault_at-fault.ensures.survives.clean) in
     let other : fault ≢ Device = λ e. absurd (let clash = rw e at c.if-eq.ensures in cc) in
-    let kept : Keeps (MayFind g.S.Store old) (MayFind g.S.Store new) = elim (c.fault_at-fault.ensures.shown clean other) [
+    let kept : LeavesNoMore (MayFind g.S.Store old) (MayFind g.S.Store new) = elim (c.fault_at-fault.ensures.shown clean other) [
       | inl before ↦ survives_found g.S.Store g.met.S.Store.settled g.met.S.Store.stays old new clean (nothing_then _ _ _ (c.in-Err.ensures.before before) c.fault_at-fault.ensures.survives)
       | inr up ↦ kept_found g.S.Store g.met.S.Store.settled g.met.S.Store.stays old mid new (c.in-Err.ensures.unmoved middle) up
     ] in
     refused (changes_view c.args.changes.now) (MayFind g.S.Store c.args.self.now.connection) (MayFind g.S.Store new) fault c.fault_at-fault.ensures.kind other
-    (subst (λ was. Keeps (MayFind g.S.Store was) (MayFind g.S.Store new)) same kept)
+    (subst (λ was. LeavesNoMore (MayFind g.S.Store was) (MayFind g.S.Store new)) same kept)

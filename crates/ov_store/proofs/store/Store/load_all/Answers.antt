@@ -2,7 +2,7 @@ use Rattle.std.proofs.Common.{◌≡◌, ◌∙◌, sym, ap, arith, subst, map}
 use Rattle.std.specs.FinMap.{from_entries}
 use Rattle.sqlite.specs.State.{HasCleanDisk}
 use Rattle.sqlite.specs.Held.{state}
-use Rattle.ov_specs.specs.Lines.{Lines}
+use Rattle.ov_specs.specs.rows.Lines.{Lines}
 use Rattle.ov_keeper.specs.Views.{line_entry}
 use Rattle.ov_store.specs.Format.{entry}
 use Rattle.ov_store.specs.StoreState.{StoreState, MayFind}

@@ -1,6 +1,6 @@
 use Rattle.std.proofs.Common.{◌≡◌, ◌<◌, List, length, refl, sym, subst, take, arith}
-use Rattle.ov_specs.specs.Streams.{StreamEvent}
-use Rattle.ov_streams.specs.Running.{Serves, Streaming, events_view}
+use Rattle.ov_specs.specs.machine.Streams.{StreamEvent}
+use Rattle.ov_streams.specs.Running.{RunsEvents, StreamsState, stream_events_view}
 use Rattle.ov_streams.proofs.Suiting.{serves_none, serves_more, view_more, refused_at}
 use Rattle.ov_streams.proofs.streams.Streams.run.Goals as goal
 
@@ -12,7 +12,7 @@ loop-event-preserved g c =
     let inv = c.loop-event.invariant in
     record {
       count = omega arith;
-      serves = subst (λ (l : List StreamEvent). Serves l c.args.self.now c.serve.new.self) (sym (view_more c.deref-event-items.result.now c.loop-event.event-index c.event-item.result c.loop-event-test.true c.event-item.is))
+      serves = subst (λ (l : List StreamEvent). RunsEvents l c.args.self.now c.serve.new.self) (sym (view_more c.deref-event-items.result.now c.loop-event.event-index c.event-item.result c.loop-event-test.true c.event-item.is))
           (serves_more _ _ _ _ _ inv.serves c.in_default.ensures);
     }
 
@@ -21,7 +21,7 @@ returns-in-Err g c =
     let inv = c.loop-event.invariant in
     rw (← c.deref-event-items.ensures.value, inv.count) (record {
       served = omega arith;
-      suits = subst (λ (x : Streaming _ _). Serves (events_view (take c.loop-event.event-index c.deref-event-items.result.now)) c.args.self.now x) (sym c.in-Err.ensures.0) inv.serves;
+      suits = subst (λ (x : StreamsState _ _). RunsEvents (stream_events_view (take c.loop-event.event-index c.deref-event-items.result.now)) c.args.self.now x) (sym c.in-Err.ensures.0) inv.serves;
       whole = tt;
       refused = refused_at c.deref-event-items.result.now c.loop-event.event-index c.event-item.result c.loop-event-test.true c.event-item.is c.in-Err.ensures.1;
     })

@@ -1,7 +1,7 @@
 use Rattle.std.proofs.Common.{◌∙◌, ap}
 use Rattle.std.proofs.lemmas.List.{map-append}
 use Rattle.serde_json.specs.View.{view, items_view}
-use Rattle.ov_specs.specs.Transaction.{and_item}
+use Rattle.ov_specs.specs.operations.Transaction.{and_item}
 use Rattle.ov_txn.proofs.Pushing.{push_item, push_plain}
 use Rattle.ov_txn.proofs.results.Results.push.Goals as goal
 

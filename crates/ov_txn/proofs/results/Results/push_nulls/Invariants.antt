@@ -1,6 +1,6 @@
 use Rattle.std.proofs.Common.{◌≡◌, drop}
 use Rattle.serde_json.specs.View.{items_view}
-use Rattle.ov_txn.specs.Going.{nulls_after}
+use Rattle.ov_txn.specs.Results.{nulls_after}
 use Rattle.ov_txn.proofs.results.Results.push_nulls.Given as goal
 
 abbrev pub invariant-loop-operation : goal.invariant-loop-operation

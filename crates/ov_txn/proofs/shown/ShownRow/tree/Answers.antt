@@ -3,9 +3,9 @@ use Rattle.std.proofs.lemmas.List.{drop_all}
 use Rattle.serde_json.specs.Data.{object, no_members}
 use Rattle.serde_json.specs.View.{members_view}
 use Rattle.serde_json.proofs.Views.{view-Object}
-use Rattle.ov_specs.specs.Database.{placed, written}
-use Rattle.ov_specs.specs.Tree.{members_have_real}
-use Rattle.ov_specs.specs.Writing.{tree}
+use Rattle.ov_specs.specs.rows.Database.{placed, written_column}
+use Rattle.ov_specs.specs.wire.Tree.{members_have_real}
+use Rattle.ov_specs.specs.values.Writing.{tree}
 use Rattle.ov_txn.proofs.Placing.{placed-at}
 use Rattle.ov_txn.proofs.Pushing.{put_plain}
 use Rattle.ov_txn.proofs.shown.ShownRow.tree.Goals as goal
@@ -29,5 +29,5 @@ pub returns : goal.returns
 returns c =
     let members = members_view c.loop-name.members.entries in
     c.new.ensures ∙ view-Object c.loop-name.members
-    ∙ ap object (sym (c.loop-name.invariant.placed_so_far ∙ ap (λ es. placed members (map written es)) (drop_all c.loop-name.name-index c.deref-name-items.result.now (omega arith))))
-    ∙ ap (λ es. object (placed no_members (map written es))) (c.deref-name-items.ensures.value ∙ c.self.view_is)
+    ∙ ap object (sym (c.loop-name.invariant.placed_so_far ∙ ap (λ es. placed members (map written_column es)) (drop_all c.loop-name.name-index c.deref-name-items.result.now (omega arith))))
+    ∙ ap (λ es. object (placed no_members (map written_column es))) (c.deref-name-items.ensures.value ∙ c.self.view_is)

@@ -1,7 +1,7 @@
 use Rattle.std.proofs.Common.{◌≡◌, false, sym, ap, subst, ◌∙◌}
 use Rattle.std.specs.FinMap.{contains_key, insert}
 use Rattle.ov_db.specs.Changing.{Delta, applied}
-use Rattle.ov_specs.specs.Database.{Database}
+use Rattle.ov_specs.specs.rows.Database.{Database}
 use Rattle.ov_txn.specs.Staging.{Stage, IsGrown}
 use Rattle.ov_txn.proofs.Stages.{applied-insert, grown-insert}
 use Rattle.ov_txn.proofs.stage.Stage.insert.Goals as goal

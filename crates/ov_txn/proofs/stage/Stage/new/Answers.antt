@@ -1,6 +1,6 @@
 use Rattle.std.proofs.Common.{sym, ap, subst, ◌∙◌}
 use Rattle.ov_db.specs.Changing.{Delta, applied}
-use Rattle.ov_specs.specs.Database.{Database}
+use Rattle.ov_specs.specs.rows.Database.{Database}
 use Rattle.ov_txn.specs.Staging.{Stage, IsGrown}
 use Rattle.ov_txn.proofs.Stages.{applied-empty, grown-empty}
 use Rattle.ov_txn.proofs.stage.Stage.new.Goals as goal

@@ -1,5 +1,5 @@
 use Rattle.std.proofs.Common.{◌≡◌, Some, None, option_map, refl, sym, ap, ◌∙◌}
-use Rattle.ov_specs.specs.Schema.{BadName, BadVersion, NoColumns, BadRange, RealNotSupported, UnknownRefTable, BadRefType, BadEnum, BadIndex, StrongWeakMap, refusal_of_shape}
+use Rattle.ov_specs.specs.schema.Schema.{BadName, BadVersion, NoColumns, BadRange, RealNotSupported, UnknownRefTable, BadRefType, BadEnum, BadIndex, StrongWeakMap, refusal_of_shape}
 use Rattle.ov_schema.specs.ShapeViews.{schema_view}
 use Rattle.ov_schema.proofs.FirstRefusal.{passed, here}
 use Rattle.ov_schema.proofs.parse.schema_shape.SchemaShape.refusal.Goals as goal

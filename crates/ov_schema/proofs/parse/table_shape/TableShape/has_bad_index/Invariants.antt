@@ -1,6 +1,6 @@
 use Rattle.std.proofs.Common.{◌≡◌, drop}
 use Rattle.std.specs.List.{list_any}
-use Rattle.ov_specs.specs.Schema.{is_bad_index}
+use Rattle.ov_specs.specs.schema.Schema.{is_bad_index}
 use Rattle.ov_schema.specs.ShapeViews.{indexes_view, table_view}
 use Rattle.ov_schema.proofs.parse.table_shape.TableShape.has_bad_index.Given as goal
 

@@ -1,5 +1,5 @@
 use Rattle.std.proofs.Common.{◌≡◌, map, drop}
-use Rattle.ov_specs.specs.Schema.{column_named}
+use Rattle.ov_specs.specs.schema.Schema.{column_named}
 use Rattle.ov_schema.specs.ShapeViews.{named_column_view}
 use Rattle.ov_schema.proofs.parse.table_shape.TableShape.is_lasting.Given as goal
 

@@ -1,6 +1,6 @@
 use Rattle.std.proofs.Common.{◌≡◌, not, drop}
 use Rattle.std.specs.List.{list_any}
-use Rattle.ov_specs.specs.Schema.{column_named, is_lasting}
+use Rattle.ov_specs.specs.schema.Schema.{column_named, is_lasting}
 use Rattle.ov_schema.specs.ShapeViews.{texts_view, table_view}
 use Rattle.ov_schema.proofs.parse.table_shape.TableShape.names_unlasting.Given as goal
 

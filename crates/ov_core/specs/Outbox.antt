@@ -1,0 +1,31 @@
+-- The frames that wait for sessions.
+use Rattle.std.specs.Prelude.{◌≡◌, ℕ, ◌==◌, List, [], ◌∷◌, ◌++◌, map, unwrap_or, if◌then◌else◌}
+use Rattle.std.specs.declared.alloc.Global.{Global}
+use Rattle.std.specs.declared.collections.VecDeque.{VecDeque}
+use Rattle.std.specs.Map.{lookup}
+use Rattle.std.specs.BTreeMap.{is_at}
+use Rattle.std.specs.Ordering.{nat_cmp}
+
+-- the frames of each session that has a queue, oldest first (own)
+abbrev pub WaitingFrames : Type 0
+WaitingFrames = List (ℕ × List (List ℕ))
+
+-- what waits for a session (own)
+abbrev pub waiting_for : ℕ → WaitingFrames → List (List ℕ)
+waiting_for session queues = unwrap_or (lookup (is_at (nat_cmp session)) queues) []
+
+-- the queues of the code (own)
+abbrev pub outbox_of : List (ℕ × VecDeque (List ℕ) Global) → WaitingFrames
+outbox_of entries = map (λ e. (e.0, e.1.items)) entries
+
+-- a frame more waits for the session (own)
+abbrev pub PostsFrame : ℕ → List ℕ → WaitingFrames → WaitingFrames → Type 0
+PostsFrame session frame old new = (other : ℕ) → waiting_for other new ≡ waiting_for other old ++ (if other == session then frame ∷ [] else [])
+
+-- the same frames wait (own)
+abbrev pub HasSameFrames : WaitingFrames → WaitingFrames → Type 0
+HasSameFrames old new = (other : ℕ) → waiting_for other new ≡ waiting_for other old
+
+-- nothing waits for the session any more, and for the others the same frames (own)
+abbrev pub ClearsSession : ℕ → WaitingFrames → WaitingFrames → Type 0
+ClearsSession session old new = (other : ℕ) → waiting_for other new ≡ (if other == session then [] else waiting_for other old)

@@ -1,0 +1,68 @@
+-- What is done of a session on the way; for private clauses.
+use Rattle.std.specs.Prelude.{◌≡◌, ℕ, List, [], ◌∷◌, ◌++◌, Bool, true, false, Some, None, MatchBool}
+use Rattle.ov_specs.specs.machine.Machine as machine
+use Rattle.ov_specs.specs.machine.Machine.{State, is_open}
+use Rattle.ov_specs.specs.machine.History.{joined, closed_by}
+use Rattle.ov_specs.specs.machine.Streams.{Streams, no_streams, ExpandsTimed}
+use Rattle.ov_cut.specs.CutterState.{CutterState}
+use Rattle.ov_core.specs.Outbox.{waiting_for}
+use Rattle.ov_core.specs.Following.{CoreState}
+use Rattle.ov_streams.specs.Feeding.{IsFed}
+use Rattle.ov_serve.specs.Ends.{one_more}
+use Rattle.ov_serve.specs.Serving.{IoState, ExtendsHanding, WritesOf, Pieces, ArePieces, bytes_of, events_of, TellsMoments}
+
+-- ---- what is written
+
+-- failures were counted: one where the call failed (own)
+abbrev pub CountsFailures : Bool → ℕ → ℕ → Type 0
+CountsFailures true old new = new ≡ old
+CountsFailures false old new = new ≡ one_more old
+
+-- These frames were handed out of the session and written, and no other waits; or a beginning of them was written (own).
+pub record Sends {K D : Type 0} (n : ℕ) (is_whole : Bool) (old new : CoreState K D) (said said' : List ℕ) : Type 0 where
+  pub frames : List (List ℕ)
+  pub extends : ExtendsHanding n old [] frames new
+  pub written : WritesOf is_whole (joined frames) said said'
+  pub none_left : is_whole ≡ true → waiting_for n new.outbox ≡ []
+
+-- ---- why a session was closed
+
+-- why a session was closed by its stream, by the event that closed it: damage, or want of memory (own)
+abbrev pub stream_cause : machine.Event → machine.Cause
+stream_cause (machine.Close session machine.Damaged) = machine.Damaged
+stream_cause event = machine.Memory
+
+-- the last of these entries closed the session, by its stream (own)
+pub record IsShut (n : ℕ) (entries : List machine.Entry) : Type 0 where
+  pub front : List machine.Entry
+  pub last : machine.Entry
+  pub parts : entries ≡ front ++ last ∷ []
+  pub cause : closed_by entries n ≡ Some (stream_cause last.event)
+
+-- the session is open and none of the entries closed it, or the last of them did, by its stream (own)
+abbrev pub StandsAfter : ℕ → State → List machine.Entry → Type 0
+StandsAfter n s entries = MatchBool (is_open s n) (closed_by entries n ≡ None) (IsShut n entries)
+
+-- ---- a session
+
+-- What was done since the core was `old`: the session was opened, these pieces of it were read and entered, and all of these
+-- frames were written, or a beginning of them (own).
+pub record ServedSoFar {K D C : Type 0} (tells : C → ℕ → C → Type 0) (n : ℕ) (is_whole : Bool) (old : CoreState K D) (from : IoState C) (new : CoreState K D) (to : IoState C) : Type 0 where
+  pub entries : List machine.Entry
+  pub frames : List (List ℕ)
+  pub pieces : Pieces
+  pub streams : Streams
+  pub extends : ExtendsHanding n old entries frames new
+  pub read : to.read ≡ from.read ++ bytes_of pieces
+  pub written : WritesOf is_whole (joined frames) from.written to.written
+  pub expands : ExpandsTimed old.state no_streams (events_of n pieces) entries new.state streams
+  pub stream : streams n ≡ bytes_of pieces
+  pub sizes : ArePieces pieces
+  pub moments : TellsMoments tells from.clock pieces to.clock
+  pub serial : n ≡ old.state.next
+  pub stands : StandsAfter n new.state entries
+
+-- the same, where the cutter was given what was read, while the session is open (own)
+pub record ServedAndFed {K D C : Type 0} (tells : C → ℕ → C → Type 0) (n : ℕ) (old : CoreState K D) (from : IoState C) (new : CoreState K D) (to : IoState C) (cutter : CutterState) : Type 0 where
+  pub done : ServedSoFar tells n true old from new to
+  pub fed : is_open new.state n ≡ true → IsFed (bytes_of done.pieces) cutter

@@ -1,0 +1,150 @@
+-- Worked schemas, refusal by refusal.
+use Rattle.std.proofs.Common.{◌≡◌, ◌++◌, ℕ, List, [], Option, Some, None, Result, Ok, Err, option_and_then, option_map, refl, codes}
+use Rattle.serde_json.specs.Read.{read}
+use Rattle.serde_json.proofs.OnLiterals.{serde_json_on_literals}
+use Rattle.ov_specs.specs.schema.SchemaTypes.{Schema}
+use Rattle.ov_specs.specs.schema.Schema.{SchemaRefusal, BadMember, BadName, BadVersion, NoColumns, BadRange, RealNotSupported, UnknownRefTable, BadRefType, BadEnum, BadIndex, StrongWeakMap, accepted}
+
+-- the refusal, if there is one
+abbrev refusal_in_answer : Result Schema SchemaRefusal → Option SchemaRefusal
+refusal_in_answer (Ok s) = None
+refusal_in_answer (Err refusal) = Some refusal
+
+-- the refusal of a text that is a tree; the inner None: it is accepted
+abbrev refusal_in : List ℕ → Option (Option SchemaRefusal)
+refusal_in text = option_map (λ d. refusal_in_answer (accepted d)) (read text)
+
+-- ---- a network of switches and ports
+
+-- its text with this name and version, these columns of ports, this type of the load, and these members more
+abbrev net : List ℕ → List ℕ → List ℕ → List ℕ → List ℕ → List ℕ
+net name version port load more =
+    codes "{\"name\":\"" ++ name ++ codes "\",\"tables\":{\"Port\":{\"columns\":{" ++ port ++ codes "}},\"Switch\":{\"columns\":{\"load\":{\"type\":\"" ++ load
+    ++ codes "\"},\"name\":{\"type\":\"string\"},\"ports\":{\"type\":{\"key\":{\"refTable\":\"Port\",\"type\":\"uuid\"},\"max\":\"unlimited\",\"min\":0}}},\"indexes\":[[\"name\"]],\"isRoot\":true" ++ more ++ codes "}},\"version\":\"" ++ version ++ codes "\"}"
+
+-- the columns of ports: their peers are rows of this table, and so many tags may be there
+abbrev port_columns : List ℕ → List ℕ → List ℕ
+port_columns table tags =
+    codes "\"name\":{\"type\":\"string\"},\"peer\":{\"type\":{\"key\":{\"refTable\":\"" ++ table ++ codes "\",\"type\":\"uuid\"},\"max\":1,\"min\":0}},\"tag\":{\"type\":{\"key\":{\"maxInteger\":4095,\"minInteger\":0,\"type\":\"integer\"}," ++ tags ++ codes "}}"
+
+abbrev ports : List ℕ
+ports = port_columns (codes "Port") (codes "\"max\":1,\"min\":0")
+
+pub net_is_accepted : refusal_in (net (codes "Net") (codes "1.0.0") ports (codes "integer") []) ≡ Some None
+unfolding serde_json_on_literals
+net_is_accepted = refl
+
+pub no_tables : refusal_in (codes "{\"name\":\"Net\",\"tables\":{}}") ≡ Some None
+unfolding serde_json_on_literals
+no_tables = refl
+
+pub underscore : refusal_in (net (codes "_Net") (codes "1.0.0") ports (codes "integer") []) ≡ Some (Some BadName)
+unfolding serde_json_on_literals
+underscore = refl
+
+-- the version goes before the type that stands earlier in the tree
+pub version_before_real : refusal_in (net (codes "Net") (codes "1.0") ports (codes "real") []) ≡ Some (Some BadVersion)
+unfolding serde_json_on_literals
+version_before_real = refl
+
+-- a number that is no integer goes before the version
+pub real_number_before_version : refusal_in (net (codes "Net") (codes "1.0") ports (codes "integer") (codes ",\"maxRows\":1.5")) ≡ Some (Some RealNotSupported)
+unfolding serde_json_on_literals
+real_number_before_version = refl
+
+pub columns_before_real : refusal_in (net (codes "Net") (codes "1.0.0") [] (codes "real") []) ≡ Some (Some NoColumns)
+unfolding serde_json_on_literals
+columns_before_real = refl
+
+pub real_type : refusal_in (net (codes "Net") (codes "1.0.0") ports (codes "real") []) ≡ Some (Some RealNotSupported)
+unfolding serde_json_on_literals
+real_type = refl
+
+pub least_of_two : refusal_in (net (codes "Net") (codes "1.0.0") (port_columns (codes "Port") (codes "\"max\":2,\"min\":2")) (codes "integer") []) ≡ Some (Some BadRange)
+unfolding serde_json_on_literals
+least_of_two = refl
+
+pub most_of_none : refusal_in (net (codes "Net") (codes "1.0.0") (port_columns (codes "Port") (codes "\"max\":0,\"min\":0")) (codes "integer") []) ≡ Some (Some BadRange)
+unfolding serde_json_on_literals
+most_of_none = refl
+
+pub unknown_table : refusal_in (net (codes "Net") (codes "1.0.0") (port_columns (codes "Prot") (codes "\"max\":1,\"min\":0")) (codes "integer") []) ≡ Some (Some UnknownRefTable)
+unfolding serde_json_on_literals
+unknown_table = refl
+
+pub most_is_no_number : refusal_in (net (codes "Net") (codes "1.0.0") (port_columns (codes "Port") (codes "\"max\":\"many\"")) (codes "integer") []) ≡ Some (Some BadMember)
+unfolding serde_json_on_literals
+most_is_no_number = refl
+
+pub no_rows_allowed : refusal_in (net (codes "Net") (codes "1.0.0") ports (codes "integer") (codes ",\"maxRows\":0")) ≡ Some (Some BadRange)
+unfolding serde_json_on_literals
+no_rows_allowed = refl
+
+-- ---- one table with one column of this type, and these members more
+
+abbrev one : List ℕ → List ℕ → List ℕ
+one type more = codes "{\"name\":\"A\",\"tables\":{\"T\":{\"columns\":{\"c\":{\"type\":" ++ type ++ codes "}}" ++ more ++ codes "}}}"
+
+pub null_root : refusal_in (one (codes "\"string\"") (codes ",\"isRoot\":null")) ≡ Some (Some BadMember)
+unfolding serde_json_on_literals
+null_root = refl
+
+-- a range beside another type, also beside "real"
+pub range_beside_real : refusal_in (one (codes "{\"key\":{\"type\":\"real\",\"minInteger\":1}}") []) ≡ Some (Some BadMember)
+unfolding serde_json_on_literals
+range_beside_real = refl
+
+pub bounds_cross : refusal_in (one (codes "{\"key\":{\"type\":\"integer\",\"minInteger\":2,\"maxInteger\":1}}") (codes ",\"indexes\":[[]]")) ≡ Some (Some BadRange)
+unfolding serde_json_on_literals
+bounds_cross = refl
+
+pub reference_of_integers : refusal_in (one (codes "{\"key\":{\"type\":\"integer\",\"refTable\":\"T\"}}") []) ≡ Some (Some BadRefType)
+unfolding serde_json_on_literals
+reference_of_integers = refl
+
+-- a reference to nowhere, also of integers
+pub integers_to_nowhere : refusal_in (one (codes "{\"key\":{\"type\":\"integer\",\"refTable\":\"U\"}}") []) ≡ Some (Some UnknownRefTable)
+unfolding serde_json_on_literals
+integers_to_nowhere = refl
+
+pub strength_without_table : refusal_in (one (codes "{\"key\":{\"type\":\"uuid\",\"refType\":\"weak\"}}") []) ≡ Some (Some BadRefType)
+unfolding serde_json_on_literals
+strength_without_table = refl
+
+pub empty_choice : refusal_in (one (codes "{\"key\":{\"type\":\"string\",\"enum\":[\"set\",[]]}}") []) ≡ Some (Some BadEnum)
+unfolding serde_json_on_literals
+empty_choice = refl
+
+pub one_choice : refusal_in (one (codes "{\"key\":{\"type\":\"string\",\"enum\":\"a\"}}") []) ≡ Some None
+unfolding serde_json_on_literals
+one_choice = refl
+
+pub index_of_version : refusal_in (one (codes "\"string\"") (codes ",\"indexes\":[[\"_version\"]]")) ≡ Some (Some BadIndex)
+unfolding serde_json_on_literals
+index_of_version = refl
+
+pub column_twice : refusal_in (one (codes "\"string\"") (codes ",\"indexes\":[[\"c\",\"c\"]]")) ≡ Some (Some BadIndex)
+unfolding serde_json_on_literals
+column_twice = refl
+
+pub index_twice : refusal_in (one (codes "\"string\"") (codes ",\"indexes\":[[\"c\"],[\"c\"]]")) ≡ Some None
+unfolding serde_json_on_literals
+index_twice = refl
+
+pub strong_and_weak : refusal_in (one (codes "{\"key\":{\"type\":\"uuid\",\"refTable\":\"T\"},\"value\":{\"type\":\"uuid\",\"refTable\":\"T\",\"refType\":\"weak\"}}") []) ≡ Some (Some StrongWeakMap)
+unfolding serde_json_on_literals
+strong_and_weak = refl
+
+-- a bad name goes before all that is wrong inside, wherever it stands
+pub name_first : refusal_in (codes "{\"name\":\"A\",\"version\":\"1.0\",\"tables\":{\"_T\":{\"columns\":{}}}}") ≡ Some (Some BadName)
+unfolding serde_json_on_literals
+name_first = refl
+
+-- the name is kept
+abbrev name_of : Result Schema SchemaRefusal → Option (List ℕ)
+name_of (Ok s) = Some s.name
+name_of (Err refusal) = None
+
+pub name_is_kept : option_and_then (λ d. name_of (accepted d)) (read (one (codes "\"string\"") [])) ≡ Some (codes "A")
+unfolding serde_json_on_literals
+name_is_kept = refl

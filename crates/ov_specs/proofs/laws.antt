@@ -1,0 +1,15 @@
+pub mod Cuts
+pub mod CutLaw
+pub mod Trees
+pub mod Uuids
+pub mod Order
+pub mod Inserting
+pub mod Clashing
+pub mod ReadingBack
+pub mod OfKinds
+pub mod DatumOrder
+pub mod SchemaLaws
+pub mod Expanding
+pub mod Turns
+pub mod LineKeys
+pub mod Truths

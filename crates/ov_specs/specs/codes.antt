@@ -1,0 +1,5 @@
+pub mod TreeCode
+pub mod ValueCode
+pub mod SchemaCode
+pub mod ConditionCode
+pub mod MutationCode

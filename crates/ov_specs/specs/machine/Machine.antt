@@ -1,0 +1,248 @@
+-- The machine: what one event makes of its state and what it sends, given what the outside chose (own, over RFC 7047, 4).
+use Rattle.std.specs.Prelude.{◌≡◌, ◌⊎◌, ℕ, ◌+◌, ◌==◌, ◌&&◌, not, nat_le, List, [], ◌∷◌, ◌++◌, length, map, filter, Bool, if◌then◌else◌, Option, Some, None, codes}
+use Rattle.std.specs.List.{list_any}
+use Rattle.serde_json.specs.Data.{Data, array, Items, no_items, item}
+use Rattle.serde_json.specs.Find.{as_str}
+use Rattle.ov_specs.specs.rows.Database.{Database, same_database}
+use Rattle.ov_specs.specs.wire.Message.{Message, Call, Note, Answer, Bad}
+use Rattle.ov_specs.specs.wire.Frame.{reply_tree, failure_tree}
+use Rattle.ov_specs.specs.wire.Method.{database_names, bad_text}
+use Rattle.std.specs.Str.{bytes_eq}
+use Rattle.ov_specs.specs.schema.SchemaTypes.{Schema}
+use Rattle.ov_specs.specs.operations.Transaction.{draws_wanted, Transacted, transaction, exhausted_results, failed_results}
+use Rattle.ov_specs.specs.values.Uuid.{Uuid}
+
+-- ---- what happens, and what the outside chose
+
+-- why a session is closed (own)
+pub data Cause : Type 0 where
+  InputEnded : Cause
+  ReadFault : Cause
+  WriteFault : Cause
+  Damaged : Cause
+  Overrun : Cause
+  Memory : Cause
+
+-- a session opens, a message of a session is taken, a session is closed, time passes (own)
+pub data Event : Type 0 where
+  Open : Event
+  Take : (session : ℕ) (message : Message) → Event
+  Close : (session : ℕ) (cause : Cause) → Event
+  Tick : Event
+
+-- what came of an attempt: the store kept its changes, had no room for them, or failed; or memory was refused (own)
+pub data Outcome : Type 0 where
+  Committed : Outcome
+  Exhausted : Outcome
+  Failed : Outcome
+  NoMemory : Outcome
+
+-- an attempt, by its number in the event from 1, and what came of it (own)
+pub record Attempt : Type 0 where
+  pub number : ℕ
+  pub outcome : Outcome
+
+-- The moment in milliseconds, the identifiers drawn, and what came of the attempts that are listed: an attempt that is not
+-- listed made no store call and was refused no memory (own).
+pub record Choice : Type 0 where
+  pub moment : ℕ
+  pub draws : List Uuid
+  pub outcomes : List Attempt
+
+-- an event with its choice (own)
+pub record Entry : Type 0 where
+  pub event : Event
+  pub choice : Choice
+
+-- ---- the state
+
+-- what the machine knows between two events (own)
+pub record State : Type 0 where
+  pub schema : Schema  -- of the database
+  pub database : Database  -- as it was committed
+  pub sealed : Option Database  -- after a commit that failed, the database that it would have made: nothing is committed any more
+  pub sessions : List ℕ  -- the open sessions by their serials, in order of opening
+  pub next : ℕ  -- the serial of the next session
+  pub moment : ℕ  -- the last one
+
+-- before any event: the database as it was opened, no session is open, serials begin with 1 (own)
+abbrev pub opening : Schema → Database → State
+opening schema database = record { schema = schema; database = database; sealed = None; sessions = []; next = 1; moment = 0 }
+
+-- What a crash may leave: the database as it was committed, or the one that a failed commit would have made (own).
+abbrev pub Left : State → Database → Type 0
+Left s d = (d ≡ s.database) ⊎ (s.sealed ≡ Some d)
+
+-- the session is open (own)
+abbrev pub is_open : State → ℕ → Bool
+is_open s session = list_any (λ n. n == session) s.sessions
+
+-- the state without the session (own)
+abbrev pub without_session : ℕ → State → State
+without_session session s = record s { sessions = filter (λ n. not (n == session)) s.sessions }
+
+-- a tree, and the session that it is sent to (own)
+pub record Sent : Type 0 where
+  pub session : ℕ
+  pub tree : Data
+
+-- a state, and what was sent on the way to it, in order (own)
+pub record Stepped : Type 0 where
+  pub state : State
+  pub sent : List Sent
+
+-- ---- the work on a message
+
+-- what a message asks for: to be answered at once, or a transaction (RFC 7047, 4.1)
+pub data Work : Type 0 where
+  Answers : (trees : List Data) → Work
+  Transact : (id : Data) (operations : Items) → Work
+
+-- a result, at once (JSON-RPC 1.0, 1.2)
+abbrev pub answered : Data → Data → Work
+answered id result = Answers (reply_tree id result ∷ [])
+
+-- an error in place of a result (JSON-RPC 1.0, 1.2)
+abbrev pub refused : Data → List ℕ → Work
+refused id text = Answers (failure_tree id text ∷ [])
+
+-- a transaction on the database that is named, which is the one that is served (RFC 7047, 4.1.3)
+abbrev pub transact_call_on : State → Data → Option (List ℕ) → Items → Work
+transact_call_on s id None operations = refused id (codes "syntax error")
+transact_call_on s id (Some name) operations = if bytes_eq name s.schema.name then Transact id operations else refused id (codes "unknown database")
+
+-- the params of "transact": the name of a database, and then the operations (RFC 7047, 4.1.3)
+abbrev pub transact_call : State → Data → Items → Work
+transact_call s id no_items = refused id (codes "syntax error")
+transact_call s id (item d operations) = transact_call_on s id (as_str d) operations
+
+-- the schema of the database that is named, which is the one that is served, as it was read (RFC 7047, 4.1.2)
+abbrev pub schema_call_on : State → Data → Option (List ℕ) → Work
+schema_call_on s id None = refused id (codes "syntax error")
+schema_call_on s id (Some name) = if bytes_eq name s.schema.name then answered id s.schema.tree else refused id (codes "unknown database")
+
+-- the params of "get_schema": the name of a database, and no more (RFC 7047, 4.1.2)
+abbrev pub schema_call : State → Data → Items → Work
+schema_call s id no_items = refused id (codes "syntax error")
+schema_call s id (item d no_items) = schema_call_on s id (as_str d)
+schema_call s id (item d (item e items)) = refused id (codes "syntax error")
+
+-- what a call asks for, method by method; no other is known (RFC 7047, 4.1.1, 4.1.2, 4.1.3, 4.1.11; the last is own)
+abbrev pub call_of : State → Data → List ℕ → Items → Work
+call_of s id method params =
+    if bytes_eq method (codes "list_dbs") then answered id (database_names s.schema.name)
+    else (if bytes_eq method (codes "get_schema") then schema_call s id params
+    else (if bytes_eq method (codes "transact") then transact_call s id params
+    else (if bytes_eq method (codes "echo") then answered id (array params)
+    else refused id (codes "unknown method"))))
+
+-- what a message asks for: a notification and an answer ask for nothing, and what can't be taken is told so (JSON-RPC 1.0, 1)
+abbrev pub work_of : State → Message → Work
+work_of s (Call id method params) = call_of s id method params
+work_of s (Note method params) = Answers []
+work_of s Answer = Answers []
+work_of s (Bad id kind) = refused id (bad_text kind)
+
+-- these trees, sent to the session (own)
+abbrev pub to_session : ℕ → List Data → List Sent
+to_session session trees = map (λ tree. record { session = session; tree = tree }) trees
+
+-- the session is closed, and is sent nothing (own)
+abbrev pub closed : State → ℕ → Stepped
+closed s session = record { state = without_session session s; sent = [] }
+
+-- what is listed of one attempt, and of those after it (own)
+pub record Listed : Type 0 where
+  pub outcome : Option Outcome
+  pub others : List Attempt
+
+-- what is listed of the attempt with this number, where the attempts before it are taken off the list (own)
+abbrev pub listed : ℕ → List Attempt → Listed
+listed number [] = record { outcome = None; others = [] }
+listed number (a ∷ attempts) = if a.number == number then record { outcome = Some a.outcome; others = attempts } else record { outcome = None; others = a ∷ attempts }
+
+-- An attempt that has nothing for the store: its trees are sent; where memory was refused the session at work is closed in
+-- place of that. The store answers nothing that it was not asked (own).
+abbrev pub attempted : State → ℕ → List Data → Option Outcome → Option Stepped
+attempted s session trees None = Some (record { state = s; sent = to_session session trees })
+attempted s session trees (Some NoMemory) = Some (closed s session)
+attempted s session trees (Some Committed) = None
+attempted s session trees (Some Exhausted) = None
+attempted s session trees (Some Failed) = None
+
+-- ---- a transaction
+
+-- the results of a transaction, as they are sent (RFC 7047, 4.1.3)
+abbrev pub results_of : Data → Items → List Data
+results_of id results = reply_tree id (array results) ∷ []
+
+-- the results, sent from this state (own)
+abbrev pub sends_results : State → ℕ → Data → Items → Stepped
+sends_results s session id results = record { state = s; sent = to_session session (results_of id results) }
+
+-- A transaction that changes the database asks the store. Where the store keeps the change, the database is the new one; where
+-- it has no room, nothing is changed; where it fails, the database stays and is sealed (own).
+abbrev pub commits : State → ℕ → Data → Transacted → Option Outcome → Option Stepped
+commits s session id t None = None
+commits s session id t (Some Committed) = Some (sends_results (record s { database = t.database }) session id t.results)
+commits s session id t (Some Exhausted) = Some (sends_results s session id (exhausted_results t.results))
+commits s session id t (Some Failed) = Some (sends_results (record s { sealed = Some t.database }) session id (failed_results t.results))
+commits s session id t (Some NoMemory) = Some (closed s session)
+
+-- a transaction that would change the database; a sealed one asks the store no more, and answers as where it fails (own)
+abbrev pub commits_unless_sealed : State → ℕ → Data → Transacted → Option Database → Option Outcome → Option Stepped
+commits_unless_sealed s session id t None outcome = commits s session id t outcome
+commits_unless_sealed s session id t (Some sealed) outcome = attempted s session (results_of id (failed_results t.results)) outcome
+
+-- what comes of a transaction: where it leaves the database as it was, the store is not asked (RFC 7047, 4.1.3)
+abbrev pub transacts : State → ℕ → Data → Transacted → Option Outcome → Option Stepped
+transacts s session id t outcome =
+    if same_database s.database t.database then attempted s session (results_of id t.results) outcome
+    else commits_unless_sealed s session id t s.sealed outcome
+
+-- As many identifiers are drawn as are wanted, or fewer where memory was refused on the way (own).
+abbrev pub is_draw_count : Option Outcome → ℕ → ℕ → Bool
+is_draw_count (Some NoMemory) drawn wanted = nat_le drawn wanted
+is_draw_count (Some Committed) drawn wanted = drawn == wanted
+is_draw_count (Some Exhausted) drawn wanted = drawn == wanted
+is_draw_count (Some Failed) drawn wanted = drawn == wanted
+is_draw_count None drawn wanted = drawn == wanted
+
+-- ---- one step
+
+-- no attempt is listed (own)
+abbrev pub none_listed : List Attempt → Bool
+none_listed attempts = length attempts == 0
+
+-- nothing was drawn (own)
+abbrev pub none_drawn : Choice → Bool
+none_drawn c = length c.draws == 0
+
+-- nothing was chosen but the moment (own)
+abbrev pub is_without_choice : Choice → Bool
+is_without_choice c = none_listed c.outcomes && none_drawn c
+
+-- the answer, where the choice suits (own)
+abbrev pub when : {A : Type 0} → Bool → Option A → Option A
+when suits answer = if suits then answer else None
+
+-- the work, with the identifiers that were drawn for it and what is listed of it (own)
+abbrev pub works : State → ℕ → List Uuid → Option Outcome → Work → Option Stepped
+works s session draws outcome (Answers trees) = when (is_draw_count outcome (length draws) 0) (attempted s session trees outcome)
+works s session draws outcome (Transact id operations) =
+    when (is_draw_count outcome (length draws) (draws_wanted operations)) (transacts s session id (transaction s.schema s.database draws operations) outcome)
+
+-- the work on a message is attempt 1 of its event, and nothing else is tried (own)
+abbrev pub takes : State → Choice → ℕ → Message → Listed → Option Stepped
+takes s c session message first = when (none_listed first.others) (works s session c.draws first.outcome (work_of s message))
+
+-- the event, at a moment that is the state's (own)
+abbrev pub happens : State → Choice → Event → Option Stepped
+happens s c Open = when (is_without_choice c) (Some (record { state = record s { sessions = s.sessions ++ s.next ∷ []; next = s.next + 1 }; sent = [] }))
+happens s c (Take session message) = when (is_open s session) (takes s c session message (listed 1 c.outcomes))
+happens s c (Close session cause) = when (is_without_choice c && is_open s session) (Some (closed s session))
+happens s c Tick = when (is_without_choice c) (Some (record { state = s; sent = [] }))
+
+-- the next state and what is sent, or None where the choice does not suit; the moment is not below the last one (own)
+abbrev pub step : State → Entry → Option Stepped
+step s e = when (nat_le s.moment e.choice.moment) (happens (record s { moment = e.choice.moment }) e.choice e.event)

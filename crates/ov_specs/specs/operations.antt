@@ -1,0 +1,5 @@
+pub mod Errors
+pub mod Conditions
+pub mod Mutators
+pub mod Operation
+pub mod Transaction

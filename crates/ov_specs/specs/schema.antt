@@ -1,0 +1,4 @@
+pub mod SchemaTypes
+pub mod SchemaShape
+pub mod Schema
+pub mod Fitting

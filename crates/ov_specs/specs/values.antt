@@ -1,0 +1,4 @@
+pub mod Uuid
+pub mod Value
+pub mod Reading
+pub mod Writing

@@ -1,0 +1,6 @@
+pub mod Balance
+pub mod Cut
+pub mod Tree
+pub mod Message
+pub mod Frame
+pub mod Method

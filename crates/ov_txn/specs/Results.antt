@@ -1,0 +1,17 @@
+-- How the results of a transaction grow, operation by operation.
+use Rattle.serde_json.specs.Data.{null, Items, no_items, item}
+use Rattle.ov_specs.specs.operations.Transaction.{Transacted, and_item}
+
+-- the results with a null behind them for each of these operations
+abbrev pub nulls_after : Items → Items → Items
+nulls_after results no_items = results
+nulls_after results (item d operations) = nulls_after (and_item results null) operations
+
+-- the ones, and then the others
+abbrev pub items_append : Items → Items → Items
+items_append no_items others = others
+items_append (item d items) others = item d (items_append items others)
+
+-- these results, and then what follows
+abbrev pub prefixed : Items → Transacted → Transacted
+prefixed results t = record t { results = items_append results t.results }
