@@ -55,9 +55,9 @@ fn answered_byte_by_byte(rt: HostRuntime) -> Result<(), Fail> {
     converses(rt.alloc(), cut_everywhere(rt.alloc())?.as_str())
 }
 
-/// What is sent for an input, and how many entries the history then has: for damage, an unfinished message, a real in an id, an
-/// unknown method, a notification, requests that are built wrong, a request, and nothing.
-const SMALL: [&str; 8] = [
+/// What is sent for an input, and how many entries the history then has: for damage, an unfinished message, a real in an id and a
+/// request behind one, an unknown method, a notification, requests that are built wrong, a request, and nothing.
+const SMALL: [&str; 9] = [
     r#">{"id":0,"method":"list_dbs","params":[]}] {"id":0,"method":"list_dbs","params":[]}
 <{"error":null,"id":0,"result":["Net"]}
 entries -> 3"#,
@@ -65,6 +65,9 @@ entries -> 3"#,
 <
 entries -> 1"#,
     r#">{"id":1.5,"method":"echo","params":[]}
+<
+entries -> 2"#,
+    r#">{"id":1.5}{"id":0,"method":"list_dbs","params":[]}
 <
 entries -> 2"#,
     r#">{"id":1,"method":"get_server_id","params":[]}

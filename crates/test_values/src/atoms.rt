@@ -14,6 +14,8 @@ use uuid::Uuid;
 
 const INTEGERS: Kinds = Kinds::Single(AtomKind::Integer);
 
+const BOOLEANS: Kinds = Kinds::Single(AtomKind::Boolean);
+
 const TEXTS: Kinds = Kinds::Single(AtomKind::Text);
 
 const UUIDS: Kinds = Kinds::Single(AtomKind::Uuid);
@@ -41,6 +43,7 @@ const SETS_OF_INTEGERS: &str = r#"["set",[3,1,3]] -> ["set",[1,3]]
 7 -> 7
 ["set",[]] -> ["set",[]]
 ["set",[true]] -> syntax
+["set",[7,"7"]] -> syntax
 ["set",[["set",[7]]]] -> syntax
 ["set",7] -> syntax
 ["set",[7],7] -> syntax
@@ -55,7 +58,8 @@ const MAPS_OF_COUNTS: &str = r#"["map",[["b",1],["a",2]]] -> ["map",[["a",2],["b
 ["map",[["a",1,1]]] -> syntax
 ["map",[]] -> ["map",[]]
 ["set",[]] -> syntax
-["a",1] -> syntax"#;
+["a",1] -> syntax
+["map",["a",1]] -> syntax"#;
 
 const NUMBERS: &str = r#"9223372036854775807 -> 9223372036854775807
 -9223372036854775808 -> -9223372036854775808
@@ -63,11 +67,16 @@ const NUMBERS: &str = r#"9223372036854775807 -> 9223372036854775807
 18446744073709551615 -> syntax
 -9223372036854775809 -> syntax
 -0 -> syntax
-1.0 -> syntax"#;
+1.0 -> syntax
+1e3 -> syntax"#;
+
+const TRUTHS: &str = r#"true -> true
+1 -> syntax"#;
 
 const STRINGS: &str = r#""" -> ""
 "\u00e9" -> "é"
 "a\u0000b" -> syntax
+null -> syntax
 ["set",["b","B","ab"]] -> ["set",["B","ab","b"]]"#;
 
 const IDENTIFIERS: &str =
@@ -76,6 +85,7 @@ const IDENTIFIERS: &str =
 ["uuid","550e8400e29b41d4a716446655440000"] -> syntax
 ["uuid","550e8400e29b-41d4-a716-4466-55440000"] -> syntax
 ["uuid","550e8400-e29b-41d4-a716-44665544000g"] -> syntax
+["uuid","{550e8400-e29b-41d4-a716-446655440000}"] -> syntax
 "550e8400-e29b-41d4-a716-446655440000" -> syntax
 ["named-uuid","a"] -> syntax"#;
 
@@ -124,6 +134,11 @@ fn a_number_has_64_bits(rt: HostRuntime) -> Result<(), Fail> {
 }
 
 #[test]
+fn a_number_is_no_truth_value(rt: HostRuntime) -> Result<(), Fail> {
+    are_rewritten(rt.alloc(), BOOLEANS, TRUTHS)
+}
+
+#[test]
 fn a_text_has_no_nul(rt: HostRuntime) -> Result<(), Fail> {
     are_rewritten(rt.alloc(), TEXTS, STRINGS)
 }
@@ -145,6 +160,7 @@ fn a_name_is_read_as_the_row_that_has_it(rt: HostRuntime) -> Result<(), Fail> {
     assert!(rt; is_named(rt.alloc(), "[\"named-uuid\",\"a\"]")?);
     assert!(rt; !is_named(rt.alloc(), "[\"named-uuid\",\"b\"]")?);
     assert!(rt; !is_named(rt.alloc(), "[\"named-uuid\",\"a b\"]")?);
+    assert!(rt; !is_named(rt.alloc(), "[\"named-uuid\",\"a\",\"a\"]")?);
     Ok(())
 }
 

@@ -11,6 +11,13 @@ const BOTH: &str =
 const CUT: &str =
     r#"{"id":0,"method":"list_dbs","params":[]}|{"id":"x","method":"echo","params":["a\"}",{}]}|"#;
 
+/// A brace in a literal, behind an escaped quote, behind an escaped backslash; white space before, between and behind.
+const BRACES: &str = r#"{"a":"}"} -> {"a":"}"}|None
+{"a\"}":1} -> {"a\"}":1}|None
+{"a\\":{}} -> {"a\\":{}}|None
+ {} {"a":{}}  -> {}|{"a":{}}|None
+rest"#;
+
 /// A stray bracket is told by its offset, whatever comes behind it.
 const STRAY: &str =
     r#"{"id":0,"method":"list_dbs","params":[]} -> {"id":0,"method":"list_dbs","params":[]}|None
@@ -103,6 +110,11 @@ fn two_messages_may_come_byte_by_byte(rt: HostRuntime) -> Result<(), Fail> {
 }
 
 #[test]
+fn a_message_ends_with_its_own_brace(rt: HostRuntime) -> Result<(), Fail> {
+    agrees(rt.alloc(), Cut::new(rt.alloc()), BRACES)
+}
+
+#[test]
 fn a_stray_bracket_is_told_by_its_offset_from_then_on(rt: HostRuntime) -> Result<(), Fail> {
     agrees(rt.alloc(), Cut::new(rt.alloc()), STRAY)
 }
@@ -161,10 +173,12 @@ fn an_unfinished_message_may_be_too_long(rt: HostRuntime) -> Result<(), Fail> {
 }
 
 #[test]
-fn a_byte_order_mark_is_damage(rt: HostRuntime) {
-    let fed = Cutter::new(rt.alloc()).feed(rt.alloc(), b"\xEF\xBB\xBF{}");
-    assert_eq!(rt; fed.fault, Some(CutFault::Damaged(0)));
-    assert!(rt; fed.messages.is_empty());
+fn a_byte_order_mark_is_damage_and_so_is_a_closing_brace(rt: HostRuntime) {
+    for text in [b"\xEF\xBB\xBF{}".as_slice(), b"}{"] {
+        let fed = Cutter::new(rt.alloc()).feed(rt.alloc(), text);
+        assert_eq!(rt; fed.fault, Some(CutFault::Damaged(0)));
+        assert!(rt; fed.messages.is_empty());
+    }
 }
 
 #[test]

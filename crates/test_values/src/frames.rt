@@ -1,50 +1,52 @@
-use ov_base::{Bytes, Tree, Trees};
+use ov_base::Bytes;
 use ov_rpc::{failure, note, reply};
 use std::alloc::Global;
 use std::test::Fail;
-use test_support::{Scripted, agrees, tree};
+use test_support::{Scripted, agrees, tree, trees};
 
 /// Each frame is these bytes.
 const FRAMES: &str =
     r#"reply [7,{"z":-1,"a":true}] ["OVN_Northbound"] -> {"error":null,"id":[7,{"a":true,"z":-1}],"result":["OVN_Northbound"]}
 failure "x" unknown method -> {"error":"unknown method","id":"x","result":null}
-note echo -> {"id":null,"method":"echo","params":[]}"#;
+note echo [] -> {"id":null,"method":"echo","params":[]}
+note locked ["L"] -> {"id":null,"method":"locked","params":["L"]}"#;
 
 fn text_of(frame: Bytes) -> Result<String, Fail> {
     Ok(String::from_utf8(frame.into_vec())?)
 }
 
-fn reply_of(alloc: Global, id: Tree, outcome: &str) -> Result<String, Fail> {
+fn reply_of(alloc: Global, id: &str, outcome: &str) -> Result<String, Fail> {
     let outcome = tree(alloc, outcome)?;
-    text_of(reply(alloc, id, outcome)?)
+    text_of(reply(alloc, tree(alloc, id)?, outcome)?)
 }
 
-/// The commands are `reply ID RESULT`, `failure ID ERROR`, and `note METHOD` without params.
+fn failure_of(alloc: Global, id: &str, error: &str) -> Result<String, Fail> {
+    text_of(failure(alloc, tree(alloc, id)?, error)?)
+}
+
+fn note_of(alloc: Global, method: &str, params: &str) -> Result<String, Fail> {
+    text_of(note(alloc, method, trees(alloc, params)?)?)
+}
+
+/// The commands are `reply ID RESULT`, `failure ID ERROR` and `note METHOD PARAMS`.
 #[derive(Drop)]
 struct Frames;
 
 impl Scripted for Frames {
     fn answer(&mut self, alloc: Global, command: &str) -> Result<String, Fail> {
         let (kind, rest) = command.split_once(" ").ok_or("no kind")?;
-        if kind == "note" {
-            return text_of(note(alloc, rest, Trees::new(Vec::new(alloc)))?);
+        let (first, second) = rest.split_once(" ").ok_or("one part")?;
+        match kind {
+            "reply" => reply_of(alloc, first, second),
+            "failure" => failure_of(alloc, first, second),
+            _ => note_of(alloc, first, second),
         }
-        let (id, rest) = rest.split_once(" ").ok_or("no id")?;
-        if kind == "reply" {
-            return reply_of(alloc, tree(alloc, id)?, rest);
-        }
-        text_of(failure(alloc, tree(alloc, id)?, rest)?)
     }
 }
 
 #[test]
 fn each_frame_is_these_bytes(rt: HostRuntime) -> Result<(), Fail> {
     agrees(rt.alloc(), Frames, FRAMES)
-}
-
-/// The frame that tells nobody of this error.
-fn failed(alloc: Global, error: &str) -> Result<String, Fail> {
-    text_of(failure(alloc, tree(alloc, "null")?, error)?)
 }
 
 #[test]
@@ -62,7 +64,7 @@ fn texts_are_printed_with_these_escapes(rt: HostRuntime) -> Result<(), Fail> {
             "\u{80}\u{e9}\u{20ac}\u{2028}\u{feff}\u{1f600}",
         ),
     ] {
-        let frame = failed(rt.alloc(), text)?;
+        let frame = failure_of(rt.alloc(), "null", text)?;
         let want = format!(in rt.alloc(); "{{\"error\":\"{want}\",\"id\":null,\"result\":null}}")?;
         assert_eq!(rt; frame.as_str(), want.as_str(), "at {want}");
     }

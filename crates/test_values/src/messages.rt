@@ -27,25 +27,29 @@ const NUMBERS_OF_IDS: &str = r#"1.5 -> unreadable
 [0, 0.5] -> unreadable
 {"a": {"b": 1e0}} -> unreadable"#;
 
-/// An escaped quote; no id; an escaped name and a pair of surrogates.
+/// An escaped quote; no id; an escaped name and a pair of surrogates; the greatest number; a result beside a method.
 const MEMBERS: &str = r#"{"id":0,"method":"echo","params":["a\"b}"]} -> call 0 echo ["a\"b}"]
 {"method":"m","params":[1]} -> note m [1]
-{"\u0069d":1,"method":"\ud83d\ude00","params":[]} -> call 1 😀 []"#;
+{"\u0069d":1,"method":"\ud83d\ude00","params":[]} -> call 1 😀 []
+{"id":1,"method":"m","params":[9223372036854775807]} -> call 1 m [9223372036854775807]
+{"id":1,"method":"m","params":[],"result":1} -> call 1 m []"#;
 
 /// The last of several members of one name counts.
 const REPEATED: &str =
     r#"{"id":1.5,"method":7,"params":{},"id":2,"method":"m","params":[]} -> call 2 m []
 {"id":2,"method":"m","params":[],"id":null} -> note m []"#;
 
-/// A request that is built wrong is told to who asked. A method that is null is there, so a result beside it makes no answer.
-/// Of the last four nobody asked.
+/// A request that is built wrong is told to who asked. A method that is no text is there, so a result beside it makes no
+/// answer. Of the last five nobody asked.
 const BUILT_WRONG: &str = r#"{"id":1,"params":[]} -> bad 1 syntax
 {"id":1,"method":"m"} -> bad 1 syntax
 {"id":1,"method":7,"params":[]} -> bad 1 syntax
 {"id":["a"],"method":"m","params":{}} -> bad ["a"] syntax
 {"id":1,"method":null,"params":[],"result":0} -> bad 1 syntax
+{"id":1,"method":2,"result":1} -> bad 1 syntax
 {"method":7,"params":[]} -> answer
 {"id":null,"method":"m","params":null} -> answer
+{"method":"m"} -> answer
 {} -> answer
 [] -> answer"#;
 
@@ -54,22 +58,25 @@ const ANSWERS: &str = r#"{"id":1,"result":[],"error":null} -> answer
 {"error":"x"} -> answer
 {"id":1,"result":null,"params":[]} -> answer"#;
 
-/// A real outside the id is told to who asked, also where the text is built wrong, or is an answer. A later member of the same
-/// name replaces it.
+/// A real outside the id is told to who asked, also where the text is built wrong, or is an answer; one in the id goes before
+/// it. A later member of the same name replaces it.
 const REALS: &str = r#"{"id":1,"method":"m","params":[0.5]} -> bad 1 reals
 {"id":1,"method":"m","params":[{"a":[-0]}]} -> bad 1 reals
 {"id":1,"method":"m","params":[9223372036854775808]} -> bad 1 reals
 {"id":"a","method":"m","params":[],"x":1e0} -> bad "a" reals
 {"id":1,"params":0.5} -> bad 1 reals
 {"id":1,"result":0.5} -> bad 1 reals
+{"id":1.5,"method":"m","params":[1.5]} -> unreadable
+{"error":1.5} -> answer
 {"method":"m","params":[0.5]} -> answer
 {"id":null,"method":"m","params":[0.5]} -> answer
 [0.5] -> answer
 {"id":1,"method":"m","params":[0.5],"params":[]} -> call 1 m []"#;
 
-/// A text that is no JSON: nothing, a number that no value is read of, more behind it, a comma too many, surrogates that stand
+/// A text that is no JSON: nothing, a name without a value, a number that no value is read of, more behind it, a comma too many, surrogates that stand
 /// alone.
 const NO_JSON: &str = r#" -> unreadable
+{"id"} -> unreadable
 {"id":1,"method":"m","params":[1e999]} -> unreadable
 {"id":1,"method":"m","params":[]}{} -> unreadable
 {"id":1,"method":"m","params":[],} -> unreadable

@@ -29,6 +29,7 @@ const BORDERS: &str = r#"9223372036854775806 ["load","+=",1] -> 9223372036854775
 9223372036854775807 ["load","+=",1] -> range
 -9223372036854775807 ["load","+=",-1] -> -9223372036854775808
 -9223372036854775808 ["load","+=",-1] -> range
+-9223372036854775808 ["load","+=",9223372036854775807] -> -1
 -9223372036854775807 ["load","-=",1] -> -9223372036854775808
 -9223372036854775808 ["load","-=",1] -> range
 9223372036854775807 ["load","-=",-1] -> range
@@ -47,6 +48,7 @@ const BORDERS: &str = r#"9223372036854775806 ["load","+=",1] -> 9223372036854775
 
 /// Each number of a set is computed; results that fall together are refused, and nothing is divided by zero.
 const COMPUTED_SETS: &str = r#"["set",[1,2]] ["tags","+=",10] -> ["set",[11,12]]
+["set",[1,2]] ["tags","+=",["set",[10]]] -> ["set",[11,12]]
 ["set",[1,2]] ["tags","*=",-1] -> ["set",[-2,-1]]
 ["set",[1,2]] ["tags","*=",0] -> constraint
 ["set",[2,3]] ["tags","/=",2] -> constraint

@@ -11,7 +11,8 @@ const TEXTS: &str = r#"{ "tables": {}, "name": "N" } -> {"name":"N","tables":{}}
  -> the schema is no JSON
 [] -> the schema is built wrong
 {"name":"N","tables":{},"version":"1"} -> the version of the schema is not three numbers with dots between
-{"name":"","tables":{},"more":1.0} -> the schema has reals, which are not supported"#;
+{"name":"","tables":{},"more":1.0} -> the schema has reals, which are not supported
+{"name":"N","tables":{},"version":"1.0","more":1.5} -> the schema has reals, which are not supported"#;
 
 /// The text of an answer.
 fn told(alloc: Global, answer: Result<Schema, SchemaFileFault>) -> Result<String, Fail> {

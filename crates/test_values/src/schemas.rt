@@ -40,7 +40,10 @@ const ANSWERS: &str = r#"{"name":"Net","tables":{},"own":null} -> accepted
 {"name":"A","tables":{"T":{"columns":{"c":{"type":{"key":{"type":"integer","enum":true}}},"d":{"type":{"key":{"type":"uuid","refTable":"T","refType":"feeble"}}}}}}} -> BadRefType
 {"name":"A","tables":{"S":{"columns":{"c":{"type":"string"}},"indexes":[["d"]]},"T":{"columns":{"d":{"type":{"key":{"type":"integer","enum":["set",[1,"x"]]}}}}}}} -> BadEnum
 {"name":"A","tables":{"S":{"columns":{"c":{"type":{"key":{"type":"uuid","refTable":"S"},"value":{"type":"uuid","refTable":"S","refType":"weak"}}}}},"T":{"columns":{"e":{"type":"string","ephemeral":true}},"indexes":[["e"]]}}} -> BadIndex
-{"name":"A","tables":{"T":{"columns":{"c":{"type":{"key":{"type":"uuid","refTable":"T","refType":"weak"},"value":{"type":"uuid","refTable":"T"}}}}}}} -> StrongWeakMap"#;
+{"name":"A","tables":{"T":{"columns":{"c":{"type":{"key":{"type":"uuid","refTable":"T","refType":"weak"},"value":{"type":"uuid","refTable":"T"}}}}}}} -> StrongWeakMap
+{"name":"A","tables":{"T":{"columns":{"c":{"type":{"key":{"type":"integer","refTable":"T"}}}}}}} -> BadRefType
+{"name":"A","tables":{"T":{"columns":{"c":{"type":{"key":{"type":"integer","refTable":"U"}}}}}}} -> UnknownRefTable
+{"name":"A","tables":{"T":{"columns":{"c":{"type":"string"}},"indexes":[["_version"]]}}} -> BadIndex"#;
 
 /// The answer to a schema.
 #[derive(Drop)]
