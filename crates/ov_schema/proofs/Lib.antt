@@ -6,3 +6,4 @@ pub mod RefusalLemmas
 pub mod FittingLemmas
 pub mod BuildingLemmas
 pub mod TextLemmas
+pub mod VersionLemmas

@@ -1,4 +1,4 @@
-ghost use Rattle.std.specs.Prelude.{◌≡◌, false};
+ghost use Rattle.std.specs.Prelude.{◌≡◌};
 ghost use Rattle.ov_specs.specs.schema.Schema.{is_bad_name, is_digit, is_version};
 
 use ov_atoms::is_id;
@@ -12,7 +12,7 @@ pub(crate) fn is_bad_name(name: &str) -> bool
 
 /// Whether a text is three numbers with dots between (RFC 7047, 3.1, `<version>`).
 pub(crate) fn is_version(text: &str) -> bool
-    ensures { result ≡ is_version text.now 2 false }
+    ensures { result ≡ is_version text.now }
 {
     let bytes = text.as_bytes();
     let mut parts: u8 = 2;

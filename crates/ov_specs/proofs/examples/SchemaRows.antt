@@ -1,9 +1,9 @@
 -- Worked schemas, refusal by refusal.
-use Rattle.std.proofs.Common.{◌≡◌, ◌++◌, ℕ, List, [], Option, Some, None, Result, Ok, Err, option_and_then, option_map, refl, codes}
+use Rattle.std.proofs.Common.{◌≡◌, ◌++◌, ℕ, List, [], ◌∷◌, Option, Some, None, true, false, Result, Ok, Err, option_and_then, option_map, refl, codes}
 use Rattle.serde_json.specs.Read.{read}
 use Rattle.serde_json.proofs.OnLiterals.{serde_json_on_literals}
 use Rattle.ov_specs.specs.schema.SchemaTypes.{Schema}
-use Rattle.ov_specs.specs.schema.Schema.{SchemaRefusal, BadMember, BadName, BadVersion, NoColumns, BadRange, RealNotSupported, UnknownRefTable, BadRefType, BadEnum, BadIndex, StrongWeakMap, accepted}
+use Rattle.ov_specs.specs.schema.Schema.{SchemaRefusal, BadMember, BadName, BadVersion, NoColumns, BadRange, RealNotSupported, UnknownRefTable, BadRefType, BadEnum, BadIndex, StrongWeakMap, accepted, split_at_dots, is_version}
 
 -- the refusal, if there is one
 abbrev refusal_in_answer : Result Schema SchemaRefusal → Option SchemaRefusal
@@ -13,6 +13,35 @@ refusal_in_answer (Err refusal) = Some refusal
 -- the refusal of a text that is a tree; the inner None: it is accepted
 abbrev refusal_in : List ℕ → Option (Option SchemaRefusal)
 refusal_in text = option_map (λ d. refusal_in_answer (accepted d)) (read text)
+
+-- ---- versions
+
+pub parts_of_a_version : split_at_dots (codes "1.20.3") ≡ codes "1" ∷ codes "20" ∷ codes "3" ∷ []
+parts_of_a_version = refl
+
+pub three_numbers : is_version (codes "1.20.3") ≡ true
+three_numbers = refl
+
+pub two_numbers : is_version (codes "1.20") ≡ false
+two_numbers = refl
+
+pub four_numbers : is_version (codes "1.20.3.4") ≡ false
+four_numbers = refl
+
+pub empty_first : is_version (codes ".20.3") ≡ false
+empty_first = refl
+
+pub empty_between : is_version (codes "1..3") ≡ false
+empty_between = refl
+
+pub empty_last : is_version (codes "1.20.") ≡ false
+empty_last = refl
+
+pub letter_in_version : is_version (codes "1.2x.3") ≡ false
+letter_in_version = refl
+
+pub empty_version : is_version [] ≡ false
+empty_version = refl
 
 -- ---- a network of switches and ports
 

@@ -1,7 +1,7 @@
 -- Which schemas are accepted, and with which refusal the others are not (RFC 7047, 3.2).
-use Rattle.std.specs.Prelude.{ℕ, ℤ, pos, int_lt, nat_le, Bool, true, false, not, ◌&&◌, ◌||◌, ◌==◌, List, [], ◌∷◌, if◌then◌else◌, Option, Some, None, is_some, is_none, codes, ◌-◌, ◌++◌, map, option_map, unwrap_or, Result, Ok, Err}
+use Rattle.std.specs.Prelude.{ℕ, ℤ, pos, int_lt, nat_le, Bool, true, false, not, ◌&&◌, ◌||◌, ◌==◌, List, [], ◌∷◌, if◌then◌else◌, Option, Some, None, is_some, is_none, codes, length, ◌++◌, map, option_map, unwrap_or, Result, Ok, Err}
 use Rattle.std.specs.FinMap.{from_entries}
-use Rattle.std.specs.List.{list_any}
+use Rattle.std.specs.List.{list_all, list_any}
 use Rattle.std.specs.Str.{bytes_eq}
 use Rattle.serde_json.specs.Data.{Data}
 use Rattle.ov_specs.specs.wire.Tree.{has_real}
@@ -68,17 +68,27 @@ has_bad_name s = is_bad_name s.name || any_table (λ name t. is_bad_name name) s
 abbrev pub is_digit : ℕ → Bool
 is_digit c = nat_le 48 c && nat_le c 57
 
--- so many parts of digits are still to come behind this one, which has a digit or none so far (RFC 7047, 3.1, <version>)
-abbrev pub is_version : List ℕ → ℕ → Bool → Bool
-is_version [] parts begun = (parts == 0) && begun
-is_version (c ∷ cs) parts begun =
-    if is_digit c then is_version cs parts true
-    else if (c == 46) && begun && not (parts == 0) then is_version cs (parts - 1) false
-    else false
+-- one digit or more (RFC 7047, 3.1, <version>)
+abbrev pub is_number : List ℕ → Bool
+is_number part = not (is_empty part) && list_all is_digit part
+
+-- the character, put before the first part (own)
+abbrev pub before_parts : ℕ → List (List ℕ) → List (List ℕ)
+before_parts c [] = []
+before_parts c (part ∷ parts) = (c ∷ part) ∷ parts
+
+-- the parts of a text between its dots, one more than it has dots (own)
+abbrev pub split_at_dots : List ℕ → List (List ℕ)
+split_at_dots [] = [] ∷ []
+split_at_dots (c ∷ cs) = if c == 46 then [] ∷ split_at_dots cs else before_parts c (split_at_dots cs)
+
+-- three numbers with a dot between (RFC 7047, 3.1, <version>)
+abbrev pub is_version : List ℕ → Bool
+is_version text = let parts = split_at_dots text in (length parts == 3) && list_all is_number parts
 
 -- a version that is not three numbers with dots between (RFC 7047, 3.1, <version>)
 abbrev pub has_bad_version : SchemaShape → Bool
-has_bad_version s = is_some_and (λ v. not (is_version v 2 false)) s.version
+has_bad_version s = is_some_and (λ v. not (is_version v)) s.version
 
 -- a table without columns (own)
 abbrev pub has_no_columns : SchemaShape → Bool
