@@ -9,7 +9,7 @@ use Rattle.ov_specs.specs.values.Value.{Atom, AtomMap, atom_cmp, map_of}
 use Rattle.ov_specs.specs.values.Reading.{differ_at_one_key, has_clash}
 use Rattle.ov_specs.proofs.laws.Order.{atom_cmp_total, atom_cmp-IsAntisymmetric}
 use Rattle.ov_specs.proofs.laws.Inserting.{same}
-use Rattle.ov_specs.proofs.laws.Clashing.{same-is, same-itself, same-swap, differ-swap, differ-itself, or_regroup}
+use Rattle.ov_specs.proofs.laws.Clashing.{same-is, same-itself, differ-swap, differ-itself, or_regroup}
 
 abbrev Pair : Type 0
 Pair = Atom × Atom

@@ -1,5 +1,5 @@
 -- Values compared by their lists stand as the values do.
-use Rattle.std.proofs.Common.{◌≡◌, ℕ, List, [], ◌∷◌, Bool, true, false, cond, not, T, ◌&&◌, ◌||◌, Some, option_map, refl, sym, ap, subst, ◌∙◌, Less}
+use Rattle.std.proofs.Common.{◌≡◌, ℕ, List, [], ◌∷◌, true, false, cond, not, T, ◌&&◌, ◌||◌, Some, option_map, refl, sym, ap, subst, ◌∙◌, Less}
 use Rattle.std.specs.List.{list_any, list_all}
 use Rattle.std.specs.Option.{unwrap_or}
 use Rattle.std.specs.Ordering.{is_eq}

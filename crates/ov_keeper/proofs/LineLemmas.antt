@@ -1,16 +1,11 @@
 -- Lists of lines, as the map that they make.
-use Rattle.std.proofs.Common.{◌≡◌, ◌↔◌, ℕ, List, [], ◌∷◌, ◌++◌, map, filter, Bool, true, false, not, cond, IsTrue, Some, None, refl, sym, ap, ◌∙◌, ◌+◌, ◌<◌, length, take, get_or, add-one}
-use Rattle.std.specs.declared.cmp.Ordering.{Ordering}
-use Rattle.std.specs.declared.cmp.Ordering.TheVariants.{Less, Equal, Greater}
-use Rattle.std.specs.Ordering.{nat_cmp, is_eq, eq_by_cmp}
-use Rattle.std.specs.Cmp.{IsTotalOrder, eq_by_cmp_equiv}
-use Rattle.std.specs.Cmp.Lexicographic.{slice_cmp, nat_list_cmp_total}
-use Rattle.std.specs.FinMap.{empty, nat_cmp-IsAntisymmetric, slice_cmp-IsAntisymmetric, find, get, insert, remove, from_entries, get-from_entries, get-insert, get-remove, same_map, from_entries_push}
+use Rattle.std.proofs.Common.{◌≡◌, ◌↔◌, ℕ, List, [], ◌∷◌, ◌++◌, map, filter, Bool, true, false, not, cond, Some, None, refl, sym, ap, ◌∙◌, ◌+◌, ◌<◌, length, take, get_or, add-one}
+use Rattle.std.specs.Ordering.{eq_by_cmp}
+use Rattle.std.specs.Cmp.{eq_by_cmp_equiv}
+use Rattle.std.specs.FinMap.{empty, find, get, insert, remove, from_entries, get-from_entries, get-insert, get-remove, same_map, from_entries_push}
 use Rattle.std.specs.Map.{lookup}
-use Rattle.std.proofs.lemmas.Cmp.{on_total, then_total}
 use Rattle.std.proofs.lemmas.List.{map-append}
 use Rattle.std.proofs.lemmas.Map.Entries.{lookup-filter-keys}
-use Rattle.std.proofs.lemmas.Map.Lookups.{CmpEqualImpliesEq, exact_pairs}
 use Rattle.std.proofs.Math.Seq.{take-suc}
 use Rattle.ov_specs.specs.rows.Lines.{LineKey, LineBody, LineChange, Lines, line_cmp, after_change, after_changes}
 use Rattle.ov_keeper.specs.declared.line.Line.{Line}

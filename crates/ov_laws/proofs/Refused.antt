@@ -1,9 +1,9 @@
 -- A refused transaction changes nothing.
-use Rattle.std.proofs.Common.{◌≡◌, ℕ, List, [], ◌∷◌, length, refl, sym, ap, ◌∙◌, cond, Bool, true, false, Option, Some, None, arith}
+use Rattle.std.proofs.Common.{◌≡◌, ℕ, List, [], ◌∷◌, length, refl, sym, ap, ◌∙◌, cond, Bool, true, false, Option, Some, None}
 use Rattle.std.specs.Prelude.{not, codes, Result, Ok, Err, ◌||◌}
 use Rattle.std.specs.FinMap.{contains_key, get}
 use Rattle.std.specs.Prelude.{option_and_then}
-use Rattle.serde_json.specs.Data.{Data, Items, no_items, item, array}
+use Rattle.serde_json.specs.Data.{Data, Items, no_items, item}
 use Rattle.serde_json.specs.Find.{as_object, as_array}
 use Rattle.serde_json.specs.Find as find
 use Rattle.ov_specs.specs.rows.Database.{Database, Columns, same_database}
@@ -13,7 +13,7 @@ use Rattle.std.specs.Str.{bytes_eq}
 use Rattle.ov_specs.specs.operations.Errors.{OpError, SyntaxError, UnknownTable}
 use Rattle.ov_specs.specs.operations.Operation.{Staged, OperationResult, Succeeds, Fails, some_or_fail, ok_or_fail, operation, insert_row, new_columns, put_under, select_rows, no_names, conditions_read, selected_columns, array_at, text_at}
 use Rattle.ov_specs.specs.schema.SchemaTypes.{Schema}
-use Rattle.ov_specs.specs.operations.Transaction.{Transacted, transaction, perform, after_operation, with_result, nulls, draws_wanted, exhausted_results, failed_results}
+use Rattle.ov_specs.specs.operations.Transaction.{Transacted, transaction, perform, after_operation, draws_wanted, exhausted_results, failed_results}
 use Rattle.ov_specs.specs.values.Uuid.{Uuid}
 use Rattle.ov_laws.specs.Refused.{has_error}
 use Rattle.std.proofs.lemmas.Option.{same_Some}

@@ -1,5 +1,5 @@
 -- The columns of the code as those of the definitions.
-use Rattle.std.proofs.Common.{◌≡◌, ℕ, List, [], ◌∷◌, Bool, true, false, cond, T, ◌&&◌, ◌||◌, Some, refl, sym, ap, ◌∙◌, String, string_bytes, Global, Ordering, Less, Equal, Greater}
+use Rattle.std.proofs.Common.{◌≡◌, ℕ, List, [], ◌∷◌, Bool, false, cond, T, ◌&&◌, ◌||◌, Some, refl, sym, ap, ◌∙◌, String, string_bytes, Global, Ordering, Less, Equal, Greater}
 use Rattle.std.specs.BTreeMap.{insert_entry, is_at}
 use Rattle.std.specs.Cmp.Lexicographic.{slice_cmp, nat_list_cmp_total}
 use Rattle.std.specs.FinMap.{find, put, is_sorted, insert, get, entries, get-from_sorted, entries-from_sorted, entries-insert, same_entries_map}

@@ -1,5 +1,5 @@
 -- Which message a text is, by what was read of it.
-use Rattle.std.proofs.Common.{◌≡◌, List, ℕ, Bool, true, false, Option, Some, None, BTreeMap, String, Global, refl, sym, ap, ◌∙◌, subst, option_and_then, option_map}
+use Rattle.std.proofs.Common.{◌≡◌, List, ℕ, Bool, true, false, Option, Some, None, BTreeMap, String, Global, refl, sym, ap, ◌∙◌, subst, option_map}
 use Rattle.std.specs.Option.{ForSome}
 use Rattle.std.specs.Ordering.{nat_cmp, match_ordering}
 use Rattle.std.specs.Cmp.Lexicographic.{slice_cmp}

@@ -1,17 +1,17 @@
 -- What a session begins with.
-use Rattle.std.proofs.Common.{◌≡◌, ℕ, ◌≤◌, List, [], ◌∷◌, length, Bool, true, false, Option, None, refl, sym, ap, ◌∙◌, max, append-nil}
+use Rattle.std.proofs.Common.{◌≡◌, ℕ, ◌≤◌, List, [], ◌∷◌, length, true, false, Option, None, refl, sym, ap, ◌∙◌, max, append-nil}
 use Rattle.std.specs.Prelude.{◌||◌}
 use Rattle.std.proofs.lemmas.List.Elements.{All-nil}
 use Rattle.std.proofs.lemmas.Bool.{eq-eqb}
 use Rattle.ov_specs.specs.wire.Cut.{cut}
 use Rattle.ov_specs.specs.wire.Message.{asked}
 use Rattle.ov_specs.specs.machine.Machine as machine
-use Rattle.ov_specs.specs.machine.Machine.{State, is_open, listed}
+use Rattle.ov_specs.specs.machine.Machine.{is_open, listed}
 use Rattle.ov_specs.specs.values.Uuid.{Uuid}
 use Rattle.ov_specs.specs.machine.History.{closing_cause}
 use Rattle.std.specs.Option.{option_or}
 use Rattle.ov_specs.specs.machine.Streams as streams
-use Rattle.ov_specs.specs.machine.Streams.{Opens, no_streams, Expands, ExpandsTimed}
+use Rattle.ov_specs.specs.machine.Streams.{Opens, no_streams, Expands}
 use Rattle.ov_specs.proofs.laws.Expanding.{one_event}
 use Rattle.ov_specs.proofs.laws.Turns.{turn_open}
 use Rattle.ov_cut.specs.CutterState.{CutterState, StandsFor}

@@ -1,13 +1,10 @@
 -- What a history does to sessions that are not open.
-use Rattle.std.proofs.Common.{◌≡◌, ◌≢◌, ℕ, ◌+◌, ◌≤◌, List, [], ◌∷◌, ◌++◌, length, map, refl, sym, ap, ◌∙◌, cond, eqb, leb, Bool, true, false, Option, Some, None, inl, inr, arith}
+use Rattle.std.proofs.Common.{◌≡◌, ◌≢◌, ℕ, ◌+◌, ◌≤◌, List, [], ◌∷◌, ◌++◌, length, refl, sym, ap, ◌∙◌, cond, Bool, true, false, Option, Some, None, inl, inr, arith}
 use Rattle.std.specs.Prelude.{◌&&◌, option_map, option_and_then}
-use Rattle.std.proofs.lemmas.List.{map-append}
-use Rattle.std.proofs.lemmas.List.Elements.{filter-append}
 use Rattle.std.proofs.lemmas.Bool.{cases_eq, and_parts, ne_eqb, false≢true}
 use Rattle.serde_json.specs.Data.{Data}
-use Rattle.ov_specs.specs.wire.Frame.{frame}
 use Rattle.ov_specs.specs.wire.Message.{Message}
-use Rattle.ov_specs.specs.machine.Machine.{State, Sent, Entry, Event, Open, Take, Close, Tick, Cause, Outcome, NoMemory, Committed, Exhausted, Failed, Listed, listed, Stepped, step, happens, takes, attempted, closed, when, is_open, is_without_choice, to_session, none_listed, opening, Work, Answers, Transact, work_of, works, transacts, commits_unless_sealed, commits, sends_results, results_of, is_draw_count}
+use Rattle.ov_specs.specs.machine.Machine.{State, Entry, Event, Open, Take, Close, Tick, Cause, Outcome, NoMemory, Committed, Exhausted, Failed, Listed, listed, Stepped, step, takes, attempted, closed, when, is_open, is_without_choice, to_session, none_listed, opening, Work, Answers, Transact, work_of, works, transacts, commits_unless_sealed, commits, sends_results, results_of, is_draw_count}
 use Rattle.ov_specs.specs.rows.Database.{Database, same_database}
 use Rattle.ov_specs.specs.schema.SchemaTypes.{Schema}
 use Rattle.ov_specs.specs.operations.Transaction.{draws_wanted, Transacted, transaction, exhausted_results, failed_results}

@@ -16,7 +16,7 @@ use Rattle.sqlite_rules.specs.Edit.{id_in, without_all}
 use Rattle.sqlite_rules.specs.Calls.{ids_of}
 use Rattle.sqlite.specs.State.{State}
 use Rattle.ov_specs.specs.rows.Lines.{line_cmp}
-use Rattle.ov_store.specs.Format.{IsLine, IsFormat, entry, stored_lines}
+use Rattle.ov_store.specs.Format.{IsLine, entry, stored_lines}
 use Rattle.ov_store.specs.Changing.{IsNumbered, IsStored}
 use Rattle.ov_store.proofs.RowLemmas.{passes, passes_key, without_all_filter, same_number}
 use Rattle.ov_store.proofs.DeleteLemmas.{Deletes}

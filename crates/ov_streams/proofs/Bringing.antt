@@ -2,8 +2,8 @@
 use Rattle.std.proofs.Common.{◌≡◌, ◌≢◌, ℕ, List, [], ◌∷◌, ◌++◌, refl, sym, ap, subst, ◌∙◌, Bool, true, false, Option, Some, None, append_assoc, inl, inr, is_some}
 use Rattle.std.specs.Prelude.{MatchBool}
 use Rattle.std.proofs.lemmas.List.{append-nil}
-use Rattle.std.proofs.lemmas.Bool.{false≢true, cases_Bool}
-use Rattle.ov_specs.specs.wire.Cut.{Cut, Damage, Stray, TooLong, cut}
+use Rattle.std.proofs.lemmas.Bool.{false≢true}
+use Rattle.ov_specs.specs.wire.Cut.{Damage, Stray, TooLong, cut}
 use Rattle.ov_specs.specs.wire.Message.{Message, Asked, asked, asked_of, with_asked, message_in}
 use Rattle.ov_specs.specs.machine.Machine as machine
 use Rattle.ov_specs.specs.machine.Machine.{State, Entry, Stepped, is_open}

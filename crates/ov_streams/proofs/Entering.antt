@@ -15,7 +15,7 @@ use Rattle.ov_core.specs.declared.event.Stepped.TheVariants as answer
 use Rattle.ov_core.specs.declared.event.StepFault.TheVariants as fault
 use Rattle.ov_core.specs.Following.{CoreState, Follows, Extends}
 use Rattle.ov_core.specs.Stepping.{StepIs, IsEntered}
-use Rattle.ov_streams.specs.Entering.{ExtendsByStep, ClosesByEntry, TakesMessage, TextOutcome, EntersText, EntersTexts}
+use Rattle.ov_streams.specs.Entering.{ExtendsByStep, ClosesByEntry, TakesMessage, EntersText, EntersTexts}
 
 -- ---- what a step of the core is
 

@@ -1,10 +1,10 @@
 -- Which lists of stream events suit after one event more.
 use Rattle.std.proofs.Common.{◌≡◌, ◌≢◌, ℕ, ◌+◌, ◌<◌, ◌≤◌, List, [], ◌∷◌, ◌++◌, refl, sym, ap, subst, ◌∙◌, cond, eqb, leb, max, Bool, true, false, Option, Some, None, suc, inl, inr, length, arith, ◌-◌, ◌^◌, append_assoc, take, get_or}
-use Rattle.std.specs.Prelude.{◌||◌, MatchBool, MatchResult, IsSomeAnd, IfSome, slice_get, Result, Ok, Err}
+use Rattle.std.specs.Prelude.{◌||◌, MatchBool, MatchResult, IfSome, slice_get, Result, Ok, Err}
 use Rattle.std.specs.List.{list_any}
 use Rattle.std.proofs.lemmas.List.{append-nil, take_more, map-append, get_or_default}
 use Rattle.std.proofs.lemmas.Option.{slice_get_cases}
-use Rattle.std.proofs.lemmas.Bool.{false≢true, cases_Bool, cases_eq, le-leb, eq-eqb, ne_eqb, eqb-true, MatchBool-at_true, MatchBool-at_false}
+use Rattle.std.proofs.lemmas.Bool.{false≢true, cases_Bool, cases_eq, le-leb, eq-eqb, eqb-true, MatchBool-at_true, MatchBool-at_false}
 use Rattle.ov_specs.specs.wire.Message.{Message, asked}
 use Rattle.ov_specs.specs.machine.Machine as machine
 use Rattle.ov_specs.specs.machine.Machine.{State, Entry, Stepped, is_open, opening}
@@ -14,13 +14,13 @@ use Rattle.ov_specs.specs.rows.Database.{Database}
 use Rattle.ov_specs.specs.machine.Streams as streams
 use Rattle.ov_specs.specs.machine.Streams.{Streams, no_streams, with_fed, Feeds, Expands}
 use Rattle.ov_specs.proofs.laws.Expanding.{one_more}
-use Rattle.ov_specs.proofs.laws.Turns.{turn_open, turn_tick, turn_close, turn_close_other, turn_take, turn_take_other}
+use Rattle.ov_specs.proofs.laws.Turns.{turn_open, turn_tick, turn_close_other, turn_take_other}
 use Rattle.ov_laws.proofs.Requests.{asked_nothing, not_fed_yet}
 use Rattle.ov_cut.specs.CutterState.{CutterState, StandsFor}
 use Rattle.ov_core.specs.declared.event.Session.{Session}
 use Rattle.ov_core.specs.declared.event.Stepped.TheVariants as answer
 use Rattle.ov_streams.specs.declared.event.StreamEvent.{StreamEvent}
-use Rattle.ov_core.specs.Following.{CoreState, Follows, Extends}
+use Rattle.ov_core.specs.Following.{CoreState, Extends}
 use Rattle.ov_core.specs.Stepping.{IsEntered, Closes, is_full, most_sessions, closing}
 use Rattle.ov_streams.specs.declared.session_stream.SessionStream.{SessionStream}
 use Rattle.ov_streams.specs.Feeding.{IsFed, EntersPiece}

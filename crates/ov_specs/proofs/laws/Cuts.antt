@@ -2,7 +2,7 @@
 use Rattle.std.proofs.Common.{◌≡◌, ℕ, ◌+◌, List, [], ◌∷◌, ◌++◌, length, refl, sym, ap, subst, ◌∙◌, eqb, ltb, Bool, true, false, Option, Some, None, arith}
 use Rattle.std.proofs.lemmas.Bool.{eqb-true}
 use Rattle.ov_specs.specs.wire.Balance.{is_space, is_balanced}
-use Rattle.ov_specs.specs.wire.Cut.{Cut, Damage, Stray, TooLong, AfterByte, BetweenMessages, WholeMessage, FoundDamage, cut_from, cut_after, after_byte, after_byte_between, after_byte_inside, with_message, with_messages, continued, continue_cut, cut, max_message}
+use Rattle.ov_specs.specs.wire.Cut.{Cut, Damage, AfterByte, BetweenMessages, WholeMessage, FoundDamage, cut_from, cut_after, after_byte, after_byte_between, after_byte_inside, with_message, continued, continue_cut}
 use Rattle.ov_specs.specs.wire.Cut as cuts
 
 message_follows : (message : List ℕ) (messages : List (List ℕ)) (rest : List ℕ) (d : Option Damage) (go : List ℕ → Cut) → with_message message (continued messages rest d go) ≡ continued (message ∷ messages) rest d go

@@ -1,7 +1,7 @@
-use Rattle.std.proofs.Common.{◌≡◌, true, false, Some, sym, ap, ◌∙◌}
-use Rattle.std.specs.FinMap.{contains_key, insert}
+use Rattle.std.proofs.Common.{◌≡◌, true, false, sym, ap, ◌∙◌}
+use Rattle.std.specs.FinMap.{contains_key}
 use Rattle.ov_keeper.specs.Views.{line_entry}
-use Rattle.ov_db.proofs.Loads.{line_added, line_refused, line_there}
+use Rattle.ov_db.proofs.Loads.{line_refused, line_there}
 use Rattle.ov_db.proofs.load.add_line.Goals as goal
 
 pub returns-then-contains-clause-ok : goal.returns-then-contains-clause-ok

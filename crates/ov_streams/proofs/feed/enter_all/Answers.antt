@@ -1,7 +1,7 @@
-use Rattle.std.proofs.Common.{◌≡◌, ◌<◌, ◌++◌, ◌∷◌, [], length, drop, subst, true, false, arith, rules}
+use Rattle.std.proofs.Common.{◌≡◌, ◌<◌, ◌++◌, ◌∷◌, [], length, drop, true, false, arith, rules}
 use Rattle.std.proofs.lemmas.List.{drop_all}
 use Rattle.ov_specs.specs.machine.Machine.{is_open}
-use Rattle.ov_streams.proofs.Entering.{enters_none, continues, enters_it, ended, all_entered, Continues}
+use Rattle.ov_streams.proofs.Entering.{enters_none, continues, enters_it, ended, all_entered}
 use Rattle.ov_streams.proofs.feed.enter_all.Goals as goal
 
 pub loop-text-init : goal.loop-text-init

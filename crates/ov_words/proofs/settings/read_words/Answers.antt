@@ -1,9 +1,9 @@
 use Rattle.std.proofs.Common.{◌≡◌, ◌∙◌, [], Err, ap, codes, map, refl, sym}
 use Rattle.std.proofs.lemmas.Result.{err_from_is_err_and}
-use Rattle.clap.specs.Words.{Text, fault_of}
-use Rattle.ov_words.specs.Words.{app, settings_of, option_value}
+use Rattle.clap.specs.Words.{fault_of}
+use Rattle.ov_words.specs.Words.{app}
 use Rattle.ov_words.specs.declared.fault.WordFault.TheVariants.{Refused}
-use Rattle.ov_words.proofs.WordsLemmas.{settings_by-db, settings_by-fault, settings_by-schema, settings_by-taken, value_of-matches}
+use Rattle.ov_words.proofs.WordsLemmas.{settings_by-db, settings_by-schema, settings_by-taken, value_of-matches}
 use Rattle.ov_words.proofs.settings.read_words.Goals as goal
 
 pub returns-in_err-file_of-clause-refused : goal.returns-in_err-file_of-clause-refused

@@ -1,4 +1,4 @@
-use Rattle.std.proofs.Common.{◌≡◌, ◌<◌, List, length, refl, sym, subst, take, arith}
+use Rattle.std.proofs.Common.{◌≡◌, ◌<◌, List, refl, sym, subst, take, arith}
 use Rattle.ov_specs.specs.machine.Streams.{StreamEvent}
 use Rattle.ov_streams.specs.Running.{RunsEvents, StreamsState, stream_events_view}
 use Rattle.ov_streams.proofs.Suiting.{serves_none, serves_more, view_more, refused_at}
