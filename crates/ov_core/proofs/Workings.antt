@@ -1,17 +1,17 @@
 -- What comes of the work on a message.
-use Rattle.std.proofs.Common.{◌≡◌, ℕ, List, [], ◌∷◌, ◌++◌, length, map, refl, sym, ap, ◌∙◌, cond, Bool, true, false, Option, Some, None, arith, inl, inr}
+use Rattle.std.proofs.Common.{◌≡◌, ℕ, List, [], ◌∷◌, ◌++◌, length, map, refl, sym, ap, ◌∙◌, true, false, Option, Some, None, arith, inl, inr}
 use Rattle.std.specs.Prelude.{option_to_list, is_some}
 use Rattle.std.proofs.lemmas.List.{append-nil}
 use Rattle.std.proofs.lemmas.Bool.{eq-eqb, le-leb}
 use Rattle.serde_json.specs.Data.{Data, Items, array}
 use Rattle.serde_json.specs.Written.{compact_text}
-use Rattle.ov_specs.specs.rows.Database.{Database, same_database}
+use Rattle.ov_specs.specs.rows.Database.{same_database}
 use Rattle.ov_specs.specs.wire.Frame.{frame, reply_tree}
 use Rattle.ov_specs.specs.machine.History.{frames_to}
 use Rattle.ov_specs.specs.rows.Lines.{Contents}
 use Rattle.ov_specs.specs.machine.Machine as machine
-use Rattle.ov_specs.specs.machine.Machine.{State, Stepped, Work, Answers, Transact, works, transacts, commits_unless_sealed, attempted, closed, without_session, to_session, results_of, is_draw_count}
-use Rattle.ov_specs.specs.operations.Transaction.{Transacted, transaction, draws_wanted, exhausted_results, failed_results}
+use Rattle.ov_specs.specs.machine.Machine.{State, Stepped, Work, Answers, Transact, works, draws_for, attempt, sends_at_once, closed, without_session, to_session, results_of}
+use Rattle.ov_specs.specs.operations.Transaction.{transaction, draws_wanted, exhausted_results, failed_results}
 use Rattle.ov_specs.specs.values.Uuid.{Uuid}
 use Rattle.ov_db.specs.Committing.{IsHeld}
 use Rattle.ov_db.specs.Changing.{Delta, applied}
@@ -28,23 +28,9 @@ use Rattle.ov_core.specs.Handling.{IsWork, PostsIfRoom, CommitsWithReply, with_d
 
 -- ---- want of memory
 
--- whatever would be changed
-changes_memory : (s : State) (n : ℕ) (id : Data) (t : Transacted) (sealed : Option Database) → commits_unless_sealed s n id t sealed (Some machine.NoMemory) ≡ Some (closed s n)
-changes_memory s n id t None = refl
-changes_memory s n id t (Some d) = refl
-
--- whatever the transaction does
-transacts_memory : (s : State) (n : ℕ) (id : Data) (t : Transacted) → transacts s n id t (Some machine.NoMemory) ≡ Some (closed s n)
-transacts_memory s n id t = by_test (same_database s.database t.database)
-  where
-    by_test : (b : Bool) → cond b (attempted s n (results_of id t.results) (Some machine.NoMemory)) (commits_unless_sealed s n id t s.sealed (Some machine.NoMemory)) ≡ Some (closed s n)
-    by_test true = refl
-    by_test false = changes_memory s n id t s.sealed
-
 -- before anything was drawn
 pub works_memory : (s : State) (n : ℕ) (w : Work) → works s n [] (Some machine.NoMemory) w ≡ Some (closed s n)
-works_memory s n (Answers trees) = refl
-works_memory s n (Transact id operations) = rw (le-leb 0 (draws_wanted operations) (omega arith)) (transacts_memory s n id (transaction s.schema s.database [] operations))
+works_memory s n w = rw (le-leb 0 (draws_for w) (omega arith)) refl
 
 -- the session at work is closed, and nothing else is changed
 pub gave_up : {K : Type 0} (n : ℕ) (go : State → Option Stepped) (old new : KeptDatabase K) (waited waits : WaitingFrames) → ((s : State) → go (with_db s old) ≡ Some (closed (with_db s old) n)) → ((s : State) → with_db s new ≡ with_db s old) → HasSameFrames waited waits
@@ -56,8 +42,7 @@ gave_up n go old new waited waits h same silent s =
 pub attempt_gave_up : {K : Type 0} (n : ℕ) (id : Data) (draws : List Uuid) (operations : Items) (old new : KeptDatabase K) (waited waits : WaitingFrames) → ((s : State) → with_db s new ≡ with_db s old) → HasSameFrames waited waits
     → IsAttempt n id draws operations old waited (Some outcome.NoMemory) new waits
 attempt_gave_up n id draws operations old new waited waits same silent =
-    gave_up n (λ s. transacts s n id (transaction s.schema s.database draws operations) (Some machine.NoMemory)) old new waited waits
-    (λ s. transacts_memory (with_db s old) n id (transaction old.schema old.committed draws operations)) same silent
+    gave_up n (λ s. Some (closed s n)) old new waited waits (λ s. refl) same silent
 
 -- ---- one tree is sent
 
@@ -66,14 +51,15 @@ pub sent_one : {K : Type 0} (n : ℕ) (go : State → Option Stepped) (old new :
 sent_one n go old new o waited waits tree h added s = (tree ∷ [], h s, adds_sent n (frame tree) (tree ∷ []) waited waits refl added)
 
 -- the results are sent, and nothing is asked of the store
-pub answered : {K : Type 0} (n : ℕ) (id : Data) (results : Items) (go : Option machine.Outcome → State → Option Stepped) (old : KeptDatabase K) (o : Option Outcome) (waited waits : WaitingFrames)
-    → ((s : State) (c : Option machine.Outcome) → go c (with_db s old) ≡ attempted (with_db s old) n (results_of id results) c) → PostsIfRoom n (Some (frame (reply_tree id (array results)))) waited o waits
-    → IsMachineStep n (go (listed_first o)) old waited o old waits
-answered n id results go old None waited waits h added = sent_one n (go None) old old None waited waits (reply_tree id (array results)) (λ s. h s None) added
-answered n id results go old (Some outcome.NoMemory) waited waits h silent = gave_up n (go (Some machine.NoMemory)) old old waited waits (λ s. h s (Some machine.NoMemory)) (λ s. refl) silent
-answered n id results go old (Some outcome.Kept) waited waits h never = absurd never
-answered n id results go old (Some outcome.Exhausted) waited waits h never = absurd never
-answered n id results go old (Some outcome.Failed) waited waits h never = absurd never
+answered : {K : Type 0} (n : ℕ) (id : Data) (draws : List Uuid) (operations results : Items) (old : KeptDatabase K) (o : Option Outcome) (waited waits : WaitingFrames)
+    → ((s : State) → attempt (with_db s old) n id (transaction old.schema old.committed draws operations) None ≡ sends_at_once (with_db s old) n (results_of id results) None)
+    → PostsIfRoom n (Some (frame (reply_tree id (array results)))) waited o waits → IsAttempt n id draws operations old waited o old waits
+answered n id draws operations results old None waited waits h added =
+    sent_one n (λ s. attempt s n id (transaction s.schema s.database draws operations) None) old old None waited waits (reply_tree id (array results)) h added
+answered n id draws operations results old (Some outcome.NoMemory) waited waits h silent = attempt_gave_up n id draws operations old old waited waits (λ s. refl) silent
+answered n id draws operations results old (Some outcome.Kept) waited waits h never = absurd never
+answered n id draws operations results old (Some outcome.Exhausted) waited waits h never = absurd never
+answered n id draws operations results old (Some outcome.Failed) waited waits h never = absurd never
 
 -- a transaction that changes nothing
 pub unchanged : {K : Type 0} (n : ℕ) (id : Data) (draws : List Uuid) (operations : Items) (old : KeptDatabase K) (o : Option Outcome) (waited waits : WaitingFrames)
@@ -81,7 +67,7 @@ pub unchanged : {K : Type 0} (n : ℕ) (id : Data) (draws : List Uuid) (operatio
     → PostsIfRoom n (Some (frame (reply_tree id (array (transaction old.schema old.committed draws operations).results)))) waited o waits
     → IsAttempt n id draws operations old waited o old waits
 unchanged n id draws operations old o waited waits e outbox =
-    answered n id (transaction old.schema old.committed draws operations).results (λ c s. transacts s n id (transaction s.schema s.database draws operations) c) old o waited waits (λ s c. rw e refl) outbox
+    answered n id draws operations (transaction old.schema old.committed draws operations).results old o waited waits (λ s. rw e refl) outbox
 
 -- a transaction that would change a sealed database
 pub on_sealed : {K : Type 0} (n : ℕ) (id : Data) (draws : List Uuid) (operations : Items) (old : KeptDatabase K) (o : Option Outcome) (waited waits : WaitingFrames)
@@ -89,12 +75,7 @@ pub on_sealed : {K : Type 0} (n : ℕ) (id : Data) (draws : List Uuid) (operatio
     → PostsIfRoom n (Some (frame (reply_tree id (array (failed_results (transaction old.schema old.committed draws operations).results))))) waited o waits
     → IsAttempt n id draws operations old waited o old waits
 on_sealed n id draws operations old o waited waits e sealed outbox =
-    let is = some_of old.sealed sealed in
-    answered n id (failed_results (transaction old.schema old.committed draws operations).results) (λ c s. transacts s n id (transaction s.schema s.database draws operations) c) old o waited waits (λ s c. rw (e, is.1) refl) outbox
-  where
-    some_of : (sealed : Option Database) → is_some sealed ≡ true → (d : Database) × (sealed ≡ Some d)
-    some_of (Some d) h = (d, refl)
-    some_of None h = cc
+    answered n id draws operations (failed_results (transaction old.schema old.committed draws operations).results) old o waited waits (λ s. rw (e, sealed) refl) outbox
 
 -- ---- a commit
 
@@ -109,38 +90,33 @@ committed {K} n id draws operations old new frames delta (Some outcome.Kept) wai
     let schema : new.schema ≡ old.schema = ap (λ (k : KeptDatabase K). k.schema) made in
     let d : new.committed ≡ t.database = ap (λ (k : KeptDatabase K). k.committed) made ∙ is in
     let k : new.sealed ≡ None = ap (λ (k : KeptDatabase K). k.sealed) made ∙ unsealed in
-    sent_one n (λ s. transacts s n id (transaction s.schema s.database draws operations) (Some machine.Committed)) old new (Some outcome.Kept) waited waits (reply_tree id (array t.results)) (λ s. rw (e, unsealed, schema, d, k) refl) (rw (← are.kept) added)
+    sent_one n (λ s. attempt s n id (transaction s.schema s.database draws operations) (Some machine.Committed)) old new (Some outcome.Kept) waited waits (reply_tree id (array t.results)) (λ s. rw (e, unsealed, schema, d, k) refl) (rw (← are.kept) added)
 committed {K} n id draws operations old new frames delta (Some outcome.Exhausted) waited waits e unsealed is are (made, added) =
     let t = transaction old.schema old.committed draws operations in
     let schema : new.schema ≡ old.schema = ap (λ (k : KeptDatabase K). k.schema) made in
     let d : new.committed ≡ old.committed = ap (λ (k : KeptDatabase K). k.committed) made in
     let k : new.sealed ≡ None = ap (λ (k : KeptDatabase K). k.sealed) made ∙ unsealed in
-    sent_one n (λ s. transacts s n id (transaction s.schema s.database draws operations) (Some machine.Exhausted)) old new (Some outcome.Exhausted) waited waits (reply_tree id (array (exhausted_results t.results))) (λ s. rw (e, unsealed, schema, d, k) refl) (rw (← are.exhausted) added)
+    sent_one n (λ s. attempt s n id (transaction s.schema s.database draws operations) (Some machine.Exhausted)) old new (Some outcome.Exhausted) waited waits (reply_tree id (array (exhausted_results t.results))) (λ s. rw (e, unsealed, schema, d, k) refl) (rw (← are.exhausted) added)
 committed {K} n id draws operations old new frames delta (Some outcome.Failed) waited waits e unsealed is are (made, added) =
     let t = transaction old.schema old.committed draws operations in
     let schema : new.schema ≡ old.schema = ap (λ (k : KeptDatabase K). k.schema) made in
     let d : new.committed ≡ old.committed = ap (λ (k : KeptDatabase K). k.committed) made in
     let k : new.sealed ≡ Some t.database = ap (λ (k : KeptDatabase K). k.sealed) made ∙ ap Some is in
-    sent_one n (λ s. transacts s n id (transaction s.schema s.database draws operations) (Some machine.Failed)) old new (Some outcome.Failed) waited waits (reply_tree id (array (failed_results t.results))) (λ s. rw (e, unsealed, schema, d, k) refl) (rw (← are.failed) added)
+    sent_one n (λ s. attempt s n id (transaction s.schema s.database draws operations) (Some machine.Failed)) old new (Some outcome.Failed) waited waits (reply_tree id (array (failed_results t.results))) (λ s. rw (e, unsealed, schema, d, k) refl) (rw (← are.failed) added)
 committed {K} n id draws operations old new frames delta (Some outcome.NoMemory) waited waits e unsealed is are (same, silent) =
     attempt_gave_up n id draws operations old new waited waits (λ s. ap (with_db s) same) silent
 
 -- ---- any work
 
--- the draws suit
-pub suits_all : (o : Option machine.Outcome) (a b : ℕ) → a ≡ b → is_draw_count o a b ≡ true
-suits_all None a b e = eq-eqb a b e
-suits_all (Some machine.Committed) a b e = eq-eqb a b e
-suits_all (Some machine.Exhausted) a b e = eq-eqb a b e
-suits_all (Some machine.Failed) a b e = eq-eqb a b e
-suits_all (Some machine.NoMemory) a b e = le-leb a b (omega arith)
-
 -- an attempt is the work on a transaction
 pub attempt_works : {K : Type 0} (n : ℕ) (id : Data) (draws : List Uuid) (operations : Items) (old new : KeptDatabase K) (o : Option Outcome) (waited waits : WaitingFrames) → length draws ≡ draws_wanted operations
     → IsAttempt n id draws operations old waited o new waits → IsMachineStep n (λ s. works s n draws (listed_first o) (Transact id operations)) old waited o new waits
+attempt_works n id draws operations old new (Some outcome.NoMemory) waited waits many tried s =
+    let came = tried s in
+    (came.0, rw (le-leb (length draws) (draws_wanted operations) (omega arith)) came.1, came.2)
 attempt_works n id draws operations old new o waited waits many tried s =
     let came = tried s in
-    (came.0, rw (suits_all (listed_first o) (length draws) (draws_wanted operations) many) came.1, came.2)
+    (came.0, rw (eq-eqb (length draws) (draws_wanted operations) many) came.1, came.2)
 
 -- a frame that waits is what is sent
 waits_sent : (n : ℕ) (bytes : Option (List ℕ)) (trees : List Data) (old new : WaitingFrames) → map frame trees ≡ option_to_list bytes → PostsIfRoom n bytes old None new

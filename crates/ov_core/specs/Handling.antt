@@ -4,7 +4,7 @@ use Rattle.serde_json.specs.Data.{Data, Items}
 use Rattle.ov_specs.specs.wire.Frame.{frame}
 use Rattle.ov_specs.specs.machine.History.{frames_to}
 use Rattle.ov_specs.specs.machine.Machine as machine
-use Rattle.ov_specs.specs.machine.Machine.{State, Stepped, Work, Answers, Transact, works, transacts, without_session, to_session}
+use Rattle.ov_specs.specs.machine.Machine.{State, Stepped, Work, Answers, Transact, works, attempt, closed, without_session, to_session}
 use Rattle.ov_specs.specs.operations.Transaction.{transaction}
 use Rattle.ov_specs.specs.values.Uuid.{Uuid}
 use Rattle.ov_db.specs.Changing.{Delta}
@@ -71,10 +71,12 @@ IsMachineStep session machine old waited outcome new waits = (s : State) → (tr
     × (machine (with_db s old) ≡ Some (record { state = closed_if_no_memory session outcome (with_db s new); sent = to_session session trees }))
     × ((other : ℕ) → waiting_for other waits ≡ waiting_for other waited ++ frames_to other (to_session session trees))
 
--- an attempt of a transaction (own)
+-- an attempt of a transaction; where memory was refused, the session at work is closed in its place (own)
 abbrev pub IsAttempt : {K : Type 0} → ℕ → Data → List Uuid → Items → KeptDatabase K → WaitingFrames → Option Outcome → KeptDatabase K → WaitingFrames → Type 0
+IsAttempt session id draws operations old waited (Some outcome.NoMemory) new waits =
+    IsMachineStep session (λ s. Some (closed s session)) old waited (Some outcome.NoMemory) new waits
 IsAttempt session id draws operations old waited outcome new waits =
-    IsMachineStep session (λ s. transacts s session id (transaction s.schema s.database draws operations) (listed_first outcome)) old waited outcome new waits
+    IsMachineStep session (λ s. attempt s session id (transaction s.schema s.database draws operations) (listed_first outcome)) old waited outcome new waits
 
 -- the work on a message (own)
 abbrev pub IsHandled : {K : Type 0} → ℕ → (State → Work) → KeptDatabase K → WaitingFrames → Handled → KeptDatabase K → WaitingFrames → Type 0

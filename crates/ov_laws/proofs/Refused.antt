@@ -1,13 +1,13 @@
 -- A refused transaction changes nothing.
-use Rattle.std.proofs.Common.{◌≡◌, ℕ, List, [], ◌∷◌, length, refl, sym, ap, ◌∙◌, cond, Bool, true, false, Option, Some, None}
-use Rattle.std.specs.Prelude.{not, codes, Result, Ok, Err, ◌||◌}
+use Rattle.std.proofs.Common.{◌≡◌, ℕ, List, [], ◌∷◌, length, refl, sym, ap, ◌∙◌, cond, eqb, leb, Bool, true, false, Option, Some, None}
+use Rattle.std.specs.Prelude.{not, codes, Result, Ok, Err, ◌||◌, is_some}
 use Rattle.std.specs.FinMap.{contains_key, get}
 use Rattle.std.specs.Prelude.{option_and_then}
 use Rattle.serde_json.specs.Data.{Data, Items, no_items, item}
 use Rattle.serde_json.specs.Find.{as_object, as_array}
 use Rattle.serde_json.specs.Find as find
 use Rattle.ov_specs.specs.rows.Database.{Database, Columns, same_database}
-use Rattle.ov_specs.specs.machine.Machine.{State, Sent, Stepped, Outcome, NoMemory, Committed, Exhausted, Failed, Transact, works, transacts, commits_unless_sealed, commits, attempted, sends_results, closed, when, to_session, results_of, is_draw_count}
+use Rattle.ov_specs.specs.machine.Machine.{State, Sent, Stepped, Outcome, NoMemory, Committed, Exhausted, Failed, Transact, works, attempt, commits, sends_at_once, sends_results, closed, when, to_session, results_of}
 use Rattle.ov_specs.specs.wire.Message.{has_member}
 use Rattle.std.specs.Str.{bytes_eq}
 use Rattle.ov_specs.specs.operations.Errors.{OpError, SyntaxError, UnknownTable}
@@ -103,18 +103,14 @@ first_results (x ∷ xs) = option_and_then as_array (find.get (codes "result") x
 same_results : (n : ℕ) (id : Data) (a b : Items) → to_session n (results_of id a) ≡ to_session n (results_of id b) → a ≡ b
 same_results n id a b h = same_Some a b (ap first_results h)
 
--- an attempt leaves the database
-attempt_leaves : (s : State) (n : ℕ) (trees : List Data) (o : Option Outcome) (t : Stepped) → attempted s n trees o ≡ Some t → t.state.database ≡ s.database
-attempt_leaves s n trees None t h = ap (λ (x : Stepped). x.state.database) (sym (same_Some (record { state = s; sent = to_session n trees }) t h))
-attempt_leaves s n trees (Some NoMemory) t h = ap (λ (x : Stepped). x.state.database) (sym (same_Some (closed s n) t h))
-attempt_leaves s n trees (Some Committed) t h = cc
-attempt_leaves s n trees (Some Exhausted) t h = cc
-attempt_leaves s n trees (Some Failed) t h = cc
+-- trees that are sent at once leave the database
+sending_leaves : (s : State) (n : ℕ) (trees : List Data) (o : Option Outcome) (t : Stepped) → sends_at_once s n trees o ≡ Some t → t.state.database ≡ s.database
+sending_leaves s n trees None t h = ap (λ (x : Stepped). x.state.database) (sym (same_Some (record { state = s; sent = to_session n trees }) t h))
+sending_leaves s n trees (Some outcome) t h = cc
 
 module _ (s : State) (n : ℕ) (id : Data) (r : Transacted) (results : Items) (t : Stepped) (sent : t.sent ≡ to_session n (results_of id results)) (error : has_error results ≡ true) (before : has_error r.results ≡ true → r.database ≡ s.database) where
   -- a commit that has an error in its reply was not kept
   commit_leaves : (o : Option Outcome) → commits s n id r o ≡ Some t → t.state.database ≡ s.database
-  commit_leaves None h = cc
   commit_leaves (Some Committed) h =
       let x : Stepped = sends_results (record s { database = r.database }) n id r.results in
       let is : x ≡ t = same_Some x t h in
@@ -122,20 +118,22 @@ module _ (s : State) (n : ℕ) (id : Data) (r : Transacted) (results : Items) (t
       ap (λ (y : Stepped). y.state.database) (sym is) ∙ before (ap has_error same ∙ error)
   commit_leaves (Some Exhausted) h = ap (λ (y : Stepped). y.state.database) (sym (same_Some (sends_results s n id (exhausted_results r.results)) t h))
   commit_leaves (Some Failed) h = ap (λ (y : Stepped). y.state.database) (sym (same_Some (sends_results (record s { sealed = Some r.database }) n id (failed_results r.results)) t h))
-  commit_leaves (Some NoMemory) h = ap (λ (y : Stepped). y.state.database) (sym (same_Some (closed s n) t h))
+  commit_leaves (Some NoMemory) h = cc
+  commit_leaves None h = cc
 
-  change_leaves : (sealed : Option Database) (o : Option Outcome) → commits_unless_sealed s n id r sealed o ≡ Some t → t.state.database ≡ s.database
-  change_leaves None o h = commit_leaves o h
-  change_leaves (Some d) o h = attempt_leaves s n (results_of id (failed_results r.results)) o t h
-
-  transact_leaves : (same : Bool) (o : Option Outcome) → cond same (attempted s n (results_of id r.results) o) (commits_unless_sealed s n id r s.sealed o) ≡ Some t → t.state.database ≡ s.database
-  transact_leaves true o h = attempt_leaves s n (results_of id r.results) o t h
-  transact_leaves false o h = change_leaves s.sealed o h
+  attempt_leaves : (same sealed : Bool) (o : Option Outcome)
+      → cond same (sends_at_once s n (results_of id r.results) o) (cond sealed (sends_at_once s n (results_of id (failed_results r.results)) o) (commits s n id r o)) ≡ Some t
+      → t.state.database ≡ s.database
+  attempt_leaves true sealed o h = sending_leaves s n (results_of id r.results) o t h
+  attempt_leaves false true o h = sending_leaves s n (results_of id (failed_results r.results)) o t h
+  attempt_leaves false false o h = commit_leaves o h
 
 -- a reply with an error among its results leaves the database
 pub changes_nothing : (s : State) (n : ℕ) (draws : List Uuid) (o : Option Outcome) (id : Data) (operations results : Items) (t : Stepped) → works s n draws o (Transact id operations) ≡ Some t
     → t.sent ≡ to_session n (results_of id results) → has_error results ≡ true → t.state.database ≡ s.database
+changes_nothing s n draws (Some NoMemory) id operations results t h sent error =
+    ap (λ (x : Stepped). x.state.database) (sym (same_Some (closed s n) t (suits (leb (length draws) (draws_wanted operations)) (Some (closed s n)) t h)))
 changes_nothing s n draws o id operations results t h sent error =
     let r : Transacted = transaction s.schema s.database draws operations in
-    transact_leaves s n id r results t sent error (is_before s.schema s.database draws operations) (same_database s.database r.database) o
-    (suits (is_draw_count o (length draws) (draws_wanted operations)) (transacts s n id r o) t h)
+    attempt_leaves s n id r results t sent error (is_before s.schema s.database draws operations) (same_database s.database r.database) (is_some s.sealed) o
+    (suits (eqb (length draws) (draws_wanted operations)) (attempt s n id r o) t h)

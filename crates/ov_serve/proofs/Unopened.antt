@@ -1,13 +1,13 @@
 -- What a history does to sessions that are not open.
-use Rattle.std.proofs.Common.{◌≡◌, ◌≢◌, ℕ, ◌+◌, ◌≤◌, List, [], ◌∷◌, ◌++◌, length, refl, sym, ap, ◌∙◌, cond, Bool, true, false, Option, Some, None, inl, inr, arith}
-use Rattle.std.specs.Prelude.{◌&&◌, option_map, option_and_then}
+use Rattle.std.proofs.Common.{◌≡◌, ◌≢◌, ℕ, ◌+◌, ◌≤◌, List, [], ◌∷◌, ◌++◌, length, refl, sym, ap, ◌∙◌, cond, eqb, leb, Bool, true, false, Option, Some, None, inl, inr, arith}
+use Rattle.std.specs.Prelude.{◌&&◌, is_some, option_map, option_and_then}
 use Rattle.std.proofs.lemmas.Bool.{cases_eq, and_parts, ne_eqb, false≢true}
 use Rattle.serde_json.specs.Data.{Data}
 use Rattle.ov_specs.specs.wire.Message.{Message}
-use Rattle.ov_specs.specs.machine.Machine.{State, Entry, Event, Open, Take, Close, Tick, Cause, Outcome, NoMemory, Committed, Exhausted, Failed, Listed, listed, Stepped, step, takes, attempted, closed, when, is_open, is_without_choice, to_session, none_listed, opening, Work, Answers, Transact, work_of, works, transacts, commits_unless_sealed, commits, sends_results, results_of, is_draw_count}
+use Rattle.ov_specs.specs.machine.Machine.{State, Entry, Event, Open, Take, Close, Tick, Cause, Outcome, NoMemory, Committed, Exhausted, Failed, Listed, listed, Stepped, step, takes, sends_at_once, closed, when, is_open, is_without_choice, to_session, none_listed, opening, Work, Answers, Transact, work_of, works, draws_for, does, commits, sends_results, results_of}
 use Rattle.ov_specs.specs.rows.Database.{Database, same_database}
 use Rattle.ov_specs.specs.schema.SchemaTypes.{Schema}
-use Rattle.ov_specs.specs.operations.Transaction.{draws_wanted, Transacted, transaction, exhausted_results, failed_results}
+use Rattle.ov_specs.specs.operations.Transaction.{Transacted, transaction, exhausted_results, failed_results}
 use Rattle.ov_specs.specs.values.Uuid.{Uuid}
 use Rattle.ov_specs.specs.machine.History.{run, then_sends, frames_to, closing_cause, closed_by}
 use Rattle.std.specs.Option.{option_or}
@@ -32,38 +32,39 @@ sends_aside : (x t : Stepped) (m : ℕ) (trees : List Data) → x.sent ≡ to_se
 sends_aside x t m trees sent h n other =
     ap (λ (v : Stepped). frames_to n v.sent) (sym (same_Some x t h)) ∙ (ap (frames_to n) sent ∙ (frames_to-to_session m n trees ∙ rw (ne_eqb n m other) refl))
 
--- an attempt sends nothing to another session
-attempt_aside : (s : State) (m : ℕ) (trees : List Data) (o : Option Outcome) (t : Stepped) → attempted s m trees o ≡ Some t → (n : ℕ) → n ≢ m → frames_to n t.sent ≡ []
-attempt_aside s m trees None t h n other = sends_aside (record { state = s; sent = to_session m trees }) t m trees refl h n other
-attempt_aside s m trees (Some NoMemory) t h n other = ap (λ (v : Stepped). frames_to n v.sent) (sym (same_Some (closed s m) t h))
-attempt_aside s m trees (Some Committed) t h n other = cc
-attempt_aside s m trees (Some Exhausted) t h n other = cc
-attempt_aside s m trees (Some Failed) t h n other = cc
+-- what is sent at once is nothing to another session
+at_once_aside : (s : State) (m : ℕ) (trees : List Data) (o : Option Outcome) (t : Stepped) → sends_at_once s m trees o ≡ Some t → (n : ℕ) → n ≢ m → frames_to n t.sent ≡ []
+at_once_aside s m trees None t h n other = sends_aside (record { state = s; sent = to_session m trees }) t m trees refl h n other
+at_once_aside s m trees (Some outcome) t h n other = cc
 
--- nor does a commit
+-- nor is what a commit sends
 commit_aside : (s : State) (m : ℕ) (id : Data) (r : Transacted) (o : Option Outcome) (t : Stepped) → commits s m id r o ≡ Some t → (n : ℕ) → n ≢ m → frames_to n t.sent ≡ []
-commit_aside s m id r None t h n other = cc
 commit_aside s m id r (Some Committed) t h n other = sends_aside (sends_results (record s { database = r.database }) m id r.results) t m (results_of id r.results) refl h n other
 commit_aside s m id r (Some Exhausted) t h n other = sends_aside (sends_results s m id (exhausted_results r.results)) t m (results_of id (exhausted_results r.results)) refl h n other
 commit_aside s m id r (Some Failed) t h n other = sends_aside (sends_results (record s { sealed = Some r.database }) m id (failed_results r.results)) t m (results_of id (failed_results r.results)) refl h n other
-commit_aside s m id r (Some NoMemory) t h n other = ap (λ (v : Stepped). frames_to n v.sent) (sym (same_Some (closed s m) t h))
+commit_aside s m id r (Some NoMemory) t h n other = cc
+commit_aside s m id r None t h n other = cc
 
--- nor does a transaction that would change the database
-change_aside : (s : State) (m : ℕ) (id : Data) (r : Transacted) (sealed : Option Database) (o : Option Outcome) (t : Stepped) → commits_unless_sealed s m id r sealed o ≡ Some t → (n : ℕ) → n ≢ m → frames_to n t.sent ≡ []
-change_aside s m id r None o t h n other = commit_aside s m id r o t h n other
-change_aside s m id r (Some d) o t h n other = attempt_aside s m (results_of id (failed_results r.results)) o t h n other
+-- nor what any transaction sends
+attempt_aside : (s : State) (m : ℕ) (id : Data) (r : Transacted) (o : Option Outcome) (t : Stepped) (same sealed : Bool)
+    → cond same (sends_at_once s m (results_of id r.results) o) (cond sealed (sends_at_once s m (results_of id (failed_results r.results)) o) (commits s m id r o)) ≡ Some t
+    → (n : ℕ) → n ≢ m → frames_to n t.sent ≡ []
+attempt_aside s m id r o t true sealed h n other = at_once_aside s m (results_of id r.results) o t h n other
+attempt_aside s m id r o t false true h n other = at_once_aside s m (results_of id (failed_results r.results)) o t h n other
+attempt_aside s m id r o t false false h n other = commit_aside s m id r o t h n other
 
--- nor does any transaction
-transact_aside : (s : State) (m : ℕ) (id : Data) (r : Transacted) (o : Option Outcome) (t : Stepped) (b : Bool) → cond b (attempted s m (results_of id r.results) o) (commits_unless_sealed s m id r s.sealed o) ≡ Some t → (n : ℕ) → n ≢ m → frames_to n t.sent ≡ []
-transact_aside s m id r o t true h n other = attempt_aside s m (results_of id r.results) o t h n other
-transact_aside s m id r o t false h n other = change_aside s m id r s.sealed o t h n other
-
--- nor does any work
-work_aside : (s : State) (m : ℕ) (draws : List Uuid) (o : Option Outcome) (w : Work) (t : Stepped) → works s m draws o w ≡ Some t → (n : ℕ) → n ≢ m → frames_to n t.sent ≡ []
-work_aside s m draws o (Answers trees) t h n other = attempt_aside s m trees o t (suits (is_draw_count o (length draws) 0) (attempted s m trees o) t h).1 n other
-work_aside s m draws o (Transact id operations) t h n other =
+-- nor what any work sends
+done_aside : (s : State) (m : ℕ) (draws : List Uuid) (o : Option Outcome) (w : Work) (t : Stepped) → does s m draws o w ≡ Some t → (n : ℕ) → n ≢ m → frames_to n t.sent ≡ []
+done_aside s m draws o (Answers trees) t h n other = at_once_aside s m trees o t h n other
+done_aside s m draws o (Transact id operations) t h n other =
     let r : Transacted = transaction s.schema s.database draws operations in
-    transact_aside s m id r o t (same_database s.database r.database) (suits (is_draw_count o (length draws) (draws_wanted operations)) (transacts s m id r o) t h).1 n other
+    attempt_aside s m id r o t (same_database s.database r.database) (is_some s.sealed) h n other
+
+-- and a session that is closed is sent nothing
+work_aside : (s : State) (m : ℕ) (draws : List Uuid) (o : Option Outcome) (w : Work) (t : Stepped) → works s m draws o w ≡ Some t → (n : ℕ) → n ≢ m → frames_to n t.sent ≡ []
+work_aside s m draws (Some NoMemory) w t h n other =
+    ap (λ (v : Stepped). frames_to n v.sent) (sym (same_Some (closed s m) t (suits (leb (length draws) (draws_for w)) (Some (closed s m)) t h).1))
+work_aside s m draws o w t h n other = done_aside s m draws o w t (suits (eqb (length draws) (draws_for w)) (does s m draws o w) t h).1 n other
 
 module _ (s : State) (e : Entry) (t : Stepped) (h : step s e ≡ Some t) where
   -- an opening sends nothing

@@ -73,6 +73,10 @@ no_second_attempt = refl
 pub no_draws_are_wanted : step with_session (record { event = Take 1 echo; choice = record { moment = 0; draws = [] ∷ []; outcomes = [] } }) ≡ None
 no_draws_are_wanted = refl
 
+-- nor where memory was refused
+pub no_draws_without_memory : step with_session (record { event = Take 1 echo; choice = record { moment = 0; draws = [] ∷ []; outcomes = record { number = 1; outcome = NoMemory } ∷ [] } }) ≡ None
+no_draws_without_memory = refl
+
 -- ---- runs, with their bytes out
 
 abbrev bytes_out : List Entry → Option (List ℕ)

@@ -1,16 +1,16 @@
 -- What one entry makes of one session.
 use Rattle.std.proofs.Common.{◌≡◌, ◌≢◌, ℕ, ◌+◌, List, [], ◌∷◌, ◌++◌, length, refl, sym, ap, ◌∙◌, append_assoc, cond, eqb, leb, Bool, true, false, Option, Some, None, ◌⊎◌, inl, inr}
-use Rattle.std.specs.Prelude.{not, ◌||◌, ◌&&◌, filter}
+use Rattle.std.specs.Prelude.{not, ◌||◌, ◌&&◌, filter, is_some}
 use Rattle.std.specs.List.{list_any}
 use Rattle.std.proofs.lemmas.List.{append-nil}
 use Rattle.std.proofs.lemmas.List.Folds.{list_any-append}
 use Rattle.std.proofs.lemmas.Map.Views.{any-filter_same}
 use Rattle.std.proofs.lemmas.Bool.{eq-eqb, eqb-true, ne_eqb, not_from_true, not_from_false}
 use Rattle.ov_specs.specs.wire.Message.{Message}
-use Rattle.ov_specs.specs.rows.Database.{Database, same_database}
-use Rattle.ov_specs.specs.operations.Transaction.{draws_wanted, Transacted, transaction, exhausted_results, failed_results}
+use Rattle.ov_specs.specs.rows.Database.{same_database}
+use Rattle.ov_specs.specs.operations.Transaction.{Transacted, transaction, exhausted_results, failed_results}
 use Rattle.ov_specs.specs.values.Uuid.{Uuid}
-use Rattle.ov_specs.specs.machine.Machine.{State, Entry, Event, Open, Take, Close, Tick, Cause, Memory, Outcome, NoMemory, Committed, Exhausted, Failed, Listed, listed, Stepped, step, happens, takes, attempted, closed, when, is_open, is_without_choice, without_session, to_session, none_listed, Work, Answers, Transact, work_of, works, transacts, commits_unless_sealed, commits, sends_results, results_of, is_draw_count}
+use Rattle.ov_specs.specs.machine.Machine.{State, Entry, Event, Open, Take, Close, Tick, Cause, Memory, Outcome, NoMemory, Committed, Exhausted, Failed, Listed, listed, Stepped, step, happens, takes, sends_at_once, closed, when, is_open, is_without_choice, without_session, to_session, none_listed, Work, Answers, Transact, work_of, works, draws_for, does, commits, sends_results, results_of}
 use Rattle.ov_specs.specs.machine.History.{requests, taken_by, closing_cause, closed_by, cause_of_outcome}
 use Rattle.std.specs.Option.{option_or}
 use Rattle.serde_json.specs.Data.{Data}
@@ -141,38 +141,38 @@ stays s m o x t sessions next gives h =
     let same : x ≡ t = same_Some x t h in
     inl (ap (λ (v : Stepped). v.state.sessions) (sym same) ∙ sessions, ap (λ (v : Stepped). v.state.next) (sym same) ∙ next, gives)
 
--- an attempt leaves so much
-worked : (s : State) (m : ℕ) (trees : List Data) (o : Option Outcome) (t : Stepped) → attempted s m trees o ≡ Some t → Worked s m o t.state
-worked s m trees None t h = stays s m None (record { state = s; sent = to_session m trees }) t refl refl refl h
-worked s m trees (Some NoMemory) t h = inr (ap (λ (v : Stepped). v.state) (sym (same_Some (closed s m) t h)), refl)
-worked s m trees (Some Committed) t h = cc
-worked s m trees (Some Exhausted) t h = cc
-worked s m trees (Some Failed) t h = cc
+-- trees that are sent at once leave so much
+sent_at_once : (s : State) (m : ℕ) (trees : List Data) (o : Option Outcome) (t : Stepped) → sends_at_once s m trees o ≡ Some t → Worked s m o t.state
+sent_at_once s m trees None t h = stays s m None (record { state = s; sent = to_session m trees }) t refl refl refl h
+sent_at_once s m trees (Some outcome) t h = cc
 
 -- a commit leaves so much
 committed : (s : State) (m : ℕ) (id : Data) (r : Transacted) (o : Option Outcome) (t : Stepped) → commits s m id r o ≡ Some t → Worked s m o t.state
-committed s m id r None t h = cc
 committed s m id r (Some Committed) t h = stays s m (Some Committed) (sends_results (record s { database = r.database }) m id r.results) t refl refl refl h
 committed s m id r (Some Exhausted) t h = stays s m (Some Exhausted) (sends_results s m id (exhausted_results r.results)) t refl refl refl h
 committed s m id r (Some Failed) t h = stays s m (Some Failed) (sends_results (record s { sealed = Some r.database }) m id (failed_results r.results)) t refl refl refl h
-committed s m id r (Some NoMemory) t h = inr (ap (λ (v : Stepped). v.state) (sym (same_Some (closed s m) t h)), refl)
-
--- a transaction that would change the database leaves so much
-changed : (s : State) (m : ℕ) (id : Data) (r : Transacted) (sealed : Option Database) (o : Option Outcome) (t : Stepped) → commits_unless_sealed s m id r sealed o ≡ Some t → Worked s m o t.state
-changed s m id r None o t h = committed s m id r o t h
-changed s m id r (Some d) o t h = worked s m (results_of id (failed_results r.results)) o t h
+committed s m id r (Some NoMemory) t h = cc
+committed s m id r None t h = cc
 
 -- a transaction leaves so much
-transacted : (s : State) (m : ℕ) (id : Data) (r : Transacted) (o : Option Outcome) (t : Stepped) (b : Bool) → cond b (attempted s m (results_of id r.results) o) (commits_unless_sealed s m id r s.sealed o) ≡ Some t → Worked s m o t.state
-transacted s m id r o t true h = worked s m (results_of id r.results) o t h
-transacted s m id r o t false h = changed s m id r s.sealed o t h
+attempted : (s : State) (m : ℕ) (id : Data) (r : Transacted) (o : Option Outcome) (t : Stepped) (same sealed : Bool)
+    → cond same (sends_at_once s m (results_of id r.results) o) (cond sealed (sends_at_once s m (results_of id (failed_results r.results)) o) (commits s m id r o)) ≡ Some t → Worked s m o t.state
+attempted s m id r o t true sealed h = sent_at_once s m (results_of id r.results) o t h
+attempted s m id r o t false true h = sent_at_once s m (results_of id (failed_results r.results)) o t h
+attempted s m id r o t false false h = committed s m id r o t h
+
+-- work that is done leaves so much
+done : (s : State) (m : ℕ) (draws : List Uuid) (o : Option Outcome) (w : Work) (t : Stepped) → does s m draws o w ≡ Some t → Worked s m o t.state
+done s m draws o (Answers trees) t h = sent_at_once s m trees o t h
+done s m draws o (Transact id operations) t h =
+    let r : Transacted = transaction s.schema s.database draws operations in
+    attempted s m id r o t (same_database s.database r.database) (is_some s.sealed) h
 
 -- the work on a message leaves so much
 any_work : (s : State) (m : ℕ) (draws : List Uuid) (o : Option Outcome) (w : Work) (t : Stepped) → works s m draws o w ≡ Some t → Worked s m o t.state
-any_work s m draws o (Answers trees) t h = worked s m trees o t (when_is (is_draw_count o (length draws) 0) (attempted s m trees o) t h)
-any_work s m draws o (Transact id operations) t h =
-    let r : Transacted = transaction s.schema s.database draws operations in
-    transacted s m id r o t (same_database s.database r.database) (when_is (is_draw_count o (length draws) (draws_wanted operations)) (transacts s m id r o) t h)
+any_work s m draws (Some NoMemory) w t h =
+    inr (ap (λ (v : Stepped). v.state) (sym (same_Some (closed s m) t (when_is (leb (length draws) (draws_for w)) (Some (closed s m)) t h))), refl)
+any_work s m draws o w t h = done s m draws o w t (when_is (eqb (length draws) (draws_for w)) (does s m draws o w) t h)
 
 module _ (n : ℕ) (s : State) (e : Entry) (t : Stepped) (h : step s e ≡ Some t) where
   -- the state after the work on a message

@@ -1,5 +1,5 @@
 -- The machine: what one event makes of its state and what it sends, given what the outside chose (own, over RFC 7047, 4).
-use Rattle.std.specs.Prelude.{◌≡◌, ◌⊎◌, ℕ, ◌+◌, ◌==◌, ◌&&◌, not, nat_le, List, [], ◌∷◌, ◌++◌, length, map, filter, Bool, if◌then◌else◌, Option, Some, None, codes}
+use Rattle.std.specs.Prelude.{◌≡◌, ◌⊎◌, ℕ, ◌+◌, ◌==◌, ◌&&◌, not, nat_le, List, [], ◌∷◌, ◌++◌, length, map, filter, Bool, if◌then◌else◌, Option, Some, None, is_some, codes}
 use Rattle.std.specs.List.{list_any}
 use Rattle.serde_json.specs.Data.{Data, array, Items, no_items, item}
 use Rattle.serde_json.specs.Find.{as_str}
@@ -161,14 +161,10 @@ abbrev pub listed : ℕ → List Attempt → Listed
 listed number [] = record { outcome = None; others = [] }
 listed number (a ∷ attempts) = if a.number == number then record { outcome = Some a.outcome; others = attempts } else record { outcome = None; others = a ∷ attempts }
 
--- An attempt that has nothing for the store: its trees are sent; where memory was refused the session at work is closed in
--- place of that. The store answers nothing that it was not asked (own).
-abbrev pub attempted : State → ℕ → List Data → Option Outcome → Option Stepped
-attempted s session trees None = Some (record { state = s; sent = to_session session trees })
-attempted s session trees (Some NoMemory) = Some (closed s session)
-attempted s session trees (Some Committed) = None
-attempted s session trees (Some Exhausted) = None
-attempted s session trees (Some Failed) = None
+-- These trees are sent, and the store is not asked: so it answers nothing (own).
+abbrev pub sends_at_once : State → ℕ → List Data → Option Outcome → Option Stepped
+sends_at_once s session trees None = Some (record { state = s; sent = to_session session trees })
+sends_at_once s session trees (Some outcome) = None
 
 -- ---- a transaction
 
@@ -180,33 +176,21 @@ results_of id results = reply_tree id (array results) ∷ []
 abbrev pub sends_results : State → ℕ → Data → Items → Stepped
 sends_results s session id results = record { state = s; sent = to_session session (results_of id results) }
 
--- A transaction that changes the database asks the store. Where the store keeps the change, the database is the new one; where
--- it has no room, nothing is changed; where it fails, the database stays and is sealed (own).
+-- What comes of the store's answer: where it keeps the change, the database is the new one; where it has no room, nothing is
+-- changed; where it fails, the database stays and is sealed (own).
 abbrev pub commits : State → ℕ → Data → Transacted → Option Outcome → Option Stepped
-commits s session id t None = None
 commits s session id t (Some Committed) = Some (sends_results (record s { database = t.database }) session id t.results)
 commits s session id t (Some Exhausted) = Some (sends_results s session id (exhausted_results t.results))
 commits s session id t (Some Failed) = Some (sends_results (record s { sealed = Some t.database }) session id (failed_results t.results))
-commits s session id t (Some NoMemory) = Some (closed s session)
+commits s session id t outcome = None
 
--- a transaction that would change the database; a sealed one asks the store no more, and answers as where it fails (own)
-abbrev pub commits_unless_sealed : State → ℕ → Data → Transacted → Option Database → Option Outcome → Option Stepped
-commits_unless_sealed s session id t None outcome = commits s session id t outcome
-commits_unless_sealed s session id t (Some sealed) outcome = attempted s session (results_of id (failed_results t.results)) outcome
-
--- what comes of a transaction: where it leaves the database as it was, the store is not asked (RFC 7047, 4.1.3)
-abbrev pub transacts : State → ℕ → Data → Transacted → Option Outcome → Option Stepped
-transacts s session id t outcome =
-    if same_database s.database t.database then attempted s session (results_of id t.results) outcome
-    else commits_unless_sealed s session id t s.sealed outcome
-
--- As many identifiers are drawn as are wanted, or fewer where memory was refused on the way (own).
-abbrev pub is_draw_count : Option Outcome → ℕ → ℕ → Bool
-is_draw_count (Some NoMemory) drawn wanted = nat_le drawn wanted
-is_draw_count (Some Committed) drawn wanted = drawn == wanted
-is_draw_count (Some Exhausted) drawn wanted = drawn == wanted
-is_draw_count (Some Failed) drawn wanted = drawn == wanted
-is_draw_count None drawn wanted = drawn == wanted
+-- What comes of a transaction. Where it leaves the database as it was, the store is not asked; a sealed database asks the store
+-- no more, and answers as where it fails; else the store is asked to keep the change (RFC 7047, 4.1.3).
+abbrev pub attempt : State → ℕ → Data → Transacted → Option Outcome → Option Stepped
+attempt s session id t outcome =
+    if same_database s.database t.database then sends_at_once s session (results_of id t.results) outcome
+    else (if is_some s.sealed then sends_at_once s session (results_of id (failed_results t.results)) outcome
+    else commits s session id t outcome)
 
 -- ---- one step
 
@@ -226,11 +210,21 @@ is_without_choice c = none_listed c.outcomes && none_drawn c
 abbrev pub when : {A : Type 0} → Bool → Option A → Option A
 when suits answer = if suits then answer else None
 
--- the work, with the identifiers that were drawn for it and what is listed of it (own)
+-- how many identifiers are drawn for the work (own)
+abbrev pub draws_for : Work → ℕ
+draws_for (Answers trees) = 0
+draws_for (Transact id operations) = draws_wanted operations
+
+-- the work, done with the identifiers that were drawn for it, and with the store's answer where it was asked (own)
+abbrev pub does : State → ℕ → List Uuid → Option Outcome → Work → Option Stepped
+does s session draws outcome (Answers trees) = sends_at_once s session trees outcome
+does s session draws outcome (Transact id operations) = attempt s session id (transaction s.schema s.database draws operations) outcome
+
+-- The work, with the identifiers that were drawn for it and what is listed of it. Where memory was refused, at most as many
+-- were drawn as are wanted, and the session is closed; else just so many were drawn, and the work is done (own).
 abbrev pub works : State → ℕ → List Uuid → Option Outcome → Work → Option Stepped
-works s session draws outcome (Answers trees) = when (is_draw_count outcome (length draws) 0) (attempted s session trees outcome)
-works s session draws outcome (Transact id operations) =
-    when (is_draw_count outcome (length draws) (draws_wanted operations)) (transacts s session id (transaction s.schema s.database draws operations) outcome)
+works s session draws (Some NoMemory) work = when (nat_le (length draws) (draws_for work)) (Some (closed s session))
+works s session draws outcome work = when (length draws == draws_for work) (does s session draws outcome work)
 
 -- the work on a message is attempt 1 of its event, and nothing else is tried (own)
 abbrev pub takes : State → Choice → ℕ → Message → Listed → Option Stepped
