@@ -1,4 +1,4 @@
-use crate::failing::FailingKeeper;
+use crate::failing_keeper::FailingKeeper;
 use crate::lines::line_of;
 use crate::schemas::NET;
 use ov_base::Text;
@@ -29,15 +29,23 @@ impl Faults {
     };
 }
 
-/// A keeper of this schema's text, and of these lines.
-pub fn keeper_of(alloc: Global, schema: &str, lines: &str) -> Result<ListKeeper, Fail> {
+/// The changes that put lines.
+fn changes_of(alloc: Global, lines: &str) -> Result<Vec<Change>, Fail> {
     let mut changes = Vec::new(alloc);
     for line in lines.lines() {
         changes.push(Change::Put(line_of(alloc, line)?))?;
     }
+    Ok(changes)
+}
+
+/// A keeper of this schema's text, and of these lines.
+pub fn keeper_of(alloc: Global, schema: &str, lines: &str) -> Result<ListKeeper, Fail> {
+    let changes = changes_of(alloc, lines)?;
     let mut keeper = ListKeeper::new(alloc, Text::from_str(alloc, schema)?);
-    keeper.commit(alloc, changes.as_slice())?;
-    Ok(keeper)
+    match keeper.commit(alloc, changes.as_slice()) {
+        Ok(()) => Ok(keeper),
+        Err(_) => Err(Fail::new("not kept")),
+    }
 }
 
 /// A keeper over another, failing as it is told.

@@ -5,7 +5,7 @@
 #![tactic(auto)]
 
 mod counter;
-mod failing;
+mod failing_keeper;
 mod keepers;
 mod keeping;
 mod lines;
@@ -19,7 +19,7 @@ mod tree_texts;
 mod writers;
 
 pub use counter::Counter;
-pub use failing::FailingKeeper;
+pub use failing_keeper::FailingKeeper;
 pub use keepers::{Faults, NetKeeper, failing, keeper_of, net_keeper};
 pub use keeping::Keeping;
 pub use lines::{change_of, line_of, number, text_of_line};

@@ -16,11 +16,12 @@ pub fn line_of(alloc: Global, text: &str) -> Result<Line, Fail> {
     let (version, body) = rest.split_once(" ").ok_or("no body")?;
     let id = number(id)?;
     let version = number(version)?;
+    let body = Bytes::from_slice(alloc, body.as_bytes())?;
     Ok(Line {
         table: Text::from_str(alloc, table)?,
         id,
         version,
-        body: Bytes::from_slice(alloc, body.as_bytes())?,
+        body,
     })
 }
 

@@ -17,14 +17,6 @@ pub fn net_core(alloc: Global, faults: Faults) -> Result<NetCore, Fail> {
     Ok(Core::open(alloc, keeper, schema, Counter::new())?)
 }
 
-/// The session of this serial: one is open at a time, so all have the first key.
-fn session(serial: &str) -> Result<Session, Fail> {
-    Ok(Session {
-        key: 0,
-        serial: serial.parse::<u64>()?,
-    })
-}
-
 /// A machine behind a script.
 ///
 /// The commands are `open MOMENT`, `tick MOMENT`, `take SERIAL MESSAGE`, `end SERIAL`, `close SERIAL`, `is_open SERIAL`, `frame SERIAL`
@@ -43,9 +35,7 @@ impl Machine {
     }
 
     /// Takes the message of a session.
-    fn take(&mut self, alloc: Global, taken: &str) -> Result<String, Fail> {
-        let (serial, text) = taken.split_once(" ").ok_or("no message")?;
-        let session = session(serial)?;
+    fn take(&mut self, alloc: Global, session: Session, text: &str) -> Result<String, Fail> {
         let message = Message::read(alloc, text.as_bytes())?;
         self.step(alloc, 0, Event::Take(session, message))
     }
@@ -79,23 +69,36 @@ impl Machine {
         }
         Ok(text)
     }
+
+    /// What comes of a command for a number, which is a moment or a serial. One session is open at a time, so all have the
+    /// first key.
+    fn act(&mut self, alloc: Global, word: &str, number: u64, text: &str) -> Result<String, Fail> {
+        let session = Session {
+            key: 0,
+            serial: number,
+        };
+        match word {
+            "open" => self.step(alloc, number, Event::Open),
+            "tick" => self.step(alloc, number, Event::Tick),
+            "take" => self.take(alloc, session, text),
+            "end" => self.step(alloc, 0, Event::Close(session, Cause::InputEnded)),
+            "close" => self.close(alloc, session),
+            "is_open" => Ok(format!(in alloc; "{}", self.core.is_open(session))?),
+            "frame" => self.frame(alloc, session),
+            "output" => self.output(alloc, session),
+            _ => Err(Fail::new("no command")),
+        }
+    }
 }
 
 impl Scripted for Machine {
     fn answer(&mut self, alloc: Global, command: &str) -> Result<String, Fail> {
-        let (word, rest) = command.split_once(" ").unwrap_or((command, ""));
-        match word {
-            "open" => self.step(alloc, rest.parse::<u64>()?, Event::Open),
-            "tick" => self.step(alloc, rest.parse::<u64>()?, Event::Tick),
-            "take" => self.take(alloc, rest),
-            "end" => self.step(alloc, 0, Event::Close(session(rest)?, Cause::InputEnded)),
-            "close" => self.close(alloc, session(rest)?),
-            "is_open" => Ok(format!(in alloc; "{}", self.core.is_open(session(rest)?))?),
-            "frame" => self.frame(alloc, session(rest)?),
-            "output" => self.output(alloc, session(rest)?),
-            "moments" => self.moments(alloc),
-            _ => Err(Fail::new("no command")),
+        if command == "moments" {
+            return self.moments(alloc);
         }
+        let (word, rest) = command.split_once(" ").ok_or("no number")?;
+        let (number, text) = rest.split_once(" ").unwrap_or((rest, ""));
+        self.act(alloc, word, number.parse::<u64>()?, text)
     }
 }
 
