@@ -27,23 +27,29 @@ made 1:Switch 1 0 one;Switch 2 0 two;
 made 1:Port 1 1 port;Switch 2 1 two again;
 made 2:Port 1 1 port;Switch 2 1 two again;";
 
+/// Which lines a store has that was not made.
+fn lines_of_refused<S: Alter + Drop>(alloc: Global, store: Store<S>) -> Result<&'static str, Fail> {
+    let mut store = store;
+    if store.load_all(alloc)?.is_empty() {
+        Ok("refused: a store")
+    } else {
+        Ok("refused: lines")
+    }
+}
+
 /// What is found in a database that is opened again, on which no store was made.
 fn found_again<S: Alter + Drop>(alloc: Global, again: Connection<S>) -> Result<&'static str, Fail> {
-    match Store::open(alloc, again) {
-        Ok(store) => {
-            let mut store = store;
-            let is_new = store.load_all(alloc)?.is_empty();
-            Ok(if is_new {
-                "refused: a store"
-            } else {
-                "refused: lines"
-            })
-        }
-        Err(refused) => Ok(if refused.connection.schema().tables.is_empty() {
-            "refused: nothing"
-        } else {
-            "refused: a part"
-        }),
+    if !again.is_autocommit() {
+        return Err(Fail::new("in a transaction"));
+    }
+    let refused = match Store::open(alloc, again) {
+        Ok(store) => return lines_of_refused(alloc, store),
+        Err(refused) => refused,
+    };
+    if refused.connection.schema().tables.is_empty() {
+        Ok("refused: nothing")
+    } else {
+        Ok("refused: a part")
     }
 }
 
@@ -121,6 +127,16 @@ fn found_over_fuses(alloc: Global, log_calls: u64, file_calls: u64) -> Result<St
     }
 }
 
+/// Whether this may be found.
+fn is_allowed(found: &str) -> bool {
+    for line in ALLOWED.lines() {
+        if line == found {
+            return true;
+        }
+    }
+    false
+}
+
 /// The first thing that is found and not allowed, where the log fails after each number of calls in turn, or the file does;
 /// otherwise what is found where neither fails.
 fn first_foreign(alloc: Global, is_log: bool) -> Result<String, Fail> {
@@ -130,7 +146,7 @@ fn first_foreign(alloc: Global, is_log: bool) -> Result<String, Fail> {
         } else {
             found_over_fuses(alloc, u64::MAX, calls)?
         };
-        if !ALLOWED.lines().any(|line| line == answer.as_str()) {
+        if !is_allowed(answer.as_str()) {
             return Ok(format!(in alloc; "{calls} {answer}")?);
         }
     }

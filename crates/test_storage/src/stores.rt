@@ -71,9 +71,8 @@ fn found<S: Alter + Drop>(
 /// connection to files by itself, since each function that holds one is long to prove.
 fn found_after_a_close(alloc: Global, script: &str, next: &str) -> Result<(), Fail> {
     let store = store_in_memory(alloc, Text::from_str(alloc, "new")?)?;
-    let Ok(files) = kept(alloc, store, script)?.close_files() else {
-        return Err(Fail::new("not closed"));
-    };
+    let connection = kept(alloc, store, script)?;
+    let files = connection.close_files().ok().ok_or("not closed")?;
     match Connection::open_files(alloc, files, Options::new(2)) {
         Ok(again) => found(alloc, again, next),
         Err(_) => Err(Fail::new("not opened again")),
