@@ -60,6 +60,22 @@ impl Database {
         Ok(String::from_str(alloc, word)?)
     }
 
+    /// Whether there is a row of a key.
+    fn has_row(&self, alloc: Global, key: &str) -> Result<String, Fail> {
+        let key = key_of(alloc, key)?;
+        let has_row = self.db.row(&key).is_some();
+        Ok(format!(in alloc; "{has_row}")?)
+    }
+
+    /// What comes of a command for one row.
+    fn act(&mut self, alloc: Global, word: &str, row: &str) -> Result<String, Fail> {
+        match word {
+            "put" => self.commit(alloc, put_of(alloc, row)?),
+            "remove" => self.commit(alloc, removal_of(alloc, row)?),
+            _ => self.has_row(alloc, row),
+        }
+    }
+
     /// The switches.
     fn switches(&self, alloc: Global) -> Result<String, Fail> {
         let mut text = String::new(alloc);
@@ -72,16 +88,15 @@ impl Database {
 
 impl Scripted for Database {
     fn answer(&mut self, alloc: Global, command: &str) -> Result<String, Fail> {
-        let (word, rest) = command.split_once(" ").unwrap_or((command, ""));
-        match word {
-            "put" => self.commit(alloc, put_of(alloc, rest)?),
-            "remove" => self.commit(alloc, removal_of(alloc, rest)?),
+        match command {
             "nothing" => self.commit(alloc, Delta::new(alloc)),
-            "row" => Ok(format!(in alloc; "{}", self.db.row(&key_of(alloc, rest)?).is_some())?),
             "rows" => self.switches(alloc),
             "sealed" => Ok(format!(in alloc; "{}", self.db.sealed())?),
             "failures" => Ok(format!(in alloc; "{}", self.db.failures())?),
-            _ => Err(Fail::new("no command")),
+            _ => {
+                let (word, rest) = command.split_once(" ").ok_or("no number")?;
+                self.act(alloc, word, rest)
+            }
         }
     }
 }

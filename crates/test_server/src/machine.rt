@@ -1,8 +1,8 @@
 use ov_core::Core;
-use ov_keeper::ListKeeper;
+use ov_core::early::OpenFault;
 use std::alloc::Global;
 use std::test::Fail;
-use test_support::{Counter, NET, keeper_of, net, steps};
+use test_support::{Counter, Faults, NET, failing, keeper_of, net, steps};
 
 /// One session is open at a time.
 const ONE_AT_A_TIME: &str = r#"open 0 -> Opened(Session { key: 0, serial: 1 })
@@ -69,20 +69,18 @@ fn an_earlier_moment_counts_as_the_last_one(rt: HostRuntime) -> Result<(), Fail>
     steps(rt.alloc(), MOMENTS)
 }
 
-/// Why a machine over the keeper is not opened.
-fn refusal(alloc: Global, keeper: ListKeeper) -> Result<String, Fail> {
-    match Core::open(alloc, keeper, net(alloc)?, Counter::new()) {
-        Ok(_) => Ok(String::from_str(alloc, "opened")?),
-        Err(fault) => Ok(format!(in alloc; "{fault:?}")?),
-    }
+/// Why a machine is not opened over a keeper of this schema's text and of these lines.
+fn refusal(alloc: Global, stored: &str, lines: &str) -> Result<Option<OpenFault>, Fail> {
+    let schema = net(alloc)?;
+    let keeper = failing(keeper_of(alloc, stored, lines)?, Faults::NONE);
+    Ok(Core::open(alloc, keeper, schema, Counter::new()).err())
 }
 
 #[test]
 fn a_database_that_does_not_fit_is_not_opened(rt: HostRuntime) -> Result<(), Fail> {
-    let alloc = rt.alloc();
-    let other = keeper_of(alloc, "{\"name\":\"Other\"}", "")?;
-    assert_eq!(rt; refusal(alloc, other)?.as_str(), "SchemaDiffers");
-    let filled = keeper_of(alloc, NET, "Port 1 0 {}")?;
-    assert_eq!(rt; refusal(alloc, filled)?.as_str(), "BadBody");
+    let other = refusal(rt.alloc(), "{\"name\":\"Other\"}", "")?;
+    assert_eq!(rt; other, Some(OpenFault::SchemaDiffers));
+    let filled = refusal(rt.alloc(), NET, "Port 1 0 {}")?;
+    assert_eq!(rt; filled, Some(OpenFault::BadBody));
     Ok(())
 }

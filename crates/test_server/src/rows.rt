@@ -102,8 +102,10 @@ impl Standing {
     }
 
     fn put(&mut self, alloc: Global, key: &str) -> Result<(), Fail> {
-        let row = switch(alloc, key, 4)?;
-        Ok(self.rows.insert(key_of(alloc, key)?, row)?)
+        let key = key_of(alloc, key)?;
+        let row = switch(alloc, "s1", 4)?;
+        self.rows.insert(key, row)?;
+        Ok(())
     }
 }
 
@@ -154,13 +156,17 @@ struct Changing {
 impl Changing {
     /// Puts a row at the key.
     fn put(&mut self, alloc: Global, key: &str) -> Result<(), Fail> {
+        let key = key_of(alloc, key)?;
         let row = switch(alloc, "s1", 4)?;
-        Ok(self.delta.insert(key_of(alloc, key)?, Some(row))?)
+        self.delta.insert(key, Some(row))?;
+        Ok(())
     }
 
     /// Puts none in its place.
     fn remove(&mut self, alloc: Global, key: &str) -> Result<(), Fail> {
-        Ok(self.delta.insert(key_of(alloc, key)?, None)?)
+        let key = key_of(alloc, key)?;
+        self.delta.insert(key, None)?;
+        Ok(())
     }
 
     /// What is said of the key.

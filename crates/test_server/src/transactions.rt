@@ -59,8 +59,8 @@ fn rows_of(alloc: Global, script: &str) -> Result<Rows, Fail> {
 /// Each transaction of a script, on the rows that another puts, has the results that it says.
 fn perform_over(alloc: Global, rows: &str, draws: &str, script: &str) -> Result<(), Fail> {
     let draws = uuids(alloc, draws)?;
-    let rows = rows_of(alloc, rows)?;
     let schema = net(alloc)?;
+    let rows = rows_of(alloc, rows)?;
     let transactions = Transactions {
         schema,
         rows,
