@@ -9,10 +9,11 @@ mod start;
 
 use crate::start::run;
 use ov_words::{error_line_of, status_of};
+use sqlite::Unknown;
 use std::process::ExitCode;
 
 fn main(rt: HostRuntime) -> ExitCode {
-    let ending = run(&rt, &rt, rt.stdin(), rt.stdout());
+    let ending = run(&rt, &rt, Unknown, rt.stdin(), rt.stdout());
     if let Some(line) = error_line_of(ending) {
         let _ = eprintln!(rt; "{line}");
     }

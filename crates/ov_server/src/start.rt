@@ -10,7 +10,7 @@ use ov_store::{store_in_file, store_in_memory};
 use ov_words::{
     Ending, Settings, ending_of_keeping, ending_of_schema, ending_of_words, read_words,
 };
-use sqlite::Unknown;
+use sqlite::Start;
 use std::alloc::Global;
 use std::env;
 use std::env::Env;
@@ -20,9 +20,11 @@ use std::rt::Files;
 use std::sync::Wait;
 
 /// Runs the program, and tells how it ends. Faults are looked for in the words, then in the schema, then in the database.
-pub fn run<R: Wait + RandomSource, I: Read + Drop, O: Write + Drop>(
+/// `start` stands for what the database's file and its log hold.
+pub fn run<R: Wait + RandomSource, S: Start, I: Read + Drop, O: Write + Drop>(
     host: &HostRuntime,
     rt: &R,
+    start: S,
     input: I,
     output: O,
 ) -> Ending {
@@ -41,7 +43,7 @@ pub fn run<R: Wait + RandomSource, I: Read + Drop, O: Write + Drop>(
     let Ok(text) = text_of(host.alloc(), &schema) else {
         return Ending::Memory;
     };
-    serve_database(host, rt, db, text, schema, input, output)
+    serve_database(host, rt, db, start, text, schema, input, output)
 }
 
 /// What the words say.
@@ -77,10 +79,11 @@ fn schema_of<R: Files>(rt: &R, alloc: Global, file: Option<Text>) -> Result<Sche
 }
 
 /// Serves the database of a file, or one in memory where none is named. Nothing else of the program sees which store serves.
-fn serve_database<R: Wait + RandomSource, I: Read + Drop, O: Write + Drop>(
+fn serve_database<R: Wait + RandomSource, S: Start, I: Read + Drop, O: Write + Drop>(
     host: &HostRuntime,
     rt: &R,
     db: Option<Text>,
+    start: S,
     text: Text,
     schema: Schema,
     input: I,
@@ -97,7 +100,7 @@ fn serve_database<R: Wait + RandomSource, I: Read + Drop, O: Write + Drop>(
             output,
         ),
         Some(path) => {
-            let store = store_in_file(host, path.as_str(), text, Unknown);
+            let store = store_in_file(host, path.as_str(), text, start);
             serve_store(rt, alloc, store, schema, input, output)
         }
     }
