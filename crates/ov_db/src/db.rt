@@ -1,19 +1,21 @@
-ghost use Rattle.std.specs.Prelude.{◌≡◌, ◌⊎◌, ◌<◌, ◌==◌, ◌-◌, ◌^◌, map, true, is_some, option_copied, IfOk, IfErr, None};
+ghost use Rattle.std.specs.Prelude.{◌≡◌, ◌≤◌, ◌==◌, map, true, is_some, option_copied, IfOk, IfErr, None};
 ghost use Rattle.std.specs.FinMap.{get, entries, len};
 ghost use Rattle.std.specs.List.{filter};
 ghost use Rattle.serde_json.specs.Written.{compact_text};
 ghost use Rattle.ov_specs.specs.rows.Lines.{Contents};
 ghost use Rattle.std.specs.Str.{bytes_eq};
-ghost use Rattle.ov_keeper.specs.Keeping.{LeavesNoMore};
+ghost use Rattle.ov_keeper.specs.Keeping.{LeavesNoMore, HasFailed};
+ghost use Rattle.ov_keeper.specs.declared.fault.KeepFault.TheVariants.{Device};
 ghost use Rattle.ov_db.specs.Committing.{Commits, MayHold};
-ghost use Rattle.ov_db.specs.Opening.{CanOpen, RefusesOpen};
+ghost use Rattle.ov_db.specs.Opening.{CanOpen, IsOpenFault, RefusesOpen};
 ghost use Rattle.ov_db.specs.declared.answer.StoreAnswer.TheVariants.{Kept, Failed};
+ghost use Rattle.ov_db.specs.declared.fault.OpenFault.TheVariants.{Keeping};
 
 use crate::answer::StoreAnswer;
 use crate::commit::{changes_of, make, place, take_out};
 use crate::delta::Delta;
-use crate::fault::OpenFault;
-use crate::load::rows_of;
+use crate::fault::RefusedOpen;
+use crate::load::load_rows;
 use ov_keeper::{KeepFault, Keeper};
 use ov_rows::{Row, RowKey, Rows};
 use ov_schema::Schema;
@@ -56,24 +58,30 @@ impl<K: Keeper + Drop> Db<K> {
     /// The database of what a keeper holds, each of its lines being a row.
     ///
     /// It is refused as `SchemaDiffers` where the keeper holds another text than the schema's, as `BadBody` where one of its
-    /// lines is no row of the schema, and with the keeper's fault; the first of these that applies, the keeper's before all.
-    /// Memory that is refused is the keeper's fault `Memory`. What the keeper holds is not changed.
-    pub fn open(alloc: Global, keeper: K, schema: Schema) -> Result<Db<K>, OpenFault>
+    /// lines is no row of the schema, and with the fault of the keeper's load; the first of these that applies, the keeper's
+    /// before all. Memory that is refused is the keeper's fault `Memory`. What the keeper holds is not changed, and a refusal
+    /// gives it back.
+    pub fn open(alloc: Global, mut keeper: K, schema: Schema) -> Result<Db<K>, RefusedOpen<K>>
         ensures rest { IfOk result (λ d. (d.schema ≡ schema) × (d.sealed ≡ None)) }
         ensures held { IfOk result (λ d. K.is_honest d.keeper → (held : Contents) → K.leaves keeper held → CanOpen schema d.committed held) }
         ensures same { IfOk result (λ d. K.is_honest d.keeper → LeavesNoMore (K.leaves keeper) (K.leaves d.keeper)) }
         ensures honest { IfOk result (λ d. K.is_honest d.keeper → K.is_honest keeper) }
-        ensures fault { IfErr result (λ fault. (later : K) × (K.is_honest later → (held : Contents) → K.leaves keeper held → RefusesOpen schema held fault)) }
+        ensures kinds { IfErr result (λ e. IsOpenFault e.fault) }
+        ensures fault { IfErr result (λ e. K.is_honest e.keeper → (held : Contents) → K.leaves keeper held → RefusesOpen schema held e.fault) }
+        // A failure of the device has a cause: the keeper's count rose in this call, or stood at its greatest.
+        ensures cause { IfErr result (λ e. e.fault ≡ Keeping Device → HasFailed (K.failed keeper) (K.failed e.keeper)) }
+        ensures same_refused { IfErr result (λ e. K.is_honest e.keeper → LeavesNoMore (K.leaves keeper) (K.leaves e.keeper)) }
+        ensures honest_refused { IfErr result (λ e. K.is_honest e.keeper → K.is_honest keeper) }
     {
-        let mut keeper = keeper;
-        let loaded = keeper.load(alloc)?;
-        let rows = rows_of(alloc, &schema, &loaded)?;
-        Ok(Db {
-            schema,
-            rows,
-            failed: None,
-            keeper,
-        })
+        match load_rows(alloc, &mut keeper, &schema) {
+            Ok(rows) => Ok(Db {
+                schema,
+                rows,
+                failed: None,
+                keeper,
+            }),
+            Err(fault) => Err(RefusedOpen { fault, keeper }),
+        }
     }
 
     /// Its schema.
@@ -148,7 +156,8 @@ impl<K: Keeper + Drop> Db<K> {
         ensures sealed { is_some self.old.sealed ≡ true → (result ≡ Failed) × (self.new ≡ self.old) }
         ensures empty { self.old.sealed ≡ None → (len delta == 0) ≡ true → (result ≡ Kept) × (self.new ≡ self.old) }
         // A failure has a cause: the device's count rises, where it is not at its greatest.
-        ensures cause { self.old.sealed ≡ None → result ≡ Failed → (K.failed self.old.keeper < K.failed self.new.keeper) ⊎ (K.failed self.old.keeper ≡ 2 ^ 64 - 1) }
+        ensures cause { self.old.sealed ≡ None → result ≡ Failed → HasFailed (K.failed self.old.keeper) (K.failed self.new.keeper) }
+        ensures counts { K.failed self.old.keeper ≤ K.failed self.new.keeper }
         ensures honest { K.is_honest self.new.keeper → K.is_honest self.old.keeper }
     {
         if self.sealed() {
@@ -164,7 +173,8 @@ impl<K: Keeper + Drop> Db<K> {
     fn commit_changes(&mut self, alloc: Global, delta: Delta) -> StoreAnswer
         requires { self.old.sealed ≡ None }
         ensures commits { Commits delta self.old result self.new }
-        ensures cause { result ≡ Failed → (K.failed self.old.keeper < K.failed self.new.keeper) ⊎ (K.failed self.old.keeper ≡ 2 ^ 64 - 1) }
+        ensures cause { result ≡ Failed → HasFailed (K.failed self.old.keeper) (K.failed self.new.keeper) }
+        ensures counts { K.failed self.old.keeper ≤ K.failed self.new.keeper }
         ensures honest { K.is_honest self.new.keeper → K.is_honest self.old.keeper }
     {
         let Ok(changes) = changes_of(alloc, &delta) else {

@@ -1,5 +1,6 @@
-use ov_keeper::KeepFault;
+use ov_keeper::{KeepFault, Keeper};
 use std::alloc::AllocError;
+use std::fmt;
 use thiserror::Error;
 
 /// Why a database is not opened.
@@ -39,5 +40,21 @@ impl From<KeepFault> for OpenFault {
 
     fn from(fault: KeepFault) -> OpenFault {
         OpenFault::Keeping(fault)
+    }
+}
+
+/// Why a database is not opened, and its keeper, given back.
+#[derive(Drop, Error)]
+#[error("{fault}")]
+pub struct RefusedOpen<K: Keeper> {
+    pub fault: OpenFault,
+    pub keeper: K,
+}
+
+impl<K: Keeper> fmt::Debug for RefusedOpen<K> {
+    fn fmt<W: fmt::Write>(&self, f: &mut fmt::Formatter<W>) -> fmt::Result {
+        f.debug_struct("RefusedOpen")
+            .field("fault", &self.fault)
+            .finish_non_exhaustive()
     }
 }

@@ -15,5 +15,5 @@ mod read;
 pub use answer::StoreAnswer;
 pub use db::Db;
 pub use delta::Delta;
-pub use fault::OpenFault;
+pub use fault::{OpenFault, RefusedOpen};
 pub use ov_keeper::{Keeper, ListKeeper};

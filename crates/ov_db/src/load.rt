@@ -1,21 +1,42 @@
-ghost use Rattle.std.specs.Prelude.{◌≡◌, map, Some, IfOk, IfErr, OnOk};
+ghost use Rattle.std.specs.Prelude.{◌≡◌, map, Some, Err, IfOk, IfErr, OnOk};
 ghost use Rattle.std.specs.FinMap.{empty};
-ghost use Rattle.ov_keeper.specs.Keeping.{loaded_contents};
+ghost use Rattle.ov_specs.specs.rows.Lines.{Contents};
+ghost use Rattle.ov_keeper.specs.Keeping.{HasFailed, LeavesNoMore, loaded_contents};
+ghost use Rattle.ov_keeper.specs.declared.fault.KeepFault.TheVariants.{Device};
 ghost use Rattle.ov_keeper.specs.Views.{line_entry};
 ghost use Rattle.ov_db.specs.Loading.{IsNotLoaded, IsLoaded, with_line, with_lines};
-ghost use Rattle.ov_db.specs.Opening.{CanOpen, RefusesOpen};
+ghost use Rattle.ov_db.specs.Opening.{CanOpen, IsOpenFault, IsOwnFault, RefusesOpen};
+ghost use Rattle.ov_db.specs.declared.fault.OpenFault.TheVariants.{Keeping};
 
 use crate::fault::OpenFault;
 use crate::read::row_of;
-use ov_keeper::{Line, Loaded};
+use ov_keeper::{KeepFault, Keeper, Line, Loaded};
 use ov_rows::{RowKey, Rows};
 use ov_schema::Schema;
 use std::alloc::Global;
 
+/// Loads what a keeper holds, and gives its rows.
+pub(crate) fn load_rows<K: Keeper>(
+    alloc: Global,
+    keeper: &mut K,
+    schema: &Schema,
+) -> Result<Rows, OpenFault>
+    ensures ok { K.is_honest keeper.new → IfOk result (λ rows. (held : Contents) → K.leaves keeper.old held → CanOpen schema.now rows held) }
+    ensures err { K.is_honest keeper.new → IfErr result (λ fault. (held : Contents) → K.leaves keeper.old held → RefusesOpen schema.now held fault) }
+    ensures kinds { IfErr result IsOpenFault }
+    ensures cause { result ≡ Err (Keeping Device) → HasFailed (K.failed keeper.old) (K.failed keeper.new) }
+    ensures same { K.is_honest keeper.new → LeavesNoMore (K.leaves keeper.old) (K.leaves keeper.new) }
+    ensures honest { K.is_honest keeper.new → K.is_honest keeper.old }
+{
+    let loaded = keeper.load(alloc)?;
+    rows_of(alloc, schema, &loaded)
+}
+
 /// The rows of what a keeper holds, where that can be opened under the schema: else the first cause why it can't.
-pub(crate) fn rows_of(alloc: Global, schema: &Schema, loaded: &Loaded) -> Result<Rows, OpenFault>
+fn rows_of(alloc: Global, schema: &Schema, loaded: &Loaded) -> Result<Rows, OpenFault>
     ensures ok { IfOk result (λ rows. CanOpen schema.now rows (loaded_contents loaded.now)) }
     ensures err { IfErr result (RefusesOpen schema.now (loaded_contents loaded.now)) }
+    ensures kinds { IfErr result IsOwnFault }
 {
     let text = schema.tree().to_bytes(alloc)?;
     if loaded.schema.as_str().as_bytes() != text.as_slice() {

@@ -1,5 +1,5 @@
 -- What a call of a keeper makes of the contents that an open now would find.
-use Rattle.std.specs.Prelude.{◌≡◌, ◌⊎◌, List, map}
+use Rattle.std.specs.Prelude.{◌≡◌, ◌⊎◌, ◌<◌, ◌-◌, ◌^◌, ℕ, List, map}
 use Rattle.std.specs.FinMap.{from_entries}
 use Rattle.ov_specs.specs.rows.Lines.{Contents, LineChange, after_changes}
 use Rattle.ov_keeper.specs.declared.keeper.Loaded.{Loaded}
@@ -38,6 +38,18 @@ IsCommitFault Device = Unit {0}
 IsCommitFault TooLarge = Unit {0}
 IsCommitFault NotOurs = ⊥
 IsCommitFault Format = ⊥
+
+-- a load is refused for want of memory, or by the device (own)
+abbrev pub IsLoadFault : KeepFault → Type 0
+IsLoadFault Memory = Unit {0}
+IsLoadFault Device = Unit {0}
+IsLoadFault TooLarge = ⊥
+IsLoadFault NotOurs = ⊥
+IsLoadFault Format = ⊥
+
+-- the device has failed in between: its count rose, or stood at its greatest before (own)
+abbrev pub HasFailed : ℕ → ℕ → Type 0
+HasFailed old new = (old < new) ⊎ (old ≡ 2 ^ 64 - 1)
 
 -- the contents that were loaded
 abbrev pub loaded_contents : Loaded → Contents

@@ -1,7 +1,7 @@
 ghost use Rattle.std.specs.Prelude.{◌≡◌, ◌⊎◌, ◌<◌, ◌≤◌, ◌-◌, ◌^◌, ℕ, IfOk, IfErr, OnOk};
 ghost use Rattle.ov_specs.specs.rows.Lines.{Contents};
 ghost use Rattle.ov_keeper.specs.Views.{changes_view};
-ghost use Rattle.ov_keeper.specs.Keeping.{LeavesNoMore, LeavesChanged, LeavesRefused, IsCommitFault, loaded_contents};
+ghost use Rattle.ov_keeper.specs.Keeping.{LeavesNoMore, LeavesChanged, LeavesRefused, IsCommitFault, IsLoadFault, loaded_contents};
 
 use crate::fault::KeepFault;
 use crate::line::{Change, Line};
@@ -35,6 +35,10 @@ pub trait Keeper {
     fn load(&mut self, alloc: Global) -> Result<Loaded, KeepFault>
         ensures ok { is_honest self.new → IfOk result (λ loaded. (held : Contents) → leaves self.old held → held ≡ loaded_contents loaded) }
         ensures same { is_honest self.new → LeavesNoMore (leaves self.old) (leaves self.new) }
+        ensures kinds { IfErr result IsLoadFault }
+        // A failure of the device has a cause: its count rises, where it is not at its greatest.
+        ensures cause { result ≡ Err KeepFault.Device → (failed self.old < failed self.new) ⊎ (failed self.old ≡ 2 ^ 64 - 1) }
+        ensures counts { failed self.old ≤ failed self.new }
         ensures honest { is_honest self.new → is_honest self.old };
 
     /// Makes all changes, in order, or none.

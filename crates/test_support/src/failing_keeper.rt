@@ -10,6 +10,8 @@ pub struct FailingKeeper<K: Keeper> {
     pub inner: K,
     /// Whether the next commit is refused as too large.
     pub is_too_large: bool,
+    /// How many loads fail. The later ones are made.
+    pub bad_loads: u64,
     /// How many commits are made before the device fails.
     pub good: u64,
     /// How many commits fail then. The later ones are made.
@@ -32,7 +34,16 @@ impl<K: Keeper> Keeper for FailingKeeper<K> {
     }
 
     fn load(&mut self, alloc: Global) -> Result<Loaded, KeepFault> {
-        self.inner.load(alloc)
+        if self.bad_loads > 0 {
+            self.bad_loads -= 1;
+            self.failures = self.failures.saturating_add(1);
+            return Err(KeepFault::Device);
+        }
+        let loaded = self.inner.load(alloc);
+        if matches!(loaded, Err(KeepFault::Device)) {
+            self.failures = self.failures.saturating_add(1);
+        }
+        loaded
     }
 
     fn commit(&mut self, alloc: Global, changes: &[Change]) -> Result<(), KeepFault> {

@@ -53,6 +53,7 @@ pub fn failing<K: Keeper>(inner: K, faults: Faults) -> FailingKeeper<K> {
     FailingKeeper {
         inner,
         is_too_large: faults.is_too_large,
+        bad_loads: 0,
         good: faults.good,
         bad: faults.bad,
         failures: 0,

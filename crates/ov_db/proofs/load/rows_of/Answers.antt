@@ -7,3 +7,6 @@ returns-clause-ok c = (opens c.args.schema.now c.args.loaded.now c.rows_of_lines
 
 pub returns-clause-err : goal.returns-clause-err
 returns-clause-err c = (opens c.args.schema.now c.args.loaded.now c.rows_of_lines.result (search rules) (rw c.as_slice-2.ensures.value at c.rows_of_lines.ensures)).1
+
+pub returns-clause-kinds : goal.returns-clause-kinds
+returns-clause-kinds c = (opens c.args.schema.now c.args.loaded.now c.rows_of_lines.result (search rules) (rw c.as_slice-2.ensures.value at c.rows_of_lines.ensures)).2
