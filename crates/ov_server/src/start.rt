@@ -1,7 +1,7 @@
 //! From the program's words to what it serves, and on to its end.
 
 use crate::database::built_in_schema;
-use crate::session::serve;
+use crate::session::serve_over;
 use ov_base::Text;
 use ov_core::Schema;
 use ov_core::early::{KeepFault, Keeper};
@@ -116,7 +116,7 @@ fn serve_store<R: Wait + RandomSource, K: Keeper + Drop, I: Read + Drop, O: Writ
     output: O,
 ) -> Ending {
     match store {
-        Ok(store) => serve(rt, alloc, store, schema, input, output),
+        Ok(store) => serve_over(rt, alloc, store, schema, input, output),
         Err(fault) => ending_of_keeping(fault),
     }
 }
