@@ -1,0 +1,6 @@
+//! Scratch.
+#![tactic(auto)]
+
+mod session;
+
+pub use session::serve;
