@@ -1,7 +1,8 @@
 use Rattle.std.proofs.Common.{◌≡◌, ◌<◌, List, refl, sym, subst, take, arith}
+use Rattle.std.specs.Prelude.{IsSomeAnd, slice_get}
 use Rattle.ov_specs.specs.machine.Streams.{StreamEvent}
-use Rattle.ov_streams.specs.Running.{RunsEvents, StreamsState, stream_events_view}
-use Rattle.ov_streams.proofs.Suiting.{serves_none, serves_more, view_more, refused_at}
+use Rattle.ov_streams.specs.Running.{RunsEvents, RefusesEvent, StreamsState, stream_events_view}
+use Rattle.ov_streams.proofs.Suiting.{serves_none, serves_more, view_more, event_at}
 use Rattle.ov_streams.proofs.streams.Streams.run.Goals as goal
 
 pub loop-event-init : goal.loop-event-init
@@ -23,7 +24,8 @@ returns-in-Err g c =
       served = omega arith;
       suits = subst (λ (x : StreamsState _ _). RunsEvents (stream_events_view (take c.loop-event.event-index c.deref-event-items.result.now)) c.args.self.now x) (sym c.in-Err.ensures.0) inv.serves;
       whole = tt;
-      refused = refused_at c.deref-event-items.result.now c.loop-event.event-index c.event-item.result c.loop-event-test.true c.event-item.is c.in-Err.ensures.1;
+      refused = subst (λ (x : StreamsState _ _). IsSomeAnd (slice_get c.deref-event-items.result.now c.loop-event.event-index) (λ event. RefusesEvent event x.core.state c.in-Err.fault)) (sym c.in-Err.ensures.0)
+          (event_at (λ event. RefusesEvent event c.loop-event.self.core.state c.in-Err.fault) c.deref-event-items.result.now c.loop-event.event-index c.event-item.result c.loop-event-test.true c.event-item.is c.in-Err.ensures.1);
     })
 
 pub returns : goal.returns
