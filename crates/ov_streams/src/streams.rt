@@ -1,4 +1,4 @@
-ghost use Rattle.std.specs.Prelude.{◌≡◌, ◌≤◌, ◌++◌, ℕ, List, [], ◌∷◌, MatchResult, IfOk, OnErr, IfSome, IfNone, IsSomeAnd, length, take, slice_get, Some};
+ghost use Rattle.std.specs.Prelude.{◌≡◌, ◌≢◌, ◌≤◌, ◌++◌, ℕ, List, [], ◌∷◌, MatchResult, IfOk, OnOk, OnErr, IfSome, IfNone, IsSomeAnd, length, take, slice_get, Some};
 ghost use Rattle.ov_specs.specs.machine.Machine.{Entry, opening, Open as SpecOpen, Tick as SpecTick};
 ghost use Rattle.ov_specs.specs.schema.SchemaTypes.{Schema};
 ghost use Rattle.ov_specs.specs.rows.Database.{Database};
@@ -90,6 +90,11 @@ impl<K: Keeper + Drop, D: Draws + Drop> Streams<K, D> {
         ensures all { IfOk result (λ b. b ≡ joined (waiting_for session self.old.core.outbox)) }
         ensures handed { IfOk result (λ b. (schema : Schema) (database : Database) (list : List SpecEvent) (history : List Entry) (given : ℕ → List (List ℕ)) → FollowsEvents schema database list history given self.old
             → FollowsEvents schema database list history (and_all_handed given session (waiting_for session self.old.core.outbox)) self.new) }
+        // Nothing else is changed, but for what waits for this session.
+        ensures none_left { OnOk result (waiting_for session self.new.core.outbox ≡ []) }
+        ensures others { OnOk result ((other : ℕ) → other ≢ session → waiting_for other self.new.core.outbox ≡ waiting_for other self.old.core.outbox) }
+        ensures same { OnOk result (self.new ≡ record self.old { core = record self.old.core { outbox = self.new.core.outbox } }) }
+        // Where memory is refused, nothing was handed out.
         ensures refused { OnErr result (self.new ≡ self.old) }
     {
         self.core.take_output(

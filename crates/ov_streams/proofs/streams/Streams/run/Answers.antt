@@ -17,18 +17,18 @@ loop-event-preserved g c =
           (serves_more _ _ _ _ _ inv.serves c.in_default.ensures);
     }
 
-pub returns-in-Err : goal.returns-in-Err
-returns-in-Err g c =
+pub returns-in-Err-clause-suits : goal.returns-in-Err-clause-suits
+returns-in-Err-clause-suits g c =
     let inv = c.loop-event.invariant in
-    rw (← c.deref-event-items.ensures.value, inv.count) (record {
-      served = omega arith;
-      suits = subst (λ (x : StreamsState _ _). RunsEvents (stream_events_view (take c.loop-event.event-index c.deref-event-items.result.now)) c.args.self.now x) (sym c.in-Err.ensures.0) inv.serves;
-      whole = tt;
-      refused = subst (λ (x : StreamsState _ _). IsSomeAnd (slice_get c.deref-event-items.result.now c.loop-event.event-index) (λ event. RefusesEvent event x.core.state c.in-Err.fault)) (sym c.in-Err.ensures.0)
-          (event_at (λ event. RefusesEvent event c.loop-event.self.core.state c.in-Err.fault) c.deref-event-items.result.now c.loop-event.event-index c.event-item.result c.loop-event-test.true c.event-item.is c.in-Err.ensures.1);
-    })
+    rw (← c.deref-event-items.ensures.value, inv.count) (subst (λ (x : StreamsState _ _). RunsEvents (stream_events_view (take c.loop-event.event-index c.deref-event-items.result.now)) c.args.self.now x) (sym c.in-Err.ensures.0) inv.serves)
 
-pub returns : goal.returns
-returns g c =
+pub returns-in-Err-clause-refused : goal.returns-in-Err-clause-refused
+returns-in-Err-clause-refused g c =
     let inv = c.loop-event.invariant in
-    rw (← c.deref-event-items.ensures.value, inv.count) (record { served = omega arith; suits = inv.serves; whole = omega arith; refused = tt })
+    rw (← c.deref-event-items.ensures.value, inv.count) (subst (λ (x : StreamsState _ _). IsSomeAnd (slice_get c.deref-event-items.result.now c.loop-event.event-index) (λ event. RefusesEvent event x.core.state c.in-Err.fault)) (sym c.in-Err.ensures.0)
+    (event_at (λ event. RefusesEvent event c.loop-event.self.core.state c.in-Err.fault) c.deref-event-items.result.now c.loop-event.event-index c.event-item.result c.loop-event-test.true c.event-item.is c.in-Err.ensures.1))
+
+pub returns-clause-suits : goal.returns-clause-suits
+returns-clause-suits g c =
+    let inv = c.loop-event.invariant in
+    rw (← c.deref-event-items.ensures.value, inv.count) inv.serves
