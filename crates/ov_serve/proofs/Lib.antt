@@ -3,3 +3,4 @@ pub mod Closings
 pub mod Goings
 pub mod Servings
 pub mod Starts
+pub mod Tellings

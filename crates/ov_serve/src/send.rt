@@ -1,6 +1,7 @@
 ghost use Rattle.std.specs.Prelude.{◌≡◌, true};
 ghost use Rattle.ov_serve.specs.Serving.{WritesOf};
 ghost use Rattle.ov_serve.specs.Progress.{CountsFailures, Sends};
+ghost use Rattle.ov_serve.specs.Ends.{GivesWritten};
 
 use crate::ends::Sink;
 use ov_core::early::{Draws, Keeper};
@@ -13,6 +14,7 @@ pub(crate) fn write_waiting<K: Keeper + Drop, D: Draws + Drop, W: Sink>(
     writer: &mut W,
 ) -> bool
     ensures sends { Sends session.serial result core.old core.new (W.bytes_written writer.old) (W.bytes_written writer.new) }
+    ensures given { GivesWritten (W.bytes_written writer.old) (W.contents writer.old) (W.bytes_written writer.new) (W.contents writer.new) }
     ensures state { core.new.state ≡ core.old.state }
     ensures flushed { result ≡ true → W.is_flushed writer.new ≡ true }
     ensures faults { CountsFailures result (W.faults writer.old) (W.faults writer.new) }
@@ -28,6 +30,7 @@ pub(crate) fn write_waiting<K: Keeper + Drop, D: Draws + Drop, W: Sink>(
 /// Writes the bytes whole, in as many writes as it takes. False where the writer failed.
 fn write_frame<W: Sink>(writer: &mut W, bytes: &[u8]) -> bool
     ensures written { WritesOf result bytes.now (W.bytes_written writer.old) (W.bytes_written writer.new) }
+    ensures given { GivesWritten (W.bytes_written writer.old) (W.contents writer.old) (W.bytes_written writer.new) (W.contents writer.new) }
     ensures faults { CountsFailures result (W.faults writer.old) (W.faults writer.new) }
 {
     let mut rest = bytes;

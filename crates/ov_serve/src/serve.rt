@@ -1,10 +1,12 @@
-ghost use Rattle.std.specs.Prelude.{◌≡◌, ◌⊎◌, ◌++◌, ℕ, List, [], ◌∷◌, map, true, IfOk, IfErr};
+ghost use Rattle.std.specs.Prelude.{◌≡◌, ◌⊎◌, ◌≤◌, ◌++◌, ℕ, List, [], ◌∷◌, map, length, true, IfOk, IfErr};
+ghost use Rattle.std.specs.Io.KnownBytes.{IsAtEnd};
 ghost use Rattle.ov_specs.specs.machine.Machine.{is_open, Entry as SpecEntry, Open as SpecOpen};
 ghost use Rattle.ov_core.specs.Entries.{cause_view, event_view, entry_view};
 ghost use Rattle.ov_core.specs.Following.{CoreState};
 ghost use Rattle.ov_core.specs.Stepping.{RefusesStep};
 ghost use Rattle.ov_streams.specs.Feeding.{IsFed, EntersPiece};
-ghost use Rattle.ov_serve.specs.Serving.{IoState, io_state, Served, is_written, CauseMatchesCounts};
+ghost use Rattle.ov_serve.specs.Ends.{KeepsInput, GivesWritten};
+ghost use Rattle.ov_serve.specs.Serving.{IoState, io_state, Served, is_written, CauseMatchesCounts, most_piece_bytes};
 ghost use Rattle.ov_serve.specs.Progress.{stream_cause, ServedAndFed};
 
 use crate::ends::{Clock, Sink, Source};
@@ -38,6 +40,10 @@ pub fn serve_one<R: Wait, K: Keeper + Drop, D: Draws + Drop, S: Source, W: Sink,
         cause core.new (io_state (S.bytes_read reader.new) (W.bytes_written writer.new) clock.new)) }
     ensures flushed { IfOk result (λ cause. is_written cause ≡ true → W.is_flushed writer.new ≡ true) }
     ensures ends { IfOk result (λ cause. CauseMatchesCounts cause (S.at_end reader.new) (S.faults reader.old) (S.faults reader.new) (W.faults writer.old) (W.faults writer.new)) }
+    // What was read is of what the reader had, all of it where its end is told, and what was written is what the writer was given.
+    ensures input { IfOk result (λ cause. KeepsInput (S.bytes_read reader.old) (S.remaining reader.old) (S.bytes_read reader.new) (S.remaining reader.new)) }
+    ensures all { IfOk result (λ cause. cause ≡ Cause.InputEnded → IsAtEnd (S.remaining reader.new)) }
+    ensures given { IfOk result (λ cause. GivesWritten (W.bytes_written writer.old) (W.contents writer.old) (W.bytes_written writer.new) (W.contents writer.new)) }
     ensures refused { IfErr result (λ fault. (core.new ≡ core.old) × RefusesStep SpecOpen core.old.state fault) }
     ensures untouched { IfErr result (λ fault. (reader.new ≡ reader.old) × (writer.new ≡ writer.old) × (clock.new ≡ clock.old)) }
 {
@@ -66,6 +72,9 @@ fn serve_session<R: Wait, K: Keeper + Drop, D: Draws + Drop, S: Source, W: Sink,
         → Served C.tells session.serial first from result core.new (io_state (S.bytes_read reader.new) (W.bytes_written writer.new) clock.new) }
     ensures flushed { is_written result ≡ true → W.is_flushed writer.new ≡ true }
     ensures ends { CauseMatchesCounts result (S.at_end reader.new) (S.faults reader.old) (S.faults reader.new) (W.faults writer.old) (W.faults writer.new) }
+    ensures input { KeepsInput (S.bytes_read reader.old) (S.remaining reader.old) (S.bytes_read reader.new) (S.remaining reader.new) }
+    ensures all { result ≡ Cause.InputEnded → IsAtEnd (S.remaining reader.new) }
+    ensures given { GivesWritten (W.bytes_written writer.old) (W.contents writer.old) (W.bytes_written writer.new) (W.contents writer.new) }
 {
     let mut piece = [0u8; PIECE_BYTES];
     for _ in rt.forever() {
@@ -100,8 +109,10 @@ fn serve_piece<K: Keeper + Drop, D: Draws + Drop, C: Clock>(
     clock: &mut C,
     piece: &[u8],
 )
-    requires { is_open core.old.state session.serial ≡ true }
-    ensures { (stream : List ℕ) → IsFed stream cutter.old
+    requires open { is_open core.old.state session.serial ≡ true }
+    requires short { length piece.now ≤ most_piece_bytes }
+    ensures short { length piece.now ≤ most_piece_bytes }
+    ensures entered { (stream : List ℕ) → IsFed stream cutter.old
         → (at : ℕ) × C.tells clock.old at clock.new × EntersPiece at session.serial stream piece.now core.old core.new cutter.new }
 {
     let at = clock.now();

@@ -52,6 +52,8 @@ impl<T> Watched<T> {
 impl<R: Read> Source for Watched<R> {
     ghost bytes_read = { λ w. w.trace.bytes };
 
+    ghost remaining = { λ w. R.remaining w.inner };
+
     ghost at_end = { λ w. w.ended };
 
     ghost faults = { λ w. w.failures };
@@ -84,6 +86,8 @@ impl<R: Read> Source for Watched<R> {
 impl<W: Write> Sink for Watched<W> {
     ghost bytes_written = { λ w. w.trace.bytes };
 
+    ghost contents = { λ w. W.contents w.inner };
+
     ghost is_flushed = { λ w. w.flushed };
 
     ghost faults = { λ w. w.failures };
@@ -91,11 +95,15 @@ impl<W: Write> Sink for Watched<W> {
     fn write(&mut self, bytes: &[u8]) -> Option<usize> {
         self.flushed = false;
         match self.inner.write(bytes) {
-            Ok(n) if n > 0 || bytes.is_empty() => {
+            Ok(0) if !bytes.is_empty() => {
+                self.count_failure();
+                None
+            }
+            Ok(n) => {
                 self.trace.add(&bytes[..n]);
                 Some(n)
             }
-            _ => {
+            Err(_) => {
                 self.count_failure();
                 None
             }

@@ -1,6 +1,6 @@
 -- Which lists of stream events suit after one event more.
 use Rattle.std.proofs.Common.{◌≡◌, ◌≢◌, ℕ, ◌+◌, ◌<◌, ◌≤◌, List, [], ◌∷◌, ◌++◌, refl, sym, ap, subst, ◌∙◌, cond, eqb, leb, max, Bool, true, false, Option, Some, None, suc, inl, inr, length, arith, ◌-◌, ◌^◌, append_assoc, take, get_or}
-use Rattle.std.specs.Prelude.{◌||◌, MatchBool, MatchResult, IfSome, slice_get, Result, Ok, Err}
+use Rattle.std.specs.Prelude.{◌||◌, MatchBool, IsSomeAnd, slice_get}
 use Rattle.std.specs.List.{list_any}
 use Rattle.std.proofs.lemmas.List.{append-nil, take_more, map-append, get_or_default}
 use Rattle.std.proofs.lemmas.Option.{slice_get_cases}
@@ -24,7 +24,7 @@ use Rattle.ov_core.specs.Following.{CoreState, Extends}
 use Rattle.ov_core.specs.Stepping.{IsEntered, Closes, is_full, most_sessions, closing}
 use Rattle.ov_streams.specs.declared.session_stream.SessionStream.{SessionStream}
 use Rattle.ov_streams.specs.Feeding.{IsFed, EntersPiece}
-use Rattle.ov_streams.specs.Running.{StreamsState, FollowsEvents, RunsEvents, HasSessionStream, MayBeRefused, stream_event_view, stream_events_view}
+use Rattle.ov_streams.specs.Running.{StreamsState, FollowsEvents, RunsEvents, HasSessionStream, stream_event_view, stream_events_view}
 use Rattle.ov_streams.proofs.Entering.{enters_none}
 
 max_zero : (m : ℕ) → max 0 m ≡ m
@@ -198,18 +198,13 @@ serves_more xs ys old mid new one two schema database list h given s =
     let b = two schema database (list ++ xs) (h ++ a.0) given a.1 in
     (a.0 ++ b.0, subst (λ (l : List streams.StreamEvent). FollowsEvents schema database l (h ++ (a.0 ++ b.0)) given new) (append_assoc list xs ys) (subst (λ (k : List Entry). FollowsEvents schema database ((list ++ xs) ++ ys) k given new) (append_assoc h a.0 b.0) b.1))
 
--- what may be refused is said beside
-pub and_may : {X E : Type 0} (P Q : Type 0) (r : Result X E) → MatchResult r (λ _. P) (λ _. Q) → MatchResult r (λ _. P) (λ _. Q × Unit {0})
-and_may P Q (Ok x) h = h
-and_may P Q (Err e) h = (h, tt)
-
 -- one event more
 pub view_more : (events : List StreamEvent) (i : ℕ) (event : StreamEvent) → i < length events → event ≡ get_or events i event → stream_events_view (take (i + 1) events) ≡ stream_events_view (take i events) ++ stream_event_view event ∷ []
 view_more events i event h e = ap stream_events_view (take_more events i event h) ∙ (map-append stream_event_view (take i events) (get_or events i event ∷ []) ∙ ap (λ (x : StreamEvent). stream_events_view (take i events) ++ stream_event_view x ∷ []) (sym e))
 
--- the event at a place, which may be refused
-pub refused_at : (events : List StreamEvent) (i : ℕ) (event : StreamEvent) → i < length events → event ≡ get_or events i event → MayBeRefused event → IfSome (slice_get events i) MayBeRefused
-refused_at events i event h e may = elim (slice_get_cases events i).1 [
-  | inl (x, within, is, at) ↦ rw is (subst MayBeRefused (e ∙ (get_or_default events i event x h ∙ at)) may)
+-- what holds of the event at a place
+pub event_at : (P : StreamEvent → Type 0) (events : List StreamEvent) (i : ℕ) (event : StreamEvent) → i < length events → event ≡ get_or events i event → P event → IsSomeAnd (slice_get events i) P
+event_at P events i event h e holds = elim (slice_get_cases events i).1 [
+  | inl (x, within, is, at) ↦ rw is (subst P (e ∙ (get_or_default events i event x h ∙ at)) holds)
   | inr (over, none) ↦ absurd (omega arith)
 ]

@@ -1,5 +1,6 @@
 -- Which lists of stream events a core with its streams has followed.
 use Rattle.std.specs.Prelude.{◌≡◌, ℕ, ◌++◌, List, [], ◌∷◌, map, take, Option, Some, None, IsSomeAnd, true}
+use Rattle.ov_specs.specs.machine.Machine as machine
 use Rattle.ov_specs.specs.machine.Machine.{Entry, State, opening, is_open}
 use Rattle.ov_specs.specs.schema.SchemaTypes.{Schema}
 use Rattle.ov_specs.specs.rows.Database.{Database}
@@ -7,6 +8,7 @@ use Rattle.ov_specs.specs.machine.Streams as streams
 use Rattle.ov_specs.specs.machine.Streams.{Streams, no_streams, ExpandsAll}
 use Rattle.ov_core.specs.declared.event.StepFault.{StepFault}
 use Rattle.ov_core.specs.Following.{CoreState, Follows}
+use Rattle.ov_core.specs.Stepping.{RefusesStep}
 use Rattle.ov_streams.specs.declared.event.StreamEvent.{StreamEvent}
 use Rattle.ov_streams.specs.declared.event.StreamEvent.TheVariants.{Open, Feed, Finish, Tick}
 use Rattle.ov_streams.specs.declared.session_stream.SessionStream.{SessionStream}
@@ -46,9 +48,10 @@ RunsEvents events old new =
     (schema : Schema) (database : Database) (list : List streams.StreamEvent) (history : List Entry) (given : ℕ → List (List ℕ)) → FollowsEvents schema database list history given old
     → (entries : List Entry) × FollowsEvents schema database (list ++ events) (history ++ entries) given new
 
--- only an opening and a passing of time are refused (own)
-abbrev pub MayBeRefused : StreamEvent → Type 0
-MayBeRefused Open = Unit {0}
-MayBeRefused (Feed session bytes) = ⊥
-MayBeRefused (Finish session) = ⊥
-MayBeRefused (Tick moment) = Unit {0}
+-- An event is refused in a state where the machine's step for it is, with the fault of that step: an opening or a passing of time
+-- may be, what a session sends and its end never are (own).
+abbrev pub RefusesEvent : StreamEvent → State → StepFault → Type 0
+RefusesEvent Open s fault = RefusesStep machine.Open s fault
+RefusesEvent (Feed session bytes) s fault = ⊥
+RefusesEvent (Finish session) s fault = ⊥
+RefusesEvent (Tick moment) s fault = RefusesStep machine.Tick s fault

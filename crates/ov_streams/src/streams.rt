@@ -1,12 +1,13 @@
-ghost use Rattle.std.specs.Prelude.{◌≡◌, ◌≤◌, ◌++◌, ℕ, List, [], ◌∷◌, MatchResult, IfOk, OnErr, IfSome, IfNone, length, take, slice_get, Some};
-ghost use Rattle.ov_specs.specs.machine.Machine.{Entry, opening};
+ghost use Rattle.std.specs.Prelude.{◌≡◌, ◌≢◌, ◌≤◌, ◌++◌, ℕ, List, [], ◌∷◌, MatchResult, IfOk, OnOk, OnErr, IfSome, IfNone, IsSomeAnd, length, take, slice_get, Some};
+ghost use Rattle.ov_specs.specs.machine.Machine.{Entry, opening, Open as SpecOpen, Tick as SpecTick};
 ghost use Rattle.ov_specs.specs.schema.SchemaTypes.{Schema};
 ghost use Rattle.ov_specs.specs.rows.Database.{Database};
 ghost use Rattle.ov_specs.specs.machine.History.{joined};
 ghost use Rattle.ov_specs.specs.machine.Streams.{StreamEvent as SpecEvent};
 ghost use Rattle.ov_core.specs.Following.{Follows, none_given, and_all_handed};
 ghost use Rattle.ov_core.specs.Outbox.{waiting_for};
-ghost use Rattle.ov_streams.specs.Running.{FollowsEvents, RunsEvents, MayBeRefused, stream_event_view, stream_events_view};
+ghost use Rattle.ov_core.specs.Stepping.{RefusesStep};
+ghost use Rattle.ov_streams.specs.Running.{FollowsEvents, RunsEvents, RefusesEvent, stream_event_view, stream_events_view};
 
 use crate::event::{Ran, StreamEvent};
 use crate::feed::feed_session;
@@ -65,7 +66,8 @@ impl<K: Keeper + Drop, D: Draws + Drop> Streams<K, D> {
         // Whatever list suited before, it suits now with the events that were served behind it.
         ensures suits { RunsEvents (stream_events_view (take result.served events.items)) self.old self.new }
         ensures whole { IfNone result.refused (result.served ≡ length events.items) }
-        ensures refused { IfSome result.refused (λ fault. IfSome (slice_get events.items result.served) MayBeRefused) }
+        // There is an event behind those that were served, and its step from where they led is refused for this fault.
+        ensures refused { IfSome result.refused (λ fault. IsSomeAnd (slice_get events.items result.served) (λ event. RefusesEvent event self.new.core.state fault)) }
     {
         let mut served = 0;
         for event in &events {
@@ -88,6 +90,11 @@ impl<K: Keeper + Drop, D: Draws + Drop> Streams<K, D> {
         ensures all { IfOk result (λ b. b ≡ joined (waiting_for session self.old.core.outbox)) }
         ensures handed { IfOk result (λ b. (schema : Schema) (database : Database) (list : List SpecEvent) (history : List Entry) (given : ℕ → List (List ℕ)) → FollowsEvents schema database list history given self.old
             → FollowsEvents schema database list history (and_all_handed given session (waiting_for session self.old.core.outbox)) self.new) }
+        // Nothing else is changed, but for what waits for this session.
+        ensures none_left { OnOk result (waiting_for session self.new.core.outbox ≡ []) }
+        ensures others { OnOk result ((other : ℕ) → other ≢ session → waiting_for other self.new.core.outbox ≡ waiting_for other self.old.core.outbox) }
+        ensures same { OnOk result (self.new ≡ record self.old { core = record self.old.core { outbox = self.new.core.outbox } }) }
+        // Where memory is refused, nothing was handed out.
         ensures refused { OnErr result (self.new ≡ self.old) }
     {
         self.core.take_output(
@@ -103,7 +110,7 @@ impl<K: Keeper + Drop, D: Draws + Drop> Streams<K, D> {
     fn serve(&mut self, alloc: Global, event: &StreamEvent) -> Result<(), StepFault>
         ensures { MatchResult result
             (λ _. RunsEvents (stream_event_view event.now ∷ []) self.old self.new)
-            (λ _. (self.new ≡ self.old) × MayBeRefused event.now) }
+            (λ fault. (self.new ≡ self.old) × RefusesEvent event.now self.old.core.state fault) }
     {
         match event {
             StreamEvent::Open => self.open(alloc),
@@ -121,7 +128,9 @@ impl<K: Keeper + Drop, D: Draws + Drop> Streams<K, D> {
 
     /// Opens a session with a cutter of its own.
     fn open(&mut self, alloc: Global) -> Result<(), StepFault>
-        ensures { MatchResult result (λ _. RunsEvents (stream_event_view StreamEvent.Open ∷ []) self.old self.new) (λ _. self.new ≡ self.old) }
+        ensures { MatchResult result
+            (λ _. RunsEvents (stream_event_view StreamEvent.Open ∷ []) self.old self.new)
+            (λ fault. (self.new ≡ self.old) × RefusesStep SpecOpen self.old.core.state fault) }
     {
         match self.core.step(alloc, 0, Event::Open) {
             Stepped::Opened(session) => {
@@ -138,7 +147,9 @@ impl<K: Keeper + Drop, D: Draws + Drop> Streams<K, D> {
 
     /// Lets time pass.
     fn tick(&mut self, alloc: Global, moment: u64) -> Result<(), StepFault>
-        ensures { MatchResult result (λ _. RunsEvents (stream_event_view (StreamEvent.Tick moment) ∷ []) self.old self.new) (λ _. self.new ≡ self.old) }
+        ensures { MatchResult result
+            (λ _. RunsEvents (stream_event_view (StreamEvent.Tick moment) ∷ []) self.old self.new)
+            (λ fault. (self.new ≡ self.old) × RefusesStep SpecTick self.old.core.state fault) }
     {
         match self.core.step(alloc, moment, Event::Tick) {
             Stepped::Done => Ok(()),

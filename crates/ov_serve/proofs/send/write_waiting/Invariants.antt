@@ -2,6 +2,7 @@ use Rattle.std.proofs.Common.{◌≡◌, ℕ, List, [], ◌++◌, length}
 use Rattle.ov_specs.specs.machine.History.{joined}
 use Rattle.ov_core.specs.Outbox.{waiting_for}
 use Rattle.ov_serve.specs.Serving.{ExtendsHanding}
+use Rattle.ov_serve.specs.Ends.{GivesWritten}
 use Rattle.ov_serve.proofs.send.write_waiting.Given as goal
 
 abbrev pub invariant-loop-frame : goal.invariant-loop-frame
@@ -9,6 +10,7 @@ invariant-loop-frame g l =
     (frames : List (List ℕ)) × ExtendsHanding l.session.serial l.initial.core [] frames l.core
     × (g.W.Sink.bytes_written l.writer ≡ g.W.Sink.bytes_written l.initial.writer ++ joined frames) × (l.core.state ≡ l.initial.core.state)
     × (g.W.Sink.faults l.writer ≡ g.W.Sink.faults l.initial.writer)
+    × GivesWritten (g.W.Sink.bytes_written l.initial.writer) (g.W.Sink.contents l.initial.writer) (g.W.Sink.bytes_written l.writer) (g.W.Sink.contents l.writer)
 
 abbrev pub decreases-loop-frame : goal.decreases-loop-frame
 decreases-loop-frame g l = length (waiting_for l.session.serial l.core.outbox)

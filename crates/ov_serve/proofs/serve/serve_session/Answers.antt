@@ -1,9 +1,9 @@
-use Rattle.std.proofs.Common.{rules, ◌≡◌, ◌≤◌, ℕ, ◌++◌, true, false, length, map, take, refl, sym, ap, ◌∙◌, arith, append-nil}
-use Rattle.std.proofs.lemmas.List.{length-take}
+use Rattle.std.proofs.Common.{rules, ◌≡◌, ℕ, ◌++◌, true, false, map, take, refl, sym, ap, ◌∙◌, arith, append-nil}
 use Rattle.ov_core.specs.declared.event.Cause.TheVariants.{InputEnded, ReadFault}
 use Rattle.ov_core.specs.Entries.{entry_view}
-use Rattle.ov_serve.specs.Serving.{io_state, most_piece_bytes, bytes_of}
+use Rattle.ov_serve.specs.Serving.{io_state, bytes_of}
 use Rattle.ov_serve.proofs.Servings.{then_sent, then_sent_on, then_fed, by_reader, by_writer, by_stream}
+use Rattle.ov_serve.proofs.Tellings.{input-more, given-more}
 use Rattle.ov_serve.proofs.serve.serve_session.Goals as goal
 
 pub returns-then-not-write_waiting-clause-served :
@@ -47,10 +47,41 @@ loop-preserved g c = (
       let on = c.loop.invariant.0 first from start in
       let sent = then_sent_on g.C.Clock.tells c.args.session.serial first from c.loop.core c.write_waiting.new.core to (g.W.Sink.bytes_written c.write_waiting.new.writer) c.loop.cutter on c.if-not-write_waiting.ensures.sends c.if-not-write_waiting.ensures.state in
       let there = sym c.if-not-is_open.ensures in
-      let short : length (take c.in-Some-read.n c.read.new.piece) ≤ most_piece_bytes = omega (arith, length-take {A = ℕ}) in
-      let brought = c.serve_piece.ensures (bytes_of sent.done.pieces) (sent.fed there) in
+      let brought = c.serve_piece.ensures.entered (bytes_of sent.done.pieces) (sent.fed there) in
       then_fed g.C.Clock.tells c.args.session.serial first from c.write_waiting.new.core c.serve_piece.new.core (io_state (g.S.Source.bytes_read c.loop.reader) (g.W.Sink.bytes_written c.write_waiting.new.writer) c.loop.clock)
-      brought.0 (take c.in-Some-read.n c.read.new.piece) (g.S.Source.bytes_read c.read.new.self) c.serve_piece.new.clock c.serve_piece.new.cutter there sent.done short c.in-Some-read.ensures.trace brought.1 brought.2,
+      brought.0 (take c.in-Some-read.n c.read.new.piece) (g.S.Source.bytes_read c.read.new.self) c.serve_piece.new.clock c.serve_piece.new.cutter there sent.done c.serve_piece.ensures.short c.in-Some-read.ensures.trace brought.1 brought.2,
   c.in-Some-read.ensures.good ∙ c.loop.invariant.1,
   c.if-not-write_waiting.ensures.faults ∙ c.loop.invariant.2,
+  input-more (g.S.Source.bytes_read c.args.reader.now) (g.S.Source.bytes_read c.loop.reader) (g.S.Source.bytes_read c.read.new.self) (g.S.Source.remaining c.args.reader.now) (g.S.Source.remaining c.loop.reader) (g.S.Source.remaining c.read.new.self) c.loop.invariant.3 c.read.ensures.input,
+  given-more (g.W.Sink.bytes_written c.args.writer.now) (g.W.Sink.bytes_written c.loop.writer) (g.W.Sink.bytes_written c.write_waiting.new.writer) (g.W.Sink.contents c.args.writer.now) (g.W.Sink.contents c.loop.writer) (g.W.Sink.contents c.write_waiting.new.writer) c.loop.invariant.4 c.write_waiting.ensures.given,
 )
+
+pub returns-then-not-write_waiting-clause-given :
+    goal.returns-then-not-write_waiting-clause-given
+returns-then-not-write_waiting-clause-given g c =
+    given-more (g.W.Sink.bytes_written c.args.writer.now) (g.W.Sink.bytes_written c.loop.writer) (g.W.Sink.bytes_written c.write_waiting.new.writer) (g.W.Sink.contents c.args.writer.now) (g.W.Sink.contents c.loop.writer) (g.W.Sink.contents c.write_waiting.new.writer) c.loop.invariant.4 c.write_waiting.ensures.given
+
+pub returns-then-not-is_open-clause-given :
+    goal.returns-then-not-is_open-clause-given
+returns-then-not-is_open-clause-given g c =
+    given-more (g.W.Sink.bytes_written c.args.writer.now) (g.W.Sink.bytes_written c.loop.writer) (g.W.Sink.bytes_written c.write_waiting.new.writer) (g.W.Sink.contents c.args.writer.now) (g.W.Sink.contents c.loop.writer) (g.W.Sink.contents c.write_waiting.new.writer) c.loop.invariant.4 c.write_waiting.ensures.given
+
+pub returns-in-Some-eq0-clause-given :
+    goal.returns-in-Some-eq0-clause-given
+returns-in-Some-eq0-clause-given g c =
+    given-more (g.W.Sink.bytes_written c.args.writer.now) (g.W.Sink.bytes_written c.loop.writer) (g.W.Sink.bytes_written c.write_waiting.new.writer) (g.W.Sink.contents c.args.writer.now) (g.W.Sink.contents c.loop.writer) (g.W.Sink.contents c.write_waiting.new.writer) c.loop.invariant.4 c.write_waiting.ensures.given
+
+pub returns-in-None-read-clause-given :
+    goal.returns-in-None-read-clause-given
+returns-in-None-read-clause-given g c =
+    given-more (g.W.Sink.bytes_written c.args.writer.now) (g.W.Sink.bytes_written c.loop.writer) (g.W.Sink.bytes_written c.write_waiting.new.writer) (g.W.Sink.contents c.args.writer.now) (g.W.Sink.contents c.loop.writer) (g.W.Sink.contents c.write_waiting.new.writer) c.loop.invariant.4 c.write_waiting.ensures.given
+
+pub returns-in-Some-eq0-clause-input :
+    goal.returns-in-Some-eq0-clause-input
+returns-in-Some-eq0-clause-input g c =
+    input-more (g.S.Source.bytes_read c.args.reader.now) (g.S.Source.bytes_read c.loop.reader) (g.S.Source.bytes_read c.read.new.self) (g.S.Source.remaining c.args.reader.now) (g.S.Source.remaining c.loop.reader) (g.S.Source.remaining c.read.new.self) c.loop.invariant.3 c.read.ensures.input
+
+pub returns-in-None-read-clause-input :
+    goal.returns-in-None-read-clause-input
+returns-in-None-read-clause-input g c =
+    input-more (g.S.Source.bytes_read c.args.reader.now) (g.S.Source.bytes_read c.loop.reader) (g.S.Source.bytes_read c.read.new.self) (g.S.Source.remaining c.args.reader.now) (g.S.Source.remaining c.loop.reader) (g.S.Source.remaining c.read.new.self) c.loop.invariant.3 c.read.ensures.input

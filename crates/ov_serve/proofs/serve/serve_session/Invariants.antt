@@ -1,6 +1,7 @@
 use Rattle.std.proofs.Common.{◌≡◌}
 use Rattle.ov_core.specs.Following.{CoreState}
 use Rattle.ov_serve.specs.Serving.{IoState, io_state}
+use Rattle.ov_serve.specs.Ends.{KeepsInput, GivesWritten}
 use Rattle.ov_serve.specs.Progress.{ServedAndFed}
 use Rattle.ov_serve.proofs.serve.serve_session.Given as goal
 
@@ -10,3 +11,5 @@ invariant-loop g l =
     → ServedAndFed g.C.Clock.tells l.session.serial first from l.initial.core (io_state (g.S.Source.bytes_read l.initial.reader) (g.W.Sink.bytes_written l.initial.writer) l.initial.clock) l.initial.cutter
     → ServedAndFed g.C.Clock.tells l.session.serial first from l.core (io_state (g.S.Source.bytes_read l.reader) (g.W.Sink.bytes_written l.writer) l.clock) l.cutter)
     × (g.S.Source.faults l.reader ≡ g.S.Source.faults l.initial.reader) × (g.W.Sink.faults l.writer ≡ g.W.Sink.faults l.initial.writer)
+    × KeepsInput (g.S.Source.bytes_read l.initial.reader) (g.S.Source.remaining l.initial.reader) (g.S.Source.bytes_read l.reader) (g.S.Source.remaining l.reader)
+    × GivesWritten (g.W.Sink.bytes_written l.initial.writer) (g.W.Sink.contents l.initial.writer) (g.W.Sink.bytes_written l.writer) (g.W.Sink.contents l.writer)

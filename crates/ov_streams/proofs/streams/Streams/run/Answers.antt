@@ -1,7 +1,8 @@
 use Rattle.std.proofs.Common.{◌≡◌, ◌<◌, List, refl, sym, subst, take, arith}
+use Rattle.std.specs.Prelude.{IsSomeAnd, slice_get}
 use Rattle.ov_specs.specs.machine.Streams.{StreamEvent}
-use Rattle.ov_streams.specs.Running.{RunsEvents, StreamsState, stream_events_view}
-use Rattle.ov_streams.proofs.Suiting.{serves_none, serves_more, view_more, refused_at}
+use Rattle.ov_streams.specs.Running.{RunsEvents, RefusesEvent, StreamsState, stream_events_view}
+use Rattle.ov_streams.proofs.Suiting.{serves_none, serves_more, view_more, event_at}
 use Rattle.ov_streams.proofs.streams.Streams.run.Goals as goal
 
 pub loop-event-init : goal.loop-event-init
@@ -16,17 +17,18 @@ loop-event-preserved g c =
           (serves_more _ _ _ _ _ inv.serves c.in_default.ensures);
     }
 
-pub returns-in-Err : goal.returns-in-Err
-returns-in-Err g c =
+pub returns-in-Err-clause-suits : goal.returns-in-Err-clause-suits
+returns-in-Err-clause-suits g c =
     let inv = c.loop-event.invariant in
-    rw (← c.deref-event-items.ensures.value, inv.count) (record {
-      served = omega arith;
-      suits = subst (λ (x : StreamsState _ _). RunsEvents (stream_events_view (take c.loop-event.event-index c.deref-event-items.result.now)) c.args.self.now x) (sym c.in-Err.ensures.0) inv.serves;
-      whole = tt;
-      refused = refused_at c.deref-event-items.result.now c.loop-event.event-index c.event-item.result c.loop-event-test.true c.event-item.is c.in-Err.ensures.1;
-    })
+    rw (← c.deref-event-items.ensures.value, inv.count) (subst (λ (x : StreamsState _ _). RunsEvents (stream_events_view (take c.loop-event.event-index c.deref-event-items.result.now)) c.args.self.now x) (sym c.in-Err.ensures.0) inv.serves)
 
-pub returns : goal.returns
-returns g c =
+pub returns-in-Err-clause-refused : goal.returns-in-Err-clause-refused
+returns-in-Err-clause-refused g c =
     let inv = c.loop-event.invariant in
-    rw (← c.deref-event-items.ensures.value, inv.count) (record { served = omega arith; suits = inv.serves; whole = omega arith; refused = tt })
+    rw (← c.deref-event-items.ensures.value, inv.count) (subst (λ (x : StreamsState _ _). IsSomeAnd (slice_get c.deref-event-items.result.now c.loop-event.event-index) (λ event. RefusesEvent event x.core.state c.in-Err.fault)) (sym c.in-Err.ensures.0)
+    (event_at (λ event. RefusesEvent event c.loop-event.self.core.state c.in-Err.fault) c.deref-event-items.result.now c.loop-event.event-index c.event-item.result c.loop-event-test.true c.event-item.is c.in-Err.ensures.1))
+
+pub returns-clause-suits : goal.returns-clause-suits
+returns-clause-suits g c =
+    let inv = c.loop-event.invariant in
+    rw (← c.deref-event-items.ensures.value, inv.count) inv.serves

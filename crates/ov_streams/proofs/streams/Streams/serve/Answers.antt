@@ -1,8 +1,7 @@
-use Rattle.ov_streams.proofs.Suiting.{and_may}
 use Rattle.ov_streams.proofs.streams.Streams.serve.Goals as goal
 
 pub returns-in-Open : goal.returns-in-Open
-returns-in-Open g c = rw c.in-Open.is (and_may _ _ c.open.result c.open.ensures)
+returns-in-Open g c = rw c.in-Open.is c.open.ensures
 
 pub returns-in-Feed : goal.returns-in-Feed
 returns-in-Feed g c = rw c.in-Feed.is (rw c.as_slice.ensures at c.feed.ensures)
@@ -11,4 +10,4 @@ pub returns-in-Finish : goal.returns-in-Finish
 returns-in-Finish g c = rw c.in-Finish.is c.finish.ensures
 
 pub returns-in-Tick : goal.returns-in-Tick
-returns-in-Tick g c = rw c.in-Tick.is (and_may _ _ c.tick.result c.tick.ensures)
+returns-in-Tick g c = rw c.in-Tick.is c.tick.ensures

@@ -6,5 +6,5 @@ use Rattle.ov_streams.proofs.streams.Streams.tick.Goals.{in-Done, in-Refused}
 pub returns : goal.returns
 returns g c = rw (← c.self.view_is) (elim c.match-step.branch [
   | in-Done w ↦ rw w.result-is (passed _ c.args.moment _ _ refl w.in-Done.ensures)
-  | in-Refused w ↦ rw w.result-is (ap (λ x. over x c.self.inside.session_stream) w.in-Refused.ensures.0)
+  | in-Refused w ↦ rw w.result-is (ap (λ x. over x c.self.inside.session_stream) w.in-Refused.ensures.0, w.in-Refused.ensures.1)
 ])
