@@ -1,5 +1,6 @@
--- What the program makes of a keeper, from the opening of its database to the end of the session.
-use Rattle.std.specs.Prelude.{◌≡◌, ◌⊎◌, ℕ, List, [], Bool, true}
+-- What the program makes of a keeper, from the opening of its database to the end of the session (own).
+use Rattle.std.specs.Prelude.{◌≡◌, ◌⊎◌, ℕ, List, [], Option, Bool, true}
+use Rattle.std.specs.Io.KnownBytes.{IsAtEnd}
 use Rattle.ov_specs.specs.rows.Lines.{Contents}
 use Rattle.ov_specs.specs.schema.SchemaTypes.{Schema}
 use Rattle.ov_specs.specs.machine.Machine.{opening, Open as SpecOpen}
@@ -10,61 +11,89 @@ use Rattle.ov_db.specs.declared.fault.RefusedOpen.{RefusedOpen}
 use Rattle.ov_db.specs.declared.fault.OpenFault.TheVariants.{Keeping}
 use Rattle.ov_db.specs.Opening.{CanOpen, IsOpenFault, RefusesOpen}
 use Rattle.ov_core.specs.declared.event.Cause.{Cause}
+use Rattle.ov_core.specs.declared.event.Cause.TheVariants.{InputEnded}
 use Rattle.ov_core.specs.declared.event.StepFault.{StepFault}
 use Rattle.ov_core.specs.Following.{CoreState, Follows, none_given}
 use Rattle.ov_core.specs.Stepping.{RefusesStep}
 use Rattle.ov_core.specs.Leaving.{LeavesItsOwn}
-use Rattle.ov_serve.specs.Serving.{IoState, Served, is_written, CauseMatchesCounts}
+use Rattle.ov_serve.specs.Ends.{KeepsInput, GivesWritten}
+use Rattle.ov_serve.specs.Serving.{IoState, io_state, Served, is_written, CauseMatchesCounts}
 use Rattle.ov_words.specs.declared.ending.Ending.{Ending}
 use Rattle.ov_words.specs.Causes.{by_open, by_step, by_cause}
 
--- what stands around a core, with what its ends tell of themselves: whether the input ended, whether all that was written is handed
--- on, and the failures of reads and of writes (own)
-pub record Ends (C : Type 0) : Type 0 where
-  pub io : IoState C
+-- What a reader tells: the bytes that were read, those that remain where they are known, whether it met its end, and its failures.
+pub record ReaderState : Type 0 where
+  pub read : List ℕ
+  pub remaining : Option (List ℕ)
   pub at_end : Bool
-  pub is_flushed : Bool
-  pub reads_failed : ℕ
-  pub writes_failed : ℕ
+  pub failed : ℕ
 
--- these of them (own)
-abbrev pub ends : {C : Type 0} → IoState C → Bool → Bool → ℕ → ℕ → Ends C
-ends io at_end is_flushed reads_failed writes_failed =
-    record { io = io; at_end = at_end; is_flushed = is_flushed; reads_failed = reads_failed; writes_failed = writes_failed }
+-- What a writer tells: the bytes that were written, those that it was given where they are known, whether all is handed on, and
+-- its failures.
+pub record WriterState : Type 0 where
+  pub written : List ℕ
+  pub contents : Option (List ℕ)
+  pub is_flushed : Bool
+  pub failed : ℕ
+
+-- a reader, a writer and a clock
+pub record Ends (C : Type 0) : Type 0 where
+  pub reader : ReaderState
+  pub writer : WriterState
+  pub clock : C
+
+-- these bytes, this end and these failures
+abbrev pub reader_state : List ℕ → Option (List ℕ) → Bool → ℕ → ReaderState
+reader_state read remaining at_end failed = record { read = read; remaining = remaining; at_end = at_end; failed = failed }
+
+-- these bytes, this flush and these failures
+abbrev pub writer_state : List ℕ → Option (List ℕ) → Bool → ℕ → WriterState
+writer_state written contents is_flushed failed = record { written = written; contents = contents; is_flushed = is_flushed; failed = failed }
+
+-- these three
+abbrev pub ends : {C : Type 0} → ReaderState → WriterState → C → Ends C
+ends reader writer clock = record { reader = reader; writer = writer; clock = clock }
+
+-- the bytes and the clock of these
+abbrev pub io_of : {C : Type 0} → Ends C → IoState C
+io_of around = io_state around.reader.read around.writer.written around.clock
+
+-- the core has no history, and the database is that of the keeper
+pub record OpensCore {K D : Type 0} (k : Ghosts K) (keeper : K) (schema : Schema) (draws : D) (core : CoreState K D) : Type 0 where
+  pub start : Follows (opening schema core.state.database) [] none_given core
+  pub source : core.source ≡ draws
+  pub held : k.is_honest core.keeper → (held : Contents) → k.leaves keeper held → CanOpen schema core.state.database held
+  pub same : k.is_honest core.keeper → LeavesNoMore (k.leaves keeper) (k.leaves core.keeper)
+  pub honest : k.is_honest core.keeper → k.is_honest keeper
+
+-- no core was opened, for the first fault of what the keeper holds, or for one of its load
+pub record RefusesCore {K : Type 0} (k : Ghosts K) (keeper : K) (schema : Schema) (refused : RefusedOpen K) : Type 0 where
+  pub kinds : IsOpenFault refused.fault
+  pub fault : k.is_honest refused.keeper → (held : Contents) → k.leaves keeper held → RefusesOpen schema held refused.fault
+  pub cause : refused.fault ≡ Keeping Device → HasFailed (k.failed keeper) (k.failed refused.keeper)
+  pub same : k.is_honest refused.keeper → LeavesNoMore (k.leaves keeper) (k.leaves refused.keeper)
+  pub honest : k.is_honest refused.keeper → k.is_honest keeper
 
 module _ {K D C : Type 0} (k : Ghosts K) (tells : C → ℕ → C → Type 0) where
-  -- the core has no history, and the database is that of the keeper (own)
-  pub record OpensCore (keeper : K) (schema : Schema) (draws : D) (core : CoreState K D) : Type 0 where
-    pub start : Follows (opening schema core.state.database) [] none_given core
-    pub source : core.source ≡ draws
-    pub held : k.is_honest core.keeper → (held : Contents) → k.leaves keeper held → CanOpen schema core.state.database held
-    pub same : k.is_honest core.keeper → LeavesNoMore (k.leaves keeper) (k.leaves core.keeper)
-    pub honest : k.is_honest core.keeper → k.is_honest keeper
-
-  -- no core was opened, for the first fault of what the keeper holds, or for one of its load (own)
-  pub record RefusesCore (keeper : K) (schema : Schema) (refused : RefusedOpen K) : Type 0 where
-    pub kinds : IsOpenFault refused.fault
-    pub fault : k.is_honest refused.keeper → (held : Contents) → k.leaves keeper held → RefusesOpen schema held refused.fault
-    pub cause : refused.fault ≡ Keeping Device → HasFailed (k.failed keeper) (k.failed refused.keeper)
-    pub same : k.is_honest refused.keeper → LeavesNoMore (k.leaves keeper) (k.leaves refused.keeper)
-    pub honest : k.is_honest refused.keeper → k.is_honest keeper
-
-  -- one session of the core was served to its closing, and a crash then leaves the lines of the core's database (own)
+  -- one session of the core was served to its closing, and a crash then leaves the lines of the core's database
   pub record ServesCore (cause : Cause) (old : CoreState K D) (from : Ends C) (new : CoreState K D) (to : Ends C) : Type 0 where
-    pub served : Served tells old.state.next old from.io cause new to.io
-    pub flushed : is_written cause ≡ true → to.is_flushed ≡ true
-    pub counts : CauseMatchesCounts cause to.at_end from.reads_failed to.reads_failed from.writes_failed to.writes_failed
+    pub served : Served tells old.state.next old (io_of from) cause new (io_of to)
+    pub flushed : is_written cause ≡ true → to.writer.is_flushed ≡ true
+    pub counts : CauseMatchesCounts cause to.reader.at_end from.reader.failed to.reader.failed from.writer.failed to.writer.failed
+    pub input : KeepsInput from.reader.read from.reader.remaining to.reader.read to.reader.remaining
+    pub all : cause ≡ InputEnded → IsAtEnd to.reader.remaining
+    pub given : GivesWritten from.writer.written from.writer.contents to.writer.written to.writer.contents
     pub leaves : k.is_honest new.keeper → (held : Contents) → k.leaves new.keeper held → LeavesItsOwn new.state held
 
   -- The session was served, and the ending is that of the cause for which it was closed; or it could not be opened, and nothing is
-  -- changed (own).
+  -- changed.
   abbrev pub EndsSession : CoreState K D → Ends C → Ending → CoreState K D → Ends C → Type 0
   EndsSession old from ending new to =
       ((cause : Cause) × (ending ≡ by_cause cause) × ServesCore cause old from new to)
       ⊎ ((fault : StepFault) × (ending ≡ by_step fault) × RefusesStep SpecOpen old.state fault × (new ≡ old) × (to ≡ from))
 
-  -- A core was opened over the keeper, and the ending is that of its session; or none was, and nothing was read or written (own).
+  -- A core was opened over the keeper, and the ending is that of its session; or none was, and nothing was read or written.
   abbrev pub EndsChain : K → Schema → D → Ends C → Ending → Ends C → Type 0
   EndsChain keeper schema draws from ending to =
-      ((first : CoreState K D) × (last : CoreState K D) × OpensCore keeper schema draws first × EndsSession first from ending last to)
-      ⊎ ((refused : RefusedOpen K) × (ending ≡ by_open refused.fault) × RefusesCore keeper schema refused × (to ≡ from))
+      ((first : CoreState K D) × (last : CoreState K D) × OpensCore k keeper schema draws first × EndsSession first from ending last to)
+      ⊎ ((refused : RefusedOpen K) × (ending ≡ by_open refused.fault) × RefusesCore k keeper schema refused × (to ≡ from))

@@ -1,6 +1,5 @@
 ghost use Rattle.std.specs.Prelude.{◌≡◌, ◌≢◌, ◌⊎◌};
-ghost use Rattle.ov_serve.specs.Serving.{io_state};
-ghost use Rattle.ov_server.specs.Chain.{Ends, EndsChain, EndsSession, ends};
+ghost use Rattle.ov_server.specs.Chain.{EndsChain, EndsSession, ends, reader_state, writer_state};
 
 use crate::clock::StillClock;
 use crate::draws::RandomDraws;
@@ -58,9 +57,11 @@ pub fn serve<R: Wait, K: Keeper + Drop, D: Draws + Drop, S: Source, W: Sink, C: 
     clock: &mut C,
 ) -> Ending
     ensures chain { EndsChain K.Keeper C.tells keeper schema draws
-        (ends (io_state (S.bytes_read reader.old) (W.bytes_written writer.old) clock.old) (S.at_end reader.old) (W.is_flushed writer.old) (S.faults reader.old) (W.faults writer.old))
+        (ends (reader_state (S.bytes_read reader.old) (S.remaining reader.old) (S.at_end reader.old) (S.faults reader.old))
+            (writer_state (W.bytes_written writer.old) (W.contents writer.old) (W.is_flushed writer.old) (W.faults writer.old)) clock.old)
         result
-        (ends (io_state (S.bytes_read reader.new) (W.bytes_written writer.new) clock.new) (S.at_end reader.new) (W.is_flushed writer.new) (S.faults reader.new) (W.faults writer.new)) }
+        (ends (reader_state (S.bytes_read reader.new) (S.remaining reader.new) (S.at_end reader.new) (S.faults reader.new))
+            (writer_state (W.bytes_written writer.new) (W.contents writer.new) (W.is_flushed writer.new) (W.faults writer.new)) clock.new) }
     ensures kind { (result ≢ Ending.Arguments) × (result ≢ Ending.Schema) }
 {
     match Core::open(alloc, keeper, schema, draws) {
@@ -80,9 +81,11 @@ fn serve_core<R: Wait, K: Keeper + Drop, D: Draws + Drop, S: Source, W: Sink, C:
     clock: &mut C,
 ) -> Ending
     ensures told { EndsSession K.Keeper C.tells core.old
-        (ends (io_state (S.bytes_read reader.old) (W.bytes_written writer.old) clock.old) (S.at_end reader.old) (W.is_flushed writer.old) (S.faults reader.old) (W.faults writer.old))
+        (ends (reader_state (S.bytes_read reader.old) (S.remaining reader.old) (S.at_end reader.old) (S.faults reader.old))
+            (writer_state (W.bytes_written writer.old) (W.contents writer.old) (W.is_flushed writer.old) (W.faults writer.old)) clock.old)
         result core.new
-        (ends (io_state (S.bytes_read reader.new) (W.bytes_written writer.new) clock.new) (S.at_end reader.new) (W.is_flushed writer.new) (S.faults reader.new) (W.faults writer.new)) }
+        (ends (reader_state (S.bytes_read reader.new) (S.remaining reader.new) (S.at_end reader.new) (S.faults reader.new))
+            (writer_state (W.bytes_written writer.new) (W.contents writer.new) (W.is_flushed writer.new) (W.faults writer.new)) clock.new) }
     ensures kind { (result ≢ Ending.Arguments) × (result ≢ Ending.Schema) }
 {
     let served = serve_one(rt, core, alloc, reader, writer, clock);

@@ -1,6 +1,0 @@
-//! Scratch.
-#![tactic(auto)]
-
-mod session;
-
-pub use session::serve;
