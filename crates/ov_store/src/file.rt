@@ -10,6 +10,7 @@ ghost use Rattle.ov_store.specs.StoreState.{MayFind};
 ghost use Rattle.ov_store.specs.Finding.{new_contents, HasNoTable, IsStoredIn, IsOpenRefused, IsFileRefused, IsMemoryRefused};
 ghost use Rattle.ov_store.specs.Refusing.{fault_of_open};
 
+use crate::look::test_file;
 use crate::memory::open_in_memory;
 use crate::memory_disk::MemoryDisk;
 use crate::over::store_over;
@@ -20,7 +21,7 @@ use sqlite::{Connection, Error, ErrorCode, FileFrom, FileStore, Start};
 use std::alloc::Global;
 
 /// What an error of SQLite at an open is.
-fn fault_of_open(error: &Error) -> KeepFault
+pub(crate) fn fault_of_open(error: &Error) -> KeepFault
     ensures { result ≡ fault_of_open error.now }
 {
     match error {
@@ -58,7 +59,7 @@ pub fn open_file<S: Start>(
 }
 
 /// The store of the file at a path, as `store_over` gives it of `open_file`. A new one is made only where the files have no
-/// table, index or view.
+/// table, index or view. A file that is somebody else's is found before anything is written, and left as it is.
 pub fn store_in_file<S: Start>(
     rt: &HostRuntime,
     path: &str,
@@ -70,6 +71,7 @@ pub fn store_in_file<S: Start>(
     ensures fresh { IfOk result (λ s. s.failures ≡ 0) }
     ensures refused { IsFileRefused (image_at S.Start) schema result }
 {
+    test_file(rt, path)?;
     let connection = open_file(rt, path, start)?;
     match store_over(rt.alloc(), connection, schema) {
         Ok(store) => Ok(store),

@@ -10,6 +10,7 @@ mod file;
 mod keep;
 mod line;
 mod load;
+mod look;
 mod make;
 mod memory;
 mod memory_disk;
