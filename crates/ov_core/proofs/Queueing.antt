@@ -10,7 +10,7 @@ use Rattle.std.specs.declared.cmp.Ordering.TheVariants.{Less, Equal, Greater}
 use Rattle.std.specs.Cmp.{nat_cmp_is}
 use Rattle.std.proofs.lemmas.List.{append-nil, nil_from_length}
 use Rattle.std.proofs.lemmas.Bool.{eqb-true, eq-eqb, ne_eqb, cases_order, false≢true}
-use Rattle.ov_core.specs.Outbox.{WaitingFrames, waiting_for, outbox_of, PostsFrame, HasSameFrames}
+use Rattle.ov_core.specs.Outbox.{WaitingFrames, waiting_for, has_queue, outbox_of, PostsFrame, HasSameFrames}
 
 abbrev Deque : Type 0
 Deque = VecDeque (List ℕ) Global
@@ -34,6 +34,14 @@ look test (e ∷ es) = look_more (test e.0) e.1 (lookup test (outbox_of es)) (lo
 pub waiting_in : (m : Queued) (s : ℕ) → waiting_for s (outbox_of m.entries) ≡ frames_in (get nat_cmp m s)
 waiting_in m s = ap (λ o. unwrap_or o []) (look (is_at (nat_cmp s)) m.entries)
 
+has_mapped : (o : Option Deque) → is_some (option_map (λ (q : Deque). q.items) o) ≡ is_some o
+has_mapped (Some q) = refl
+has_mapped None = refl
+
+-- there is a queue where the map has one at the serial
+queue_in : (m : Queued) (s : ℕ) → has_queue s (outbox_of m.entries) ≡ is_some (get nat_cmp m s)
+queue_in m s = ap is_some (look (is_at (nat_cmp s)) m.entries) ∙ has_mapped (get nat_cmp m s)
+
 same_test : (a b : ℕ) → is_at (nat_cmp a) b ≡ eqb b a
 same_test a b = elim (cases_order a b) [
   | inl e ↦ ap is_eq (sym (nat_cmp_is a b Equal e)) ∙ sym (eq-eqb b a (sym e))
@@ -53,6 +61,14 @@ waiting_after m n s w h other =
     by_test : (b : Bool) → frames_in (cond b w (get nat_cmp m other)) ≡ cond b (frames_in w) (frames_in (get nat_cmp m other))
     by_test true = refl
     by_test false = refl
+
+-- where the map has nothing at the serial, there is no queue
+pub no_queue : (m : Queued) (s : ℕ) → get nat_cmp m s ≡ None → has_queue s (outbox_of m.entries) ≡ false
+no_queue m s none = queue_in m s ∙ ap is_some none
+
+-- the queue was taken out of the map
+pub queue_gone : (m n : Queued) (s : ℕ) → ((q : ℕ) → get nat_cmp n q ≡ cond (is_at (nat_cmp s) q) None (get nat_cmp m q)) → has_queue s (outbox_of n.entries) ≡ false
+queue_gone m n s h = no_queue n s (h s ∙ ap (λ b. cond b None (get nat_cmp m s)) (same_test s s ∙ eq-eqb s s refl))
 
 -- a frame was put behind the others of its session, where there was memory for it
 pub pushed : (s : ℕ) (frame : List ℕ) (old new : WaitingFrames) (b : Bool) (before after : List (List ℕ)) → waiting_for s old ≡ before → after ≡ cond b (before ++ frame ∷ []) before

@@ -1,7 +1,7 @@
 -- One step of the machine, and of the core.
 use Rattle.std.proofs.Common.{◌≡◌, ◌≢◌, ℕ, ◌+◌, ◌<◌, ◌≤◌, List, [], ◌∷◌, ◌++◌, map, refl, sym, ap, subst, ◌∙◌, cond, eqb, Bool, true, false, Option, Some, None, append_assoc, length, leb, ◌^◌, ◌-◌, arith, inr}
 use Rattle.std.specs.List.{list_any}
-use Rattle.std.specs.Prelude.{MatchBool, option_to_list, not, ◌||◌, filter, option_map, option_and_then}
+use Rattle.std.specs.Prelude.{MatchBool, is_some, option_to_list, not, ◌||◌, filter, option_map, option_and_then}
 use Rattle.std.proofs.lemmas.List.{append-nil, map-append}
 use Rattle.std.proofs.lemmas.List.Elements.{filter-append}
 use Rattle.std.proofs.lemmas.Bool.{le-leb, lt-leb, false≢true}
@@ -18,9 +18,10 @@ use Rattle.ov_core.specs.declared.handle.Handled.{Handled}
 use Rattle.ov_core.specs.Entries.{entry_view, listed_attempts, is_closing}
 use Rattle.ov_core.specs.Outbox.{WaitingFrames, waiting_for, HasSameFrames}
 use Rattle.ov_db.specs.KeptDatabase.{KeptDatabase}
-use Rattle.ov_core.specs.Handling.{with_db, closed_if_no_memory, listed_first, IsHandled}
+use Rattle.ov_keeper.specs.Keeping.{HasFailed}
+use Rattle.ov_core.specs.Handling.{AsksStore, with_db, closed_if_no_memory, listed_first, IsHandled}
 use Rattle.ov_core.specs.Following.{CoreState, EntersEntry}
-use Rattle.ov_core.specs.Stepping.{closing, most_sessions, Closes, IsEntered}
+use Rattle.ov_core.specs.Stepping.{closing, most_sessions, AsksKeeper, Closes, HasSameKeeper, IsEntered, has_outcome, is_failure, is_of_store}
 use Rattle.ov_core.specs.declared.event.Stepped.TheVariants as answer
 use Rattle.std.proofs.lemmas.Option.{same_Some}
 
@@ -158,27 +159,79 @@ left_open n (Some outcome.Exhausted) s h = refl
 left_open n (Some outcome.Failed) s h = refl
 
 -- the core after the work, at the moment, with these sessions
-abbrev pub after_work : {K D : Type 0} → CoreState K D → ℕ → List ℕ → List Entry → WaitingFrames → KeptDatabase K → D → CoreState K D
-after_work old m sessions entries outbox kept source = record {
+abbrev pub after_work : {K D : Type 0} → (K → ℕ) → CoreState K D → ℕ → List ℕ → List Entry → WaitingFrames → KeptDatabase K → D → CoreState K D
+after_work failed old m sessions entries outbox kept source = record {
   state = record old.state { schema = kept.schema; database = kept.committed; sealed = kept.sealed; sessions = sessions; moment = m };
   kept = entries;
   outbox = outbox;
   keeper = kept.keeper;
+  failures = failed kept.keeper;
   source = source;
 }
 
 -- the work was entered
-pub taken : {K D : Type 0} (old : CoreState K D) (m n : ℕ) (message : Message) (handled : Handled) (x : Entry) (entries : List Entry) (sessions : List ℕ) (outbox : WaitingFrames) (kept : KeptDatabase K) (source : D)
+pub taken : {K D : Type 0} (failed : K → ℕ) (old : CoreState K D) (m n : ℕ) (message : Message) (handled : Handled) (x : Entry) (entries : List Entry) (sessions : List ℕ) (outbox : WaitingFrames) (kept : KeptDatabase K) (source : D)
     → old.state.moment ≤ m → machine.is_open old.state n ≡ true → entries ≡ old.kept ++ x ∷ [] → entry_view x ≡ taking m n message handled.draws.items handled.outcome
-    → closed_if_no_memory n handled.outcome (with_db (record old.state { moment = m }) kept) ≡ (after_work old m sessions entries outbox kept source).state
+    → closed_if_no_memory n handled.outcome (with_db (record old.state { moment = m }) kept) ≡ (after_work failed old m sessions entries outbox kept source).state
     → IsHandled n (λ s. machine.work_of s message) (kept_of old) old.outbox handled kept outbox
-    → EntersEntry old (taking m n message handled.draws.items handled.outcome) (after_work old m sessions entries outbox kept source)
-taken old m n message handled x entries sessions outbox kept source low there added is left is_handled =
+    → EntersEntry old (taking m n message handled.draws.items handled.outcome) (after_work failed old m sessions entries outbox kept source)
+taken failed old m n message handled x entries sessions outbox kept source low there added is left is_handled =
     let now : State = record old.state { moment = m } in
     let came = is_handled now in
-    moves_with old (after_work old m sessions entries outbox kept source) (taking m n message handled.draws.items handled.outcome) x (machine.to_session n came.0)
+    moves_with old (after_work failed old m sessions entries outbox kept source) (taking m n message handled.draws.items handled.outcome) x (machine.to_session n came.0)
     (taking_step old.state m n message handled.draws.items handled.outcome low there ∙ (came.1 ∙ ap (λ (s : State). Some (record { state = s; sent = machine.to_session n came.0 })) left))
     added is came.2
+
+-- ---- what the keeper was asked
+
+-- nothing, so it and the seal are as before
+pub asks_nothing : {K D : Type 0} (old new : CoreState K D) (entry : machine.Entry) → has_outcome is_failure entry ≡ false → HasSameKeeper old new → new.state.sealed ≡ old.state.sealed → AsksKeeper old entry new
+asks_nothing old new entry none same sealed = record {
+  unasked = λ _. same;
+  failure = λ failed. absurd (false≢true (sym none ∙ failed));
+  seal = λ before after. absurd (false≢true (sym before ∙ (ap is_some (sym sealed) ∙ after)));
+  counts = omega (arith, same.1);
+}
+
+-- the store answered, and did not fail
+kept_open : {K D : Type 0} (old new : CoreState K D) (entry : machine.Entry) → has_outcome is_of_store entry ≡ true → has_outcome is_failure entry ≡ false → new.state.sealed ≡ old.state.sealed → old.failures ≤ new.failures → AsksKeeper old entry new
+kept_open old new entry asked none sealed counts = record {
+  unasked = λ never. absurd (false≢true (sym never ∙ asked));
+  failure = λ failed. absurd (false≢true (sym none ∙ failed));
+  seal = λ before after. absurd (false≢true (sym before ∙ (ap is_some (sym sealed) ∙ after)));
+  counts = counts;
+}
+
+-- what was asked for a message
+pub asks_taking : {K D : Type 0} (failed : K → ℕ) (old : CoreState K D) (m n : ℕ) (message : Message) (draws : List Uuid) (o : Option Outcome) (sessions : List ℕ) (entries : List Entry) (outbox : WaitingFrames) (kept : KeptDatabase K) (source : D)
+    → old.failures ≡ failed old.keeper → AsksStore failed o (kept_of old) kept → failed old.keeper ≤ failed kept.keeper
+    → AsksKeeper old (taking m n message draws o) (after_work failed old m sessions entries outbox kept source)
+asks_taking {K} failed old m n message draws None sessions entries outbox kept source count same counts =
+    asks_nothing old _ _ refl (ap (λ (k : KeptDatabase K). k.keeper) same, ap (λ (k : KeptDatabase K). failed k.keeper) same ∙ sym count) (ap (λ (k : KeptDatabase K). k.sealed) same)
+asks_taking {K} failed old m n message draws (Some outcome.NoMemory) sessions entries outbox kept source count same counts =
+    asks_nothing old _ _ refl (ap (λ (k : KeptDatabase K). k.keeper) same, ap (λ (k : KeptDatabase K). failed k.keeper) same ∙ sym count) (ap (λ (k : KeptDatabase K). k.sealed) same)
+asks_taking failed old m n message draws (Some outcome.Kept) sessions entries outbox kept source count sealed counts = kept_open old _ _ refl refl sealed (omega (arith, count, counts))
+asks_taking failed old m n message draws (Some outcome.Exhausted) sessions entries outbox kept source count sealed counts = kept_open old _ _ refl refl sealed (omega (arith, count, counts))
+asks_taking failed old m n message draws (Some outcome.Failed) sessions entries outbox kept source count cause counts =
+    let has_failed : HasFailed old.failures (failed kept.keeper) = subst (λ (k : ℕ). HasFailed k (failed kept.keeper)) (sym count) cause in
+    record {
+      unasked = λ never. absurd (false≢true (sym never));
+      failure = λ _. has_failed;
+      seal = λ _ _. has_failed;
+      counts = omega (arith, count, counts);
+    }
+
+-- a closing leaves the seal
+closing_sealed : (s t : State) (m n : ℕ) (cause : machine.Cause) (sent : List Sent) → step s (closing m n cause) ≡ Some (record { state = t; sent = sent }) → t.sealed ≡ s.sealed
+closing_sealed s t m n cause sent h = by (leb s.moment m) (machine.is_open s n) h
+  where
+    by : (b c : Bool) → cond b (cond c (Some (machine.closed (record s { moment = m }) n)) None) None ≡ Some (record { state = t; sent = sent }) → t.sealed ≡ s.sealed
+    by true true k = ap (λ (x : Stepped). x.state.sealed) (sym (same_Some _ _ k))
+    by true false k = cc
+    by false c k = cc
+
+pub asks_closing : {K D : Type 0} (m n : ℕ) (cause : machine.Cause) (old new : CoreState K D) → Closes m n cause old new → AsksKeeper old (closing m n cause) new
+asks_closing m n cause old new c = asks_nothing old new (closing m n cause) refl c.asks (closing_sealed old.state new.state m n cause c.moves.sent c.moves.stepped)
 
 -- there is a place, and a serial
 pub not_full : (o : Option ℕ) (n : ℕ) → o ≡ None → n ≢ 2 ^ 64 - 1 → n < 2 ^ 64 → (leb most_sessions (length (option_to_list o)) || leb (2 ^ 64 - 1) n) ≡ false
@@ -191,8 +244,8 @@ it_closed false o P Q h there = absurd (false≢true (sym h.1 ∙ there))
 
 -- a Close for want of memory stands in place of a Take
 pub stood_in : {K D : Type 0} (draws : D → Uuid → D → Type 0) (at s : ℕ) (message : Message) (old new : CoreState K D) → Closes at s machine.Memory old new → IsEntered draws at (machine.Take s message) old answer.Closed new
-stood_in draws at s message old new c = record { entry = closing at s machine.Memory; tells = (inr refl, c.shut); moment = refl; drawn = c.drawn; moves = c.moves }
+stood_in draws at s message old new c = record { entry = closing at s machine.Memory; tells = (inr refl, c.shut); moment = refl; drawn = c.drawn; moves = c.moves; asks = asks_closing at s machine.Memory old new c }
 
 -- a Close as it was asked for
 pub closed_as_asked : {K D : Type 0} (draws : D → Uuid → D → Type 0) (at s : ℕ) (cause : machine.Cause) (old new : CoreState K D) → Closes at s cause old new → IsEntered draws at (machine.Close s cause) old answer.Done new
-closed_as_asked draws at s cause old new c = record { entry = closing at s cause; tells = refl; moment = refl; drawn = c.drawn; moves = c.moves }
+closed_as_asked draws at s cause old new c = record { entry = closing at s cause; tells = refl; moment = refl; drawn = c.drawn; moves = c.moves; asks = asks_closing at s cause old new c }

@@ -24,7 +24,7 @@ use Rattle.ov_core.specs.declared.frames.Frames.{Frames}
 use Rattle.ov_core.specs.Leaving.{LeavesItsOwn}
 use Rattle.ov_core.specs.Preparing.{AreFrames}
 use Rattle.ov_core.specs.Outbox.{WaitingFrames, waiting_for, PostsFrame, HasSameFrames}
-use Rattle.ov_core.specs.Handling.{IsWork, PostsIfRoom, CommitsWithReply, with_db, closed_if_no_memory, listed_first, IsMachineStep, IsAttempt}
+use Rattle.ov_core.specs.Handling.{AsksStore, IsWork, PostsIfRoom, CommitsWithReply, with_db, closed_if_no_memory, listed_first, IsMachineStep, IsAttempt}
 
 -- ---- want of memory
 
@@ -138,6 +138,11 @@ no_other n (Some bytes) old new outcome.Exhausted w = absurd w
 no_other n None old new outcome.Exhausted w = absurd w
 no_other n (Some bytes) old new outcome.Failed w = absurd w
 no_other n None old new outcome.Failed w = absurd w
+
+-- and the store was not asked
+pub asks_none : {K : Type 0} (failed : K → ℕ) (n : ℕ) (bytes : Option (List ℕ)) (old new : WaitingFrames) (o : Option Outcome) (db : KeptDatabase K) → PostsIfRoom n bytes old o new → AsksStore failed o db db
+asks_none failed n bytes old new None db posts = refl
+asks_none failed n bytes old new (Some o) db posts = rw (no_other n bytes old new o posts) refl
 
 -- answered at once
 at_once : (s : State) (n : ℕ) (w : Work) (bytes : Option (List ℕ)) (old new : WaitingFrames) → IsWork w (kinds.Answer bytes) → PostsIfRoom n bytes old None new

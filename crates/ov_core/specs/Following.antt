@@ -7,12 +7,14 @@ use Rattle.ov_core.specs.declared.event.Entry.{Entry}
 use Rattle.ov_core.specs.Entries.{entry_view}
 use Rattle.ov_core.specs.Outbox.{WaitingFrames, waiting_for}
 
--- what contracts see of a core: its state, the entries that it keeps, the frames that wait, its keeper and its source of draws (own)
+-- what contracts see of a core: its state, the entries that it keeps, the frames that wait, its keeper, how often the keeper's
+-- device has failed, and its source of draws (own)
 pub record CoreState (K D : Type 0) : Type 0 where
   pub state : State
   pub kept : List Entry
   pub outbox : WaitingFrames
   pub keeper : K
+  pub failures : ℕ
   pub source : D
 
 -- the entries that are kept are the history, whole (own)

@@ -10,6 +10,7 @@ use Rattle.ov_specs.specs.values.Uuid.{Uuid}
 use Rattle.ov_db.specs.Changing.{Delta}
 use Rattle.ov_db.specs.Committing as db
 use Rattle.ov_db.specs.KeptDatabase.{KeptDatabase}
+use Rattle.ov_keeper.specs.Keeping.{HasFailed}
 use Rattle.ov_db.specs.declared.answer.StoreAnswer.TheVariants as store
 use Rattle.ov_core.specs.Entries.{outcome_view}
 use Rattle.ov_core.specs.Outbox.{WaitingFrames, waiting_for, PostsFrame, HasSameFrames}
@@ -45,6 +46,17 @@ CommitsWithReply session frames delta old waited (Some outcome.Exhausted) new wa
 CommitsWithReply session frames delta old waited (Some outcome.Failed) new waits = db.Commits delta old store.Failed new × PostsFrame session frames.failed waited waits
 CommitsWithReply session frames delta old waited (Some outcome.NoMemory) new waits = (new ≡ old) × HasSameFrames waited waits
 CommitsWithReply session frames delta old waited None new waits = ⊥
+
+-- ---- the store
+
+-- What an attempt leaves of the database, by what is listed of it: where the store failed, its device has; where it answered
+-- otherwise, no seal is new; where it was not asked, the database is as before, with its keeper (own).
+abbrev pub AsksStore : {K : Type 0} → (K → ℕ) → Option Outcome → KeptDatabase K → KeptDatabase K → Type 0
+AsksStore failed (Some outcome.Failed) old new = HasFailed (failed old.keeper) (failed new.keeper)
+AsksStore failed (Some outcome.Kept) old new = new.sealed ≡ old.sealed
+AsksStore failed (Some outcome.Exhausted) old new = new.sealed ≡ old.sealed
+AsksStore failed (Some outcome.NoMemory) old new = new ≡ old
+AsksStore failed None old new = new ≡ old
 
 -- ---- what the machine makes of it
 

@@ -1,5 +1,5 @@
 -- The frames that wait for sessions.
-use Rattle.std.specs.Prelude.{◌≡◌, ℕ, ◌==◌, List, [], ◌∷◌, ◌++◌, map, unwrap_or, if◌then◌else◌}
+use Rattle.std.specs.Prelude.{◌≡◌, ℕ, ◌==◌, List, [], ◌∷◌, ◌++◌, map, Bool, is_some, unwrap_or, if◌then◌else◌}
 use Rattle.std.specs.declared.alloc.Global.{Global}
 use Rattle.std.specs.declared.collections.VecDeque.{VecDeque}
 use Rattle.std.specs.Map.{lookup}
@@ -13,6 +13,10 @@ WaitingFrames = List (ℕ × List (List ℕ))
 -- what waits for a session (own)
 abbrev pub waiting_for : ℕ → WaitingFrames → List (List ℕ)
 waiting_for session queues = unwrap_or (lookup (is_at (nat_cmp session)) queues) []
+
+-- the session has a queue, be it an empty one (own)
+abbrev pub has_queue : ℕ → WaitingFrames → Bool
+has_queue session queues = is_some (lookup (is_at (nat_cmp session)) queues)
 
 -- the queues of the code (own)
 abbrev pub outbox_of : List (ℕ × VecDeque (List ℕ) Global) → WaitingFrames

@@ -1,14 +1,17 @@
 -- What one step of a core promises.
-use Rattle.std.specs.Prelude.{◌≡◌, ◌⊎◌, ℕ, ◌-◌, ◌^◌, ◌<◌, ◌||◌, nat_le, [], length, Bool, true, false}
+use Rattle.std.specs.Prelude.{◌≡◌, ◌⊎◌, ℕ, ◌-◌, ◌^◌, ◌<◌, ◌≤◌, ◌||◌, nat_le, [], length, Bool, true, false, is_some}
+use Rattle.std.specs.List.{list_any}
 use Rattle.ov_specs.specs.machine.Machine as machine
 use Rattle.ov_specs.specs.machine.Machine.{State, is_open}
 use Rattle.ov_specs.specs.values.Uuid.{Uuid}
+use Rattle.ov_keeper.specs.Keeping.{HasFailed}
 use Rattle.ov_txn.specs.Drawing.{DrawsFrom}
 use Rattle.ov_core.specs.declared.event.StepFault.{StepFault}
 use Rattle.ov_core.specs.declared.event.StepFault.TheVariants as fault
 use Rattle.ov_core.specs.declared.event.Stepped.{Stepped}
 use Rattle.ov_core.specs.declared.event.Stepped.TheVariants as answer
 use Rattle.ov_core.specs.Following.{CoreState, EntersEntry}
+use Rattle.ov_core.specs.Outbox.{waiting_for, has_queue}
 
 -- how many sessions may be open (own)
 abbrev pub most_sessions : ℕ
@@ -28,6 +31,36 @@ AnswersEvent (machine.Close session cause) old entry new answer.Done = entry.eve
 AnswersEvent machine.Tick old entry new answer.Done = entry.event ≡ machine.Tick
 AnswersEvent event old entry new stepped = ⊥
 
+-- the keeper is as before, and no failure more is counted (own)
+abbrev pub HasSameKeeper : {K D : Type 0} → CoreState K D → CoreState K D → Type 0
+HasSameKeeper old new = (new.keeper ≡ old.keeper) × (new.failures ≡ old.failures)
+
+-- the outcome is an answer of the store (own)
+abbrev pub is_of_store : machine.Outcome → Bool
+is_of_store machine.Committed = true
+is_of_store machine.Exhausted = true
+is_of_store machine.Failed = true
+is_of_store machine.NoMemory = false
+
+-- the store failed (own)
+abbrev pub is_failure : machine.Outcome → Bool
+is_failure machine.Committed = false
+is_failure machine.Exhausted = false
+is_failure machine.Failed = true
+is_failure machine.NoMemory = false
+
+-- some attempt of the entry has such an outcome (own)
+abbrev pub has_outcome : (machine.Outcome → Bool) → machine.Entry → Bool
+has_outcome test entry = list_any (λ attempt. test attempt.outcome) entry.choice.outcomes
+
+-- Where the entry has no answer of the store, the keeper is as before. That the store failed, and that the database is sealed
+-- now and was not, has a cause: the device has failed (own).
+pub record AsksKeeper {K D : Type 0} (old : CoreState K D) (entry : machine.Entry) (new : CoreState K D) : Type 0 where
+  pub unasked : has_outcome is_of_store entry ≡ false → HasSameKeeper old new
+  pub failure : has_outcome is_failure entry ≡ true → HasFailed old.failures new.failures
+  pub seal : is_some old.state.sealed ≡ false → is_some new.state.sealed ≡ true → HasFailed old.failures new.failures
+  pub counts : old.failures ≤ new.failures
+
 -- the entry of an event, at the moment, with the draws that were made of the source (own)
 pub record IsEntered {K D : Type 0} (draws : D → Uuid → D → Type 0) (at : ℕ) (event : machine.Event) (old : CoreState K D) (stepped : Stepped) (new : CoreState K D) : Type 0 where
   pub entry : machine.Entry
@@ -35,6 +68,7 @@ pub record IsEntered {K D : Type 0} (draws : D → Uuid → D → Type 0) (at : 
   pub moment : entry.choice.moment ≡ at
   pub drawn : DrawsFrom draws old.source entry.choice.draws new.source
   pub moves : EntersEntry old entry new
+  pub asks : AsksKeeper old entry new
 
 -- when a fault is answered (own)
 abbrev pub RefusesStep : machine.Event → State → StepFault → Type 0
@@ -56,8 +90,10 @@ StepIs draws at event old answer.Closed new = IsEntered draws at event old answe
 abbrev pub closing : ℕ → ℕ → machine.Cause → machine.Entry
 closing at session cause = record { event = machine.Close session cause; choice = record { moment = at; draws = []; outcomes = [] } }
 
--- the session was closed, and nothing was drawn (own)
+-- The session was closed, nothing was drawn, and the store was not asked. No queue is kept of it where nothing waits for it (own).
 pub record Closes {K D : Type 0} (at session : ℕ) (cause : machine.Cause) (old new : CoreState K D) : Type 0 where
   pub moves : EntersEntry old (closing at session cause) new
   pub shut : is_open new.state session ≡ false
   pub drawn : new.source ≡ old.source
+  pub asks : HasSameKeeper old new
+  pub forgotten : waiting_for session old.outbox ≡ [] → has_queue session new.outbox ≡ false

@@ -1,8 +1,8 @@
-ghost use Rattle.std.specs.Prelude.{◌≡◌, Some, None};
+ghost use Rattle.std.specs.Prelude.{◌≡◌, ◌≤◌, Some, None};
 ghost use Rattle.serde_json.specs.Data.{array};
 ghost use Rattle.ov_specs.specs.wire.Frame.{frame, reply_tree};
 ghost use Rattle.ov_specs.specs.operations.Transaction.{failed_results as refused};
-ghost use Rattle.ov_core.specs.Handling.{IsAttempt, CommitsWithReply, PostsIfRoom};
+ghost use Rattle.ov_core.specs.Handling.{AsksStore, IsAttempt, CommitsWithReply, PostsIfRoom};
 
 use crate::event::Outcome;
 use crate::frames::{Frames, reply_of};
@@ -24,7 +24,9 @@ pub(crate) fn attempt<K: Keeper + Drop>(
     draws: &[Uuid],
     operations: &Trees,
 ) -> Option<Outcome>
-    ensures { IsAttempt session id.now draws.now operations.now db.old outbox.old result db.new outbox.new }
+    ensures tried { IsAttempt session id.now draws.now operations.now db.old outbox.old result db.new outbox.new }
+    ensures asks { AsksStore K.failed result db.old db.new }
+    ensures counts { K.failed db.old.keeper ≤ K.failed db.new.keeper }
 {
     let Ok(performed) = perform(alloc, db.schema(), db.rows(), draws, operations) else {
         return Some(Outcome::NoMemory);
@@ -85,7 +87,9 @@ fn commit<K: Keeper + Drop>(
     delta: Delta,
 ) -> Option<Outcome>
     requires { db.old.sealed ≡ None }
-    ensures { CommitsWithReply session frames delta db.old outbox.old result db.new outbox.new }
+    ensures commits { CommitsWithReply session frames delta db.old outbox.old result db.new outbox.new }
+    ensures asks { AsksStore K.failed result db.old db.new }
+    ensures counts { K.failed db.old.keeper ≤ K.failed db.new.keeper }
 {
     let Frames {
         kept,

@@ -1,8 +1,8 @@
-ghost use Rattle.std.specs.Prelude.{◌≡◌, Some, None};
+ghost use Rattle.std.specs.Prelude.{◌≡◌, ◌≤◌, Some, None};
 ghost use Rattle.ov_rpc.specs.Message.{message_view};
 ghost use Rattle.ov_specs.specs.machine.Machine as spec;
 ghost use Rattle.ov_txn.specs.Drawing.{DrawsFrom};
-ghost use Rattle.ov_core.specs.Handling.{IsHandled};
+ghost use Rattle.ov_core.specs.Handling.{AsksStore, IsHandled};
 
 use crate::answer::{Work, work_of};
 use crate::attempt::attempt;
@@ -44,6 +44,8 @@ fn transact<K: Keeper + Drop, D: Draws>(
     operations: &Trees,
 ) -> Handled
     ensures is_handled { IsHandled session (λ s. spec.Transact id.now operations.now) database.old outbox.old result database.new outbox.new }
+    ensures asks { AsksStore K.failed result.outcome database.old database.new }
+    ensures counts { K.failed database.old.keeper ≤ K.failed database.new.keeper }
     ensures drawn { DrawsFrom D.draws source.old result.draws.items source.new }
 {
     let Ok(draws) = draws_for(alloc, operations, source) else {
@@ -71,6 +73,8 @@ pub(crate) fn handle<K: Keeper + Drop, D: Draws>(
     message: &Message,
 ) -> Handled
     ensures is_handled { IsHandled session (λ s. spec.work_of s (message_view message.now)) database.old outbox.old result database.new outbox.new }
+    ensures asks { AsksStore K.failed result.outcome database.old database.new }
+    ensures counts { K.failed database.old.keeper ≤ K.failed database.new.keeper }
     ensures drawn { DrawsFrom D.draws source.old result.draws.items source.new }
 {
     match work_of(alloc, database.schema(), message) {

@@ -4,10 +4,12 @@ ghost use Rattle.ov_specs.specs.rows.Lines.{Contents};
 ghost use Rattle.ov_specs.specs.machine.History.{joined};
 ghost use Rattle.ov_specs.specs.machine.Machine.{State, opening, is_open, Open as SpecOpen, Tick as SpecTick, Take as SpecTake, Entry as SpecEntry};
 ghost use Rattle.ov_rpc.specs.Message.{message_view};
-ghost use Rattle.ov_keeper.specs.Keeping.{LeavesNoMore};
-ghost use Rattle.ov_db.specs.Opening.{CanOpen, RefusesOpen};
+ghost use Rattle.ov_keeper.specs.Keeping.{LeavesNoMore, HasFailed};
+ghost use Rattle.ov_keeper.specs.declared.fault.KeepFault.TheVariants.{Device};
+ghost use Rattle.ov_db.specs.Opening.{CanOpen, IsOpenFault, RefusesOpen};
+ghost use Rattle.ov_db.specs.declared.fault.OpenFault.TheVariants.{Keeping};
 ghost use Rattle.ov_core.specs.Entries.{event_view, cause_view};
-ghost use Rattle.ov_core.specs.Outbox.{waiting_for};
+ghost use Rattle.ov_core.specs.Outbox.{waiting_for, has_queue};
 ghost use Rattle.ov_core.specs.Following.{Follows, none_given, and_handed, and_all_handed};
 ghost use Rattle.ov_core.specs.Stepping.{StepIs, Closes};
 ghost use Rattle.ov_core.specs.Leaving.{LeavesItsOwn};
@@ -17,7 +19,7 @@ use crate::event::{Cause, Entry, Event, Session, StepFault, Stepped};
 use crate::handle::{Handled, handle};
 use crate::outbox::Outbox;
 use ov_base::Bytes;
-use ov_db::{Db, OpenFault};
+use ov_db::{Db, RefusedOpen};
 use ov_keeper::Keeper;
 use ov_rpc::Message;
 use ov_schema::Schema;
@@ -57,6 +59,7 @@ impl<K: Keeper, D> Model for Core<K, D> {
       kept = c.history.items;
       outbox = c.outbox;
       keeper = c.database.keeper;
+      failures = K.Keeper.failed c.database.keeper;
       source = c.source;
     } };
 
@@ -68,9 +71,14 @@ impl<K: Keeper + Drop, D: Draws + Drop> Core<K, D> {
     /// A core without history, over what the keeper holds: no session is open, the last moment is 0 and the next serial 1.
     ///
     /// It is refused as `SchemaDiffers` where the keeper holds another text than the schema's (RFC 7047, 3.2), as `BadBody`
-    /// where one of its lines is no row of the schema, and with the keeper's fault. Memory that is refused is the keeper's
-    /// fault `Memory`. What the keeper holds is not changed.
-    pub fn open(alloc: Global, keeper: K, schema: Schema, draws: D) -> Result<Core<K, D>, OpenFault>
+    /// where one of its lines is no row of the schema, and with the fault of the keeper's load. Memory that is refused is the
+    /// keeper's fault `Memory`. What the keeper holds is not changed, and a refusal gives it back.
+    pub fn open(
+        alloc: Global,
+        keeper: K,
+        schema: Schema,
+        draws: D,
+    ) -> Result<Core<K, D>, RefusedOpen<K>>
         ensures start { IfOk result (λ core. Follows (opening schema core.state.database) [] none_given core) }
         ensures schema { IfOk result (λ core. core.state.schema ≡ schema) }
         ensures source { IfOk result (λ core. core.source ≡ draws) }
@@ -79,8 +87,13 @@ impl<K: Keeper + Drop, D: Draws + Drop> Core<K, D> {
         // Of an honest keeper an open finds nothing now that it might not have found before.
         ensures same { IfOk result (λ core. K.is_honest core.keeper → LeavesNoMore (K.leaves keeper) (K.leaves core.keeper)) }
         ensures honest { IfOk result (λ core. K.is_honest core.keeper → K.is_honest keeper) }
+        ensures kinds { IfErr result (λ e. IsOpenFault e.fault) }
         // A fault is the first that applies to what the keeper held, where its device was honest to the end of the call.
-        ensures fault { IfErr result (λ fault. (later : K) × (K.is_honest later → (held : Contents) → K.leaves keeper held → RefusesOpen schema held fault)) }
+        ensures fault { IfErr result (λ e. K.is_honest e.keeper → (held : Contents) → K.leaves keeper held → RefusesOpen schema held e.fault) }
+        // A failure of the device has a cause: the keeper's count rose in this call, or stood at its greatest.
+        ensures cause { IfErr result (λ e. e.fault ≡ Keeping Device → HasFailed (K.failed keeper) (K.failed e.keeper)) }
+        ensures same_refused { IfErr result (λ e. K.is_honest e.keeper → LeavesNoMore (K.leaves keeper) (K.leaves e.keeper)) }
+        ensures honest_refused { IfErr result (λ e. K.is_honest e.keeper → K.is_honest keeper) }
     {
         let database = Db::open(alloc, keeper, schema)?;
         Ok(Core {
@@ -129,6 +142,14 @@ impl<K: Keeper + Drop, D: Draws + Drop> Core<K, D> {
         self.close_at(moment, session, cause)
     }
 
+    /// How often the keeper's device has failed; it stays at 2^64-1.
+    pub fn failures(&self) -> u64
+        ensures count { result ≡ K.failed self.now.keeper }
+        ensures state { result ≡ self.now.failures }
+    {
+        self.database.failures()
+    }
+
     /// Whether the session is open.
     pub fn is_open(&self, session: Session) -> bool
         ensures { result ≡ is_open self.now.state session.serial }
@@ -154,6 +175,8 @@ impl<K: Keeper + Drop, D: Draws + Drop> Core<K, D> {
         ensures none { IfNone result (waiting_for session.serial self.old.outbox ≡ []) }
         ensures others { (other : ℕ) → other ≢ session.serial → waiting_for other self.new.outbox ≡ waiting_for other self.old.outbox }
         ensures same { self.new ≡ record self.old { outbox = self.new.outbox } }
+        // No queue is kept of a closed session for which nothing waits any more.
+        ensures forgotten { is_open self.old.state session.serial ≡ false → waiting_for session.serial self.new.outbox ≡ [] → has_queue session.serial self.new.outbox ≡ false }
     {
         let frame = self.outbox.pop(session.serial);
         if !self.is_open(session) {

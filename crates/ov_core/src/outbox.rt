@@ -1,6 +1,6 @@
-ghost use Rattle.std.specs.Prelude.{◌≡◌, ◌≢◌, ◌++◌, ℕ, List, [], ◌∷◌, IfOk, IfNone, OnOk, MatchBool, option_to_list};
+ghost use Rattle.std.specs.Prelude.{◌≡◌, ◌≢◌, ◌++◌, ℕ, List, [], ◌∷◌, false, IfOk, IfNone, OnOk, MatchBool, option_to_list};
 ghost use Rattle.ov_specs.specs.machine.History.{joined};
-ghost use Rattle.ov_core.specs.Outbox.{WaitingFrames, waiting_for, PostsFrame, ClearsSession, HasSameFrames};
+ghost use Rattle.ov_core.specs.Outbox.{WaitingFrames, waiting_for, has_queue, PostsFrame, ClearsSession, HasSameFrames};
 ghost use Rattle.ov_core.specs.Handling.{PostsIfRoom};
 
 use crate::event::Outcome;
@@ -75,7 +75,8 @@ impl Outbox {
 
     /// Gives up the queue of a session for which nothing waits.
     pub fn forget(&mut self, session: u64)
-        ensures { HasSameFrames self.old self.new }
+        ensures same { HasSameFrames self.old self.new }
+        ensures gone { waiting_for session self.old ≡ [] → has_queue session self.new ≡ false }
     {
         let Some(queue) = self.queues.get(&session) else {
             return;
@@ -97,7 +98,8 @@ impl Outbox {
 
     /// Gives up the queue of the session, with all that waits in it.
     pub fn clear(&mut self, session: u64)
-        ensures { ClearsSession session self.old self.new }
+        ensures clears { ClearsSession session self.old self.new }
+        ensures gone { has_queue session self.new ≡ false }
     {
         self.queues.remove(&session);
     }

@@ -71,7 +71,7 @@ fn open_core<K: Keeper + Drop, D: Draws + Drop>(
 {
     match Core::open(alloc, keeper, schema, draws) {
         Ok(core) => Ok(core),
-        Err(fault) => Err(ending_of_open(fault)),
+        Err(refused) => Err(ending_of_open(refused.fault)),
     }
 }
 

@@ -73,7 +73,10 @@ fn an_earlier_moment_counts_as_the_last_one(rt: HostRuntime) -> Result<(), Fail>
 fn refusal(alloc: Global, stored: &str, lines: &str) -> Result<Option<OpenFault>, Fail> {
     let schema = net(alloc)?;
     let keeper = failing(keeper_of(alloc, stored, lines)?, Faults::NONE);
-    Ok(Core::open(alloc, keeper, schema, Counter::new()).err())
+    match Core::open(alloc, keeper, schema, Counter::new()) {
+        Ok(_) => Ok(None),
+        Err(refused) => Ok(Some(refused.fault)),
+    }
 }
 
 #[test]

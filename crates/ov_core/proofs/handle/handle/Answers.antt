@@ -2,7 +2,7 @@ use Rattle.std.proofs.Common.{sym}
 use Rattle.ov_specs.specs.machine.Machine as spec
 use Rattle.ov_rpc.specs.Message.{message_view}
 use Rattle.ov_core.specs.Handling.{with_db}
-use Rattle.ov_core.proofs.Workings.{nothing_drawn, answers_work, transact_work}
+use Rattle.ov_core.proofs.Workings.{asks_none, nothing_drawn, answers_work, transact_work}
 use Rattle.ov_core.proofs.handle.handle.Goals as goal
 
 pub returns-in-Err-clause-is_handled : goal.returns-in-Err-clause-is_handled
@@ -20,3 +20,6 @@ returns-in-Ok-Transact-clause-is_handled g c = λ s.
     let w = spec.work_of now (message_view c.args.message.now) in
     let is = transact_work w c.in-Ok-Transact.id c.in-Ok-Transact.operations ((rw c.in-Ok-Transact.field-0-is at c.in-Ok-Transact.ensures) now (sym c.schema.ensures)) in
     rw is (c.transact.ensures.is_handled s)
+
+pub returns-in-Ok-Answer-clause-asks : goal.returns-in-Ok-Answer-clause-asks
+returns-in-Ok-Answer-clause-asks g c = asks_none g.K.Keeper.failed c.args.session c.in-Ok-Answer.frame c.args.outbox.now c.send.new.outbox c.send.result c.args.database.now c.send.ensures

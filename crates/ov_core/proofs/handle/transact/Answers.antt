@@ -14,4 +14,4 @@ returns-in_default-clause-is_handled g c =
 pub returns-clause-is_handled : goal.returns-clause-is_handled
 returns-clause-is_handled g c =
     attempt_works c.args.session c.args.id.now c.in-Ok.draws.items c.args.operations.now c.args.database.now c.attempt-outcome.new.db c.attempt-outcome.result c.args.outbox.now c.attempt-outcome.new.outbox c.in-Ok.ensures.count
-    (subst (λ (draws : List Uuid). IsAttempt c.args.session c.args.id.now draws c.args.operations.now c.args.database.now c.args.outbox.now c.attempt-outcome.result c.attempt-outcome.new.db c.attempt-outcome.new.outbox) c.as_slice.ensures.value c.attempt-outcome.ensures)
+    (subst (λ (draws : List Uuid). IsAttempt c.args.session c.args.id.now draws c.args.operations.now c.args.database.now c.args.outbox.now c.attempt-outcome.result c.attempt-outcome.new.db c.attempt-outcome.new.outbox) c.as_slice.ensures.value c.attempt-outcome.ensures.tried)

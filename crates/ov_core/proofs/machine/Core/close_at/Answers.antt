@@ -11,7 +11,9 @@ returns g c =
     let here = rw (← c.self.view_is) at there in
     rw (← c.self.view_is) (record {
       moves = closed _ c.args.moment c.args.session.serial (cause_view c.args.cause) c.entry_without_choice.result _ _ _ low here c.push_back_reserved.ensures.items c.entry_without_choice.ensures
-          (alone c.self.inside.session c.args.session.serial here) c.forget.ensures;
+          (alone c.self.inside.session c.args.session.serial here) c.forget.ensures.same;
       shut = refl;
       drawn = refl;
+      asks = (refl, refl);
+      forgotten = c.forget.ensures.gone;
     })

@@ -1,5 +1,5 @@
 use Rattle.std.proofs.Common.{◌≡◌, ◌≤◌, None, refl, arith, rules}
-use Rattle.ov_core.proofs.Steps.{opened, nothing_chosen, entry_of, not_full}
+use Rattle.ov_core.proofs.Steps.{asks_nothing, opened, nothing_chosen, entry_of, not_full}
 use Rattle.ov_specs.specs.machine.Machine.{Open}
 use Rattle.ov_core.proofs.machine.Core.open_session.Goals as goal
 
@@ -13,4 +13,5 @@ returns g c =
       moment = refl;
       drawn = refl;
       moves = opened _ c.args.moment c.entry_without_choice.result _ _ low (rw (← c.reserve.ensures.items) c.push_back_reserved.ensures.items) c.entry_without_choice.ensures (rw none refl);
+      asks = asks_nothing _ _ _ refl (refl, refl) refl;
     })

@@ -1,5 +1,5 @@
 use Rattle.std.proofs.Common.{◌≤◌, refl, rules}
-use Rattle.ov_core.proofs.Steps.{ticked, nothing_chosen, entry_of}
+use Rattle.ov_core.proofs.Steps.{asks_nothing, ticked, nothing_chosen, entry_of}
 use Rattle.ov_specs.specs.machine.Machine.{Tick}
 use Rattle.ov_core.proofs.machine.Core.tick.Goals as goal
 
@@ -12,4 +12,5 @@ returns g c =
       moment = refl;
       drawn = refl;
       moves = ticked _ c.args.moment c.entry_without_choice.result _ low (rw (← c.reserve.ensures.items) c.push_back_reserved.ensures.items) c.entry_without_choice.ensures;
+      asks = asks_nothing _ _ _ refl (refl, refl) refl;
     })
