@@ -3,7 +3,7 @@ use Rattle.std.proofs.Common.{◌≡◌, ◌≢◌, ◌∙◌, ◌⊎◌, inl, i
 use Rattle.sqlite.specs.Store.{Ghosts}
 use Rattle.sqlite.specs.Effect.{Database}
 use Rattle.sqlite.specs.Schema.{Schema}
-use Rattle.sqlite.specs.State.{HasCleanDisk, Opens}
+use Rattle.sqlite.specs.State.{HasCleanDisk, Opens, IsLive}
 use Rattle.sqlite.specs.Held.{Held as Connected, state}
 use Rattle.sqlite.specs.Start.{FindsIn}
 use Rattle.sqlite.specs.Files.{AreFoundIn}
@@ -11,7 +11,7 @@ use Rattle.sqlite_wal.specs.Recovery.{Image}
 use Rattle.ov_specs.specs.rows.Lines.{Contents}
 use Rattle.ov_store.specs.Tables.{no_schema, line_schema}
 use Rattle.ov_store.specs.StoreState.{StoreState, MayFind}
-use Rattle.ov_store.specs.Finding.{new_contents, IsNewStore, IsStoreOf, IsStoredIn}
+use Rattle.ov_store.specs.Finding.{new_contents, IsNewStore, IsStoreOf, HasNoTable, IsStoredIn}
 
 no_tables : (schema : Schema) → schema ≡ no_schema → schema ≢ line_schema
 no_tables schema blank tables = let same = ap (λ (s : Schema). length s.tables) (sym blank ∙ tables) in omega (arith, same)
@@ -22,17 +22,31 @@ module _ {S : Type 0} (g : Ghosts S) where
   new_of_blank text c s blank (inl new) = new
   new_of_blank text c s blank (inr old) = absurd (no_tables c.schema blank old.tables)
 
-  -- what an open finds is new, or what the files held
-  pub found_in : (image : Image) (text : List ℕ) (c : Connected S) (s : StoreState S) → (HasCleanDisk (state g c) → Opens (state g c)) → (HasCleanDisk (state g c) → FindsIn image (state g c))
-      → IsStoreOf g text c s → HasCleanDisk (state g s.connection) → (contents : Contents) → MayFind g s.connection contents → (contents ≡ new_contents text) ⊎ IsStoredIn image contents
-  found_in image text c s opens finds (inl new) clean contents found = inl (new.holds clean contents found)
+  -- what an open finds is new, where the files had no table, or what they held
+  pub found_in : (image : Image) (text : List ℕ) (c : Connected S) (s : StoreState S) → (HasCleanDisk (state g c) → Opens (state g c) × IsLive (state g c)) → (HasCleanDisk (state g c) → FindsIn image (state g c))
+      → IsStoreOf g text c s → HasCleanDisk (state g s.connection) → (contents : Contents) → MayFind g s.connection contents → (HasNoTable image × (contents ≡ new_contents text)) ⊎ IsStoredIn image contents
+  found_in image text c s opens finds (inl new) clean contents found =
+      let early = new.honest clean in
+      let trees = (finds early).reads in
+      let it = opens early in
+      inl (
+        record {
+          db = (state g c).now;
+          sound = (it.1 it.0.is_open).0;
+          found = subst (λ (d : Database). AreFoundIn image d.trees) (sym it.0.clean) trees;
+          blank = new.blank;
+        },
+        new.holds clean contents found,
+      )
   found_in image text c s opens finds (inr old) clean contents found =
       let early = old.honest clean in
       let trees = (finds early).reads in
+      let it = opens early in
       inr (record {
         db = (state g c).now;
-        found = subst (λ (d : Database). AreFoundIn image d.trees) (sym (opens early).clean) trees;
+        sound = (it.1 it.0.is_open).0;
+        found = subst (λ (d : Database). AreFoundIn image d.trees) (sym it.0.clean) trees;
         text = s.schema;
         format = old.format clean;
-        contents_are = old.holds clean (opens early) contents found;
+        contents_are = old.holds clean it.0 contents found;
       })

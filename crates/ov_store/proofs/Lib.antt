@@ -1,5 +1,6 @@
 pub mod Texts
 pub mod EntryLemmas
+pub mod ResultLemmas
 pub mod RowLemmas
 pub mod DeleteLemmas
 pub mod RemoveLemmas

@@ -1,15 +1,26 @@
 -- What the store of a connection that was just opened holds (own).
-use Rattle.std.specs.Prelude.{◌≡◌, ◌⊎◌, ℕ, List}
+use Rattle.std.specs.Prelude.{◌≡◌, ◌≢◌, ◌↔◌, ◌⊎◌, ℕ, List, IsTrue, Result, Ok, Err}
 use Rattle.std.specs.FinMap.{empty}
 use Rattle.sqlite.specs.Store.{Ghosts}
-use Rattle.sqlite.specs.State.{HasCleanDisk, Opens}
-use Rattle.sqlite.specs.Held.{Held as Connected, state}
-use Rattle.sqlite.specs.Effect.{Database}
-use Rattle.sqlite.specs.Files.{AreFoundIn}
+use Rattle.sqlite.specs.declared.error.Error.{Error}
+use Rattle.sqlite.specs.State.{HasCleanDisk, Opens, Survives}
+use Rattle.sqlite.specs.Held.{Held as Connected, state, IsNew}
+use Rattle.sqlite.specs.Effect.{Database, IsDatabase}
+use Rattle.sqlite.specs.Files.{AreFoundIn, IsOpened, over_files, file_state}
+use Rattle.sqlite.specs.Opening.{is_open_error}
+use Rattle.sqlite.specs.Start.{FindsIn}
+use Rattle.sqlite.specs.Steps.{IsEmpty}
+use Rattle.sqlite_disk.specs.declared.Disk as disk
+use Rattle.sqlite_store.specs.declared.store.FileStore.{FileStore}
 use Rattle.sqlite_wal.specs.Recovery.{Image}
 use Rattle.ov_specs.specs.rows.Lines.{Contents}
+use Rattle.ov_keeper.specs.declared.fault.KeepFault.{KeepFault}
+use Rattle.ov_keeper.specs.declared.fault.KeepFault.TheVariants.{Device, NotOurs, Format}
 use Rattle.ov_store.specs.Tables.{no_schema, line_schema}
 use Rattle.ov_store.specs.Format.{IsFormat, held}
+use Rattle.ov_store.specs.Making.{IsNewFile}
+use Rattle.ov_store.specs.Querying.{IsAsBefore}
+use Rattle.ov_store.specs.Refusing.{fault_of_open}
 use Rattle.ov_store.specs.StoreState.{StoreState, MayFind}
 
 -- the text of a schema, and no line
@@ -20,6 +31,7 @@ module _ {S : Type 0} (g : Ghosts S) where
   -- the connection had no table, index or view, and the store is new
   pub record IsNewStore (text : List ℕ) (c : Connected S) (s : StoreState S) : Type 0 where
     pub blank : c.schema ≡ no_schema
+    pub honest : HasCleanDisk (state g s.connection) → HasCleanDisk (state g c)
     pub schema : s.schema ≡ text
     pub holds : HasCleanDisk (state g s.connection) → (contents : Contents) → MayFind g s.connection contents → contents ≡ new_contents text
 
@@ -34,10 +46,56 @@ module _ {S : Type 0} (g : Ghosts S) where
   abbrev pub IsStoreOf : List ℕ → Connected S → StoreState S → Type 0
   IsStoreOf text c s = IsNewStore text c s ⊎ IsOldStore c s
 
+  -- why a connection has no store, and what is left of it: what it held, but that a device which failed at the making may
+  -- leave the whole new database
+  pub record IsRefused (text : List ℕ) (c left : Connected S) (fault : KeepFault) : Type 0 where
+    pub ours : (fault ≡ NotOurs) ↔ ((c.schema ≢ no_schema) × (c.schema ≢ line_schema))
+    pub tables : fault ≡ Format → c.schema ≡ line_schema
+    pub format : fault ≡ Format → HasCleanDisk (state g left) → (any : List ℕ) → ¬ IsFormat any (state g c).now
+    pub same : HasCleanDisk (state g left) → IsAsBefore (state g c) (state g left)
+    pub crash : Survives (state g c) (state g left) (λ trees. (fault ≡ Device) × (c.schema ≡ no_schema) × IsNewFile text trees)
+
+  -- why what a crash left of a store is none: it is one of those that an open might find, and that is refused
+  pub record IsRefusedAgain (s : StoreState S) (left : Connected S) (fault : KeepFault) : Type 0 where
+    pub again : Connected S
+    pub opened : HasCleanDisk (state g again) → Opens (state g again) × MayFind g s.connection (held (state g again).now.trees)
+    pub ours : (fault ≡ NotOurs) ↔ (again.schema ≢ line_schema)
+    pub format : fault ≡ Format → HasCleanDisk (state g left) → (any : List ℕ) → ¬ IsFormat any (state g again).now
+
+-- what the files recover to has no table, index or view
+pub record HasNoTable (image : Image) : Type 0 where
+  pub db : Database
+  pub sound : IsDatabase db
+  pub found : AreFoundIn image db.trees
+  pub blank : db.schema ≡ no_schema
+
 -- what the files recover to has stored format 1, and these are its contents
 pub record IsStoredIn (image : Image) (contents : Contents) : Type 0 where
   pub db : Database
+  pub sound : IsDatabase db
   pub found : AreFoundIn image db.trees
   pub text : List ℕ
   pub format : IsFormat text db
   pub contents_are : contents ≡ held db.trees
+
+-- SQLite refuses to open the files
+abbrev pub IsOpenRefused : KeepFault → Type 0
+IsOpenRefused fault = (error : Error) × IsTrue (is_open_error error) × (fault ≡ fault_of_open error)
+
+module _ {D : Type 0} {g : disk.Ghosts D} where
+  -- SQLite opened the files and found what they held, and that has no store
+  pub record IsFoundRefused (image : Image) (text : List ℕ) (fault : KeepFault) (found left : Connected (FileStore D g)) : Type 0 where
+    pub fresh : IsNew found
+    pub opened : HasCleanDisk (file_state found) → IsOpened found
+    pub holds : HasCleanDisk (file_state found) → FindsIn image (file_state found)
+    pub refused : IsRefused over_files text found left fault
+
+  -- a refusal is one of the two
+  abbrev pub IsFileRefused : Image → List ℕ → Result (StoreState (FileStore D g)) KeepFault → Type 0
+  IsFileRefused image text (Ok s) = Unit {0}
+  IsFileRefused image text (Err fault) = IsOpenRefused fault ⊎ ((found : Connected (FileStore D g)) × (left : Connected (FileStore D g)) × IsFoundRefused image text fault found left)
+
+  -- of a connection that has no table
+  abbrev pub IsMemoryRefused : List ℕ → Result (StoreState (FileStore D g)) KeepFault → Type 0
+  IsMemoryRefused text (Ok s) = Unit {0}
+  IsMemoryRefused text (Err fault) = ((error : Error) × (fault ≡ fault_of_open error)) ⊎ ((found : Connected (FileStore D g)) × (left : Connected (FileStore D g)) × IsEmpty (file_state found) × IsRefused over_files text found left fault)

@@ -8,5 +8,6 @@ pub mod Reading
 pub mod Querying
 pub mod LineColumns
 pub mod Making
-pub mod Finding
 pub mod Refusing
+pub mod Finding
+pub mod Whole

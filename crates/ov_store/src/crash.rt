@@ -1,22 +1,58 @@
-ghost use Rattle.std.specs.Prelude.{◌≡◌, false, IfSome};
+ghost use Rattle.std.specs.Prelude.{◌≡◌, ◌≢◌, false, IfOk, IfErr};
+ghost use Rattle.sqlite_disk.specs.Disk.{MoreFaults};
+ghost use Rattle.sqlite_trees.specs.View.{IsClean};
+ghost use Rattle.sqlite_trees.specs.declared.error.StoreError.{StoreError as Below};
+ghost use Rattle.sqlite.specs.declared.error.Error.{Error as SqliteError};
+ghost use Rattle.sqlite.specs.declared.error.Error.TheVariants.{SqliteFailure};
+ghost use Rattle.sqlite.specs.declared.error.ErrorCode.TheVariants.{OutOfMemory};
 ghost use Rattle.sqlite.specs.State.{HasCleanDisk, Opens};
 ghost use Rattle.sqlite.specs.Held.{state};
+ghost use Rattle.ov_keeper.specs.Keeping.{IsLoadFault};
 ghost use Rattle.ov_store.specs.Format.{held};
 ghost use Rattle.ov_store.specs.StoreState.{MayFind};
+ghost use Rattle.ov_store.specs.Finding.{IsRefusedAgain};
 
 use crate::store::Store;
-use sqlite::{Alter, Connection};
+use crate::unopened::Unopened;
+use ov_keeper::KeepFault;
+use sqlite::{Alter, Connection, Error, ErrorCode};
+use sqlite_trees::error::StoreError;
 use sqlite_trees::store::Reopen;
 use std::alloc::Global;
 
-/// Crashes and opens the connection again. What it then holds is one of those that the store said an open may find.
+/// What a failure of the store below is.
+fn fault_below(error: StoreError) -> KeepFault
+    ensures kind { IsLoadFault result }
+    ensures device { result ≡ KeepFault.Device → error ≢ Below.OutOfMemory }
+{
+    match error {
+        StoreError::OutOfMemory => KeepFault::Memory,
+        _ => KeepFault::Device,
+    }
+}
+
+/// What an error is that is for want of memory or the device's.
+pub(crate) fn fault_over(error: &Error) -> KeepFault
+    ensures kind { IsLoadFault result }
+    ensures device { result ≡ KeepFault.Device → error.now ≢ SqliteFailure OutOfMemory }
+{
+    match error {
+        Error::SqliteFailure(ErrorCode::OutOfMemory) => KeepFault::Memory,
+        _ => KeepFault::Device,
+    }
+}
+
+/// Crashes and opens the connection again. What it then holds is one of those that the store said an open may find. A
+/// refusal gives back what is left: `Memory`, or `Device` where it failed in this call.
 fn crash_and_reopen<S: Alter + Reopen + Drop>(
     alloc: Global,
     store: Store<S>,
-) -> Option<Connection<S>>
-    ensures found { IfSome result (λ c. HasCleanDisk (state S.Store c) → MayFind S.Store store.connection (held (state S.Store c).now.trees)) }
-    ensures opens { IfSome result (λ c. HasCleanDisk (state S.Store c) → Opens (state S.Store c)) }
-    ensures mode { IfSome result (λ c. c.in_transaction ≡ false) }
+) -> Result<Connection<S>, (KeepFault, S)>
+    ensures found { IfOk result (λ c. HasCleanDisk (state S.Store c) → MayFind S.Store store.connection (held (state S.Store c).now.trees)) }
+    ensures opens { IfOk result (λ c. HasCleanDisk (state S.Store c) → Opens (state S.Store c)) }
+    ensures mode { IfOk result (λ c. c.in_transaction ≡ false) }
+    ensures kinds { IfErr result (λ e. IsLoadFault e.0) }
+    ensures cause { IfErr result (λ e. IsClean (S.Store.view e.1) → e.0 ≡ KeepFault.Device → MoreFaults (S.Store.faults store.connection.store) (S.Store.faults e.1)) }
 {
     let Store {
         connection,
@@ -24,28 +60,34 @@ fn crash_and_reopen<S: Alter + Reopen + Drop>(
         failures: _,
     } = store;
     let mut left = connection.into_store();
-    if left.crash_and_reopen().is_err() {
-        return None;
+    if let Err(error) = left.crash_and_reopen() {
+        return Err((fault_below(error), left));
     }
     match Connection::over(alloc, left) {
-        Ok(again) => Some(again),
-        Err(_) => None,
+        Ok(again) => Ok(again),
+        Err((error, left)) => Err((fault_over(&error), left)),
     }
 }
 
-/// The store of what a crash at this moment leaves, if it can be opened: what it may hold is what the former one might have
-/// held, so after a commit that was answered the former lines with all its changes, and never with a part of them.
+/// The store of what a crash at this moment leaves: what it may hold is what the former one might have held, so after a
+/// commit that was answered the former lines with all its changes, and never with a part of them.
+///
+/// `Ok(Err(..))` where what the crash left was opened, and is refused as `Store::open` does; `Err(..)` where it was not
+/// opened, for want of memory or by a device that failed.
 pub fn reopen_after_crash<S: Alter + Reopen + Drop>(
     alloc: Global,
     store: Store<S>,
-) -> Option<Store<S>>
-    ensures { IfSome result (λ s. HasCleanDisk (state S.Store s.connection) → (contents : _) → MayFind S.Store s.connection contents → MayFind S.Store store.connection contents) }
+) -> Result<Result<Store<S>, Unopened<S>>, (KeepFault, S)>
+    ensures found { IfOk result (λ opened. IfOk opened (λ s. HasCleanDisk (state S.Store s.connection) → (contents : _) → MayFind S.Store s.connection contents → MayFind S.Store store.connection contents)) }
+    ensures refused { IfOk result (λ opened. IfErr opened (λ e. IsRefusedAgain S.Store store e.connection e.fault)) }
+    ensures kinds { IfErr result (λ e. IsLoadFault e.0) }
+    ensures cause { IfErr result (λ e. IsClean (S.Store.view e.1) → e.0 ≡ KeepFault.Device → MoreFaults (S.Store.faults store.connection.store) (S.Store.faults e.1)) }
 {
-    let Some(connection) = crash_and_reopen(alloc, store) else {
-        return None;
-    };
-    match Store::open(alloc, connection) {
-        Ok(again) => Some(again),
-        Err(_) => None,
+    match crash_and_reopen(alloc, store) {
+        Ok(connection) => match Store::open(alloc, connection) {
+            Ok(again) => Ok(Ok(again)),
+            Err(refused) => Ok(Err(refused)),
+        },
+        Err(lost) => Err(lost),
     }
 }

@@ -3,12 +3,14 @@
 //! The store is generic over the kit's `Alter`: nothing but `file` and `memory` knows which files stand below.
 #![tactic(auto)]
 
+mod close;
 mod commit;
 mod crash;
 mod file;
 mod keep;
 mod line;
 mod load;
+mod look;
 mod make;
 mod memory;
 mod memory_disk;
@@ -23,6 +25,7 @@ mod unopened;
 mod value;
 mod write;
 
+pub use close::close_in_file;
 pub use crash::reopen_after_crash;
 pub use file::{open_file, store_in_file, store_in_memory};
 pub use memory::open_in_memory;

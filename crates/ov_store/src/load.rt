@@ -1,7 +1,7 @@
-ghost use Rattle.std.specs.Prelude.{◌≡◌, ◌≢◌, ◌⊎◌, ◌<◌, ◌≤◌, ◌-◌, ◌^◌, IfOk, Err};
+ghost use Rattle.std.specs.Prelude.{◌≡◌, ◌⊎◌, ◌<◌, ◌≤◌, ◌-◌, ◌^◌, IfOk, IfErr, Err};
 ghost use Rattle.sqlite.specs.State.{HasCleanDisk};
 ghost use Rattle.sqlite.specs.Held.{state};
-ghost use Rattle.ov_keeper.specs.Keeping.{LeavesNoMore};
+ghost use Rattle.ov_keeper.specs.Keeping.{LeavesNoMore, IsLoadFault};
 ghost use Rattle.ov_keeper.specs.ListKeeper.{lines_of};
 ghost use Rattle.ov_store.specs.StoreState.{MayFind};
 
@@ -23,14 +23,14 @@ impl<S: Alter> Store<S> {
         ensures cause { result ≡ Err KeepFault.Device → (self.old.failures < self.new.failures) ⊎ (self.old.failures ≡ 2 ^ 64 - 1) }
         ensures counts { self.old.failures ≤ self.new.failures }
         ensures schema { self.new.schema ≡ self.old.schema }
-        ensures ours { result ≢ Err KeepFault.NotOurs }
-        ensures format { result ≢ Err KeepFault.Format }
+        ensures kinds { IfErr result IsLoadFault }
     {
         let rows = match line_rows(&mut self.connection) {
             Ok(rows) => rows,
             Err(error) => match refusal(&error) {
-                Some(fault) => return Err(fault),
-                None => return Err(self.count_failure()),
+                Some(KeepFault::Memory) => return Err(KeepFault::Memory),
+                // No row that was stored is too large to be read.
+                _ => return Err(self.count_failure()),
             },
         };
         match rows::lines_of(alloc, rows.as_slice()) {

@@ -27,6 +27,17 @@ impl MemoryDisk {
             caught: 0,
         }
     }
+
+    /// A file of these bytes.
+    pub(crate) fn holding(bytes: Vec<u8>) -> MemoryDisk
+        ensures holds { ⟦<MemoryDisk as Disk>⟧.seen result ≡ bytes.items }
+    {
+        MemoryDisk {
+            bytes,
+            faults: 0,
+            caught: 0,
+        }
+    }
 }
 
 impl Disk for MemoryDisk {

@@ -54,6 +54,7 @@ fn make_new<S: Alter>(conn: &mut Connection<S>, schema: &Text) -> Result<(), Kee
     requires { conn.old.in_transaction ≡ false }
     ensures mode { conn.new.in_transaction ≡ false }
     ensures ok { HasCleanDisk (state S.Store conn.new) → HasSchema no_schema (state S.Store conn.old) → OnOk result (IsNew schema.now (state S.Store conn.new)) }
+    ensures honest { HasCleanDisk (state S.Store conn.new) → HasCleanDisk (state S.Store conn.old) }
     ensures kinds { IfErr result IsCommitFault }
     ensures same { HasCleanDisk (state S.Store conn.new) → OnErr result (IsAsBefore (state S.Store conn.old) (state S.Store conn.new)) }
     ensures left { HasSchema no_schema (state S.Store conn.old) → IfErr result (λ fault. Survives (state S.Store conn.old) (state S.Store conn.new) (λ trees. (fault ≡ KeepFault.Device) × IsNewFile schema.now trees)) }
@@ -115,6 +116,7 @@ impl<S: Alter + Drop> Store<S> {
     pub fn create(mut connection: Connection<S>, schema: Text) -> Result<Store<S>, Unopened<S>>
         requires { connection.in_transaction ≡ false }
         ensures ok { IfOk result (λ s. HasCleanDisk (state S.Store s.connection) → (contents : _) → MayFind S.Store s.connection contents → contents ≡ record { schema = schema; lines = empty }) }
+        ensures honest { IfOk result (λ s. HasCleanDisk (state S.Store s.connection) → HasCleanDisk (state S.Store connection)) }
         ensures fresh { IfOk result (λ s. (s.schema ≡ schema) × (s.failures ≡ 0)) }
         ensures blank { IfOk result (λ s. connection.schema ≡ no_schema) }
         ensures ours { IfErr result (λ e. (e.fault ≡ KeepFault.NotOurs) ↔ (connection.schema ≢ no_schema)) }
@@ -151,6 +153,7 @@ impl<S: Alter + Drop> Store<S> {
         ensures fresh { IfOk result (λ s. s.failures ≡ 0) }
         ensures tables { IfOk result (λ s. connection.schema ≡ line_schema) }
         ensures ours { IfErr result (λ e. (e.fault ≡ KeepFault.NotOurs) ↔ (connection.schema ≢ line_schema)) }
+        ensures format_tables { IfErr result (λ e. e.fault ≡ KeepFault.Format → connection.schema ≡ line_schema) }
         ensures format { IfErr result (λ e. HasCleanDisk (state S.Store e.connection) → e.fault ≡ KeepFault.Format → (text : _) → ¬ IsFormat text (state S.Store connection).now) }
     {
         if !is_ours(connection.schema()) {

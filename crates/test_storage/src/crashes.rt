@@ -93,8 +93,9 @@ fn found_of_made<S: Alter + Reopen + Drop>(alloc: Global, store: Store<S>) -> Re
     let mut keeping = Keeping::new(alloc, store);
     let made = made(alloc, &mut keeping)?;
     match reopen_after_crash(alloc, keeping.into_keeper()) {
-        Some(again) => told(alloc, made, again),
-        None => Ok(String::from_str(alloc, "not opened again")?),
+        Ok(Ok(again)) => told(alloc, made, again),
+        Ok(Err(_)) => Ok(String::from_str(alloc, "opened again, and no store")?),
+        Err(_) => Ok(String::from_str(alloc, "not opened again")?),
     }
 }
 

@@ -78,7 +78,7 @@ fn made_or_opened<S: Alter + Drop>(
     if may_be_new {
         return match store_over(alloc, connection, Text::from_str(alloc, "new")?) {
             Ok(store) => told(alloc, store),
-            Err(fault) => refused(alloc, fault),
+            Err(refusal) => refused(alloc, refusal.fault),
         };
     }
     match Store::open(alloc, connection) {

@@ -1,6 +1,6 @@
 use ov_base::Text;
-use ov_store::{Store, store_in_memory};
-use sqlite::{Alter, Connection, Options};
+use ov_store::{MemoryDisk, Store, store_in_memory};
+use sqlite::{Alter, Connection, Files, Options};
 use std::alloc::Global;
 use std::test::Fail;
 use test_support::{Faults, Keeping, NET, agrees, failing, follows};
@@ -46,15 +46,11 @@ remove Port 1
 commit -> made
 lines -> Switch 1 1 one again;";
 
-/// Runs a script over a store, and gives its connection back.
-fn kept<S: Alter + Drop>(
-    alloc: Global,
-    store: Store<S>,
-    script: &str,
-) -> Result<Connection<S>, Fail> {
+/// Runs a script over a store, and gives it back.
+fn kept<S: Alter + Drop>(alloc: Global, store: Store<S>, script: &str) -> Result<Store<S>, Fail> {
     let mut keeping = Keeping::new(alloc, store);
     follows(alloc, &mut keeping, script)?;
-    Ok(keeping.into_keeper().close())
+    Ok(keeping.into_keeper())
 }
 
 /// Runs a script over the store of a database.
@@ -67,13 +63,13 @@ fn found<S: Alter + Drop>(
     agrees(alloc, Keeping::new(alloc, store), script)
 }
 
-/// Runs a script over a new database in memory, closes it, and runs another over what its files hold then. A test holds no
-/// connection to files by itself, since each function that holds one is long to prove.
+/// Runs a script over a new database in memory, closes it, and runs another over what its file holds then, without the log.
+/// A test holds no connection to files by itself, since each function that holds one is long to prove.
 fn found_after_a_close(alloc: Global, script: &str, next: &str) -> Result<(), Fail> {
     let store = store_in_memory(alloc, Text::from_str(alloc, "new")?)?;
-    let connection = kept(alloc, store, script)?;
-    let files = connection.close_files().ok().ok_or("not closed")?;
-    match Connection::open_files(alloc, files, Options::new(2)) {
+    let Files { log: _, db } = kept(alloc, store, script)?.into_files()?;
+    let log = MemoryDisk::new(alloc);
+    match Connection::open_files(alloc, Files { log, db }, Options::new(2)) {
         Ok(again) => found(alloc, again, next),
         Err(_) => Err(Fail::new("not opened again")),
     }

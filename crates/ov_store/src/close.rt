@@ -1,0 +1,72 @@
+//! The end of a store over files: all is in the database file, and the log can go.
+
+ghost use Rattle.std.specs.Prelude.{◌≡◌, IfOk, IfErr, IsTrue};
+ghost use Rattle.sqlite_wal.specs.Reads.{AreClean};
+ghost use Rattle.sqlite.specs.Held.{state};
+ghost use Rattle.ov_keeper.specs.Keeping.{IsLoadFault};
+ghost use Rattle.ov_store.specs.Format.{held};
+ghost use Rattle.ov_store.specs.StoreState.{MayFind};
+ghost use Rattle.ov_store.specs.Whole.{IsWhole};
+
+use crate::crash::fault_over;
+use crate::store::Store;
+use ov_keeper::KeepFault;
+use sqlite::{Alter, FileFrom, FileStore, Files, Start};
+use sqlite_disk::Disk;
+use std::fs;
+use std::io::{self, ErrorKind};
+
+impl<S: Alter> Store<S> {
+    /// While the connection is open, an open finds its last commit. The body is empty: it hands the law up.
+    fn found(&self)
+        ensures { IsTrue (state S.Store self.now.connection).is_open → (contents : _) → MayFind S.Store self.now.connection contents → contents ≡ held (state S.Store self.now.connection).committed.trees }
+    {}
+}
+
+impl<D: Disk + Drop> Store<FileStore<D>> {
+    /// Copies all that is in the log into the database file, which then has the whole, and gives the two files back.
+    pub fn into_files(self) -> Result<Files<D>, KeepFault>
+        ensures whole { IfOk result (λ files. AreClean D.Disk files.log files.db → IsWhole self files) }
+        ensures kinds { IfErr result IsLoadFault }
+    {
+        self.found();
+        match self.close().close_files() {
+            Ok(files) => Ok(files),
+            Err((error, left)) => {
+                drop(left.close());
+                Err(fault_over(&error))
+            }
+        }
+    }
+}
+
+/// Closes the store of the file at a path: the file then has the whole, and its log is removed. Where the system refuses
+/// the removal it is `Device`, and the file has the whole all the same.
+pub fn close_in_file<S: Start>(
+    rt: &HostRuntime,
+    path: &str,
+    store: Store<FileStore<FileFrom<S>>>,
+) -> Result<(), KeepFault>
+    ensures kinds { IfErr result IsLoadFault }
+{
+    let Files { log, db } = store.into_files()?;
+    drop(log);
+    let removed = remove_log(rt, path);
+    // Its lock keeps every other process from the log up to here.
+    drop(db);
+    match removed {
+        Ok(()) => Ok(()),
+        Err(error) if error.kind() == ErrorKind::OutOfMemory => Err(KeepFault::Memory),
+        Err(_) => Err(KeepFault::Device),
+    }
+}
+
+/// Removes the log of the file at a path, which lies where a link leads.
+fn remove_log(rt: &HostRuntime, path: &str) -> io::Result<()> {
+    let real = fs::canonicalize(rt, path)?;
+    let log = format!(in rt.alloc(); "{}-wal", real.as_str())?;
+    match fs::remove_file(rt, log.as_str()) {
+        Err(error) if error.kind() == ErrorKind::NotFound => Ok(()),
+        answer => answer,
+    }
+}
