@@ -25,6 +25,7 @@ const NUMBERS: &str = r#"{"load":6} ["load","<",7] -> true
 {"load":6} ["load","excludes",6] -> false
 {"load":6} ["load","excludes",7] -> true
 {"load":6} ["load","==",["set",[6,6]]] -> true
+{"load":4} ["load","<",["set",[5]]] -> true
 {"load":-9223372036854775808} ["load","<",9223372036854775807] -> true
 {"load":9223372036854775807} ["load",">",-9223372036854775808] -> true
 {"load":-1} ["load","<",0] -> true"#;
@@ -37,12 +38,14 @@ const SETS: &str = r#"{"tags":["set",[1,2]]} ["tags","includes",1] -> true
 {"tags":["set",[1,2]]} ["tags","excludes",["set",[2,3]]] -> false
 {"tags":["set",[1,2]]} ["tags","excludes",["set",[0,3]]] -> true
 {"tags":["set",[1,2]]} ["tags","excludes",["set",[]]] -> true
+{"tags":["set",[1,2]]} ["tags","excludes",3] -> true
 {"tags":["set",[]]} ["tags","excludes",1] -> true
 {"tags":["set",[]]} ["tags","includes",["set",[]]] -> true
 {"tags":["set",[]]} ["tags","includes",1] -> false
 {"tags":["set",[1,2]]} ["tags","==",["set",[2,1,2]]] -> true
 {"tags":["set",[1,2]]} ["tags","==",1] -> false
 {"tags":["set",[1,2]]} ["tags","!=",["set",[1,2,3]]] -> true
+{"tags":["set",[1,2]]} ["tags","!=",1] -> true
 {"tag":["set",[]]} ["tag","==",["set",[]]] -> true
 {"tag":7} ["tag","includes",["set",[7,8]]] -> false
 {"names":["set",["a","b"]]} ["names","includes","b"] -> true
@@ -55,6 +58,7 @@ const MAPS: &str =
 {"counts":["map",[["a",1],["b",2]]]} ["counts","includes",["map",[["a",2]]]] -> false
 {"counts":["map",[["a",1],["b",2]]]} ["counts","includes",["map",[["b",2],["a",1]]]] -> true
 {"counts":["map",[["a",1],["b",2]]]} ["counts","includes",["map",[]]] -> true
+{"counts":["map",[["a",1],["b",2]]]} ["counts","excludes",["map",[["a",1]]]] -> false
 {"counts":["map",[["a",1],["b",2]]]} ["counts","excludes",["map",[["a",2]]]] -> true
 {"counts":["map",[["a",1],["b",2]]]} ["counts","excludes",["map",[["a",2],["b",2]]]] -> false
 {"counts":["map",[["a",1],["b",2]]]} ["counts","excludes",["map",[["c",1]]]] -> true

@@ -40,7 +40,7 @@ const REPEATED: &str =
 {"id":2,"method":"m","params":[],"id":null} -> note m []"#;
 
 /// A request that is built wrong is told to who asked. A method that is no text is there, so a result beside it makes no
-/// answer. Of the last five nobody asked.
+/// answer. Of the last six nobody asked.
 const BUILT_WRONG: &str = r#"{"id":1,"params":[]} -> bad 1 syntax
 {"id":1,"method":"m"} -> bad 1 syntax
 {"id":1,"method":7,"params":[]} -> bad 1 syntax
@@ -49,12 +49,15 @@ const BUILT_WRONG: &str = r#"{"id":1,"params":[]} -> bad 1 syntax
 {"id":1,"method":2,"result":1} -> bad 1 syntax
 {"method":7,"params":[]} -> answer
 {"id":null,"method":"m","params":null} -> answer
+{"id":null,"params":[]} -> answer
 {"method":"m"} -> answer
 {} -> answer
 [] -> answer"#;
 
 /// A result or an error without a method is an answer.
 const ANSWERS: &str = r#"{"id":1,"result":[],"error":null} -> answer
+{"id":1,"result":[]} -> answer
+{"id":1,"error":null} -> answer
 {"error":"x"} -> answer
 {"id":1,"result":null,"params":[]} -> answer"#;
 
@@ -73,8 +76,8 @@ const REALS: &str = r#"{"id":1,"method":"m","params":[0.5]} -> bad 1 reals
 [0.5] -> answer
 {"id":1,"method":"m","params":[0.5],"params":[]} -> call 1 m []"#;
 
-/// A text that is no JSON: nothing, a name without a value, a number that no value is read of, more behind it, a comma too many, surrogates that stand
-/// alone.
+/// A text that is no JSON: nothing, a name without a value, a number that no value is read of, more behind it, a comma too many,
+/// surrogates that stand alone.
 const NO_JSON: &str = r#" -> unreadable
 {"id"} -> unreadable
 {"id":1,"method":"m","params":[1e999]} -> unreadable

@@ -10,7 +10,9 @@ use test_support::{Scripted, agrees};
 /// A scalar is computed within 64 bits. A division truncates toward zero, and a remainder has the dividend's sign.
 const NUMBERS: &str = r#"6 ["load","+=",2] -> 8
 6 ["load","+=",["set",[2,2]]] -> 8
+-1 ["load","+=",3] -> 2
 6 ["load","-=",8] -> -2
+4 ["load","*=",-3] -> -12
 -4 ["load","*=",-3] -> 12
 -7 ["load","/=",2] -> -3
 7 ["load","/=",-2] -> -3

@@ -8,7 +8,7 @@ use test_support::{Scripted, agrees, compact, schema_of_text, tree};
 const LIMITED: &str =
     r#"{"name":"Net","tables":{"Port":{"columns":{"name":{"type":"string"},"peer":{"type":{"key":{"refTable":"Port","type":"uuid"},"max":1,"min":0}}}},"Switch":{"columns":{"load":{"ephemeral":true,"type":"integer"},"main":{"mutable":false,"type":{"key":{"refTable":"Port","refType":"weak","type":"uuid"},"max":1,"min":0}},"name":{"mutable":false,"type":"string"}},"indexes":[["name"]],"isRoot":true,"maxRows":9}},"version":"1.0.0"}"#;
 
-/// Schemas, each with its answer. A greater fault stands before the one that is answered.
+/// Schemas, each with its answer. Of two faults the greater one stands before the one that is answered.
 const ANSWERS: &str = r#"{"name":"Net","tables":{},"own":null} -> accepted
 {"name":"A","tables":{"T":{"columns":{"c":{"type":{"key":{"type":"string","enum":"a"}}}}}}} -> accepted
 {"name":"A","tables":{"T":{"columns":{"c":{"type":"string"}},"indexes":[["c"],["c"]]}}} -> accepted
@@ -43,7 +43,12 @@ const ANSWERS: &str = r#"{"name":"Net","tables":{},"own":null} -> accepted
 {"name":"A","tables":{"T":{"columns":{"c":{"type":{"key":{"type":"uuid","refTable":"T","refType":"weak"},"value":{"type":"uuid","refTable":"T"}}}}}}} -> StrongWeakMap
 {"name":"A","tables":{"T":{"columns":{"c":{"type":{"key":{"type":"integer","refTable":"T"}}}}}}} -> BadRefType
 {"name":"A","tables":{"T":{"columns":{"c":{"type":{"key":{"type":"integer","refTable":"U"}}}}}}} -> UnknownRefTable
-{"name":"A","tables":{"T":{"columns":{"c":{"type":"string"}},"indexes":[["_version"]]}}} -> BadIndex"#;
+{"name":"A","tables":{"T":{"columns":{"c":{"type":"string"}},"indexes":[["_version"]]}}} -> BadIndex
+{"name":"A","tables":{},"version":"1.20.3"} -> accepted
+{"name":"A","tables":{},"version":".20.3"} -> BadVersion
+{"name":"A","tables":{},"version":"1.20."} -> BadVersion
+{"name":"A","tables":{},"version":"1.2x.3"} -> BadVersion
+{"name":"A","tables":{},"version":""} -> BadVersion"#;
 
 /// The answer to a schema.
 #[derive(Drop)]

@@ -1,13 +1,13 @@
--- Worked conditions. Maps do not compute, so what is looked up in them and what they list is rewritten by their laws.
+-- Worked conditions. Maps do not compute, so what is looked up in them and what they list is rewritten by their laws. More rows
+-- stand in the tests, in conditions.rt.
 use Rattle.std.proofs.Common.{◌≡◌, ℕ, pos, List, [], ◌∷◌, map, length, true, false, T, Option, Some, None, Result, Ok, Err, option_map, refl, ap, ◌∙◌, codes}
 use Rattle.std.specs.Cmp.Lexicographic.{nat_list_cmp_total}
-use Rattle.std.specs.FinMap.{FinMap, get, keys, from_entries, find, len, len-entries, is_sorted, get-from_entries}
+use Rattle.std.specs.FinMap.{FinMap, get, from_entries, find, keys, len, len-entries, is_sorted, get-from_entries}
 use Rattle.serde_json.specs.Read.{read}
 use Rattle.serde_json.proofs.OnLiterals.{serde_json_on_literals}
-use Rattle.ov_specs.specs.operations.Conditions.{Less, LessOrEqual, Greater, GreaterOrEqual, Equal, NotEqual, Includes, Excludes, Condition, ConditionFault, BadCondition, NoColumn, Clash, condition_read, compares, column_value, holds}
-use Rattle.ov_specs.specs.rows.Database.{Columns}
+use Rattle.ov_specs.specs.operations.Conditions.{Less, LessOrEqual, Equal, Includes, Excludes, Condition, ConditionFault, BadCondition, NoColumn, condition_read, compares, column_value, holds}
+use Rattle.ov_specs.specs.rows.Database.{Columns, one_uuid}
 use Rattle.ov_specs.specs.operations.Operation.{no_names}
-use Rattle.ov_specs.specs.rows.Database.{one_uuid}
 use Rattle.ov_specs.specs.schema.SchemaTypes.{BaseType, Column, Table, name_cmp}
 use Rattle.ov_specs.specs.values.Value.{AtomKind, Integers, Texts, Atom, Integer, Text, atom_cmp, marked, Datum, Atoms, Pairs, set_of, map_of}
 use Rattle.ov_specs.proofs.laws.Order.{atom_cmp_total}
@@ -15,16 +15,16 @@ use Rattle.ov_specs.proofs.laws.ReadingBack.{keys-set_of, entries-from_entries}
 
 -- ---- values of numbers, and maps from texts to numbers
 
-abbrev pub numbers : List ℕ → List Atom
+abbrev numbers : List ℕ → List Atom
 numbers ns = map (λ n. Integer (pos n)) ns
 
-abbrev pub set : List ℕ → Datum
+abbrev set : List ℕ → Datum
 set ns = Atoms (set_of (numbers ns))
 
-abbrev pub pairs : List (List ℕ × ℕ) → List (Atom × Atom)
+abbrev pairs : List (List ℕ × ℕ) → List (Atom × Atom)
 pairs ps = map (λ p. (Text p.0, Integer (pos p.1))) ps
 
-abbrev pub table : List (List ℕ × ℕ) → Datum
+abbrev table : List (List ℕ × ℕ) → Datum
 table ps = Pairs (map_of (pairs ps))
 
 has : (xs : List Atom) (a : Atom) → get (set_of xs) a ≡ find atom_cmp a (map marked xs)
@@ -38,32 +38,21 @@ at ps key = get-from_entries atom_cmp_total ps key
 abbrev one_two : Datum
 one_two = set (1 ∷ 2 ∷ [])
 
-pub includes_one : compares Includes one_two (set (1 ∷ [])) ≡ true
-includes_one = rw (keys-set_of (numbers (1 ∷ [])) tt) (rw (has (numbers (1 ∷ 2 ∷ [])) (Integer (pos 1))) refl)
-
-pub includes_nothing : compares Includes one_two (set []) ≡ true
-includes_nothing = rw (keys-set_of [] tt) refl
-
-pub excludes_nothing : compares Excludes one_two (set []) ≡ true
-excludes_nothing = rw (keys-set_of [] tt) refl
+pub includes_one_of_two : compares Includes one_two (set (2 ∷ 3 ∷ [])) ≡ false
+includes_one_of_two = rw (keys-set_of (numbers (2 ∷ 3 ∷ [])) tt) (rw (has (numbers (1 ∷ 2 ∷ [])) (Integer (pos 2)), has (numbers (1 ∷ 2 ∷ [])) (Integer (pos 3))) refl)
 
 pub excludes_one_of_two : compares Excludes one_two (set (2 ∷ 3 ∷ [])) ≡ false
 excludes_one_of_two = rw (keys-set_of (numbers (2 ∷ 3 ∷ [])) tt) (rw (has (numbers (1 ∷ 2 ∷ [])) (Integer (pos 2))) refl)
 
-pub includes_one_of_two : compares Includes one_two (set (2 ∷ 3 ∷ [])) ≡ false
-includes_one_of_two = rw (keys-set_of (numbers (2 ∷ 3 ∷ [])) tt) (rw (has (numbers (1 ∷ 2 ∷ [])) (Integer (pos 2)), has (numbers (1 ∷ 2 ∷ [])) (Integer (pos 3))) refl)
+-- the empty set is included and excluded by each
+pub excludes_nothing : compares Excludes one_two (set []) ≡ true
+excludes_nothing = rw (keys-set_of [] tt) refl
 
-pub excludes_another : compares Excludes one_two (set (3 ∷ [])) ≡ true
-excludes_another = rw (keys-set_of (numbers (3 ∷ [])) tt) (rw (has (numbers (1 ∷ 2 ∷ [])) (Integer (pos 3))) refl)
-
-pub equals_itself : compares Equal one_two one_two ≡ true
-equals_itself = rw (keys-set_of (numbers (1 ∷ 2 ∷ [])) tt) refl
+pub includes_nothing : compares Includes one_two (set []) ≡ true
+includes_nothing = rw (keys-set_of [] tt) refl
 
 pub equals_no_part : compares Equal one_two (set (1 ∷ [])) ≡ false
 equals_no_part = rw (keys-set_of (numbers (1 ∷ 2 ∷ [])) tt, keys-set_of (numbers (1 ∷ [])) tt) refl
-
-pub differs_from_part : compares NotEqual one_two (set (1 ∷ [])) ≡ true
-differs_from_part = rw (keys-set_of (numbers (1 ∷ 2 ∷ [])) tt, keys-set_of (numbers (1 ∷ [])) tt) refl
 
 -- ---- maps
 
@@ -83,28 +72,13 @@ excludes_another_value = rw (entries-from_entries (pairs (a2 ∷ [])) tt) (rw (a
 pub includes_no_other_value : compares Includes (table (a1 ∷ b2 ∷ [])) (table (a2 ∷ [])) ≡ false
 includes_no_other_value = rw (entries-from_entries (pairs (a2 ∷ [])) tt) (rw (at (pairs (a1 ∷ b2 ∷ [])) (Text (codes "a"))) refl)
 
-pub includes_its_pair : compares Includes (table (a1 ∷ b2 ∷ [])) (table (a1 ∷ [])) ≡ true
-includes_its_pair = rw (entries-from_entries (pairs (a1 ∷ [])) tt) (rw (at (pairs (a1 ∷ b2 ∷ [])) (Text (codes "a"))) refl)
-
-pub excludes_no_pair_of_its : compares Excludes (table (a1 ∷ b2 ∷ [])) (table (a1 ∷ [])) ≡ false
-excludes_no_pair_of_its = rw (entries-from_entries (pairs (a1 ∷ [])) tt) (rw (at (pairs (a1 ∷ b2 ∷ [])) (Text (codes "a"))) refl)
-
-pub differs_in_a_value : compares Equal (table (a1 ∷ [])) (table (a2 ∷ [])) ≡ false
-differs_in_a_value = rw (entries-from_entries (pairs (a1 ∷ [])) tt, entries-from_entries (pairs (a2 ∷ [])) tt) refl
-
 -- ---- numbers
 
 abbrev six : Datum
 six = set (6 ∷ [])
 
-abbrev seven : Datum
-seven = set (7 ∷ [])
-
 abbrev as_listed : (ns : List ℕ) → T (is_sorted atom_cmp (map marked (numbers ns))) → keys (set_of (numbers ns)) ≡ numbers ns
 as_listed ns h = keys-set_of (numbers ns) h
-
-pub less : compares Less six seven ≡ true
-less = rw (as_listed (6 ∷ []) tt, as_listed (7 ∷ []) tt) refl
 
 pub not_less_than_itself : compares Less six six ≡ false
 not_less_than_itself = rw (as_listed (6 ∷ []) tt) refl
@@ -112,24 +86,18 @@ not_less_than_itself = rw (as_listed (6 ∷ []) tt) refl
 pub less_or_equal_to_itself : compares LessOrEqual six six ≡ true
 less_or_equal_to_itself = rw (as_listed (6 ∷ []) tt) refl
 
-pub greater : compares Greater seven six ≡ true
-greater = rw (as_listed (7 ∷ []) tt, as_listed (6 ∷ []) tt) refl
-
-pub not_greater_or_equal : compares GreaterOrEqual six seven ≡ false
-not_greater_or_equal = rw (as_listed (6 ∷ []) tt, as_listed (7 ∷ []) tt) refl
-
 -- ---- reading
 
 abbrev plain : AtomKind → BaseType
 plain kind = record { kind = kind; choices = None; least = None; greatest = None; shortest = None; longest = None; refers = None }
 
-abbrev pub column : Option BaseType → AtomKind → ℕ → Option ℕ → Column
+abbrev column : Option BaseType → AtomKind → ℕ → Option ℕ → Column
 column value kind min max = record { type_of = record { key = plain kind; value = value; min = pos min; max = option_map pos max }; is_ephemeral = false; is_mutable = true }
 
 abbrev listed : List (List ℕ × Column)
 listed =
-    (codes "load", column None Integers 1 (Some 1)) ∷ (codes "name", column None Texts 1 (Some 1)) ∷ (codes "tag", column None Integers 0 (Some 1))
-    ∷ (codes "tags", column None Integers 0 None) ∷ (codes "ids", column (Some (plain Integers)) Texts 0 None) ∷ []
+    (codes "load", column None Integers 1 (Some 1)) ∷ (codes "tag", column None Integers 0 (Some 1))
+    ∷ (codes "ids", column (Some (plain Integers)) Texts 0 None) ∷ []
 
 pub columns : FinMap name_cmp Column
 columns = from_entries listed
@@ -147,9 +115,6 @@ condition text = option_map (condition_read no_names switch) (read text)
 pub len-one : (a : Atom) → len (set_of (a ∷ [])) ≡ 1
 len-one a = len-entries (set_of (a ∷ [])) ∙ ap length (entries-from_entries (marked a ∷ []) tt)
 
-len-two : (m n : ℕ) → T (is_sorted atom_cmp (map marked (numbers (m ∷ n ∷ [])))) → len (set_of (numbers (m ∷ n ∷ []))) ≡ 2
-len-two m n h = len-entries (set_of (numbers (m ∷ n ∷ []))) ∙ ap length (entries-from_entries (map marked (numbers (m ∷ n ∷ []))) h)
-
 abbrev load_below_5 : Condition
 load_below_5 = record { column = codes "load"; function = Less; value = set (5 ∷ []) }
 
@@ -157,65 +122,22 @@ pub reads_below : condition (codes "[\"load\",\"<\",5]") ≡ Some (Ok load_below
 unfolding serde_json_on_literals
 reads_below = rw (column_is (codes "load")) (rw (len-one (Integer (pos 5))) refl)
 
-pub set_of_one_for_a_scalar : condition (codes "[\"load\",\"<\",[\"set\",[5]]]") ≡ Some (Ok load_below_5)
-unfolding serde_json_on_literals
-set_of_one_for_a_scalar = rw (column_is (codes "load")) (rw (len-one (Integer (pos 5))) refl)
-
-pub set_of_two_for_a_scalar : condition (codes "[\"load\",\"==\",[\"set\",[5,6]]]") ≡ Some (Err BadCondition)
-unfolding serde_json_on_literals
-set_of_two_for_a_scalar = rw (column_is (codes "load")) (rw (len-two 5 6 tt) refl)
-
 -- the value is read by the kinds of the column, and not by its constraints
 pub set_of_two_for_an_optional : condition (codes "[\"tag\",\"==\",[\"set\",[5,6]]]") ≡ Some (Ok (record { column = codes "tag"; function = Equal; value = set (5 ∷ 6 ∷ []) }))
 unfolding serde_json_on_literals
 set_of_two_for_an_optional = rw (column_is (codes "tag")) refl
 
 -- an order is one of integers that are scalars
-pub order_of_texts : condition (codes "[\"name\",\"<\",\"a\"]") ≡ Some (Err BadCondition)
-unfolding serde_json_on_literals
-order_of_texts = rw (column_is (codes "name")) refl
-
 pub order_of_an_optional : condition (codes "[\"tag\",\"<\",5]") ≡ Some (Err BadCondition)
 unfolding serde_json_on_literals
 order_of_an_optional = rw (column_is (codes "tag")) refl
 
-pub order_of_a_map : condition (codes "[\"ids\",\">=\",[\"map\",[]]]") ≡ Some (Err BadCondition)
-unfolding serde_json_on_literals
-order_of_a_map = rw (column_is (codes "ids")) refl
-
-pub part_of_a_set : condition (codes "[\"tags\",\"includes\",7]") ≡ Some (Ok (record { column = codes "tags"; function = Includes; value = set (7 ∷ []) }))
-unfolding serde_json_on_literals
-part_of_a_set = rw (column_is (codes "tags")) refl
-
 -- shape, column, function and value are looked at in this order
-pub two_items : condition (codes "[\"load\",\"==\"]") ≡ Some (Err BadCondition)
-unfolding serde_json_on_literals
-two_items = refl
-
-pub column_is_no_text : condition (codes "[1,\"==\",1]") ≡ Some (Err BadCondition)
-unfolding serde_json_on_literals
-column_is_no_text = refl
-
-pub function_is_no_text : condition (codes "[\"nowhere\",1,1]") ≡ Some (Err BadCondition)
-unfolding serde_json_on_literals
-function_is_no_text = refl
-
 pub no_such_column : condition (codes "[\"nowhere\",\"===\",1]") ≡ Some (Err NoColumn)
 unfolding serde_json_on_literals
 no_such_column = rw (column_is (codes "nowhere")) refl
 
-pub no_such_function : condition (codes "[\"load\",\"===\",\"a\"]") ≡ Some (Err BadCondition)
-unfolding serde_json_on_literals
-no_such_function = rw (column_is (codes "load")) refl
-
-pub value_of_another_kind : condition (codes "[\"load\",\"==\",\"a\"]") ≡ Some (Err BadCondition)
-unfolding serde_json_on_literals
-value_of_another_kind = rw (column_is (codes "load")) refl
-
-pub two_values_at_a_key : condition (codes "[\"ids\",\"==\",[\"map\",[[\"a\",1],[\"a\",2]]]]") ≡ Some (Err Clash)
-unfolding serde_json_on_literals
-two_values_at_a_key = rw (column_is (codes "ids")) refl
-
+-- a part of the value that does not read counts before a clash
 pub unread_before_clash : condition (codes "[\"ids\",\"==\",[\"map\",[[\"a\",1],[\"a\",2],[1,1]]]]") ≡ Some (Err BadCondition)
 unfolding serde_json_on_literals
 unread_before_clash = rw (column_is (codes "ids")) refl
@@ -225,15 +147,6 @@ unread_before_clash = rw (column_is (codes "ids")) refl
 pub holds_by_its_column : holds (λ name. Some (set (4 ∷ []))) load_below_5 ≡ true
 holds_by_its_column = rw (as_listed (4 ∷ []) tt, as_listed (5 ∷ []) tt) refl
 
-pub holds_not : holds (λ name. Some (set (5 ∷ []))) load_below_5 ≡ false
-holds_not = rw (as_listed (5 ∷ []) tt) refl
-
--- `_uuid` and `_version` are columns of each row
+-- an identifier is a column of each row
 pub own_identifier : (id version : List ℕ) (others : Columns) → column_value id version others (codes "_uuid") ≡ Some (one_uuid id)
 own_identifier id version others = refl
-
-pub own_version : (id version : List ℕ) (others : Columns) → column_value id version others (codes "_version") ≡ Some (one_uuid version)
-own_version id version others = refl
-
-pub another_column : (id version : List ℕ) (others : Columns) → column_value id version others (codes "load") ≡ get others (codes "load")
-another_column id version others = refl

@@ -1,4 +1,4 @@
--- Worked messages, case by case of the table of kinds, by computation.
+-- Worked messages, by computation. More rows stand in the tests, in messages.rt.
 use Rattle.std.proofs.Common.{◌≡◌, ◌∷◌, [], codes, Some, None, true, false, refl}
 use Rattle.std.specs.Str.{is_utf8, chars}
 use Rattle.serde_json.proofs.OnLiterals.{serde_json_on_literals}
@@ -6,162 +6,61 @@ use Rattle.serde_json.specs.Data.{number, unsigned, string, object, no_members, 
 use Rattle.ov_specs.specs.wire.Message.{message_in, Call, Note, Answer, Bad, NotARequest, Reals, asked}
 use Rattle.ov_specs.specs.wire.Cut.{cut}
 
--- ---- no value can be read
+-- ---- calls, notifications and answers
 
-pub not_utf8 : message_in (123 ∷ 255 ∷ 125 ∷ []) ≡ None
+pub echo_keeps_quotes : message_in (codes "{\"id\":\"x\",\"method\":\"echo\",\"params\":[\"a\\\"}\",{}]}") ≡ Some (Call (string (codes "x")) (codes "echo") (item (string (codes "a\"}")) (item (object no_members) no_items)))
 unfolding message_in is_utf8 chars serde_json_on_literals
-not_utf8 = refl
+echo_keeps_quotes = refl
 
-pub no_json : message_in (codes "{\"id\"}") ≡ None
+pub note_with_null_id : message_in (codes "{\"id\":null,\"method\":\"m\",\"params\":[]}") ≡ Some (Note (codes "m") no_items)
 unfolding message_in is_utf8 chars serde_json_on_literals
-no_json = refl
-
--- a number that no value is read of is no JSON, wherever it stands
-pub number_too_great : message_in (codes "{\"id\":1,\"method\":\"m\",\"params\":[1e999]}") ≡ None
-unfolding message_in is_utf8 chars serde_json_on_literals
-number_too_great = refl
-
-pub lone_surrogate : message_in (codes "{\"id\":1,\"method\":\"m\",\"params\":[\"\\ud800\"]}") ≡ None
-unfolding message_in is_utf8 chars serde_json_on_literals
-lone_surrogate = refl
-
--- ---- numbers that are no 64-bit integers
-
-pub fractional_id : message_in (codes "{\"id\":1.5,\"method\":\"echo\",\"params\":[]}") ≡ None
-unfolding message_in is_utf8 chars serde_json_on_literals
-fractional_id = refl
-
-pub real_inside_id : message_in (codes "{\"id\":[1e3],\"method\":\"echo\",\"params\":[]}") ≡ None
-unfolding message_in is_utf8 chars serde_json_on_literals
-real_inside_id = refl
-
--- the id decides before the params do
-pub reals_in_both : message_in (codes "{\"id\":1.5,\"method\":\"echo\",\"params\":[1.5]}") ≡ None
-unfolding message_in is_utf8 chars serde_json_on_literals
-reals_in_both = refl
-
-pub real_in_params : message_in (codes "{\"id\":1,\"method\":\"echo\",\"params\":[1.5]}") ≡ Some (Bad (number (unsigned 1)) Reals)
-unfolding message_in is_utf8 chars serde_json_on_literals
-real_in_params = refl
-
--- the greatest 64-bit integer is none of these, one more is
-pub greatest_integer : message_in (codes "{\"id\":1,\"method\":\"m\",\"params\":[9223372036854775807]}") ≡ Some (Call (number (unsigned 1)) (codes "m") (item (number (unsigned 9223372036854775807)) no_items))
-unfolding message_in is_utf8 chars serde_json_on_literals
-greatest_integer = refl
-
-pub one_more : message_in (codes "{\"id\":1,\"method\":\"m\",\"params\":[9223372036854775808]}") ≡ Some (Bad (number (unsigned 1)) Reals)
-unfolding message_in is_utf8 chars serde_json_on_literals
-one_more = refl
-
--- minus zero is read as a real
-pub minus_zero : message_in (codes "{\"id\":1,\"method\":\"m\",\"params\":[-0]}") ≡ Some (Bad (number (unsigned 1)) Reals)
-unfolding message_in is_utf8 chars serde_json_on_literals
-minus_zero = refl
-
-pub real_without_id : message_in (codes "{\"method\":\"echo\",\"params\":[1.5]}") ≡ Some Answer
-unfolding message_in is_utf8 chars serde_json_on_literals
-real_without_id = refl
-
-pub real_with_null_id : message_in (codes "{\"id\":null,\"method\":\"echo\",\"params\":[1.5]}") ≡ Some Answer
-unfolding message_in is_utf8 chars serde_json_on_literals
-real_with_null_id = refl
-
--- an answer with a real and an id is told of the real: that case stands before
-pub real_in_answer : message_in (codes "{\"id\":1,\"result\":1.5}") ≡ Some (Bad (number (unsigned 1)) Reals)
-unfolding message_in is_utf8 chars serde_json_on_literals
-real_in_answer = refl
-
-pub real_in_answer_without_id : message_in (codes "{\"error\":1.5}") ≡ Some Answer
-unfolding message_in is_utf8 chars serde_json_on_literals
-real_in_answer_without_id = refl
-
--- it counts in a member that means nothing too
-pub real_in_another_member : message_in (codes "{\"id\":1,\"method\":\"m\",\"params\":[],\"x\":{\"a\":[0.5]}}") ≡ Some (Bad (number (unsigned 1)) Reals)
-unfolding message_in is_utf8 chars serde_json_on_literals
-real_in_another_member = refl
-
--- a request that is built wrong besides is told of the real
-pub real_before_syntax : message_in (codes "{\"id\":1,\"params\":0.5}") ≡ Some (Bad (number (unsigned 1)) Reals)
-unfolding message_in is_utf8 chars serde_json_on_literals
-real_before_syntax = refl
-
--- a real that a later member of the same name replaces does not count
-pub replaced_real : message_in (codes "{\"id\":1.5,\"id\":1,\"method\":\"m\",\"params\":[]}") ≡ Some (Call (number (unsigned 1)) (codes "m") no_items)
-unfolding message_in is_utf8 chars serde_json_on_literals
-replaced_real = refl
-
--- ---- answers
-
-pub answer_with_result : message_in (codes "{\"id\":1,\"result\":[]}") ≡ Some Answer
-unfolding message_in is_utf8 chars serde_json_on_literals
-answer_with_result = refl
-
-pub answer_with_error : message_in (codes "{\"id\":1,\"error\":null}") ≡ Some Answer
-unfolding message_in is_utf8 chars serde_json_on_literals
-answer_with_error = refl
+note_with_null_id = refl
 
 -- a result beside a method is passed over
 pub result_beside_method : message_in (codes "{\"id\":1,\"method\":\"m\",\"params\":[],\"result\":1}") ≡ Some (Call (number (unsigned 1)) (codes "m") no_items)
 unfolding message_in is_utf8 chars serde_json_on_literals
 result_beside_method = refl
 
--- ---- requests that are built wrong
-
-pub nothing_there : message_in (codes "{}") ≡ Some Answer
-unfolding message_in is_utf8 chars serde_json_on_literals
-nothing_there = refl
-
-pub no_method : message_in (codes "{\"id\":1,\"params\":[]}") ≡ Some (Bad (number (unsigned 1)) NotARequest)
-unfolding message_in is_utf8 chars serde_json_on_literals
-no_method = refl
-
-pub method_is_no_text : message_in (codes "{\"id\":1,\"method\":2,\"params\":[]}") ≡ Some (Bad (number (unsigned 1)) NotARequest)
-unfolding message_in is_utf8 chars serde_json_on_literals
-method_is_no_text = refl
-
 -- a method that is no text is there, so a result beside it makes no answer
 pub wrong_method_beside_result : message_in (codes "{\"id\":1,\"method\":2,\"result\":1}") ≡ Some (Bad (number (unsigned 1)) NotARequest)
 unfolding message_in is_utf8 chars serde_json_on_literals
 wrong_method_beside_result = refl
 
--- so does one that is null
-pub null_method_beside_result : message_in (codes "{\"id\":1,\"method\":null,\"result\":1}") ≡ Some (Bad (number (unsigned 1)) NotARequest)
-unfolding message_in is_utf8 chars serde_json_on_literals
-null_method_beside_result = refl
-
-pub no_params : message_in (codes "{\"id\":1,\"method\":\"m\"}") ≡ Some (Bad (number (unsigned 1)) NotARequest)
-unfolding message_in is_utf8 chars serde_json_on_literals
-no_params = refl
-
-pub params_are_no_array : message_in (codes "{\"id\":1,\"method\":\"m\",\"params\":{}}") ≡ Some (Bad (number (unsigned 1)) NotARequest)
-unfolding message_in is_utf8 chars serde_json_on_literals
-params_are_no_array = refl
-
+-- a request that is built wrong, and of which nobody asked, is passed over as an answer is
 pub wrong_without_id : message_in (codes "{\"method\":\"m\"}") ≡ Some Answer
 unfolding message_in is_utf8 chars serde_json_on_literals
 wrong_without_id = refl
 
-pub wrong_with_null_id : message_in (codes "{\"id\":null,\"params\":[]}") ≡ Some Answer
-unfolding message_in is_utf8 chars serde_json_on_literals
-wrong_with_null_id = refl
+-- ---- numbers that are no 64-bit integers
 
--- ---- notifications and calls
-
-pub note_without_id : message_in (codes "{\"method\":\"m\",\"params\":[]}") ≡ Some (Note (codes "m") no_items)
+-- one more than the greatest 64-bit integer
+pub one_more : message_in (codes "{\"id\":1,\"method\":\"m\",\"params\":[9223372036854775808]}") ≡ Some (Bad (number (unsigned 1)) Reals)
 unfolding message_in is_utf8 chars serde_json_on_literals
-note_without_id = refl
+one_more = refl
 
-pub note_with_null_id : message_in (codes "{\"id\":null,\"method\":\"m\",\"params\":[]}") ≡ Some (Note (codes "m") no_items)
+-- an answer with a real and an id is told of the real: that case stands before
+pub real_in_answer : message_in (codes "{\"id\":1,\"result\":1.5}") ≡ Some (Bad (number (unsigned 1)) Reals)
 unfolding message_in is_utf8 chars serde_json_on_literals
-note_with_null_id = refl
+real_in_answer = refl
 
-pub call_with_id : message_in (codes "{\"id\":0,\"method\":\"list_dbs\",\"params\":[]}") ≡ Some (Call (number (unsigned 0)) (codes "list_dbs") no_items)
+pub fractional_id : message_in (codes "{\"id\":1.5,\"method\":\"echo\",\"params\":[]}") ≡ None
 unfolding message_in is_utf8 chars serde_json_on_literals
-call_with_id = refl
+fractional_id = refl
 
-pub echo_keeps_quotes : message_in (codes "{\"id\":\"x\",\"method\":\"echo\",\"params\":[\"a\\\"}\",{}]}") ≡ Some (Call (string (codes "x")) (codes "echo") (item (string (codes "a\"}")) (item (object no_members) no_items)))
+-- the id decides before the params do
+pub reals_in_both : message_in (codes "{\"id\":1.5,\"method\":\"echo\",\"params\":[1.5]}") ≡ None
 unfolding message_in is_utf8 chars serde_json_on_literals
-echo_keeps_quotes = refl
+reals_in_both = refl
+
+-- a real that a later member of the same name replaces does not count
+pub replaced_real : message_in (codes "{\"id\":1.5,\"id\":1,\"method\":\"m\",\"params\":[]}") ≡ Some (Call (number (unsigned 1)) (codes "m") no_items)
+unfolding message_in is_utf8 chars serde_json_on_literals
+replaced_real = refl
+
+-- a number that no value is read of is no JSON, wherever it stands
+pub number_too_great : message_in (codes "{\"id\":1,\"method\":\"m\",\"params\":[1e999]}") ≡ None
+unfolding message_in is_utf8 chars serde_json_on_literals
+number_too_great = refl
 
 -- ---- from bytes to requests
 

@@ -1,17 +1,17 @@
--- Worked mutations. Maps do not compute, so what is looked up in them and what they list is rewritten by their laws.
+-- Worked mutations. Maps do not compute, so what is looked up in them and what they list is rewritten by their laws. More rows
+-- stand in the tests, in mutations.rt.
 use Rattle.std.proofs.Common.{◌≡◌, ◌^◌, ◌-◌, ℕ, ℤ, pos, negsuc, List, [], ◌∷◌, map, length, true, false, T, Option, Some, None, Result, Ok, Err, Bool, cond, option_map, refl, sym, ap, ◌∙◌, codes}
 use Rattle.std.specs.Cmp.Lexicographic.{nat_list_cmp_total}
 use Rattle.std.specs.FinMap.{FinMap, get, keys, entries, from_entries, find, len, len-entries, is_sorted, same_map, get-from_entries}
 use Rattle.std.specs.Ordering.{eq_by_cmp}
 use Rattle.serde_json.specs.Read.{read}
 use Rattle.serde_json.proofs.OnLiterals.{serde_json_on_literals}
-use Rattle.ov_specs.specs.operations.Mutators.{Plus, Minus, Times, Over, Modulo, Change, Compute, Insert, Delete, Mutation, MutationFault, BadMutation, NoColumn, Clash, NotMutable, mutation_read, Domain, Range, Constraint, mutated}
+use Rattle.ov_specs.specs.operations.Mutators.{Plus, Times, Over, Modulo, Change, Compute, Insert, Delete, Mutation, MutationFault, Clash, NotMutable, mutation_read, Domain, Range, Constraint, mutated}
 use Rattle.ov_specs.specs.schema.Fitting.{fits}
 use Rattle.ov_specs.specs.operations.Operation.{no_names}
 use Rattle.ov_specs.specs.schema.SchemaTypes.{BaseType, ColumnType, Column, Table, name_cmp}
 use Rattle.ov_specs.specs.values.Value.{AtomKind, Integers, Texts, Atom, Integer, Text, atom_cmp, marked, Datum, Atoms, Pairs, set_of, map_of}
 use Rattle.ov_specs.proofs.laws.Order.{atom_cmp_total, atom_cmp-IsAntisymmetric}
-use Rattle.ov_specs.proofs.laws.Inserting.{set_of-insert_key}
 use Rattle.ov_specs.proofs.laws.ReadingBack.{keys-set_of, entries-from_entries}
 
 -- ---- columns and values
@@ -49,9 +49,6 @@ len-set ns h = len-entries (set_of (map Integer ns)) ∙ ap length (entries-from
 len-table : (ps : List (List ℕ × ℕ)) → T (is_sorted atom_cmp (pairs ps)) → len (map_of (pairs ps)) ≡ length (pairs ps)
 len-table ps h = len-entries (map_of (pairs ps)) ∙ ap length (entries-from_entries (pairs ps) h)
 
-has : (ns : List ℤ) (n : ℤ) → get (set_of (map Integer ns)) (Integer n) ≡ find atom_cmp (Integer n) (map marked (map Integer ns))
-has ns n = get-from_entries atom_cmp_total (map marked (map Integer ns)) (Integer n)
-
 at : (ps : List (List ℕ × ℕ)) (key : List ℕ) → get (map_of (pairs ps)) (Text key) ≡ find atom_cmp (Text key) (pairs ps)
 at ps key = get-from_entries atom_cmp_total (pairs ps) (Text key)
 
@@ -63,33 +60,8 @@ greatest = pos (2 ^ 63 - 1)
 
 -- ---- computing
 
-abbrev one_two : List ℤ
-one_two = pos 1 ∷ pos 2 ∷ []
-
--- both results are 0
-pub times_zero : mutated sets (Compute Times (pos 0)) (set one_two) ≡ Err Constraint
-times_zero = rw (keys-set one_two tt) refl
-
-pub nothing_is_divided : mutated sets (Compute Over (pos 0)) (set []) ≡ Ok (set [])
-nothing_is_divided = rw (keys-set [] tt) (rw (len-set [] tt) (rw (keys-set [] tt) refl))
-
-pub divided_by_zero : mutated scalar (Compute Over (pos 0)) (set (pos 7 ∷ [])) ≡ Err Domain
-divided_by_zero = rw (keys-set (pos 7 ∷ []) tt) refl
-
-pub remainder_by_zero : mutated scalar (Compute Modulo (pos 0)) (set (pos 7 ∷ [])) ≡ Err Domain
-remainder_by_zero = rw (keys-set (pos 7 ∷ []) tt) refl
-
 fits_scalar : (n : ℤ) → fits scalar (set (n ∷ [])) ≡ true
 fits_scalar n = rw (len-set (n ∷ []) tt, keys-set (n ∷ []) tt) refl
-
-pub plus : mutated scalar (Compute Plus (pos 3)) (set (negsuc 0 ∷ [])) ≡ Ok (set (pos 2 ∷ []))
-plus = rw (keys-set (negsuc 0 ∷ []) tt) (rw (fits_scalar (pos 2)) refl)
-
-pub minus : mutated scalar (Compute Minus (pos 3)) (set (pos 1 ∷ [])) ≡ Ok (set (negsuc 1 ∷ []))
-minus = rw (keys-set (pos 1 ∷ []) tt) (rw (fits_scalar (negsuc 1)) refl)
-
-pub times : mutated scalar (Compute Times (negsuc 2)) (set (pos 4 ∷ [])) ≡ Ok (set (negsuc 11 ∷ []))
-times = rw (keys-set (pos 4 ∷ []) tt) (rw (fits_scalar (negsuc 11)) refl)
 
 -- a division truncates toward zero, and a remainder has the sign of the dividend
 pub over : mutated scalar (Compute Over (pos 2)) (set (negsuc 6 ∷ [])) ≡ Ok (set (negsuc 2 ∷ []))
@@ -98,55 +70,39 @@ over = rw (keys-set (negsuc 6 ∷ []) tt) (rw (fits_scalar (negsuc 2)) refl)
 pub modulo : mutated scalar (Compute Modulo (pos 2)) (set (negsuc 6 ∷ [])) ≡ Ok (set (negsuc 0 ∷ []))
 modulo = rw (keys-set (negsuc 6 ∷ []) tt) (rw (fits_scalar (negsuc 0)) refl)
 
-pub modulo_of_a_negative : mutated scalar (Compute Modulo (negsuc 1)) (set (pos 7 ∷ [])) ≡ Ok (set (pos 1 ∷ []))
-modulo_of_a_negative = rw (keys-set (pos 7 ∷ []) tt) (rw (fits_scalar (pos 1)) refl)
-
--- the least and the greatest number of 64 bits
-pub above_greatest : mutated scalar (Compute Plus (pos 1)) (set (greatest ∷ [])) ≡ Err Range
-above_greatest = rw (keys-set (greatest ∷ []) tt) refl
-
-pub below_least : mutated scalar (Compute Minus (pos 1)) (set (least ∷ [])) ≡ Err Range
-below_least = rw (keys-set (least ∷ []) tt) refl
-
+-- the least number of 64 bits
 pub least_over_minus_one : mutated scalar (Compute Over (negsuc 0)) (set (least ∷ [])) ≡ Err Range
 least_over_minus_one = rw (keys-set (least ∷ []) tt) refl
 
 pub least_modulo_minus_one : mutated scalar (Compute Modulo (negsuc 0)) (set (least ∷ [])) ≡ Ok (set (pos 0 ∷ []))
 least_modulo_minus_one = rw (keys-set (least ∷ []) tt) (rw (fits_scalar (pos 0)) refl)
 
-pub least_plus_greatest : mutated scalar (Compute Plus (greatest)) (set (least ∷ [])) ≡ Ok (set (negsuc 0 ∷ []))
-least_plus_greatest = rw (keys-set (least ∷ []) tt) (rw (fits_scalar (negsuc 0)) refl)
+-- no number can be divided by zero, and nothing can
+pub divided_by_zero : mutated scalar (Compute Over (pos 0)) (set (pos 7 ∷ [])) ≡ Err Domain
+divided_by_zero = rw (keys-set (pos 7 ∷ []) tt) refl
 
--- a result out of range counts before two that are equal, and before one that does not fit
-pub range_before_equal : mutated sets (Compute Times (greatest)) (set (pos 2 ∷ pos 3 ∷ [])) ≡ Err Range
-range_before_equal = rw (keys-set (pos 2 ∷ pos 3 ∷ []) tt) refl
+pub nothing_is_divided : mutated sets (Compute Over (pos 0)) (set []) ≡ Ok (set [])
+nothing_is_divided = rw (keys-set [] tt) (rw (len-set [] tt) (rw (keys-set [] tt) refl))
 
+-- both results are 1
 pub equal_results : mutated sets (Compute Over (pos 2)) (set (pos 2 ∷ pos 3 ∷ [])) ≡ Err Constraint
 equal_results = rw (keys-set (pos 2 ∷ pos 3 ∷ []) tt) refl
 
-abbrev small : ColumnType
-small = record scalar { key = record (plain Integers) { greatest = Some (pos 9) } }
-
-pub does_not_fit : mutated small (Compute Plus (pos 1)) (set (pos 9 ∷ [])) ≡ Err Constraint
-does_not_fit = rw (keys-set (pos 9 ∷ []) tt) (rw (len-set (pos 10 ∷ []) tt, keys-set (pos 10 ∷ []) tt) refl)
+-- a result out of range counts before two that are equal
+pub range_before_equal : mutated sets (Compute Times greatest) (set (pos 2 ∷ pos 3 ∷ [])) ≡ Err Range
+range_before_equal = rw (keys-set (pos 2 ∷ pos 3 ∷ []) tt) refl
 
 -- ---- sets
 
-pub union : mutated sets (Insert (set (pos 2 ∷ pos 3 ∷ []))) (set one_two) ≡ Ok (set (pos 1 ∷ pos 2 ∷ pos 3 ∷ []))
-union =
-    rw (keys-set one_two tt, keys-set (pos 2 ∷ pos 3 ∷ []) tt)
-    (rw (set_of-insert_key (Integer (pos 2)) (map Integer one_two) (Integer (pos 3) ∷ []))
-    (rw (len-set (pos 1 ∷ pos 2 ∷ pos 3 ∷ []) tt, keys-set (pos 1 ∷ pos 2 ∷ pos 3 ∷ []) tt) refl))
-
-pub difference : mutated sets (Delete (set (pos 2 ∷ pos 3 ∷ []))) (set one_two) ≡ Ok (set (pos 1 ∷ []))
-difference =
-    rw (keys-set one_two tt)
-    (rw (has (pos 2 ∷ pos 3 ∷ []) (pos 1), has (pos 2 ∷ pos 3 ∷ []) (pos 2))
-    (rw (len-set (pos 1 ∷ []) tt, keys-set (pos 1 ∷ []) tt) refl))
+has : (ns : List ℤ) (n : ℤ) → get (set_of (map Integer ns)) (Integer n) ≡ find atom_cmp (Integer n) (map marked (map Integer ns))
+has ns n = get-from_entries atom_cmp_total (map marked (map Integer ns)) (Integer n)
 
 -- a column that may not be empty
 abbrev one_or_more : ColumnType
 one_or_more = type None Integers 1 None
+
+abbrev one_two : List ℤ
+one_two = pos 1 ∷ pos 2 ∷ []
 
 pub last_goes : mutated one_or_more (Delete (set one_two)) (set one_two) ≡ Err Constraint
 last_goes = rw (keys-set one_two tt) (rw (has one_two (pos 1), has one_two (pos 2)) (rw (len-set [] tt) refl))
@@ -185,15 +141,6 @@ insert_pairs =
 pub delete_another_value : mutated maps (Delete (table (a5 ∷ []))) (table (a1 ∷ [])) ≡ Ok (table (a1 ∷ []))
 delete_another_value = rw (entries-table (a1 ∷ []) tt) (rw (at (a5 ∷ []) (codes "a")) (rw (len-table (a1 ∷ []) tt, entries-table (a1 ∷ []) tt) refl))
 
-pub delete_pair : mutated maps (Delete (table (a1 ∷ []))) (table (a1 ∷ b2 ∷ [])) ≡ Ok (table (b2 ∷ []))
-delete_pair = rw (entries-table (a1 ∷ b2 ∷ []) tt) (rw (at (a1 ∷ []) (codes "a"), at (a1 ∷ []) (codes "b")) (rw (len-table (b2 ∷ []) tt, entries-table (b2 ∷ []) tt) refl))
-
-pub delete_key : mutated maps (Delete (Atoms (set_of (Text (codes "a") ∷ [])))) (table (a1 ∷ b2 ∷ [])) ≡ Ok (table (b2 ∷ []))
-delete_key =
-    rw (entries-table (a1 ∷ b2 ∷ []) tt)
-    (rw (get-from_entries atom_cmp_total (marked (Text (codes "a")) ∷ []) (Text (codes "a")), get-from_entries atom_cmp_total (marked (Text (codes "a")) ∷ []) (Text (codes "b")))
-    (rw (len-table (b2 ∷ []) tt, entries-table (b2 ∷ []) tt) refl))
-
 -- ---- reading
 
 abbrev plain_column : ColumnType → Column
@@ -201,8 +148,7 @@ plain_column t = record { type_of = t; is_ephemeral = false; is_mutable = true }
 
 abbrev listed : List (List ℕ × Column)
 listed =
-    (codes "load", plain_column scalar) ∷ (codes "name", plain_column (type None Texts 1 (Some 1))) ∷ (codes "tags", plain_column sets)
-    ∷ (codes "ids", plain_column maps) ∷ (codes "fixed", record (plain_column scalar) { is_mutable = false }) ∷ []
+    (codes "tags", plain_column sets) ∷ (codes "ids", plain_column maps) ∷ (codes "fixed", record (plain_column scalar) { is_mutable = false }) ∷ []
 
 pub columns : FinMap name_cmp Column
 columns = from_entries listed
@@ -220,49 +166,9 @@ mutation text = option_map (mutation_read no_names switch) (read text)
 abbrev of_column : List ℕ → Change → Option (Result Mutation MutationFault)
 of_column column change = Some (Ok (record { column = column; change = change }))
 
-pub reads_plus : mutation (codes "[\"load\",\"+=\",2]") ≡ of_column (codes "load") (Compute Plus (pos 2))
-unfolding serde_json_on_literals
-reads_plus = rw (column_is (codes "load")) (rw (keys-set (pos 2 ∷ []) tt) refl)
-
 pub reads_plus_of_a_set : mutation (codes "[\"tags\",\"+=\",[\"set\",[2]]]") ≡ of_column (codes "tags") (Compute Plus (pos 2))
 unfolding serde_json_on_literals
 reads_plus_of_a_set = rw (column_is (codes "tags")) (rw (keys-set (pos 2 ∷ []) tt) refl)
-
-pub two_numbers : mutation (codes "[\"tags\",\"+=\",[\"set\",[1,2]]]") ≡ Some (Err BadMutation)
-unfolding serde_json_on_literals
-two_numbers = rw (column_is (codes "tags")) (rw (keys-set one_two tt) refl)
-
-pub insert_into_a_scalar : mutation (codes "[\"load\",\"insert\",2]") ≡ Some (Err BadMutation)
-unfolding serde_json_on_literals
-insert_into_a_scalar = rw (column_is (codes "load")) refl
-
-pub plus_on_a_text : mutation (codes "[\"name\",\"+=\",2]") ≡ Some (Err BadMutation)
-unfolding serde_json_on_literals
-plus_on_a_text = rw (column_is (codes "name")) refl
-
-pub plus_on_a_map : mutation (codes "[\"ids\",\"+=\",2]") ≡ Some (Err BadMutation)
-unfolding serde_json_on_literals
-plus_on_a_map = rw (column_is (codes "ids")) refl
-
-pub reads_insert : mutation (codes "[\"tags\",\"insert\",[\"set\",[1,2]]]") ≡ of_column (codes "tags") (Insert (set one_two))
-unfolding serde_json_on_literals
-reads_insert = rw (column_is (codes "tags")) refl
-
-pub keys_are_not_inserted : mutation (codes "[\"ids\",\"insert\",[\"set\",[\"a\"]]]") ≡ Some (Err BadMutation)
-unfolding serde_json_on_literals
-keys_are_not_inserted = rw (column_is (codes "ids")) refl
-
-pub clash_in_insert : mutation (codes "[\"ids\",\"insert\",[\"map\",[[\"a\",1],[\"a\",5]]]]") ≡ Some (Err Clash)
-unfolding serde_json_on_literals
-clash_in_insert = rw (column_is (codes "ids")) refl
-
-pub reads_delete_of_pairs : mutation (codes "[\"ids\",\"delete\",[\"map\",[[\"a\",1]]]]") ≡ of_column (codes "ids") (Delete (table (a1 ∷ [])))
-unfolding serde_json_on_literals
-reads_delete_of_pairs = rw (column_is (codes "ids")) refl
-
-pub reads_delete_of_keys : mutation (codes "[\"ids\",\"delete\",[\"set\",[\"a\"]]]") ≡ of_column (codes "ids") (Delete (Atoms (set_of (Text (codes "a") ∷ []))))
-unfolding serde_json_on_literals
-reads_delete_of_keys = rw (column_is (codes "ids")) refl
 
 pub reads_delete_of_one_key : mutation (codes "[\"ids\",\"delete\",\"a\"]") ≡ of_column (codes "ids") (Delete (Atoms (set_of (Text (codes "a") ∷ []))))
 unfolding serde_json_on_literals
@@ -273,23 +179,7 @@ pub clash_in_delete : mutation (codes "[\"ids\",\"delete\",[\"map\",[[\"a\",1],[
 unfolding serde_json_on_literals
 clash_in_delete = rw (column_is (codes "ids")) refl
 
-pub no_map_in_delete : mutation (codes "[\"ids\",\"delete\",[\"map\",[\"a\"]]]") ≡ Some (Err BadMutation)
-unfolding serde_json_on_literals
-no_map_in_delete = rw (column_is (codes "ids")) refl
-
 -- shape, column, whether that is mutable, mutator and value are looked at in this order
-pub three_texts : mutation (codes "[\"load\",\"+=\",2,2]") ≡ Some (Err BadMutation)
-unfolding serde_json_on_literals
-three_texts = refl
-
-pub no_such_column : mutation (codes "[\"nowhere\",\"++\",2]") ≡ Some (Err NoColumn)
-unfolding serde_json_on_literals
-no_such_column = rw (column_is (codes "nowhere")) refl
-
 pub not_mutable : mutation (codes "[\"fixed\",\"++\",2]") ≡ Some (Err NotMutable)
 unfolding serde_json_on_literals
 not_mutable = rw (column_is (codes "fixed")) refl
-
-pub no_such_mutator : mutation (codes "[\"load\",\"++\",2]") ≡ Some (Err BadMutation)
-unfolding serde_json_on_literals
-no_such_mutator = rw (column_is (codes "load")) refl

@@ -1,9 +1,9 @@
--- Worked schemas, refusal by refusal.
-use Rattle.std.proofs.Common.{◌≡◌, ◌++◌, ℕ, List, [], ◌∷◌, Option, Some, None, true, false, Result, Ok, Err, option_and_then, option_map, refl, codes}
+-- Worked schemas. More rows stand in the tests, in schemas.rt.
+use Rattle.std.proofs.Common.{◌≡◌, ◌++◌, ℕ, List, [], ◌∷◌, Option, Some, None, false, Result, Ok, Err, option_and_then, option_map, refl, codes}
 use Rattle.serde_json.specs.Read.{read}
 use Rattle.serde_json.proofs.OnLiterals.{serde_json_on_literals}
 use Rattle.ov_specs.specs.schema.SchemaTypes.{Schema}
-use Rattle.ov_specs.specs.schema.Schema.{SchemaRefusal, BadMember, BadName, BadVersion, NoColumns, BadRange, RealNotSupported, UnknownRefTable, BadRefType, BadEnum, BadIndex, StrongWeakMap, accepted, split_at_dots, is_version}
+use Rattle.ov_specs.specs.schema.Schema.{SchemaRefusal, BadMember, BadName, BadVersion, NoColumns, RealNotSupported, UnknownRefTable, BadIndex, StrongWeakMap, accepted, split_at_dots, is_version}
 
 -- the refusal, if there is one
 abbrev refusal_in_answer : Result Schema SchemaRefusal → Option SchemaRefusal
@@ -19,130 +19,54 @@ refusal_in text = option_map (λ d. refusal_in_answer (accepted d)) (read text)
 pub parts_of_a_version : split_at_dots (codes "1.20.3") ≡ codes "1" ∷ codes "20" ∷ codes "3" ∷ []
 parts_of_a_version = refl
 
-pub three_numbers : is_version (codes "1.20.3") ≡ true
-three_numbers = refl
-
-pub two_numbers : is_version (codes "1.20") ≡ false
-two_numbers = refl
-
-pub four_numbers : is_version (codes "1.20.3.4") ≡ false
-four_numbers = refl
-
-pub empty_first : is_version (codes ".20.3") ≡ false
-empty_first = refl
-
 pub empty_between : is_version (codes "1..3") ≡ false
 empty_between = refl
 
-pub empty_last : is_version (codes "1.20.") ≡ false
-empty_last = refl
-
-pub letter_in_version : is_version (codes "1.2x.3") ≡ false
-letter_in_version = refl
-
-pub empty_version : is_version [] ≡ false
-empty_version = refl
-
 -- ---- a network of switches and ports
 
--- its text with this name and version, these columns of ports, this type of the load, and these members more
-abbrev net : List ℕ → List ℕ → List ℕ → List ℕ → List ℕ → List ℕ
-net name version port load more =
-    codes "{\"name\":\"" ++ name ++ codes "\",\"tables\":{\"Port\":{\"columns\":{" ++ port ++ codes "}},\"Switch\":{\"columns\":{\"load\":{\"type\":\"" ++ load
+-- its text with this version, these columns of ports, this type of the load, and these members more
+abbrev net : List ℕ → List ℕ → List ℕ → List ℕ → List ℕ
+net version port load more =
+    codes "{\"name\":\"Net\",\"tables\":{\"Port\":{\"columns\":{" ++ port ++ codes "}},\"Switch\":{\"columns\":{\"load\":{\"type\":\"" ++ load
     ++ codes "\"},\"name\":{\"type\":\"string\"},\"ports\":{\"type\":{\"key\":{\"refTable\":\"Port\",\"type\":\"uuid\"},\"max\":\"unlimited\",\"min\":0}}},\"indexes\":[[\"name\"]],\"isRoot\":true" ++ more ++ codes "}},\"version\":\"" ++ version ++ codes "\"}"
 
--- the columns of ports: their peers are rows of this table, and so many tags may be there
-abbrev port_columns : List ℕ → List ℕ → List ℕ
-port_columns table tags =
-    codes "\"name\":{\"type\":\"string\"},\"peer\":{\"type\":{\"key\":{\"refTable\":\"" ++ table ++ codes "\",\"type\":\"uuid\"},\"max\":1,\"min\":0}},\"tag\":{\"type\":{\"key\":{\"maxInteger\":4095,\"minInteger\":0,\"type\":\"integer\"}," ++ tags ++ codes "}}"
-
 abbrev ports : List ℕ
-ports = port_columns (codes "Port") (codes "\"max\":1,\"min\":0")
+ports =
+    codes "\"name\":{\"type\":\"string\"},\"peer\":{\"type\":{\"key\":{\"refTable\":\"Port\",\"type\":\"uuid\"},\"max\":1,\"min\":0}},\"tag\":{\"type\":{\"key\":{\"maxInteger\":4095,\"minInteger\":0,\"type\":\"integer\"},\"max\":1,\"min\":0}}"
 
-pub net_is_accepted : refusal_in (net (codes "Net") (codes "1.0.0") ports (codes "integer") []) ≡ Some None
+pub net_is_accepted : refusal_in (net (codes "1.0.0") ports (codes "integer") []) ≡ Some None
 unfolding serde_json_on_literals
 net_is_accepted = refl
 
-pub no_tables : refusal_in (codes "{\"name\":\"Net\",\"tables\":{}}") ≡ Some None
-unfolding serde_json_on_literals
-no_tables = refl
-
-pub underscore : refusal_in (net (codes "_Net") (codes "1.0.0") ports (codes "integer") []) ≡ Some (Some BadName)
-unfolding serde_json_on_literals
-underscore = refl
-
--- the version goes before the type that stands earlier in the tree
-pub version_before_real : refusal_in (net (codes "Net") (codes "1.0") ports (codes "real") []) ≡ Some (Some BadVersion)
-unfolding serde_json_on_literals
-version_before_real = refl
-
 -- a number that is no integer goes before the version
-pub real_number_before_version : refusal_in (net (codes "Net") (codes "1.0") ports (codes "integer") (codes ",\"maxRows\":1.5")) ≡ Some (Some RealNotSupported)
+pub real_number_before_version : refusal_in (net (codes "1.0") ports (codes "integer") (codes ",\"maxRows\":1.5")) ≡ Some (Some RealNotSupported)
 unfolding serde_json_on_literals
 real_number_before_version = refl
 
-pub columns_before_real : refusal_in (net (codes "Net") (codes "1.0.0") [] (codes "real") []) ≡ Some (Some NoColumns)
+-- the version goes before the type that stands earlier in the tree
+pub version_before_real : refusal_in (net (codes "1.0") ports (codes "real") []) ≡ Some (Some BadVersion)
+unfolding serde_json_on_literals
+version_before_real = refl
+
+-- a table without columns goes before a type
+pub columns_before_real : refusal_in (net (codes "1.0.0") [] (codes "real") []) ≡ Some (Some NoColumns)
 unfolding serde_json_on_literals
 columns_before_real = refl
-
-pub real_type : refusal_in (net (codes "Net") (codes "1.0.0") ports (codes "real") []) ≡ Some (Some RealNotSupported)
-unfolding serde_json_on_literals
-real_type = refl
-
-pub least_of_two : refusal_in (net (codes "Net") (codes "1.0.0") (port_columns (codes "Port") (codes "\"max\":2,\"min\":2")) (codes "integer") []) ≡ Some (Some BadRange)
-unfolding serde_json_on_literals
-least_of_two = refl
-
-pub most_of_none : refusal_in (net (codes "Net") (codes "1.0.0") (port_columns (codes "Port") (codes "\"max\":0,\"min\":0")) (codes "integer") []) ≡ Some (Some BadRange)
-unfolding serde_json_on_literals
-most_of_none = refl
-
-pub unknown_table : refusal_in (net (codes "Net") (codes "1.0.0") (port_columns (codes "Prot") (codes "\"max\":1,\"min\":0")) (codes "integer") []) ≡ Some (Some UnknownRefTable)
-unfolding serde_json_on_literals
-unknown_table = refl
-
-pub most_is_no_number : refusal_in (net (codes "Net") (codes "1.0.0") (port_columns (codes "Port") (codes "\"max\":\"many\"")) (codes "integer") []) ≡ Some (Some BadMember)
-unfolding serde_json_on_literals
-most_is_no_number = refl
-
-pub no_rows_allowed : refusal_in (net (codes "Net") (codes "1.0.0") ports (codes "integer") (codes ",\"maxRows\":0")) ≡ Some (Some BadRange)
-unfolding serde_json_on_literals
-no_rows_allowed = refl
 
 -- ---- one table with one column of this type, and these members more
 
 abbrev one : List ℕ → List ℕ → List ℕ
 one type more = codes "{\"name\":\"A\",\"tables\":{\"T\":{\"columns\":{\"c\":{\"type\":" ++ type ++ codes "}}" ++ more ++ codes "}}}"
 
-pub null_root : refusal_in (one (codes "\"string\"") (codes ",\"isRoot\":null")) ≡ Some (Some BadMember)
-unfolding serde_json_on_literals
-null_root = refl
-
 -- a range beside another type, also beside "real"
 pub range_beside_real : refusal_in (one (codes "{\"key\":{\"type\":\"real\",\"minInteger\":1}}") []) ≡ Some (Some BadMember)
 unfolding serde_json_on_literals
 range_beside_real = refl
 
-pub bounds_cross : refusal_in (one (codes "{\"key\":{\"type\":\"integer\",\"minInteger\":2,\"maxInteger\":1}}") (codes ",\"indexes\":[[]]")) ≡ Some (Some BadRange)
-unfolding serde_json_on_literals
-bounds_cross = refl
-
-pub reference_of_integers : refusal_in (one (codes "{\"key\":{\"type\":\"integer\",\"refTable\":\"T\"}}") []) ≡ Some (Some BadRefType)
-unfolding serde_json_on_literals
-reference_of_integers = refl
-
 -- a reference to nowhere, also of integers
 pub integers_to_nowhere : refusal_in (one (codes "{\"key\":{\"type\":\"integer\",\"refTable\":\"U\"}}") []) ≡ Some (Some UnknownRefTable)
 unfolding serde_json_on_literals
 integers_to_nowhere = refl
-
-pub strength_without_table : refusal_in (one (codes "{\"key\":{\"type\":\"uuid\",\"refType\":\"weak\"}}") []) ≡ Some (Some BadRefType)
-unfolding serde_json_on_literals
-strength_without_table = refl
-
-pub empty_choice : refusal_in (one (codes "{\"key\":{\"type\":\"string\",\"enum\":[\"set\",[]]}}") []) ≡ Some (Some BadEnum)
-unfolding serde_json_on_literals
-empty_choice = refl
 
 pub one_choice : refusal_in (one (codes "{\"key\":{\"type\":\"string\",\"enum\":\"a\"}}") []) ≡ Some None
 unfolding serde_json_on_literals
@@ -151,14 +75,6 @@ one_choice = refl
 pub index_of_version : refusal_in (one (codes "\"string\"") (codes ",\"indexes\":[[\"_version\"]]")) ≡ Some (Some BadIndex)
 unfolding serde_json_on_literals
 index_of_version = refl
-
-pub column_twice : refusal_in (one (codes "\"string\"") (codes ",\"indexes\":[[\"c\",\"c\"]]")) ≡ Some (Some BadIndex)
-unfolding serde_json_on_literals
-column_twice = refl
-
-pub index_twice : refusal_in (one (codes "\"string\"") (codes ",\"indexes\":[[\"c\"],[\"c\"]]")) ≡ Some None
-unfolding serde_json_on_literals
-index_twice = refl
 
 pub strong_and_weak : refusal_in (one (codes "{\"key\":{\"type\":\"uuid\",\"refTable\":\"T\"},\"value\":{\"type\":\"uuid\",\"refTable\":\"T\",\"refType\":\"weak\"}}") []) ≡ Some (Some StrongWeakMap)
 unfolding serde_json_on_literals
