@@ -13,3 +13,6 @@ pub mod Expanding
 pub mod Turns
 pub mod LineKeys
 pub mod Truths
+pub mod Names
+pub mod SuitingColumns
+pub mod Suiting

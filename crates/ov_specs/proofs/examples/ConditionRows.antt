@@ -1,5 +1,6 @@
 -- Worked conditions. Maps do not compute, so what is looked up in them and what they list is rewritten by their laws.
 use Rattle.std.proofs.Common.{◌≡◌, ℕ, pos, List, [], ◌∷◌, map, length, true, false, T, Option, Some, None, Result, Ok, Err, option_map, refl, ap, ◌∙◌, codes}
+use Rattle.std.specs.Str.{is_utf8, chars}
 use Rattle.std.specs.Cmp.Lexicographic.{nat_list_cmp_total}
 use Rattle.std.specs.FinMap.{FinMap, get, keys, from_entries, find, len, len-entries, is_sorted, get-from_entries}
 use Rattle.serde_json.specs.Read.{read}
@@ -213,11 +214,11 @@ unfolding serde_json_on_literals
 value_of_another_kind = rw (column_is (codes "load")) refl
 
 pub two_values_at_a_key : condition (codes "[\"ids\",\"==\",[\"map\",[[\"a\",1],[\"a\",2]]]]") ≡ Some (Err Clash)
-unfolding serde_json_on_literals
+unfolding is_utf8 chars serde_json_on_literals
 two_values_at_a_key = rw (column_is (codes "ids")) refl
 
 pub unread_before_clash : condition (codes "[\"ids\",\"==\",[\"map\",[[\"a\",1],[\"a\",2],[1,1]]]]") ≡ Some (Err BadCondition)
-unfolding serde_json_on_literals
+unfolding is_utf8 chars serde_json_on_literals
 unread_before_clash = rw (column_is (codes "ids")) refl
 
 -- ---- rows
