@@ -16,3 +16,5 @@ pub mod Truths
 pub mod Names
 pub mod SuitingColumns
 pub mod Suiting
+pub mod Nesting
+pub mod Bodies

@@ -40,6 +40,13 @@ module _ {X : Type 0} where
   find-below name (e ∷ es) h =
       ap (λ b. cond b (Some e.1) (find name_cmp name es)) (not_tied (name_cmp name e.0) (left_holds _ _ h)) ∙ find-below name es (right_holds _ _ h)
 
+  -- the first name does not come again
+  pub find-first_not_later : (e : List ℕ × X) (es : List (List ℕ × X)) (name : List ℕ) → T (is_sorted name_cmp (e ∷ es)) → same_name name e.0 ≡ true → find name_cmp name es ≡ None
+  find-first_not_later e es name h is = ap (λ n. find name_cmp n es) (same_name-is name e.0 is) ∙ find-below e.0 es (left_holds _ _ h)
+
+  pub sorted_rest : (e : List ℕ × X) (es : List (List ℕ × X)) → T (is_sorted name_cmp (e ∷ es)) → T (is_sorted name_cmp es)
+  sorted_rest e es h = right_holds _ _ h
+
   -- what is found behind the first entry is found in the whole
   find-later : (e : List ℕ × X) (es : List (List ℕ × X)) (name : List ℕ) (x : X) → T (is_sorted name_cmp (e ∷ es)) → find name_cmp name es ≡ Some x → find name_cmp name (e ∷ es) ≡ Some x
   find-later e es name x h found = by (same_name name e.0) refl
