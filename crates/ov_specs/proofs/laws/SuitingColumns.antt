@@ -19,7 +19,7 @@ use Rattle.ov_specs.proofs.laws.SchemaLaws.{default_is_of}
 
 -- ---- one value
 
-no_uuids : AreUuids no_names
+pub no_uuids : AreUuids no_names
 no_uuids name bytes e = cc
 
 -- a value of the kinds, once it is seen to fit
@@ -41,10 +41,10 @@ value_suits column d datum = by (reads no_names (kinds_of column.type_of) d) ref
     by (Reads v) is h = fitted column v datum (reads_is_of no_names no_uuids (kinds_of column.type_of) d v is) h
 
 -- the value is one for the column of this name
-abbrev IsGiven : Table → List ℕ → Datum → Type 0
+abbrev pub IsGiven : Table → List ℕ → Datum → Type 0
 IsGiven table name datum = (column : Column) × (column_of_row table name ≡ Some column) × (is_value_for column datum ≡ true)
 
-column_is : (table : Table) (name : List ℕ) (column : Column) → is_own_column name ≡ false → get table.columns name ≡ Some column → column_of_row table name ≡ Some column
+pub column_is : (table : Table) (name : List ℕ) (column : Column) → is_own_column name ≡ false → get table.columns name ≡ Some column → column_of_row table name ≡ Some column
 column_is table name column own is = ap (λ b. cond b None (get table.columns name)) own ∙ is
 
 member_suits : (table : Table) (name : List ℕ) (d : Data) (datum : Datum) → member_value name (get table.columns name) d ≡ Ok datum → IsGiven table name datum
@@ -62,17 +62,17 @@ member_suits table name d datum = by (get table.columns name) refl
 -- ---- columns to which some are still to come
 
 -- a value that is there is one for its column
-abbrev suits_so_far : Option Column → Option Datum → Bool
+abbrev pub suits_so_far : Option Column → Option Datum → Bool
 suits_so_far column None = true
 suits_so_far column (Some datum) = suits_column column (Some datum)
 
-abbrev SuitsSoFar : Table → Columns → Type 0
+abbrev pub SuitsSoFar : Table → Columns → Type 0
 SuitsSoFar table columns = (name : List ℕ) → suits_so_far (column_of_row table name) (get columns name) ≡ true
 
-none_suits : (table : Table) → SuitsSoFar table empty
+pub none_suits : (table : Table) → SuitsSoFar table empty
 none_suits table name = ap (suits_so_far (column_of_row table name)) (get-empty name_cmp name)
 
-one_more_suits : (table : Table) (columns : Columns) (name : List ℕ) (datum : Datum) → IsGiven table name datum → SuitsSoFar table columns → SuitsSoFar table (insert columns name datum)
+pub one_more_suits : (table : Table) (columns : Columns) (name : List ℕ) (datum : Datum) → IsGiven table name datum → SuitsSoFar table columns → SuitsSoFar table (insert columns name datum)
 one_more_suits table columns name datum (column, kept, value) suits q =
     ap (suits_so_far (column_of_row table q)) (get-insert name_cmp_total columns name datum q) ∙ by (same_name q name) refl
   where
@@ -101,21 +101,21 @@ default_suits : (column : Column) (datum : Datum) → fitting_default column ≡
 default_suits column datum = fitted column (default_of column.type_of) datum (default_is_of column.type_of)
 
 -- a value stands at each of these columns but the own ones
-abbrev HasAll : List (List ℕ × Column) → Columns → Type 0
+abbrev pub HasAll : List (List ℕ × Column) → Columns → Type 0
 HasAll cs columns = (name : List ℕ) (column : Column) → is_own_column name ≡ false → find name_cmp name cs ≡ Some column → contains_key columns name ≡ true
 
 -- the columns suit so far, have all that there were before, and a value at each of these
-record Completes (table : Table) (cs : List (List ℕ × Column)) (before after : Columns) : Type 0 where
-  suits : SuitsSoFar table after
-  stays : (name : List ℕ) → contains_key before name ≡ true → contains_key after name ≡ true
-  has : HasAll cs after
+pub record Completes (table : Table) (cs : List (List ℕ × Column)) (before after : Columns) : Type 0 where
+  pub suits : SuitsSoFar table after
+  pub stays : (name : List ℕ) → contains_key before name ≡ true → contains_key after name ≡ true
+  pub has : HasAll cs after
 
 abbrev MakesComplete : Table → List (List ℕ × Column) → Columns → Result Columns OpError → Type 0
 MakesComplete table cs before (Ok after) = Completes table cs before after
 MakesComplete table cs before (Err error) = Unit {0}
 
 -- with a column in front that has its value already, or needs none
-passed : (table : Table) (c : List ℕ × Column) (cs : List (List ℕ × Column)) (before : Columns) (r : Result Columns OpError) → (is_own_column c.0 || contains_key before c.0) ≡ true
+pub passed : (table : Table) (c : List ℕ × Column) (cs : List (List ℕ × Column)) (before : Columns) (r : Result Columns OpError) → (is_own_column c.0 || contains_key before c.0) ≡ true
     → MakesComplete table cs before r → MakesComplete table (c ∷ cs) before r
 passed table c cs before (Err error) there made = tt
 passed table c cs before (Ok after) there made = record { suits = made.suits; stays = made.stays; has = λ name column own found. by name column own (same_name name c.0) refl found }
@@ -141,7 +141,7 @@ contains-inserted : (columns : Columns) (name : List ℕ) (datum : Datum) (q : L
 contains-inserted columns name datum q is = ap is_some (get-insert name_cmp_total columns name datum q ∙ ap (λ b. cond b (Some datum) (get columns q)) is)
 
 -- with a column in front that was given its default
-added : (table : Table) (c : List ℕ × Column) (cs : List (List ℕ × Column)) (before : Columns) (datum : Datum) (r : Result Columns OpError)
+pub added : (table : Table) (c : List ℕ × Column) (cs : List (List ℕ × Column)) (before : Columns) (datum : Datum) (r : Result Columns OpError)
     → MakesComplete table cs (insert before c.0 datum) r → MakesComplete table (c ∷ cs) before r
 added table c cs before datum (Err error) made = tt
 added table c cs before datum (Ok after) made = record {
@@ -154,7 +154,7 @@ added table c cs before datum (Ok after) made = record {
     by name column own true is found = made.stays name (contains-inserted before c.0 datum name is)
     by name column own false is found = made.has name column own found
 
-abbrev StandIn : Table → List (List ℕ × Column) → Type 0
+abbrev pub StandIn : Table → List (List ℕ × Column) → Type 0
 StandIn table cs = EachEntry (λ name column. get table.columns name ≡ Some column) cs
 
 -- the column in front has a value, or needs none, or is given its default
@@ -186,7 +186,7 @@ none_there : (o : Option Datum) → o ≡ None → is_some o ≡ true → ⊥
 none_there None none there = cc
 none_there (Some datum) none there = cc
 
-complete_suits : (table : Table) (before after : Columns) → Completes table (entries table.columns) before after → SuitsTable table after
+pub complete_suits : (table : Table) (before after : Columns) → Completes table (entries table.columns) before after → SuitsTable table after
 complete_suits table before after made name = by (get after name) (column_of_row table name) refl refl (made.suits name)
   where
     is_kept : (column : Column) (b : Bool) → is_own_column name ≡ b → cond b None (get table.columns name) ≡ Some column → (b ≡ false) × (get table.columns name ≡ Some column)

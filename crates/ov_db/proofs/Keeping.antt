@@ -1,0 +1,87 @@
+-- Rows of the schema that read back stay so, row by row and commit by commit.
+use Rattle.std.proofs.Common.{◌≡◌, List, [], ◌∷◌, Bool, true, false, cond, Option, Some, None, refl, sym, ap, subst, ◌∙◌}
+use mathlib.Core.Logic.{◌⊎◌, inl, inr}
+use Rattle.std.proofs.Common.{ℕ}
+use Rattle.std.proofs.lemmas.Option.{same_Some}
+use Rattle.std.specs.FinMap.{empty, get, insert, get-empty, get-insert, get-entries, entries, find}
+use Rattle.serde_json.specs.Written.{compact_text}
+use Rattle.ov_specs.specs.rows.Database.{Database, Row, line_of}
+use Rattle.ov_specs.specs.rows.Lines.{LineKey, LineBody, Contents, line_cmp}
+use Rattle.ov_specs.specs.rows.Suits.{Suits, SuitsRow}
+use Rattle.ov_specs.specs.schema.SchemaTypes.{Schema}
+use Rattle.ov_specs.specs.values.Uuid.{is_uuid}
+use Rattle.ov_specs.proofs.laws.LineKeys.{key_total, tied_same}
+use Rattle.ov_specs.proofs.laws.Suiting.{no_row_suits, one_row_suits}
+use Rattle.ov_db.specs.Changing.{Delta, applied, SuitsChanges}
+use Rattle.ov_db.specs.Committing.{IsHeld, MayHold, MayFind}
+use Rattle.ov_db.specs.Opening.{CanOpen}
+use Rattle.ov_db.specs.Stored.{row_stored, IsBodyRead, AllReadBack, KeepsRows}
+use Rattle.ov_db.proofs.Added.{same}
+use Rattle.ov_db.proofs.Loads.{line_of_stored}
+use Rattle.ov_db.proofs.Places.{Changes, or_before, get-applied}
+use Rattle.ov_db.proofs.ReadsBack.{reads_back, lines_read_back}
+use Rattle.ov_db.proofs.StoredSuits.{stored_row_suits}
+
+-- ---- rows that are loaded
+
+pub no_row_kept : (schema : Schema) → KeepsRows schema empty
+no_row_kept schema = record { suits = no_row_suits schema; read_back = λ key row h. absurd (no key row h) }
+  where
+    none : (row : Row) → None ≡ Some row → ⊥
+    none row e = cc
+
+    no : (key : LineKey) (row : Row) → get empty key ≡ Some row → ⊥
+    no key row h = none row (sym (get-empty line_cmp key) ∙ h)
+
+-- one row more, as its line is read
+pub one_row_kept : (schema : Schema) (rows : Database) (key : LineKey) (line : LineBody) (row : Row) → is_uuid key.1 ≡ true → is_uuid line.0 ≡ true → row_stored schema key line ≡ Some row
+    → KeepsRows schema rows → KeepsRows schema (insert rows key row)
+one_row_kept schema rows key line row id version is kept = record {
+  suits = one_row_suits schema rows key row (stored_row_suits schema key line row id version is) kept.suits;
+  read_back = λ q r h. by q r (same q key) refl (sym (get-insert key_total rows key row q) ∙ h);
+}
+  where
+    here : row_stored schema key (line_of row) ≡ Some row
+    here = ap (row_stored schema key) (line_of_stored schema key line row is) ∙ is
+
+    by : (q : LineKey) (r : Row) (b : Bool) → same q key ≡ b → cond b (Some row) (get rows q) ≡ Some r → row_stored schema q (line_of r) ≡ Some r
+    by q r true tied k = subst (λ (p : LineKey × Row). row_stored schema p.0 (line_of p.1) ≡ Some p.1) (λ i. (sym (tied_same q key tied) i, same_Some row r k i)) here
+    by q r false tied k = kept.read_back q r k
+
+-- ---- rows that are changed
+
+-- the bodies of the rows that these changes put read as they are written
+abbrev pub BodiesRead : Changes → Type 0
+BodiesRead changes = (key : LineKey) (row : Row) → find line_cmp key changes ≡ Some (Some row) → IsBodyRead row
+
+pub changes_kept : (schema : Schema) (delta : Delta) (rows : Database) → SuitsChanges schema delta → BodiesRead (entries delta) → KeepsRows schema rows → KeepsRows schema (applied delta rows)
+changes_kept schema delta rows suit read kept = record {
+  suits = λ key row h. by_suits key row (get delta key) refl (sym (get-applied delta rows key) ∙ h);
+  read_back = λ key row h. by_read key row (get delta key) refl (sym (get-applied delta rows key) ∙ h);
+}
+  where
+    at : (key : LineKey) (row r : Row) → get delta key ≡ Some (Some r) → Some r ≡ Some row → get delta key ≡ Some (Some row)
+    at key row r is k = is ∙ ap Some k
+
+    by_suits : (key : LineKey) (row : Row) (o : Option (Option Row)) → get delta key ≡ o → or_before o (get rows key) ≡ Some row → SuitsRow schema key row
+    by_suits key row None is k = kept.suits key row k
+    by_suits key row (Some None) is k = cc
+    by_suits key row (Some (Some r)) is k = suit key row (at key row r is k)
+
+    by_read : (key : LineKey) (row : Row) (o : Option (Option Row)) → get delta key ≡ o → or_before o (get rows key) ≡ Some row → row_stored schema key (line_of row) ≡ Some row
+    by_read key row None is k = kept.read_back key row k
+    by_read key row (Some None) is k = cc
+    by_read key row (Some (Some r)) is k =
+        let here : get delta key ≡ Some (Some row) = at key row r is k in
+        reads_back schema key row (suit key row here) (read key row (sym (get-entries delta key) ∙ here))
+
+-- ---- what an open may find
+
+-- lines of rows that read back can be opened as these rows
+pub found_rows : (leaves : Contents → Type 0) (schema : Schema) (committed : Database) (sealed : Option Database) → MayHold leaves (compact_text schema.tree) committed sealed
+    → KeepsRows schema committed → ((database : Database) → sealed ≡ Some database → KeepsRows schema database) → MayFind leaves schema committed sealed
+found_rows leaves schema committed sealed may kept kept_sealed held left = by (may held left)
+  where
+    by : IsHeld (compact_text schema.tree) committed sealed held → CanOpen schema committed held ⊎ ((database : Database) × (sealed ≡ Some database) × CanOpen schema database held)
+    by (text, inl lines) = inl (record { same_schema = text; rows = lines_read_back schema held.lines committed kept.read_back lines })
+    by (text, inr (database, is, lines)) = inr (database, is, record { same_schema = text; rows = lines_read_back schema held.lines database (kept_sealed database is).read_back lines })
