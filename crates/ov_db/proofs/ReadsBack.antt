@@ -122,7 +122,7 @@ module _ (table : Table) (columns : Columns) (suits : SuitsTable table columns) 
   columns_are_stored =
       let all = stored (entries table.columns) empty (each_entry table.columns) in
       all.1 ∙ ap Some (same_map name_cmp_total name_exact all.0 columns (λ name.
-      all.2 name ∙ ap (λ o. cond (not (is_own_column name) && is_some o) (get columns name) (get empty name)) (sym (get-entries table.columns name))
+      all.2 name ∙ ap (λ o. cond (not (is_own_column name) && is_some o) (get columns name) (get (empty {K = List ℕ} {X = Datum} {R = name_cmp}) name)) (sym (get-entries table.columns name))
       ∙ ap (cond (not (is_own_column name) && is_some (get table.columns name)) (get columns name)) (get-empty name_cmp name)
       ∙ by name (is_own_column name) (get table.columns name) refl refl))
     where

@@ -53,6 +53,16 @@ row_stored schema key line = option_and_then (λ table. row_of_table table line)
 abbrev pub IsBodyRead : Row → Type 0
 IsBodyRead row = tree_of (line_of row).1 ≡ Some (object_of (map written_column (entries row.columns)))
 
+-- the body of the row that a change puts, if it puts one, reads as what was written
+abbrev pub IsPutRead : Option Row → Type 0
+IsPutRead None = Unit {0}
+IsPutRead (Some row) = IsBodyRead row
+
+-- so do the bodies of all rows that these changes put
+abbrev pub ArePutRead : List (LineKey × Option Row) → Type 0
+ArePutRead [] = Unit {0}
+ArePutRead (change ∷ changes) = IsPutRead change.1 × ArePutRead changes
+
 -- each row of the database is what its line reads back as
 abbrev pub AllReadBack : Schema → Database → Type 0
 AllReadBack schema database = (key : LineKey) (row : Row) → get database key ≡ Some row → row_stored schema key (line_of row) ≡ Some row
