@@ -12,7 +12,7 @@ use Rattle.std.specs.FinMap.{empty, get, insert, get-empty, get-insert, get-entr
 use Rattle.serde_json.specs.Written.{compact_text}
 use Rattle.ov_specs.specs.rows.Database.{Database, Row, line_of, object_of, written_column}
 use Rattle.ov_specs.specs.rows.Lines.{LineKey, LineBody, Contents, line_cmp}
-use Rattle.ov_specs.specs.rows.Suits.{Suits, SuitsRow}
+use Rattle.ov_specs.specs.rows.Suits.{SuitsRow}
 use Rattle.ov_specs.specs.schema.SchemaTypes.{Schema}
 use Rattle.ov_specs.specs.values.Uuid.{is_uuid}
 use Rattle.ov_specs.proofs.laws.LineKeys.{key_total, tied_same}
@@ -20,7 +20,7 @@ use Rattle.ov_specs.proofs.laws.Suiting.{no_row_suits, one_row_suits}
 use Rattle.ov_db.specs.Changing.{Delta, applied, SuitsChanges}
 use Rattle.ov_db.specs.Committing.{AreKept, IsHeld, MayHold, MayFind}
 use Rattle.ov_db.specs.Opening.{CanOpen}
-use Rattle.ov_db.specs.Stored.{row_stored, IsBodyRead, IsPutRead, ArePutRead, AllReadBack, KeepsRows}
+use Rattle.ov_db.specs.Stored.{row_stored, IsBodyRead, IsPutRead, ArePutRead, KeepsRows}
 use Rattle.ov_db.proofs.Added.{same}
 use Rattle.ov_db.proofs.Loads.{line_of_stored}
 use Rattle.ov_db.proofs.Places.{Changes, or_before, get-applied}
@@ -115,3 +115,21 @@ read_as_written row body (Err e) is text read = tt
 read_as_written row body (Ok bytes) is text read =
     let shallow : depth body ≤ max_depth = subst (λ (d : Data). depth d ≤ max_depth) (sym is) (body_depth (entries row.columns)) in
     sym (ap (λ (d : Data). tree_of (compact_text d)) is) ∙ sym (ap tree_of text) ∙ read shallow ∙ ap Some is
+
+-- ---- changes of one row
+
+pub no_change_suits : (schema : Schema) → SuitsChanges schema empty
+no_change_suits schema key row h = absurd (no (sym (get-empty line_cmp key) ∙ h))
+  where
+    no : ◌≡◌ {A = Option (Option Row)} None (Some (Some row)) → ⊥
+    no e = cc
+
+pub one_change_suits : (schema : Schema) (key : LineKey) (o : Option Row) → ((row : Row) → o ≡ Some row → SuitsRow schema key row) → SuitsChanges schema (insert empty key o)
+one_change_suits schema key o suits q r h = by (same q key) refl (sym (get-insert key_total empty key o q) ∙ h)
+  where
+    no : ◌≡◌ {A = Option (Option Row)} None (Some (Some r)) → ⊥
+    no e = cc
+
+    by : (b : Bool) → same q key ≡ b → cond b (Some o) (get (empty {K = LineKey} {X = Option Row} {R = line_cmp}) q) ≡ Some (Some r) → SuitsRow schema q r
+    by true tied k = subst (λ (p : LineKey). SuitsRow schema p r) (sym (tied_same q key tied)) (suits r (same_Some o (Some r) k))
+    by false tied k = absurd (no (sym (get-empty line_cmp q) ∙ k))

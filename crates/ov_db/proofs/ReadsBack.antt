@@ -1,26 +1,23 @@
 -- The line of a row of the schema reads back as the row.
-use Rattle.std.proofs.Common.{◌≡◌, ℕ, List, [], ◌∷◌, map, Bool, true, false, cond, ◌&&◌, Option, Some, None, option_map, option_and_then, is_some, if◌then◌else◌, refl, sym, ap, ◌∙◌}
+use Rattle.std.proofs.Common.{◌≡◌, ℕ, List, [], ◌∷◌, map, Bool, true, false, cond, ◌&&◌, Option, Some, None, option_map, option_and_then, is_some, refl, sym, ap, ◌∙◌}
 use Rattle.std.specs.Prelude.{not}
 use Rattle.std.proofs.lemmas.Bool.{and_parts}
-use Rattle.std.proofs.lemmas.Option.{same_Some}
-use Rattle.std.specs.FinMap.{FinMap, empty, get, insert, entries, find, same_map, get-empty, get-insert, get-entries}
-use Rattle.std.specs.Str.{bytes_eq}
+use Rattle.std.specs.FinMap.{empty, get, insert, entries, find, same_map, get-empty, get-insert, get-entries}
 use Rattle.serde_json.specs.Data.{Data}
 use Rattle.serde_json.specs.Find as find
 use Rattle.ov_specs.specs.operations.Operation.{is_own_column, no_names}
 use Rattle.ov_specs.specs.rows.Database.{Columns, Row, Database, line_of, object_of, written_column, AreLinesOf}
-use Rattle.ov_specs.specs.rows.Lines.{LineKey, LineBody, Lines}
+use Rattle.ov_specs.specs.rows.Lines.{LineKey, Lines}
 use Rattle.ov_specs.specs.rows.Suits.{is_value_for, column_of_row, suits_column, SuitsTable, SuitsRow}
 use Rattle.ov_specs.specs.schema.Fitting.{fits}
 use Rattle.ov_specs.specs.schema.SchemaTypes.{Column, Table, Schema, kinds_of, name_cmp}
-use Rattle.ov_specs.specs.values.Reading.{Reads, reads}
+use Rattle.ov_specs.specs.values.Reading.{reads}
 use Rattle.ov_specs.specs.values.Value.{Datum, is_of}
 use Rattle.ov_specs.specs.values.Writing.{tree}
-use Rattle.ov_specs.specs.wire.Message.{tree_of}
 use Rattle.ov_specs.proofs.laws.Bodies.{get-body}
 use Rattle.ov_specs.proofs.laws.Names.{name_cmp_total, name_exact, same_name, same_name-is, EachEntry, each_entry}
 use Rattle.ov_specs.proofs.laws.ReadingBack.{reads-tree}
-use Rattle.ov_db.specs.Stored.{fitting_value, value_stored, columns_stored, stored_as, row_of_columns, row_of_table, row_stored, IsBodyRead, AllReadBack, AreRowsOf}
+use Rattle.ov_db.specs.Stored.{fitting_value, value_stored, columns_stored, row_of_columns, row_of_table, row_stored, IsBodyRead, AllReadBack, AreRowsOf}
 use Rattle.ov_db.proofs.Same.{text-same}
 
 -- ---- one value

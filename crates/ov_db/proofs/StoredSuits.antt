@@ -1,6 +1,6 @@
 -- The row that a line is, is a row of the schema.
-use Rattle.std.proofs.Common.{◌≡◌, ℕ, List, [], ◌∷◌, Bool, true, false, cond, ◌&&◌, ◌||◌, Option, Some, None, option_and_then, refl, sym, ap, subst, ◌∙◌}
-use Rattle.std.specs.Prelude.{Result, Ok, if◌then◌else◌}
+use Rattle.std.proofs.Common.{◌≡◌, ℕ, List, [], ◌∷◌, Bool, true, false, cond, ◌||◌, Option, Some, None, option_and_then, refl, ap, subst, ◌∙◌}
+use Rattle.std.specs.Prelude.{Ok}
 use Rattle.std.proofs.lemmas.Bool.{and_from}
 use Rattle.std.proofs.lemmas.Option.{same_Some}
 use Rattle.std.specs.FinMap.{empty, get, insert, entries, contains_key}
@@ -8,7 +8,7 @@ use Rattle.std.specs.Str.{bytes_eq}
 use Rattle.serde_json.specs.Data.{Data}
 use Rattle.serde_json.specs.Find as find
 use Rattle.ov_specs.specs.operations.Operation.{is_own_column, no_names}
-use Rattle.ov_specs.specs.rows.Database.{Columns, Row, Database, line_of}
+use Rattle.ov_specs.specs.rows.Database.{Columns, Row, line_of}
 use Rattle.ov_specs.specs.rows.Lines.{LineKey, LineBody}
 use Rattle.ov_specs.specs.rows.Suits.{is_value_for, SuitsTable, SuitsRow}
 use Rattle.ov_specs.specs.schema.Fitting.{fits}
@@ -19,10 +19,8 @@ use Rattle.ov_specs.specs.values.Value.{Datum, is_of}
 use Rattle.ov_specs.specs.wire.Message.{tree_of}
 use Rattle.ov_specs.proofs.laws.Names.{each_entry}
 use Rattle.ov_specs.proofs.laws.OfKinds.{reads_is_of}
-use Rattle.ov_specs.proofs.laws.Suiting.{no_row_suits, one_row_suits}
 use Rattle.ov_specs.proofs.laws.SuitingColumns.{no_uuids, IsGiven, column_is, SuitsSoFar, none_suits, one_more_suits, Completes, passed, added, StandIn, complete_suits}
-use Rattle.ov_db.specs.Stored.{fitting_value, value_stored, columns_stored, stored_as, row_of_columns, row_of_table, row_stored, AllReadBack, KeepsRows}
-use Rattle.ov_db.proofs.Loads.{line_of_stored}
+use Rattle.ov_db.specs.Stored.{fitting_value, value_stored, columns_stored, row_of_columns, row_of_table, row_stored}
 
 -- ---- one value
 
