@@ -2,8 +2,8 @@ ghost use Rattle.std.specs.Prelude.{◌≡◌, IfOk, true, option_map, option_an
 ghost use Rattle.serde_json.specs.Find.{as_number, as_str};
 ghost use Rattle.serde_json.specs.View.{view, items_view};
 ghost use Rattle.ov_specs.specs.values.Uuid.{AreUuids};
-ghost use Rattle.ov_specs.specs.values.Value.{has_nul, is_atom_of, is_of};
-ghost use Rattle.ov_specs.specs.values.Reading.{integer_read, without_nul, atom_read, pair_read, each_read, atoms_read, pairs_read, reads};
+ghost use Rattle.ov_specs.specs.values.Value.{has_nul, is_text, is_atom_of, is_of};
+ghost use Rattle.ov_specs.specs.values.Reading.{integer_read, text_read, atom_read, pair_read, each_read, atoms_read, pairs_read, reads};
 ghost use Rattle.ov_atoms.specs.Views.{kind_view, kinds_view, atom_view, pair_view, atoms_view, pairs_view};
 ghost use Rattle.ov_atoms.specs.Answers.{IsAnswer, reading_of};
 
@@ -30,15 +30,22 @@ fn integer_of(tree: &Value) -> Option<i64>
 
 /// The text of an atom.
 fn text_of(alloc: Global, tree: &Value) -> Result<Option<Text>, AllocError>
-    ensures { IfOk result (λ o. o ≡ option_and_then without_nul (as_str (view tree.now))) }
+    ensures { IfOk result (λ o. o ≡ option_and_then text_read (as_str (view tree.now))) }
 {
     let Some(text) = tree.as_str() else {
         return Ok(None);
     };
-    if has_nul(text.as_bytes()) {
+    if !is_text(text) {
         return Ok(None);
     }
     Ok(Some(Text::from_str(alloc, text)?))
+}
+
+/// Whether an atom may hold the text, which is UTF-8 by its type.
+fn is_text(text: &str) -> bool
+    ensures { result ≡ is_text text.now }
+{
+    !has_nul(text.as_bytes())
 }
 
 fn has_nul(bytes: &[u8]) -> bool

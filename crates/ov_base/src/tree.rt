@@ -1,6 +1,9 @@
-ghost use Rattle.std.specs.Prelude.{◌≡◌, IfOk, false};
+ghost use Rattle.std.specs.Prelude.{◌≡◌, ◌≤◌, IfOk, Some, false};
+ghost use Rattle.serde_json.specs.Data.{depth};
+ghost use Rattle.serde_json.specs.Read.{max_depth};
 ghost use Rattle.serde_json.specs.Written.{compact_text};
 ghost use Rattle.serde_json.specs.View.{view};
+ghost use Rattle.ov_specs.specs.wire.Message.{tree_of};
 ghost use Rattle.ov_specs.specs.wire.Tree.{has_real};
 
 use crate::bytes::Bytes;
@@ -39,9 +42,11 @@ impl Tree {
         Tree { value }
     }
 
-    /// The text that is sent: compact, with the members of each object in ascending order of their names' bytes.
+    /// The text that is sent: compact, with the members of each object in ascending order of their names' bytes. Where the
+    /// tree nests at most 127 deep, it reads back as the tree.
     pub fn to_bytes(&self, alloc: Global) -> Result<Bytes, AllocError>
-        ensures { IfOk result (λ b. b ≡ compact_text self.now) }
+        ensures text { IfOk result (λ b. b ≡ compact_text self.now) }
+        ensures reads_back { depth self.now ≤ max_depth → IfOk result (λ b. tree_of b ≡ Some self.now) }
     {
         Ok(Bytes::from_vec(self.value.to_vec(alloc)?))
     }

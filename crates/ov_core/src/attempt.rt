@@ -2,6 +2,7 @@ ghost use Rattle.std.specs.Prelude.{◌≡◌, ◌≤◌, Some, None};
 ghost use Rattle.serde_json.specs.Data.{array};
 ghost use Rattle.ov_specs.specs.wire.Frame.{frame, reply_tree};
 ghost use Rattle.ov_specs.specs.operations.Transaction.{failed_results as refused};
+ghost use Rattle.ov_db.specs.Changing.{SuitsChanges};
 ghost use Rattle.ov_core.specs.Handling.{AsksStore, IsAttempt, CommitsWithReply, PostsIfRoom};
 
 use crate::event::Outcome;
@@ -28,6 +29,7 @@ pub(crate) fn attempt<K: Keeper + Drop>(
     ensures asks { AsksStore K.failed result db.old db.new }
     ensures counts { K.failed db.old.keeper ≤ K.failed db.new.keeper }
 {
+    db.kept();
     let Ok(performed) = perform(alloc, db.schema(), db.rows(), draws, operations) else {
         return Some(Outcome::NoMemory);
     };
@@ -86,7 +88,8 @@ fn commit<K: Keeper + Drop>(
     frames: Frames,
     delta: Delta,
 ) -> Option<Outcome>
-    requires { db.old.sealed ≡ None }
+    requires unsealed { db.old.sealed ≡ None }
+    requires suits { SuitsChanges db.old.schema delta }
     ensures commits { CommitsWithReply session frames delta db.old outbox.old result db.new outbox.new }
     ensures asks { AsksStore K.failed result db.old db.new }
     ensures counts { K.failed db.old.keeper ≤ K.failed db.new.keeper }

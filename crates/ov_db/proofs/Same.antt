@@ -25,7 +25,7 @@ pointwise-length f (x ∷ xs) (y ∷ ys) h =
 number-same : (n : ℕ) → nat_eq n n ≡ true
 number-same n = nat_eq_equiv.refl n
 
-text-same : (bytes : List ℕ) → bytes_eq bytes bytes ≡ true
+pub text-same : (bytes : List ℕ) → bytes_eq bytes bytes ≡ true
 text-same bytes = pointwise-same nat_eq number-same bytes
 
 atom-same : (a : Atom) → same_atom a a ≡ true

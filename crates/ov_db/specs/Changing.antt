@@ -1,8 +1,10 @@
 -- Changes of a database by their keys, and the database after them.
-use Rattle.std.specs.Prelude.{List, [], ◌∷◌, Option, Some, None}
-use Rattle.std.specs.FinMap.{FinMap, insert, remove, entries}
+use Rattle.std.specs.Prelude.{◌≡◌, List, [], ◌∷◌, Option, Some, None}
+use Rattle.std.specs.FinMap.{FinMap, get, insert, remove, entries}
 use Rattle.ov_specs.specs.rows.Database.{Database, Row, line_of}
 use Rattle.ov_specs.specs.rows.Lines.{LineKey, LineChange, Put, Remove, line_cmp}
+use Rattle.ov_specs.specs.rows.Suits.{SuitsRow}
+use Rattle.ov_specs.specs.schema.SchemaTypes.{Schema}
 
 -- at each key the new row, or none in its place (own)
 abbrev pub Delta : Type 0
@@ -26,3 +28,7 @@ applied delta database = with_rows (entries delta) database
 abbrev pub change_of : LineKey × Option Row → LineChange
 change_of (key, Some row) = Put key (line_of row)
 change_of (key, None) = Remove key
+
+-- each row that the changes put is a row of the schema (own)
+abbrev pub SuitsChanges : Schema → Delta → Type 0
+SuitsChanges schema delta = (key : LineKey) (row : Row) → get delta key ≡ Some (Some row) → SuitsRow schema key row

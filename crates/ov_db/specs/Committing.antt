@@ -6,6 +6,9 @@ use Rattle.ov_db.specs.declared.answer.StoreAnswer.{StoreAnswer}
 use Rattle.ov_db.specs.declared.answer.StoreAnswer.TheVariants.{Kept, Exhausted, Failed}
 use Rattle.ov_db.specs.Changing.{Delta, applied}
 use Rattle.ov_db.specs.KeptDatabase as kept
+use Rattle.ov_db.specs.Opening.{CanOpen}
+use Rattle.ov_db.specs.Stored.{KeepsRows}
+use Rattle.ov_specs.specs.schema.SchemaTypes.{Schema}
 
 -- Kept, the changes are made; exhausted, nothing is changed; failed, what they would have made is sealed. The keeper may be
 -- another after each of them (own).
@@ -21,3 +24,13 @@ IsHeld text committed sealed held = (held.schema ≡ text) × (AreLinesOf commit
 -- whatever an open may now find is held of the database (own)
 abbrev pub MayHold : (Contents → Type 0) → List ℕ → Database → Option Database → Type 0
 MayHold leaves text committed sealed = (held : Contents) → leaves held → IsHeld text committed sealed held
+
+-- the committed rows, and those that a failed commit would have made, are rows of the schema that read back (own)
+pub record AreKept (schema : Schema) (committed : Database) (sealed : Option Database) : Type 0 where
+  pub committed_kept : KeepsRows schema committed
+  pub sealed_kept : (database : Database) → sealed ≡ Some database → KeepsRows schema database
+
+-- Whatever an open may now find are the committed rows, or those of the commit that failed: the text of the schema, and lines
+-- that read back as them (own).
+abbrev pub MayFind : (Contents → Type 0) → Schema → Database → Option Database → Type 0
+MayFind leaves schema committed sealed = (held : Contents) → leaves held → CanOpen schema committed held ⊎ ((database : Database) × (sealed ≡ Some database) × CanOpen schema database held)

@@ -1,9 +1,10 @@
 -- Which stored lines are rows under a schema, and the rows that they are (own).
-use Rattle.std.specs.Prelude.{◌≡◌, ℕ, List, [], ◌∷◌, if◌then◌else◌, Option, Some, None, option_and_then, option_map}
+use Rattle.std.specs.Prelude.{◌≡◌, ℕ, List, [], ◌∷◌, map, if◌then◌else◌, Option, Some, None, option_and_then, option_map}
 use Rattle.std.specs.FinMap.{empty, get, insert, entries}
 use Rattle.serde_json.specs.Data.{Data}
 use Rattle.serde_json.specs.Find as find
-use Rattle.ov_specs.specs.rows.Database.{Columns, Row, Database, line_of}
+use Rattle.ov_specs.specs.rows.Database.{Columns, Row, Database, line_of, object_of, written_column}
+use Rattle.ov_specs.specs.rows.Suits.{Suits}
 use Rattle.ov_specs.specs.schema.Fitting.{fits}
 use Rattle.ov_specs.specs.rows.Lines.{LineKey, LineBody, Lines}
 use Rattle.ov_specs.specs.wire.Message.{tree_of}
@@ -47,6 +48,29 @@ row_of_table table line = option_and_then (λ body. option_and_then (row_of_colu
 -- not even a space.
 abbrev pub row_stored : Schema → LineKey → LineBody → Option Row
 row_stored schema key line = option_and_then (λ table. row_of_table table line) (get schema.tables key.0)
+
+-- the body of the row's line reads as what was written
+abbrev pub IsBodyRead : Row → Type 0
+IsBodyRead row = tree_of (line_of row).1 ≡ Some (object_of (map written_column (entries row.columns)))
+
+-- the body of the row that a change puts, if it puts one, reads as what was written
+abbrev pub IsPutRead : Option Row → Type 0
+IsPutRead None = Unit {0}
+IsPutRead (Some row) = IsBodyRead row
+
+-- so do the bodies of all rows that these changes put
+abbrev pub ArePutRead : List (LineKey × Option Row) → Type 0
+ArePutRead [] = Unit {0}
+ArePutRead (change ∷ changes) = IsPutRead change.1 × ArePutRead changes
+
+-- each row of the database is what its line reads back as
+abbrev pub AllReadBack : Schema → Database → Type 0
+AllReadBack schema database = (key : LineKey) (row : Row) → get database key ≡ Some row → row_stored schema key (line_of row) ≡ Some row
+
+-- each row of the database is a row of the schema, and what its line reads back as
+pub record KeepsRows (schema : Schema) (database : Database) : Type 0 where
+  pub suits : Suits schema database
+  pub read_back : AllReadBack schema database
 
 -- the database has the row that each line is, and no other
 abbrev pub AreRowsOf : Schema → Lines → Database → Type 0

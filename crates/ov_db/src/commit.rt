@@ -7,23 +7,33 @@ ghost use Rattle.ov_keeper.specs.Views.{changes_view, change_view, line_entry};
 ghost use Rattle.ov_db.specs.Adding.{without_rows};
 ghost use Rattle.ov_db.specs.Changing.{applied, change_of, with_row};
 ghost use Rattle.ov_db.specs.Placing.{IsPlaced, IsSameBeside};
+ghost use Rattle.ov_db.specs.Stored.{IsBodyRead, IsPutRead, ArePutRead};
 
 use crate::delta::Delta;
-use ov_base::Text;
+use ov_base::{Bytes, Text};
 use ov_keeper::{Change, Line};
 use ov_rows::{Columns, Row, RowKey, Rows};
 use std::alloc::{AllocError, Global};
 use uuid::Uuid;
 
+/// The body of the line that stores a row: it reads back as what is written.
+fn body_of(alloc: Global, row: &Row) -> Result<Bytes, AllocError>
+    ensures body { IfOk result (λ body. body ≡ (line_of row.now).1) }
+    ensures read { IfOk result (λ body. IsBodyRead row.now) }
+{
+    row.columns.tree(alloc)?.to_bytes(alloc)
+}
+
 /// The line that stores a row.
 fn line_of(alloc: Global, key: &RowKey, row: &Row) -> Result<Line, AllocError>
-    ensures { IfOk result (λ line. line_entry line ≡ (key.now, line_of row.now)) }
+    ensures line { IfOk result (λ line. line_entry line ≡ (key.now, line_of row.now)) }
+    ensures read { IfOk result (λ line. IsBodyRead row.now) }
 {
     Ok(Line {
         table: Text::from_str(alloc, key.table())?,
         id: key.id(),
         version: row.version,
-        body: row.columns.tree(alloc)?.to_bytes(alloc)?,
+        body: body_of(alloc, row)?,
     })
 }
 
@@ -38,7 +48,8 @@ fn remove_of(alloc: Global, key: &RowKey) -> Result<Change, AllocError>
 
 /// What a change of a row makes of its line.
 fn change_of(alloc: Global, key: &RowKey, row: &Option<Row>) -> Result<Change, AllocError>
-    ensures { IfOk result (λ change. change_view change ≡ change_of (key.now, row.now)) }
+    ensures change { IfOk result (λ change. change_view change ≡ change_of (key.now, row.now)) }
+    ensures read { IfOk result (λ change. IsPutRead row.now) }
 {
     match row {
         Some(row) => Ok(Change::Put(line_of(alloc, key, row)?)),
@@ -46,9 +57,10 @@ fn change_of(alloc: Global, key: &RowKey, row: &Option<Row>) -> Result<Change, A
     }
 }
 
-/// What the changes of rows make of the lines.
+/// What the changes of rows make of the lines: each row that is put reads back.
 pub(crate) fn changes_of(alloc: Global, delta: &Delta) -> Result<Vec<Change>, AllocError>
-    ensures { IfOk result (λ changes. changes_view changes.items ≡ map change_of (entries delta.now)) }
+    ensures changes { IfOk result (λ changes. changes_view changes.items ≡ map change_of (entries delta.now)) }
+    ensures read { IfOk result (λ changes. ArePutRead (entries delta.now)) }
 {
     let mut changes = Vec::new(alloc);
     for (key, row) in delta.map() {

@@ -6,7 +6,8 @@ ghost use Rattle.ov_specs.specs.rows.Lines.{Contents};
 ghost use Rattle.std.specs.Str.{bytes_eq};
 ghost use Rattle.ov_keeper.specs.Keeping.{LeavesNoMore, HasFailed};
 ghost use Rattle.ov_keeper.specs.declared.fault.KeepFault.TheVariants.{Device};
-ghost use Rattle.ov_db.specs.Committing.{Commits, MayHold};
+ghost use Rattle.ov_db.specs.Changing.{SuitsChanges};
+ghost use Rattle.ov_db.specs.Committing.{AreKept, Commits, MayFind, MayHold};
 ghost use Rattle.ov_db.specs.Opening.{CanOpen, IsOpenFault, RefusesOpen};
 ghost use Rattle.ov_db.specs.declared.answer.StoreAnswer.TheVariants.{Kept, Failed};
 ghost use Rattle.ov_db.specs.declared.fault.OpenFault.TheVariants.{Keeping};
@@ -41,7 +42,7 @@ impl<K: Keeper> Model for Db<K> {
     ghost use Rattle.serde_json.specs.Written.{compact_text};
     ghost use Rattle.ov_specs.specs.codes.SchemaCode.{schema_code};
     ghost use Rattle.ov_db.specs.Changing.{applied};
-    ghost use Rattle.ov_db.specs.Committing.{MayHold};
+    ghost use Rattle.ov_db.specs.Committing.{MayHold, AreKept};
     ghost use Rattle.ov_db.specs.KeptDatabase.{KeptDatabase};
     ghost use Rattle.ov_rows.specs.Resident.{database_code};
 
@@ -51,7 +52,8 @@ impl<K: Keeper> Model for Db<K> {
 
     ghost view = { λ d. record { schema = d.schema; committed = d.rows; sealed = option_map (λ delta. applied delta d.rows) d.failed; keeper = d.keeper } };
 
-    ghost invariant = { λ d. K.Keeper.is_honest d.keeper → MayHold (K.Keeper.leaves d.keeper) (compact_text d.schema.tree) d.rows (option_map (λ delta. applied delta d.rows) d.failed) };
+    ghost invariant = { λ d. (K.Keeper.is_honest d.keeper → MayHold (K.Keeper.leaves d.keeper) (compact_text d.schema.tree) d.rows (option_map (λ delta. applied delta d.rows) d.failed))
+        × AreKept d.schema d.rows (option_map (λ delta. applied delta d.rows) d.failed) };
 }
 
 impl<K: Keeper + Drop> Db<K> {
@@ -141,17 +143,27 @@ impl<K: Keeper + Drop> Db<K> {
 
     /// What a crash now leaves. It does nothing.
     pub fn left(&self)
-        ensures { K.is_honest self.now.keeper → MayHold (K.leaves self.now.keeper) (compact_text self.now.schema.tree) self.now.committed self.now.sealed }
+        ensures held { K.is_honest self.now.keeper → MayHold (K.leaves self.now.keeper) (compact_text self.now.schema.tree) self.now.committed self.now.sealed }
+        ensures found { K.is_honest self.now.keeper → MayFind (K.leaves self.now.keeper) self.now.schema self.now.committed self.now.sealed }
     {
         let _keeper = &self.keeper;
     }
 
-    /// Makes the changes, all of them or none, by one call of the keeper.
+    /// Tells contracts that each row is a row of the schema, and is what its line reads back as; so are the rows that a commit
+    /// that failed would have left. It does nothing.
+    pub fn kept(&self)
+        ensures { AreKept self.now.schema self.now.committed self.now.sealed }
+    {
+        let _rows = &self.rows;
+    }
+
+    /// Makes the changes, all of them or none, by one call of the keeper. Each row that they put is a row of the schema.
     ///
     /// Where the answer is not `Kept`, the rows stay as they are. After `Failed` the database is sealed: what the commit would
     /// have made is kept beside the rows, and each later commit is answered `Failed` without a call of the keeper. Without a
     /// change the answer is `Kept`, and the keeper is not called either. No memory is taken once the keeper was called.
     pub fn commit(&mut self, alloc: Global, delta: Delta) -> StoreAnswer
+        requires { SuitsChanges self.old.schema delta }
         ensures commits { self.old.sealed ≡ None → Commits delta self.old result self.new }
         ensures sealed { is_some self.old.sealed ≡ true → (result ≡ Failed) × (self.new ≡ self.old) }
         ensures empty { self.old.sealed ≡ None → (len delta == 0) ≡ true → (result ≡ Kept) × (self.new ≡ self.old) }
@@ -171,7 +183,8 @@ impl<K: Keeper + Drop> Db<K> {
 
     /// A commit of changes to a database that is not sealed.
     fn commit_changes(&mut self, alloc: Global, delta: Delta) -> StoreAnswer
-        requires { self.old.sealed ≡ None }
+        requires unsealed { self.old.sealed ≡ None }
+        requires suits { SuitsChanges self.old.schema delta }
         ensures commits { Commits delta self.old result self.new }
         ensures cause { result ≡ Failed → HasFailed (K.failed self.old.keeper) (K.failed self.new.keeper) }
         ensures counts { K.failed self.old.keeper ≤ K.failed self.new.keeper }

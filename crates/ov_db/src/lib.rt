@@ -17,3 +17,4 @@ pub use db::Db;
 pub use delta::Delta;
 pub use fault::{OpenFault, RefusedOpen};
 pub use ov_keeper::{Keeper, ListKeeper};
+pub use read::row_of;

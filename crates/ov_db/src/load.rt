@@ -6,10 +6,12 @@ ghost use Rattle.ov_keeper.specs.declared.fault.KeepFault.TheVariants.{Device};
 ghost use Rattle.ov_keeper.specs.Views.{line_entry};
 ghost use Rattle.ov_db.specs.Loading.{IsNotLoaded, IsLoaded, with_line, with_lines};
 ghost use Rattle.ov_db.specs.Opening.{CanOpen, IsOpenFault, IsOwnFault, RefusesOpen};
+ghost use Rattle.ov_db.specs.Stored.{KeepsRows};
 ghost use Rattle.ov_db.specs.declared.fault.OpenFault.TheVariants.{Keeping};
 
 use crate::fault::OpenFault;
 use crate::read::row_of;
+use ov_atoms::has_sixteen_bytes;
 use ov_keeper::{KeepFault, Keeper, Line, Loaded};
 use ov_rows::{RowKey, Rows};
 use ov_schema::Schema;
@@ -21,6 +23,7 @@ pub(crate) fn load_rows<K: Keeper>(
     keeper: &mut K,
     schema: &Schema,
 ) -> Result<Rows, OpenFault>
+    ensures kept { IfOk result (KeepsRows schema.now) }
     ensures ok { K.is_honest keeper.new → IfOk result (λ rows. (held : Contents) → K.leaves keeper.old held → CanOpen schema.now rows held) }
     ensures err { K.is_honest keeper.new → IfErr result (λ fault. (held : Contents) → K.leaves keeper.old held → RefusesOpen schema.now held fault) }
     ensures kinds { IfErr result IsOpenFault }
@@ -34,6 +37,7 @@ pub(crate) fn load_rows<K: Keeper>(
 
 /// The rows of what a keeper holds, where that can be opened under the schema: else the first cause why it can't.
 fn rows_of(alloc: Global, schema: &Schema, loaded: &Loaded) -> Result<Rows, OpenFault>
+    ensures kept { IfOk result (KeepsRows schema.now) }
     ensures ok { IfOk result (λ rows. CanOpen schema.now rows (loaded_contents loaded.now)) }
     ensures err { IfErr result (RefusesOpen schema.now (loaded_contents loaded.now)) }
     ensures kinds { IfErr result IsOwnFault }
@@ -47,7 +51,8 @@ fn rows_of(alloc: Global, schema: &Schema, loaded: &Loaded) -> Result<Rows, Open
 
 /// The rows that the lines are. Of two lines with one key the first counts.
 fn rows_of_lines(alloc: Global, schema: &Schema, lines: &[Line]) -> Result<Rows, OpenFault>
-    ensures { IsLoaded (λ rows. rows) (with_lines schema.now (map line_entry lines.now) empty) result }
+    ensures loaded { IsLoaded (λ rows. rows) (with_lines schema.now (map line_entry lines.now) empty) result }
+    ensures kept { IfOk result (KeepsRows schema.now) }
 {
     let mut rows = Rows::new(alloc);
     for line in lines {
@@ -59,6 +64,7 @@ fn rows_of_lines(alloc: Global, schema: &Schema, lines: &[Line]) -> Result<Rows,
 /// Adds the row that a line is, where there is none of its key yet.
 fn add_line(alloc: Global, schema: &Schema, line: &Line, rows: &mut Rows) -> Result<(), OpenFault>
     ensures ok { OnOk result (with_line schema.now (line_entry line.now) rows.old ≡ Some rows.new) }
+    ensures kept { KeepsRows schema.now rows.old → OnOk result (KeepsRows schema.now rows.new) }
     ensures err { IfErr result (IsNotLoaded (with_line schema.now (line_entry line.now) rows.old)) }
 {
     let key = RowKey::new(alloc, line.table.as_str(), line.id)?;
@@ -69,6 +75,8 @@ fn add_line(alloc: Global, schema: &Schema, line: &Line, rows: &mut Rows) -> Res
         Ok(row) => row,
         Err(fault) => return Err(fault),
     };
+    has_sixteen_bytes(&line.id);
+    has_sixteen_bytes(&line.version);
     rows.insert(key, row)?;
     Ok(())
 }

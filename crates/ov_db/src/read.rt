@@ -17,7 +17,7 @@ use std::alloc::Global;
 
 /// The row that a stored line is. It is refused as `BadBody` where its table is none of the schema's, where its body has not
 /// for each column a value that fits, and where the row is stored as other bytes than these, be it by a space.
-pub(crate) fn row_of(alloc: Global, schema: &Schema, line: &Line) -> Result<Row, OpenFault>
+pub fn row_of(alloc: Global, schema: &Schema, line: &Line) -> Result<Row, OpenFault>
     ensures { IsLoaded (λ row. row) (row_stored schema.now (line_entry line.now).0 (line_entry line.now).1) result }
 {
     match schema.table(line.table.as_str()) {

@@ -1,14 +1,17 @@
 //! Laws of the definitions. Each function has an empty body, and its contract is a law.
 #![tactic(auto)]
 
+ghost use Rattle.std.specs.List.{list_all};
 ghost use Rattle.std.specs.Prelude.{◌≡◌, ◌↔◌, ◌++◌, ◌-◌, ℕ, List, [], Option, Some, None, true, length};
 ghost use Rattle.serde_json.specs.Data.{Data, Items};
 ghost use Rattle.ov_specs.specs.wire.Cut.{Cut, cut, cut_from, IsCut, continue_cut, with_messages, max_message};
 ghost use Rattle.ov_specs.specs.wire.Message.{asked};
-ghost use Rattle.ov_specs.specs.machine.Machine.{State, Entry, Stepped, Outcome, Transact, works, to_session, results_of, opening};
+ghost use Rattle.ov_specs.specs.machine.Machine.{State, Entry, Stepped, Outcome, Transact, step, works, to_session, results_of, opening};
+ghost use Rattle.ov_specs.specs.machine.Suiting.{SuitsState, draws_uuids};
+ghost use Rattle.ov_specs.specs.rows.Suits.{Suits};
 ghost use Rattle.ov_specs.specs.schema.SchemaTypes.{Schema};
 ghost use Rattle.ov_specs.specs.rows.Database.{Database};
-ghost use Rattle.ov_specs.specs.machine.History.{requests, closed_by};
+ghost use Rattle.ov_specs.specs.machine.History.{run, requests, closed_by};
 ghost use Rattle.ov_specs.specs.machine.Streams.{StreamEvent, Streams, no_streams, ExpandsTimed};
 ghost use Rattle.ov_specs.specs.values.Uuid.{Uuid};
 ghost use Rattle.ov_laws.specs.Refused.{has_error};
@@ -43,4 +46,14 @@ pub fn a_refused_transaction_changes_nothing()
     ensures { (s : State) (session : ℕ) (draws : List Uuid) (outcome : Option Outcome) (id : Data) (operations results : Items) (stepped : Stepped)
         → works s session draws outcome (Transact id operations) ≡ Some stepped
         → stepped.sent ≡ to_session session (results_of id results) → has_error results ≡ true → stepped.state.database ≡ s.database }
+{}
+
+/// Where what is drawn are identifiers, each step of the machine keeps the schema, and the rows those of the schema; so does
+/// each run from an opening.
+pub fn rows_stay_those_of_the_schema()
+    ensures step { (s : State) (entry : Entry) (stepped : Stepped) → step s entry ≡ Some stepped → draws_uuids entry ≡ true → SuitsState s
+        → (stepped.state.schema ≡ s.schema) × SuitsState stepped.state }
+    ensures run { (schema : Schema) (database : Database) (history : List Entry) (stepped : Stepped)
+        → run (opening schema database) history ≡ Some stepped → list_all draws_uuids history ≡ true → Suits schema database
+        → (stepped.state.schema ≡ schema) × SuitsState stepped.state }
 {}

@@ -13,3 +13,8 @@ pub mod Expanding
 pub mod Turns
 pub mod LineKeys
 pub mod Truths
+pub mod Names
+pub mod SuitingColumns
+pub mod Suiting
+pub mod Nesting
+pub mod Bodies

@@ -1,3 +1,4 @@
 pub mod Machine
 pub mod History
 pub mod Streams
+pub mod Suiting

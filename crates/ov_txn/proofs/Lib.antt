@@ -7,3 +7,4 @@ pub mod Repeats
 pub mod Performing
 pub mod Stages
 pub mod Merging
+pub mod Suiting

@@ -1,10 +1,12 @@
-ghost use Rattle.std.specs.Prelude.{◌≡◌, length, IfOk, OnErr};
+ghost use Rattle.std.specs.Prelude.{◌≡◌, length, true, IfOk, OnErr};
+ghost use Rattle.std.specs.List.{list_all};
 ghost use Rattle.serde_json.specs.View.{view, items_view};
 ghost use Rattle.ov_specs.specs.operations.Transaction.{is_insert, insert_count, draws_wanted};
-ghost use Rattle.ov_specs.specs.values.Uuid.{Uuid as Bytes16};
+ghost use Rattle.ov_specs.specs.values.Uuid.{Uuid as Bytes16, is_uuid};
 ghost use Rattle.ov_txn.specs.Drawing.{DrawsFrom};
 
 use crate::member::text_at;
+use ov_atoms::has_sixteen_bytes;
 use ov_base::Trees;
 use serde_json::Value;
 use std::alloc::{AllocError, Global};
@@ -61,4 +63,13 @@ pub fn draws_for<D: Draws>(
         draws.push_reserved(source.draw());
     }
     Ok(draws)
+}
+
+/// Tells contracts that each of the draws has sixteen bytes (RFC 4122, 4.1.2). It is compiled away.
+pub(crate) fn are_uuids(draws: &[Uuid])
+    ensures { list_all is_uuid draws.now ≡ true }
+{
+    for draw in draws {
+        has_sixteen_bytes(draw);
+    }
 }

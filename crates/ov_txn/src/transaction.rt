@@ -1,13 +1,15 @@
 ghost use Rattle.std.specs.Prelude.{◌≡◌, ◌==◌, IfOk};
 ghost use Rattle.std.specs.FinMap.{empty, len};
 ghost use Rattle.serde_json.specs.View.{items_view};
-ghost use Rattle.ov_db.specs.Changing.{applied};
+ghost use Rattle.ov_db.specs.Changing.{applied, SuitsChanges};
 ghost use Rattle.ov_specs.specs.rows.Database.{same_database};
+ghost use Rattle.ov_specs.specs.rows.Suits.{Suits};
 ghost use Rattle.ov_specs.specs.operations.Errors as spec;
 ghost use Rattle.ov_specs.specs.operations.Transaction.{and_item, transaction};
 ghost use Rattle.ov_txn.specs.Errors.{error_view};
 ghost use Rattle.ov_txn.specs.Results.{nulls_after};
 
+use crate::draws::are_uuids;
 use crate::fault::{OpError, OpFault};
 use crate::operation::operate;
 use crate::results::{Results, error_tree};
@@ -48,11 +50,8 @@ fn refused(
     })
 }
 
-/// One transaction on the rows, which are not touched: the operations in order, each on the rows that those before it left
-/// (RFC 7047, 4.1.3). The first draw is the version of the rows that it changes, the others are the identifiers of those
-/// that it inserts. What it would change is the delta, which is empty where that is nothing. After an operation that is
-/// refused the results are null, and the delta is empty.
-pub fn perform(
+/// The operations of a transaction in order.
+fn perform_operations(
     alloc: Global,
     schema: &Schema,
     rows: &Rows,
@@ -89,4 +88,24 @@ pub fn perform(
         results: results.into_trees(),
         delta: stage.into_delta(),
     })
+}
+
+/// One transaction on the rows, which are not touched: the operations in order, each on the rows that those before it left
+/// (RFC 7047, 4.1.3). The first draw is the version of the rows that it changes, the others are the identifiers of those
+/// that it inserts. What it would change is the delta, which is empty where that is nothing. After an operation that is
+/// refused the results are null, and the delta is empty. From rows of the schema only rows of the schema are made.
+pub fn perform(
+    alloc: Global,
+    schema: &Schema,
+    rows: &Rows,
+    draws: &[Uuid],
+    operations: &Trees,
+) -> Result<Performed, AllocError>
+    ensures results { IfOk result (λ p. p.results ≡ (transaction schema.now rows.now draws.now operations.now).results) }
+    ensures delta { IfOk result (λ p. applied p.delta rows.now ≡ (transaction schema.now rows.now draws.now operations.now).database) }
+    ensures least { IfOk result (λ p. (len p.delta == 0) ≡ same_database rows.now (transaction schema.now rows.now draws.now operations.now).database) }
+    ensures suits { Suits schema.now rows.now → IfOk result (λ p. SuitsChanges schema.now p.delta) }
+{
+    are_uuids(draws);
+    perform_operations(alloc, schema, rows, draws, operations)
 }

@@ -1,10 +1,16 @@
+ghost use Rattle.std.specs.Prelude.{IfOk};
+ghost use Rattle.ov_db.specs.Changing.{SuitsChanges};
+
 use crate::rows::key_of;
 use ov_db::{Db, Delta, StoreAnswer};
+use ov_keeper::Line;
 use ov_rows::{Row, RowKey};
-use std::alloc::{AllocError, Global};
+use ov_schema::Schema;
+use std::alloc::Global;
 use std::test::Fail;
 use test_support::{
-    Faults, NetKeeper, Scripted, agrees, compact, follows, net, net_keeper, switch,
+    Faults, NetKeeper, Scripted, agrees, compact, follows, line_of, net, net_keeper, no_changes,
+    put_line, remove_row,
 };
 use uuid::Uuid;
 
@@ -22,25 +28,29 @@ fn opened(alloc: Global, keeper: NetKeeper) -> Result<Db<NetKeeper>, Fail> {
     Ok(Db::open(alloc, keeper, net(alloc)?)?)
 }
 
-/// The change of one switch.
-fn change_of(alloc: Global, number: u128, row: Option<Row>) -> Result<Delta, AllocError> {
-    let key = RowKey::new(alloc, "Switch", Uuid::from_u128(number))?;
-    let mut delta = Delta::new(alloc);
-    delta.insert(key, row)?;
-    Ok(delta)
+/// The line of a switch of this number and name.
+fn line_of_switch(alloc: Global, put: &str) -> Result<Line, Fail> {
+    let (number, name) = put.split_once(" ").ok_or("no name")?;
+    let body =
+        format!(in alloc; "{{\"load\":4,\"main\":[\"set\",[]],\"name\":\"{name}\",\"ports\":[\"set\",[]]}}")?;
+    let text = format!(in alloc; "Switch {number} 1 {body}")?;
+    line_of(alloc, text.as_str())
 }
 
 /// The change that puts a switch of this name.
-fn put_of(alloc: Global, put: &str) -> Result<Delta, Fail> {
-    let (number, name) = put.split_once(" ").ok_or("no name")?;
-    let number = number.parse::<u128>()?;
-    let row = switch(alloc, name, 4)?;
-    Ok(change_of(alloc, number, Some(row))?)
+fn put_of(alloc: Global, schema: &Schema, put: &str) -> Result<Delta, Fail>
+    ensures { IfOk result (SuitsChanges schema.now) }
+{
+    let line = line_of_switch(alloc, put)?;
+    put_line(alloc, schema, &line)
 }
 
 /// The change that removes a switch.
-fn removal_of(alloc: Global, number: &str) -> Result<Delta, Fail> {
-    Ok(change_of(alloc, number.parse::<u128>()?, None)?)
+fn removal_of(alloc: Global, schema: &Schema, number: &str) -> Result<Delta, Fail>
+    ensures { IfOk result (SuitsChanges schema.now) }
+{
+    let id = Uuid::from_u128(number.parse::<u128>()?);
+    remove_row(alloc, schema, "Switch", id)
 }
 
 /// The text of a switch: its number and its body.
@@ -51,13 +61,33 @@ fn text_of(alloc: Global, key: &RowKey, row: &Row) -> Result<String, Fail> {
 }
 
 impl Database {
-    fn commit(&mut self, alloc: Global, delta: Delta) -> Result<String, Fail> {
+    fn commit(&mut self, alloc: Global, delta: Delta) -> Result<String, Fail>
+        requires { SuitsChanges self.old.db.schema delta }
+    {
         let word = match self.db.commit(alloc, delta) {
             StoreAnswer::Kept => "kept",
             StoreAnswer::Exhausted => "exhausted",
             StoreAnswer::Failed => "failed",
         };
         Ok(String::from_str(alloc, word)?)
+    }
+
+    /// Puts a switch.
+    fn put(&mut self, alloc: Global, row: &str) -> Result<String, Fail> {
+        let delta = put_of(alloc, self.db.schema(), row)?;
+        self.commit(alloc, delta)
+    }
+
+    /// Removes a switch.
+    fn remove(&mut self, alloc: Global, number: &str) -> Result<String, Fail> {
+        let delta = removal_of(alloc, self.db.schema(), number)?;
+        self.commit(alloc, delta)
+    }
+
+    /// Commits no change.
+    fn commit_nothing(&mut self, alloc: Global) -> Result<String, Fail> {
+        let delta = no_changes(alloc, self.db.schema());
+        self.commit(alloc, delta)
     }
 
     /// Whether there is a row of a key.
@@ -70,8 +100,8 @@ impl Database {
     /// What comes of a command for one row.
     fn act(&mut self, alloc: Global, word: &str, row: &str) -> Result<String, Fail> {
         match word {
-            "put" => self.commit(alloc, put_of(alloc, row)?),
-            "remove" => self.commit(alloc, removal_of(alloc, row)?),
+            "put" => self.put(alloc, row),
+            "remove" => self.remove(alloc, row),
             _ => self.has_row(alloc, row),
         }
     }
@@ -89,7 +119,7 @@ impl Database {
 impl Scripted for Database {
     fn answer(&mut self, alloc: Global, command: &str) -> Result<String, Fail> {
         match command {
-            "nothing" => self.commit(alloc, Delta::new(alloc)),
+            "nothing" => self.commit_nothing(alloc),
             "rows" => self.switches(alloc),
             "sealed" => Ok(format!(in alloc; "{}", self.db.sealed())?),
             "failures" => Ok(format!(in alloc; "{}", self.db.failures())?),

@@ -1,10 +1,9 @@
-use ov_db::{Db, Delta};
-use ov_keeper::ListKeeper;
+use ov_db::Db;
+use ov_keeper::{Line, ListKeeper};
 use ov_rows::{Row, RowKey, Rows};
-use std::alloc::{AllocError, Global};
+use std::alloc::Global;
 use std::test::Fail;
-use test_support::{NET, Scripted, agrees, keeper_of, net, schema_of_text, switch};
-use uuid::Uuid;
+use test_support::{NET, Scripted, agrees, keeper_of, line_of, net, put_line, schema_of_text};
 
 /// The schema Net in its version 0.
 const NET_0: &str =
@@ -122,26 +121,18 @@ fn another_schema_is_refused(rt: HostRuntime) -> Result<(), Fail> {
     Ok(())
 }
 
-/// The changes that put a switch of this name.
-fn put_switch(alloc: Global, name: &str) -> Result<Delta, AllocError> {
-    let key = RowKey::new(alloc, "Switch", Uuid::from_u128(2))?;
-    let row = switch(alloc, name, 0)?;
-    let mut delta = Delta::new(alloc);
-    delta.insert(key, Some(row))?;
-    Ok(delta)
-}
-
-/// What the keeper holds after changes were committed beside what is opened.
-fn committed(alloc: Global, keeper: ListKeeper, delta: Delta) -> Result<ListKeeper, Fail> {
+/// What the keeper holds after the row of a line was committed beside what is opened.
+fn committed(alloc: Global, keeper: ListKeeper, line: &Line) -> Result<ListKeeper, Fail> {
     let mut db = Db::open(alloc, keeper, net(alloc)?)?;
+    let delta = put_line(alloc, db.schema(), line)?;
     db.commit(alloc, delta);
     Ok(db.into_keeper())
 }
 
-/// What is opened after a switch of this name was put beside these lines.
-fn opened_again(alloc: Global, lines: &str, name: &str) -> Result<String, Fail> {
+/// What is opened after the row of a line was put beside these lines.
+fn opened_again(alloc: Global, lines: &str, line: &str) -> Result<String, Fail> {
     let keeper = keeper_of(alloc, NET, lines)?;
-    let keeper = committed(alloc, keeper, put_switch(alloc, name)?)?;
+    let keeper = committed(alloc, keeper, &line_of(alloc, line)?)?;
     rows_of(alloc, keeper, NET)
 }
 
@@ -149,7 +140,8 @@ fn opened_again(alloc: Global, lines: &str, name: &str) -> Result<String, Fail> 
 #[test]
 fn committed_rows_are_opened_again(rt: HostRuntime) -> Result<(), Fail> {
     let port = r#"Port 3 1 {"name":"p1","peer":["set",[]],"tag":["set",[]]}"#;
-    let told = opened_again(rt.alloc(), port, "s1")?;
+    let switch = r#"Switch 2 1 {"load":0,"main":["set",[]],"name":"s1","ports":["set",[]]}"#;
+    let told = opened_again(rt.alloc(), port, switch)?;
     assert_eq!(rt;
         told.as_str(),
         r#"Port 3 1 {"name":"p1","peer":["set",[]],"tag":["set",[]]}

@@ -4,6 +4,7 @@
 //! What runs a script has no contract, so that a test's own proof stays small.
 #![tactic(auto)]
 
+mod changes;
 mod counter;
 mod failing_keeper;
 mod keepers;
@@ -18,6 +19,7 @@ mod server;
 mod tree_texts;
 mod writers;
 
+pub use changes::{no_changes, put_line, remove_row};
 pub use counter::Counter;
 pub use failing_keeper::FailingKeeper;
 pub use keepers::{Faults, NetKeeper, failing, keeper_of, net_keeper};

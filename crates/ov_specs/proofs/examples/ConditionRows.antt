@@ -1,6 +1,7 @@
 -- Worked conditions. Maps do not compute, so what is looked up in them and what they list is rewritten by their laws. More rows
 -- stand in the tests, in conditions.rt.
 use Rattle.std.proofs.Common.{◌≡◌, ℕ, pos, List, [], ◌∷◌, map, length, true, false, T, Option, Some, None, Result, Ok, Err, option_map, refl, ap, ◌∙◌, codes}
+use Rattle.std.specs.Str.{is_utf8, chars}
 use Rattle.std.specs.Cmp.Lexicographic.{nat_list_cmp_total}
 use Rattle.std.specs.FinMap.{FinMap, get, from_entries, find, keys, len, len-entries, is_sorted, get-from_entries}
 use Rattle.serde_json.specs.Read.{read}
@@ -139,7 +140,7 @@ no_such_column = rw (column_is (codes "nowhere")) refl
 
 -- a part of the value that does not read counts before a clash
 pub unread_before_clash : condition (codes "[\"ids\",\"==\",[\"map\",[[\"a\",1],[\"a\",2],[1,1]]]]") ≡ Some (Err BadCondition)
-unfolding serde_json_on_literals
+unfolding is_utf8 chars serde_json_on_literals
 unread_before_clash = rw (column_is (codes "ids")) refl
 
 -- ---- rows

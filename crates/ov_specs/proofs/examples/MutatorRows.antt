@@ -1,6 +1,7 @@
 -- Worked mutations. Maps do not compute, so what is looked up in them and what they list is rewritten by their laws. More rows
 -- stand in the tests, in mutations.rt.
 use Rattle.std.proofs.Common.{◌≡◌, ◌^◌, ◌-◌, ℕ, ℤ, pos, negsuc, List, [], ◌∷◌, map, length, true, false, T, Option, Some, None, Result, Ok, Err, Bool, cond, option_map, refl, sym, ap, ◌∙◌, codes}
+use Rattle.std.specs.Str.{is_utf8, chars}
 use Rattle.std.specs.Cmp.Lexicographic.{nat_list_cmp_total}
 use Rattle.std.specs.FinMap.{FinMap, get, keys, entries, from_entries, find, len, len-entries, is_sorted, same_map, get-from_entries}
 use Rattle.std.specs.Ordering.{eq_by_cmp}
@@ -171,12 +172,12 @@ unfolding serde_json_on_literals
 reads_plus_of_a_set = rw (column_is (codes "tags")) (rw (keys-set (pos 2 ∷ []) tt) refl)
 
 pub reads_delete_of_one_key : mutation (codes "[\"ids\",\"delete\",\"a\"]") ≡ of_column (codes "ids") (Delete (Atoms (set_of (Text (codes "a") ∷ []))))
-unfolding serde_json_on_literals
+unfolding is_utf8 chars serde_json_on_literals
 reads_delete_of_one_key = rw (column_is (codes "ids")) refl
 
 -- a tree that begins with "map" is tried as a map alone
 pub clash_in_delete : mutation (codes "[\"ids\",\"delete\",[\"map\",[[\"a\",1],[\"a\",5]]]]") ≡ Some (Err Clash)
-unfolding serde_json_on_literals
+unfolding is_utf8 chars serde_json_on_literals
 clash_in_delete = rw (column_is (codes "ids")) refl
 
 -- shape, column, whether that is mutable, mutator and value are looked at in this order

@@ -1,5 +1,6 @@
 -- Worked schemas. More rows stand in the tests, in schemas.rt.
 use Rattle.std.proofs.Common.{◌≡◌, ◌++◌, ℕ, List, [], ◌∷◌, Option, Some, None, false, Result, Ok, Err, option_and_then, option_map, refl, codes}
+use Rattle.std.specs.Str.{is_utf8, chars}
 use Rattle.serde_json.specs.Read.{read}
 use Rattle.serde_json.proofs.OnLiterals.{serde_json_on_literals}
 use Rattle.ov_specs.specs.schema.SchemaTypes.{Schema}
@@ -69,7 +70,7 @@ unfolding serde_json_on_literals
 integers_to_nowhere = refl
 
 pub one_choice : refusal_in (one (codes "{\"key\":{\"type\":\"string\",\"enum\":\"a\"}}") []) ≡ Some None
-unfolding serde_json_on_literals
+unfolding is_utf8 chars serde_json_on_literals
 one_choice = refl
 
 pub index_of_version : refusal_in (one (codes "\"string\"") (codes ",\"indexes\":[[\"_version\"]]")) ≡ Some (Some BadIndex)

@@ -1,6 +1,7 @@
 -- Worked transactions: an insert, a select after it, and one that is refused. Maps do not compute, so what is looked up in
 -- them and what they list is rewritten by their laws.
 use Rattle.std.proofs.Common.{◌≡◌, ℕ, pos, List, [], ◌∷◌, map, true, false, T, Some, None, Ok, refl, sym, ap, ◌∙◌, codes}
+use Rattle.std.specs.Str.{is_utf8, chars}
 use Rattle.std.specs.declared.cmp.Ordering.{Ordering}
 use Rattle.std.specs.Cmp.{IsTotalOrder, on_total, then_total}
 use Rattle.std.specs.Cmp.Lexicographic.{nat_list_cmp_total}
@@ -126,10 +127,14 @@ s1 = record { version = numbered 1; columns = s1_columns }
 abbrev with_s1 : Database
 with_s1 = insert empty (codes "Switch", numbered 2) s1
 
+text-s1 : is_utf8 (codes "s1") ≡ true
+unfolding is_utf8 chars serde_json_on_literals
+text-s1 = refl
+
 s1-given : row_values switch (member (codes "load") (number (unsigned 4)) (member (codes "name") (string (codes "s1")) no_members)) empty ≡ Ok s1_columns
 s1-given =
     rw (load_column, len-one (Integer (pos 4)), entries-one (Integer (pos 4)))
-    (rw (name_column, len-one (Text (codes "s1")), entries-one (Text (codes "s1"))) refl)
+    (rw (name_column, text-s1, len-one (Text (codes "s1")), entries-one (Text (codes "s1"))) refl)
 
 load-given : get s1_columns (codes "load") ≡ Some (one (Integer (pos 4)))
 load-given =

@@ -1,5 +1,6 @@
 -- Worked values, by computation and by the laws of sets. More rows stand in the tests, in atoms.rt.
 use Rattle.std.proofs.Common.{◌≡◌, ℕ, pos, nat_eq, List, [], ◌∷◌, ◌++◌, map, if◌then◌else◌, T, Option, Some, None, option_map, refl, ap, ◌∙◌, append-nil, codes}
+use Rattle.std.specs.Str.{is_utf8, chars}
 use Rattle.std.specs.Cmp.Lexicographic.{pointwise}
 use Rattle.std.specs.FinMap.{keys, is_sorted}
 use Rattle.std.specs.BTreeSet.{insert_key}
@@ -92,7 +93,7 @@ one_written = ap (λ atoms. Some (set_tree atoms)) (keys-in_order (Integer (pos 
 
 -- one key with two values
 pub two_values : value_in (Pair Texts Integers) (codes "[\"map\",[[\"a\",1],[\"a\",2]]]") ≡ Some Clashing
-unfolding serde_json_on_literals
+unfolding is_utf8 chars serde_json_on_literals
 two_values = refl
 
 -- equal pairs are no clash, and merge
@@ -100,7 +101,7 @@ abbrev one : Atom × Atom
 one = (Text (codes "a"), Integer (pos 1))
 
 pub equal_pairs : value_in (Pair Texts Integers) (codes "[\"map\",[[\"a\",1],[\"a\",1]]]") ≡ Some (Reads (Pairs (map_of (one ∷ one ∷ []))))
-unfolding serde_json_on_literals
+unfolding is_utf8 chars serde_json_on_literals
 equal_pairs = refl
 
 pub equal_pairs_merge : map_of (one ∷ one ∷ []) ≡ map_of (one ∷ [])
@@ -108,5 +109,5 @@ equal_pairs_merge = map_of-again one.0 one.1 [] (one ∷ []) refl
 
 -- a part that does not read counts before a clash, also where it stands later
 pub unread_before_clash : value_in (Pair Texts Integers) (codes "[\"map\",[[\"a\",1],[\"a\",2],[\"a\",null]]]") ≡ Some Unreadable
-unfolding serde_json_on_literals
+unfolding is_utf8 chars serde_json_on_literals
 unread_before_clash = refl

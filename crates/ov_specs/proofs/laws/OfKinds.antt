@@ -1,5 +1,5 @@
--- What is read is of its kinds: numbers of 64 bits, texts without U+0000, identifiers of sixteen bytes.
-use Rattle.std.proofs.Common.{◌≡◌, ◌&&◌, List, [], ◌∷◌, map, Bool, true, false, not, Option, Some, None, option_map, option_and_then, if◌then◌else◌, refl, sym, ap, subst, ◌∙◌, ℕ, codes, Less, Equal, Greater}
+-- What is read is of its kinds: numbers of 64 bits, texts in UTF-8 without U+0000, identifiers of sixteen bytes.
+use Rattle.std.proofs.Common.{◌≡◌, ◌&&◌, List, [], ◌∷◌, map, Bool, true, false, Option, Some, None, option_map, option_and_then, if◌then◌else◌, refl, sym, ap, subst, ◌∙◌, ℕ, codes, Less, Equal, Greater}
 use Rattle.std.proofs.lemmas.Bool.{and_parts, and_from}
 use Rattle.std.specs.List.{list_all}
 use Rattle.std.specs.Option.{option_or}
@@ -9,8 +9,8 @@ use Rattle.serde_json.specs.Data.{Num, Data, Items, no_items, item}
 use Rattle.serde_json.specs.Find.{as_number, as_bool, as_str, as_array, as_i64}
 use Rattle.uuid.specs.Text.{parsed_hyphenated}
 use Rattle.ov_specs.specs.values.Uuid.{is_uuid, is_id, Names, AreUuids}
-use Rattle.ov_specs.specs.values.Value.{AtomKind, Integers, Booleans, Texts, Uuids, Atom, Integer, Boolean, Text, Uuid, is_in_64_bits, has_nul, atom_cmp, Kinds, Single, Pair, marked, set_of, map_of, Datum, Atoms, Pairs, is_atom_of, is_pair_of, is_of}
-use Rattle.ov_specs.specs.values.Reading.{Reading, Reads, Unreadable, Clashing, as_two, behind, in_64_bits, integer_read, without_nul, name_read, uuid_read, atom_read, in_front, both, pair_read, each_read, list_read, listed_or_one, atoms_read, pairs_read, has_clash, set_reading, map_reading, reads}
+use Rattle.ov_specs.specs.values.Value.{AtomKind, Integers, Booleans, Texts, Uuids, Atom, Integer, Boolean, Text, Uuid, is_in_64_bits, is_text, atom_cmp, Kinds, Single, Pair, marked, set_of, map_of, Datum, Atoms, Pairs, is_atom_of, is_pair_of, is_of}
+use Rattle.ov_specs.specs.values.Reading.{Reading, Reads, Unreadable, Clashing, as_two, behind, in_64_bits, integer_read, text_read, name_read, uuid_read, atom_read, in_front, both, pair_read, each_read, list_read, listed_or_one, atoms_read, pairs_read, has_clash, set_reading, map_reading, reads}
 use Rattle.ov_specs.proofs.laws.Order.{atom_cmp_total}
 use Rattle.ov_specs.proofs.laws.Uuids.{hyphenated_is_uuid}
 use Rattle.std.proofs.lemmas.List.{nil_from_length}
@@ -57,12 +57,8 @@ passes-front test (Some a) (Some rest) h k = and_from (test a) (list_all test re
 integer_is_in_64_bits : (n : Num) → Passes is_in_64_bits (integer_read n)
 integer_is_in_64_bits n = passes-then is_in_64_bits in_64_bits (λ z. passes-if is_in_64_bits (is_in_64_bits z) z (λ e. e)) (as_i64 n)
 
-text_has_no_nul : (text : List ℕ) → Passes (λ t. not (has_nul t)) (without_nul text)
-text_has_no_nul text =
-    elim (has_nul text) as (λ b. has_nul text ≡ b → Passes (λ t. not (has_nul t)) (if b then None else Some text)) [
-      | true ↦ λ e. tt
-      | false ↦ λ e. ap not e
-    ] refl
+text_is_text : (text : List ℕ) → Passes is_text (text_read text)
+text_is_text text = passes-if is_text (is_text text) text (λ e. e)
 
 module _ (names : Names) (are : AreUuids names) where
   named_is_uuid : (name : List ℕ) → Passes is_uuid (name_read names name)
@@ -81,7 +77,7 @@ module _ (names : Names) (are : AreUuids names) where
   atom_is_of : (kind : AtomKind) (d : Data) → Passes (is_atom_of kind) (atom_read names kind d)
   atom_is_of Integers d = passes-map is_in_64_bits (is_atom_of Integers) Integer (λ n h. h) _ (passes-then is_in_64_bits integer_read integer_is_in_64_bits (as_number d))
   atom_is_of Booleans d = passes-map (λ b. true) (is_atom_of Booleans) Boolean (λ b h. refl) _ (passes-from (λ b. true) (as_bool d) (λ b e. refl))
-  atom_is_of Texts d = passes-map (λ t. not (has_nul t)) (is_atom_of Texts) Text (λ t h. h) _ (passes-then (λ t. not (has_nul t)) without_nul text_has_no_nul (as_str d))
+  atom_is_of Texts d = passes-map is_text (is_atom_of Texts) Text (λ t h. h) _ (passes-then is_text text_read text_is_text (as_str d))
   atom_is_of Uuids d = passes-map is_uuid (is_atom_of Uuids) Uuid (λ u h. h) _ (uuid_is_uuid d)
 
   pub atom_read_is_of : (kind : AtomKind) (d : Data) (a : Atom) → atom_read names kind d ≡ Some a → is_atom_of kind a ≡ true

@@ -1,6 +1,6 @@
 -- The written form of a value reads back as the value.
 use Rattle.std.proofs.Common.{◌≡◌, ◌^◌, ℤ, nat_lt, pos, negsuc, List, [], ◌∷◌, map, Bool, true, T, Option, Some, None, refl, sym, ap, ◌∙◌, inl, codes}
-use Rattle.std.proofs.lemmas.Bool.{and_parts, false≢true, not-true}
+use Rattle.std.proofs.lemmas.Bool.{and_parts, false≢true}
 use Rattle.std.specs.List.{list_all}
 use Rattle.std.specs.FinMap.{FinMap, keys, entries, entries_sorted, is_sorted, same_map, get-entries, get-from_entries, get-from_sorted, from_entries, from_sorted, entries-from_sorted}
 use Rattle.serde_json.specs.Data.{Data}
@@ -9,7 +9,7 @@ use Rattle.serde_json.specs.Find.{of_integer}
 use Rattle.uuid.specs.Text.{lower}
 use Rattle.uuid.proofs.RoundTrips.{parses_hyphenated_text}
 use Rattle.ov_specs.specs.values.Uuid.{Names}
-use Rattle.ov_specs.specs.values.Value.{AtomKind, Integers, Booleans, Texts, Uuids, Atom, Integer, Boolean, Text, Uuid, is_in_64_bits, has_nul, atom_cmp, Kinds, Single, Pair, AtomSet, marked, set_of, Datum, Atoms, Pairs, is_atom_of, is_pair_of, is_of}
+use Rattle.ov_specs.specs.values.Value.{AtomKind, Integers, Booleans, Texts, Uuids, Atom, Integer, Boolean, Text, Uuid, is_in_64_bits, atom_cmp, Kinds, Single, Pair, AtomSet, marked, set_of, Datum, Atoms, Pairs, is_atom_of, is_pair_of, is_of}
 use Rattle.ov_specs.specs.values.Reading.{Reads, behind, integer_read, atom_read, pair_read, each_read, atoms_read, set_reading, map_reading, reads}
 use Rattle.ov_specs.specs.values.Writing.{atom_tree, pair_tree, set_tree, tree}
 use Rattle.ov_specs.proofs.laws.Order.{atom_cmp_total, atom_cmp-IsAntisymmetric}
@@ -57,7 +57,7 @@ module _ (names : Names) where
   pub atom_read-atom_tree : (kind : AtomKind) (a : Atom) → is_atom_of kind a ≡ true → atom_read names kind (atom_tree a) ≡ Some a
   atom_read-atom_tree Integers (Integer n) h = rw (integer_read-of_integer n h) refl
   atom_read-atom_tree Booleans (Boolean b) h = refl
-  atom_read-atom_tree Texts (Text text) h = rw (not-true (has_nul text) h) refl
+  atom_read-atom_tree Texts (Text text) h = rw h refl
   atom_read-atom_tree Uuids (Uuid bytes) h =
       let sixteen = uuid_bytes bytes h in
       let e = parses_hyphenated_text lower bytes (inl refl) sixteen.0 sixteen.1 in

@@ -2,12 +2,14 @@
 use Rattle.std.proofs.Common.{◌≡◌, true, false, if◌then◌else◌, ◌&&◌, [], ◌∷◌, refl, pos}
 use Rattle.std.proofs.lemmas.Bool.{and_from}
 use Rattle.std.specs.Prelude.{int_lt}
+use Rattle.std.specs.Str.{is_utf8, chars}
 use Rattle.ov_specs.specs.values.Value.{AtomKind, Integers, Booleans, Texts, Uuids, is_atom_of, Kinds, Single, Pair, is_of, default_atom, nothing_of, one_default_of}
 use Rattle.ov_specs.specs.schema.SchemaTypes.{ColumnType, kinds_of}
 use Rattle.ov_specs.specs.schema.Fitting.{default_of}
 use Rattle.ov_specs.proofs.laws.OfKinds.{set_is_of, map_is_of}
 
 default_atom_is_of : (kind : AtomKind) → is_atom_of kind (default_atom kind) ≡ true
+unfolding is_utf8 chars
 default_atom_is_of Integers = refl
 default_atom_is_of Booleans = refl
 default_atom_is_of Texts = refl

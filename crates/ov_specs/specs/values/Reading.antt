@@ -9,7 +9,7 @@ use Rattle.serde_json.specs.Find.{as_number, as_bool, as_str, as_array, as_i64}
 use Rattle.uuid.specs.Text.{parsed_hyphenated}
 use Rattle.ov_specs.specs.values.Uuid as uuid
 use Rattle.ov_specs.specs.values.Uuid.{is_id, Names}
-use Rattle.ov_specs.specs.values.Value.{AtomKind, Integers, Booleans, Texts, Uuids, Atom, Integer, Boolean, Text, Uuid, is_in_64_bits, has_nul, atom_cmp, Kinds, Single, Pair, Datum, Atoms, Pairs, set_of, map_of}
+use Rattle.ov_specs.specs.values.Value.{AtomKind, Integers, Booleans, Texts, Uuids, Atom, Integer, Boolean, Text, Uuid, is_in_64_bits, is_text, atom_cmp, Kinds, Single, Pair, Datum, Atoms, Pairs, set_of, map_of}
 
 -- What reading a tree gives: a value; some part does not read; or all parts read and one key has two values (own).
 pub data Reading (A : Type 0) : Type 0 where
@@ -49,9 +49,9 @@ in_64_bits n = if is_in_64_bits n then Some n else None
 abbrev pub integer_read : Num → Option ℤ
 integer_read n = option_and_then in_64_bits (as_i64 n)
 
--- the text where it has no U+0000 (RFC 7047, 3.1, <string>)
-abbrev pub without_nul : List ℕ → Option (List ℕ)
-without_nul text = if has_nul text then None else Some text
+-- the text where it is UTF-8 without U+0000; a tree that was read of a text has all its texts in UTF-8 (RFC 7047, 3.1, <string>)
+abbrev pub text_read : List ℕ → Option (List ℕ)
+text_read text = if is_text text then Some text else None
 
 -- what a name stands for, where it is an <id> (RFC 7047, 5.1, <named-uuid>)
 abbrev pub name_read : Names → List ℕ → Option uuid.Uuid
@@ -67,7 +67,7 @@ uuid_read names d = option_or
 abbrev pub atom_read : Names → AtomKind → Data → Option Atom
 atom_read names Integers d = option_map Integer (option_and_then integer_read (as_number d))
 atom_read names Booleans d = option_map Boolean (as_bool d)
-atom_read names Texts d = option_map Text (option_and_then without_nul (as_str d))
+atom_read names Texts d = option_map Text (option_and_then text_read (as_str d))
 atom_read names Uuids d = option_map Uuid (uuid_read names d)
 
 -- ---- lists of atoms and of pairs

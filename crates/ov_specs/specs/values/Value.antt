@@ -6,6 +6,7 @@ use Rattle.std.specs.declared.cmp.Ordering.TheVariants.{Less, Greater}
 use Rattle.std.specs.Ordering.{nat_cmp, int_cmp, bool_cmp, ordering_then}
 use Rattle.std.specs.Cmp.Lexicographic.{slice_cmp}
 use Rattle.std.specs.FinMap as map
+use Rattle.std.specs.Str.{is_utf8}
 use Rattle.ov_specs.specs.values.Uuid.{is_uuid, zero_uuid}
 
 -- ---- atoms
@@ -35,15 +36,19 @@ kind_of (Uuid bytes) = Uuids
 abbrev pub is_in_64_bits : ℤ → Bool
 is_in_64_bits n = int_le (negsuc (2 ^ 63 - 1)) n && int_lt n (pos (2 ^ 63))
 
--- a text has no U+0000 (RFC 7047, 3.1, <string>)
+-- a U+0000 stands in the text (RFC 7047, 3.1, <string>)
 abbrev pub has_nul : List ℕ → Bool
 has_nul text = list_any (λ c. c == 0) text
+
+-- UTF-8 without U+0000 (RFC 7047, 3.1, <string>)
+abbrev pub is_text : List ℕ → Bool
+is_text bytes = not (has_nul bytes) && is_utf8 bytes
 
 -- the atom is of the kind, and within its bounds (RFC 7047, 3.1)
 abbrev pub is_atom_of : AtomKind → Atom → Bool
 is_atom_of Integers (Integer n) = is_in_64_bits n
 is_atom_of Booleans (Boolean b) = true
-is_atom_of Texts (Text text) = not (has_nul text)
+is_atom_of Texts (Text text) = is_text text
 is_atom_of Uuids (Uuid bytes) = is_uuid bytes
 is_atom_of kind a = false
 

@@ -3,7 +3,7 @@ use Rattle.serde_json.specs.View.{items_view}
 use Rattle.ov_specs.specs.operations.Transaction as spec
 use Rattle.ov_txn.specs.Results.{prefixed}
 use Rattle.ov_txn.specs.Staging.{staged}
-use Rattle.ov_txn.proofs.transaction.perform.Given as goal
+use Rattle.ov_txn.proofs.transaction.perform_operations.Given as goal
 
 abbrev pub invariant-loop-i : goal.invariant-loop-i
 invariant-loop-i l = record {

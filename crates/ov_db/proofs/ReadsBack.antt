@@ -1,0 +1,150 @@
+-- The line of a row of the schema reads back as the row.
+use Rattle.std.proofs.Common.{◌≡◌, ℕ, List, [], ◌∷◌, map, Bool, true, false, cond, ◌&&◌, Option, Some, None, option_map, option_and_then, is_some, refl, sym, ap, ◌∙◌}
+use Rattle.std.specs.Prelude.{not}
+use Rattle.std.proofs.lemmas.Bool.{and_parts}
+use Rattle.std.specs.FinMap.{empty, get, insert, entries, find, same_map, get-empty, get-insert, get-entries}
+use Rattle.serde_json.specs.Data.{Data}
+use Rattle.serde_json.specs.Find as find
+use Rattle.ov_specs.specs.operations.Operation.{is_own_column, no_names}
+use Rattle.ov_specs.specs.rows.Database.{Columns, Row, Database, line_of, object_of, written_column, AreLinesOf}
+use Rattle.ov_specs.specs.rows.Lines.{LineKey, Lines}
+use Rattle.ov_specs.specs.rows.Suits.{is_value_for, column_of_row, suits_column, SuitsTable, SuitsRow}
+use Rattle.ov_specs.specs.schema.Fitting.{fits}
+use Rattle.ov_specs.specs.schema.SchemaTypes.{Column, Table, Schema, kinds_of, name_cmp}
+use Rattle.ov_specs.specs.values.Reading.{reads}
+use Rattle.ov_specs.specs.values.Value.{Datum, is_of}
+use Rattle.ov_specs.specs.values.Writing.{tree}
+use Rattle.ov_specs.proofs.laws.Bodies.{get-body}
+use Rattle.ov_specs.proofs.laws.Names.{name_cmp_total, name_exact, same_name, same_name-is, EachEntry, each_entry}
+use Rattle.ov_specs.proofs.laws.ReadingBack.{reads-tree}
+use Rattle.ov_db.specs.Stored.{fitting_value, value_stored, columns_stored, row_of_columns, row_of_table, row_stored, IsBodyRead, AllReadBack, AreRowsOf}
+use Rattle.ov_db.proofs.Same.{text-same}
+
+-- ---- one value
+
+-- there is a value, and it is one for the column
+given : (column : Column) (o : Option Datum) → suits_column (Some column) o ≡ true → (datum : Datum) × (o ≡ Some datum) × (is_value_for column datum ≡ true)
+given column None h = cc
+given column (Some datum) h = (datum, refl, h)
+
+fits_it : (column : Column) (datum : Datum) → is_value_for column datum ≡ true → fitting_value column (reads no_names (kinds_of column.type_of) (tree datum)) ≡ Some datum
+fits_it column datum h =
+    let parts = and_parts (is_of (kinds_of column.type_of) datum) (fits column.type_of datum) h in
+    ap (fitting_value column) (reads-tree no_names (kinds_of column.type_of) datum parts.0) ∙ ap (λ b. cond b (Some datum) None) parts.1
+
+module _ (table : Table) (columns : Columns) (suits : SuitsTable table columns) where
+  abbrev body : Data
+  body = object_of (map written_column (entries columns))
+
+  -- the body has the row's value for the column
+  value_is_stored : (name : List ℕ) (column : Column) → is_own_column name ≡ false → get table.columns name ≡ Some column → (datum : Datum) × (get columns name ≡ Some datum) × (value_stored body (name, column) ≡ Some datum)
+  value_is_stored name column own is =
+      let at : column_of_row table name ≡ Some column = ap (λ b. cond b None (get table.columns name)) own ∙ is in
+      let value = given column (get columns name) (sym (ap (λ c. suits_column c (get columns name)) at) ∙ suits name) in
+      let member : find.get name body ≡ Some (tree value.0) = get-body columns name ∙ ap (option_map tree) value.1 in
+      (value.0, value.1, ap (option_and_then (λ d. fitting_value column (reads no_names (kinds_of column.type_of) d))) member ∙ fits_it column value.0 value.2)
+
+  -- ---- all columns
+
+  -- the name is that of one of these columns, but of no own one
+  abbrev taken : List ℕ → List (List ℕ × Column) → Bool
+  taken name cs = not (is_own_column name) && is_some (find name_cmp name cs)
+
+  -- the row's values at these columns, and those from before at others
+  abbrev Adds : List (List ℕ × Column) → Columns → Columns → Type 0
+  Adds cs before after = (name : List ℕ) → get after name ≡ cond (taken name cs) (get columns name) (get before name)
+
+  passed_over : (c : List ℕ × Column) (cs : List (List ℕ × Column)) (before after : Columns) → is_own_column c.0 ≡ true → Adds cs before after → Adds (c ∷ cs) before after
+  passed_over c cs before after own adds name = adds name ∙ ap (λ b. cond b (get columns name) (get before name)) (by (same_name name c.0) refl)
+    where
+      none_taken : (b d : Bool) → b ≡ true → (not b && d) ≡ false
+      none_taken true d h = refl
+      none_taken false d h = cc
+
+      by : (b : Bool) → same_name name c.0 ≡ b → taken name cs ≡ (not (is_own_column name) && is_some (cond b (Some c.1) (find name_cmp name cs)))
+      by true is =
+          let own' : is_own_column name ≡ true = ap is_own_column (same_name-is name c.0 is) ∙ own in
+          none_taken (is_own_column name) _ own' ∙ sym (none_taken (is_own_column name) _ own')
+      by false is = refl
+
+  added : (c : List ℕ × Column) (cs : List (List ℕ × Column)) (before after : Columns) (datum : Datum) → is_own_column c.0 ≡ false → get columns c.0 ≡ Some datum → Adds cs (insert before c.0 datum) after → Adds (c ∷ cs) before after
+  added c cs before after datum own value adds name =
+      adds name ∙ ap (cond (taken name cs) (get columns name)) (get-insert name_cmp_total before c.0 datum name) ∙ by (same_name name c.0) refl
+    where
+      either : (b : Bool) (x y : Option Datum) → x ≡ y → cond b x y ≡ x
+      either true x y h = refl
+      either false x y h = sym h
+
+      is_taken : (b : Bool) → b ≡ false → (not b && true) ≡ true
+      is_taken true h = cc
+      is_taken false h = refl
+
+      by : (b : Bool) → same_name name c.0 ≡ b → cond (taken name cs) (get columns name) (cond b (Some datum) (get before name))
+          ≡ cond (not (is_own_column name) && is_some (cond b (Some c.1) (find name_cmp name cs))) (get columns name) (get before name)
+      by true is =
+          let at : name ≡ c.0 = same_name-is name c.0 is in
+          either (taken name cs) (get columns name) (Some datum) (ap (get columns) at ∙ value)
+          ∙ sym (ap (λ b. cond b (get columns name) (get before name)) (is_taken (is_own_column name) (ap is_own_column at ∙ own)))
+      by false is = refl
+
+  abbrev Stored : List (List ℕ × Column) → Columns → Type 0
+  Stored cs before = (after : Columns) × (columns_stored body cs before ≡ Some after) × Adds cs before after
+
+  one_stored : (c : List ℕ × Column) (cs : List (List ℕ × Column)) (before : Columns) → get table.columns c.0 ≡ Some c.1 → ((more : Columns) → Stored cs more) → Stored (c ∷ cs) before
+  one_stored c cs before stands next = by (is_own_column c.0) refl
+    where
+      by : (b : Bool) → is_own_column c.0 ≡ b
+          → (after : Columns) × (cond b (columns_stored body cs before) (option_and_then (λ datum. columns_stored body cs (insert before c.0 datum)) (value_stored body c)) ≡ Some after) × Adds (c ∷ cs) before after
+      by true own = let rest = next before in (rest.0, rest.1, passed_over c cs before rest.0 own rest.2)
+      by false own =
+          let value = value_is_stored c.0 c.1 own stands in
+          let rest = next (insert before c.0 value.0) in
+          (rest.0, ap (option_and_then (λ datum. columns_stored body cs (insert before c.0 datum))) value.2 ∙ rest.1, added c cs before rest.0 value.0 own value.1 rest.2)
+
+  stored : (cs : List (List ℕ × Column)) (before : Columns) → EachEntry (λ name column. get table.columns name ≡ Some column) cs → Stored cs before
+  stored [] before stand = (before, refl, λ name. others name (is_own_column name))
+    where
+      others : (name : List ℕ) (own : Bool) → get before name ≡ cond (not own && false) (get columns name) (get before name)
+      others name true = refl
+      others name false = refl
+  stored (c ∷ cs) before stand = one_stored c cs before stand.0 (λ more. stored cs more stand.1)
+
+  nothing_else : (o : Option Column) (d : Option Datum) → suits_column o d ≡ true → o ≡ None → d ≡ None
+  nothing_else None None h e = refl
+  nothing_else None (Some datum) h e = cc
+  nothing_else (Some column) d h e = cc
+
+  -- the columns that the body gives are the row's
+  pub columns_are_stored : columns_stored body (entries table.columns) empty ≡ Some columns
+  columns_are_stored =
+      let all = stored (entries table.columns) empty (each_entry table.columns) in
+      all.1 ∙ ap Some (same_map name_cmp_total name_exact all.0 columns (λ name.
+      all.2 name ∙ ap (λ o. cond (not (is_own_column name) && is_some o) (get columns name) (get (empty {K = List ℕ} {X = Datum} {R = name_cmp}) name)) (sym (get-entries table.columns name))
+      ∙ ap (cond (not (is_own_column name) && is_some (get table.columns name)) (get columns name)) (get-empty name_cmp name)
+      ∙ by name (is_own_column name) (get table.columns name) refl refl))
+    where
+      by : (name : List ℕ) (own : Bool) (o : Option Column) → is_own_column name ≡ own → get table.columns name ≡ o → cond (not own && is_some o) (get columns name) None ≡ get columns name
+      by name false (Some column) own is = refl
+      by name true o own is = sym (nothing_else (column_of_row table name) (get columns name) (suits name) (ap (λ b. cond b None (get table.columns name)) own))
+      by name false None own is = sym (nothing_else (column_of_row table name) (get columns name) (suits name) (ap (λ b. cond b None (get table.columns name)) own ∙ is))
+
+-- ---- a row
+
+-- where its body reads as it was written, the line of a row of the schema reads back as the row
+pub reads_back : (schema : Schema) (key : LineKey) (row : Row) → SuitsRow schema key row → IsBodyRead row → row_stored schema key (line_of row) ≡ Some row
+reads_back schema key row suits read =
+    ap (option_and_then (λ table. row_of_table table (line_of row))) suits.named
+    ∙ ap (option_and_then (λ body. option_and_then (row_of_columns (line_of row)) (columns_stored body (entries suits.table.columns) empty))) read
+    ∙ ap (option_and_then (row_of_columns (line_of row))) (columns_are_stored suits.table row.columns suits.columns)
+    ∙ ap (λ b. cond b (Some row) None) (text-same (line_of row).1)
+
+-- ---- a database
+
+-- the lines of rows that read back are these rows
+pub lines_read_back : (schema : Schema) (lines : Lines) (database : Database) → AllReadBack schema database → AreLinesOf database lines → AreRowsOf schema lines database
+lines_read_back schema lines database back are key = by (get database key) refl ∙ sym (ap (option_map (row_stored schema key)) (are key))
+  where
+    by : (o : Option Row) → get database key ≡ o → option_map Some (get database key) ≡ option_map (row_stored schema key) (option_map line_of (get database key))
+    by None is = ap (option_map Some) is ∙ sym (ap (λ o. option_map (row_stored schema key) (option_map line_of o)) is)
+    by (Some row) is =
+        ap (option_map Some) is ∙ ap Some (sym (back key row is)) ∙ sym (ap (λ o. option_map (row_stored schema key) (option_map line_of o)) is)

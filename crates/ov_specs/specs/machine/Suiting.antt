@@ -1,0 +1,16 @@
+-- States of the machine whose rows are rows of the schema (own).
+use Rattle.std.specs.Prelude.{◌≡◌, Bool, Some}
+use Rattle.std.specs.List.{list_all}
+use Rattle.ov_specs.specs.machine.Machine.{State, Entry}
+use Rattle.ov_specs.specs.rows.Database.{Database}
+use Rattle.ov_specs.specs.rows.Suits.{Suits}
+use Rattle.ov_specs.specs.values.Uuid.{is_uuid}
+
+-- the rows that are committed are rows of the schema, and so are those that a failed commit would have made (own)
+pub record SuitsState (s : State) : Type 0 where
+  pub committed : Suits s.schema s.database
+  pub sealed : (database : Database) → s.sealed ≡ Some database → Suits s.schema database
+
+-- what was drawn are identifiers (RFC 4122, 4.1.2)
+abbrev pub draws_uuids : Entry → Bool
+draws_uuids entry = list_all is_uuid entry.choice.draws
