@@ -1,5 +1,5 @@
 -- What stands at a name in the body of a row.
-use Rattle.std.proofs.Common.{◌≡◌, ℕ, List, [], ◌∷◌, map, Bool, true, false, cond, T, Option, Some, None, option_map, refl, sym, ap, ◌∙◌, ◌&&◌}
+use Rattle.std.proofs.Common.{◌≡◌, ℕ, List, [], ◌∷◌, map, Bool, true, false, cond, T, Option, Some, None, option_map, refl, sym, ap, ◌∙◌}
 use Rattle.std.specs.FinMap.{find, is_sorted, get, get-entries, entries, entries_sorted}
 use Rattle.serde_json.specs.Data.{Data, Members, no_members, put}
 use Rattle.serde_json.specs.Find as json

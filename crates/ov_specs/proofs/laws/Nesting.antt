@@ -1,11 +1,11 @@
 -- How deep the written forms of values nest, and the body of a row.
-use Rattle.std.proofs.Common.{◌≡◌, ◌≤◌, ℕ, List, [], ◌∷◌, map, Ordering, Less, Equal, Greater, arith}
+use Rattle.std.proofs.Common.{◌≤◌, ℕ, List, [], ◌∷◌, map, Ordering, Less, Equal, Greater, arith}
 use Rattle.std.specs.FinMap.{keys, entries}
 use Rattle.std.specs.Ordering.{match_ordering}
-use Rattle.serde_json.specs.Data.{Data, depth, items_depth, members_depth, Items, Members, no_members, member, put, object}
+use Rattle.serde_json.specs.Data.{Data, depth, items_depth, members_depth, Members, no_members, member, put}
 use Rattle.serde_json.specs.Read.{max_depth}
 use Rattle.serde_json.specs.View.{items_of}
-use Rattle.ov_specs.specs.rows.Database.{Columns, placed, object_of, written_column}
+use Rattle.ov_specs.specs.rows.Database.{placed, object_of, written_column}
 use Rattle.ov_specs.specs.values.Value.{Atom, Integer, Boolean, Text, Uuid, Datum, Atoms, Pairs}
 use Rattle.ov_specs.specs.values.Writing.{atom_tree, pair_tree, set_tree, map_tree, tree}
 

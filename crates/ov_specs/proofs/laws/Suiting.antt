@@ -1,5 +1,5 @@
 -- Each step of the machine keeps the rows those of the schema.
-use Rattle.std.proofs.Common.{◌≡◌, ℕ, List, [], ◌∷◌, Bool, true, false, cond, Option, Some, None, length, eqb, leb, refl, sym, ap, subst, ◌∙◌}
+use Rattle.std.proofs.Common.{◌≡◌, ℕ, List, [], ◌∷◌, Bool, true, false, cond, Option, Some, None, length, eqb, leb, refl, sym, subst, ◌∙◌}
 use Rattle.std.specs.Prelude.{◌&&◌, ◌||◌, Result, Ok, Err, codes, option_and_then, option_map, is_some}
 use Rattle.std.specs.List.{list_all}
 use Rattle.std.specs.Ordering.{eq_by_cmp}
@@ -11,17 +11,17 @@ use Rattle.serde_json.specs.Data.{Data, Items, no_items, item}
 use Rattle.serde_json.specs.Find as find
 use Rattle.serde_json.specs.Find.{as_object}
 use Rattle.ov_specs.specs.machine.History.{run, then_sends}
-use Rattle.ov_specs.specs.machine.Machine.{State, Entry, Choice, Event, Open, Take, Close, Tick, Outcome, NoMemory, Committed, Exhausted, Failed, Listed, listed, Stepped, step, happens, takes, works, does, attempt, commits, sends_at_once, sends_results, closed, when, is_open, is_without_choice, without_session, none_listed, Work, Answers, Transact, work_of, draws_for, results_of, opening}
+use Rattle.ov_specs.specs.machine.Machine.{State, Entry, Choice, Event, Open, Take, Close, Tick, Outcome, NoMemory, Committed, Exhausted, Failed, Listed, listed, Stepped, step, happens, works, does, commits, sends_at_once, closed, when, is_open, is_without_choice, none_listed, Work, Answers, Transact, work_of, draws_for, results_of, opening}
 use Rattle.ov_specs.specs.machine.Suiting.{SuitsState, draws_uuids}
 use Rattle.ov_specs.specs.operations.Errors.{OpError, SyntaxError, UnknownTable}
 use Rattle.ov_specs.specs.operations.Operation.{Staged, OperationResult, Succeeds, Fails, some_or_fail, ok_or_fail, operation, insert_row, new_columns, put_under, select_rows, no_names, conditions_read, selected_columns, array_at, text_at}
-use Rattle.ov_specs.specs.operations.Transaction.{Transacted, transaction, perform, after_operation, exhausted_results, failed_results}
+use Rattle.ov_specs.specs.operations.Transaction.{Transacted, transaction, perform, after_operation, failed_results}
 use Rattle.ov_specs.specs.rows.Database.{Database, Columns, Row, same_database}
 use Rattle.ov_specs.specs.rows.Lines.{LineKey, line_cmp}
 use Rattle.ov_specs.specs.rows.Suits.{SuitsTable, SuitsRow, Suits}
 use Rattle.ov_specs.specs.schema.SchemaTypes.{Table, Schema}
 use Rattle.ov_specs.specs.values.Uuid.{Uuid, is_uuid}
-use Rattle.ov_specs.specs.wire.Message.{Message, has_member}
+use Rattle.ov_specs.specs.wire.Message.{has_member}
 use Rattle.ov_specs.proofs.laws.LineKeys.{key_total, tied_same}
 use Rattle.ov_specs.proofs.laws.SuitingColumns.{MakesRow, new_columns_suit}
 

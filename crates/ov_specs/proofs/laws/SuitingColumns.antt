@@ -1,17 +1,17 @@
 -- What an insert makes of its members has just one value for each column of the table.
-use Rattle.std.proofs.Common.{◌≡◌, ℕ, List, [], ◌∷◌, Bool, true, false, cond, ◌&&◌, ◌||◌, Option, Some, None, is_some, if◌then◌else◌, refl, sym, ap, subst, ◌∙◌}
+use Rattle.std.proofs.Common.{◌≡◌, ℕ, List, [], ◌∷◌, Bool, true, false, cond, ◌||◌, Option, Some, None, is_some, if◌then◌else◌, refl, sym, ap, subst, ◌∙◌}
 use Rattle.std.specs.Prelude.{Result, Ok, Err}
 use Rattle.std.proofs.lemmas.Bool.{and_from}
 use Rattle.std.specs.FinMap.{empty, get, insert, contains_key, entries, find, get-empty, get-insert, get-entries}
 use Rattle.serde_json.specs.Data.{Data, Members, no_members, member}
-use Rattle.ov_specs.specs.operations.Errors.{OpError, ConstraintViolation, UnknownColumn}
+use Rattle.ov_specs.specs.operations.Errors.{OpError, ConstraintViolation}
 use Rattle.ov_specs.specs.operations.Operation.{is_own_column, no_names, fitting_reading, value_for_column, member_value, with_column, row_values, fitting_default, with_defaults, and_then_columns, new_columns}
 use Rattle.ov_specs.specs.rows.Database.{Columns}
 use Rattle.ov_specs.specs.rows.Suits.{is_value_for, column_of_row, suits_column, SuitsTable}
 use Rattle.ov_specs.specs.schema.Fitting.{fits, default_of}
 use Rattle.ov_specs.specs.schema.SchemaTypes.{Column, Table, kinds_of, name_cmp}
 use Rattle.ov_specs.specs.values.Reading.{Reading, Reads, Unreadable, Clashing, reads}
-use Rattle.ov_specs.specs.values.Uuid.{Uuid, AreUuids}
+use Rattle.ov_specs.specs.values.Uuid.{AreUuids}
 use Rattle.ov_specs.specs.values.Value.{Datum, is_of}
 use Rattle.ov_specs.proofs.laws.Names.{name_cmp_total, same_name, same_name-is, EachEntry, each_entry}
 use Rattle.ov_specs.proofs.laws.OfKinds.{reads_is_of}
