@@ -210,6 +210,23 @@ impl<K: Keeper + Drop, D: Draws + Drop> Core<K, D> {
         self.database.left();
     }
 
+    /// Gives the core up, and its keeper back.
+    pub fn into_keeper(self) -> K
+        ensures { result ≡ self.keeper }
+    {
+        let Core {
+            database,
+            source: _,
+            session: _,
+            next: _,
+            moment: _,
+            history: _,
+            outbox: _,
+            alloc: _,
+        } = self;
+        database.into_keeper()
+    }
+
     fn open_session(&mut self, moment: u64) -> Stepped
         requires { self.old.state.moment ≤ moment }
         ensures { StepIs D.draws moment SpecOpen self.old result self.new }

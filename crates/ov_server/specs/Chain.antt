@@ -92,8 +92,11 @@ module _ {K D C : Type 0} (k : Ghosts K) (tells : C → ℕ → C → Type 0) wh
       ((cause : Cause) × (ending ≡ by_cause cause) × ServesCore cause old from new to)
       ⊎ ((fault : StepFault) × (ending ≡ by_step fault) × RefusesStep SpecOpen old.state fault × (new ≡ old) × (to ≡ from))
 
-  -- A core was opened over the keeper, and the ending is that of its session; or none was, and nothing was read or written.
-  abbrev pub EndsChain : K → Schema → D → Ends C → Ending → Ends C → Type 0
-  EndsChain keeper schema draws from ending to =
-      ((first : CoreState K D) × (last : CoreState K D) × OpensCore k keeper schema draws first × EndsSession first from ending last to)
-      ⊎ ((refused : RefusedOpen K) × (ending ≡ by_open refused.fault) × RefusesCore k keeper schema refused × (to ≡ from))
+  -- A core was opened over the keeper, and the ending is that of its session; or none was, and nothing was read or written. The
+  -- keeper is given back.
+  abbrev pub EndsChain : K → Schema → D → Ends C → Ending → K → Ends C → Type 0
+  EndsChain keeper schema draws from ending left to =
+      ((first : CoreState K D) × (last : CoreState K D) × OpensCore k keeper schema draws first
+          × EndsSession first from ending last to × (left ≡ last.keeper))
+      ⊎ ((refused : RefusedOpen K) × (ending ≡ by_open refused.fault) × RefusesCore k keeper schema refused
+          × (left ≡ refused.keeper) × (to ≡ from))

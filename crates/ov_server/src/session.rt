@@ -1,34 +1,46 @@
-ghost use Rattle.std.specs.Prelude.{◌≡◌, ◌≢◌, ◌⊎◌};
-ghost use Rattle.ov_server.specs.Chain.{EndsChain, EndsSession, ends, reader_state, writer_state};
+ghost use Rattle.std.specs.Prelude.{◌≡◌, ◌≢◌, ◌⊎◌, [], false};
+ghost use Rattle.ov_server.specs.declared.clock.StillClock.{StillClock};
+ghost use Rattle.ov_server.specs.Chain.{Ends, EndsChain, EndsSession, ends, reader_state, writer_state};
 
 use crate::clock::StillClock;
-use crate::draws::RandomDraws;
-use ov_core::early::{Draws, Keeper};
+use ov_core::early::{Draws, Keeper, RefusedOpen};
 use ov_core::{Core, Schema};
 use ov_serve::{Clock, Sink, Source, Watched, serve_one};
 use ov_words::{Ending, ending_of_cause, ending_of_open, ending_of_step};
 use std::alloc::Global;
 use std::io::{BufWriter, Read, Write};
-use std::random::RandomSource;
 use std::sync::Wait;
 
-/// Serves one session of the database that a keeper holds under a schema, over a reader and a writer of std's. Where the
-/// runtime gives no random seed, the database is not opened.
-pub fn serve_over<R: Wait + RandomSource, K: Keeper + Drop, I: Read + Drop, O: Write + Drop>(
+/// How a session ended, and the keeper of its database, given back.
+#[derive(Drop)]
+pub struct Ended<K> {
+    pub ending: Ending,
+    pub keeper: K,
+}
+
+/// Serves one session of the database that a keeper holds under a schema, over a reader and a writer of std's: what comes is
+/// what the reader had, and what is sent is what the writer was given. The clock stands still.
+///
+/// Where memory for the writer's buffer is refused, the database is not opened.
+pub fn serve_over<R: Wait, K: Keeper + Drop, D: Draws + Drop, I: Read + Drop, O: Write + Drop>(
     rt: &R,
     alloc: Global,
     keeper: K,
     schema: Schema,
+    draws: D,
     input: I,
     output: O,
-) -> Ending
-    ensures { (result ≢ Ending.Arguments) × (result ≢ Ending.Schema) }
+) -> Ended<K>
+    ensures chain { ((result.ending ≡ Ending.Memory) × (result.keeper ≡ keeper)) ⊎ ((from to : Ends StillClock)
+        × (from.reader ≡ reader_state [] (I.remaining input) false 0) × (from.writer ≡ writer_state [] (O.contents output) false 0)
+        × EndsChain K.Keeper ⟦<StillClock as Clock>⟧.tells keeper schema draws from result.ending result.keeper to) }
+    ensures kind { (result.ending ≢ Ending.Arguments) × (result.ending ≢ Ending.Schema) }
 {
-    let Ok(draws) = RandomDraws::seeded(rt) else {
-        return Ending::Database;
-    };
     let Ok(output) = BufWriter::new(alloc, output) else {
-        return Ending::Memory;
+        return Ended {
+            ending: Ending::Memory,
+            keeper,
+        };
     };
     let mut reader = Watched::new(input);
     let mut writer = Watched::new(output);
@@ -55,18 +67,25 @@ pub fn serve<R: Wait, K: Keeper + Drop, D: Draws + Drop, S: Source, W: Sink, C: 
     reader: &mut S,
     writer: &mut W,
     clock: &mut C,
-) -> Ending
+) -> Ended<K>
     ensures chain { EndsChain K.Keeper C.tells keeper schema draws
         (ends (reader_state (S.bytes_read reader.old) (S.remaining reader.old) (S.at_end reader.old) (S.faults reader.old))
             (writer_state (W.bytes_written writer.old) (W.contents writer.old) (W.is_flushed writer.old) (W.faults writer.old)) clock.old)
-        result
+        result.ending result.keeper
         (ends (reader_state (S.bytes_read reader.new) (S.remaining reader.new) (S.at_end reader.new) (S.faults reader.new))
             (writer_state (W.bytes_written writer.new) (W.contents writer.new) (W.is_flushed writer.new) (W.faults writer.new)) clock.new) }
-    ensures kind { (result ≢ Ending.Arguments) × (result ≢ Ending.Schema) }
+    ensures kind { (result.ending ≢ Ending.Arguments) × (result.ending ≢ Ending.Schema) }
 {
     match Core::open(alloc, keeper, schema, draws) {
-        Ok(mut core) => serve_core(rt, &mut core, alloc, reader, writer, clock),
-        Err(refused) => ending_of_open(refused.fault),
+        Ok(mut core) => {
+            let ending = serve_core(rt, &mut core, alloc, reader, writer, clock);
+            let keeper = core.into_keeper();
+            Ended { ending, keeper }
+        }
+        Err(RefusedOpen { fault, keeper }) => Ended {
+            ending: ending_of_open(fault),
+            keeper,
+        },
     }
 }
 

@@ -1,12 +1,13 @@
 //! From the program's words to what it serves, and on to its end.
 
 use crate::database::built_in_schema;
-use crate::session::serve_over;
+use crate::draws::RandomDraws;
+use crate::session::{Ended, serve_over};
 use ov_base::Text;
 use ov_core::Schema;
 use ov_core::early::{KeepFault, Keeper};
 use ov_schema::{read_schema, text_of};
-use ov_store::{store_in_file, store_in_memory};
+use ov_store::{close_in_file, store_in_file, store_in_memory};
 use ov_words::{
     Ending, Settings, ending_of_keeping, ending_of_schema, ending_of_words, read_words,
 };
@@ -43,7 +44,19 @@ pub fn run<R: Wait + RandomSource, S: Start, I: Read + Drop, O: Write + Drop>(
     let Ok(text) = text_of(host.alloc(), &schema) else {
         return Ending::Memory;
     };
-    serve_database(host, rt, db, start, text, schema, input, output)
+    match db {
+        None => serve_memory(rt, host.alloc(), text, schema, input, output),
+        Some(path) => serve_file(
+            host,
+            rt,
+            path.as_str(),
+            start,
+            text,
+            schema,
+            input,
+            output,
+        ),
+    }
 }
 
 /// What the words say.
@@ -78,35 +91,45 @@ fn schema_of<R: Files>(rt: &R, alloc: Global, file: Option<Text>) -> Result<Sche
     }
 }
 
-/// Serves the database of a file, or one in memory where none is named. Nothing else of the program sees which store serves.
-fn serve_database<R: Wait + RandomSource, S: Start, I: Read + Drop, O: Write + Drop>(
+/// Serves a database in memory.
+fn serve_memory<R: Wait + RandomSource, I: Read + Drop, O: Write + Drop>(
+    rt: &R,
+    alloc: Global,
+    text: Text,
+    schema: Schema,
+    input: I,
+    output: O,
+) -> Ending {
+    let store = store_in_memory(alloc, text);
+    match serve_store(rt, alloc, store, schema, input, output) {
+        Ok(ended) => ended.ending,
+        Err(ending) => ending,
+    }
+}
+
+/// Serves the database of the file at a path, which has the whole at the end, with no log beside it.
+fn serve_file<R: Wait + RandomSource, S: Start, I: Read + Drop, O: Write + Drop>(
     host: &HostRuntime,
     rt: &R,
-    db: Option<Text>,
+    path: &str,
     start: S,
     text: Text,
     schema: Schema,
     input: I,
     output: O,
 ) -> Ending {
-    let alloc = host.alloc();
-    match db {
-        None => serve_store(
-            rt,
-            alloc,
-            store_in_memory(alloc, text),
-            schema,
-            input,
-            output,
-        ),
-        Some(path) => {
-            let store = store_in_file(host, path.as_str(), text, start);
-            serve_store(rt, alloc, store, schema, input, output)
+    let store = store_in_file(host, path, text, start);
+    match serve_store(rt, host.alloc(), store, schema, input, output) {
+        Ok(Ended { ending, keeper }) => {
+            // Where that fails nothing is lost: the file and its log belong together, as after a kill.
+            let _ = close_in_file(host, path, keeper);
+            ending
         }
+        Err(ending) => ending,
     }
 }
 
-/// Serves the database of a store, where it could be opened.
+/// Serves the database of a store, where it could be opened and the runtime gives a random seed.
 fn serve_store<R: Wait + RandomSource, K: Keeper + Drop, I: Read + Drop, O: Write + Drop>(
     rt: &R,
     alloc: Global,
@@ -114,9 +137,14 @@ fn serve_store<R: Wait + RandomSource, K: Keeper + Drop, I: Read + Drop, O: Writ
     schema: Schema,
     input: I,
     output: O,
-) -> Ending {
+) -> Result<Ended<K>, Ending> {
+    let Ok(draws) = RandomDraws::seeded(rt) else {
+        return Err(Ending::Database);
+    };
     match store {
-        Ok(store) => serve_over(rt, alloc, store, schema, input, output),
-        Err(fault) => ending_of_keeping(fault),
+        Ok(keeper) => Ok(serve_over(
+            rt, alloc, keeper, schema, draws, input, output,
+        )),
+        Err(fault) => Err(ending_of_keeping(fault)),
     }
 }
