@@ -1,6 +1,5 @@
 -- What a session begins with.
 use Rattle.std.proofs.Common.{◌≡◌, ℕ, ◌≤◌, List, [], ◌∷◌, length, true, false, Option, None, refl, sym, ap, ◌∙◌, max, append-nil}
-use Rattle.std.specs.Prelude.{◌||◌}
 use Rattle.std.proofs.lemmas.List.Elements.{All-nil}
 use Rattle.std.proofs.lemmas.Bool.{eq-eqb}
 use Rattle.ov_specs.specs.wire.Cut.{cut}

@@ -1,5 +1,5 @@
 -- Which lists of stream events suit after one event more.
-use Rattle.std.proofs.Common.{◌≡◌, ◌≢◌, ℕ, ◌+◌, ◌<◌, ◌≤◌, List, [], ◌∷◌, ◌++◌, refl, sym, ap, subst, ◌∙◌, cond, eqb, leb, max, Bool, true, false, Option, Some, None, suc, inl, inr, length, arith, ◌-◌, ◌^◌, append_assoc, take, get_or}
+use Rattle.std.proofs.Common.{◌≡◌, ◌≢◌, ℕ, ◌+◌, ◌<◌, List, [], ◌∷◌, ◌++◌, refl, sym, ap, subst, ◌∙◌, cond, eqb, leb, max, Bool, true, false, Option, Some, None, suc, inl, inr, length, arith, ◌-◌, ◌^◌, append_assoc, take, get_or}
 use Rattle.std.specs.Prelude.{◌||◌, MatchBool, IsSomeAnd, slice_get}
 use Rattle.std.specs.List.{list_any}
 use Rattle.std.proofs.lemmas.List.{append-nil, take_more, map-append, get_or_default}

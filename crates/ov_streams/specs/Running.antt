@@ -1,5 +1,5 @@
 -- Which lists of stream events a core with its streams has followed.
-use Rattle.std.specs.Prelude.{◌≡◌, ℕ, ◌++◌, List, [], ◌∷◌, map, take, Option, Some, None, IsSomeAnd, true}
+use Rattle.std.specs.Prelude.{◌≡◌, ℕ, ◌++◌, List, map, Option, IsSomeAnd, true}
 use Rattle.ov_specs.specs.machine.Machine as machine
 use Rattle.ov_specs.specs.machine.Machine.{Entry, State, opening, is_open}
 use Rattle.ov_specs.specs.schema.SchemaTypes.{Schema}

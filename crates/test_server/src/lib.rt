@@ -17,3 +17,5 @@ mod transact;
 mod transactions;
 #[cfg(test)]
 mod values;
+#[cfg(test)]
+mod watched;

@@ -1,7 +1,9 @@
 use ov_core::Cause;
 use ov_serve::{Clock, Source, Watched, serve_one};
 use std::alloc::Global;
-use std::io::ErrorKind;
+use std::cell::Cell;
+use std::io;
+use std::io::{ErrorKind, Read, Write};
 use std::sync::Wait;
 use std::test::Fail;
 use test_support::{Faults, SlowReader, SlowWriter, net_core};
@@ -47,13 +49,13 @@ fn writer_of(alloc: Global) -> SlowWriter {
     }
 }
 
-/// What comes of a session, and what was written.
-fn served<H: Wait>(
+/// What comes of a session, and its reader and writer behind it.
+fn served<H: Wait, R: Read + Drop, W: Write + Drop>(
     rt: &H,
     alloc: Global,
-    reader: SlowReader<'_>,
-    writer: SlowWriter,
-) -> Result<(Cause, Vec<u8>), Fail> {
+    reader: R,
+    writer: W,
+) -> Result<(Cause, R, W), Fail> {
     let mut core = net_core(alloc, Faults::NONE)?;
     let mut reader = Watched::new(reader);
     let mut writer = Watched::new(writer);
@@ -68,13 +70,23 @@ fn served<H: Wait>(
     if reader.ended() != (cause == Cause::InputEnded) {
         return Err(Fail::new("an end that is no end"));
     }
-    let SlowWriter { taken, .. } = writer.into_inner();
-    Ok((cause, taken))
+    Ok((cause, reader.into_inner(), writer.into_inner()))
+}
+
+/// What comes of a session, and what was written.
+fn answered<H: Wait>(
+    rt: &H,
+    alloc: Global,
+    reader: SlowReader<'_>,
+    writer: SlowWriter,
+) -> Result<(Cause, Vec<u8>), Fail> {
+    let (cause, _, writer) = served(rt, alloc, reader, writer)?;
+    Ok((cause, writer.taken))
 }
 
 #[test]
 fn a_request_is_answered(rt: HostRuntime) -> Result<(), Fail> {
-    let (cause, told) = served(&rt, rt.alloc(), reader_of(REQUEST), writer_of(rt.alloc()))?;
+    let (cause, told) = answered(&rt, rt.alloc(), reader_of(REQUEST), writer_of(rt.alloc()))?;
     assert_eq!(rt; cause, Cause::InputEnded);
     assert_eq!(rt; told.as_slice(), REPLY);
     Ok(())
@@ -92,7 +104,7 @@ fn a_slow_reader_is_read_to_its_end_or_its_failure(rt: HostRuntime) -> Result<()
         let mut reader = reader_of(REQUEST);
         reader.most = most;
         reader.calls = calls;
-        let (why, told) = served(&rt, rt.alloc(), reader, writer_of(rt.alloc()))?;
+        let (why, told) = answered(&rt, rt.alloc(), reader, writer_of(rt.alloc()))?;
         assert_eq!(rt; why, cause, "at {most} and {calls}");
         assert_eq!(rt; told.as_slice(), reply, "at {most} and {calls}");
     }
@@ -107,7 +119,7 @@ fn a_stream_that_stops_or_is_damaged_ends(rt: HostRuntime) -> Result<(), Fail> {
         (b"x".as_slice(), Cause::Damaged),
         (b"{]".as_slice(), Cause::InputEnded),
     ] {
-        let (why, told) = served(&rt, rt.alloc(), reader_of(bytes), writer_of(rt.alloc()))?;
+        let (why, told) = answered(&rt, rt.alloc(), reader_of(bytes), writer_of(rt.alloc()))?;
         assert_eq!(rt; why, cause);
         assert_eq!(rt; told.len(), 0);
     }
@@ -127,7 +139,7 @@ fn a_writer_gets_all_or_the_session_ends(rt: HostRuntime) -> Result<(), Fail> {
         writer.most = most;
         writer.left = left;
         writer.fails = fails;
-        let (why, told) = served(&rt, rt.alloc(), reader_of(REQUEST), writer)?;
+        let (why, told) = answered(&rt, rt.alloc(), reader_of(REQUEST), writer)?;
         assert_eq!(rt; why, cause, "at {most} and {left}");
         assert_eq!(rt; told.as_slice(), &REPLY[..count], "at {most} and {left}");
     }
@@ -138,7 +150,67 @@ fn a_writer_gets_all_or_the_session_ends(rt: HostRuntime) -> Result<(), Fail> {
 fn a_flush_that_fails_is_a_write_fault(rt: HostRuntime) -> Result<(), Fail> {
     let mut writer = writer_of(rt.alloc());
     writer.flushes = false;
-    let (cause, _) = served(&rt, rt.alloc(), reader_of(REQUEST), writer)?;
+    let (cause, _) = answered(&rt, rt.alloc(), reader_of(REQUEST), writer)?;
     assert_eq!(rt; cause, Cause::WriteFault);
+    Ok(())
+}
+
+/// A reader of two requests, one a call, which counts the calls before which not all answers were handed on.
+#[derive(Drop)]
+struct AskingReader<'a> {
+    handed_on: &'a Cell<usize>,
+    calls: usize,
+    early: usize,
+}
+
+impl Read for AskingReader<'_> {
+    fn read(&mut self, buf: &mut [u8]) -> io::Result<usize> {
+        let asked = self.calls.min(2);
+        if self.handed_on.get() != asked * REPLY.len() {
+            self.early = self.early.saturating_add(1);
+        }
+        self.calls = self.calls.saturating_add(1);
+        if asked == 2 || buf.len() < REQUEST.len() {
+            return Ok(0);
+        }
+        buf[..REQUEST.len()].copy_from_slice(REQUEST);
+        Ok(REQUEST.len())
+    }
+}
+
+/// A writer that tells at each flush how many bytes it handed on.
+#[derive(Drop)]
+struct HandingWriter<'a> {
+    handed_on: &'a Cell<usize>,
+    taken: usize,
+}
+
+impl Write for HandingWriter<'_> {
+    fn write(&mut self, buf: &[u8]) -> io::Result<usize> {
+        self.taken = self.taken.saturating_add(buf.len());
+        Ok(buf.len())
+    }
+
+    fn flush(&mut self) -> io::Result<()> {
+        self.handed_on.set(self.taken);
+        Ok(())
+    }
+}
+
+#[test]
+fn answers_are_handed_on_before_more_is_read(rt: HostRuntime) -> Result<(), Fail> {
+    let handed_on = Cell::new(0);
+    let reader = AskingReader {
+        handed_on: &handed_on,
+        calls: 0,
+        early: 0,
+    };
+    let writer = HandingWriter {
+        handed_on: &handed_on,
+        taken: 0,
+    };
+    let (cause, reader, _) = served(&rt, rt.alloc(), reader, writer)?;
+    assert_eq!(rt; cause, Cause::InputEnded);
+    assert_eq!(rt; (reader.calls, reader.early), (3, 0));
     Ok(())
 }

@@ -1,4 +1,4 @@
-use Rattle.std.proofs.Common.{◌≡◌, refl, true, false, sym, ◌∙◌, ap, rules}
+use Rattle.std.proofs.Common.{◌≡◌, refl, true, sym, ◌∙◌, ap, rules}
 use Rattle.std.proofs.lemmas.Bool.{false≢true}
 use Rattle.ov_specs.specs.machine.Machine.{is_open}
 use Rattle.ov_streams.proofs.Suiting.{was_fed, not_fed, no_session_stream, other_session_stream, over}

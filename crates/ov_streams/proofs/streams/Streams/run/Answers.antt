@@ -1,4 +1,4 @@
-use Rattle.std.proofs.Common.{◌≡◌, ◌<◌, List, refl, sym, subst, take, arith}
+use Rattle.std.proofs.Common.{List, refl, sym, subst, take, arith}
 use Rattle.std.specs.Prelude.{IsSomeAnd, slice_get}
 use Rattle.ov_specs.specs.machine.Streams.{StreamEvent}
 use Rattle.ov_streams.specs.Running.{RunsEvents, RefusesEvent, StreamsState, stream_events_view}

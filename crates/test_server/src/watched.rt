@@ -1,0 +1,93 @@
+use ov_serve::{Sink, Source, Watched};
+use std::io;
+use std::io::{ErrorKind, Read, Write};
+
+/// A reader that counts its calls. Each gives two bytes, or fails.
+#[derive(Drop)]
+struct CountedReader {
+    fails: bool,
+    reads: u64,
+}
+
+impl Read for CountedReader {
+    fn read(&mut self, buf: &mut [u8]) -> io::Result<usize> {
+        self.reads = self.reads.saturating_add(1);
+        if self.fails {
+            return Err(io::Error::from(ErrorKind::Other));
+        }
+        Ok(buf.len().min(2))
+    }
+}
+
+/// A writer that counts its calls. Each takes two bytes, or fails.
+#[derive(Drop)]
+struct CountedWriter {
+    fails: bool,
+    writes: u64,
+    flushes: u64,
+}
+
+impl Write for CountedWriter {
+    fn write(&mut self, buf: &[u8]) -> io::Result<usize> {
+        self.writes = self.writes.saturating_add(1);
+        if self.fails {
+            return Err(io::Error::from(ErrorKind::Other));
+        }
+        Ok(buf.len().min(2))
+    }
+
+    fn flush(&mut self) -> io::Result<()> {
+        self.flushes = self.flushes.saturating_add(1);
+        if self.fails {
+            return Err(io::Error::from(ErrorKind::Other));
+        }
+        Ok(())
+    }
+}
+
+/// What comes of one read, the failures that are counted then, and the reads that were made.
+fn read_once(fails: bool) -> (Option<usize>, u64, u64) {
+    let mut reader = Watched::new(CountedReader { fails, reads: 0 });
+    let mut piece = [0; 4];
+    let read = reader.read(&mut piece);
+    let failures = reader.failures();
+    (read, failures, reader.into_inner().reads)
+}
+
+/// What comes of one write, the failures that are counted then, and the writes that were made.
+fn written_once(fails: bool) -> (Option<usize>, u64, u64) {
+    let mut writer = Watched::new(CountedWriter {
+        fails,
+        writes: 0,
+        flushes: 0,
+    });
+    let written = writer.write(b"abcd");
+    let failures = writer.failures();
+    (written, failures, writer.into_inner().writes)
+}
+
+/// What comes of one flush, the failures that are counted then, and the flushes that were made.
+fn flushed_once(fails: bool) -> (bool, u64, u64) {
+    let mut writer = Watched::new(CountedWriter {
+        fails,
+        writes: 0,
+        flushes: 0,
+    });
+    let flushed = writer.flush();
+    let failures = writer.failures();
+    (flushed, failures, writer.into_inner().flushes)
+}
+
+#[test]
+fn a_failure_is_one_of_what_is_watched(rt: HostRuntime) {
+    assert_eq!(rt; read_once(false), (Some(2), 0, 1));
+    assert_eq!(rt; read_once(true), (None, 1, 1));
+    assert_eq!(rt; written_once(false), (Some(2), 0, 1));
+    assert_eq!(rt; written_once(true), (None, 1, 1));
+}
+
+#[test]
+fn what_is_watched_is_flushed(rt: HostRuntime) {
+    assert_eq!(rt; flushed_once(false), (true, 0, 1));
+    assert_eq!(rt; flushed_once(true), (false, 1, 1));
+}
