@@ -276,19 +276,19 @@ expands_all n s streams (event ∷ events) h k new after keeps (front, rest, mid
     subst (KeepsAt n (after n) new) (append_assoc h front rest ∙ ap (λ (l : List Entry). h ++ l) (sym parts))
     (expands_all n mid between events (h ++ front) rest new after (expands event.0 n s streams event.1 h front mid between keeps one) others)
 
--- before any event
-at_first : (schema : Schema) (database : Database) (n : ℕ) → KeepsAt n [] (opening schema database) []
-at_first schema database n = record {
-  to_come = λ high. (refl, refl, refl, refl);
-  going = λ there. absurd (false≢true there);
-  gone = λ away. sym (ap (λ a. a.messages) asked_nothing);
+-- before a session is opened
+at_first : (s : State) (streams : Streams) (n : ℕ) → is_open s n ≡ false → streams n ≡ [] → KeepsAt n (streams n) s []
+at_first s streams n shut unfed = record {
+  to_come = λ high. (shut, unfed, refl, refl);
+  going = λ there. absurd (false≢true (sym shut ∙ there));
+  gone = λ away. sym (ap (λ l. (asked l).messages) unfed ∙ ap (λ a. a.messages) asked_nothing);
 }
 
 -- what was taken of a session is what its stream asks for
-pub requests_are_asked_for : (schema : Schema) (database : Database) (events : List (ℕ × StreamEvent)) (h : List Entry) (s : State) (streams : Streams) (n : ℕ) → ExpandsTimed (opening schema database) no_streams events h s streams
-    → AreAskedFor (closed_by h n) (requests h n) (asked (streams n)).messages
-requests_are_asked_for schema database events h s streams n x =
-    let keeps : KeepsAt n (streams n) s h = expands_all n (opening schema database) no_streams events [] h s streams (at_first schema database n) x in
+pub requests_are_asked_for : (before : State) (fed : Streams) (events : List (ℕ × StreamEvent)) (h : List Entry) (s : State) (streams : Streams) (n : ℕ)
+    → is_open before n ≡ false → fed n ≡ [] → ExpandsTimed before fed events h s streams → AreAskedFor (closed_by h n) (requests h n) (asked (streams n)).messages
+requests_are_asked_for before fed events h s streams n shut unfed x =
+    let keeps : KeepsAt n (streams n) s h = expands_all n before fed events [] h s streams (at_first before fed n shut unfed) x in
     elim (cases_Bool (is_open s n)) [
       | inl there ↦
           let (none, taken, whole) = keeps.going there in
@@ -298,4 +298,4 @@ requests_are_asked_for schema database events h s streams n x =
 
 -- a session that is not opened yet has no stream
 pub not_fed_yet : (schema : Schema) (database : Database) (events : List (ℕ × StreamEvent)) (h : List Entry) (s : State) (streams : Streams) (n : ℕ) → ExpandsTimed (opening schema database) no_streams events h s streams → s.next ≤ n → streams n ≡ []
-not_fed_yet schema database events h s streams n x high = ((expands_all n (opening schema database) no_streams events [] h s streams (at_first schema database n) x).to_come high).1
+not_fed_yet schema database events h s streams n x high = ((expands_all n (opening schema database) no_streams events [] h s streams (at_first (opening schema database) no_streams n refl refl) x).to_come high).1

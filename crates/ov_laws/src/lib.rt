@@ -1,15 +1,13 @@
 //! Laws of the definitions. Each function has an empty body, and its contract is a law.
 #![tactic(auto)]
 
-ghost use Rattle.std.specs.Prelude.{◌≡◌, ◌↔◌, ◌++◌, ◌-◌, ℕ, List, [], Option, Some, None, true, length};
+ghost use Rattle.std.specs.Prelude.{◌≡◌, ◌↔◌, ◌++◌, ◌-◌, ℕ, List, [], Option, Some, None, true, false, length};
 ghost use Rattle.serde_json.specs.Data.{Data, Items};
 ghost use Rattle.ov_specs.specs.wire.Cut.{Cut, cut, cut_from, IsCut, continue_cut, with_messages, max_message};
 ghost use Rattle.ov_specs.specs.wire.Message.{asked};
-ghost use Rattle.ov_specs.specs.machine.Machine.{State, Entry, Stepped, Outcome, Transact, works, to_session, results_of, opening};
-ghost use Rattle.ov_specs.specs.schema.SchemaTypes.{Schema};
-ghost use Rattle.ov_specs.specs.rows.Database.{Database};
+ghost use Rattle.ov_specs.specs.machine.Machine.{State, is_open, Entry, Stepped, Outcome, Transact, works, to_session, results_of};
 ghost use Rattle.ov_specs.specs.machine.History.{requests, closed_by};
-ghost use Rattle.ov_specs.specs.machine.Streams.{StreamEvent, Streams, no_streams, ExpandsTimed};
+ghost use Rattle.ov_specs.specs.machine.Streams.{StreamEvent, Streams, ExpandsTimed};
 ghost use Rattle.ov_specs.specs.values.Uuid.{Uuid};
 ghost use Rattle.ov_laws.specs.Refused.{has_error};
 ghost use Rattle.ov_laws.specs.Requests.{AreAskedFor};
@@ -29,11 +27,11 @@ pub fn cut_starts_again()
     ensures { (a b : List ℕ) → (cut a).damage ≡ None → cut (a ++ b) ≡ with_messages (cut a).messages (cut_from max_message (length a - length (cut a).rest) [] ((cut a).rest ++ b)) }
 {}
 
-/// What was taken of a session is what its stream asks for, however the stream came in pieces; want of memory
-/// leaves the first of it.
+/// What was taken of a session is what its stream asks for, however the stream came in pieces; want of memory leaves the
+/// first of it. That holds from any state on in which the session is not open and was fed nothing, as before it is opened.
 pub fn requests_are_asked_for()
-    ensures { (schema : Schema) (database : Database) (events : List (ℕ × StreamEvent)) (history : List Entry) (s : State) (streams : Streams) (session : ℕ)
-        → ExpandsTimed (opening schema database) no_streams events history s streams
+    ensures { (before : State) (fed : Streams) (events : List (ℕ × StreamEvent)) (history : List Entry) (s : State) (streams : Streams) (session : ℕ)
+        → is_open before session ≡ false → fed session ≡ [] → ExpandsTimed before fed events history s streams
         → AreAskedFor (closed_by history session) (requests history session) (asked (streams session)).messages }
 {}
 

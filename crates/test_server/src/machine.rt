@@ -1,8 +1,8 @@
 use ov_core::Core;
-use ov_core::early::OpenFault;
+use ov_core::early::{KeepFault, Keeper, OpenFault, RefusedOpen};
 use std::alloc::Global;
 use std::test::Fail;
-use test_support::{Counter, Faults, NET, failing, keeper_of, net, steps};
+use test_support::{Counter, Faults, NET, NetKeeper, failing, keeper_of, net, net_keeper, steps};
 
 /// One session is open at a time.
 const ONE_AT_A_TIME: &str = r#"open 0 -> Opened(Session { key: 0, serial: 1 })
@@ -85,5 +85,31 @@ fn a_database_that_does_not_fit_is_not_opened(rt: HostRuntime) -> Result<(), Fai
     assert_eq!(rt; other, Some(OpenFault::SchemaDiffers));
     let filled = refusal(rt.alloc(), NET, "Port 1 0 {}")?;
     assert_eq!(rt; filled, Some(OpenFault::BadBody));
+    Ok(())
+}
+
+/// The refusal of a machine over a keeper whose first load fails.
+fn refused_at_the_load(alloc: Global) -> Result<RefusedOpen<NetKeeper>, Fail> {
+    let mut keeper = net_keeper(alloc, Faults::NONE)?;
+    keeper.bad_loads = 1;
+    match Core::open(alloc, keeper, net(alloc)?, Counter::new()) {
+        Ok(_) => Err(Fail::new("opened")),
+        Err(refused) => Ok(refused),
+    }
+}
+
+/// How many failures a machine over this keeper has counted, as it is opened.
+fn failures_of(alloc: Global, keeper: NetKeeper) -> Result<u64, Fail> {
+    let core = Core::open(alloc, keeper, net(alloc)?, Counter::new())?;
+    Ok(core.failures())
+}
+
+/// The device's failure is told and counted, and the keeper that is given back can be opened.
+#[test]
+fn a_refused_opening_gives_the_keeper_back(rt: HostRuntime) -> Result<(), Fail> {
+    let RefusedOpen { fault, keeper } = refused_at_the_load(rt.alloc())?;
+    assert_eq!(rt; fault, OpenFault::Keeping(KeepFault::Device));
+    assert_eq!(rt; keeper.failures(), 1);
+    assert_eq!(rt; failures_of(rt.alloc(), keeper)?, 1);
     Ok(())
 }
