@@ -13,7 +13,7 @@ use sqlite::{Connection, Error, ErrorCode, Files, Options};
 use sqlite_schema::schema::Schema;
 use std::alloc::Global;
 use std::fs;
-use std::io::{self, ErrorKind};
+use std::io::{self, ErrorKind, Read};
 
 /// The first bytes of a file that SQLite made.
 const MAGIC: &[u8] = b"SQLite format 3\0";
@@ -24,11 +24,8 @@ const META: &[u8] = b"CREATE TABLE meta(k TEXT PRIMARY KEY, v BLOB)";
 const LINE: &[u8] =
     b"CREATE TABLE line(tbl TEXT, id BLOB, ver BLOB, body BLOB, PRIMARY KEY(tbl,id))";
 
-/// The least first page that is looked at.
-const FIRST_PAGE: usize = 4096;
-
 /// A log of fewer bytes has no commit.
-const LOG_HEADER: usize = 56;
+const LOG_HEADER: u64 = 56;
 
 /// Refuses the file at a path where an opening would refuse it as somebody else's. It passes a file that is absent, and one
 /// that has no table yet, or just those of stored format 1.
@@ -38,9 +35,9 @@ const LOG_HEADER: usize = 56;
 pub(crate) fn test_file(rt: &HostRuntime, path: &str) -> Result<(), KeepFault>
     ensures refused { IfErr result IsOpenRefused }
 {
-    match read_both(rt, path) {
-        Ok(files) if needs_no_test(&files) => Ok(()),
-        Ok(files) => test_copies(rt.alloc(), files),
+    match read_to_test(rt, path) {
+        Ok(None) => Ok(()),
+        Ok(Some(files)) => test_copies(rt.alloc(), files),
         Err(error) if error.kind() == ErrorKind::OutOfMemory => Err(refusal(
             ErrorCode::OutOfMemory,
         )),
@@ -64,37 +61,47 @@ struct Copies {
     db: Vec<u8>,
 }
 
-/// The bytes of the file at a path, and of its log, which lies where a link leads.
-fn read_both(rt: &HostRuntime, path: &str) -> io::Result<Copies> {
+/// The bytes of the file at a path and of its log, which lies where a link leads; none where the file may be opened at once:
+/// where no commit is in a log, and it is empty, or lists the tables of stored format 1.
+fn read_to_test(rt: &HostRuntime, path: &str) -> io::Result<Option<Copies>> {
     let real = fs::canonicalize(rt, path)?;
-    let db = bytes_of(rt, real.as_str())?;
-    let name = format!(in rt.alloc(); "{}-wal", real.as_str())?;
-    match bytes_of(rt, name.as_str()) {
-        Err(error) if error.kind() == ErrorKind::NotFound => Ok(Copies {
-            log: Vec::new(rt.alloc()),
-            db,
-        }),
-        Ok(log) => Ok(Copies { log, db }),
-        Err(error) => Err(error),
+    let db = real.as_str();
+    let name = format!(in rt.alloc(); "{db}-wal")?;
+    let log = name.as_str();
+    let db_size = size_of(rt, db)?;
+    let log_size = match size_of(rt, log) {
+        Err(error) if error.kind() == ErrorKind::NotFound => 0,
+        size => size?,
+    };
+    if log_size < LOG_HEADER && (db_size == 0 || lists_tables(&first_page(rt, db)?)) {
+        return Ok(None);
     }
+    Ok(Some(Copies {
+        log: if log_size == 0 {
+            Vec::new(rt.alloc())
+        } else {
+            fs::read(rt, log)?
+        },
+        db: fs::read(rt, db)?,
+    }))
 }
 
-/// The bytes of a regular file. Nothing else is read, since it may have no end.
-fn bytes_of(rt: &HostRuntime, path: &str) -> io::Result<Vec<u8>> {
-    if !fs::metadata(rt, path)?.is_file() {
+/// The size of a regular file. Of nothing else is a size known, since it may have no end.
+fn size_of(rt: &HostRuntime, path: &str) -> io::Result<u64> {
+    let found = fs::metadata(rt, path)?;
+    if !found.is_file() {
         return Err(ErrorKind::Unsupported.into());
     }
-    fs::read(rt, path)
+    Ok(found.len())
 }
 
-/// Whether there is no log with a commit, and the file is empty, or lists the tables of stored format 1.
-fn needs_no_test(files: &Copies) -> bool {
-    if files.log.len() >= LOG_HEADER {
-        return false;
-    }
-    match files.db.as_slice().get(..FIRST_PAGE) {
-        Some(page) => lists_tables(page),
-        None => files.db.is_empty(),
+/// The first page of a file, of which all is zero where the file has no whole one.
+fn first_page(rt: &HostRuntime, path: &str) -> io::Result<[u8; 4096]> {
+    let mut page = [0; 4096];
+    match fs::open(rt, path)?.read_exact(&mut page) {
+        Err(error) if error.kind() == ErrorKind::UnexpectedEof => Ok([0; 4096]),
+        Err(error) => Err(error),
+        Ok(()) => Ok(page),
     }
 }
 

@@ -6,6 +6,8 @@ mod crashes;
 #[cfg(test)]
 mod disks;
 #[cfg(test)]
+mod files;
+#[cfg(test)]
 mod keepers;
 #[cfg(test)]
 mod opens;

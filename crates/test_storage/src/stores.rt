@@ -26,7 +26,7 @@ fn opened<S: Alter + Drop>(alloc: Global, connection: Connection<S>) -> Result<S
 }
 
 /// Lines that are put, put again, and removed.
-const TWO_COMMITS: &str = "schema -> new
+pub(crate) const TWO_COMMITS: &str = "schema -> new
 lines
 put Switch 1 0 one
 put Switch 2 0 two
@@ -40,14 +40,18 @@ lines -> Port 1 7 port;Switch 1 1 one again;
 failures -> 0";
 
 /// What the next one who opens it finds.
-const FOUND: &str = "lines -> Port 1 7 port;Switch 1 1 one again;
+pub(crate) const FOUND: &str = "lines -> Port 1 7 port;Switch 1 1 one again;
 commit -> made
 remove Port 1
 commit -> made
 lines -> Switch 1 1 one again;";
 
 /// Runs a script over a store, and gives it back.
-fn kept<S: Alter + Drop>(alloc: Global, store: Store<S>, script: &str) -> Result<Store<S>, Fail> {
+pub(crate) fn kept<S: Alter + Drop>(
+    alloc: Global,
+    store: Store<S>,
+    script: &str,
+) -> Result<Store<S>, Fail> {
     let mut keeping = Keeping::new(alloc, store);
     follows(alloc, &mut keeping, script)?;
     Ok(keeping.into_keeper())
