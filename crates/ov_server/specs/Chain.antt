@@ -9,6 +9,7 @@ use Rattle.ov_keeper.specs.declared.keeper.Keeper.{Ghosts}
 use Rattle.ov_keeper.specs.Keeping.{LeavesNoMore, HasFailed}
 use Rattle.ov_db.specs.declared.fault.RefusedOpen.{RefusedOpen}
 use Rattle.ov_db.specs.declared.fault.OpenFault.TheVariants.{Keeping}
+use Rattle.ov_db.specs.Committing.{MayFind}
 use Rattle.ov_db.specs.Opening.{CanOpen, IsOpenFault, RefusesOpen}
 use Rattle.ov_core.specs.declared.event.Cause.{Cause}
 use Rattle.ov_core.specs.declared.event.Cause.TheVariants.{InputEnded}
@@ -75,7 +76,7 @@ pub record RefusesCore {K : Type 0} (k : Ghosts K) (keeper : K) (schema : Schema
   pub honest : k.is_honest refused.keeper → k.is_honest keeper
 
 module _ {K D C : Type 0} (k : Ghosts K) (tells : C → ℕ → C → Type 0) where
-  -- one session of the core was served to its closing, and a crash then leaves the lines of the core's database
+  -- One session of the core was served to its closing. A crash then leaves the lines of the core's database, and an open finds it.
   pub record ServesCore (cause : Cause) (old : CoreState K D) (from : Ends C) (new : CoreState K D) (to : Ends C) : Type 0 where
     pub served : Served tells old.state.next old (io_of from) cause new (io_of to)
     pub flushed : is_written cause ≡ true → to.writer.is_flushed ≡ true
@@ -84,6 +85,7 @@ module _ {K D C : Type 0} (k : Ghosts K) (tells : C → ℕ → C → Type 0) wh
     pub all : cause ≡ InputEnded → IsAtEnd to.reader.remaining
     pub given : GivesWritten from.writer.written from.writer.contents to.writer.written to.writer.contents
     pub leaves : k.is_honest new.keeper → (held : Contents) → k.leaves new.keeper held → LeavesItsOwn new.state held
+    pub finds : k.is_honest new.keeper → MayFind (k.leaves new.keeper) new.state.schema new.state.database new.state.sealed
 
   -- The session was served, and the ending is that of the cause for which it was closed; or it could not be opened, and nothing is
   -- changed.

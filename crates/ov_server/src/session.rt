@@ -109,6 +109,7 @@ fn serve_core<R: Wait, K: Keeper + Drop, D: Draws + Drop, S: Source, W: Sink, C:
 {
     let served = serve_one(rt, core, alloc, reader, writer, clock);
     core.left();
+    core.would_open();
     match served {
         Ok(cause) => ending_of_cause(cause),
         Err(fault) => ending_of_step(fault),
