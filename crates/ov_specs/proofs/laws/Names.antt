@@ -61,9 +61,10 @@ module _ {X : Type 0} where
   -- what holds of each value that is found holds of each entry
   each_found : (P : List ℕ → X → Type 0) (es : List (List ℕ × X)) → T (is_sorted name_cmp es) → ((name : List ℕ) (x : X) → find name_cmp name es ≡ Some x → P name x) → EachEntry P es
   each_found P [] h all = tt
-  each_found P (e ∷ es) h all =
-      (all e.0 e.1 (ap (λ b. cond b (Some e.1) (find name_cmp e.0 es)) (same_name-itself e.0)),
-      each_found P es (right_holds _ _ h) (λ name x found. all name x (find-later e es name x h found)))
+  each_found P (e ∷ es) h all = (
+    all e.0 e.1 (ap (λ b. cond b (Some e.1) (find name_cmp e.0 es)) (same_name-itself e.0)),
+    each_found P es (right_holds _ _ h) (λ name x found. all name x (find-later e es name x h found)),
+  )
 
   -- each entry stands at its name
   pub each_entry : (m : FinMap name_cmp X) → EachEntry (λ name x. get m name ≡ Some x) (entries m)

@@ -32,3 +32,8 @@ returns-then-is_empty-clause-asks g c = asks_none g.K.Keeper.failed c.args.sessi
 
 pub returns-then-sealed-clause-asks : goal.returns-then-sealed-clause-asks
 returns-then-sealed-clause-asks g c = asks_none g.K.Keeper.failed c.args.session (Some (frame (reply_tree c.args.id.now (array (failed_results c.in-Ok.performed.results))))) c.args.outbox.now c.answer_failed.new.outbox c.answer_failed.result c.args.db.now c.answer_failed.ensures
+
+pub commit-requires-clause-suits : goal.commit-requires-clause-suits
+commit-requires-clause-suits g c =
+    let suits = rw (c.schema.ensures, c.rows.ensures) at c.in-Ok.ensures.suits in
+    suits c.kept.ensures.committed_kept.suits
