@@ -13,6 +13,7 @@ ghost use Rattle.ov_core.specs.Outbox.{waiting_for, has_queue};
 ghost use Rattle.ov_core.specs.Following.{Follows, none_given, and_handed, and_all_handed};
 ghost use Rattle.ov_core.specs.Stepping.{StepIs, Closes};
 ghost use Rattle.ov_core.specs.Leaving.{LeavesItsOwn};
+ghost use Rattle.ov_db.specs.Committing.{MayFind};
 
 use crate::entry::{entry_with_choice, entry_without_choice, is_closing, listed};
 use crate::event::{Cause, Entry, Event, Session, StepFault, Stepped};
@@ -206,6 +207,14 @@ impl<K: Keeper + Drop, D: Draws + Drop> Core<K, D> {
     /// that failed also those of the database that it would have made. It does nothing.
     pub fn left(&self)
         ensures { K.is_honest self.now.keeper → (held : Contents) → K.leaves self.now.keeper held → LeavesItsOwn self.now.state held }
+    {
+        self.database.left();
+    }
+
+    /// What an open after a crash now would find, which each core keeps true of itself: the machine's database, or after a commit
+    /// that failed also the one that it would have made. It does nothing.
+    pub fn would_open(&self)
+        ensures { K.is_honest self.now.keeper → MayFind (K.leaves self.now.keeper) self.now.state.schema self.now.state.database self.now.state.sealed }
     {
         self.database.left();
     }
