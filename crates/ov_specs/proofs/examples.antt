@@ -6,3 +6,4 @@ mod ConditionRows
 mod MutatorRows
 mod TransactionRows
 mod MachineRows
+mod SuitsRows

@@ -31,8 +31,9 @@ fn opened(alloc: Global, keeper: NetKeeper) -> Result<Db<NetKeeper>, Fail> {
 /// The line of a switch of this number and name.
 fn line_of_switch(alloc: Global, put: &str) -> Result<Line, Fail> {
     let (number, name) = put.split_once(" ").ok_or("no name")?;
-    let body =
-        format!(in alloc; "{{\"load\":4,\"main\":[\"set\",[]],\"name\":\"{name}\",\"ports\":[\"set\",[]]}}")?;
+    let body = format!(in alloc;
+        "{{\"load\":4,\"main\":[\"set\",[]],\"name\":\"{name}\",\"ports\":[\"set\",[]]}}"
+    )?;
     let text = format!(in alloc; "Switch {number} 1 {body}")?;
     line_of(alloc, text.as_str())
 }
