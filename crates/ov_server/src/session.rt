@@ -3,7 +3,7 @@ ghost use Rattle.ov_server.specs.declared.clock.StillClock.{StillClock};
 ghost use Rattle.ov_server.specs.Chain.{Ends, EndsChain, EndsSession, ends, reader_state, writer_state};
 
 use crate::clock::StillClock;
-use ov_core::early::{Draws, Keeper, RefusedOpen};
+use ov_core::early::{Draws, Keeper};
 use ov_core::{Core, Schema};
 use ov_serve::{Clock, Sink, Source, Watched, serve_one};
 use ov_words::{Ending, ending_of_cause, ending_of_open, ending_of_step};
@@ -82,9 +82,9 @@ pub fn serve<R: Wait, K: Keeper + Drop, D: Draws + Drop, S: Source, W: Sink, C: 
             let keeper = core.into_keeper();
             Ended { ending, keeper }
         }
-        Err(RefusedOpen { fault, keeper }) => Ended {
-            ending: ending_of_open(fault),
-            keeper,
+        Err(refused) => Ended {
+            ending: ending_of_open(refused.fault),
+            keeper: refused.keeper,
         },
     }
 }
