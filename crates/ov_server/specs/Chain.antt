@@ -99,6 +99,6 @@ module _ {K D C : Type 0} (k : Ghosts K) (tells : C → ℕ → C → Type 0) wh
   abbrev pub EndsChain : K → Schema → D → Ends C → Ending → K → Ends C → Type 0
   EndsChain keeper schema draws from ending left to =
       ((first : CoreState K D) × (last : CoreState K D) × OpensCore k keeper schema draws first
-          × EndsSession first from ending last to × (left ≡ last.keeper))
+      × EndsSession first from ending last to × (left ≡ last.keeper))
       ⊎ ((refused : RefusedOpen K) × (ending ≡ by_open refused.fault) × RefusesCore k keeper schema refused
-          × (left ≡ refused.keeper) × (to ≡ from))
+      × (left ≡ refused.keeper) × (to ≡ from))

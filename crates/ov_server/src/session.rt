@@ -70,10 +70,10 @@ pub fn serve<R: Wait, K: Keeper + Drop, D: Draws + Drop, S: Source, W: Sink, C: 
 ) -> Ended<K>
     ensures chain { EndsChain K.Keeper C.tells keeper schema draws
         (ends (reader_state (S.bytes_read reader.old) (S.remaining reader.old) (S.at_end reader.old) (S.faults reader.old))
-            (writer_state (W.bytes_written writer.old) (W.contents writer.old) (W.is_flushed writer.old) (W.faults writer.old)) clock.old)
+        (writer_state (W.bytes_written writer.old) (W.contents writer.old) (W.is_flushed writer.old) (W.faults writer.old)) clock.old)
         result.ending result.keeper
         (ends (reader_state (S.bytes_read reader.new) (S.remaining reader.new) (S.at_end reader.new) (S.faults reader.new))
-            (writer_state (W.bytes_written writer.new) (W.contents writer.new) (W.is_flushed writer.new) (W.faults writer.new)) clock.new) }
+        (writer_state (W.bytes_written writer.new) (W.contents writer.new) (W.is_flushed writer.new) (W.faults writer.new)) clock.new) }
     ensures kind { (result.ending ≢ Ending.Arguments) × (result.ending ≢ Ending.Schema) }
 {
     match Core::open(alloc, keeper, schema, draws) {
@@ -101,10 +101,10 @@ fn serve_core<R: Wait, K: Keeper + Drop, D: Draws + Drop, S: Source, W: Sink, C:
 ) -> Ending
     ensures told { EndsSession K.Keeper C.tells core.old
         (ends (reader_state (S.bytes_read reader.old) (S.remaining reader.old) (S.at_end reader.old) (S.faults reader.old))
-            (writer_state (W.bytes_written writer.old) (W.contents writer.old) (W.is_flushed writer.old) (W.faults writer.old)) clock.old)
+        (writer_state (W.bytes_written writer.old) (W.contents writer.old) (W.is_flushed writer.old) (W.faults writer.old)) clock.old)
         result core.new
         (ends (reader_state (S.bytes_read reader.new) (S.remaining reader.new) (S.at_end reader.new) (S.faults reader.new))
-            (writer_state (W.bytes_written writer.new) (W.contents writer.new) (W.is_flushed writer.new) (W.faults writer.new)) clock.new) }
+        (writer_state (W.bytes_written writer.new) (W.contents writer.new) (W.is_flushed writer.new) (W.faults writer.new)) clock.new) }
     ensures kind { (result ≢ Ending.Arguments) × (result ≢ Ending.Schema) }
 {
     let served = serve_one(rt, core, alloc, reader, writer, clock);

@@ -46,16 +46,7 @@ pub fn run<R: Wait + RandomSource, S: Start, I: Read + Drop, O: Write + Drop>(
     };
     match db {
         None => serve_memory(rt, host.alloc(), text, schema, input, output),
-        Some(path) => serve_file(
-            host,
-            rt,
-            path.as_str(),
-            start,
-            text,
-            schema,
-            input,
-            output,
-        ),
+        Some(path) => serve_file(host, rt, path.as_str(), start, text, schema, input, output),
     }
 }
 
@@ -142,9 +133,7 @@ fn serve_store<R: Wait + RandomSource, K: Keeper + Drop, I: Read + Drop, O: Writ
         return Err(Ending::Database);
     };
     match store {
-        Ok(keeper) => Ok(serve_over(
-            rt, alloc, keeper, schema, draws, input, output,
-        )),
+        Ok(keeper) => Ok(serve_over(rt, alloc, keeper, schema, draws, input, output)),
         Err(fault) => Err(ending_of_keeping(fault)),
     }
 }
