@@ -98,7 +98,7 @@ fn serve_memory<R: Wait + RandomSource, I: Read + Drop, O: Write + Drop>(
     }
 }
 
-/// Serves the database of the file at a path, which has the whole at the end, with no log beside it.
+/// Serves the database of the file at a path. Behind a session that was served the file has the whole, with no log beside it.
 fn serve_file<R: Wait + RandomSource, S: Start, I: Read + Drop, O: Write + Drop>(
     host: &HostRuntime,
     rt: &R,
@@ -112,8 +112,10 @@ fn serve_file<R: Wait + RandomSource, S: Start, I: Read + Drop, O: Write + Drop>
     let store = store_in_file(host, path, text, start);
     match serve_store(rt, host.alloc(), store, schema, input, output) {
         Ok(Ended { ending, keeper }) => {
-            // Where that fails nothing is lost: the file and its log belong together, as after a kill.
-            let _ = close_in_file(host, path, keeper);
+            // A refused start changes nothing. Where the closing fails nothing is lost: the two belong together, as after a kill.
+            if ending == Ending::InputEnded || ending == Ending::Streams {
+                let _ = close_in_file(host, path, keeper);
+            }
             ending
         }
         Err(ending) => ending,
