@@ -8,6 +8,7 @@ pub mod Clashing
 pub mod ReadingBack
 pub mod OfKinds
 pub mod DatumOrder
+pub mod Sameness
 pub mod SchemaLaws
 pub mod Expanding
 pub mod Turns
