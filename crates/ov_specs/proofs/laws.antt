@@ -10,6 +10,7 @@ pub mod OfKinds
 pub mod DatumOrder
 pub mod SchemaLaws
 pub mod Expanding
+pub mod Histories
 pub mod Turns
 pub mod LineKeys
 pub mod Truths
