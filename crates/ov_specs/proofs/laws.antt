@@ -11,6 +11,7 @@ pub mod DatumOrder
 pub mod Sameness
 pub mod SchemaLaws
 pub mod Expanding
+pub mod Histories
 pub mod Turns
 pub mod LineKeys
 pub mod Truths
