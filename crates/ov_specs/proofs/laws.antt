@@ -7,6 +7,7 @@ pub mod Inserting
 pub mod Clashing
 pub mod ReadingBack
 pub mod OfKinds
+pub mod OfColumns
 pub mod DatumOrder
 pub mod Sameness
 pub mod SchemaLaws
