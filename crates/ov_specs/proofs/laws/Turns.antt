@@ -49,7 +49,7 @@ no_cause_more n s t what c more = ap (λ b. cond (is_open s n && not b) (Some (c
     never false = refl
 
 -- one that is open before and not after has that of the event
-cause_shut : (n : ℕ) (s t : State) (what : Event) → is_open s n ≡ true → is_open t n ≡ false → closing_cause n s what t ≡ Some (cause_in n what)
+pub cause_shut : (n : ℕ) (s t : State) (what : Event) → is_open s n ≡ true → is_open t n ≡ false → closing_cause n s what t ≡ Some (cause_in n what)
 cause_shut n s t what there away = ap (λ b. cond (b && not (is_open t n)) (Some (cause_in n what)) None) there ∙ ap (λ b. cond (not b) (Some (cause_in n what)) None) away
 
 -- ---- one step
