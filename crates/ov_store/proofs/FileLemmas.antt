@@ -9,12 +9,12 @@ use Rattle.sqlite.specs.Start.{FindsIn}
 use Rattle.sqlite.specs.Files.{AreFoundIn}
 use Rattle.sqlite_wal.specs.Recovery.{Image}
 use Rattle.ov_specs.specs.rows.Lines.{Contents}
-use Rattle.ov_store.specs.Tables.{no_schema, line_schema}
+use Rattle.ov_store.specs.Tables.{no_schema, HasOurTables}
 use Rattle.ov_store.specs.StoreState.{StoreState, MayFind}
 use Rattle.ov_store.specs.Finding.{new_contents, IsNewStore, IsStoreOf, HasNoTable, IsStoredIn}
 
-no_tables : (schema : Schema) → schema ≡ no_schema → schema ≢ line_schema
-no_tables schema blank tables = let same = ap (λ (s : Schema). length s.tables) (sym blank ∙ tables) in omega (arith, same)
+pub no_tables : (schema : Schema) → schema ≡ no_schema → ¬ HasOurTables schema
+no_tables schema blank has = let same = ap length ((rw blank at has).tables) in omega (arith, same)
 
 module _ {S : Type 0} (g : Ghosts S) where
   -- a store of a connection that had no table is new

@@ -5,7 +5,7 @@ ghost use Rattle.ov_keeper.specs.Views.{changes_view};
 ghost use Rattle.ov_keeper.specs.Keeping.{LeavesChanged, LeavesRefused, IsCommitFault};
 ghost use Rattle.ov_store.specs.WriteError.{IsBefore};
 ghost use Rattle.ov_store.specs.Changing.{MayBeStored};
-ghost use Rattle.ov_store.specs.StoreState.{MayFind};
+ghost use Rattle.ov_store.specs.StoreState.{MayFind, LeavesOthers};
 
 use crate::store::Store;
 use crate::write::{WriteError, is_up, write_all};
@@ -66,6 +66,8 @@ impl<S: Alter> Store<S> {
         ensures counts { self.old.failures ≤ self.new.failures }
         ensures honest { HasCleanDisk (state S.Store self.new.connection) → HasCleanDisk (state S.Store self.old.connection) }
         ensures schema { self.new.schema ≡ self.old.schema }
+        // The rows of other tables are kept, whatever the answer.
+        ensures others { HasCleanDisk (state S.Store self.new.connection) → LeavesOthers S.Store self.old.connection self.new.connection }
     {
         if changes.is_empty() {
             return Ok(());

@@ -6,6 +6,7 @@ ghost use Rattle.sqlite.specs.Opening.{is_open_error};
 ghost use Rattle.ov_store.specs.Finding.{IsOpenRefused};
 
 use crate::file::fault_of_open;
+use crate::make::{CREATE_LINE, CREATE_META};
 use crate::memory_disk::MemoryDisk;
 use crate::schema::{is_blank, is_ours};
 use ov_keeper::KeepFault;
@@ -17,12 +18,6 @@ use std::io::{self, ErrorKind, Read};
 
 /// The first bytes of a file that SQLite made.
 const MAGIC: &[u8] = b"SQLite format 3\0";
-
-/// The tables of stored format 1, as page 1 of a file that has them lists them.
-const META: &[u8] = b"CREATE TABLE meta(k TEXT PRIMARY KEY, v BLOB)";
-
-const LINE: &[u8] =
-    b"CREATE TABLE line(tbl TEXT, id BLOB, ver BLOB, body BLOB, PRIMARY KEY(tbl,id))";
 
 /// A log of fewer bytes has no commit.
 const LOG_HEADER: u64 = 56;
@@ -110,8 +105,8 @@ fn lists_tables(page: &[u8]) -> bool {
     page.starts_with(MAGIC)
         && page.get(18..20) == Some(&[2, 2])
         && page.get(103..105) == Some(&[0, 4])
-        && has_text(page, META)
-        && has_text(page, LINE)
+        && has_text(page, CREATE_META.as_bytes())
+        && has_text(page, CREATE_LINE.as_bytes())
 }
 
 /// Whether the text stands somewhere in the bytes.
