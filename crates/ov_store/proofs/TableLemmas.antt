@@ -1,5 +1,5 @@
 -- A schema that has our tables, written out, and that no change of theirs sets off an action of a foreign key.
-use Rattle.std.proofs.Common.{◌≡◌, ℕ, List, [], ◌∷◌, ◌++◌, take, drop, length, get_or, ◌≤◌, find, Bool, true, false, not, ◌&&◌, ◌||◌, ◌==◌, nat_lt, cond, Option, Some, None, IfSome, IsTrue, option_and_then, option_map, refl, sym, ap, ap₂, subst, ◌∙◌, arith, codes, Ok}
+use Rattle.std.proofs.Common.{◌≡◌, ℕ, List, [], ◌∷◌, ◌++◌, take, drop, length, get_or, ◌≤◌, find, Bool, true, false, not, ◌&&◌, ◌||◌, ◌==◌, nat_lt, cond, Option, Some, None, IfSome, IsTrue, option_and_then, option_map, refl, sym, ap, ap₂, arith, codes, Ok}
 use Rattle.std.specs.List.{list_any, list_all, flat_map, filter_map}
 use Rattle.std.proofs.lemmas.Bool.Decides.{nat_tests}
 use Rattle.sqlite.specs.Table.{Table}
@@ -10,8 +10,8 @@ use Rattle.sqlite_schema.specs.declared.schema.View.{View}
 use Rattle.sqlite_schema.specs.declared.schema.Keys.{Keys}
 use Rattle.sqlite_schema.specs.declared.schema.Reference.{Reference}
 use Rattle.sqlite_schema.specs.Names.{same_name}
-use Rattle.sqlite_schema.specs.Rules.{key_in, key_places, parent_key, declared_order}
-use Rattle.sqlite_rules.specs.Action.{Work, works, work_for, work_by, deed_for, pairs, Writes}
+use Rattle.sqlite_schema.specs.Rules.{key_in, key_places, declared_order}
+use Rattle.sqlite_rules.specs.Action.{works, work_for, work_by, deed_for, pairs, Writes}
 use Rattle.sqlite_rules.specs.Edit.{Edit, taken_by, Applies}
 use Rattle.sqlite_trees.specs.Tree.{Trees}
 use Rattle.sqlite.proofs.Callers.{one_step}

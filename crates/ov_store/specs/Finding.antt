@@ -78,6 +78,13 @@ pub record IsStoredIn (image : Image) (contents : Contents) : Type 0 where
   pub format : IsFormat text db
   pub contents_are : contents ≡ held db.trees
 
+-- what the files recover to is nobody else's: it has no table, index or view, or the tables of the format
+pub record IsNobodyElses (image : Image) : Type 0 where
+  pub db : Database
+  pub sound : IsDatabase db
+  pub found : AreFoundIn image db.trees
+  pub ours : (db.schema ≡ no_schema) ⊎ HasOurTables db.schema
+
 -- SQLite refuses to open the files
 abbrev pub IsOpenRefused : KeepFault → Type 0
 IsOpenRefused fault = (error : Error) × IsTrue (is_open_error error) × (fault ≡ fault_of_open error)

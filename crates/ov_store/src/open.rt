@@ -140,9 +140,10 @@ impl<S: Alter + Drop> Store<S> {
         }
     }
 
-    /// The store of a database that has stored format 1. `NotOurs` where its tables, indexes and views are not just those
-    /// of that format, `Format` where a row of `meta` or of `line` is not as there. Each row is read once. A refusal leaves
-    /// the connection with what it held, and a crash then leaves what it left before.
+    /// The store of a database that has stored format 1. `NotOurs` where its first two tables and their indexes are not those
+    /// of that format, where another table has a foreign key to them, or another index of theirs is unique; what else stands
+    /// behind them is passed over. `Format` where a row of `meta` or of `line` is not as there. Each row is read once. A refusal
+    /// leaves the connection with what it held, and a crash then leaves what it left before.
     pub fn open(alloc: Global, mut connection: Connection<S>) -> Result<Store<S>, Unopened<S>>
         requires { connection.in_transaction ≡ false }
         ensures ok { IfOk result (λ s. HasCleanDisk (state S.Store s.connection) → IsFormat s.schema (state S.Store connection).now) }

@@ -1,4 +1,4 @@
-use Rattle.std.proofs.Common.{◌≡◌, ◌∙◌, ap, sym, subst, arith, Result, Err}
+use Rattle.std.proofs.Common.{◌≡◌, ap, sym, subst, arith, Result, Err}
 use Rattle.ov_keeper.specs.declared.fault.KeepFault.{KeepFault}
 use Rattle.std.specs.List.{AllByRecursion}
 use Rattle.sqlite.specs.Effect.{Database}
