@@ -15,7 +15,7 @@ use std::random::RandomSource;
 use std::rt::Files;
 use std::sync::Wait;
 
-/// Runs the program, and tells how it ends. Faults are looked for in the words, then in the schema, then in the database.
+/// Runs the program, and tells how it ends. Faults are looked for in the arguments, then in the schema, then in the database.
 /// `start` stands for what the database's file and its log hold.
 pub fn run<R: Wait + RandomSource, S: Start, I: Read + Drop, O: Write + Drop>(
     host: &HostRuntime,
@@ -45,7 +45,7 @@ pub fn run<R: Wait + RandomSource, S: Start, I: Read + Drop, O: Write + Drop>(
     }
 }
 
-/// What the words say.
+/// What the arguments say.
 fn settings<R: Env + AllocGlobal>(rt: &R, alloc: Global) -> Result<Settings, Ending> {
     let mut words = Vec::new(alloc);
     match env::args(rt) {
