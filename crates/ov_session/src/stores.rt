@@ -64,8 +64,8 @@ fn serve_store<R: Wait + RandomSource, K: Keeper + Drop, I: Read + Drop, O: Writ
     input: I,
     output: O,
 ) -> Ended<Option<K>>
-    ensures chain { EndsStore {D = RandomDraws StdRng} K.Keeper ⟦<StillClock as Clock>⟧.tells store schema (I.remaining input) (O.contents output)
-        result.ending result.keeper }
+    ensures chain { EndsStore K.Keeper ⟦<StillClock as Clock>⟧.tells (RandomDraws StdRng) store schema (I.remaining input)
+        (O.contents output) result.ending result.keeper }
 {
     let Ok(draws) = RandomDraws::seeded(rt) else {
         return Ended {
@@ -75,8 +75,9 @@ fn serve_store<R: Wait + RandomSource, K: Keeper + Drop, I: Read + Drop, O: Writ
     };
     match store {
         Ok(store) => {
-            let Ended { ending, keeper } =
-                serve_over(rt, alloc, store, schema, draws, input, output);
+            let Ended { ending, keeper } = serve_over(
+                rt, alloc, store, schema, draws, input, output,
+            );
             Ended {
                 ending,
                 keeper: Some(keeper),
