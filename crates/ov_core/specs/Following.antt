@@ -5,7 +5,7 @@ use Rattle.ov_specs.specs.machine.Machine.{State, Sent}
 use Rattle.ov_specs.specs.machine.History.{run, frames_to}
 use Rattle.ov_core.specs.declared.event.Entry.{Entry}
 use Rattle.ov_core.specs.Entries.{entry_view}
-use Rattle.ov_core.specs.Outbox.{WaitingFrames, waiting_for}
+use Rattle.ov_core.specs.Outbox.{WaitingFrames, waiting_for, PostsSent}
 
 -- what contracts see of a core: its state, the entries that it keeps, the frames that wait, its keeper, how often the keeper's
 -- device has failed, and its source of draws (own)
@@ -50,5 +50,5 @@ and_handed given session frame = and_all_handed given session (option_to_list fr
 pub record EntersEntry {K D : Type 0} (old : CoreState K D) (entry : machine.Entry) (new : CoreState K D) : Type 0 where
   pub sent : List Sent
   pub stepped : machine.step old.state entry ≡ Some (record { state = new.state; sent = sent })
-  pub waits : (session : ℕ) → waiting_for session new.outbox ≡ waiting_for session old.outbox ++ frames_to session sent
+  pub waits : PostsSent sent old.outbox new.outbox
   pub follows : Extends old (entry ∷ []) new

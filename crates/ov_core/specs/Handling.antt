@@ -1,11 +1,10 @@
 -- What comes of the work on a message: what the machine makes of it, in every state over the database.
-use Rattle.std.specs.Prelude.{◌≡◌, ℕ, List, ◌++◌, map, Option, Some, None, option_map, option_to_list}
+use Rattle.std.specs.Prelude.{◌≡◌, ℕ, List, map, Option, Some, None, option_map, option_to_list}
 use Rattle.serde_json.specs.Data.{Data, Items}
 use Rattle.ov_specs.specs.wire.Frame.{frame}
-use Rattle.ov_specs.specs.machine.History.{frames_to}
 use Rattle.ov_specs.specs.machine.Machine as machine
-use Rattle.ov_specs.specs.machine.Machine.{State, Stepped, Work, Answers, Transact, works, attempt, closed, without_session, to_session}
-use Rattle.ov_specs.specs.operations.Transaction.{transaction}
+use Rattle.ov_specs.specs.machine.Machine.{State, Sent, Stepped, Work, Answers, Transact, works, attempt, closed, without_session, results_to}
+use Rattle.ov_specs.specs.operations.Transaction.{transaction, exhausted_results, failed_results}
 use Rattle.ov_specs.specs.values.Uuid.{Uuid}
 use Rattle.ov_db.specs.Changing.{Delta}
 use Rattle.ov_db.specs.Committing as db
@@ -13,12 +12,11 @@ use Rattle.ov_db.specs.KeptDatabase.{KeptDatabase}
 use Rattle.ov_keeper.specs.Keeping.{HasFailed}
 use Rattle.ov_db.specs.declared.answer.StoreAnswer.TheVariants as store
 use Rattle.ov_core.specs.Entries.{outcome_view}
-use Rattle.ov_core.specs.Outbox.{WaitingFrames, waiting_for, PostsFrame, HasSameFrames}
+use Rattle.ov_core.specs.Outbox.{WaitingFrames, PostsSent, HasSameFrames}
 use Rattle.ov_core.specs.declared.answer.Work as code
 use Rattle.ov_core.specs.declared.answer.Work.TheVariants as kinds
 use Rattle.ov_core.specs.declared.event.Outcome.{Outcome}
 use Rattle.ov_core.specs.declared.event.Outcome.TheVariants as outcome
-use Rattle.ov_core.specs.declared.frames.Frames.{Frames}
 use Rattle.ov_core.specs.declared.handle.Handled.{Handled}
 
 -- the work of the code is that of the machine: its frame is the machine's answer, or it is the same transaction (own)
@@ -30,22 +28,21 @@ IsWork (Transact id operations) (kinds.Answer bytes) = ⊥
 
 -- ---- what waits
 
--- The frame, if there is one, waits for the session, or memory was refused and nothing more waits (own).
-abbrev pub PostsIfRoom : ℕ → Option (List ℕ) → WaitingFrames → Option Outcome → WaitingFrames → Type 0
-PostsIfRoom session (Some bytes) old None new = PostsFrame session bytes old new
-PostsIfRoom session None old None new = HasSameFrames old new
-PostsIfRoom session frame old (Some outcome.NoMemory) new = HasSameFrames old new
-PostsIfRoom session frame old (Some outcome.Kept) new = ⊥
-PostsIfRoom session frame old (Some outcome.Exhausted) new = ⊥
-PostsIfRoom session frame old (Some outcome.Failed) new = ⊥
+-- These are sent, or memory was refused and nothing more waits (own).
+abbrev pub PostsIfRoom : List Sent → WaitingFrames → Option Outcome → WaitingFrames → Type 0
+PostsIfRoom sent old None new = PostsSent sent old new
+PostsIfRoom sent old (Some outcome.NoMemory) new = HasSameFrames old new
+PostsIfRoom sent old (Some outcome.Kept) new = ⊥
+PostsIfRoom sent old (Some outcome.Exhausted) new = ⊥
+PostsIfRoom sent old (Some outcome.Failed) new = ⊥
 
--- The store was asked for the changes, and the frame of its answer waits; or nothing was tried for want of memory (own).
-abbrev pub CommitsWithReply : {K : Type 0} → ℕ → Frames → Delta → KeptDatabase K → WaitingFrames → Option Outcome → KeptDatabase K → WaitingFrames → Type 0
-CommitsWithReply session frames delta old waited (Some outcome.Kept) new waits = db.Commits delta old store.Kept new × PostsFrame session frames.kept waited waits
-CommitsWithReply session frames delta old waited (Some outcome.Exhausted) new waits = db.Commits delta old store.Exhausted new × PostsFrame session frames.exhausted waited waits
-CommitsWithReply session frames delta old waited (Some outcome.Failed) new waits = db.Commits delta old store.Failed new × PostsFrame session frames.failed waited waits
-CommitsWithReply session frames delta old waited (Some outcome.NoMemory) new waits = (new ≡ old) × HasSameFrames waited waits
-CommitsWithReply session frames delta old waited None new waits = ⊥
+-- The store was asked for the changes, and the results are sent as it answered; or nothing was tried for want of memory (own).
+abbrev pub CommitsWithReply : {K : Type 0} → ℕ → Data → Items → Delta → KeptDatabase K → WaitingFrames → Option Outcome → KeptDatabase K → WaitingFrames → Type 0
+CommitsWithReply session id results delta old waited (Some outcome.Kept) new waits = db.Commits delta old store.Kept new × PostsSent (results_to session id results) waited waits
+CommitsWithReply session id results delta old waited (Some outcome.Exhausted) new waits = db.Commits delta old store.Exhausted new × PostsSent (results_to session id (exhausted_results results)) waited waits
+CommitsWithReply session id results delta old waited (Some outcome.Failed) new waits = db.Commits delta old store.Failed new × PostsSent (results_to session id (failed_results results)) waited waits
+CommitsWithReply session id results delta old waited (Some outcome.NoMemory) new waits = (new ≡ old) × HasSameFrames waited waits
+CommitsWithReply session id results delta old waited None new waits = ⊥
 
 -- ---- the store
 
@@ -76,12 +73,11 @@ closed_if_no_memory session None s = s
 abbrev pub listed_first : Option Outcome → Option machine.Outcome
 listed_first o = option_map outcome_view o
 
--- In every state over the database the machine comes to the state over the database as it is now, and what it sends to the
--- session waits behind what waited (own).
+-- In every state over the database the machine comes to the state over the database as it is now, and what it sends waits behind
+-- what waited, for whichever session (own).
 abbrev pub IsMachineStep : {K : Type 0} → ℕ → (State → Option Stepped) → KeptDatabase K → WaitingFrames → Option Outcome → KeptDatabase K → WaitingFrames → Type 0
-IsMachineStep session machine old waited outcome new waits = (s : State) → (trees : List Data)
-    × (machine (with_db s old) ≡ Some (record { state = closed_if_no_memory session outcome (with_db s new); sent = to_session session trees }))
-    × ((other : ℕ) → waiting_for other waits ≡ waiting_for other waited ++ frames_to other (to_session session trees))
+IsMachineStep session machine old waited outcome new waits = (s : State) → (sent : List Sent)
+    × (machine (with_db s old) ≡ Some (record { state = closed_if_no_memory session outcome (with_db s new); sent = sent })) × PostsSent sent waited waits
 
 -- an attempt of a transaction; where memory was refused, the session at work is closed in its place (own)
 abbrev pub IsAttempt : {K : Type 0} → ℕ → Data → List Uuid → Items → KeptDatabase K → WaitingFrames → Option Outcome → KeptDatabase K → WaitingFrames → Type 0

@@ -5,6 +5,8 @@ use Rattle.std.specs.declared.collections.VecDeque.{VecDeque}
 use Rattle.std.specs.Map.{lookup}
 use Rattle.std.specs.BTreeMap.{is_at}
 use Rattle.std.specs.Ordering.{nat_cmp}
+use Rattle.ov_specs.specs.machine.Machine.{Sent}
+use Rattle.ov_specs.specs.machine.History.{frames_to}
 
 -- the frames of each session that has a queue, oldest first (own)
 abbrev pub WaitingFrames : Type 0
@@ -25,6 +27,10 @@ outbox_of entries = map (λ e. (e.0, e.1.items)) entries
 -- a frame more waits for the session (own)
 abbrev pub PostsFrame : ℕ → List ℕ → WaitingFrames → WaitingFrames → Type 0
 PostsFrame session frame old new = (other : ℕ) → waiting_for other new ≡ waiting_for other old ++ (if other == session then frame ∷ [] else [])
+
+-- these are sent: their frames wait behind those that waited, each for its session (own)
+abbrev pub PostsSent : List Sent → WaitingFrames → WaitingFrames → Type 0
+PostsSent sent old new = (session : ℕ) → waiting_for session new ≡ waiting_for session old ++ frames_to session sent
 
 -- the same frames wait (own)
 abbrev pub HasSameFrames : WaitingFrames → WaitingFrames → Type 0

@@ -11,6 +11,7 @@ mod frames;
 mod handle;
 mod machine;
 mod outbox;
+mod session;
 
 pub use event::{Attempt, Cause, Choice, Entry, Event, Outcome, Session, StepFault, Stepped};
 pub use machine::Core;

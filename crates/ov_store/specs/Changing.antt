@@ -1,9 +1,11 @@
 -- What a statement makes of the lines (own).
-use Rattle.std.specs.Prelude.{◌≡◌, ℕ, Bool, List, IsTrue, None, if◌then◌else◌}
+use Rattle.std.specs.Prelude.{◌≡◌, ◌≢◌, ℕ, Bool, List, IsTrue, None, if◌then◌else◌}
 use Rattle.std.specs.List.{AllByRecursion}
 use Rattle.std.specs.FinMap.{get, insert, remove}
 use Rattle.sqlite.specs.Order.{Row, column}
 use Rattle.sqlite.specs.Tree.{Trees}
+use Rattle.sqlite.specs.Schema.{Schema}
+use Rattle.sqlite_rules.specs.Edit.{IsNoIndex}
 use Rattle.sqlite.specs.Effect.{Database}
 use Rattle.sqlite.specs.State.{State}
 use Rattle.ov_specs.specs.rows.Lines.{LineKey, LineBody, Lines}
@@ -22,6 +24,11 @@ pub record IsStored (text : List ℕ) (db : Database) : Type 0 where
 abbrev pub MayBeStored : List ℕ → State → Type 0
 MayBeStored text s = IsTrue s.is_open → IsStored text s.now
 
+-- what is not of `line` is as it was: the rows of each other table, and whatever stands in a tree that is no index's (own)
+pub record KeepsOthers (schema : Schema) (old new : Trees) : Type 0 where
+  pub tables : AllByRecursion (λ t. t.tree ≢ 2 → new t.tree ≡ old t.tree) schema.tables
+  pub trees : (t : ℕ) → t ≢ 2 → IsNoIndex schema t → new t ≡ old t
+
 -- in a transaction that goes on the lines became what f makes of them, and nothing was committed (own)
 pub record Makes (text : List ℕ) (f : Lines → Lines) (old new : State) : Type 0 where
   pub mode : IsTrue new.in_transaction
@@ -29,6 +36,8 @@ pub record Makes (text : List ℕ) (f : Lines → Lines) (old new : State) : Typ
   pub stored : MayBeStored text new
   pub lines_are : stored_lines (new.now.trees 2) ≡ f (stored_lines (old.now.trees 2))
   pub meta : new.now.trees 0 ≡ old.now.trees 0
+  pub schema : new.now.schema ≡ old.now.schema
+  pub others : KeepsOthers old.now.schema old.now.trees new.now.trees
   pub committed : new.committed ≡ old.committed
 
 -- one line was added, where its key had none (own)
@@ -38,6 +47,8 @@ pub record AddsLine (text : List ℕ) (k : LineKey) (v : LineBody) (old new : St
   pub stored : MayBeStored text new
   pub lines_are : get (stored_lines (old.now.trees 2)) k ≡ None → stored_lines (new.now.trees 2) ≡ insert (stored_lines (old.now.trees 2)) k v
   pub meta : new.now.trees 0 ≡ old.now.trees 0
+  pub schema : new.now.schema ≡ old.now.schema
+  pub others : KeepsOthers old.now.schema old.now.trees new.now.trees
   pub committed : new.committed ≡ old.committed
 
 -- the line of a key takes another version and body; where none was found, no line has the key (own)
@@ -53,6 +64,7 @@ pub record Stores (text : List ℕ) (f : Lines → Lines) (old new : State) : Ty
   pub stored : IsStored text new.now
   pub lines_are : stored_lines (new.now.trees 2) ≡ f (stored_lines (old.now.trees 2))
   pub meta : new.now.trees 0 ≡ old.now.trees 0
+  pub others : KeepsOthers old.now.schema old.now.trees new.now.trees
 
 -- what the commit writes to the disk, if it gets that far (own)
 pub record IsCommitImage (f : Lines → Lines) (old : State) (trees : Trees) : Type 0 where
@@ -60,3 +72,4 @@ pub record IsCommitImage (f : Lines → Lines) (old : State) (trees : Trees) : T
   pub was_settled : old.now ≡ old.committed
   pub lines_are : stored_lines (trees 2) ≡ f (stored_lines (old.now.trees 2))
   pub meta : trees 0 ≡ old.now.trees 0
+  pub others : KeepsOthers old.now.schema old.now.trees trees

@@ -9,7 +9,7 @@ use Rattle.sqlite_value.specs.Order.{bytes}
 use Rattle.sqlite.specs.Tree.{Trees}
 use Rattle.sqlite.specs.Effect.{Database}
 use Rattle.ov_specs.specs.rows.Lines.{LineKey, LineBody, Lines, Contents}
-use Rattle.ov_store.specs.Tables.{line_schema}
+use Rattle.ov_store.specs.Tables.{HasOurTables}
 
 -- a row of `line`: its number, and the table's name, the identifier, the version and the body (own)
 pub record IsLine (r : Row) : Type 0 where
@@ -67,6 +67,6 @@ held trees = record { schema = stored_schema (trees 0); lines = stored_lines (tr
 
 -- the database is one of stored format 1 (own)
 pub record IsFormat (text : List ℕ) (db : Database) : Type 0 where
-  pub schema : db.schema ≡ line_schema
+  pub schema : HasOurTables db.schema
   pub meta : IsMeta text (db.trees 0)
   pub lines : AllByRecursion IsLine (db.trees 2)

@@ -7,7 +7,7 @@ use Rattle.sqlite.specs.Effect.{Database, IsDatabase}
 use Rattle.sqlite.specs.State.{State}
 use Rattle.sqlite_trees.specs.Tree.{Trees, put_row}
 use Rattle.sqlite_rules.specs.Edit.{are_fresh}
-use Rattle.ov_store.specs.Tables.{meta_schema, line_schema}
+use Rattle.ov_store.specs.Tables.{meta_schema, HasOurTables}
 use Rattle.ov_store.specs.Format.{IsMeta}
 use Rattle.ov_store.specs.Changing.{IsStored}
 
@@ -24,7 +24,7 @@ pub record HasMeta (s : State) : Type 0 where
 -- both tables are made, and there is no line (own)
 pub record HasTables (s : State) : Type 0 where
   pub mode : IsTrue s.in_transaction
-  pub schema : s.now.schema ≡ line_schema
+  pub schema : HasOurTables s.now.schema
   pub lines : s.now.trees 2 ≡ []
 
 -- a row of `meta` with its number (own)

@@ -7,7 +7,7 @@ use Rattle.sqlite.specs.State.{HasCleanDisk}
 use Rattle.sqlite.specs.Held.{Held as Connected, held_code, state}
 use Rattle.ov_specs.specs.rows.Lines.{Contents}
 use Rattle.ov_store.specs.Format.{held}
-use Rattle.ov_store.specs.Changing.{MayBeStored}
+use Rattle.ov_store.specs.Changing.{MayBeStored, KeepsOthers}
 
 -- a connection, the text of the schema, and how often the device has failed (own)
 pub record StoreState (S : Type 0) : Type 0 where
@@ -28,3 +28,7 @@ module _ {S : Type 0} (g : Ghosts S) where
   -- what an open at this moment may find (own)
   abbrev pub MayFind : Connected S → Contents → Type 0
   MayFind c contents = (trees : Trees) × (state g c).may_leave trees × (contents ≡ held trees)
+
+  -- whatever an open may find now, beside the lines it is what one might have found before (own)
+  abbrev pub LeavesOthers : Connected S → Connected S → Type 0
+  LeavesOthers old new = (trees : Trees) → (state g new).may_leave trees → (before : Trees) × (state g old).may_leave before × KeepsOthers old.schema before trees

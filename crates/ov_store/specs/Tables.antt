@@ -1,5 +1,6 @@
 -- The two tables of stored format 1, as `sqlite` understands their texts (own).
-use Rattle.std.specs.Prelude.{true, false, [], ◌∷◌, None, codes, List, ℕ}
+use Rattle.std.specs.Prelude.{◌≡◌, true, false, not, ◌&&◌, ◌||◌, ◌==◌, nat_lt, [], ◌∷◌, take, drop, None, codes, Bool, List, ℕ}
+use Rattle.std.specs.List.{list_any, list_all}
 use Rattle.sqlite.specs.Collation.TheVariants.{Binary}
 use Rattle.sqlite.specs.declared.types.Value.TheVariants.{Null}
 use Rattle.sqlite.specs.Table.{Table}
@@ -8,6 +9,8 @@ use Rattle.sqlite.specs.Kind.{Kind}
 use Rattle.sqlite.specs.Kind.TheVariants.{Text, Any}
 use Rattle.sqlite_schema.specs.declared.schema.Column.{Column}
 use Rattle.sqlite_schema.specs.declared.schema.Index.{Index}
+use Rattle.sqlite_schema.specs.declared.schema.Reference.{Reference}
+use Rattle.sqlite_schema.specs.Names.{same_name}
 use Rattle.sqlite.specs.Change.{created}
 
 -- a column without rules (SQLite: CREATE TABLE)
@@ -51,13 +54,31 @@ no_schema = record { tables = []; indexes = []; views = [] }
 abbrev pub meta_schema : Schema
 meta_schema = created no_schema meta_table
 
--- the schema of stored format 1: the two tables, each with its index, and nothing else (own)
-abbrev pub line_schema : Schema
-line_schema = record {
-  tables = meta_table ∷ line_table ∷ [];
-  indexes = automatic (codes "sqlite_autoindex_meta_1") 1 0 (1 ∷ []) ∷ automatic (codes "sqlite_autoindex_line_1") 3 2 (1 ∷ 2 ∷ []) ∷ [];
-  views = [];
-}
+-- the indexes of their primary keys (own)
+abbrev pub meta_index : Index
+meta_index = automatic (codes "sqlite_autoindex_meta_1") 1 0 (1 ∷ [])
+
+abbrev pub line_index : Index
+line_index = automatic (codes "sqlite_autoindex_line_1") 3 2 (1 ∷ 2 ∷ [])
+
+-- a foreign key that points to one of the two (own)
+abbrev pub refers_to_ours : Reference → Bool
+refers_to_ours ref = same_name (codes "meta") ref.parent || same_name (codes "line") ref.parent
+
+-- a table that stands behind the two and has no foreign key to them, so that no change of theirs reaches it (own)
+abbrev pub is_other_table : Table → Bool
+is_other_table t = nat_lt 3 t.tree && not (list_any refers_to_ours t.references)
+
+-- an index behind theirs that forbids them no row (own)
+abbrev pub is_other_index : Index → Bool
+is_other_index i = not (i.is_unique && ((i.table == 0) || (i.table == 2)))
+
+-- the database has the two tables of stored format 1, and may have other tables, indexes and views behind them (own)
+pub record HasOurTables (schema : Schema) : Type 0 where
+  pub tables : take 2 schema.tables ≡ meta_table ∷ line_table ∷ []
+  pub indexes : take 2 schema.indexes ≡ meta_index ∷ line_index ∷ []
+  pub other_tables : list_all is_other_table (drop 2 schema.tables) ≡ true
+  pub other_indexes : list_all is_other_index (drop 2 schema.indexes) ≡ true
 
 -- the statements (own)
 abbrev pub create_meta : List ℕ

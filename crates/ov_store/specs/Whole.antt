@@ -3,6 +3,7 @@ use Rattle.std.specs.Prelude.{◌≡◌, []}
 use Rattle.sqlite_disk.specs.declared.Disk as disk
 use Rattle.sqlite_disk.specs.declared.Files.{Files}
 use Rattle.sqlite_wal.specs.Recovery.{Image}
+use Rattle.sqlite_wal.specs.Reads.{AreClean}
 use Rattle.sqlite_wal.specs.Files.{outcomes}
 use Rattle.sqlite_store.specs.declared.store.FileStore.{FileStore}
 use Rattle.sqlite_trees.specs.Tree.{Trees}
@@ -18,3 +19,7 @@ module _ {D : Type 0} {g : disk.Ghosts D} where
     pub contents : (contents : Contents) → MayFind over_files s.connection contents → contents ≡ held db
     pub seen : ∥ HoldsDatabase (record (image_of g files) { log = [] }) db ∥₁
     pub left : (image : Image) → outcomes g files.log files.db image → ∥ HoldsDatabase (record image { log = [] }) db ∥₁
+
+  -- the two files were so as they were let go (own)
+  abbrev pub WasWhole : StoreState (FileStore D g) → Type 0
+  WasWhole s = (files : Files D) × (AreClean g files.log files.db → IsWhole s files)

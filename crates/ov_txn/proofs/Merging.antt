@@ -1,5 +1,5 @@
 -- Two ascending lists, of rows and of changes, made one: a change replaces or removes the row of its key.
-use Rattle.std.proofs.Common.{◌≡◌, ℕ, ◌+◌, ◌<◌, ◌≤◌, List, [], ◌∷◌, ◌++◌, length, get_or, drop, map, Bool, true, false, cond, not, T, ◌&&◌, Option, Some, None, refl, sym, ap, subst, ◌∙◌, append-nil, append_assoc, Less, Equal, Greater}
+use Rattle.std.proofs.Common.{◌≡◌, ℕ, ◌+◌, ◌<◌, ◌≤◌, List, [], ◌∷◌, ◌++◌, length, get_or, drop, map, Bool, true, false, cond, not, T, Option, Some, None, refl, sym, ap, subst, ◌∙◌, append-nil, append_assoc, Less, Equal, Greater}
 use Rattle.std.proofs.lemmas.List.{drop_all}
 use Rattle.std.specs.Cmp.{eq_by_cmp_equiv}
 use Rattle.std.specs.FinMap.{FinMap, put, is_sorted, from_sorted, remove, get, entries, entries_sorted, entries-insert, entries-from_sorted, get-from_sorted, get-entries, get-remove, same_map}

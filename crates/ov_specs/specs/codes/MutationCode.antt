@@ -3,6 +3,8 @@ use Rattle.std.specs.Prelude.{◌≡◌, refl, get_or, ◌⊎◌, ℕ, ℤ, List
 use Rattle.std.specs.Coded.{Coded, code_by, coded×, coded⊎, coded_ℕ, coded_ℤ, coded_list}
 use mathlib.Core.Logic.{inl, inr}
 use Rattle.ov_specs.specs.values.Value.{Datum}
+use Rattle.ov_specs.specs.schema.SchemaTypes.{ColumnType}
+use Rattle.ov_specs.specs.codes.SchemaCode.{column_type_code}
 use Rattle.ov_specs.specs.codes.ValueCode.{datum_code}
 use Rattle.ov_specs.specs.operations.Mutators.{Operator, Plus, Minus, Times, Over, Modulo, Change, Compute, Insert, Delete, Mutation}
 
@@ -53,7 +55,10 @@ abbrev pub change_code : Coded Change
 change_code =
     code_by ((Operator × ℤ) ⊎ (Datum ⊎ Datum)) (coded⊎ (coded× operator_code coded_ℤ) (coded⊎ datum_code datum_code)) change_to change_from change_from-change_to
 
--- the code of a mutation, as the pair of its parts (own)
+-- the code of a mutation, as pairs of its parts (own)
 abbrev pub mutation_code : Coded Mutation
 mutation_code =
-    code_by (List ℕ × Change) (coded× (coded_list coded_ℕ) change_code) (λ m. (m.column, m.change)) (λ p. record { column = p.0; change = p.1 }) (λ _. refl)
+    code_by (List ℕ × (ColumnType × Change)) (coded× (coded_list coded_ℕ) (coded× column_type_code change_code))
+    (λ m. (m.column, (m.type_of, m.change)))
+    (λ p. record { column = p.0; type_of = p.1.0; change = p.1.1 })
+    (λ _. refl)

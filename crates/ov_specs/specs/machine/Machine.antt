@@ -1,5 +1,5 @@
 -- The machine: what one event makes of its state and what it sends, given what the outside chose (own, over RFC 7047, 4).
-use Rattle.std.specs.Prelude.{◌≡◌, ◌⊎◌, ℕ, ◌+◌, ◌==◌, ◌&&◌, not, nat_le, List, [], ◌∷◌, ◌++◌, length, map, filter, Bool, if◌then◌else◌, Option, Some, None, is_some, codes}
+use Rattle.std.specs.Prelude.{◌≡◌, ◌⊎◌, ℕ, ◌+◌, ◌==◌, ◌&&◌, not, nat_le, List, [], ◌∷◌, ◌++◌, length, map, filter, Bool, if◌then◌else◌, Option, Some, None, is_some, option_map, codes}
 use Rattle.std.specs.List.{list_any}
 use Rattle.serde_json.specs.Data.{Data, array, Items, no_items, item}
 use Rattle.serde_json.specs.Find.{as_str}
@@ -56,12 +56,16 @@ pub record Entry : Type 0 where
 
 -- ---- the state
 
+-- an open session (own)
+pub record Session : Type 0 where
+  pub serial : ℕ
+
 -- what the machine knows between two events (own)
 pub record State : Type 0 where
   pub schema : Schema  -- of the database
   pub database : Database  -- as it was committed
   pub sealed : Option Database  -- after a commit that failed, the database that it would have made: nothing is committed any more
-  pub sessions : List ℕ  -- the open sessions by their serials, in order of opening
+  pub sessions : List Session  -- the open ones, in order of opening
   pub next : ℕ  -- the serial of the next session
   pub moment : ℕ  -- the last one
 
@@ -75,11 +79,15 @@ Left s d = (d ≡ s.database) ⊎ (s.sealed ≡ Some d)
 
 -- the session is open (own)
 abbrev pub is_open : State → ℕ → Bool
-is_open s session = list_any (λ n. n == session) s.sessions
+is_open s session = list_any (λ n. n.serial == session) s.sessions
+
+-- the state with one session more, which has the next serial (own)
+abbrev pub with_next_session : State → State
+with_next_session s = record s { sessions = s.sessions ++ record { serial = s.next } ∷ []; next = s.next + 1 }
 
 -- the state without the session (own)
 abbrev pub without_session : ℕ → State → State
-without_session session s = record s { sessions = filter (λ n. not (n == session)) s.sessions }
+without_session session s = record s { sessions = filter (λ n. not (n.serial == session)) s.sessions }
 
 -- a tree, and the session that it is sent to (own)
 pub record Sent : Type 0 where
@@ -151,6 +159,47 @@ to_session session trees = map (λ tree. record { session = session; tree = tree
 abbrev pub closed : State → ℕ → Stepped
 closed s session = record { state = without_session session s; sent = [] }
 
+-- These are sent, and the store is not asked: so it answers nothing (own).
+abbrev pub sends_at_once : State → List Sent → Option Outcome → Option Stepped
+sends_at_once s sent None = Some (record { state = s; sent = sent })
+sends_at_once s sent (Some outcome) = None
+
+-- ---- a transaction
+
+-- the results of a transaction, as they are sent (RFC 7047, 4.1.3)
+abbrev pub results_of : Data → Items → List Data
+results_of id results = reply_tree id (array results) ∷ []
+
+-- the results, sent to the session that asked for the transaction (own)
+abbrev pub results_to : ℕ → Data → Items → List Sent
+results_to session id results = to_session session (results_of id results)
+
+-- What comes of the store's answer: where it keeps the change, the database is the new one; where it has no room, nothing is
+-- changed; where it fails, the database stays and is sealed (own).
+abbrev pub commits : State → ℕ → Data → Transacted → Option Outcome → Option Stepped
+commits s session id t (Some Committed) = Some (record { state = record s { database = t.database }; sent = results_to session id t.results })
+commits s session id t (Some Exhausted) = Some (record { state = s; sent = results_to session id (exhausted_results t.results) })
+commits s session id t (Some Failed) = Some (record { state = record s { sealed = Some t.database }; sent = results_to session id (failed_results t.results) })
+commits s session id t outcome = None
+
+-- What comes of a transaction. Where it leaves the database as it was, the store is not asked; a sealed database asks the store
+-- no more, and answers as where it fails; else the store is asked to keep the change (RFC 7047, 4.1.3).
+abbrev pub attempt : State → ℕ → Data → Transacted → Option Outcome → Option Stepped
+attempt s session id t outcome =
+    if same_database s.database t.database then sends_at_once s (results_to session id t.results) outcome
+    else (if is_some s.sealed then sends_at_once s (results_to session id (failed_results t.results)) outcome
+    else commits s session id t outcome)
+
+-- ---- the attempts of an event
+
+-- no attempt is listed (own)
+abbrev pub none_listed : List Attempt → Bool
+none_listed attempts = length attempts == 0
+
+-- the answer, where the choice suits (own)
+abbrev pub when : {A : Type 0} → Bool → Option A → Option A
+when suits answer = if suits then answer else None
+
 -- what is listed of one attempt, and of those after it (own)
 pub record Listed : Type 0 where
   pub outcome : Option Outcome
@@ -161,42 +210,21 @@ abbrev pub listed : ℕ → List Attempt → Listed
 listed number [] = record { outcome = None; others = [] }
 listed number (a ∷ attempts) = if a.number == number then record { outcome = Some a.outcome; others = attempts } else record { outcome = None; others = a ∷ attempts }
 
--- These trees are sent, and the store is not asked: so it answers nothing (own).
-abbrev pub sends_at_once : State → ℕ → List Data → Option Outcome → Option Stepped
-sends_at_once s session trees None = Some (record { state = s; sent = to_session session trees })
-sends_at_once s session trees (Some outcome) = None
+-- what an attempt comes to, and what is listed of the attempts after it (own)
+pub record Tried : Type 0 where
+  pub stepped : Stepped
+  pub others : List Attempt
 
--- ---- a transaction
+-- The attempt with this number takes what is listed of it, and hands on what is listed of those after it (own).
+abbrev pub tries : (Option Outcome → Option Stepped) → ℕ → List Attempt → Option Tried
+tries attempt number attempts = option_map (λ t. record { stepped = t; others = (listed number attempts).others }) (attempt (listed number attempts).outcome)
 
--- the results of a transaction, as they are sent (RFC 7047, 4.1.3)
-abbrev pub results_of : Data → Items → List Data
-results_of id results = reply_tree id (array results) ∷ []
-
--- the results, sent from this state (own)
-abbrev pub sends_results : State → ℕ → Data → Items → Stepped
-sends_results s session id results = record { state = s; sent = to_session session (results_of id results) }
-
--- What comes of the store's answer: where it keeps the change, the database is the new one; where it has no room, nothing is
--- changed; where it fails, the database stays and is sealed (own).
-abbrev pub commits : State → ℕ → Data → Transacted → Option Outcome → Option Stepped
-commits s session id t (Some Committed) = Some (sends_results (record s { database = t.database }) session id t.results)
-commits s session id t (Some Exhausted) = Some (sends_results s session id (exhausted_results t.results))
-commits s session id t (Some Failed) = Some (sends_results (record s { sealed = Some t.database }) session id (failed_results t.results))
-commits s session id t outcome = None
-
--- What comes of a transaction. Where it leaves the database as it was, the store is not asked; a sealed database asks the store
--- no more, and answers as where it fails; else the store is asked to keep the change (RFC 7047, 4.1.3).
-abbrev pub attempt : State → ℕ → Data → Transacted → Option Outcome → Option Stepped
-attempt s session id t outcome =
-    if same_database s.database t.database then sends_at_once s session (results_of id t.results) outcome
-    else (if is_some s.sealed then sends_at_once s session (results_of id (failed_results t.results)) outcome
-    else commits s session id t outcome)
+-- nothing more is tried: so no attempt is listed any more (own)
+abbrev pub ends : Option Tried → Option Stepped
+ends None = None
+ends (Some tried) = when (none_listed tried.others) (Some tried.stepped)
 
 -- ---- one step
-
--- no attempt is listed (own)
-abbrev pub none_listed : List Attempt → Bool
-none_listed attempts = length attempts == 0
 
 -- nothing was drawn (own)
 abbrev pub none_drawn : Choice → Bool
@@ -206,10 +234,6 @@ none_drawn c = length c.draws == 0
 abbrev pub is_without_choice : Choice → Bool
 is_without_choice c = none_listed c.outcomes && none_drawn c
 
--- the answer, where the choice suits (own)
-abbrev pub when : {A : Type 0} → Bool → Option A → Option A
-when suits answer = if suits then answer else None
-
 -- how many identifiers are drawn for the work (own)
 abbrev pub draws_for : Work → ℕ
 draws_for (Answers trees) = 0
@@ -217,7 +241,7 @@ draws_for (Transact id operations) = draws_wanted operations
 
 -- the work, done with the identifiers that were drawn for it, and with the store's answer where it was asked (own)
 abbrev pub does : State → ℕ → List Uuid → Option Outcome → Work → Option Stepped
-does s session draws outcome (Answers trees) = sends_at_once s session trees outcome
+does s session draws outcome (Answers trees) = sends_at_once s (to_session session trees) outcome
 does s session draws outcome (Transact id operations) = attempt s session id (transaction s.schema s.database draws operations) outcome
 
 -- The work, with the identifiers that were drawn for it and what is listed of it. Where memory was refused, at most as many
@@ -226,14 +250,14 @@ abbrev pub works : State → ℕ → List Uuid → Option Outcome → Work → O
 works s session draws (Some NoMemory) work = when (nat_le (length draws) (draws_for work)) (Some (closed s session))
 works s session draws outcome work = when (length draws == draws_for work) (does s session draws outcome work)
 
--- the work on a message is attempt 1 of its event, and nothing else is tried (own)
-abbrev pub takes : State → Choice → ℕ → Message → Listed → Option Stepped
-takes s c session message first = when (none_listed first.others) (works s session c.draws first.outcome (work_of s message))
+-- the work on a message is attempt 1 of its event (own)
+abbrev pub takes : State → Choice → ℕ → Message → Option Tried
+takes s c session message = tries (λ outcome. works s session c.draws outcome (work_of s message)) 1 c.outcomes
 
 -- the event, at a moment that is the state's (own)
 abbrev pub happens : State → Choice → Event → Option Stepped
-happens s c Open = when (is_without_choice c) (Some (record { state = record s { sessions = s.sessions ++ s.next ∷ []; next = s.next + 1 }; sent = [] }))
-happens s c (Take session message) = when (is_open s session) (takes s c session message (listed 1 c.outcomes))
+happens s c Open = when (is_without_choice c) (Some (record { state = with_next_session s; sent = [] }))
+happens s c (Take session message) = when (is_open s session) (ends (takes s c session message))
 happens s c (Close session cause) = when (is_without_choice c && is_open s session) (Some (closed s session))
 happens s c Tick = when (is_without_choice c) (Some (record { state = s; sent = [] }))
 

@@ -9,9 +9,10 @@ use Rattle.std.specs.Str.{bytes_eq}
 use Rattle.ov_specs.specs.operations.Errors.{OpError, SyntaxError, UnknownColumn, ConstraintViolation}
 use Rattle.ov_specs.specs.values.Reading as reading
 use Rattle.ov_specs.specs.values.Reading.{Reading, Reads, reads}
+use Rattle.ov_specs.specs.schema.Schema.{is_some_and}
 use Rattle.ov_specs.specs.schema.SchemaTypes.{ColumnType, Column, Table, kinds_of}
 use Rattle.ov_specs.specs.values.Uuid.{Uuid, Names}
-use Rattle.ov_specs.specs.values.Value.{AtomKind, Integers, Booleans, Texts, Uuids, Atom, Integer, AtomMap, Datum, Atoms, Pairs, count}
+use Rattle.ov_specs.specs.values.Value.{AtomKind, Integers, Booleans, Texts, Uuids, Atom, Integer, AtomMap, Datum, Atoms, Pairs, count, is_of}
 
 -- ---- conditions
 
@@ -147,6 +148,10 @@ condition_of names table (Some c) = condition_on names c (get table.columns c.co
 -- RFC 7047, 5.1, <condition>).
 abbrev pub condition_read : Names → Table → Data → Result Condition ConditionFault
 condition_read names table d = condition_of names table (triple_read d)
+
+-- the table has the column of the condition, and the value is of its kinds, within their bounds (RFC 7047, 5.1, <condition>)
+abbrev pub suits_condition : Table → Condition → Bool
+suits_condition table c = is_some_and (λ column. is_of (kinds_of column.type_of) c.value) (get table.columns c.column)
 
 -- ---- whether a row meets it
 

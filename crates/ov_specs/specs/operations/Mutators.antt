@@ -13,7 +13,7 @@ use Rattle.ov_specs.specs.values.Reading as reading
 use Rattle.ov_specs.specs.values.Reading.{Reading, Reads, behind, reads}
 use Rattle.ov_specs.specs.schema.SchemaTypes.{ColumnType, Column, Table, kinds_of}
 use Rattle.ov_specs.specs.values.Uuid.{Names}
-use Rattle.ov_specs.specs.values.Value.{Integers, is_atom_of, Single, Pair, Kinds, Atom, Integer, Boolean, Text, Uuid, Datum, Atoms, Pairs, set_of, map_of}
+use Rattle.ov_specs.specs.values.Value.{Integers, is_in_64_bits, is_atom_of, is_of, Single, Pair, Kinds, Atom, Integer, Boolean, Text, Uuid, Datum, Atoms, Pairs, set_of, map_of}
 
 -- ---- mutations
 
@@ -37,9 +37,10 @@ pub data Change : Type 0 where
   Insert : (elements : Datum) → Change
   Delete : (elements : Datum) → Change
 
--- a column of the table, and what is done to it (RFC 7047, 5.1, <mutation>)
+-- the name and the type of a column of the table, and what is done to it (RFC 7047, 5.1, <mutation>)
 pub record Mutation : Type 0 where
   pub column : List ℕ
+  pub type_of : ColumnType
   pub change : Change
 
 -- why a tree is no mutation: it is built wrong, names no column, has a key with two values, or its column is not mutable (own)
@@ -109,14 +110,14 @@ change_read names t Inserts d = change_with Insert (reads names (kinds_of t) d)
 change_read names t Deletes d = change_with Delete (reads names (deleted_kinds (kinds_of t) d) d)
 
 -- the mutation of this column (own)
-abbrev pub with_change : List ℕ → Result Change MutationFault → Result Mutation MutationFault
-with_change column (Err fault) = Err fault
-with_change column (Ok change) = Ok (record { column = column; change = change })
+abbrev pub with_change : List ℕ → ColumnType → Result Change MutationFault → Result Mutation MutationFault
+with_change column t (Err fault) = Err fault
+with_change column t (Ok change) = Ok (record { column = column; type_of = t; change = change })
 
 -- the mutation with this mutator (RFC 7047, 5.1, <mutation>)
 abbrev pub with_mutator : Names → ColumnType → Triple → Option Mutator → Result Mutation MutationFault
 with_mutator names t m None = Err BadMutation
-with_mutator names t m (Some mutator) = with_change m.column (change_read names t mutator m.value)
+with_mutator names t m (Some mutator) = with_change m.column t (change_read names t mutator m.value)
 
 -- the mutation of this column, which is mutable (RFC 7047, 5.1, <mutation>)
 abbrev pub mutation_on : Names → Triple → Option Column → Result Mutation MutationFault
@@ -132,6 +133,17 @@ mutation_of names table (Some m) = mutation_on names m (get table.columns m.colu
 -- value (own, over RFC 7047, 5.1, <mutation>).
 abbrev pub mutation_read : Names → Table → Data → Result Mutation MutationFault
 mutation_read names table d = mutation_of names table (triple_read d)
+
+-- Elements of the column's kinds, or of the kind of its keys alone where they go from a map; and a number of 64 bits where the
+-- column holds integers (RFC 7047, 5.1, <mutation>).
+abbrev pub suits_change : ColumnType → Change → Bool
+suits_change t (Compute operator by) = allows_mutator t (Computes operator) && is_in_64_bits by
+suits_change t (Insert elements) = is_of (kinds_of t) elements
+suits_change t (Delete elements) = is_of (kinds_of t) elements || is_of (Single t.key.kind) elements
+
+-- what is done suits the column (RFC 7047, 5.1, <mutation>)
+abbrev pub suits_mutation : Mutation → Bool
+suits_mutation m = suits_change m.type_of m.change
 
 -- ---- what it makes of a value
 

@@ -8,6 +8,7 @@ use Rattle.serde_json.specs.Find as find
 use Rattle.serde_json.specs.View.{items_of}
 use Rattle.ov_specs.specs.operations.Conditions.{Condition, ConditionFault, condition_error, condition_read, column_value, holds}
 use Rattle.ov_specs.specs.rows.Database.{Columns, Row, Database, object_of, written_column, same_columns}
+use Rattle.ov_specs.specs.rows.Version.{row_now}
 use Rattle.ov_specs.specs.operations.Errors.{OpError, SyntaxError, UnknownTable, UnknownColumn, UnknownOperation, DuplicateUuid, ConstraintViolation, ResourcesExhausted}
 use Rattle.ov_specs.specs.schema.Fitting.{fits, default_of}
 use Rattle.ov_specs.specs.rows.Lines.{LineKey}
@@ -115,24 +116,25 @@ new_columns table members = and_then_columns (row_values table members empty) (�
 abbrev pub insert_result : Uuid → Data
 insert_result id = object_of ((codes "uuid", atom_tree (value.Uuid id)) ∷ [])
 
--- the row under an identifier that no row of the table has yet, the others left for the inserts that follow (RFC 7047, 5.2.1)
-abbrev pub put_under : Uuid → Database → List ℕ → Columns → List Uuid → OperationResult
-put_under version rows table columns [] = Fails ResourcesExhausted
-put_under version rows table columns (id ∷ draws) =
+-- The row under an identifier that no row of the table has yet, the others left for the inserts that follow. Its version
+-- follows from the database before the transaction (RFC 7047, 5.2.1).
+abbrev pub put_under : Database → Uuid → Database → List ℕ → Columns → List Uuid → OperationResult
+put_under before version rows table columns [] = Fails ResourcesExhausted
+put_under before version rows table columns (id ∷ draws) =
     if contains_key rows (table, id) then Fails DuplicateUuid
-    else Succeeds (insert_result id) (record { rows = insert rows (table, id) (record { version = version; columns = columns }); draws = draws })
+    else Succeeds (insert_result id) (record { rows = insert rows (table, id) (row_now before version (table, id) columns); draws = draws })
 
 -- The row is put under the next draw. As many draws are made as there are inserts, so one is always left (own).
-abbrev pub put_row : Uuid → Staged → List ℕ → Columns → OperationResult
-put_row version g table columns = put_under version g.rows table columns g.draws
+abbrev pub put_row : Database → Uuid → Staged → List ℕ → Columns → OperationResult
+put_row before version g table columns = put_under before version g.rows table columns g.draws
 
 -- A row is made of "row", and put. Its identifier can't be chosen, and it can't be given a name yet: "uuid" and "uuid-name"
 -- are syntax errors (RFC 7047, 5.2.1).
-abbrev pub insert_row : Schema → Uuid → Staged → Data → OperationResult
-insert_row schema version g d = on_table schema d (λ name table.
+abbrev pub insert_row : Schema → Database → Uuid → Staged → Data → OperationResult
+insert_row schema before version g d = on_table schema d (λ name table.
     if has_member (codes "uuid") d || has_member (codes "uuid-name") d then Fails SyntaxError
     else some_or_fail (option_and_then as_object (find.get (codes "row") d)) SyntaxError (λ members.
-    ok_or_fail (new_columns table members) (λ columns. put_row version g name columns)))
+    ok_or_fail (new_columns table members) (λ columns. put_row before version g name columns)))
 
 -- ---- select
 
@@ -209,9 +211,9 @@ select_rows schema g d = on_table schema d (λ name table.
 
 -- ---- any operation
 
--- "op" names the operation (RFC 7047, 5.2; the others are still unknown)
-abbrev pub operation : Schema → Uuid → Staged → Data → OperationResult
-operation schema version g d = some_or_fail (text_at (codes "op") d) SyntaxError (λ op.
-    if bytes_eq op (codes "insert") then insert_row schema version g d
+-- "op" names the operation, in a transaction of this version on the database before (RFC 7047, 5.2; the others are still unknown)
+abbrev pub operation : Schema → Database → Uuid → Staged → Data → OperationResult
+operation schema before version g d = some_or_fail (text_at (codes "op") d) SyntaxError (λ op.
+    if bytes_eq op (codes "insert") then insert_row schema before version g d
     else (if bytes_eq op (codes "select") then select_rows schema g d
     else Fails UnknownOperation))

@@ -48,7 +48,7 @@ after_operation before (Fails error) operations go = record { results = item (er
 abbrev pub perform : Schema → Database → Uuid → Staged → Items → Transacted
 perform schema before version g no_items = record { results = no_items; database = g.rows }
 perform schema before version g (item d operations) =
-    after_operation before (operation schema version g d) operations (λ g'. perform schema before version g' operations)
+    after_operation before (operation schema before version g d) operations (λ g'. perform schema before version g' operations)
 
 -- The whole transaction: the first draw is the version of the rows that it changes, the others are the identifiers of those
 -- that it inserts (RFC 7047, 4.1.3). Without a draw it does nothing; there always is one.

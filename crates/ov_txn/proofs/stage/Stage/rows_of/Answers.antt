@@ -1,4 +1,4 @@
-use Rattle.std.proofs.Common.{◌≡◌, ◌==◌, T, map, true, sym, ap, subst, ◌∙◌}
+use Rattle.std.proofs.Common.{T, map, sym, ap, subst, ◌∙◌}
 use Rattle.std.proofs.lemmas.Result.{IfOk-weaker}
 use Rattle.std.specs.FinMap.{entries, is_sorted, len}
 use Rattle.std.specs.List.{filter}
