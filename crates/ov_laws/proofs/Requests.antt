@@ -77,7 +77,7 @@ module _ (at n : ℕ) (stream : List ℕ) where
     gone = λ away. absurd (false≢true (sym away ∙ there));
   }
 
-  -- want of memory closes it, with these messages still to be taken
+  -- refused memory closes it, with these messages still to be taken
   by_memory : (s : State) (h : List Entry) (messages : List Message) (e : Entry) (t : Stepped) → n < s.next → closed_by h n ≡ None → requests h n ++ messages ≡ (asked stream).messages → IsEntryAt at s (Close n Memory) e t → KeepsAt n stream t.state (h ++ e ∷ [])
   by_memory s h messages e t low none is enters =
       shut n stream s h e t.state [] Memory (turn_close n s e t enters.step Memory enters.event) low none (messages, ap (λ l. l ++ messages) (append-nil (requests h n)) ∙ is)
