@@ -43,7 +43,7 @@ impl Model for Condition {
 impl Condition {
     /// The condition on a row of the table that a tree is. Of its faults the first is told: its shape, then its column,
     /// the function on that column, and its value. The value is read by the kinds of the column alone, and where the
-    /// column is a scalar it has one atom (RFC 7047, 5.1, `<condition>`; which fault is told is own). Where names stand
+    /// column is a scalar it has one atom (RFC 7047, 5.1, `<condition>`; which fault is told is our own). Where names stand
     /// for identifiers alone, it is a value of these kinds within their bounds.
     pub fn read<N: Names>(
         alloc: Global,

@@ -42,7 +42,7 @@ impl<'a> Mutation<'a> {
     /// The mutation of a row of the table that a tree is. Of its faults the first is told: its shape, then its column,
     /// whether clients may change that, the mutator on it, and its value. A number is read as for a scalar; what is
     /// inserted by the kinds of the column alone; what is deleted from a map is a map, or a set of keys (RFC 7047, 5.1,
-    /// `<mutation>`; which fault is told is own). Where names stand for identifiers alone, it is of these kinds within
+    /// `<mutation>`; which fault is told is our own). Where names stand for identifiers alone, it is of these kinds within
     /// their bounds.
     pub fn read<N: Names>(
         alloc: Global,
@@ -81,7 +81,7 @@ impl<'a> Mutation<'a> {
     }
 
     /// What the mutation makes of a value of its column. Of the faults the first is told: a domain, a range and a
-    /// constraint error (RFC 7047, 5.2.4; the order is own). The value that was there stays. A value of the column's
+    /// constraint error (RFC 7047, 5.2.4; the order is our own). The value that was there stays. A value of the column's
     /// kinds stays one, where the mutation was read with names that stand for identifiers alone.
     pub fn mutate(&self, alloc: Global, datum: &Datum) -> Result<Datum, MutateFault>
         ensures value { IsMutated (λ d. d) (mutated self.now.type_of self.now.change datum.now) result }
