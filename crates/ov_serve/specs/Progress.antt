@@ -1,8 +1,8 @@
 -- What is done of a session on the way; for private clauses.
 use Rattle.std.specs.Prelude.{◌≡◌, ℕ, List, [], ◌∷◌, ◌++◌, Bool, true, false, Some, None, MatchBool}
 use Rattle.ov_specs.specs.machine.Machine as machine
-use Rattle.ov_specs.specs.machine.Machine.{State, is_open}
-use Rattle.ov_specs.specs.machine.History.{joined, closed_by}
+use Rattle.ov_specs.specs.machine.Machine.{State, Sent, is_open}
+use Rattle.ov_specs.specs.machine.History.{run, joined, closed_by}
 use Rattle.ov_specs.specs.machine.Streams.{Streams, no_streams, ExpandsTimed}
 use Rattle.ov_cut.specs.CutterState.{CutterState}
 use Rattle.ov_core.specs.Outbox.{waiting_for}
@@ -32,16 +32,19 @@ abbrev pub stream_cause : machine.Event → machine.Cause
 stream_cause (machine.Close session machine.Damaged) = machine.Damaged
 stream_cause event = machine.Memory
 
--- the last of these entries closed the session, by its stream (own)
-pub record IsShut (n : ℕ) (entries : List machine.Entry) : Type 0 where
+-- the last of these entries, from this state on, closed the session, by its stream (own)
+pub record IsShut (n : ℕ) (before : State) (entries : List machine.Entry) : Type 0 where
   pub front : List machine.Entry
   pub last : machine.Entry
   pub parts : entries ≡ front ++ last ∷ []
-  pub cause : closed_by entries n ≡ Some (stream_cause last.event)
+  pub cause : closed_by before entries n ≡ Some (stream_cause last.event)
 
--- the session is open and none of the entries closed it, or the last of them did, by its stream (own)
-abbrev pub StandsAfter : ℕ → State → List machine.Entry → Type 0
-StandsAfter n s entries = MatchBool (is_open s n) (closed_by entries n ≡ None) (IsShut n entries)
+-- The entries lead from the one state to the other. There the session is open, and none of them closed it; or the last of them did,
+-- by its stream (own).
+pub record StandsAfter (n : ℕ) (before : State) (entries : List machine.Entry) (s : State) : Type 0 where
+  pub sent : List Sent
+  pub leads : run before entries ≡ Some (record { state = s; sent = sent })
+  pub stands : MatchBool (is_open s n) (closed_by before entries n ≡ None) (IsShut n before entries)
 
 -- ---- a session
 
@@ -60,7 +63,7 @@ pub record ServedSoFar {K D C : Type 0} (tells : C → ℕ → C → Type 0) (n 
   pub sizes : ArePieces pieces
   pub moments : TellsMoments tells from.clock pieces to.clock
   pub serial : n ≡ old.state.next
-  pub stands : StandsAfter n new.state entries
+  pub stands : StandsAfter n old.state entries new.state
 
 -- the same, where the cutter was given what was read, while the session is open (own)
 pub record ServedAndFed {K D C : Type 0} (tells : C → ℕ → C → Type 0) (n : ℕ) (old : CoreState K D) (from : IoState C) (new : CoreState K D) (to : IoState C) (cutter : CutterState) : Type 0 where

@@ -116,7 +116,7 @@ pub record EndsAs (n : ℕ) (cause : Cause) (schema : Schema) (database : Databa
   pub reached : machine.Stepped
   pub legal : run (opening schema database) history ≡ Some reached
   pub written : WritesOf (is_written cause) (out n reached.sent) said said'
-  pub told : IsCauseIn cause (closed_by history n)
+  pub told : IsCauseIn cause (closed_by (opening schema database) history n)
 
 -- What was done from the opening of the session to its closing (own).
 pub record Served {K D C : Type 0} (tells : C → ℕ → C → Type 0) (n : ℕ) (old : CoreState K D) (from : IoState C) (cause : Cause) (new : CoreState K D) (to : IoState C) : Type 0 where
