@@ -1,8 +1,11 @@
 //! One session of a store, in memory or in a file.
 
+ghost use Rattle.std.specs.Prelude.{Option, Result};
 ghost use Rattle.rand.specs.declared.rngs.StdRng.{StdRng};
 ghost use Rattle.ov_session.specs.declared.draws.RandomDraws.{RandomDraws};
+ghost use Rattle.sqlite_wal.specs.Files.{image_at};
 ghost use Rattle.ov_session.specs.Chain.{EndsStore};
+ghost use Rattle.ov_session.specs.Stores.{IsNewInMemory, IsOfFiles};
 
 use crate::clock::StillClock;
 use crate::draws::RandomDraws;
@@ -11,9 +14,9 @@ use ov_base::Text;
 use ov_core::Schema;
 use ov_core::early::{KeepFault, Keeper};
 use ov_serve::Clock;
-use ov_store::{close_in_file, store_in_file, store_in_memory};
+use ov_store::{MemoryDisk, Store, close_in_file, store_in_file, store_in_memory};
 use ov_words::{Ending, ending_of_keeping};
-use sqlite::Start;
+use sqlite::{FileFrom, FileStore, Start};
 use std::alloc::Global;
 use std::io::{Read, Write};
 use std::random::RandomSource;
@@ -27,7 +30,11 @@ pub fn serve_memory<R: Wait + RandomSource, I: Read + Drop, O: Write + Drop>(
     schema: Schema,
     input: I,
     output: O,
-) -> Ending {
+) -> Ending
+    ensures chain { (store : _) × (left : _) × IsNewInMemory text store
+        × EndsStore ⟦<Store<FileStore<MemoryDisk>> as Keeper>⟧ ⟦<StillClock as Clock>⟧.tells (RandomDraws StdRng) store schema
+        (I.remaining input) (O.contents output) result left }
+{
     let store = store_in_memory(alloc, text);
     serve_store(rt, alloc, store, schema, input, output).ending
 }
@@ -43,7 +50,11 @@ pub fn serve_file<R: Wait + RandomSource, S: Start, I: Read + Drop, O: Write + D
     schema: Schema,
     input: I,
     output: O,
-) -> Ending {
+) -> Ending
+    ensures chain { (store : _) × (left : _) × IsOfFiles (image_at S.Start) text store
+        × EndsStore ⟦<Store<FileStore<FileFrom<S>>> as Keeper>⟧ ⟦<StillClock as Clock>⟧.tells (RandomDraws StdRng) store schema
+        (I.remaining input) (O.contents output) result left }
+{
     let store = store_in_file(host, path, text, start);
     let Ended { ending, keeper } = serve_store(rt, host.alloc(), store, schema, input, output);
     // A refused start changes nothing. Where the closing fails nothing is lost: the two belong together, as after a kill.
