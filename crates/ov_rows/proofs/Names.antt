@@ -33,7 +33,7 @@ module _ {X : Type 0} where
   names-ascend [] h = tt
   names-ascend (x ∷ es) h = both_hold _ _ (below x.0 es h.0) (names-ascend es h.1)
 
-  find-named : (q : List ℕ) (es : List (String Global × X)) → find name_cmp q (named es) ≡ lookup (is_at (λ k. slice_cmp nat_cmp q (string_bytes k))) es
+  pub find-named : (q : List ℕ) (es : List (String Global × X)) → find name_cmp q (named es) ≡ lookup (is_at (λ k. slice_cmp nat_cmp q (string_bytes k))) es
   find-named q [] = refl
   find-named q (e ∷ es) = ap (cond (eq_by_cmp name_cmp q (string_bytes e.0)) (Some e.1)) (find-named q es)
 

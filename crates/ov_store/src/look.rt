@@ -3,9 +3,9 @@
 ghost use Rattle.std.specs.Prelude.{◌≡◌, ◌≢◌, ◌⊎◌, IfErr, IsTrue, OnOk};
 ghost use Rattle.sqlite.specs.declared.error.Error.TheVariants.{SqliteFailure};
 ghost use Rattle.sqlite.specs.Opening.{is_open_error};
-ghost use Rattle.ov_store.specs.Finding.{IsNobodyElses, IsOpenRefused};
+ghost use Rattle.ov_store.specs.Finding.{HasText, IsNobodyElses, IsOpenRefused};
 ghost use Rattle.ov_store.specs.Refusing.{fault_of_open};
-ghost use Rattle.ov_store.specs.Tables.{no_schema, HasOurTables};
+ghost use Rattle.ov_store.specs.Tables.{no_schema, HasOurTables, create_meta, create_line};
 
 use crate::file::fault_of_open;
 use crate::make::{CREATE_LINE, CREATE_META};
@@ -104,7 +104,9 @@ fn first_page(rt: &HostRuntime, path: &str) -> io::Result<[u8; 4096]> {
 }
 
 /// Whether a first page is that of a file in write-ahead mode with four objects, of which two are the tables.
-fn lists_tables(page: &[u8]) -> bool {
+fn lists_tables(page: &[u8]) -> bool
+    ensures { IsTrue result → HasText create_meta page.now × HasText create_line page.now }
+{
     page.starts_with(MAGIC)
         && page.get(18..20) == Some(&[2, 2])
         && page.get(103..105) == Some(&[0, 4])
@@ -113,7 +115,9 @@ fn lists_tables(page: &[u8]) -> bool {
 }
 
 /// Whether the text stands somewhere in the bytes.
-fn has_text(bytes: &[u8], text: &[u8]) -> bool {
+fn has_text(bytes: &[u8], text: &[u8]) -> bool
+    ensures { IsTrue result → HasText text.now bytes.now }
+{
     for at in 0..bytes.len() {
         if bytes[at..].starts_with(text) {
             return true;

@@ -6,7 +6,7 @@ ghost use Rattle.ov_specs.specs.rows.Database.{same_database};
 ghost use Rattle.ov_specs.specs.rows.Version.{row_now};
 ghost use Rattle.std.specs.Str.{bytes_eq};
 
-use crate::merge::{changes_of, merged};
+use crate::merge::{changes_of, merged, rows_of};
 use crate::version::row_now;
 use ov_db::Delta;
 use ov_rows::{Columns, Row, RowKey, Rows};
@@ -76,10 +76,10 @@ impl<'a> Stage<'a> {
         &self,
         alloc: Global,
         table: &str,
-    ) -> Result<Vec<(&RowKey, &Row)>, AllocError>
-        ensures { IfOk result (λ rows. map (λ r. (r.0.now, r.1.now)) rows.items ≡ filter (λ r. bytes_eq r.0.0 table.now) (entries self.now.now)) }
+    ) -> Result<Vec<(Uuid, &Row)>, AllocError>
+        ensures { IfOk result (λ rows. map (λ r. ((table.now, r.0), r.1.now)) rows.items ≡ filter (λ r. bytes_eq r.0.0 table.now) (entries self.now.now)) }
     {
-        let rows = self.rows.of_table(alloc, table)?;
+        let rows = rows_of(alloc, self.rows, table)?;
         if self.delta.is_empty() {
             return Ok(rows);
         }

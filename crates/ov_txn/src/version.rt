@@ -20,6 +20,6 @@ fn version_over(before: Option<&Row>, version: Uuid, columns: &Columns) -> Uuid
 pub(crate) fn row_now(before: &Rows, version: Uuid, key: &RowKey, columns: Columns) -> Row
     ensures { result ≡ spec.row_now before.now version key.now columns }
 {
-    let version = version_over(before.row(key), version, &columns);
+    let version = version_over(before.row(key.table(), key.id()), version, &columns);
     Row { version, columns }
 }
