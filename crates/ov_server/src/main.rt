@@ -2,6 +2,7 @@
 #![tactic(auto)]
 
 mod database;
+mod draws;
 mod start;
 
 use crate::start::run;

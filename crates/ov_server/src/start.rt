@@ -1,6 +1,7 @@
 //! From the program's arguments to the database that it serves.
 
 use crate::database::built_in_schema;
+use crate::draws::RandomDraws;
 use ov_base::Text;
 use ov_core::Schema;
 use ov_schema::{read_schema, text_of};
@@ -39,9 +40,15 @@ pub fn run<R: Wait + RandomSource, S: Start, I: Read + Drop, O: Write + Drop>(
     let Ok(text) = text_of(host.alloc(), &schema) else {
         return Ending::Memory;
     };
+    let Ok(draws) = RandomDraws::seeded(rt) else {
+        return Ending::Database;
+    };
     match db {
-        None => serve_memory(rt, host.alloc(), text, schema, input, output),
-        Some(path) => serve_file(host, rt, path.as_str(), start, text, schema, input, output),
+        None => serve_memory(rt, host.alloc(), text, schema, draws, input, output),
+        Some(path) => {
+            let path = path.as_str();
+            serve_file(host, rt, path, start, text, schema, draws, input, output)
+        }
     }
 }
 

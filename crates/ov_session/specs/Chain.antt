@@ -112,12 +112,9 @@ module _ {K D C : Type 0} (k : Ghosts K) (tells : C → ℕ → C → Type 0) wh
       ⊎ ((from to : Ends C) × (from.reader ≡ reader_state [] remaining false 0) × (from.writer ≡ writer_state [] contents false 0)
       × EndsChain keeper schema draws from told left to)
 
-module _ {K C : Type 0} (k : Ghosts K) (tells : C → ℕ → C → Type 0) where
-  -- A store that was opened is served with some draws, or else the runtime gave no random seed; of one that was refused its fault
-  -- is told, or the same. Nothing is given back of a store that was not served.
-  abbrev pub EndsStore : (D : Type 0) → Result K KeepFault → Schema → (remaining contents : Option (List ℕ)) → Ending → Option K → Type 0
-  EndsStore D (Ok keeper) schema remaining contents told left =
-      ((told ≡ ending.Database) × (left ≡ None))
-      ⊎ ((draws : D) × (last : K) × (left ≡ Some last) × EndsOver k tells keeper schema draws remaining contents told last)
-  EndsStore D (Err fault) schema remaining contents told left =
-      ((told ≡ ending.Database) ⊎ (told ≡ by_keeping fault)) × (left ≡ None)
+  -- A store that was opened is served, and is given back; of one that was refused the ending is that of its fault, and nothing is
+  -- read or written.
+  abbrev pub EndsStore : Result K KeepFault → Schema → D → (remaining contents : Option (List ℕ)) → Ending → Option K → Type 0
+  EndsStore (Ok keeper) schema draws remaining contents told left =
+      (last : K) × (left ≡ Some last) × EndsOver keeper schema draws remaining contents told last
+  EndsStore (Err fault) schema draws remaining contents told left = (told ≡ by_keeping fault) × (left ≡ None)

@@ -2,7 +2,6 @@
 #![tactic(auto)]
 
 mod clock;
-mod draws;
 mod session;
 mod stores;
 
