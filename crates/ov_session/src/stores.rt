@@ -56,8 +56,15 @@ pub fn serve_file<R: Wait, S: Start, D: Draws + Drop, I: Read + Drop, O: Write +
         (I.remaining input) (O.contents output) result left }
 {
     let store = store_in_file(host, path, text, start);
-    let Ended { ending, keeper } =
-        serve_store(rt, host.alloc(), store, schema, draws, input, output);
+    let Ended { ending, keeper } = serve_store(
+        rt,
+        host.alloc(),
+        store,
+        schema,
+        draws,
+        input,
+        output,
+    );
     // A refused start changes nothing. Where the closing fails nothing is lost: the two belong together, as after a kill.
     if ending == Ending::InputEnded || ending == Ending::Streams {
         if let Some(store) = keeper {
@@ -82,8 +89,9 @@ fn serve_store<R: Wait, K: Keeper + Drop, D: Draws + Drop, I: Read + Drop, O: Wr
 {
     match store {
         Ok(store) => {
-            let Ended { ending, keeper } =
-                serve_over(rt, alloc, store, schema, draws, input, output);
+            let Ended { ending, keeper } = serve_over(
+                rt, alloc, store, schema, draws, input, output,
+            );
             Ended {
                 ending,
                 keeper: Some(keeper),
