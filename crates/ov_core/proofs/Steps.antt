@@ -226,7 +226,7 @@ pub it_closed : (b o : Bool) (P Q : Type 0) → MatchBool b P (Q × (o ≡ false
 it_closed true o P Q h there = h
 it_closed false o P Q h there = absurd (false≢true (sym h.1 ∙ there))
 
--- a Close for want of memory stands in place of a Take
+-- a Close when out of memory stands in place of a Take
 pub stood_in : {K D : Type 0} (draws : D → Uuid → D → Type 0) (at s : ℕ) (message : Message) (old new : CoreState K D) → Closes at s machine.Memory old new → IsEntered draws at (machine.Take s message) old answer.Closed new
 stood_in draws at s message old new c = record { entry = closing at s machine.Memory; tells = (inr refl, c.shut); moment = refl; drawn = c.drawn; moves = c.moves; asks = asks_closing at s machine.Memory old new c }
 

@@ -22,7 +22,7 @@ use Rattle.ov_core.specs.Leaving.{LeavesItsOwn}
 use Rattle.ov_core.specs.Outbox.{WaitingFrames, waiting_for, PostsSent, HasSameFrames}
 use Rattle.ov_core.specs.Handling.{AsksStore, IsWork, PostsIfRoom, CommitsWithReply, with_db, closed_if_no_memory, listed_first, IsMachineStep, IsAttempt}
 
--- ---- want of memory
+-- ---- out of memory
 
 -- before anything was drawn
 pub works_memory : (s : State) (n : ℕ) (w : Work) → works s n [] (Some machine.NoMemory) w ≡ Some (closed s n)
@@ -163,7 +163,7 @@ pub transact_work : (w : Work) (id : Data) (operations : Items) → IsWork w (ki
 transact_work (Answers trees) id operations is = absurd is
 transact_work (Transact i o) id operations is = rw (is.0, is.1) refl
 
--- want of memory before anything was tried
+-- out of memory before anything was tried
 pub nothing_drawn : {K : Type 0} (n : ℕ) (asked : State → Work) (old : KeptDatabase K) (draws : List Uuid) (waits : WaitingFrames) → draws ≡ [] → IsMachineStep n (λ s. works s n draws (Some machine.NoMemory) (asked s)) old waits (Some outcome.NoMemory) old waits
 nothing_drawn n asked old draws waits none =
     rw none (gave_up n (λ s. works s n [] (Some machine.NoMemory) (asked s)) old old waits waits (λ s. works_memory (with_db s old) n (asked (with_db s old))) (λ s. refl) (λ other. refl))

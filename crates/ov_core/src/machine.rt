@@ -30,7 +30,7 @@ use std::alloc::{AllocError, Global};
 use std::collections::VecDeque;
 use std::marker::Model;
 
-/// The machine over a keeper, with its history (own, over RFC 7047, 4). One session may be open at a time.
+/// The machine over a keeper, with its history (our own, over RFC 7047, 4). One session may be open at a time.
 #[derive(Drop)]
 pub struct Core<K: Keeper, D> {
     database: Db<K>,
@@ -163,7 +163,7 @@ impl<K: Keeper + Drop, D: Draws + Drop> Core<K, D> {
         }
     }
 
-    /// The whole history since the core was opened, oldest entry first (own).
+    /// The whole history since the core was opened, oldest entry first.
     pub fn history(&self) -> &VecDeque<Entry>
         ensures { result.now.items ≡ self.now.kept }
     {

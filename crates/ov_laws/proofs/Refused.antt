@@ -37,18 +37,18 @@ plain_if : (b : Bool) (d e : OperationResult) → is_plain d ≡ true → is_pla
 plain_if true d e p q = p
 plain_if false d e p q = q
 
-plain_put : (version : Uuid) (rows : Database) (table : List ℕ) (columns : Columns) (draws : List Uuid) → is_plain (put_under version rows table columns draws) ≡ true
-plain_put version rows table columns [] = refl
-plain_put version rows table columns (id ∷ draws) = plain_if (contains_key rows (table, id)) _ _ refl refl
+plain_put : (before : Database) (version : Uuid) (rows : Database) (table : List ℕ) (columns : Columns) (draws : List Uuid) → is_plain (put_under before version rows table columns draws) ≡ true
+plain_put before version rows table columns [] = refl
+plain_put before version rows table columns (id ∷ draws) = plain_if (contains_key rows (table, id)) _ _ refl refl
 
-plain_insert : (schema : Schema) (version : Uuid) (g : Staged) (d : Data) → is_plain (insert_row schema version g d) ≡ true
-plain_insert schema version g d =
+plain_insert : (schema : Schema) (before : Database) (version : Uuid) (g : Staged) (d : Data) → is_plain (insert_row schema before version g d) ≡ true
+plain_insert schema before version g d =
     plain_or_refuses (text_at (codes "table") d) SyntaxError _ (λ name.
     plain_or_refuses (get schema.tables name) UnknownTable _ (λ table.
     plain_if (has_member (codes "uuid") d || has_member (codes "uuid-name") d) _ _ refl
     (plain_or_refuses (option_and_then as_object (find.get (codes "row") d)) SyntaxError _ (λ members.
     plain_unless_fails (new_columns table members) _ (λ columns.
-    plain_put version g.rows name columns g.draws)))))
+    plain_put before version g.rows name columns g.draws)))))
 
 plain_select : (schema : Schema) (g : Staged) (d : Data) → is_plain (select_rows schema g d) ≡ true
 plain_select schema g d =
@@ -58,10 +58,10 @@ plain_select schema g d =
     plain_unless_fails (conditions_read no_names table items) _ (λ conditions.
     plain_unless_fails (selected_columns table (find.get (codes "columns") d)) _ (λ names. refl)))))
 
-plain_operation : (schema : Schema) (version : Uuid) (g : Staged) (d : Data) → is_plain (operation schema version g d) ≡ true
-plain_operation schema version g d =
+plain_operation : (schema : Schema) (before : Database) (version : Uuid) (g : Staged) (d : Data) → is_plain (operation schema before version g d) ≡ true
+plain_operation schema before version g d =
     plain_or_refuses (text_at (codes "op") d) SyntaxError _ (λ op.
-    plain_if (bytes_eq op (codes "insert")) _ _ (plain_insert schema version g d)
+    plain_if (bytes_eq op (codes "insert")) _ _ (plain_insert schema before version g d)
     (plain_if (bytes_eq op (codes "select")) _ _ (plain_select schema g d) refl))
 
 -- ---- a transaction with an error among its results
@@ -80,7 +80,7 @@ performs_before : (schema : Schema) (before : Database) (version : Uuid) (g : St
     → (perform schema before version g operations).database ≡ before
 performs_before schema before version g no_items h = cc
 performs_before schema before version g (item d operations) h =
-    goes_before before (operation schema version g d) operations (λ g'. perform schema before version g' operations) (plain_operation schema version g d) (λ g'. performs_before schema before version g' operations) h
+    goes_before before (operation schema before version g d) operations (λ g'. perform schema before version g' operations) (plain_operation schema before version g d) (λ g'. performs_before schema before version g' operations) h
 
 -- the database is as before
 is_before : (schema : Schema) (before : Database) (draws : List Uuid) (operations : Items) → has_error (transaction schema before draws operations).results ≡ true → (transaction schema before draws operations).database ≡ before

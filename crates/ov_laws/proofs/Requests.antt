@@ -86,7 +86,7 @@ module _ (before : State) (at n : ℕ) (stream : List ℕ) where
     };
   }
 
-  -- want of memory closes it, with these messages still to be taken
+  -- refused memory closes it, with these messages still to be taken
   by_memory : (s : State) (h : List Entry) (messages : List Message) (e : Entry) (t : Stepped) → n < s.next → Leads before h s → closed_by before h n ≡ None → requests h n ++ messages ≡ (asked stream).messages → IsEntryAt at s (Close n Memory) e t → KeepsAt before n stream t.state (h ++ e ∷ [])
   by_memory s h messages e t low leads none is enters =
       shut before n stream s h e t [] Memory enters.step (turn_close n s e t enters.step Memory enters.event) low leads none (messages, ap (λ l. l ++ messages) (append-nil (requests h n)) ∙ is)

@@ -32,7 +32,7 @@ pub fn cut_starts_again()
     ensures { (a b : List ℕ) → (cut a).damage ≡ None → cut (a ++ b) ≡ with_messages (cut a).messages (cut_from max_message (length a - length (cut a).rest) [] ((cut a).rest ++ b)) }
 {}
 
-/// What was taken of a session is what its stream asks for, however the stream came in pieces; want of memory leaves the
+/// What was taken of a session is what its stream asks for, however the stream came in pieces; refused memory leaves the
 /// first of it. That holds from any state on in which the session is not open and was fed nothing, as before it is opened.
 pub fn requests_are_asked_for()
     ensures { (before : State) (fed : Streams) (events : List (ℕ × StreamEvent)) (history : List Entry) (s : State) (streams : Streams) (session : ℕ)

@@ -55,7 +55,7 @@ module _ (at n : ℕ) (before : State) where
     cause = closed_by_closing n before h s e t cause leads stepped none turn.cause_is ∙ ap (λ c. Some c) (sym why);
   })
 
-  -- want of memory closed it
+  -- refused memory closed it
   by_memory : (s : State) (h : List Entry) (e : Entry) (t : Stepped) → Leads before h s → closed_by before h n ≡ None → IsEntryAt at s (Close n Memory) e t → StandsAfter n before (h ++ e ∷ []) t.state
   by_memory s h e t leads none enters = shut_by s h e t s.next [] Memory leads enters.step (turn_close n s e t enters.step Memory enters.event) (ap stream_cause enters.event) none
 

@@ -4,7 +4,7 @@ use Rattle.std.specs.Prelude.{◌&&◌, ◌||◌, Result, Ok, Err, codes, option
 use Rattle.std.specs.List.{list_all}
 use Rattle.std.specs.Ordering.{eq_by_cmp}
 use Rattle.std.specs.Str.{bytes_eq}
-use Rattle.std.specs.FinMap.{empty, get, insert, contains_key, get-empty, get-insert}
+use Rattle.std.specs.FinMap.{empty, get, insert, contains_key, entries, get-empty, get-insert}
 use Rattle.std.proofs.lemmas.Bool.{and_parts}
 use Rattle.std.proofs.lemmas.Option.{same_Some}
 use Rattle.serde_json.specs.Data.{Data, Items, no_items, item}
@@ -16,8 +16,9 @@ use Rattle.ov_specs.specs.machine.Suiting.{SuitsState, draws_uuids}
 use Rattle.ov_specs.specs.operations.Errors.{OpError, SyntaxError, UnknownTable}
 use Rattle.ov_specs.specs.operations.Operation.{Staged, OperationResult, Succeeds, Fails, some_or_fail, ok_or_fail, operation, insert_row, new_columns, put_under, select_rows, no_names, conditions_read, selected_columns, array_at, text_at}
 use Rattle.ov_specs.specs.operations.Transaction.{Transacted, transaction, perform, after_operation, failed_results}
-use Rattle.ov_specs.specs.rows.Database.{Database, Columns, Row, same_database}
+use Rattle.ov_specs.specs.rows.Database.{Database, Columns, Row, same_columns, same_database}
 use Rattle.ov_specs.specs.rows.Lines.{LineKey, line_cmp}
+use Rattle.ov_specs.specs.rows.Version.{version_over, row_now}
 use Rattle.ov_specs.specs.rows.Suits.{SuitsTable, SuitsRow, Suits}
 use Rattle.ov_specs.specs.schema.SchemaTypes.{Table, Schema}
 use Rattle.ov_specs.specs.values.Uuid.{Uuid, is_uuid}
@@ -63,22 +64,38 @@ if_suits : (schema : Schema) (b : Bool) (d e : OperationResult) → SuitsResult 
 if_suits schema true d e p q = p
 if_suits schema false d e p q = q
 
-put_suits : (schema : Schema) (version : Uuid) (rows : Database) (name : List ℕ) (table : Table) (columns : Columns) (draws : List Uuid) → is_uuid version ≡ true → get schema.tables name ≡ Some table
-    → SuitsTable table columns → SuitsStaged schema (record { rows = rows; draws = draws }) → SuitsResult schema (put_under version rows name columns draws)
-put_suits schema version rows name table columns [] is_version named suits staged = tt
-put_suits schema version rows name table columns (id ∷ draws) is_version named suits staged =
-    let parts = and_parts (is_uuid id) (list_all is_uuid draws) staged.1 in
-    let new : SuitsRow schema (name, id) (record { version = version; columns = columns }) = record { table = table; named = named; id = parts.0; version = is_version; columns = suits } in
-    if_suits schema (contains_key rows (name, id)) _ _ tt (one_row_suits schema rows (name, id) (record { version = version; columns = columns }) new staged.0, parts.1)
+-- the version is the transaction's, or that of a row before it
+version_suits : (before : Option Row) (version : Uuid) (columns : Columns) → is_uuid version ≡ true → ((row : Row) → before ≡ Some row → is_uuid row.version ≡ true) → is_uuid (version_over before version columns) ≡ true
+version_suits None version columns is_version all = is_version
+version_suits (Some row) version columns is_version all = by (same_columns (entries row.columns) (entries columns))
+  where
+    by : (same : Bool) → is_uuid (cond same row.version version) ≡ true
+    by true = all row refl
+    by false = is_version
 
-insert_suits : (schema : Schema) (version : Uuid) (g : Staged) (d : Data) → is_uuid version ≡ true → SuitsStaged schema g → SuitsResult schema (insert_row schema version g d)
-insert_suits schema version g d is_version staged =
+put_suits : (schema : Schema) (before : Database) (version : Uuid) (rows : Database) (name : List ℕ) (table : Table) (columns : Columns) (draws : List Uuid) → Suits schema before → is_uuid version ≡ true
+    → get schema.tables name ≡ Some table → SuitsTable table columns → SuitsStaged schema (record { rows = rows; draws = draws }) → SuitsResult schema (put_under before version rows name columns draws)
+put_suits schema before version rows name table columns [] all is_version named suits staged = tt
+put_suits schema before version rows name table columns (id ∷ draws) all is_version named suits staged =
+    let parts = and_parts (is_uuid id) (list_all is_uuid draws) staged.1 in
+    let key : LineKey = (name, id) in
+    let new : SuitsRow schema key (row_now before version key columns) = record {
+      table = table;
+      named = named;
+      id = parts.0;
+      version = version_suits (get before key) version columns is_version (λ row is. (all key row is).version);
+      columns = suits;
+    } in
+    if_suits schema (contains_key rows key) _ _ tt (one_row_suits schema rows key (row_now before version key columns) new staged.0, parts.1)
+
+insert_suits : (schema : Schema) (before : Database) (version : Uuid) (g : Staged) (d : Data) → Suits schema before → is_uuid version ≡ true → SuitsStaged schema g → SuitsResult schema (insert_row schema before version g d)
+insert_suits schema before version g d all is_version staged =
     some_suits schema (text_at (codes "table") d) SyntaxError _ (λ name _.
     some_suits schema (get schema.tables name) UnknownTable _ (λ table named.
     if_suits schema (has_member (codes "uuid") d || has_member (codes "uuid-name") d) _ _ tt
     (some_suits schema (option_and_then as_object (find.get (codes "row") d)) SyntaxError _ (λ members _.
     ok_suits schema (new_columns table members) _ (λ columns made.
-    put_suits schema version g.rows name table columns g.draws is_version named (subst (MakesRow table) made (new_columns_suit table members)) staged)))))
+    put_suits schema before version g.rows name table columns g.draws all is_version named (subst (MakesRow table) made (new_columns_suit table members)) staged)))))
 
 select_suits : (schema : Schema) (g : Staged) (d : Data) → SuitsStaged schema g → SuitsResult schema (select_rows schema g d)
 select_suits schema g d staged =
@@ -88,10 +105,10 @@ select_suits schema g d staged =
     ok_suits schema (conditions_read no_names table items) _ (λ conditions _.
     ok_suits schema (selected_columns table (find.get (codes "columns") d)) _ (λ names _. staged)))))
 
-operation_suits : (schema : Schema) (version : Uuid) (g : Staged) (d : Data) → is_uuid version ≡ true → SuitsStaged schema g → SuitsResult schema (operation schema version g d)
-operation_suits schema version g d is_version staged =
+operation_suits : (schema : Schema) (before : Database) (version : Uuid) (g : Staged) (d : Data) → Suits schema before → is_uuid version ≡ true → SuitsStaged schema g → SuitsResult schema (operation schema before version g d)
+operation_suits schema before version g d all is_version staged =
     some_suits schema (text_at (codes "op") d) SyntaxError _ (λ op _.
-    if_suits schema (bytes_eq op (codes "insert")) _ _ (insert_suits schema version g d is_version staged)
+    if_suits schema (bytes_eq op (codes "insert")) _ _ (insert_suits schema before version g d all is_version staged)
     (if_suits schema (bytes_eq op (codes "select")) _ _ (select_suits schema g d staged) tt))
 
 -- ---- transactions
@@ -105,7 +122,7 @@ performs_suits : (schema : Schema) (before : Database) (version : Uuid) (g : Sta
     → Suits schema (perform schema before version g operations).database
 performs_suits schema before version g no_items suits is_version staged = staged.0
 performs_suits schema before version g (item d operations) suits is_version staged =
-    after_suits schema before (operation schema version g d) operations (λ g'. perform schema before version g' operations) suits (operation_suits schema version g d is_version staged)
+    after_suits schema before (operation schema before version g d) operations (λ g'. perform schema before version g' operations) suits (operation_suits schema before version g d suits is_version staged)
     (λ g' staged'. performs_suits schema before version g' operations suits is_version staged')
 
 -- a transaction keeps the rows those of the schema

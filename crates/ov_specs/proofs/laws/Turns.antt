@@ -153,7 +153,7 @@ module _ (n : ℕ) (s : State) (e : Entry) (t : Stepped) (h : step s e ≡ Some 
         cause_is = no_cause_same n s t.state e.event open_is;
       }
 
--- what is left of the work on a message: the session is closed for want of memory, or the sessions stay
+-- what is left of the work on a message: the session is closed when out of memory, or the sessions stay
 abbrev Worked : State → ℕ → State → Type 0
 Worked s m t = ((t.sessions ≡ s.sessions) × (t.next ≡ s.next)) ⊎ (t ≡ without_session m s)
 
