@@ -1,4 +1,4 @@
--- What the store of a connection that was just opened holds (own).
+-- What the store of a connection that was just opened holds. What names no source is our own.
 use Rattle.std.specs.Prelude.{◌≡◌, ◌≢◌, ◌↔◌, ◌⊎◌, ◌++◌, ℕ, List, drop, IsTrue, Result, Ok, Err}
 use Rattle.std.specs.FinMap.{empty}
 use Rattle.sqlite.specs.Store.{Ghosts}

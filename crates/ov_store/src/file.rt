@@ -79,7 +79,7 @@ pub fn store_in_file<S: Start>(
     }
 }
 
-/// A new store in memory, with this text of a schema and no line. It is refused for want of memory, and as `store_over` is
+/// A new store in memory, with this text of a schema and no line. It is refused when out of memory, and as `store_over` is
 /// by a device. Whatever is promised under an honest device needs no premise over it: in memory each one is honest, this store
 /// and what becomes of it.
 pub fn store_in_memory(
