@@ -125,7 +125,7 @@ fn place_at(
         version: Uuid::nil(),
         columns: Columns::new(alloc),
     };
-    rows.insert(key.copy(alloc)?, row)?;
+    rows.insert(alloc, key, row)?;
     added.push_reserved(listed);
     Ok(())
 }
@@ -140,24 +140,24 @@ pub(crate) fn take_out(rows: &mut Rows, added: &mut Vec<RowKey>)
 }
 
 /// Makes the changes. No growth is asked for, since there is a place for each new row.
-pub(crate) fn make(rows: &mut Rows, delta: Delta)
+pub(crate) fn make(alloc: Global, rows: &mut Rows, delta: Delta)
     requires { IsPlaced delta rows.old }
     ensures { rows.new ≡ applied delta rows.old }
 {
     for (key, row) in delta.changes {
-        make_one(rows, key, row);
+        make_one(alloc, rows, &key, row);
     }
 }
 
 /// Makes one change. There is a place for the row, if it is one.
-fn make_one(rows: &mut Rows, key: RowKey, row: Option<Row>)
-    requires { contains_key rows.old key ≡ false → row ≡ None }
-    ensures { rows.new ≡ with_row key row rows.old }
+fn make_one(alloc: Global, rows: &mut Rows, key: &RowKey, row: Option<Row>)
+    requires { contains_key rows.old key.now ≡ false → row ≡ None }
+    ensures { rows.new ≡ with_row key.now row rows.old }
 {
     match row {
         Some(row) => {
-            let _ = rows.insert(key, row);
+            let _ = rows.insert(alloc, key, row);
         }
-        None => rows.remove(&key),
+        None => rows.remove(key),
     }
 }

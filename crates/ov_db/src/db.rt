@@ -1,9 +1,10 @@
-ghost use Rattle.std.specs.Prelude.{◌≡◌, ◌≤◌, ◌==◌, map, true, is_some, option_copied, IfOk, IfErr, None};
+ghost use Rattle.std.specs.Prelude.{◌≡◌, ◌≤◌, ◌==◌, true, is_some, option_copied, IfOk, IfErr, None};
 ghost use Rattle.std.specs.FinMap.{get, entries, len};
 ghost use Rattle.std.specs.List.{filter};
 ghost use Rattle.serde_json.specs.Written.{compact_text};
 ghost use Rattle.ov_specs.specs.rows.Lines.{Contents};
 ghost use Rattle.std.specs.Str.{bytes_eq};
+ghost use Rattle.ov_rows.specs.Nested.{rows_in};
 ghost use Rattle.ov_keeper.specs.Keeping.{LeavesNoMore, HasFailed};
 ghost use Rattle.ov_keeper.specs.declared.fault.KeepFault.TheVariants.{Device};
 ghost use Rattle.ov_db.specs.Changing.{SuitsChanges};
@@ -18,10 +19,11 @@ use crate::delta::Delta;
 use crate::fault::RefusedOpen;
 use crate::load::load_rows;
 use ov_keeper::{KeepFault, Keeper};
-use ov_rows::{Row, RowKey, Rows};
+use ov_rows::{Row, Rows, TableRows};
 use ov_schema::Schema;
-use std::alloc::{AllocError, Global};
+use std::alloc::Global;
 use std::marker::Model;
+use uuid::Uuid;
 
 /// A database: its rows under their schema, and the keeper that has them as lines (RFC 7047, 3.2).
 ///
@@ -100,18 +102,18 @@ impl<K: Keeper + Drop> Db<K> {
         &self.rows
     }
 
-    /// The row of this key.
-    pub fn row(&self, key: &RowKey) -> Option<&Row>
-        ensures { option_copied result ≡ get self.now.committed key.now }
+    /// The row of this identifier in the table of this name.
+    pub fn row(&self, table: &str, id: Uuid) -> Option<&Row>
+        ensures { option_copied result ≡ get self.now.committed (table.now, id) }
     {
-        self.rows.row(key)
+        self.rows.row(table, id)
     }
 
-    /// The rows of the table of this name, in ascending order of their identifiers.
-    pub fn rows_of(&self, alloc: Global, table: &str) -> Result<Vec<(&RowKey, &Row)>, AllocError>
-        ensures { IfOk result (λ rows. map (λ r. (r.0.now, r.1.now)) rows.items ≡ filter (λ r. bytes_eq r.0.0 table.now) (entries self.now.committed)) }
+    /// The rows of the table of this name, if it ever had one. They take no memory.
+    pub fn rows_of(&self, table: &str) -> Option<&TableRows>
+        ensures { rows_in table.now (option_copied result) ≡ filter (λ r. bytes_eq r.0.0 table.now) (entries self.now.committed) }
     {
-        self.rows.of_table(alloc, table)
+        self.rows.of_table(table)
     }
 
     /// Whether a commit has failed. Then no later one is made, until the database is opened again.
@@ -200,7 +202,7 @@ impl<K: Keeper + Drop> Db<K> {
         };
         match self.keeper.commit(alloc, changes.as_slice()) {
             Ok(()) => {
-                make(&mut self.rows, delta);
+                make(alloc, &mut self.rows, delta);
                 StoreAnswer::Kept
             }
             Err(KeepFault::Device) => {

@@ -77,6 +77,6 @@ fn add_line(alloc: Global, schema: &Schema, line: &Line, rows: &mut Rows) -> Res
     };
     has_sixteen_bytes(&line.id);
     has_sixteen_bytes(&line.version);
-    rows.insert(key, row)?;
+    rows.insert(alloc, &key, row)?;
     Ok(())
 }

@@ -1,2 +1,4 @@
 pub mod Maps
 pub mod Names
+pub mod Nesting
+pub mod Nested

@@ -1,5 +1,5 @@
 -- Ordered maps of the code as those of the definitions.
-use Rattle.std.proofs.Common.{◌≡◌, List, [], ◌∷◌, cond, T, ◌&&◌, Some, None, refl, sym, ap, ◌∙◌, Ordering, Less, Equal, Greater}
+use Rattle.std.proofs.Common.{◌≡◌, List, [], ◌∷◌, cond, T, Some, None, refl, sym, ap, ◌∙◌, Ordering, Less, Equal, Greater}
 use Rattle.std.specs.Cmp.{IsTotalOrder, eq_by_cmp_equiv}
 use Rattle.std.specs.List.{AllByRecursion}
 use Rattle.std.specs.List.Sorted.{IsStrictlySortedBy}

@@ -1,7 +1,7 @@
 -- The columns of the code as those of the definitions.
 use Rattle.std.proofs.Common.{◌≡◌, ℕ, List, [], ◌∷◌, Bool, false, cond, T, ◌&&◌, ◌||◌, Some, refl, sym, ap, ◌∙◌, String, string_bytes, Global, Ordering, Less, Equal, Greater}
 use Rattle.std.specs.BTreeMap.{insert_entry, is_at}
-use Rattle.std.specs.Cmp.Lexicographic.{slice_cmp, nat_list_cmp_total}
+use Rattle.std.specs.Cmp.Lexicographic.{pointwise, slice_cmp, nat_list_cmp_total}
 use Rattle.std.specs.FinMap.{find, put, is_sorted, insert, get, entries, get-from_sorted, entries-from_sorted, entries-insert, same_entries_map}
 use Rattle.std.specs.FinMap.Entries.{below_all, by_order}
 use Rattle.std.specs.List.{AllByRecursion}
@@ -11,8 +11,11 @@ use Rattle.std.specs.Ordering.{nat_cmp, eq_by_cmp, match_ordering}
 use Rattle.serde_json.specs.Data.{Members, no_members, member, put as put_member, Data}
 use Rattle.ov_specs.specs.schema.SchemaTypes.{name_cmp}
 use Rattle.ov_specs.specs.wire.Tree.{has_real, members_have_real}
-use Rattle.ov_specs.specs.values.Value.{Datum}
+use Rattle.std.specs.Str.{bytes_eq}
+use Rattle.ov_specs.specs.rows.Database.{same_columns}
+use Rattle.ov_specs.specs.values.Value.{Datum, datum_cmp}
 use Rattle.ov_rows.specs.Named.{named, columns_of}
+use Rattle.ov_specs.proofs.laws.Sameness.{datum-tied}
 use Rattle.ov_specs.proofs.laws.Truths.{both_hold}
 use Rattle.std.proofs.lemmas.Bool.{or_parts}
 
@@ -30,7 +33,7 @@ module _ {X : Type 0} where
   names-ascend [] h = tt
   names-ascend (x ∷ es) h = both_hold _ _ (below x.0 es h.0) (names-ascend es h.1)
 
-  find-named : (q : List ℕ) (es : List (String Global × X)) → find name_cmp q (named es) ≡ lookup (is_at (λ k. slice_cmp nat_cmp q (string_bytes k))) es
+  pub find-named : (q : List ℕ) (es : List (String Global × X)) → find name_cmp q (named es) ≡ lookup (is_at (λ k. slice_cmp nat_cmp q (string_bytes k))) es
   find-named q [] = refl
   find-named q (e ∷ es) = ap (cond (eq_by_cmp name_cmp q (string_bytes e.0)) (Some e.1)) (find-named q es)
 
@@ -53,6 +56,14 @@ pub columns_of-insert : (es es' : List (String Global × Datum)) (k : String Glo
     → columns_of es' ≡ insert (columns_of es) (string_bytes k) v
 columns_of-insert es es' k v h h' is = same_entries_map _ _
     (entries-columns_of es' h' ∙ ap named is ∙ sym (put-named k v es) ∙ sym (entries-insert nat_list_cmp_total (columns_of es) (string_bytes k) v ∙ ap (put name_cmp (string_bytes k) v) (entries-columns_of es h)))
+
+-- ---- columns that are the same
+
+pub same-named : (xs ys : List (String Global × Datum)) → pointwise (λ x y. bytes_eq (string_bytes x.0) (string_bytes y.0) && eq_by_cmp datum_cmp x.1 y.1) xs ys ≡ same_columns (named xs) (named ys)
+same-named [] [] = refl
+same-named [] (y ∷ ys) = refl
+same-named (x ∷ xs) [] = refl
+same-named (x ∷ xs) (y ∷ ys) = λ i. (bytes_eq (string_bytes x.0) (string_bytes y.0) && sym (datum-tied x.1 y.1) i) && same-named xs ys i
 
 -- ---- members without reals
 

@@ -1,14 +1,26 @@
 -- Rows and databases as models store them.
-use Rattle.std.specs.Prelude.{ℕ, List, refl}
+use Rattle.std.specs.Prelude.{ℕ, List, String, refl}
+use Rattle.std.specs.declared.alloc.Global.{Global}
 use Rattle.std.specs.Coded.{Coded, code_by, coded×, coded_ℕ, coded_list}
 use Rattle.std.specs.FinMap as map
 use Rattle.ov_specs.specs.rows.Database.{Columns, Database, Row}
 use Rattle.ov_specs.specs.rows.Lines.{LineKey, line_cmp}
 use Rattle.ov_specs.specs.codes.ValueCode.{datum_code}
+use Rattle.ov_specs.specs.values.Uuid.{Uuid}
+use Rattle.ov_rows.specs.Named.{named}
+use Rattle.ov_rows.specs.Nested.{id_cmp, TableRows, all_rows}
 
 -- the rows of an ascending list
 abbrev pub database_of : List (LineKey × Row) → Database
 database_of es = map.from_sorted {R = line_cmp} es
+
+-- the rows of a table, of an ascending list
+abbrev pub table_of : List (Uuid × Row) → TableRows
+table_of es = map.from_sorted {R = id_cmp} es
+
+-- the rows of all tables, of an ascending list of them
+abbrev pub nested_of : List (String Global × TableRows) → Database
+nested_of ts = database_of (all_rows (named ts))
 
 -- ---- how a model stores them
 
@@ -23,3 +35,7 @@ row_code = code_by (List ℕ × Columns) (coded× (coded_list coded_ℕ) columns
 -- a database as a map (own)
 abbrev pub database_code : Coded Database
 database_code = map.code (coded× (coded_list coded_ℕ) (coded_list coded_ℕ)) row_code
+
+-- the rows of a table as a map (own)
+abbrev pub table_code : Coded TableRows
+table_code = map.code (coded_list coded_ℕ) row_code

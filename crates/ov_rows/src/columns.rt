@@ -2,7 +2,7 @@ ghost use Rattle.std.specs.Prelude.{◌≡◌, IfOk, OnOk, OnErr, false, map, op
 ghost use Rattle.std.specs.FinMap.{empty, get, contains_key, insert, entries};
 ghost use Rattle.serde_json.specs.Data.{put};
 ghost use Rattle.serde_json.specs.View.{members_view};
-ghost use Rattle.ov_specs.specs.rows.Database.{object_of, written_column};
+ghost use Rattle.ov_specs.specs.rows.Database.{object_of, written_column, same_columns};
 ghost use Rattle.ov_specs.specs.wire.Tree.{has_real};
 ghost use Rattle.ov_specs.specs.values.Writing.{tree};
 
@@ -58,6 +58,13 @@ impl Columns {
         ensures { result ≡ contains_key self.now name.now }
     {
         self.values.contains_key(name)
+    }
+
+    /// Whether these are the same values in the same columns.
+    pub fn is_same(&self, other: &Columns) -> bool
+        ensures { result ≡ same_columns (entries self.now) (entries other.now) }
+    {
+        self.values == other.values
     }
 
     /// Puts the value at the column of this name, in place of the one that is there. Where a growth is refused, nothing is changed.

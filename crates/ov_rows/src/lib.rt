@@ -5,8 +5,10 @@ mod columns;
 mod key;
 mod row;
 mod rows;
+mod table_rows;
 
 pub use columns::Columns;
 pub use key::RowKey;
 pub use row::Row;
 pub use rows::Rows;
+pub use table_rows::TableRows;

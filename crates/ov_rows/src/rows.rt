@@ -1,34 +1,40 @@
-ghost use Rattle.std.specs.Prelude.{◌≡◌, map, option_copied, IfOk, OnOk, OnErr, None};
+ghost use Rattle.std.specs.Prelude.{◌≡◌, option_copied, OnOk, OnErr, None};
 ghost use Rattle.std.specs.List.{filter};
 ghost use Rattle.std.specs.FinMap.{empty, get, contains_key, insert, remove, entries};
 ghost use Rattle.std.specs.Str.{bytes_eq};
+ghost use Rattle.ov_rows.specs.Named.{named};
+ghost use Rattle.ov_rows.specs.Nested.{all_rows, rows_in};
 
 use crate::key::RowKey;
 use crate::row::Row;
+use crate::table_rows::TableRows;
 use std::alloc::{AllocError, Global};
 use std::collections::BTreeMap;
 use std::marker::Model;
+use uuid::Uuid;
 
-/// The rows of a database, by their keys (RFC 7047, 3.2).
+/// The rows of a database, by their tables and identifiers (RFC 7047, 3.2). Contracts see them by their keys.
 #[derive(Drop)]
 pub struct Rows {
-    rows: BTreeMap<RowKey, Row>,
+    /// A table that has lost its last row stays.
+    tables: BTreeMap<String, TableRows>,
 }
 
 impl Model for Rows {
     ghost use Rattle.std.specs.Prelude.{T};
     ghost use Rattle.std.specs.FinMap.{is_sorted};
     ghost use Rattle.ov_specs.specs.rows.Database.{Database};
-    ghost use Rattle.ov_specs.specs.rows.Lines.{line_cmp};
-    ghost use Rattle.ov_rows.specs.Resident.{database_code, database_of};
+    ghost use Rattle.ov_specs.specs.schema.SchemaTypes.{name_cmp};
+    ghost use Rattle.ov_rows.specs.Named.{named};
+    ghost use Rattle.ov_rows.specs.Resident.{database_code, nested_of};
 
     ghost Value = { Database };
 
     ghost coded = { database_code };
 
-    ghost view = { λ r. database_of r.rows.entries };
+    ghost view = { λ r. nested_of r.tables.entries };
 
-    ghost invariant = { λ r. T (is_sorted line_cmp r.rows.entries) };
+    ghost invariant = { λ r. T (is_sorted name_cmp (named r.tables.entries)) };
 }
 
 impl Rows {
@@ -37,53 +43,55 @@ impl Rows {
         ensures { result ≡ empty }
     {
         Rows {
-            rows: BTreeMap::new(alloc),
+            tables: BTreeMap::new(alloc),
         }
     }
 
-    /// The row of this key.
-    pub fn row(&self, key: &RowKey) -> Option<&Row>
-        ensures { option_copied result ≡ get self.now key.now }
+    /// The row of this identifier in the table of this name.
+    pub fn row(&self, table: &str, id: Uuid) -> Option<&Row>
+        ensures { option_copied result ≡ get self.now (table.now, id) }
     {
-        self.rows.get(key)
+        match self.tables.get(table) {
+            Some(rows) => rows.row(id),
+            None => None,
+        }
     }
 
     /// Whether there is a row of this key.
     pub fn contains(&self, key: &RowKey) -> bool
         ensures { result ≡ contains_key self.now key.now }
     {
-        self.rows.contains_key(key)
+        self.row(key.table(), key.id()).is_some()
     }
 
-    /// All rows, in ascending order of their keys: those of one table stand together, by their identifiers.
-    pub fn map(&self) -> &BTreeMap<RowKey, Row>
-        ensures { result.now.entries ≡ entries self.now }
+    /// The rows of the table of this name, if it ever had one.
+    pub fn of_table(&self, table: &str) -> Option<&TableRows>
+        ensures { rows_in table.now (option_copied result) ≡ filter (λ r. bytes_eq r.0.0 table.now) (entries self.now) }
     {
-        &self.rows
+        self.tables.get(table)
     }
 
-    /// The rows of the table of this name, in ascending order of their identifiers. All rows are looked at.
-    pub fn of_table(&self, alloc: Global, table: &str) -> Result<Vec<(&RowKey, &Row)>, AllocError>
-        ensures { IfOk result (λ rows. map (λ r. (r.0.now, r.1.now)) rows.items ≡ filter (λ r. bytes_eq r.0.0 table.now) (entries self.now)) }
+    /// The rows of all tables that ever had one, in ascending order of the tables' names.
+    pub fn tables(&self) -> &BTreeMap<String, TableRows>
+        ensures { all_rows (named result.now.entries) ≡ entries self.now }
     {
-        let mut rows = Vec::new(alloc);
-        for (key, row) in &self.rows {
-            if key.table() == table {
-                rows.push((key, row))?;
-            }
-        }
-        Ok(rows)
+        &self.tables
     }
 
     /// Puts the row in place of the one of its key. Only a new key can be refused for memory, and then nothing is changed.
-    pub fn insert(&mut self, key: RowKey, row: Row) -> Result<(), AllocError>
-        ensures ok { OnOk result (self.new ≡ insert self.old key row) }
+    pub fn insert(&mut self, alloc: Global, key: &RowKey, row: Row) -> Result<(), AllocError>
+        ensures ok { OnOk result (self.new ≡ insert self.old key.now row) }
         ensures err { OnErr result (self.new ≡ self.old) }
-        ensures absent { OnErr result (get self.old key ≡ None) }
+        ensures absent { OnErr result (get self.old key.now ≡ None) }
     {
-        match self.rows.insert(key, row) {
-            Ok(_) => Ok(()),
-            Err(_) => Err(AllocError),
+        match self.tables.get_mut(key.table()) {
+            Some(rows) => rows.insert(key.id(), row),
+            None => {
+                let rows = TableRows::of_row(alloc, key.id(), row)?;
+                self.tables
+                    .insert(String::from_str(alloc, key.table())?, rows)?;
+                Ok(())
+            }
         }
     }
 
@@ -91,6 +99,8 @@ impl Rows {
     pub fn remove(&mut self, key: &RowKey)
         ensures { self.new ≡ remove self.old key.now }
     {
-        self.rows.remove(key);
+        if let Some(rows) = self.tables.get_mut(key.table()) {
+            rows.remove(key.id());
+        }
     }
 }

@@ -9,8 +9,10 @@ pub mod ReadingBack
 pub mod OfKinds
 pub mod OfColumns
 pub mod DatumOrder
+pub mod Sameness
 pub mod SchemaLaws
 pub mod Expanding
+pub mod Histories
 pub mod Turns
 pub mod LineKeys
 pub mod Truths

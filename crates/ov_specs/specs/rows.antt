@@ -1,3 +1,4 @@
 pub mod Lines
 pub mod Database
+pub mod Version
 pub mod Suits

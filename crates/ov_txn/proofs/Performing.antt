@@ -35,7 +35,7 @@ module _ (schema : Schema) (before : Database) (version : Uuid) where
   at_start draws operations h e = ap (λ ds. transaction schema before ds operations) (drop_more draws 0 version h ∙ ap (λ y. y ∷ drop 1 draws) (sym e))
 
   -- an operation with a result
-  pub at_does : (all : Transacted) (g g' : Staged) (d r : Data) (rest rs ds : Items) → rest ≡ item d ds → all ≡ prefixed rs (perform schema before version g rest) → operation schema version g d ≡ Succeeds r g'
+  pub at_does : (all : Transacted) (g g' : Staged) (d r : Data) (rest rs ds : Items) → rest ≡ item d ds → all ≡ prefixed rs (perform schema before version g rest) → operation schema before version g d ≡ Succeeds r g'
       → all ≡ prefixed (and_item rs r) (perform schema before version g' ds)
   at_does all g g' d r rest rs ds at h e =
       h ∙ ap (λ ys. prefixed rs (perform schema before version g ys)) at
@@ -43,7 +43,7 @@ module _ (schema : Schema) (before : Database) (version : Uuid) where
       ∙ ap (λ ys. record (perform schema before version g' ds) { results = ys }) (sym (append_and rs r (perform schema before version g' ds).results))
 
   -- an operation that is refused
-  pub at_refuses : (all : Transacted) (g : Staged) (d : Data) (error : OpError) (rest rs ds : Items) → rest ≡ item d ds → all ≡ prefixed rs (perform schema before version g rest) → operation schema version g d ≡ Fails error
+  pub at_refuses : (all : Transacted) (g : Staged) (d : Data) (error : OpError) (rest rs ds : Items) → rest ≡ item d ds → all ≡ prefixed rs (perform schema before version g rest) → operation schema before version g d ≡ Fails error
       → all ≡ record { results = nulls_after (and_item rs (error_tree error)) ds; database = before }
   at_refuses all g d error rest rs ds at h e =
       h ∙ ap (λ ys. prefixed rs (perform schema before version g ys)) at

@@ -1,12 +1,14 @@
 -- What the code has of a transaction, as that of the definitions.
-use Rattle.std.specs.Prelude.{◌≡◌, ◌≤◌, ◌<◌, ℕ, List, drop, refl, Option, option_map, option_to_list, Result, Ok, Err}
+use Rattle.std.specs.Prelude.{◌≡◌, ◌≤◌, ◌<◌, ℕ, not, List, [], ◌∷◌, drop, refl, Option, Some, None, option_map, option_to_list, Result, Ok, Err}
+use Rattle.std.specs.declared.cmp.Ordering.{Ordering}
+use Rattle.std.specs.Ordering.{eq_by_cmp}
 use Rattle.std.specs.Coded.{Coded, code_by, coded×}
-use Rattle.std.specs.FinMap.{len}
+use Rattle.std.specs.FinMap.{len, put}
+use Rattle.std.specs.FinMap.Entries.{where_key}
 use Rattle.ov_db.specs.Changing.{Delta, applied}
 use Rattle.ov_rows.specs.Resident.{database_code}
 use Rattle.serde_json.specs.Data.{Data}
 use Rattle.ov_specs.specs.rows.Database.{Database, Row}
-use Rattle.ov_specs.specs.rows.Lines.{LineKey}
 use Rattle.ov_specs.specs.operations.Operation as spec
 use Rattle.ov_specs.specs.values.Uuid.{Uuid}
 use Rattle.ov_txn.specs.declared.fault.OpFault.{OpFault}
@@ -38,6 +40,18 @@ stage_code = code_by (Database × Database) (coded× database_code database_code
 abbrev pub IsGrown : Delta → Database → Type 0
 IsGrown delta before = (len before ≤ len (applied delta before)) × (0 < len delta → len before < len (applied delta before))
 
+-- ---- changes that are made in an ascending list of rows, by whatever keys
+
 -- the row that a change makes, if it makes one (own)
-abbrev pub row_made : LineKey × Option Row → List (LineKey × Row)
+abbrev pub row_made : {K : Type 0} → K × Option Row → List (K × Row)
 row_made change = option_to_list (option_map (λ row. (change.0, row)) change.1)
+
+-- the row in place of the one of its key, or none in its place (own)
+abbrev pub place : {K : Type 0} → (K → K → Ordering) → K → Option Row → List (K × Row) → List (K × Row)
+place order key (Some row) rows = put order key row rows
+place order key None rows = where_key order (λ other. not (eq_by_cmp order key other)) rows
+
+-- the rows after these changes, the first of them first (own)
+abbrev pub placed : {K : Type 0} → (K → K → Ordering) → List (K × Option Row) → List (K × Row) → List (K × Row)
+placed order [] rows = rows
+placed order (change ∷ changes) rows = placed order changes (place order change.0 change.1 rows)

@@ -10,7 +10,7 @@ use crate::member::text_at;
 use crate::row_values::new_columns;
 use crate::stage::Stage;
 use ov_base::Tree;
-use ov_rows::{Columns, Row, RowKey};
+use ov_rows::{Columns, RowKey};
 use ov_schema::Schema;
 use serde_json::{Value, json};
 use std::alloc::{AllocError, Global};
@@ -48,7 +48,7 @@ fn put_row(
     table: &str,
     columns: Columns,
 ) -> Result<Tree, OpFault>
-    ensures done { IsDone (spec.put_row version (staged stage.old.now draws.now used.old) table.now columns) result (staged stage.new.now draws.now used.new) }
+    ensures done { IsDone (spec.put_row stage.old.before version (staged stage.old.now draws.now used.old) table.now columns) result (staged stage.new.now draws.now used.new) }
     ensures frame { stage.new ≡ record stage.old { now = stage.new.now } }
 {
     let Some(id) = draws.get(*used).copied() else {
@@ -59,7 +59,7 @@ fn put_row(
         return Err(OpFault::Refused(OpError::DuplicateUuid));
     }
     let tree = insert_result(alloc, id)?;
-    stage.insert(key, Row { version, columns })?;
+    stage.put(key, version, columns)?;
     *used += 1;
     Ok(tree)
 }
@@ -74,7 +74,7 @@ pub(crate) fn insert_row(
     stage: &mut Stage<'_>,
     operation: &Value,
 ) -> Result<Tree, OpFault>
-    ensures done { IsDone (spec.insert_row schema.now version (staged stage.old.now draws.now used.old) (view operation.now)) result (staged stage.new.now draws.now used.new) }
+    ensures done { IsDone (spec.insert_row schema.now stage.old.before version (staged stage.old.now draws.now used.old) (view operation.now)) result (staged stage.new.now draws.now used.new) }
     ensures frame { stage.new ≡ record stage.old { now = stage.new.now } }
 {
     let Some(name) = text_at(operation, "table") else {

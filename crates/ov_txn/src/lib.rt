@@ -15,6 +15,7 @@ mod select;
 mod shown;
 mod stage;
 mod transaction;
+mod version;
 
 pub use draws::{Draws, draws_for};
 pub use results::{exhausted, failed};

@@ -24,7 +24,7 @@ pub(crate) fn operate(
     stage: &mut Stage<'_>,
     operation: &Value,
 ) -> Result<Tree, OpFault>
-    ensures done { IsDone (spec.operation schema.now version (staged stage.old.now draws.now used.old) (view operation.now)) result (staged stage.new.now draws.now used.new) }
+    ensures done { IsDone (spec.operation schema.now stage.old.before version (staged stage.old.now draws.now used.old) (view operation.now)) result (staged stage.new.now draws.now used.new) }
     ensures frame { stage.new ≡ record stage.old { now = stage.new.now } }
 {
     match text_at(operation, "op") {

@@ -3,13 +3,16 @@ ghost use Rattle.std.specs.List.{filter};
 ghost use Rattle.std.specs.FinMap.{contains_key, insert, entries, len};
 ghost use Rattle.ov_db.specs.Changing.{applied};
 ghost use Rattle.ov_specs.specs.rows.Database.{same_database};
+ghost use Rattle.ov_specs.specs.rows.Version.{row_now};
 ghost use Rattle.std.specs.Str.{bytes_eq};
 
-use crate::merge::{changes_of, merged};
+use crate::merge::{changes_of, merged, rows_of};
+use crate::version::row_now;
 use ov_db::Delta;
-use ov_rows::{Row, RowKey, Rows};
+use ov_rows::{Columns, Row, RowKey, Rows};
 use std::alloc::{AllocError, Global};
 use std::marker::Model;
+use uuid::Uuid;
 
 /// The rows as a transaction has made them so far. The committed ones are not touched.
 #[derive(Drop)]
@@ -52,12 +55,18 @@ impl<'a> Stage<'a> {
         }
     }
 
-    /// Puts a row of a new key. Where a growth is refused, nothing is changed.
-    pub(crate) fn insert(&mut self, key: RowKey, row: Row) -> Result<(), AllocError>
+    /// Puts a row of these columns at a new key, in a transaction of this version. Where a growth is refused, nothing is changed.
+    pub(crate) fn put(
+        &mut self,
+        key: RowKey,
+        version: Uuid,
+        columns: Columns,
+    ) -> Result<(), AllocError>
         requires { contains_key self.old.now key ≡ false }
-        ensures ok { OnOk result (self.new ≡ record self.old { now = insert self.old.now key row }) }
+        ensures ok { OnOk result (self.new ≡ record self.old { now = insert self.old.now key (row_now self.old.before version key columns) }) }
         ensures err { OnErr result (self.new ≡ self.old) }
     {
+        let row = row_now(self.rows, version, &key, columns);
         self.delta.insert(key, Some(row))?;
         Ok(())
     }
@@ -67,10 +76,10 @@ impl<'a> Stage<'a> {
         &self,
         alloc: Global,
         table: &str,
-    ) -> Result<Vec<(&RowKey, &Row)>, AllocError>
-        ensures { IfOk result (λ rows. map (λ r. (r.0.now, r.1.now)) rows.items ≡ filter (λ r. bytes_eq r.0.0 table.now) (entries self.now.now)) }
+    ) -> Result<Vec<(Uuid, &Row)>, AllocError>
+        ensures { IfOk result (λ rows. map (λ r. ((table.now, r.0), r.1.now)) rows.items ≡ filter (λ r. bytes_eq r.0.0 table.now) (entries self.now.now)) }
     {
-        let rows = self.rows.of_table(alloc, table)?;
+        let rows = rows_of(alloc, self.rows, table)?;
         if self.delta.is_empty() {
             return Ok(rows);
         }

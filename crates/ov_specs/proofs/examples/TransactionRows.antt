@@ -151,7 +151,7 @@ s1-new : new_columns switch (member (codes "load") (number (unsigned 4)) (member
 s1-new = rw s1-given s1-complete
 
 -- the row is put, and its identifier is the next draw
-insert-does : (draws : List uuid.Uuid) → operation net0 (numbered 1) (record { rows = empty; draws = numbered 2 ∷ draws }) insert_s1 ≡ Succeeds (insert_result (numbered 2)) (record { rows = with_s1; draws = draws })
+insert-does : (draws : List uuid.Uuid) → operation net0 empty (numbered 1) (record { rows = empty; draws = numbered 2 ∷ draws }) insert_s1 ≡ Succeeds (insert_result (numbered 2)) (record { rows = with_s1; draws = draws })
 insert-does draws = rw switch_table (rw s1-new (rw (get-empty line_cmp (codes "Switch", numbered 2)) refl))
 
 pub insert_one : transaction net0 empty (numbered 1 ∷ numbered 2 ∷ []) (item insert_s1 no_items) ≡ record { results = item (insert_result (numbered 2)) no_items; database = with_s1 }
@@ -181,7 +181,7 @@ rows_tree = object (member (codes "rows") (array (item row_tree no_items)) no_me
 shown-s1 : written_row (projection (map (λ c. c.0) listed) ((codes "Switch", numbered 2), s1)) ≡ row_tree
 shown-s1 = rw (load-given, name-given) (rw (entries-one (Uuid (numbered 2)), entries-one (Uuid (numbered 1))) (rw (entries-one (Integer (pos 4)), entries-one (Text (codes "s1"))) refl))
 
-select-does : operation net0 (numbered 1) (record { rows = with_s1; draws = [] }) (select_of (codes "Switch")) ≡ Succeeds rows_tree (record { rows = with_s1; draws = [] })
+select-does : operation net0 empty (numbered 1) (record { rows = with_s1; draws = [] }) (select_of (codes "Switch")) ≡ Succeeds rows_tree (record { rows = with_s1; draws = [] })
 select-does = rw switch_table (rw (entries-columns, entries-with_s1) (ap (λ d. Succeeds (object (member (codes "rows") (array (item d no_items)) no_members)) (record { rows = with_s1; draws = [] })) shown-s1))
 
 pub insert_then_select : transaction net0 empty (numbered 1 ∷ numbered 2 ∷ []) (item insert_s1 (item (select_of (codes "Switch")) no_items)) ≡ record { results = item (insert_result (numbered 2)) (item rows_tree no_items); database = with_s1 }

@@ -4,24 +4,26 @@ use Rattle.std.specs.Prelude.{◌&&◌, ◌||◌, Result, Ok, Err, codes, option
 use Rattle.std.specs.List.{list_all}
 use Rattle.std.specs.Ordering.{eq_by_cmp}
 use Rattle.std.specs.Str.{bytes_eq}
-use Rattle.std.specs.FinMap.{empty, get, insert, contains_key, get-empty, get-insert}
+use Rattle.std.specs.FinMap.{empty, get, insert, contains_key, entries, get-empty, get-insert}
 use Rattle.std.proofs.lemmas.Bool.{and_parts}
 use Rattle.std.proofs.lemmas.Option.{same_Some}
 use Rattle.serde_json.specs.Data.{Data, Items, no_items, item}
 use Rattle.serde_json.specs.Find as find
 use Rattle.serde_json.specs.Find.{as_object}
 use Rattle.ov_specs.specs.machine.History.{run, then_sends}
-use Rattle.ov_specs.specs.machine.Machine.{State, Entry, Choice, Event, Open, Take, Close, Tick, Outcome, NoMemory, Committed, Exhausted, Failed, Listed, listed, Stepped, step, happens, works, does, commits, sends_at_once, closed, when, is_open, is_without_choice, none_listed, Work, Answers, Transact, work_of, draws_for, results_of, opening}
+use Rattle.ov_specs.specs.machine.Machine.{State, Entry, Choice, Event, Open, Take, Close, Tick, Outcome, NoMemory, Committed, Exhausted, Failed, Listed, listed, Sent, Stepped, step, happens, works, does, commits, sends_at_once, closed, when, is_open, is_without_choice, none_listed, Work, Answers, Transact, work_of, draws_for, to_session, results_to, opening}
 use Rattle.ov_specs.specs.machine.Suiting.{SuitsState, draws_uuids}
 use Rattle.ov_specs.specs.operations.Errors.{OpError, SyntaxError, UnknownTable}
 use Rattle.ov_specs.specs.operations.Operation.{Staged, OperationResult, Succeeds, Fails, some_or_fail, ok_or_fail, operation, insert_row, new_columns, put_under, select_rows, no_names, conditions_read, selected_columns, array_at, text_at}
 use Rattle.ov_specs.specs.operations.Transaction.{Transacted, transaction, perform, after_operation, failed_results}
-use Rattle.ov_specs.specs.rows.Database.{Database, Columns, Row, same_database}
+use Rattle.ov_specs.specs.rows.Database.{Database, Columns, Row, same_columns, same_database}
 use Rattle.ov_specs.specs.rows.Lines.{LineKey, line_cmp}
+use Rattle.ov_specs.specs.rows.Version.{version_over, row_now}
 use Rattle.ov_specs.specs.rows.Suits.{SuitsTable, SuitsRow, Suits}
 use Rattle.ov_specs.specs.schema.SchemaTypes.{Table, Schema}
 use Rattle.ov_specs.specs.values.Uuid.{Uuid, is_uuid}
 use Rattle.ov_specs.specs.wire.Message.{has_member}
+use Rattle.ov_specs.proofs.laws.Turns.{ends_tries}
 use Rattle.ov_specs.proofs.laws.LineKeys.{key_total, tied_same}
 use Rattle.ov_specs.proofs.laws.SuitingColumns.{MakesRow, new_columns_suit}
 
@@ -62,22 +64,38 @@ if_suits : (schema : Schema) (b : Bool) (d e : OperationResult) → SuitsResult 
 if_suits schema true d e p q = p
 if_suits schema false d e p q = q
 
-put_suits : (schema : Schema) (version : Uuid) (rows : Database) (name : List ℕ) (table : Table) (columns : Columns) (draws : List Uuid) → is_uuid version ≡ true → get schema.tables name ≡ Some table
-    → SuitsTable table columns → SuitsStaged schema (record { rows = rows; draws = draws }) → SuitsResult schema (put_under version rows name columns draws)
-put_suits schema version rows name table columns [] is_version named suits staged = tt
-put_suits schema version rows name table columns (id ∷ draws) is_version named suits staged =
-    let parts = and_parts (is_uuid id) (list_all is_uuid draws) staged.1 in
-    let new : SuitsRow schema (name, id) (record { version = version; columns = columns }) = record { table = table; named = named; id = parts.0; version = is_version; columns = suits } in
-    if_suits schema (contains_key rows (name, id)) _ _ tt (one_row_suits schema rows (name, id) (record { version = version; columns = columns }) new staged.0, parts.1)
+-- the version is the transaction's, or that of a row before it
+version_suits : (before : Option Row) (version : Uuid) (columns : Columns) → is_uuid version ≡ true → ((row : Row) → before ≡ Some row → is_uuid row.version ≡ true) → is_uuid (version_over before version columns) ≡ true
+version_suits None version columns is_version all = is_version
+version_suits (Some row) version columns is_version all = by (same_columns (entries row.columns) (entries columns))
+  where
+    by : (same : Bool) → is_uuid (cond same row.version version) ≡ true
+    by true = all row refl
+    by false = is_version
 
-insert_suits : (schema : Schema) (version : Uuid) (g : Staged) (d : Data) → is_uuid version ≡ true → SuitsStaged schema g → SuitsResult schema (insert_row schema version g d)
-insert_suits schema version g d is_version staged =
+put_suits : (schema : Schema) (before : Database) (version : Uuid) (rows : Database) (name : List ℕ) (table : Table) (columns : Columns) (draws : List Uuid) → Suits schema before → is_uuid version ≡ true
+    → get schema.tables name ≡ Some table → SuitsTable table columns → SuitsStaged schema (record { rows = rows; draws = draws }) → SuitsResult schema (put_under before version rows name columns draws)
+put_suits schema before version rows name table columns [] all is_version named suits staged = tt
+put_suits schema before version rows name table columns (id ∷ draws) all is_version named suits staged =
+    let parts = and_parts (is_uuid id) (list_all is_uuid draws) staged.1 in
+    let key : LineKey = (name, id) in
+    let new : SuitsRow schema key (row_now before version key columns) = record {
+      table = table;
+      named = named;
+      id = parts.0;
+      version = version_suits (get before key) version columns is_version (λ row is. (all key row is).version);
+      columns = suits;
+    } in
+    if_suits schema (contains_key rows key) _ _ tt (one_row_suits schema rows key (row_now before version key columns) new staged.0, parts.1)
+
+insert_suits : (schema : Schema) (before : Database) (version : Uuid) (g : Staged) (d : Data) → Suits schema before → is_uuid version ≡ true → SuitsStaged schema g → SuitsResult schema (insert_row schema before version g d)
+insert_suits schema before version g d all is_version staged =
     some_suits schema (text_at (codes "table") d) SyntaxError _ (λ name _.
     some_suits schema (get schema.tables name) UnknownTable _ (λ table named.
     if_suits schema (has_member (codes "uuid") d || has_member (codes "uuid-name") d) _ _ tt
     (some_suits schema (option_and_then as_object (find.get (codes "row") d)) SyntaxError _ (λ members _.
     ok_suits schema (new_columns table members) _ (λ columns made.
-    put_suits schema version g.rows name table columns g.draws is_version named (subst (MakesRow table) made (new_columns_suit table members)) staged)))))
+    put_suits schema before version g.rows name table columns g.draws all is_version named (subst (MakesRow table) made (new_columns_suit table members)) staged)))))
 
 select_suits : (schema : Schema) (g : Staged) (d : Data) → SuitsStaged schema g → SuitsResult schema (select_rows schema g d)
 select_suits schema g d staged =
@@ -87,10 +105,10 @@ select_suits schema g d staged =
     ok_suits schema (conditions_read no_names table items) _ (λ conditions _.
     ok_suits schema (selected_columns table (find.get (codes "columns") d)) _ (λ names _. staged)))))
 
-operation_suits : (schema : Schema) (version : Uuid) (g : Staged) (d : Data) → is_uuid version ≡ true → SuitsStaged schema g → SuitsResult schema (operation schema version g d)
-operation_suits schema version g d is_version staged =
+operation_suits : (schema : Schema) (before : Database) (version : Uuid) (g : Staged) (d : Data) → Suits schema before → is_uuid version ≡ true → SuitsStaged schema g → SuitsResult schema (operation schema before version g d)
+operation_suits schema before version g d all is_version staged =
     some_suits schema (text_at (codes "op") d) SyntaxError _ (λ op _.
-    if_suits schema (bytes_eq op (codes "insert")) _ _ (insert_suits schema version g d is_version staged)
+    if_suits schema (bytes_eq op (codes "insert")) _ _ (insert_suits schema before version g d all is_version staged)
     (if_suits schema (bytes_eq op (codes "select")) _ _ (select_suits schema g d staged) tt))
 
 -- ---- transactions
@@ -104,7 +122,7 @@ performs_suits : (schema : Schema) (before : Database) (version : Uuid) (g : Sta
     → Suits schema (perform schema before version g operations).database
 performs_suits schema before version g no_items suits is_version staged = staged.0
 performs_suits schema before version g (item d operations) suits is_version staged =
-    after_suits schema before (operation schema version g d) operations (λ g'. perform schema before version g' operations) suits (operation_suits schema version g d is_version staged)
+    after_suits schema before (operation schema before version g d) operations (λ g'. perform schema before version g' operations) suits (operation_suits schema before version g d suits is_version staged)
     (λ g' staged'. performs_suits schema before version g' operations suits is_version staged')
 
 -- a transaction keeps the rows those of the schema
@@ -129,9 +147,9 @@ if_stays : (schema : Schema) (b : Bool) (o p : Option Stepped) → StaysSuited s
 if_stays schema true o p h k = h
 if_stays schema false o p h k = k
 
-sending_stays : (s : State) (n : ℕ) (trees : List Data) (o : Option Outcome) → SuitsState s → StaysSuited s.schema (sends_at_once s n trees o)
-sending_stays s n trees None suits = (refl, suits)
-sending_stays s n trees (Some outcome) suits = tt
+sending_stays : (s : State) (sent : List Sent) (o : Option Outcome) → SuitsState s → StaysSuited s.schema (sends_at_once s sent o)
+sending_stays s sent None suits = (refl, suits)
+sending_stays s sent (Some outcome) suits = tt
 
 closed_stays : (s : State) (n : ℕ) → SuitsState s → StaysSuited s.schema (Some (closed s n))
 closed_stays s n suits = (refl, record { committed = suits.committed; sealed = suits.sealed })
@@ -144,11 +162,11 @@ commits_stays s n id t (Some NoMemory) suits new = tt
 commits_stays s n id t None suits new = tt
 
 does_stays : (s : State) (n : ℕ) (draws : List Uuid) (o : Option Outcome) (w : Work) → list_all is_uuid draws ≡ true → SuitsState s → StaysSuited s.schema (does s n draws o w)
-does_stays s n draws o (Answers trees) are suits = sending_stays s n trees o suits
+does_stays s n draws o (Answers trees) are suits = sending_stays s (to_session n trees) o suits
 does_stays s n draws o (Transact id operations) are suits =
     let t : Transacted = transaction s.schema s.database draws operations in
-    if_stays s.schema (same_database s.database t.database) _ _ (sending_stays s n (results_of id t.results) o suits)
-    (if_stays s.schema (is_some s.sealed) _ _ (sending_stays s n (results_of id (failed_results t.results)) o suits)
+    if_stays s.schema (same_database s.database t.database) _ _ (sending_stays s (results_to n id t.results) o suits)
+    (if_stays s.schema (is_some s.sealed) _ _ (sending_stays s (results_to n id (failed_results t.results)) o suits)
     (commits_stays s n id t o suits (transaction_suits s.schema s.database draws operations are suits.committed)))
 
 works_stays : (s : State) (n : ℕ) (draws : List Uuid) (o : Option Outcome) (w : Work) → list_all is_uuid draws ≡ true → SuitsState s → StaysSuited s.schema (works s n draws o w)
@@ -159,7 +177,9 @@ happens_stays : (s : State) (c : Choice) (what : Event) → list_all is_uuid c.d
 happens_stays s c Open are suits = when_stays s.schema (is_without_choice c) _ (refl, record { committed = suits.committed; sealed = suits.sealed })
 happens_stays s c (Take n message) are suits =
     let first : Listed = listed 1 c.outcomes in
-    when_stays s.schema (is_open s n) _ (when_stays s.schema (none_listed first.others) _ (works_stays s n c.draws first.outcome (work_of s message) are suits))
+    let work : Option Outcome → Option Stepped = λ o. works s n c.draws o (work_of s message) in
+    when_stays s.schema (is_open s n) _
+    (subst (StaysSuited s.schema) (sym (ends_tries work 1 c.outcomes)) (when_stays s.schema (none_listed first.others) _ (works_stays s n c.draws first.outcome (work_of s message) are suits)))
 happens_stays s c (Close n cause) are suits = when_stays s.schema (is_without_choice c && is_open s n) _ (closed_stays s n suits)
 happens_stays s c Tick are suits = when_stays s.schema (is_without_choice c) _ (refl, suits)
 

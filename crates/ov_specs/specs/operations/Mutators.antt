@@ -1,4 +1,4 @@
--- The mutations of a "mutate", and what they make of a column (RFC 7047, 5.1, <mutation>).
+-- The mutations of a "mutate", and what they make of a column (RFC 7047, 5.1, <mutation>). What names no source is our own.
 use Rattle.std.specs.Prelude.{ℕ, ℤ, pos, ◌+ℤ◌, ◌-ℤ◌, ◌*ℤ◌, int_div, int_rem, int_le, ◌&&◌, ◌||◌, not, is_none, is_some, List, [], ◌∷◌, ◌++◌, map, filter, Bool, false, if◌then◌else◌, Option, Some, None, option_and_then, codes, Result, Ok, Err}
 use Rattle.std.specs.List.{list_any, list_all}
 use Rattle.std.specs.FinMap.{get, contains_key, keys, entries}
@@ -43,14 +43,14 @@ pub record Mutation : Type 0 where
   pub type_of : ColumnType
   pub change : Change
 
--- why a tree is no mutation: it is built wrong, names no column, has a key with two values, or its column is not mutable (own)
+-- why a tree is no mutation: it is built wrong, names no column, has a key with two values, or its column is not mutable
 pub data MutationFault : Type 0 where
   BadMutation : MutationFault
   NoColumn : MutationFault
   Clash : MutationFault
   NotMutable : MutationFault
 
--- the error of the operation (RFC 7047, 5.2; which one is own)
+-- the error of the operation (RFC 7047, 5.2; which one is our own)
 abbrev pub mutation_error : MutationFault → OpError
 mutation_error BadMutation = SyntaxError
 mutation_error NoColumn = UnknownColumn
@@ -81,7 +81,7 @@ allows_mutator t Deletes = not (is_scalar t)
 abbrev pub mutator_on : ColumnType → List ℕ → Option Mutator
 mutator_on t word = option_and_then (λ m. if allows_mutator t m then Some m else None) (mutator_of word)
 
--- a value that reads, as what is done (own)
+-- a value that reads, as what is done
 abbrev pub change_with : (Datum → Change) → Reading Datum → Result Change MutationFault
 change_with change reading.Unreadable = Err BadMutation
 change_with change reading.Clashing = Err Clash
@@ -98,7 +98,8 @@ integer_of reading.Unreadable = None
 integer_of reading.Clashing = None
 integer_of (Reads value) = number_in value
 
--- what goes from a column: a tree that begins with "map" is a map, and another one on a map is a set of its keys (own, over RFC 7047, 5.1, <mutation>)
+-- what goes from a column: a tree that begins with "map" is a map, and another one on a map is a set of its keys (our own, over
+-- RFC 7047, 5.1, <mutation>)
 abbrev pub deleted_kinds : Kinds → Data → Kinds
 deleted_kinds (Single kind) d = Single kind
 deleted_kinds (Pair key value) d = if is_some (behind (codes "map") d) then Pair key value else Single key
@@ -109,7 +110,7 @@ change_read names t (Computes operator) d = compute_with operator (integer_of (r
 change_read names t Inserts d = change_with Insert (reads names (kinds_of t) d)
 change_read names t Deletes d = change_with Delete (reads names (deleted_kinds (kinds_of t) d) d)
 
--- the mutation of this column (own)
+-- the mutation of this column
 abbrev pub with_change : List ℕ → ColumnType → Result Change MutationFault → Result Mutation MutationFault
 with_change column t (Err fault) = Err fault
 with_change column t (Ok change) = Ok (record { column = column; type_of = t; change = change })
@@ -130,7 +131,7 @@ mutation_of names table None = Err BadMutation
 mutation_of names table (Some m) = mutation_on names m (get table.columns m.column)
 
 -- The mutation that a tree is, or the first fault: its shape, its column, whether that is mutable, the mutator on it, its
--- value (own, over RFC 7047, 5.1, <mutation>).
+-- value (our own, over RFC 7047, 5.1, <mutation>).
 abbrev pub mutation_read : Names → Table → Data → Result Mutation MutationFault
 mutation_read names table d = mutation_of names table (triple_read d)
 
@@ -161,14 +162,14 @@ computed Times by n = n *ℤ by
 computed Over by n = int_div n by
 computed Modulo by n = int_rem n by
 
--- the same of an atom; others than numbers stay (own)
+-- the same of an atom; others than numbers stay
 abbrev pub computed_atom : Operator → ℤ → Atom → Atom
 computed_atom operator by (Integer n) = Integer (computed operator by n)
 computed_atom operator by (Boolean b) = Boolean b
 computed_atom operator by (Text text) = Text text
 computed_atom operator by (Uuid bytes) = Uuid bytes
 
--- the number 0 (own)
+-- the number 0
 abbrev is_zero : ℤ → Bool
 is_zero n = int_le (pos 0) n && int_le n (pos 0)
 

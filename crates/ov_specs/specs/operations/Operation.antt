@@ -1,4 +1,4 @@
--- One operation of a transaction: what it makes of the rows, and its result (RFC 7047, 5.2).
+-- One operation of a transaction: what it makes of the rows, and its result (RFC 7047, 5.2). What names no source is our own.
 use Rattle.std.specs.Prelude.{ℕ, ◌&&◌, ◌||◌, not, List, [], ◌∷◌, ◌++◌, map, filter, Bool, if◌then◌else◌, Option, Some, None, option_and_then, option_map, option_to_list, codes, Result, Ok, Err}
 use Rattle.std.specs.List.{list_any, list_all, flat_map}
 use Rattle.std.specs.FinMap.{empty, get, contains_key, insert, keys, entries}
@@ -8,6 +8,7 @@ use Rattle.serde_json.specs.Find as find
 use Rattle.serde_json.specs.View.{items_of}
 use Rattle.ov_specs.specs.operations.Conditions.{Condition, ConditionFault, condition_error, condition_read, column_value, holds}
 use Rattle.ov_specs.specs.rows.Database.{Columns, Row, Database, object_of, written_column, same_columns}
+use Rattle.ov_specs.specs.rows.Version.{row_now}
 use Rattle.ov_specs.specs.operations.Errors.{OpError, SyntaxError, UnknownTable, UnknownColumn, UnknownOperation, DuplicateUuid, ConstraintViolation, ResourcesExhausted}
 use Rattle.ov_specs.specs.schema.Fitting.{fits, default_of}
 use Rattle.ov_specs.specs.rows.Lines.{LineKey}
@@ -22,7 +23,7 @@ use Rattle.ov_specs.specs.values.Writing.{atom_tree}
 
 -- ---- what an operation does
 
--- the rows as the operations so far have made them, and the identifiers that are left for inserts (own)
+-- the rows as the operations so far have made them, and the identifiers that are left for inserts
 pub record Staged : Type 0 where
   pub rows : Database
   pub draws : List Uuid
@@ -32,21 +33,21 @@ pub data OperationResult : Type 0 where
   Succeeds : (result : Data) (staged : Staged) → OperationResult
   Fails : (error : OpError) → OperationResult
 
--- with what was found, or else refused (own)
+-- with what was found, or else refused
 abbrev pub some_or_fail : {A : Type 0} → Option A → OpError → (A → OperationResult) → OperationResult
 some_or_fail None error next = Fails error
 some_or_fail (Some a) error next = next a
 
--- with what came out, or else refused (own)
+-- with what came out, or else refused
 abbrev pub ok_or_fail : {A : Type 0} → Result A OpError → (A → OperationResult) → OperationResult
 ok_or_fail (Err error) next = Fails error
 ok_or_fail (Ok a) next = next a
 
--- the text at a member (own)
+-- the text at a member
 abbrev pub text_at : List ℕ → Data → Option (List ℕ)
 text_at name d = option_and_then as_str (find.get name d)
 
--- the array at a member (own)
+-- the array at a member
 abbrev pub array_at : List ℕ → Data → Option Items
 array_at name d = option_and_then as_array (find.get name d)
 
@@ -60,7 +61,7 @@ on_table schema d next = some_or_fail (text_at (codes "table") d) SyntaxError (�
 abbrev pub is_own_column : List ℕ → Bool
 is_own_column name = bytes_eq name (codes "_uuid") || bytes_eq name (codes "_version")
 
--- no name stands for a row (own)
+-- no name stands for a row
 abbrev pub no_names : Names
 no_names name = None
 
@@ -79,7 +80,7 @@ abbrev pub member_value : List ℕ → Option Column → Data → Result Datum O
 member_value name None d = Err UnknownColumn
 member_value name (Some column) d = if is_own_column name then Err ConstraintViolation else value_for_column column d
 
--- one column more, and then the rest; or the fault of this one (own)
+-- one column more, and then the rest; or the fault of this one
 abbrev pub with_column : Result Datum OpError → (Datum → Result Columns OpError) → Result Columns OpError
 with_column (Err error) next = Err error
 with_column (Ok datum) next = next datum
@@ -91,7 +92,7 @@ row_values table no_members columns = Ok columns
 row_values table (member name d members) columns =
     with_column (member_value name (get table.columns name) d) (λ datum. row_values table members (insert columns name datum))
 
--- the default of a column, where it fits (RFC 7047, 5.2.1; that a default may not fit is own)
+-- the default of a column, where it fits (RFC 7047, 5.2.1; that a default may not fit is our own)
 abbrev pub fitting_default : Column → Result Datum OpError
 fitting_default column = if fits column.type_of (default_of column.type_of) then Ok (default_of column.type_of) else Err ConstraintViolation
 
@@ -102,7 +103,7 @@ with_defaults (c ∷ cs) columns =
     if is_own_column c.0 || contains_key columns c.0 then with_defaults cs columns
     else with_column (fitting_default c.1) (λ datum. with_defaults cs (insert columns c.0 datum))
 
--- the columns, where there is no fault, and then the rest (own)
+-- the columns, where there is no fault, and then the rest
 abbrev pub and_then_columns : Result Columns OpError → (Columns → Result Columns OpError) → Result Columns OpError
 and_then_columns (Err error) next = Err error
 and_then_columns (Ok columns) next = next columns
@@ -115,24 +116,25 @@ new_columns table members = and_then_columns (row_values table members empty) (�
 abbrev pub insert_result : Uuid → Data
 insert_result id = object_of ((codes "uuid", atom_tree (value.Uuid id)) ∷ [])
 
--- the row under an identifier that no row of the table has yet, the others left for the inserts that follow (RFC 7047, 5.2.1)
-abbrev pub put_under : Uuid → Database → List ℕ → Columns → List Uuid → OperationResult
-put_under version rows table columns [] = Fails ResourcesExhausted
-put_under version rows table columns (id ∷ draws) =
+-- The row under an identifier that no row of the table has yet, the others left for the inserts that follow. Its version
+-- follows from the database before the transaction (RFC 7047, 5.2.1).
+abbrev pub put_under : Database → Uuid → Database → List ℕ → Columns → List Uuid → OperationResult
+put_under before version rows table columns [] = Fails ResourcesExhausted
+put_under before version rows table columns (id ∷ draws) =
     if contains_key rows (table, id) then Fails DuplicateUuid
-    else Succeeds (insert_result id) (record { rows = insert rows (table, id) (record { version = version; columns = columns }); draws = draws })
+    else Succeeds (insert_result id) (record { rows = insert rows (table, id) (row_now before version (table, id) columns); draws = draws })
 
--- The row is put under the next draw. As many draws are made as there are inserts, so one is always left (own).
-abbrev pub put_row : Uuid → Staged → List ℕ → Columns → OperationResult
-put_row version g table columns = put_under version g.rows table columns g.draws
+-- The row is put under the next draw. As many draws are made as there are inserts, so one is always left.
+abbrev pub put_row : Database → Uuid → Staged → List ℕ → Columns → OperationResult
+put_row before version g table columns = put_under before version g.rows table columns g.draws
 
 -- A row is made of "row", and put. Its identifier can't be chosen, and it can't be given a name yet: "uuid" and "uuid-name"
 -- are syntax errors (RFC 7047, 5.2.1).
-abbrev pub insert_row : Schema → Uuid → Staged → Data → OperationResult
-insert_row schema version g d = on_table schema d (λ name table.
+abbrev pub insert_row : Schema → Database → Uuid → Staged → Data → OperationResult
+insert_row schema before version g d = on_table schema d (λ name table.
     if has_member (codes "uuid") d || has_member (codes "uuid-name") d then Fails SyntaxError
     else some_or_fail (option_and_then as_object (find.get (codes "row") d)) SyntaxError (λ members.
-    ok_or_fail (new_columns table members) (λ columns. put_row version g name columns)))
+    ok_or_fail (new_columns table members) (λ columns. put_row before version g name columns)))
 
 -- ---- select
 
@@ -140,18 +142,18 @@ insert_row schema version g d = on_table schema d (λ name table.
 abbrev pub entry_value : LineKey × Row → List ℕ → Option Datum
 entry_value r = column_value r.0.1 r.1.version r.1.columns
 
--- these conditions in front of the others, or the error of the others (own)
+-- these conditions in front of the others, or the error of the others
 abbrev pub and_others : List Condition → Result (List Condition) OpError → Result (List Condition) OpError
 and_others conditions (Err error) = Err error
 and_others conditions (Ok others) = Ok (conditions ++ others)
 
--- a condition in front of the others, or its fault (own)
+-- a condition in front of the others, or its fault
 abbrev pub and_condition : Result Condition ConditionFault → Result (List Condition) OpError → Result (List Condition) OpError
 and_condition (Err fault) others = Err (condition_error fault)
 and_condition (Ok condition) others = and_others (condition ∷ []) others
 
 -- The conditions of a "where", each read wholly before the next one, or the error of the first that does not read (RFC
--- 7047, 5.2.2; the order is own).
+-- 7047, 5.2.2; the order is our own).
 abbrev pub conditions_read : Names → Table → Items → Result (List Condition) OpError
 conditions_read names table no_items = Ok []
 conditions_read names table (item d ds) = and_condition (condition_read names table d) (conditions_read names table ds)
@@ -160,7 +162,7 @@ conditions_read names table (item d ds) = and_condition (condition_read names ta
 abbrev pub is_matching : List ℕ → List Condition → LineKey × Row → Bool
 is_matching table conditions r = bytes_eq r.0.0 table && list_all (holds (entry_value r)) conditions
 
--- these rows, in ascending order of their identifiers (own)
+-- these rows, in ascending order of their identifiers
 abbrev pub matching : Database → List ℕ → List Condition → List (LineKey × Row)
 matching rows table conditions = filter (is_matching table conditions) (entries rows)
 
@@ -181,7 +183,7 @@ written_row columns = object_of (map written_column columns)
 abbrev pub select_result : List (List (List ℕ × Datum)) → Data
 select_result rows = object_of ((codes "rows", array (items_of (map written_row rows))) ∷ [])
 
--- the table's columns that are named, in ascending order (own)
+-- the table's columns that are named, in ascending order
 abbrev pub columns_named : Table → List (List ℕ) → List (List ℕ)
 columns_named table names = filter (λ name. list_any (bytes_eq name) names) (keys table.columns)
 
@@ -209,9 +211,9 @@ select_rows schema g d = on_table schema d (λ name table.
 
 -- ---- any operation
 
--- "op" names the operation (RFC 7047, 5.2; the others are still unknown)
-abbrev pub operation : Schema → Uuid → Staged → Data → OperationResult
-operation schema version g d = some_or_fail (text_at (codes "op") d) SyntaxError (λ op.
-    if bytes_eq op (codes "insert") then insert_row schema version g d
+-- "op" names the operation, in a transaction of this version on the database before (RFC 7047, 5.2; the others are still unknown)
+abbrev pub operation : Schema → Database → Uuid → Staged → Data → OperationResult
+operation schema before version g d = some_or_fail (text_at (codes "op") d) SyntaxError (λ op.
+    if bytes_eq op (codes "insert") then insert_row schema before version g d
     else (if bytes_eq op (codes "select") then select_rows schema g d
     else Fails UnknownOperation))

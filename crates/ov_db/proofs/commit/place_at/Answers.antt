@@ -1,20 +1,20 @@
 use Rattle.std.proofs.Common.{◌≡◌, ◌∷◌, [], ◌++◌, refl, ap, ◌∙◌}
 use Rattle.ov_db.specs.Adding.{without_rows}
-use Rattle.ov_db.proofs.Added.{copied, without-added, other_stays, contains_more, contains_new}
+use Rattle.ov_db.proofs.Added.{without-added, other_stays, contains_more, contains_new}
 use Rattle.ov_db.proofs.commit.place_at.Goals as goal
 
 pub returns-clause-added : goal.returns-clause-added
 returns-clause-added c =
     let key = c.args.key.now in
     let listed : c.push_reserved.new.self.items ≡ c.args.added.now.items ++ key ∷ [] = rw (c.push_reserved.ensures.items, c.reserve.ensures.items, c.in_ok-listed.ensures) refl in
-    let inserted = copied c.args.rows.now c.insert.new.self key _ _ c.in_ok-insert.ensures.ok c.in_ok-copy.ensures in
+    let inserted = c.in_ok-insert.ensures.ok in
     ap (λ ks. without_rows ks c.insert.new.self) listed ∙ ap (without_rows (c.args.added.now.items ++ key ∷ [])) inserted ∙ without-added c.args.added.now.items key _ c.args.rows.now c.requires
 
 pub returns-clause-same : goal.returns-clause-same
-returns-clause-same c other h = other_stays c.args.rows.now c.insert.new.self c.args.key.now _ other (copied c.args.rows.now c.insert.new.self c.args.key.now _ _ c.in_ok-insert.ensures.ok c.in_ok-copy.ensures) h
+returns-clause-same c other h = other_stays c.args.rows.now c.insert.new.self c.args.key.now _ other c.in_ok-insert.ensures.ok h
 
 pub returns-clause-stays : goal.returns-clause-stays
-returns-clause-stays c other h = contains_more c.args.rows.now c.insert.new.self c.args.key.now _ other (copied c.args.rows.now c.insert.new.self c.args.key.now _ _ c.in_ok-insert.ensures.ok c.in_ok-copy.ensures) h
+returns-clause-stays c other h = contains_more c.args.rows.now c.insert.new.self c.args.key.now _ other c.in_ok-insert.ensures.ok h
 
 pub returns-clause-placed : goal.returns-clause-placed
-returns-clause-placed c = contains_new c.args.rows.now c.insert.new.self c.args.key.now _ (copied c.args.rows.now c.insert.new.self c.args.key.now _ _ c.in_ok-insert.ensures.ok c.in_ok-copy.ensures)
+returns-clause-placed c = contains_new c.args.rows.now c.insert.new.self c.args.key.now _ c.in_ok-insert.ensures.ok

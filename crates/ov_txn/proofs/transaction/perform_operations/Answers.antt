@@ -4,7 +4,7 @@ use Rattle.std.proofs.lemmas.Result.{IfOk-weaker}
 use Rattle.std.specs.FinMap.{len}
 use Rattle.serde_json.specs.View.{view, items_view}
 use Rattle.ov_db.specs.Changing.{Delta, applied}
-use Rattle.ov_specs.specs.rows.Database.{same_database}
+use Rattle.ov_specs.specs.rows.Database.{Database, same_database}
 use Rattle.ov_specs.specs.operations.Errors.{error_tree}
 use Rattle.ov_specs.specs.operations.Operation.{Fails, operation}
 use Rattle.ov_specs.specs.operations.Transaction.{transaction, and_item}
@@ -25,7 +25,8 @@ returns-in-Err-Refused-clause-results c =
     let tree = c.index-trees-i.result in
     let g = staged c.loop-i.stage.now c.args.draws.now c.loop-i.used in
     let error = error_view c.in-Err-Refused.error in
-    let refuses : operation schema c.in-Some.version g (view tree) ≡ Fails error = rw c.in-Err-Refused.field-0-is at c.in-Err-Refused.ensures.done in
+    let refuses : operation schema before c.in-Some.version g (view tree) ≡ Fails error =
+    ap (λ (db : Database). operation schema db c.in-Some.version g (view tree)) (sym c.loop-i.invariant.before) ∙ (rw c.in-Err-Refused.field-0-is at c.in-Err-Refused.ensures.done) in
     let all = ap (λ t. t.results) (at_refuses schema before c.in-Some.version (transaction schema before c.args.draws.now (items_view trees)) g (view tree) error (items_view (drop i trees)) c.loop-i.results (items_view (drop (i + 1) trees))
     (items_at trees i tree within c.index-trees-i.is) c.loop-i.invariant.going refuses) in
     let given : IfOk c.refused.result (λ p. p.results ≡ nulls_after (and_item c.loop-i.results (error_tree error)) (items_view c.split_at.result.1.now)) = rw c.in-Err-Refused.field-0-is at c.refused.ensures.results in
@@ -43,7 +44,8 @@ returns-in-Err-Refused-clause-delta c =
     let tree = c.index-trees-i.result in
     let g = staged c.loop-i.stage.now c.args.draws.now c.loop-i.used in
     let error = error_view c.in-Err-Refused.error in
-    let refuses : operation schema c.in-Some.version g (view tree) ≡ Fails error = rw c.in-Err-Refused.field-0-is at c.in-Err-Refused.ensures.done in
+    let refuses : operation schema before c.in-Some.version g (view tree) ≡ Fails error =
+    ap (λ (db : Database). operation schema db c.in-Some.version g (view tree)) (sym c.loop-i.invariant.before) ∙ (rw c.in-Err-Refused.field-0-is at c.in-Err-Refused.ensures.done) in
     let kept = ap (λ t. t.database) (at_refuses schema before c.in-Some.version (transaction schema before c.args.draws.now (items_view trees)) g (view tree) error (items_view (drop i trees)) c.loop-i.results (items_view (drop (i + 1) trees))
     (items_at trees i tree within c.index-trees-i.is) c.loop-i.invariant.going refuses) in
     let same = sym kept ∙ ap (λ ds. (transaction schema before c.args.draws.now ds).database) c.as_slice-trees.ensures.same in
@@ -59,7 +61,8 @@ returns-in-Err-Refused-clause-least c =
     let tree = c.index-trees-i.result in
     let g = staged c.loop-i.stage.now c.args.draws.now c.loop-i.used in
     let error = error_view c.in-Err-Refused.error in
-    let refuses : operation schema c.in-Some.version g (view tree) ≡ Fails error = rw c.in-Err-Refused.field-0-is at c.in-Err-Refused.ensures.done in
+    let refuses : operation schema before c.in-Some.version g (view tree) ≡ Fails error =
+    ap (λ (db : Database). operation schema db c.in-Some.version g (view tree)) (sym c.loop-i.invariant.before) ∙ (rw c.in-Err-Refused.field-0-is at c.in-Err-Refused.ensures.done) in
     let kept = ap (λ t. t.database) (at_refuses schema before c.in-Some.version (transaction schema before c.args.draws.now (items_view trees)) g (view tree) error (items_view (drop i trees)) c.loop-i.results (items_view (drop (i + 1) trees))
     (items_at trees i tree within c.index-trees-i.is) c.loop-i.invariant.going refuses) in
     let same = sym kept ∙ ap (λ ds. (transaction schema before c.args.draws.now ds).database) c.as_slice-trees.ensures.same in
@@ -73,7 +76,8 @@ loop-i-preserved c =
     let tree = c.index-trees-i.result in
     record {
       going = rw c.in_ok-push-in-Ok.ensures (at_does c.args.schema.now c.args.rows.now c.in-Some.version _ (staged c.loop-i.stage.now c.args.draws.now c.loop-i.used) _ (view tree) c.in-Ok.tree _ c.loop-i.results _
-          (items_at trees i tree within c.index-trees-i.is) c.loop-i.invariant.going c.in-Ok.ensures.done);
+          (items_at trees i tree within c.index-trees-i.is) c.loop-i.invariant.going
+          (ap (λ (db : Database). operation c.args.schema.now db c.in-Some.version (staged c.loop-i.stage.now c.args.draws.now c.loop-i.used) (view tree)) (sym c.loop-i.invariant.before) ∙ c.in-Ok.ensures.done));
       before = ap (λ (s : Stage). s.before) c.in-Ok.ensures.frame ∙ c.loop-i.invariant.before;
     }
 

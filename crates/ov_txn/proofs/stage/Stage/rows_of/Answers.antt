@@ -9,7 +9,7 @@ use Rattle.ov_specs.specs.rows.Database.{Database}
 use Rattle.ov_specs.specs.rows.Lines.{line_cmp}
 use Rattle.std.specs.Str.{bytes_eq}
 use Rattle.ov_txn.specs.Staging.{Stage}
-use Rattle.ov_txn.proofs.Merging.{Entries, its_changes_sorted, its_rows_sorted, of_table_after}
+use Rattle.ov_txn.proofs.Merging.{Entries, keyed, keyed-map, ids_sorted, merged_is, its_changes_sorted, its_rows_sorted, of_table_after}
 use Rattle.ov_txn.proofs.Stages.{applied-none}
 use Rattle.ov_txn.proofs.stage.Stage.rows_of.Goals as goal
 use Rattle.ov_specs.proofs.laws.Truths.{zero_is}
@@ -22,20 +22,29 @@ returns-then-is_empty c =
 
 pub merged-requires-clause-rows : goal.merged-requires-clause-rows
 merged-requires-clause-rows c =
-    subst (λ (es : Entries). T (is_sorted line_cmp es)) (sym (ap (map (λ r. (r.0.now, r.1.now))) c.as_slice.ensures.value ∙ c.in_ok-rows.ensures))
-    (its_rows_sorted c.args.table.now c.self.inside.delta c.self.inside.rows.now)
+    let table = c.args.table.now in
+    let rows = c.as_slice.result.now in
+    let keyed_rows = keyed-map table (λ r. (r.0, r.1.now)) rows ∙ ap (map (λ r. ((table, r.0), r.1.now))) c.as_slice.ensures.value ∙ c.in_ok-rows.ensures in
+    ids_sorted table (map (λ r. (r.0, r.1.now)) rows) (subst (λ (es : Entries). T (is_sorted line_cmp es)) (sym keyed_rows) (its_rows_sorted table c.self.inside.delta c.self.inside.rows.now))
 
 pub merged-requires-clause-changes : goal.merged-requires-clause-changes
 merged-requires-clause-changes c =
-    subst (λ (cs : Changes). T (is_sorted line_cmp cs)) (sym (ap (map (λ r. (r.0.now, r.1.now))) c.as_slice-2.ensures.value ∙ c.in_ok-changes.ensures))
-    (its_changes_sorted c.args.table.now c.self.inside.delta c.self.inside.rows.now)
+    let table = c.args.table.now in
+    let changes = c.as_slice-2.result.now in
+    let keyed_changes = keyed-map table (λ r. (r.0, r.1.now)) changes ∙ ap (map (λ r. ((table, r.0), r.1.now))) c.as_slice-2.ensures.value ∙ c.in_ok-changes.ensures in
+    ids_sorted table (map (λ r. (r.0, r.1.now)) changes) (subst (λ (cs : Changes). T (is_sorted line_cmp cs)) (sym keyed_changes) (its_changes_sorted table c.self.inside.delta c.self.inside.rows.now))
 
 pub returns : goal.returns
 returns c =
-    let rows_of : Database → Entries = λ db. filter (λ r. bytes_eq r.0.0 c.args.table.now) (entries db) in
-    let rows = ap (map (λ r. (r.0.now, r.1.now))) c.as_slice.ensures.value ∙ c.in_ok-rows.ensures in
-    let changes = ap (map (λ r. (r.0.now, r.1.now))) c.as_slice-2.ensures.value ∙ c.in_ok-changes.ensures in
+    let table = c.args.table.now in
+    let rows_of : Database → Entries = λ db. filter (λ r. bytes_eq r.0.0 table) (entries db) in
+    let rows = c.as_slice.result.now in
+    let changes = c.as_slice-2.result.now in
+    let keyed_rows = keyed-map table (λ r. (r.0, r.1.now)) rows ∙ ap (map (λ r. ((table, r.0), r.1.now))) c.as_slice.ensures.value ∙ c.in_ok-rows.ensures in
+    let keyed_changes = keyed-map table (λ r. (r.0, r.1.now)) changes ∙ ap (map (λ r. ((table, r.0), r.1.now))) c.as_slice-2.ensures.value ∙ c.in_ok-changes.ensures in
+    let sorted : T (is_sorted line_cmp (keyed table (map (λ r. (r.0, r.1.now)) rows))) = subst (λ (es : Entries). T (is_sorted line_cmp es)) (sym keyed_rows) (its_rows_sorted table c.self.inside.delta c.self.inside.rows.now) in
     IfOk-weaker c.merged.result _ _ (λ merged h.
-    h ∙ ap (λ (cs : Changes). entries (with_rows cs (database_of (map (λ r. (r.0.now, r.1.now)) c.as_slice.result.now)))) changes
-    ∙ ap (λ (es : Entries). entries (with_rows (filter (λ r. bytes_eq r.0.0 c.args.table.now) (entries c.self.inside.delta)) (database_of es))) rows
-    ∙ of_table_after c.args.table.now c.self.inside.delta c.self.inside.rows.now ∙ ap (λ (s : Stage). rows_of s.now) c.self.view_is) c.merged.ensures
+    sym (keyed-map table (λ r. (r.0, r.1.now)) merged.items) ∙ ap (keyed table) h ∙ merged_is table (map (λ r. (r.0, r.1.now)) changes) (map (λ r. (r.0, r.1.now)) rows) sorted
+    ∙ ap (λ (cs : Changes). entries (with_rows cs (database_of (keyed table (map (λ r. (r.0, r.1.now)) rows))))) keyed_changes
+    ∙ ap (λ (es : Entries). entries (with_rows (filter (λ r. bytes_eq r.0.0 table) (entries c.self.inside.delta)) (database_of es))) keyed_rows
+    ∙ of_table_after table c.self.inside.delta c.self.inside.rows.now ∙ ap (λ (s : Stage). rows_of s.now) c.self.view_is) c.merged.ensures

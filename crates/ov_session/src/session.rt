@@ -1,0 +1,115 @@
+ghost use Rattle.std.specs.Prelude.{◌≢◌};
+ghost use Rattle.ov_session.specs.Chain.{EndsChain, EndsOver, EndsSession, ends, reader_state, writer_state};
+
+use crate::clock::StillClock;
+use ov_core::early::{Draws, Keeper};
+use ov_core::{Core, Schema};
+use ov_serve::{Clock, Sink, Source, Watched, serve_one};
+use ov_words::{Ending, ending_of_cause, ending_of_open, ending_of_step};
+use std::alloc::Global;
+use std::io::{BufWriter, Read, Write};
+use std::sync::Wait;
+
+/// How a session ended, and the keeper of its database, given back.
+#[derive(Drop)]
+pub struct Ended<K> {
+    pub ending: Ending,
+    pub keeper: K,
+}
+
+/// Serves one session of the database that a keeper holds under a schema, over a reader and a writer of std's: what comes is
+/// what the reader had, and what is sent is what the writer was given. The clock stands still.
+///
+/// Where memory for the writer's buffer is refused, the database is not opened.
+pub fn serve_over<R: Wait, K: Keeper + Drop, D: Draws + Drop, I: Read + Drop, O: Write + Drop>(
+    rt: &R,
+    alloc: Global,
+    keeper: K,
+    schema: Schema,
+    draws: D,
+    input: I,
+    output: O,
+) -> Ended<K>
+    ensures chain { EndsOver K.Keeper ⟦<StillClock as Clock>⟧.tells keeper schema draws (I.remaining input) (O.contents output)
+        result.ending result.keeper }
+    ensures kind { (result.ending ≢ Ending.Arguments) × (result.ending ≢ Ending.Schema) }
+{
+    let Ok(output) = BufWriter::new(alloc, output) else {
+        return Ended {
+            ending: Ending::Memory,
+            keeper,
+        };
+    };
+    let mut reader = Watched::new(input);
+    let mut writer = Watched::new(output);
+    serve(
+        rt,
+        alloc,
+        keeper,
+        schema,
+        draws,
+        &mut reader,
+        &mut writer,
+        &mut StillClock,
+    )
+}
+
+/// Opens the machine over what a keeper holds under a schema, and serves one session of it, from the first byte of the input
+/// to its end. Where it is not opened, nothing is read or written.
+pub fn serve<R: Wait, K: Keeper + Drop, D: Draws + Drop, S: Source, W: Sink, C: Clock>(
+    rt: &R,
+    alloc: Global,
+    keeper: K,
+    schema: Schema,
+    draws: D,
+    reader: &mut S,
+    writer: &mut W,
+    clock: &mut C,
+) -> Ended<K>
+    ensures chain { EndsChain K.Keeper C.tells keeper schema draws
+        (ends (reader_state (S.bytes_read reader.old) (S.remaining reader.old) (S.at_end reader.old) (S.faults reader.old))
+        (writer_state (W.bytes_written writer.old) (W.contents writer.old) (W.is_flushed writer.old) (W.faults writer.old)) clock.old)
+        result.ending result.keeper
+        (ends (reader_state (S.bytes_read reader.new) (S.remaining reader.new) (S.at_end reader.new) (S.faults reader.new))
+        (writer_state (W.bytes_written writer.new) (W.contents writer.new) (W.is_flushed writer.new) (W.faults writer.new)) clock.new) }
+    ensures kind { (result.ending ≢ Ending.Arguments) × (result.ending ≢ Ending.Schema) }
+{
+    match Core::open(alloc, keeper, schema, draws) {
+        Ok(mut core) => {
+            let ending = serve_core(rt, &mut core, alloc, reader, writer, clock);
+            let keeper = core.into_keeper();
+            Ended { ending, keeper }
+        }
+        Err(refused) => Ended {
+            ending: ending_of_open(refused.fault),
+            keeper: refused.keeper,
+        },
+    }
+}
+
+/// Serves one session of the machine, and tells how the program ends: by the cause for which the session was closed, where
+/// it was opened.
+fn serve_core<R: Wait, K: Keeper + Drop, D: Draws + Drop, S: Source, W: Sink, C: Clock>(
+    rt: &R,
+    core: &mut Core<K, D>,
+    alloc: Global,
+    reader: &mut S,
+    writer: &mut W,
+    clock: &mut C,
+) -> Ending
+    ensures told { EndsSession K.Keeper C.tells core.old
+        (ends (reader_state (S.bytes_read reader.old) (S.remaining reader.old) (S.at_end reader.old) (S.faults reader.old))
+        (writer_state (W.bytes_written writer.old) (W.contents writer.old) (W.is_flushed writer.old) (W.faults writer.old)) clock.old)
+        result core.new
+        (ends (reader_state (S.bytes_read reader.new) (S.remaining reader.new) (S.at_end reader.new) (S.faults reader.new))
+        (writer_state (W.bytes_written writer.new) (W.contents writer.new) (W.is_flushed writer.new) (W.faults writer.new)) clock.new) }
+    ensures kind { (result ≢ Ending.Arguments) × (result ≢ Ending.Schema) }
+{
+    let served = serve_one(rt, core, alloc, reader, writer, clock);
+    core.left();
+    core.would_open();
+    match served {
+        Ok(cause) => ending_of_cause(cause),
+        Err(fault) => ending_of_step(fault),
+    }
+}
