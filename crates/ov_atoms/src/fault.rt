@@ -7,7 +7,7 @@ pub enum AtomFault {
     /// The tree is no value of the kinds that were asked for, or names a row that no insert names (RFC 7047, 5.1).
     #[error("not a value of this type")]
     Syntax,
-    /// All parts read, and one key has two values (own).
+    /// All parts read, and one key has two values.
     #[error("one key has two values")]
     Clash,
     /// A growth was refused.

@@ -2,7 +2,7 @@ ghost use Rattle.std.specs.Prelude.{◌≡◌};
 ghost use Rattle.ov_specs.specs.values.Value.{kind_rank};
 ghost use Rattle.ov_atoms.specs.Views.{kind_view};
 
-/// An atomic type (RFC 7047, 3.2, `<atomic-type>`). "real" is left out (own).
+/// An atomic type (RFC 7047, 3.2, `<atomic-type>`). "real" is left out.
 #[derive(Clone, Copy, Debug, PartialEq, Eq)]
 pub enum AtomKind {
     /// A number from -2^63 to 2^63-1.

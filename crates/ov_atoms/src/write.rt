@@ -92,7 +92,7 @@ fn write_pairs(alloc: Global, pairs: &[(Atom, Atom)]) -> Result<Value, AllocErro
 }
 
 /// The written form (RFC 7047, 5.1, `<value>`): a set of one as its atom, every other set and each map with its elements in
-/// ascending order, UUIDs in lower case (own). It reads back as the value.
+/// ascending order, UUIDs in lower case. It reads back as the value.
 pub fn write_datum(alloc: Global, datum: &Datum) -> Result<Value, AllocError>
     ensures written { IfOk result (λ v. view v ≡ tree datum.now) }
     ensures plain { IfOk result (λ v. has_real (view v) ≡ false) }

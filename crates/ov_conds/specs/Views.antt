@@ -31,7 +31,7 @@ fault_of atom.Syntax = Syntax
 fault_of atom.Clash = Clash
 fault_of atom.Memory = Memory
 
--- what is read, or the fault that there is in place of it; want of memory may be answered to anything
+-- what is read, or the fault that there is in place of it; "out of memory" may be answered to anything
 abbrev pub IsConditionRead : {A : Type 0} → Result A conditions.ConditionFault → Result A ConditionFault → Type 0
 IsConditionRead read (Ok a) = read ≡ Ok a
 IsConditionRead read (Err Syntax) = read ≡ Err conditions.BadCondition

@@ -1,8 +1,9 @@
-ghost use Rattle.std.specs.Prelude.{◌≡◌};
+ghost use Rattle.std.specs.Prelude.{◌≡◌, true, IfOk};
 ghost use Rattle.serde_json.specs.View.{view};
-ghost use Rattle.ov_specs.specs.operations.Conditions.{column_value, holds, compares, value_read, condition_read};
+ghost use Rattle.ov_specs.specs.operations.Conditions.{column_value, holds, compares, value_read, condition_read, suits_condition};
 ghost use Rattle.ov_specs.specs.rows.Database.{one_uuid};
 ghost use Rattle.ov_specs.specs.values.Reading.{reads};
+ghost use Rattle.ov_specs.specs.values.Uuid.{AreUuids};
 ghost use Rattle.ov_specs.specs.schema.SchemaTypes.{kinds_of};
 ghost use Rattle.ov_conds.specs.Views.{function_view, IsConditionRead};
 
@@ -42,14 +43,16 @@ impl Model for Condition {
 impl Condition {
     /// The condition on a row of the table that a tree is. Of its faults the first is told: its shape, then its column,
     /// the function on that column, and its value. The value is read by the kinds of the column alone, and where the
-    /// column is a scalar it has one atom (RFC 7047, 5.1, `<condition>`; which fault is told is own).
+    /// column is a scalar it has one atom (RFC 7047, 5.1, `<condition>`; which fault is told is our own). Where names stand
+    /// for identifiers alone, it is a value of these kinds within their bounds.
     pub fn read<N: Names>(
         alloc: Global,
         table: &Table,
         tree: &Value,
         names: &N,
     ) -> Result<Condition, ConditionFault>
-        ensures { IsConditionRead (condition_read (N.names names.now) table.now (view tree.now)) result }
+        ensures value { IsConditionRead (condition_read (N.names names.now) table.now (view tree.now)) result }
+        ensures suits { AreUuids (N.names names.now) → IfOk result (λ c. suits_condition table.now c ≡ true) }
     {
         let Some(parts) = Triple::read(tree) else {
             return Err(ConditionFault::Syntax);

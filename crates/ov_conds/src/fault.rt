@@ -15,7 +15,7 @@ pub enum ConditionFault {
     /// A growth was refused.
     #[error("out of memory")]
     Memory,
-    /// One key of the value has two values (own).
+    /// One key of the value has two values.
     #[error("one key has two values")]
     Clash,
 }

@@ -1,6 +1,7 @@
 //! The conditions of a "where": read from their trees, and tested on rows (RFC 7047, 5.1, `<condition>`).
 //!
-//! A condition is judged by the column that it names, once, as it is read. A test of a row takes no memory.
+//! A condition is judged by the column that it names, once, as it is read. A test of a row takes no memory. What names no source
+//! is our own.
 #![tactic(auto)]
 
 mod compare;

@@ -2,11 +2,11 @@
 use Rattle.std.proofs.Common.{◌≡◌, ℕ, List, [], ◌∷◌, ◌++◌, map, refl, sym, ap, ◌∙◌, cond, eqb, Bool, true, false}
 use Rattle.std.proofs.lemmas.List.{append-nil}
 use Rattle.std.proofs.lemmas.Bool.{eqb-true, eq-eqb, ne_eqb}
-use Rattle.serde_json.specs.Data.{Data}
-use Rattle.ov_specs.specs.wire.Frame.{frame}
-use Rattle.ov_specs.specs.machine.Machine.{to_session}
+use Rattle.serde_json.specs.Data.{Data, array, Items}
+use Rattle.ov_specs.specs.wire.Frame.{frame, reply_tree}
+use Rattle.ov_specs.specs.machine.Machine.{to_session, results_to}
 use Rattle.ov_specs.specs.machine.History.{frames_to}
-use Rattle.ov_core.specs.Outbox.{WaitingFrames, waiting_for, PostsFrame}
+use Rattle.ov_core.specs.Outbox.{WaitingFrames, waiting_for, PostsFrame, PostsSent}
 
 frames_by : (s other : ℕ) (b : Bool) → eqb s other ≡ b → (trees : List Data) → frames_to other (to_session s trees) ≡ cond b (map frame trees) []
 frames_by s other true e [] = refl
@@ -26,13 +26,17 @@ pub frames_to-to_session : (s other : ℕ) (trees : List Data) → frames_to oth
 frames_to-to_session s other trees = frames_by s other (eqb other s) (turned other s (eqb other s) refl) trees
 
 -- a frame that was added is what is sent
-pub adds_sent : (s : ℕ) (bytes : List ℕ) (trees : List Data) (old new : WaitingFrames) → map frame trees ≡ bytes ∷ [] → PostsFrame s bytes old new → (other : ℕ) → waiting_for other new ≡ waiting_for other old ++ frames_to other (to_session s trees)
+pub adds_sent : (s : ℕ) (bytes : List ℕ) (trees : List Data) (old new : WaitingFrames) → map frame trees ≡ bytes ∷ [] → PostsFrame s bytes old new → PostsSent (to_session s trees) old new
 adds_sent s bytes trees old new is added other = added other ∙ ap (λ fs. waiting_for other old ++ fs) (sym (frames_to-to_session s other trees ∙ ap (λ fs. cond (eqb other s) fs []) is))
+
+-- so is the frame of a transaction's results
+pub sends_results : (s : ℕ) (id : Data) (results : Items) (bytes : List ℕ) (old new : WaitingFrames) → bytes ≡ frame (reply_tree id (array results)) → PostsFrame s bytes old new → PostsSent (results_to s id results) old new
+sends_results s id results bytes old new is added = adds_sent s bytes (reply_tree id (array results) ∷ []) old new (ap (λ (b : List ℕ). b ∷ []) (sym is)) added
 
 nothing_by : (b : Bool) → cond {A = List (List ℕ)} b [] [] ≡ []
 nothing_by true = refl
 nothing_by false = refl
 
 -- where nothing is sent, nothing is added
-pub nothing_sent : (s : ℕ) (trees : List Data) (old : WaitingFrames) → map frame trees ≡ [] → (other : ℕ) → waiting_for other old ≡ waiting_for other old ++ frames_to other (to_session s trees)
+pub nothing_sent : (s : ℕ) (trees : List Data) (old : WaitingFrames) → map frame trees ≡ [] → PostsSent (to_session s trees) old old
 nothing_sent s trees old is other = sym (ap (λ fs. waiting_for other old ++ fs) (frames_to-to_session s other trees ∙ (ap (λ fs. cond (eqb other s) fs []) is ∙ nothing_by (eqb other s))) ∙ append-nil (waiting_for other old))

@@ -1,14 +1,16 @@
 -- One step of the machine, and of the core.
 use Rattle.std.proofs.Common.{◌≡◌, ◌≢◌, ℕ, ◌+◌, ◌<◌, ◌≤◌, List, [], ◌∷◌, ◌++◌, map, refl, sym, ap, subst, ◌∙◌, cond, eqb, Bool, true, false, Option, Some, None, append_assoc, length, leb, ◌^◌, ◌-◌, arith, inr}
 use Rattle.std.specs.List.{list_any}
-use Rattle.std.specs.Prelude.{MatchBool, is_some, option_to_list, not, ◌||◌, filter, option_map, option_and_then}
+use Rattle.std.specs.Prelude.{MatchBool, is_some, not, ◌||◌, filter}
 use Rattle.std.proofs.lemmas.List.{append-nil, map-append}
 use Rattle.std.proofs.lemmas.List.Elements.{filter-append}
 use Rattle.std.proofs.lemmas.Bool.{le-leb, lt-leb, false≢true}
 use Rattle.ov_specs.specs.machine.Machine as machine
 use Rattle.ov_specs.specs.machine.Machine.{State, Sent, Stepped, step}
 use Rattle.ov_specs.specs.values.Uuid.{Uuid}
-use Rattle.ov_specs.specs.machine.History.{run, frames_to, then_sends}
+use Rattle.ov_specs.specs.machine.History.{frames_to}
+use Rattle.ov_specs.proofs.laws.Histories.{run_more}
+use Rattle.ov_specs.proofs.laws.Turns.{ends_tries}
 use Rattle.ov_specs.specs.wire.Frame.{frame}
 use Rattle.ov_specs.specs.wire.Message.{Message}
 use Rattle.ov_core.specs.declared.event.Entry.{Entry}
@@ -16,7 +18,9 @@ use Rattle.ov_core.specs.declared.event.Outcome.{Outcome}
 use Rattle.ov_core.specs.declared.event.Outcome.TheVariants as outcome
 use Rattle.ov_core.specs.declared.handle.Handled.{Handled}
 use Rattle.ov_core.specs.Entries.{entry_view, listed_attempts, is_closing}
-use Rattle.ov_core.specs.Outbox.{WaitingFrames, waiting_for, HasSameFrames}
+use Rattle.ov_core.specs.Outbox.{WaitingFrames, waiting_for, PostsSent, HasSameFrames}
+use Rattle.ov_core.specs.Sessions.{session_view, sessions_of}
+use Rattle.ov_core.specs.declared.session.OpenSession.{OpenSession}
 use Rattle.ov_db.specs.KeptDatabase.{KeptDatabase}
 use Rattle.ov_keeper.specs.Keeping.{HasFailed}
 use Rattle.ov_core.specs.Handling.{AsksStore, with_db, closed_if_no_memory, listed_first, IsHandled}
@@ -31,34 +35,11 @@ use Rattle.std.proofs.lemmas.Option.{same_Some}
 pub frames_to-append : (s : ℕ) (xs ys : List Sent) → frames_to s (xs ++ ys) ≡ frames_to s xs ++ frames_to s ys
 frames_to-append s xs ys = ap (map (λ (t : Sent). frame t.tree)) (filter-append (λ (t : Sent). eqb t.session s) xs ys) ∙ map-append _ _ _
 
-second : (h : List machine.Entry) (e : machine.Entry) (t u v : Stepped) (r : Option Stepped) → run v.state h ≡ r → option_map (then_sends v.sent) r ≡ Some t → step t.state e ≡ Some u
-    → ((w : Stepped) → run v.state h ≡ Some w → step w.state e ≡ Some u → run v.state (h ++ e ∷ []) ≡ Some (record { state = u.state; sent = w.sent ++ u.sent }))
-    → option_map (then_sends v.sent) (run v.state (h ++ e ∷ [])) ≡ Some (record { state = u.state; sent = t.sent ++ u.sent })
-second h e t u v None is k q again = cc
-second h e t u v (Some w) is k q again =
-    let same : then_sends v.sent w ≡ t = same_Some _ _ k in
-    let q' : step w.state e ≡ Some u = subst (λ (x : Stepped). step x.state e ≡ Some u) (sym same) q in
-    rw (again w is q') (ap (λ (x : List Sent). Some (record { state = u.state; sent = x })) (sym (append_assoc v.sent w.sent u.sent) ∙ ap (λ (x : Stepped). x.sent ++ u.sent) same))
-
-first : (h : List machine.Entry) (e : machine.Entry) (t u : Stepped) (o : Option Stepped) → option_and_then (λ v. option_map (then_sends v.sent) (run v.state h)) o ≡ Some t → step t.state e ≡ Some u
-    → ((v w : Stepped) → run v.state h ≡ Some w → step w.state e ≡ Some u → run v.state (h ++ e ∷ []) ≡ Some (record { state = u.state; sent = w.sent ++ u.sent }))
-    → option_and_then (λ v. option_map (then_sends v.sent) (run v.state (h ++ e ∷ []))) o ≡ Some (record { state = u.state; sent = t.sent ++ u.sent })
-first h e t u None p q again = cc
-first h e t u (Some v) p q again = second h e t u v (run v.state h) refl p q (λ w. again v w)
-
--- a run goes on by one step
-pub run_more : (s : State) (h : List machine.Entry) (e : machine.Entry) (t u : Stepped) → run s h ≡ Some t → step t.state e ≡ Some u → run s (h ++ e ∷ []) ≡ Some (record { state = u.state; sent = t.sent ++ u.sent })
-run_more s [] e t u p q =
-    let same : record { state = s; sent = [] } ≡ t = same_Some _ _ p in
-    let at : step s e ≡ Some u = subst (λ (k : Stepped). step k.state e ≡ Some u) (sym same) q in
-    rw at (ap (λ (k : List Sent). Some (record { state = u.state; sent = k })) (append-nil u.sent ∙ ap (λ (k : Stepped). k.sent ++ u.sent) same))
-run_more s (d ∷ h) e t u p q = first h e t u (step s d) p q (λ v w r k. run_more v.state h e w u r k)
-
 -- ---- what a step of the code leaves
 
 -- an entry that is a step of the machine, is kept, and whose frames wait
 pub moves_with : {K D : Type 0} (old new : CoreState K D) (e : machine.Entry) (x : Entry) (sent : List Sent) → step old.state e ≡ Some (record { state = new.state; sent = sent }) → new.kept ≡ old.kept ++ x ∷ [] → entry_view x ≡ e
-    → ((s : ℕ) → waiting_for s new.outbox ≡ waiting_for s old.outbox ++ frames_to s sent) → EntersEntry old e new
+    → PostsSent sent old.outbox new.outbox → EntersEntry old e new
 moves_with old new e x sent stepped kept is waits = record {
   sent = sent;
   stepped = stepped;
@@ -92,22 +73,22 @@ pub ticked : {K D : Type 0} (old : CoreState K D) (m : ℕ) (x : Entry) (kept : 
     → EntersEntry old (entry_of machine.Tick (nothing_chosen m)) (record old { state = record old.state { moment = m }; kept = kept })
 ticked old m x kept low added is = moves_silent old _ _ x (step_at old.state machine.Tick (nothing_chosen m) low) added is (λ s. refl)
 
-pub opened : {K D : Type 0} (old : CoreState K D) (m : ℕ) (x : Entry) (kept : List Entry) (sessions : List ℕ) → old.state.moment ≤ m → kept ≡ old.kept ++ x ∷ [] → entry_view x ≡ entry_of machine.Open (nothing_chosen m)
-    → sessions ≡ old.state.sessions ++ old.state.next ∷ []
+pub opened : {K D : Type 0} (old : CoreState K D) (m : ℕ) (x : Entry) (kept : List Entry) (sessions : List machine.Session) → old.state.moment ≤ m → kept ≡ old.kept ++ x ∷ [] → entry_view x ≡ entry_of machine.Open (nothing_chosen m)
+    → sessions ≡ old.state.sessions ++ record { serial = old.state.next } ∷ []
     → EntersEntry old (entry_of machine.Open (nothing_chosen m)) (record old { state = record old.state { moment = m; sessions = sessions; next = old.state.next + 1 }; kept = kept })
 opened old m x kept sessions low added is grown = moves_silent old _ _ x (step_at old.state machine.Open (nothing_chosen m) low ∙ rw grown refl) added is (λ s. refl)
 
-pub closed : {K D : Type 0} (old : CoreState K D) (m : ℕ) (s : ℕ) (cause : machine.Cause) (x : Entry) (kept : List Entry) (sessions : List ℕ) (outbox : WaitingFrames) → old.state.moment ≤ m → machine.is_open old.state s ≡ true → kept ≡ old.kept ++ x ∷ [] → entry_view x ≡ closing m s cause
+pub closed : {K D : Type 0} (old : CoreState K D) (m : ℕ) (s : ℕ) (cause : machine.Cause) (x : Entry) (kept : List Entry) (sessions : List machine.Session) (outbox : WaitingFrames) → old.state.moment ≤ m → machine.is_open old.state s ≡ true → kept ≡ old.kept ++ x ∷ [] → entry_view x ≡ closing m s cause
     → sessions ≡ (machine.without_session s old.state).sessions → HasSameFrames old.outbox outbox
     → EntersEntry old (closing m s cause) (record old { state = record old.state { moment = m; sessions = sessions }; kept = kept; outbox = outbox })
 closed old m s cause x kept sessions outbox low there added is left same = moves_silent old _ _ x (step_at old.state (machine.Close s cause) (nothing_chosen m) low ∙ rw (there, left) refl) added is same
 
 -- the one session
-pub alone : (o : Option ℕ) (s : ℕ) → list_any (λ n. eqb n s) (option_to_list o) ≡ true → [] ≡ filter (λ n. not (eqb n s)) (option_to_list o)
+pub alone : (o : Option OpenSession) (s : ℕ) → list_any (λ n. eqb n.serial s) (sessions_of o) ≡ true → [] ≡ filter (λ n. not (eqb n.serial s)) (sessions_of o)
 alone None s h = refl
-alone (Some n) s h = last (eqb n s) h
+alone (Some n) s h = last (eqb n.serial s) h
   where
-    last : (b : Bool) → (b || false) ≡ true → [] ≡ cond (not b) (n ∷ []) []
+    last : (b : Bool) → (b || false) ≡ true → [] ≡ cond (not b) (session_view n ∷ []) []
     last true k = refl
     last false k = cc
 
@@ -136,7 +117,10 @@ taking_step : (s : State) (m n : ℕ) (message : Message) (draws : List Uuid) (o
     → step s (taking m n message draws o) ≡ machine.works (record s { moment = m }) n draws (listed_first o) (machine.work_of (record s { moment = m }) message)
 taking_step s m n message draws o low there =
     step_at s (machine.Take n message) (taking m n message draws o).choice low
-    ∙ rw there (ap (λ l. machine.takes (record s { moment = m }) (taking m n message draws o).choice n message l) (listed_alone o))
+    ∙ rw there (ends_tries work 1 (listed_attempts o) ∙ ap (λ (l : machine.Listed). machine.when (machine.none_listed l.others) (work l.outcome)) (listed_alone o))
+  where
+    work : Option machine.Outcome → Option Stepped
+    work outcome = machine.works (record s { moment = m }) n draws outcome (machine.work_of (record s { moment = m }) message)
 
 -- where memory was refused, the session is left out
 left_closing : (n : ℕ) (o : Option Outcome) (s : State) → is_closing o ≡ true → closed_if_no_memory n o s ≡ machine.without_session n s
@@ -147,8 +131,8 @@ left_closing n (Some outcome.Exhausted) s h = absurd (false≢true h)
 left_closing n (Some outcome.Failed) s h = absurd (false≢true h)
 
 -- and these sessions are left
-pub left_without : (n : ℕ) (o : Option Outcome) (s : State) (sessions : List ℕ) → is_closing o ≡ true → sessions ≡ (machine.without_session n s).sessions → closed_if_no_memory n o s ≡ record s { sessions = sessions }
-left_without n o s sessions closing are = left_closing n o s closing ∙ ap (λ (ss : List ℕ). record s { sessions = ss }) (sym are)
+pub left_without : (n : ℕ) (o : Option Outcome) (s : State) (sessions : List machine.Session) → is_closing o ≡ true → sessions ≡ (machine.without_session n s).sessions → closed_if_no_memory n o s ≡ record s { sessions = sessions }
+left_without n o s sessions closing are = left_closing n o s closing ∙ ap (λ (ss : List machine.Session). record s { sessions = ss }) (sym are)
 
 -- and else the state stays
 pub left_open : (n : ℕ) (o : Option Outcome) (s : State) → is_closing o ≡ false → closed_if_no_memory n o s ≡ s
@@ -159,7 +143,7 @@ left_open n (Some outcome.Exhausted) s h = refl
 left_open n (Some outcome.Failed) s h = refl
 
 -- the core after the work, at the moment, with these sessions
-abbrev pub after_work : {K D : Type 0} → (K → ℕ) → CoreState K D → ℕ → List ℕ → List Entry → WaitingFrames → KeptDatabase K → D → CoreState K D
+abbrev pub after_work : {K D : Type 0} → (K → ℕ) → CoreState K D → ℕ → List machine.Session → List Entry → WaitingFrames → KeptDatabase K → D → CoreState K D
 after_work failed old m sessions entries outbox kept source = record {
   state = record old.state { schema = kept.schema; database = kept.committed; sealed = kept.sealed; sessions = sessions; moment = m };
   kept = entries;
@@ -170,7 +154,7 @@ after_work failed old m sessions entries outbox kept source = record {
 }
 
 -- the work was entered
-pub taken : {K D : Type 0} (failed : K → ℕ) (old : CoreState K D) (m n : ℕ) (message : Message) (handled : Handled) (x : Entry) (entries : List Entry) (sessions : List ℕ) (outbox : WaitingFrames) (kept : KeptDatabase K) (source : D)
+pub taken : {K D : Type 0} (failed : K → ℕ) (old : CoreState K D) (m n : ℕ) (message : Message) (handled : Handled) (x : Entry) (entries : List Entry) (sessions : List machine.Session) (outbox : WaitingFrames) (kept : KeptDatabase K) (source : D)
     → old.state.moment ≤ m → machine.is_open old.state n ≡ true → entries ≡ old.kept ++ x ∷ [] → entry_view x ≡ taking m n message handled.draws.items handled.outcome
     → closed_if_no_memory n handled.outcome (with_db (record old.state { moment = m }) kept) ≡ (after_work failed old m sessions entries outbox kept source).state
     → IsHandled n (λ s. machine.work_of s message) (kept_of old) old.outbox handled kept outbox
@@ -178,8 +162,8 @@ pub taken : {K D : Type 0} (failed : K → ℕ) (old : CoreState K D) (m n : ℕ
 taken failed old m n message handled x entries sessions outbox kept source low there added is left is_handled =
     let now : State = record old.state { moment = m } in
     let came = is_handled now in
-    moves_with old (after_work failed old m sessions entries outbox kept source) (taking m n message handled.draws.items handled.outcome) x (machine.to_session n came.0)
-    (taking_step old.state m n message handled.draws.items handled.outcome low there ∙ (came.1 ∙ ap (λ (s : State). Some (record { state = s; sent = machine.to_session n came.0 })) left))
+    moves_with old (after_work failed old m sessions entries outbox kept source) (taking m n message handled.draws.items handled.outcome) x came.0
+    (taking_step old.state m n message handled.draws.items handled.outcome low there ∙ (came.1 ∙ ap (λ (s : State). Some (record { state = s; sent = came.0 })) left))
     added is came.2
 
 -- ---- what the keeper was asked
@@ -203,7 +187,7 @@ kept_open old new entry asked none sealed counts = record {
 }
 
 -- what was asked for a message
-pub asks_taking : {K D : Type 0} (failed : K → ℕ) (old : CoreState K D) (m n : ℕ) (message : Message) (draws : List Uuid) (o : Option Outcome) (sessions : List ℕ) (entries : List Entry) (outbox : WaitingFrames) (kept : KeptDatabase K) (source : D)
+pub asks_taking : {K D : Type 0} (failed : K → ℕ) (old : CoreState K D) (m n : ℕ) (message : Message) (draws : List Uuid) (o : Option Outcome) (sessions : List machine.Session) (entries : List Entry) (outbox : WaitingFrames) (kept : KeptDatabase K) (source : D)
     → old.failures ≡ failed old.keeper → AsksStore failed o (kept_of old) kept → failed old.keeper ≤ failed kept.keeper
     → AsksKeeper old (taking m n message draws o) (after_work failed old m sessions entries outbox kept source)
 asks_taking {K} failed old m n message draws None sessions entries outbox kept source count same counts =
@@ -234,7 +218,7 @@ pub asks_closing : {K D : Type 0} (m n : ℕ) (cause : machine.Cause) (old new :
 asks_closing m n cause old new c = asks_nothing old new (closing m n cause) refl c.asks (closing_sealed old.state new.state m n cause c.moves.sent c.moves.stepped)
 
 -- there is a place, and a serial
-pub not_full : (o : Option ℕ) (n : ℕ) → o ≡ None → n ≢ 2 ^ 64 - 1 → n < 2 ^ 64 → (leb most_sessions (length (option_to_list o)) || leb (2 ^ 64 - 1) n) ≡ false
+pub not_full : (o : Option OpenSession) (n : ℕ) → o ≡ None → n ≢ 2 ^ 64 - 1 → n < 2 ^ 64 → (leb most_sessions (length (sessions_of o)) || leb (2 ^ 64 - 1) n) ≡ false
 not_full o n none other fits = rw none (lt-leb (2 ^ 64 - 1) n (omega arith))
 
 -- a session that is open was closed
@@ -242,7 +226,7 @@ pub it_closed : (b o : Bool) (P Q : Type 0) → MatchBool b P (Q × (o ≡ false
 it_closed true o P Q h there = h
 it_closed false o P Q h there = absurd (false≢true (sym h.1 ∙ there))
 
--- a Close for want of memory stands in place of a Take
+-- a Close when out of memory stands in place of a Take
 pub stood_in : {K D : Type 0} (draws : D → Uuid → D → Type 0) (at s : ℕ) (message : Message) (old new : CoreState K D) → Closes at s machine.Memory old new → IsEntered draws at (machine.Take s message) old answer.Closed new
 stood_in draws at s message old new c = record { entry = closing at s machine.Memory; tells = (inr refl, c.shut); moment = refl; drawn = c.drawn; moves = c.moves; asks = asks_closing at s machine.Memory old new c }
 

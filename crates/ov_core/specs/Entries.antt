@@ -1,4 +1,4 @@
--- Events and entries of the code as those of the machine.
+-- Events and entries of the code as those of the machine. What names no source is our own.
 use Rattle.std.specs.Prelude.{List, [], ◌∷◌, map, Bool, true, false, Option, Some, None}
 use Rattle.ov_rpc.specs.Message.{message_view}
 use Rattle.ov_specs.specs.machine.Machine as machine
@@ -12,7 +12,7 @@ use Rattle.ov_core.specs.declared.event.Attempt.{Attempt}
 use Rattle.ov_core.specs.declared.event.Choice.{Choice}
 use Rattle.ov_core.specs.declared.event.Entry.{Entry}
 
--- a cause (own)
+-- a cause
 abbrev pub cause_view : Cause → machine.Cause
 cause_view InputEnded = machine.InputEnded
 cause_view ReadFault = machine.ReadFault
@@ -21,38 +21,38 @@ cause_view Damaged = machine.Damaged
 cause_view Overrun = machine.Overrun
 cause_view Memory = machine.Memory
 
--- an event: the machine knows sessions by their serials (own)
+-- an event: the machine knows sessions by their serials
 abbrev pub event_view : Event → machine.Event
 event_view Open = machine.Open
 event_view (Take session message) = machine.Take session.serial (message_view message)
 event_view (Close session cause) = machine.Close session.serial (cause_view cause)
 event_view Tick = machine.Tick
 
--- an outcome (own)
+-- an outcome
 abbrev pub outcome_view : Outcome → machine.Outcome
 outcome_view Kept = machine.Committed
 outcome_view Exhausted = machine.Exhausted
 outcome_view Failed = machine.Failed
 outcome_view NoMemory = machine.NoMemory
 
--- an attempt (own)
+-- an attempt
 abbrev pub attempt_view : Attempt → machine.Attempt
 attempt_view a = record { number = a.number; outcome = outcome_view a.outcome }
 
--- a choice (own)
+-- a choice
 abbrev pub choice_view : Choice → machine.Choice
 choice_view c = record { moment = c.moment; draws = c.draws.items; outcomes = map attempt_view c.outcomes.items }
 
--- an entry (own)
+-- an entry
 abbrev pub entry_view : Entry → machine.Entry
 entry_view e = record { event = event_view e.event; choice = choice_view e.choice }
 
--- what is listed of the first attempt (own)
+-- what is listed of the first attempt
 abbrev pub listed_attempts : Option Outcome → List machine.Attempt
 listed_attempts None = []
 listed_attempts (Some o) = record { number = 1; outcome = outcome_view o } ∷ []
 
--- want of memory closes the session at work (own)
+-- refused memory closes the session at work
 abbrev pub is_closing : Option Outcome → Bool
 is_closing None = false
 is_closing (Some NoMemory) = true

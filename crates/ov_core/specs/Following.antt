@@ -1,14 +1,14 @@
--- Which histories a core has followed, and which frames were handed out of it.
+-- Which histories a core has followed, and which frames were handed out of it. What names no source is our own.
 use Rattle.std.specs.Prelude.{◌≡◌, ℕ, ◌==◌, ◌++◌, List, [], ◌∷◌, map, if◌then◌else◌, Option, Some, option_to_list}
 use Rattle.ov_specs.specs.machine.Machine as machine
 use Rattle.ov_specs.specs.machine.Machine.{State, Sent}
 use Rattle.ov_specs.specs.machine.History.{run, frames_to}
 use Rattle.ov_core.specs.declared.event.Entry.{Entry}
 use Rattle.ov_core.specs.Entries.{entry_view}
-use Rattle.ov_core.specs.Outbox.{WaitingFrames, waiting_for}
+use Rattle.ov_core.specs.Outbox.{WaitingFrames, waiting_for, PostsSent}
 
 -- what contracts see of a core: its state, the entries that it keeps, the frames that wait, its keeper, how often the keeper's
--- device has failed, and its source of draws (own)
+-- device has failed, and its source of draws
 pub record CoreState (K D : Type 0) : Type 0 where
   pub state : State
   pub kept : List Entry
@@ -17,38 +17,39 @@ pub record CoreState (K D : Type 0) : Type 0 where
   pub failures : ℕ
   pub source : D
 
--- the entries that are kept are the history, whole (own)
+-- the entries that are kept are the history, whole
 abbrev pub Keeps : List Entry → List machine.Entry → Type 0
 Keeps kept history = map entry_view kept ≡ history
 
 -- The history leads from the state before it to the core's state, the core keeps it, and of the frames that it sends to each
--- session `given` were handed out and the others wait (own).
+-- session `given` were handed out and the others wait.
 pub record Follows {K D : Type 0} (before : State) (history : List machine.Entry) (given : ℕ → List (List ℕ)) (core : CoreState K D) : Type 0 where
   pub sent : List Sent
   pub legal : run before history ≡ Some (record { state = core.state; sent = sent })
   pub kept : Keeps core.kept history
   pub issued : (session : ℕ) → frames_to session sent ≡ given session ++ waiting_for session core.outbox
 
--- whatever history and frames the core has followed, it follows the history with these entries behind it, and no frame is handed out (own)
+-- whatever history and frames the core has followed, it follows the history with these entries behind it, and no frame is handed
+-- out
 abbrev pub Extends : {K D : Type 0} → CoreState K D → List machine.Entry → CoreState K D → Type 0
 Extends old entries new =
     (before : State) (history : List machine.Entry) (given : ℕ → List (List ℕ)) → Follows before history given old → Follows before (history ++ entries) given new
 
--- no frame was handed out of any session (own)
+-- no frame was handed out of any session
 abbrev pub none_given : ℕ → List (List ℕ)
 none_given session = []
 
--- the frames were handed out of the session behind the others (own)
+-- the frames were handed out of the session behind the others
 abbrev pub and_all_handed : (ℕ → List (List ℕ)) → ℕ → List (List ℕ) → ℕ → List (List ℕ)
 and_all_handed given session frames other = given other ++ (if other == session then frames else [])
 
--- the frame, if there is one, was handed out of the session behind the others (own)
+-- the frame, if there is one, was handed out of the session behind the others
 abbrev pub and_handed : (ℕ → List (List ℕ)) → ℕ → Option (List ℕ) → ℕ → List (List ℕ)
 and_handed given session frame = and_all_handed given session (option_to_list frame)
 
--- One entry was entered: it is a step of the machine, what it sends waits behind what waited, and the core follows it (own).
+-- One entry was entered: it is a step of the machine, what it sends waits behind what waited, and the core follows it.
 pub record EntersEntry {K D : Type 0} (old : CoreState K D) (entry : machine.Entry) (new : CoreState K D) : Type 0 where
   pub sent : List Sent
   pub stepped : machine.step old.state entry ≡ Some (record { state = new.state; sent = sent })
-  pub waits : (session : ℕ) → waiting_for session new.outbox ≡ waiting_for session old.outbox ++ frames_to session sent
+  pub waits : PostsSent sent old.outbox new.outbox
   pub follows : Extends old (entry ∷ []) new

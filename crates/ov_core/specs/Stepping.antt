@@ -1,4 +1,4 @@
--- What one step of a core promises.
+-- What one step of a core promises. What names no source is our own.
 use Rattle.std.specs.Prelude.{◌≡◌, ◌⊎◌, ℕ, ◌-◌, ◌^◌, ◌<◌, ◌≤◌, ◌||◌, nat_le, [], length, Bool, true, false, is_some}
 use Rattle.std.specs.List.{list_any}
 use Rattle.ov_specs.specs.machine.Machine as machine
@@ -13,15 +13,16 @@ use Rattle.ov_core.specs.declared.event.Stepped.TheVariants as answer
 use Rattle.ov_core.specs.Following.{CoreState, EntersEntry}
 use Rattle.ov_core.specs.Outbox.{waiting_for, has_queue}
 
--- how many sessions may be open (own)
+-- how many sessions may be open
 abbrev pub most_sessions : ℕ
 most_sessions = 1
 
--- no place is left for a session, or no serial (own)
+-- no place is left for a session, or no serial
 abbrev pub is_full : State → Bool
 is_full s = nat_le most_sessions (length s.sessions) || nat_le (2 ^ 64 - 1) s.next
 
--- The answer, by the event, the state before, the entry, and the state after. A `Take` may be entered as a closing for want of memory (own).
+-- The answer, by the event, the state before, the entry, and the state after. A `Take` may be entered as a closing when out of
+-- memory.
 abbrev pub AnswersEvent : machine.Event → State → machine.Entry → State → Stepped → Type 0
 AnswersEvent machine.Open old entry new (answer.Opened session) = (entry.event ≡ machine.Open) × (session.serial ≡ old.next) × (session.key < most_sessions) × (is_full old ≡ false)
 AnswersEvent (machine.Take session message) old entry new answer.Done = (entry.event ≡ machine.Take session message) × (is_open new session ≡ true)
@@ -31,37 +32,37 @@ AnswersEvent (machine.Close session cause) old entry new answer.Done = entry.eve
 AnswersEvent machine.Tick old entry new answer.Done = entry.event ≡ machine.Tick
 AnswersEvent event old entry new stepped = ⊥
 
--- the keeper is as before, and no failure more is counted (own)
+-- the keeper is as before, and no failure more is counted
 abbrev pub HasSameKeeper : {K D : Type 0} → CoreState K D → CoreState K D → Type 0
 HasSameKeeper old new = (new.keeper ≡ old.keeper) × (new.failures ≡ old.failures)
 
--- the outcome is an answer of the store (own)
+-- the outcome is an answer of the store
 abbrev pub is_of_store : machine.Outcome → Bool
 is_of_store machine.Committed = true
 is_of_store machine.Exhausted = true
 is_of_store machine.Failed = true
 is_of_store machine.NoMemory = false
 
--- the store failed (own)
+-- the store failed
 abbrev pub is_failure : machine.Outcome → Bool
 is_failure machine.Committed = false
 is_failure machine.Exhausted = false
 is_failure machine.Failed = true
 is_failure machine.NoMemory = false
 
--- some attempt of the entry has such an outcome (own)
+-- some attempt of the entry has such an outcome
 abbrev pub has_outcome : (machine.Outcome → Bool) → machine.Entry → Bool
 has_outcome test entry = list_any (λ attempt. test attempt.outcome) entry.choice.outcomes
 
 -- Where the entry has no answer of the store, the keeper is as before. That the store failed, and that the database is sealed
--- now and was not, has a cause: the device has failed (own).
+-- now and was not, has a cause: the device has failed.
 pub record AsksKeeper {K D : Type 0} (old : CoreState K D) (entry : machine.Entry) (new : CoreState K D) : Type 0 where
   pub unasked : has_outcome is_of_store entry ≡ false → HasSameKeeper old new
   pub failure : has_outcome is_failure entry ≡ true → HasFailed old.failures new.failures
   pub seal : is_some old.state.sealed ≡ false → is_some new.state.sealed ≡ true → HasFailed old.failures new.failures
   pub counts : old.failures ≤ new.failures
 
--- the entry of an event, at the moment, with the draws that were made of the source (own)
+-- the entry of an event, at the moment, with the draws that were made of the source
 pub record IsEntered {K D : Type 0} (draws : D → Uuid → D → Type 0) (at : ℕ) (event : machine.Event) (old : CoreState K D) (stepped : Stepped) (new : CoreState K D) : Type 0 where
   pub entry : machine.Entry
   pub tells : AnswersEvent event old.state entry new.state stepped
@@ -70,7 +71,7 @@ pub record IsEntered {K D : Type 0} (draws : D → Uuid → D → Type 0) (at : 
   pub moves : EntersEntry old entry new
   pub asks : AsksKeeper old entry new
 
--- when a fault is answered (own)
+-- when a fault is answered
 abbrev pub RefusesStep : machine.Event → State → StepFault → Type 0
 RefusesStep machine.Open old fault.TooMany = is_full old ≡ true
 RefusesStep machine.Open old fault.Memory = is_full old ≡ false
@@ -79,18 +80,18 @@ RefusesStep (machine.Take session message) old fault.NotOpen = is_open old sessi
 RefusesStep (machine.Close session cause) old fault.NotOpen = is_open old session ≡ false
 RefusesStep event old fault = ⊥
 
--- the event was entered, or it was refused and nothing is changed (own)
+-- the event was entered, or it was refused and nothing is changed
 abbrev pub StepIs : {K D : Type 0} → (D → Uuid → D → Type 0) → ℕ → machine.Event → CoreState K D → Stepped → CoreState K D → Type 0
 StepIs draws at event old (answer.Refused fault) new = (new ≡ old) × RefusesStep event old.state fault
 StepIs draws at event old (answer.Opened session) new = IsEntered draws at event old (answer.Opened session) new
 StepIs draws at event old answer.Done new = IsEntered draws at event old answer.Done new
 StepIs draws at event old answer.Closed new = IsEntered draws at event old answer.Closed new
 
--- the entry of a closing at a moment (own)
+-- the entry of a closing at a moment
 abbrev pub closing : ℕ → ℕ → machine.Cause → machine.Entry
 closing at session cause = record { event = machine.Close session cause; choice = record { moment = at; draws = []; outcomes = [] } }
 
--- The session was closed, nothing was drawn, and the store was not asked. No queue is kept of it where nothing waits for it (own).
+-- The session was closed, nothing was drawn, and the store was not asked. No queue is kept of it where nothing waits for it.
 pub record Closes {K D : Type 0} (at session : ℕ) (cause : machine.Cause) (old new : CoreState K D) : Type 0 where
   pub moves : EntersEntry old (closing at session cause) new
   pub shut : is_open new.state session ≡ false

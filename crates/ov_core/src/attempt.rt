@@ -1,9 +1,10 @@
-ghost use Rattle.std.specs.Prelude.{◌≡◌, ◌≤◌, Some, None};
-ghost use Rattle.serde_json.specs.Data.{array};
-ghost use Rattle.ov_specs.specs.wire.Frame.{frame, reply_tree};
-ghost use Rattle.ov_specs.specs.operations.Transaction.{failed_results as refused};
+ghost use Rattle.std.specs.Prelude.{◌≡◌, ◌≤◌, None};
+ghost use Rattle.serde_json.specs.Data.{Data, Items};
+ghost use Rattle.ov_specs.specs.machine.Machine.{results_to};
+ghost use Rattle.ov_specs.specs.operations.Transaction.{failed_results};
 ghost use Rattle.ov_db.specs.Changing.{SuitsChanges};
 ghost use Rattle.ov_core.specs.Handling.{AsksStore, IsAttempt, CommitsWithReply, PostsIfRoom};
+ghost use Rattle.ov_core.specs.Preparing.{AreFrames};
 
 use crate::event::Outcome;
 use crate::frames::{Frames, reply_of};
@@ -54,7 +55,7 @@ fn answer(
     id: &Tree,
     results: Trees,
 ) -> Option<Outcome>
-    ensures { PostsIfRoom session (Some (frame (reply_tree id.now (array results)))) outbox.old result outbox.new }
+    ensures { PostsIfRoom (results_to session id.now results) outbox.old result outbox.new }
 {
     match reply_of(alloc, id, results) {
         Ok(frame) => send(alloc, outbox, session, Some(frame)),
@@ -70,7 +71,7 @@ fn answer_failed(
     id: &Tree,
     results: &Trees,
 ) -> Option<Outcome>
-    ensures { PostsIfRoom session (Some (frame (reply_tree id.now (array (refused results.now))))) outbox.old result outbox.new }
+    ensures { PostsIfRoom (results_to session id.now (failed_results results.now)) outbox.old result outbox.new }
 {
     match failed(alloc, results) {
         Ok(results) => answer(alloc, outbox, session, id, results),
@@ -90,7 +91,7 @@ fn commit<K: Keeper + Drop>(
 ) -> Option<Outcome>
     requires unsealed { db.old.sealed ≡ None }
     requires suits { SuitsChanges db.old.schema delta }
-    ensures commits { CommitsWithReply session frames delta db.old outbox.old result db.new outbox.new }
+    ensures commits { (id : Data) (results : Items) → AreFrames id results frames → CommitsWithReply session id results delta db.old outbox.old result db.new outbox.new }
     ensures asks { AsksStore K.failed result db.old db.new }
     ensures counts { K.failed db.old.keeper ≤ K.failed db.new.keeper }
 {

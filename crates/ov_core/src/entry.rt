@@ -43,7 +43,7 @@ pub(crate) fn listed(mut room: Vec<Attempt>, outcome: Option<Outcome>) -> Vec<At
     room
 }
 
-/// Whether the session at work is closed, for want of memory.
+/// Whether the session at work is closed when out of memory.
 pub(crate) fn is_closing(outcome: Option<Outcome>) -> bool
     ensures { result ≡ is_closing outcome }
 {

@@ -2,7 +2,7 @@ use ov_rpc::Message;
 use thiserror::Error;
 use uuid::Uuid;
 
-/// A session (own).
+/// A session.
 #[derive(Clone, Copy, Debug, PartialEq, Eq)]
 pub struct Session {
     /// Its place in the core, from 0 on.
@@ -11,7 +11,7 @@ pub struct Session {
     pub serial: u64,
 }
 
-/// Why a session is closed (own).
+/// Why a session is closed.
 #[derive(Clone, Copy, Debug, PartialEq, Eq)]
 pub enum Cause {
     /// Its input ended.
@@ -28,7 +28,7 @@ pub enum Cause {
     Memory,
 }
 
-/// What happens to the machine (own).
+/// What happens to the machine.
 #[derive(Drop)]
 pub enum Event {
     /// A session opens, with the next serial.
@@ -41,7 +41,7 @@ pub enum Event {
     Tick,
 }
 
-/// What came of an attempt that asked the store, or that was refused memory (own).
+/// What came of an attempt that asked the store, or that was refused memory.
 #[derive(Clone, Copy, Debug, PartialEq, Eq)]
 pub enum Outcome {
     /// The store kept its changes.
@@ -54,7 +54,7 @@ pub enum Outcome {
     NoMemory,
 }
 
-/// An attempt (own).
+/// An attempt.
 #[derive(Clone, Copy, Debug, PartialEq, Eq)]
 pub struct Attempt {
     /// Its number in its event, from 1 on.
@@ -63,7 +63,7 @@ pub struct Attempt {
     pub outcome: Outcome,
 }
 
-/// What the outside chose for an event (own).
+/// What the outside chose for an event.
 #[derive(Drop)]
 pub struct Choice {
     /// In milliseconds; not below that of the entry before.
@@ -74,7 +74,7 @@ pub struct Choice {
     pub outcomes: Vec<Attempt>,
 }
 
-/// One entry of the history (own).
+/// One entry of the history.
 #[derive(Drop)]
 pub struct Entry {
     /// What happened.
@@ -83,7 +83,7 @@ pub struct Entry {
     pub choice: Choice,
 }
 
-/// Why a step is refused (own). A refused step changes nothing.
+/// Why a step is refused. A refused step changes nothing.
 #[derive(Clone, Copy, Debug, PartialEq, Eq, Error)]
 pub enum StepFault {
     /// A session is open already, or no serial is left: the last one is 2^64-2.
@@ -97,7 +97,7 @@ pub enum StepFault {
     NotOpen,
 }
 
-/// What a step answers (own).
+/// What a step answers.
 #[derive(Clone, Copy, Debug, PartialEq, Eq)]
 pub enum Stepped {
     /// The session that was opened.

@@ -1,5 +1,6 @@
-//! The ordered machine of the server (own, over RFC 7047, 4): events in, frames out, and the history that says which of
-//! them there were. It knows no socket, no clock and no thread: moments and identifiers come in as values.
+//! The ordered machine of the server (our own, over RFC 7047, 4): events in, frames out, and the history that says which of
+//! them there were. It knows no socket, no clock and no thread: moments and identifiers come in as values. What names no source
+//! is our own.
 #![tactic(auto)]
 
 mod answer;
@@ -11,6 +12,7 @@ mod frames;
 mod handle;
 mod machine;
 mod outbox;
+mod session;
 
 pub use event::{Attempt, Cause, Choice, Entry, Event, Outcome, Session, StepFault, Stepped};
 pub use machine::Core;

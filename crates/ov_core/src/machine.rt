@@ -19,6 +19,7 @@ use crate::entry::{entry_with_choice, entry_without_choice, is_closing, listed};
 use crate::event::{Cause, Entry, Event, Session, StepFault, Stepped};
 use crate::handle::{Handled, handle};
 use crate::outbox::Outbox;
+use crate::session::OpenSession;
 use ov_base::Bytes;
 use ov_db::{Db, RefusedOpen};
 use ov_keeper::Keeper;
@@ -29,12 +30,12 @@ use std::alloc::{AllocError, Global};
 use std::collections::VecDeque;
 use std::marker::Model;
 
-/// The machine over a keeper, with its history (own, over RFC 7047, 4). One session may be open at a time.
+/// The machine over a keeper, with its history (our own, over RFC 7047, 4). One session may be open at a time.
 #[derive(Drop)]
 pub struct Core<K: Keeper, D> {
     database: Db<K>,
     source: D,
-    session: Option<u64>,
+    session: Option<OpenSession>,
     next: u64,
     moment: u64,
     history: VecDeque<Entry>,
@@ -50,13 +51,14 @@ impl<K: Keeper, D> Model for Core<K, D> {
     ghost use Rattle.ov_specs.specs.codes.SchemaCode.{schema_code};
     ghost use Rattle.ov_rows.specs.Resident.{database_code};
     ghost use Rattle.ov_core.specs.Following.{CoreState};
+    ghost use Rattle.ov_core.specs.Sessions.{sessions_of};
 
     ghost Value = { CoreState K D };
 
     ghost coded = { Prim.hlevel (codes, schema_code, database_code, tree_code, items_code, K.code, D.code) };
 
     ghost view = { λ c. record {
-      state = record { schema = c.database.schema; database = c.database.committed; sealed = c.database.sealed; sessions = option_to_list c.session; next = c.next; moment = c.moment };
+      state = record { schema = c.database.schema; database = c.database.committed; sealed = c.database.sealed; sessions = sessions_of c.session; next = c.next; moment = c.moment };
       kept = c.history.items;
       outbox = c.outbox;
       keeper = c.database.keeper;
@@ -155,13 +157,13 @@ impl<K: Keeper + Drop, D: Draws + Drop> Core<K, D> {
     pub fn is_open(&self, session: Session) -> bool
         ensures { result ≡ is_open self.now.state session.serial }
     {
-        match self.session {
-            Some(serial) => serial == session.serial,
+        match &self.session {
+            Some(open) => open.serial == session.serial,
             None => false,
         }
     }
 
-    /// The whole history since the core was opened, oldest entry first (own).
+    /// The whole history since the core was opened, oldest entry first.
     pub fn history(&self) -> &VecDeque<Entry>
         ensures { result.now.items ≡ self.now.kept }
     {
@@ -249,7 +251,7 @@ impl<K: Keeper + Drop, D: Draws + Drop> Core<K, D> {
         self.history
             .push_back_reserved(entry_without_choice(self.alloc, moment, Event::Open));
         let serial = self.next;
-        self.session = Some(serial);
+        self.session = Some(OpenSession { serial });
         self.next = serial + 1;
         self.moment = moment;
         Stepped::Opened(Session { key: 0, serial })

@@ -1,4 +1,7 @@
-ghost use Rattle.std.specs.Prelude.{◌≡◌, ◌≢◌, ◌++◌, ℕ, List, [], ◌∷◌, false, IfOk, IfNone, OnOk, MatchBool, option_to_list};
+ghost use Rattle.std.specs.Prelude.{◌≡◌, ◌≢◌, ◌++◌, ℕ, List, [], ◌∷◌, map, false, IfOk, IfNone, OnOk, MatchBool, option_to_list};
+ghost use Rattle.serde_json.specs.Data.{Data};
+ghost use Rattle.ov_specs.specs.wire.Frame.{frame as spec_frame};
+ghost use Rattle.ov_specs.specs.machine.Machine.{to_session};
 ghost use Rattle.ov_specs.specs.machine.History.{joined};
 ghost use Rattle.ov_core.specs.Outbox.{WaitingFrames, waiting_for, has_queue, PostsFrame, ClearsSession, HasSameFrames};
 ghost use Rattle.ov_core.specs.Handling.{PostsIfRoom};
@@ -112,7 +115,8 @@ pub(crate) fn send(
     session: u64,
     frame: Option<Bytes>,
 ) -> Option<Outcome>
-    ensures { PostsIfRoom session frame outbox.old result outbox.new }
+    // Whatever tree the frame is of.
+    ensures { (trees : List Data) → map spec_frame trees ≡ option_to_list frame → PostsIfRoom (to_session session trees) outbox.old result outbox.new }
 {
     let Some(frame) = frame else {
         return None;

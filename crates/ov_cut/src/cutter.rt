@@ -18,7 +18,7 @@ pub struct Fed {
     pub fault: Option<CutFault>,
 }
 
-/// Cuts a byte stream that comes in pieces into messages (own; RFC 7047, 4 sends JSON-RPC objects without framing).
+/// Cuts a byte stream that comes in pieces into messages (our own; RFC 7047, 4 sends JSON-RPC objects without framing).
 #[derive(Drop)]
 pub struct Cutter {
     start: u64,

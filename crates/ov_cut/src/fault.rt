@@ -1,6 +1,6 @@
 use thiserror::Error;
 
-/// Why a stream gives no more messages (own; RFC 7047, 4 sends JSON-RPC objects without framing).
+/// Why a stream gives no more messages (our own; RFC 7047, 4 sends JSON-RPC objects without framing).
 #[derive(Clone, Copy, Debug, PartialEq, Eq, Error)]
 pub enum CutFault {
     /// A byte behind the last message is neither white space nor an opening brace. The number is its

@@ -1,4 +1,4 @@
--- What a call of a keeper makes of the contents that an open now would find.
+-- What a call of a keeper makes of the contents that an open now would find. What names no source is our own.
 use Rattle.std.specs.Prelude.{◌≡◌, ◌⊎◌, ◌<◌, ◌-◌, ◌^◌, ℕ, List, map}
 use Rattle.std.specs.FinMap.{from_entries}
 use Rattle.ov_specs.specs.rows.Lines.{Contents, LineChange, after_changes}
@@ -31,7 +31,7 @@ LeavesRefused changes old new TooLarge = LeavesNoMore old new
 LeavesRefused changes old new NotOurs = ⊥
 LeavesRefused changes old new Format = ⊥
 
--- a commit is refused for want of memory, by the device, or for changes that are too large; the others only an open can find (own)
+-- a commit is refused when out of memory, by the device, or for changes that are too large; the others only an open can find
 abbrev pub IsCommitFault : KeepFault → Type 0
 IsCommitFault Memory = Unit {0}
 IsCommitFault Device = Unit {0}
@@ -39,7 +39,7 @@ IsCommitFault TooLarge = Unit {0}
 IsCommitFault NotOurs = ⊥
 IsCommitFault Format = ⊥
 
--- a load is refused for want of memory, or by the device (own)
+-- a load is refused when out of memory, or by the device
 abbrev pub IsLoadFault : KeepFault → Type 0
 IsLoadFault Memory = Unit {0}
 IsLoadFault Device = Unit {0}
@@ -47,7 +47,7 @@ IsLoadFault TooLarge = ⊥
 IsLoadFault NotOurs = ⊥
 IsLoadFault Format = ⊥
 
--- the device has failed in between: its count rose, or stood at its greatest before (own)
+-- the device has failed in between: its count rose, or stood at its greatest before
 abbrev pub HasFailed : ℕ → ℕ → Type 0
 HasFailed old new = (old < new) ⊎ (old ≡ 2 ^ 64 - 1)
 

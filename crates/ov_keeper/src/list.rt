@@ -11,8 +11,8 @@ use ov_base::Text;
 use std::alloc::{AllocError, Global};
 use uuid::Uuid;
 
-/// A keeper in memory, for tests and small databases: a load takes time quadratic in the changes that were made. It
-/// fails for want of memory alone.
+/// A keeper in memory, for tests and small databases: a load takes time quadratic in the changes that were made. Each
+/// refusal is Memory, and a refused call changes nothing that it holds.
 #[derive(Drop)]
 pub struct ListKeeper {
     schema: Text,
@@ -43,30 +43,40 @@ impl ListKeeper {
 }
 
 impl Keeper for ListKeeper {
-    ghost use Rattle.std.specs.Prelude.{◌≡◌};
+    ghost use Rattle.std.specs.Prelude.{◌≡◌, IfOk, IfErr, OnOk, OnErr};
+    ghost use Rattle.ov_keeper.specs.declared.fault.KeepFault.TheVariants.{Memory};
+    ghost use Rattle.ov_keeper.specs.Keeping.{LeavesChanged, loaded_contents};
     ghost use Rattle.ov_keeper.specs.Views.{changes_view};
-    ghost use Rattle.ov_keeper.specs.ListKeeper.{contents_after, some_contents};
+    ghost use Rattle.ov_keeper.specs.ListKeeper.{contents_of, finds, some_contents};
 
     ghost is_honest = { λ _. Unit {0} };
 
-    ghost leaves = { λ k held. held ≡ contents_after k.schema (changes_view k.made.items) };
+    ghost leaves = { finds };
 
     ghost failed = { λ _. 0 };
 
-    ghost leaves_some = { λ k _. some_contents (contents_after k.schema (changes_view k.made.items)) };
+    ghost leaves_some = { λ k _. some_contents (contents_of k) };
 
     fn failures(&self) -> u64 {
         0
     }
 
-    fn load(&mut self, alloc: Global) -> Result<Loaded, KeepFault> {
+    fn load(&mut self, alloc: Global) -> Result<Loaded, KeepFault>
+        ensures ok { IfOk result (λ loaded. contents_of self.old ≡ loaded_contents loaded) }
+        ensures memory { IfErr result (λ fault. fault ≡ Memory) }
+        ensures same { contents_of self.new ≡ contents_of self.old }
+    {
         match self.contents(alloc) {
             Ok(loaded) => Ok(loaded),
             Err(_) => Err(KeepFault::Memory),
         }
     }
 
-    fn commit(&mut self, alloc: Global, changes: &[Change]) -> Result<(), KeepFault> {
+    fn commit(&mut self, alloc: Global, changes: &[Change]) -> Result<(), KeepFault>
+        ensures ok { OnOk result (LeavesChanged (changes_view changes.now) (finds self.old) (finds self.new)) }
+        ensures memory { IfErr result (λ fault. fault ≡ Memory) }
+        ensures same { OnErr result (contents_of self.new ≡ contents_of self.old) }
+    {
         let Ok(mut more) = copy_all(alloc, changes) else {
             return Err(KeepFault::Memory);
         };

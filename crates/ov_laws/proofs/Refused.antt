@@ -7,7 +7,7 @@ use Rattle.serde_json.specs.Data.{Data, Items, no_items, item}
 use Rattle.serde_json.specs.Find.{as_object, as_array}
 use Rattle.serde_json.specs.Find as find
 use Rattle.ov_specs.specs.rows.Database.{Database, Columns, same_database}
-use Rattle.ov_specs.specs.machine.Machine.{State, Sent, Stepped, Outcome, NoMemory, Committed, Exhausted, Failed, Transact, works, attempt, commits, sends_at_once, sends_results, closed, when, to_session, results_of}
+use Rattle.ov_specs.specs.machine.Machine.{State, Sent, Stepped, Outcome, NoMemory, Committed, Exhausted, Failed, Transact, works, attempt, commits, sends_at_once, closed, when, to_session, results_of, results_to}
 use Rattle.ov_specs.specs.wire.Message.{has_member}
 use Rattle.std.specs.Str.{bytes_eq}
 use Rattle.ov_specs.specs.operations.Errors.{OpError, SyntaxError, UnknownTable}
@@ -103,29 +103,29 @@ first_results (x ∷ xs) = option_and_then as_array (find.get (codes "result") x
 same_results : (n : ℕ) (id : Data) (a b : Items) → to_session n (results_of id a) ≡ to_session n (results_of id b) → a ≡ b
 same_results n id a b h = same_Some a b (ap first_results h)
 
--- trees that are sent at once leave the database
-sending_leaves : (s : State) (n : ℕ) (trees : List Data) (o : Option Outcome) (t : Stepped) → sends_at_once s n trees o ≡ Some t → t.state.database ≡ s.database
-sending_leaves s n trees None t h = ap (λ (x : Stepped). x.state.database) (sym (same_Some (record { state = s; sent = to_session n trees }) t h))
-sending_leaves s n trees (Some outcome) t h = cc
+-- what is sent at once leaves the database
+sending_leaves : (s : State) (sent : List Sent) (o : Option Outcome) (t : Stepped) → sends_at_once s sent o ≡ Some t → t.state.database ≡ s.database
+sending_leaves s sent None t h = ap (λ (x : Stepped). x.state.database) (sym (same_Some (record { state = s; sent = sent }) t h))
+sending_leaves s sent (Some outcome) t h = cc
 
 module _ (s : State) (n : ℕ) (id : Data) (r : Transacted) (results : Items) (t : Stepped) (sent : t.sent ≡ to_session n (results_of id results)) (error : has_error results ≡ true) (before : has_error r.results ≡ true → r.database ≡ s.database) where
   -- a commit that has an error in its reply was not kept
   commit_leaves : (o : Option Outcome) → commits s n id r o ≡ Some t → t.state.database ≡ s.database
   commit_leaves (Some Committed) h =
-      let x : Stepped = sends_results (record s { database = r.database }) n id r.results in
+      let x : Stepped = record { state = record s { database = r.database }; sent = results_to n id r.results } in
       let is : x ≡ t = same_Some x t h in
       let same : r.results ≡ results = same_results n id r.results results (ap (λ (y : Stepped). y.sent) is ∙ sent) in
       ap (λ (y : Stepped). y.state.database) (sym is) ∙ before (ap has_error same ∙ error)
-  commit_leaves (Some Exhausted) h = ap (λ (y : Stepped). y.state.database) (sym (same_Some (sends_results s n id (exhausted_results r.results)) t h))
-  commit_leaves (Some Failed) h = ap (λ (y : Stepped). y.state.database) (sym (same_Some (sends_results (record s { sealed = Some r.database }) n id (failed_results r.results)) t h))
+  commit_leaves (Some Exhausted) h = ap (λ (y : Stepped). y.state.database) (sym (same_Some (record { state = s; sent = results_to n id (exhausted_results r.results) }) t h))
+  commit_leaves (Some Failed) h = ap (λ (y : Stepped). y.state.database) (sym (same_Some (record { state = record s { sealed = Some r.database }; sent = results_to n id (failed_results r.results) }) t h))
   commit_leaves (Some NoMemory) h = cc
   commit_leaves None h = cc
 
   attempt_leaves : (same sealed : Bool) (o : Option Outcome)
-      → cond same (sends_at_once s n (results_of id r.results) o) (cond sealed (sends_at_once s n (results_of id (failed_results r.results)) o) (commits s n id r o)) ≡ Some t
+      → cond same (sends_at_once s (results_to n id r.results) o) (cond sealed (sends_at_once s (results_to n id (failed_results r.results)) o) (commits s n id r o)) ≡ Some t
       → t.state.database ≡ s.database
-  attempt_leaves true sealed o h = sending_leaves s n (results_of id r.results) o t h
-  attempt_leaves false true o h = sending_leaves s n (results_of id (failed_results r.results)) o t h
+  attempt_leaves true sealed o h = sending_leaves s (results_to n id r.results) o t h
+  attempt_leaves false true o h = sending_leaves s (results_to n id (failed_results r.results)) o t h
   attempt_leaves false false o h = commit_leaves o h
 
 -- a reply with an error among its results leaves the database

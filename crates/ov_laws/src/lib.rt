@@ -2,7 +2,7 @@
 #![tactic(auto)]
 
 ghost use Rattle.std.specs.List.{list_all};
-ghost use Rattle.std.specs.Prelude.{◌≡◌, ◌↔◌, ◌++◌, ◌-◌, ℕ, List, [], Option, Some, None, true, false, length};
+ghost use Rattle.std.specs.Prelude.{◌≡◌, ◌↔◌, ◌++◌, ◌-◌, ◌<◌, ℕ, List, [], Option, Some, None, is_some, not, true, false, length};
 ghost use Rattle.serde_json.specs.Data.{Data, Items};
 ghost use Rattle.ov_specs.specs.wire.Cut.{Cut, cut, cut_from, IsCut, continue_cut, with_messages, max_message};
 ghost use Rattle.ov_specs.specs.wire.Message.{asked};
@@ -32,12 +32,26 @@ pub fn cut_starts_again()
     ensures { (a b : List ℕ) → (cut a).damage ≡ None → cut (a ++ b) ≡ with_messages (cut a).messages (cut_from max_message (length a - length (cut a).rest) [] ((cut a).rest ++ b)) }
 {}
 
-/// What was taken of a session is what its stream asks for, however the stream came in pieces; want of memory leaves the
+/// What was taken of a session is what its stream asks for, however the stream came in pieces; refused memory leaves the
 /// first of it. That holds from any state on in which the session is not open and was fed nothing, as before it is opened.
 pub fn requests_are_asked_for()
     ensures { (before : State) (fed : Streams) (events : List (ℕ × StreamEvent)) (history : List Entry) (s : State) (streams : Streams) (session : ℕ)
         → is_open before session ≡ false → fed session ≡ [] → ExpandsTimed before fed events history s streams
-        → AreAskedFor (closed_by history session) (requests history session) (asked (streams session)).messages }
+        → AreAskedFor (closed_by before history session) (requests history session) (asked (streams session)).messages }
+{}
+
+/// A session that is open before a run has a cause just where it is not open after it; so has each that was opened in a run from
+/// an opening. From any state on one that is open before and not after has a cause.
+pub fn sessions_are_closed_for_a_cause()
+    ensures open { (before : State) (history : List Entry) (after : Stepped) (session : ℕ)
+        → run before history ≡ Some after → is_open before session ≡ true → session < before.next
+        → is_some (closed_by before history session) ≡ not (is_open after.state session) }
+    ensures opened { (schema : Schema) (database : Database) (history : List Entry) (after : Stepped) (session : ℕ)
+        → run (opening schema database) history ≡ Some after → 0 < session → session < after.state.next
+        → is_some (closed_by (opening schema database) history session) ≡ not (is_open after.state session) }
+    ensures shut { (before : State) (history : List Entry) (after : Stepped) (session : ℕ)
+        → run before history ≡ Some after → is_open before session ≡ true → is_open after.state session ≡ false
+        → is_some (closed_by before history session) ≡ true }
 {}
 
 /// A refused transaction changes nothing (RFC 7047, 4.1.3): whatever was drawn and whatever the store answered, where the

@@ -1,2 +1,3 @@
 pub mod LeftLemmas
 pub mod ComputingLemmas
+pub mod KindLemmas

@@ -14,7 +14,7 @@ fault_of atom.Syntax = Syntax
 fault_of atom.Clash = Clash
 fault_of atom.Memory = Memory
 
--- what is read, or the fault that there is in place of it; want of memory may be answered to anything
+-- what is read, or the fault that there is in place of it; "out of memory" may be answered to anything
 abbrev pub IsMutationRead : {A B : Type 0} → (A → B) → Result B mutators.MutationFault → Result A MutationFault → Type 0
 IsMutationRead seen read (Ok a) = read ≡ Ok (seen a)
 IsMutationRead seen read (Err Syntax) = read ≡ Err mutators.BadMutation
@@ -28,7 +28,7 @@ abbrev pub integer_or_syntax : Option ℤ → Result ℤ mutators.MutationFault
 integer_or_syntax None = Err mutators.BadMutation
 integer_or_syntax (Some n) = Ok n
 
--- what is made, or the fault that there is in place of it; want of memory may be answered to anything
+-- what is made, or the fault that there is in place of it; "out of memory" may be answered to anything
 abbrev pub IsMutated : {A B : Type 0} → (A → B) → Result B mutators.MutateError → Result A MutateFault → Type 0
 IsMutated seen answer (Ok a) = answer ≡ Ok (seen a)
 IsMutated seen answer (Err made.Domain) = answer ≡ Err mutators.Domain

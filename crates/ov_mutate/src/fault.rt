@@ -12,7 +12,7 @@ pub enum MutationFault {
     /// The table has no column of this name.
     #[error("no such column")]
     UnknownColumn,
-    /// One key of the value has two values (own).
+    /// One key of the value has two values.
     #[error("one key has two values")]
     Clash,
     /// Clients may not change the column (RFC 7047, 3.2, `<column-schema>`, mutable).

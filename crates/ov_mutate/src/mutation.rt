@@ -1,6 +1,9 @@
-ghost use Rattle.std.specs.Prelude.{◌≡◌};
+ghost use Rattle.std.specs.Prelude.{◌≡◌, true, IfOk};
 ghost use Rattle.serde_json.specs.View.{view};
-ghost use Rattle.ov_specs.specs.operations.Mutators.{mutation_read, mutated};
+ghost use Rattle.ov_specs.specs.operations.Mutators.{mutation_read, mutated, suits_mutation};
+ghost use Rattle.ov_specs.specs.schema.SchemaTypes.{kinds_of};
+ghost use Rattle.ov_specs.specs.values.Uuid.{AreUuids};
+ghost use Rattle.ov_specs.specs.values.Value.{is_of};
 ghost use Rattle.ov_mutate.specs.Faults.{IsMutationRead, IsMutated};
 
 use crate::change::ValueChange;
@@ -14,14 +17,16 @@ use serde_json::Value;
 use std::alloc::Global;
 use std::marker::Model;
 
-/// A mutation of the rows of a table: a column, and what is done to it (RFC 7047, 5.1, `<mutation>`).
+/// A mutation of the rows of a table: a column, which is lent from the table, and what is done to it (RFC 7047, 5.1,
+/// `<mutation>`).
 #[derive(Drop)]
-pub struct Mutation {
-    column: Text,
+pub struct Mutation<'a> {
+    name: Text,
+    column: &'a Column,
     change: ValueChange,
 }
 
-impl Model for Mutation {
+impl<'a> Model for Mutation<'a> {
     ghost use Rattle.ov_specs.specs.operations.Mutators as mutators;
     ghost use Rattle.ov_specs.specs.codes.MutationCode.{mutation_code};
     ghost use Rattle.ov_mutate.specs.Views.{value_change_view};
@@ -30,21 +35,23 @@ impl Model for Mutation {
 
     ghost coded = { mutation_code };
 
-    ghost view = { λ m. record { column = m.column; change = value_change_view m.change } };
+    ghost view = { λ m. record { column = m.name; type_of = m.column.now.type_of; change = value_change_view m.change } };
 }
 
-impl Mutation {
+impl<'a> Mutation<'a> {
     /// The mutation of a row of the table that a tree is. Of its faults the first is told: its shape, then its column,
     /// whether clients may change that, the mutator on it, and its value. A number is read as for a scalar; what is
     /// inserted by the kinds of the column alone; what is deleted from a map is a map, or a set of keys (RFC 7047, 5.1,
-    /// `<mutation>`; which fault is told is own).
+    /// `<mutation>`; which fault is told is our own). Where names stand for identifiers alone, it is of these kinds within
+    /// their bounds.
     pub fn read<N: Names>(
         alloc: Global,
-        table: &Table,
+        table: &'a Table,
         tree: &Value,
         names: &N,
-    ) -> Result<Mutation, MutationFault>
-        ensures { IsMutationRead (λ m. m) (mutation_read (N.names names.now) table.now (view tree.now)) result }
+    ) -> Result<Mutation<'a>, MutationFault>
+        ensures value { IsMutationRead (λ m. m) (mutation_read (N.names names.now) table.now (view tree.now)) result }
+        ensures suits { AreUuids (N.names names.now) → IfOk result (λ m. suits_mutation m ≡ true) }
     {
         let Some(parts) = Triple::read(tree) else {
             return Err(MutationFault::Syntax);
@@ -60,7 +67,8 @@ impl Mutation {
         };
         let change = ValueChange::read(alloc, column, mutator, parts.value, names)?;
         Ok(Mutation {
-            column: Text::from_str(alloc, parts.column)?,
+            name: Text::from_str(alloc, parts.column)?,
+            column,
             change,
         })
     }
@@ -69,19 +77,17 @@ impl Mutation {
     pub fn column(&self) -> &str
         ensures { result.now ≡ self.now.column }
     {
-        self.column.as_str()
+        self.name.as_str()
     }
 
-    /// What the mutation makes of a value of its column, which is given beside it. Of the faults the first is told: a
-    /// domain, a range and a constraint error (RFC 7047, 5.2.4; the order is own). The value that was there stays.
-    pub fn mutate(
-        &self,
-        alloc: Global,
-        column: &Column,
-        datum: &Datum,
-    ) -> Result<Datum, MutateFault>
-        ensures { IsMutated (λ d. d) (mutated column.now.type_of self.now.change datum.now) result }
+    /// What the mutation makes of a value of its column. Of the faults the first is told: a domain, a range and a
+    /// constraint error (RFC 7047, 5.2.4; the order is our own). The value that was there stays. A value of the column's
+    /// kinds stays one, where the mutation was read with names that stand for identifiers alone.
+    pub fn mutate(&self, alloc: Global, datum: &Datum) -> Result<Datum, MutateFault>
+        ensures value { IsMutated (λ d. d) (mutated self.now.type_of self.now.change datum.now) result }
+        ensures kinds { suits_mutation self.now ≡ true → is_of (kinds_of self.now.type_of) datum.now ≡ true
+            → IfOk result (λ d. is_of (kinds_of self.now.type_of) d ≡ true) }
     {
-        self.change.apply(alloc, column, datum)
+        self.change.apply(alloc, self.column, datum)
     }
 }

@@ -5,7 +5,7 @@ use Rattle.ov_specs.specs.schema.Schema.{SchemaRefusal}
 use Rattle.ov_schema.specs.declared.fault.SchemaFault.{SchemaFault}
 use Rattle.ov_schema.specs.declared.fault.SchemaFault.TheVariants as fault
 
--- what a fault says of the tree; want of memory says nothing
+-- what a fault says of the tree; "out of memory" says nothing
 abbrev pub refusal_view : SchemaFault → Option SchemaRefusal
 refusal_view fault.Syntax = Some schema.BadMember
 refusal_view fault.BadName = Some schema.BadName

@@ -12,7 +12,7 @@ abbrev pub IsRefusalOf : Option SchemaRefusal → Result Schema SchemaRefusal �
 IsRefusalOf None answer = Unit {0}
 IsRefusalOf (Some refusal) answer = answer ≡ Err refusal
 
--- the tree is refused with this fault; any tree may be, for want of memory
+-- the tree is refused with this fault; any tree may be, when out of memory
 abbrev pub RefusesWith : Data → SchemaFault → Type 0
 RefusesWith tree fault = IsRefusalOf (refusal_view fault) (accepted tree)
 

@@ -13,7 +13,7 @@ pub record IsSchemaText (text : List ℕ) (schema : Schema) : Type 0 where
   pub tree : tree_of text ≡ Some schema.tree
   pub accepted : accepted schema.tree ≡ Ok schema
 
--- a text is refused where it is no JSON, or its tree is refused; any text may be, for want of memory
+-- a text is refused where it is no JSON, or its tree is refused; any text may be, when out of memory
 abbrev pub RefusesText : List ℕ → SchemaFileFault → Type 0
 RefusesText text Unread = ⊥
 RefusesText text NotJson = tree_of text ≡ None

@@ -87,7 +87,7 @@ impl Column {
     }
 
     /// Whether clients may change it in a row that is there. A column of weak references is changed by the server
-    /// itself, so it is mutable whatever its schema says (own).
+    /// itself, so it is mutable whatever its schema says.
     pub fn is_mutable(&self) -> bool
         ensures { result ≡ self.now.is_mutable }
     {

@@ -2,7 +2,7 @@ use std::alloc::AllocError;
 use thiserror::Error;
 
 /// Why a tree is no schema (RFC 7047, 3.2). The least that applies anywhere in the tree is answered, in this order; but
-/// a number that is no 64-bit integer goes before all else, and such a tree can't be given. The order is own.
+/// a number that is no 64-bit integer goes before all else, and such a tree can't be given. The order is our own.
 #[derive(Clone, Copy, Debug, PartialEq, Eq, Error)]
 pub enum SchemaFault {
     /// A member is missing or of a wrong kind, an atomic type is unknown, or a range stands beside another type than

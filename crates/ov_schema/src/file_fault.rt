@@ -2,7 +2,7 @@ use crate::fault::SchemaFault;
 use std::alloc::AllocError;
 use thiserror::Error;
 
-/// Why a file gives no schema (own).
+/// Why a file gives no schema.
 #[derive(Clone, Copy, Debug, PartialEq, Eq, Error)]
 pub enum SchemaFileFault {
     /// The file is not there, or could not be read to its end.

@@ -2,7 +2,7 @@
 //!
 //! A tree is read once into the shape of its members, which borrows from the tree, or is refused where one is missing or of a
 //! wrong kind (`parse`). The other refusals are then looked for in their order, over the whole shape (`judge`). What is left is
-//! built here: columns, which know the values that fit them, tables and the schema.
+//! built here: columns, which know the values that fit them, tables and the schema. What names no source is our own.
 #![tactic(auto)]
 
 mod base_type;

@@ -1,6 +1,6 @@
 -- What was done of a session, one part after another.
 use Rattle.std.proofs.Common.{◌≡◌, ℕ, List, [], ◌∷◌, ◌++◌, Bool, true, false, refl, sym, map, cond, eqb, ap, subst, ◌∙◌, append_assoc, arith, ◌⊎◌, inl, inr}
-use Rattle.std.specs.Prelude.{◌≤◌, length, MatchBool, Option, Some, None}
+use Rattle.std.specs.Prelude.{◌≤◌, length, MatchBool, Option, Some}
 use Rattle.std.proofs.lemmas.List.{append-nil, map-append}
 use Rattle.std.proofs.lemmas.Grind.{flat_map-append}
 use Rattle.std.proofs.lemmas.List.Elements.{All-push}
@@ -13,6 +13,9 @@ use Rattle.ov_specs.specs.rows.Database.{Database}
 use Rattle.ov_specs.specs.machine.History.{joined, frames_to, closed_by}
 use Rattle.ov_specs.specs.machine.Streams.{StreamEvent, Opens, Feed, Streams, no_streams, with_fed, Feeds, Expands, ExpandsTimed}
 use Rattle.ov_specs.proofs.laws.Expanding.{one_after_another, one_event}
+use Rattle.ov_specs.proofs.laws.Histories.{closed_by_append}
+use Rattle.ov_specs.proofs.laws.Turns.{turn_close}
+use Rattle.std.specs.Option.{option_or}
 use Rattle.ov_cut.specs.CutterState.{CutterState}
 use Rattle.ov_core.specs.declared.event.Cause.{Cause}
 use Rattle.ov_core.specs.declared.event.Cause.TheVariants.{WriteFault, Damaged, Memory}
@@ -24,7 +27,7 @@ use Rattle.ov_streams.specs.Feeding.{IsFed, EntersPiece}
 use Rattle.ov_serve.specs.Serving.{IoState, io_state, ExtendsHanding, Pieces, most_piece_bytes, bytes_of, events_of, TellsMoments, IsCauseIn, ClosesAfter, ClosesFor, is_written, EndsAs, Served, WritesOf}
 use Rattle.ov_serve.specs.Progress.{Sends, stream_cause, IsShut, StandsAfter, ServedSoFar, ServedAndFed}
 use Rattle.ov_serve.proofs.Unopened.{close_sends, close_of_open, next_is_unopened}
-use Rattle.ov_serve.proofs.Closings.{not_closed, is_shut, closed_by-append, closed_by_closing, feeds_stand, stream_cause_is}
+use Rattle.ov_serve.proofs.Closings.{not_closed, is_shut, closed_by_closing, feeds_stand, stream_cause_is}
 use Rattle.ov_serve.proofs.Goings.{goes_on_entering, goes_on_handing, joined-append, writes_on}
 use Rattle.ov_streams.proofs.Entering.{enters_none}
 use Rattle.ov_streams.proofs.Suiting.{fed_own}
@@ -64,15 +67,17 @@ writes_of_all false frames waits all said said' is none (some, told, (others, be
 -- what a history from an opening says, by the frames that were handed out
 ends_as : {K D : Type 0} (n : ℕ) (cause : Cause) (old new : CoreState K D) (schema : Schema) (database : Database) (history entries : List machine.Entry) (given : ℕ → List (List ℕ)) (frames : List (List ℕ)) (said said' : List ℕ) → n ≡ old.state.next
     → Follows (opening schema database) history given old → Follows (opening schema database) (history ++ entries) (and_all_handed given n frames) new → WritesOf (is_written cause) (joined frames) said said' → (is_written cause ≡ true → waiting_for n new.outbox ≡ [])
-    → IsCauseIn cause (closed_by entries n) → EndsAs n cause schema database (history ++ entries) said said'
+    → IsCauseIn cause (closed_by old.state entries n) → EndsAs n cause schema database (history ++ entries) said said'
 ends_as n cause old new schema database history entries given frames said said' serial f f' written none_left told =
-    let to_come = next_is_unopened schema database history (record { state = old.state; sent = f.sent }) n serial f.legal in
+    let reached : machine.Stepped = record { state = old.state; sent = f.sent } in
+    let to_come = next_is_unopened schema database history reached n serial f.legal in
+    let cause_is = closed_by_append (opening schema database) history entries n reached f.legal ∙ ap (λ (o : Option machine.Cause). option_or o (closed_by old.state entries n)) to_come.no_cause in
     let none : given n ≡ [] = first_empty (given n) (waiting_for n old.outbox) (sym (f.issued n) ∙ to_come.silent) in
     record {
       reached = record { state = new.state; sent = f'.sent };
       legal = f'.legal;
       written = writes_of_all (is_written cause) frames (waiting_for n new.outbox) (frames_to n f'.sent) said said' (none_given_before n given frames (waiting_for n new.outbox) (frames_to n f'.sent) none (f'.issued n)) none_left written;
-      told = subst (IsCauseIn cause) (sym (closed_by-append history entries n to_come.no_cause)) told;
+      told = subst (IsCauseIn cause) (sym cause_is) told;
     }
 
 module _ {K D C : Type 0} (tells : C → ℕ → C → Type 0) (n : ℕ) (old : CoreState K D) (from : IoState C) where
@@ -92,7 +97,7 @@ module _ {K D C : Type 0} (tells : C → ℕ → C → Type 0) (n : ℕ) (old : 
     sizes = done.sizes;
     moments = done.moments;
     serial = done.serial;
-    stands = subst (λ (s : State). StandsAfter n s done.entries) (sym same) done.stands;
+    stands = subst (λ (s : State). StandsAfter n old.state done.entries s) (sym same) done.stands;
   }
 
   -- all that waited was written, and the cutter was given nothing more
@@ -127,7 +132,7 @@ module _ {K D C : Type 0} (tells : C → ℕ → C → Type 0) (n : ℕ) (old : 
       sizes = All-push (λ (p : ℕ × List ℕ). length p.1 ≤ most_piece_bytes) done.pieces (at, piece) done.sizes short;
       moments = told_more tells from.clock to.clock clock done.pieces at piece done.moments told;
       serial = done.serial;
-      stands = feeds_stand at n a.state done.entries brings.messages (asked (bytes_of done.pieces ++ piece)).damaged brings.entries b.state there (not_closed n a.state done.entries done.stands there) brings.feeds;
+      stands = feeds_stand at n old.state a.state done.entries brings.messages (asked (bytes_of done.pieces ++ piece)).damaged brings.entries b.state (done.stands.sent, done.stands.leads) there (not_closed n old.state done.entries a.state done.stands there) brings.feeds;
     };
     fed = λ open'. subst (λ (bytes : List ℕ). IsFed bytes cutter) (sym (bytes_of-more done.pieces at piece)) (brings.goes_on open');
   }
@@ -135,7 +140,7 @@ module _ {K D C : Type 0} (tells : C → ℕ → C → Type 0) (n : ℕ) (old : 
   -- the session is closed, by a last entry or without one
   pub then_served : (a b : CoreState K D) (to : IoState C) (cause : Cause) (last : List machine.Entry) → (done : ServedSoFar tells n (is_written cause) old from a to) → Extends a last b → ClosesFor n cause a.state last b.state → is_open b.state n ≡ false
       → (is_written cause ≡ true → waiting_for n b.outbox ≡ [])
-      → ((before : State) (history : List machine.Entry) (given : ℕ → List (List ℕ)) → Follows before history given old → IsCauseIn cause (closed_by (done.entries ++ last) n)) → Served tells n old from cause b to
+      → ((before : State) (history : List machine.Entry) (given : ℕ → List (List ℕ)) → Follows before history given old → IsCauseIn cause (closed_by old.state (done.entries ++ last) n)) → Served tells n old from cause b to
   then_served a b to cause last done enters closes shut none_left told = record {
     entries = done.entries ++ last;
     frames = done.frames;
@@ -177,16 +182,20 @@ waits_as_before at n cause a b k =
     k.moves.waits n ∙ (ap (λ (sent : List Sent). waiting_for n a.outbox ++ frames_to n sent) none ∙ append-nil (waiting_for n a.outbox))
 
 -- the closing of an open session is its cause
-closed_at_last : (at n : ℕ) (cause : machine.Cause) (h : List machine.Entry) → closed_by h n ≡ None → closed_by (h ++ closing at n cause ∷ []) n ≡ Some cause
-closed_at_last at n cause h none = closed_by_closing h (closing at n cause) n cause none (rw (eq-eqb n n refl) refl)
+closed_at_last : {K D : Type 0} (at n : ℕ) (cause : machine.Cause) (before : State) (h : List machine.Entry) (a b : CoreState K D) → StandsAfter n before h a.state → is_open a.state n ≡ true → Closes at n cause a b
+    → closed_by before (h ++ closing at n cause ∷ []) n ≡ Some cause
+closed_at_last at n cause before h a b after there k =
+    let t : machine.Stepped = record { state = b.state; sent = k.moves.sent } in
+    let turn = turn_close n a.state (closing at n cause) t k.moves.stepped cause refl in
+    closed_by_closing n before h a.state (closing at n cause) t cause (after.sent, after.leads) k.moves.stepped (not_closed n before h a.state after there) turn.cause_is
 
 -- the cause of a stream's closing, where no other entry follows
-closed_within : (n : ℕ) (s : State) (h : List machine.Entry) → StandsAfter n s h → is_open s n ≡ false → (shut : IsShut n h) × (closed_by (h ++ []) n ≡ Some (stream_cause shut.last.event))
-closed_within n s h stands gone = let shut = is_shut n s h stands gone in (shut, ap (λ (l : List machine.Entry). closed_by l n) (append-nil h) ∙ shut.cause)
+closed_within : (n : ℕ) (before : State) (h : List machine.Entry) (s : State) → StandsAfter n before h s → is_open s n ≡ false → (shut : IsShut n before h) × (closed_by before (h ++ []) n ≡ Some (stream_cause shut.last.event))
+closed_within n before h s after gone = let shut = is_shut n before h s after gone in (shut, ap (λ (l : List machine.Entry). closed_by before l n) (append-nil h) ∙ shut.cause)
 
 -- where a write failed, the stream may have closed the session
-told_within : (n : ℕ) (h : List machine.Entry) (what : machine.Event) → closed_by h n ≡ Some (stream_cause what) → IsCauseIn WriteFault (closed_by h n)
-told_within n h what is = inr (elim (stream_cause_is what) [
+told_within : (n : ℕ) (before : State) (h : List machine.Entry) (what : machine.Event) → closed_by before h n ≡ Some (stream_cause what) → IsCauseIn WriteFault (closed_by before h n)
+told_within n before h what is = inr (elim (stream_cause_is what) [
   | inl e ↦ inl (is ∙ ap (λ c. Some c) e)
   | inr e ↦ inr (is ∙ ap (λ c. Some c) e)
 ])
@@ -196,10 +205,10 @@ abbrev pub Finds : {K D : Type 0} → Cause → CoreState K D → Type 0
 Finds cause core = (front : List machine.Entry) (last : machine.Entry) → map entry_view core.kept ≡ front ++ last ∷ [] → cause_view cause ≡ stream_cause last.event
 
 -- the cause that was found is that of the history
-found_cause : {K D : Type 0} (n : ℕ) (old a : CoreState K D) (cause : Cause) (entries : List machine.Entry) (frames : List (List ℕ)) → ExtendsHanding n old entries frames a → StandsAfter n a.state entries → is_open a.state n ≡ false → Finds cause a
-    → (before : State) (history : List machine.Entry) (given : ℕ → List (List ℕ)) → Follows before history given old → closed_by (entries ++ []) n ≡ Some (cause_view cause)
+found_cause : {K D : Type 0} (n : ℕ) (old a : CoreState K D) (cause : Cause) (entries : List machine.Entry) (frames : List (List ℕ)) → ExtendsHanding n old entries frames a → StandsAfter n old.state entries a.state → is_open a.state n ≡ false → Finds cause a
+    → (before : State) (history : List machine.Entry) (given : ℕ → List (List ℕ)) → Follows before history given old → closed_by old.state (entries ++ []) n ≡ Some (cause_view cause)
 found_cause n old a cause entries frames extends stands gone finds before history given f =
-    let within = closed_within n a.state entries stands gone in
+    let within = closed_within n old.state entries a.state stands gone in
     let shut = within.0 in
     let kept : map entry_view a.kept ≡ (history ++ shut.front) ++ shut.last ∷ [] =
     (extends before history given f).kept ∙ (ap (λ (l : List machine.Entry). history ++ l) shut.parts ∙ sym (append_assoc history shut.front (shut.last ∷ []))) in
@@ -217,7 +226,7 @@ module _ {K D C : Type 0} (tells : C → ℕ → C → Type 0) (n : ℕ) (old : 
       (then_served tells n old from a b to cause (shut ∷ []) d
       k.moves.follows (for a.state b.state (shut ∷ []) (closes_after n (cause_view cause) a b k)) k.shut
       (λ _. waits_as_before a.state.moment n (cause_view cause) a b k ∙ empty)
-      (λ before history given f. told (closed_by (d.entries ++ shut ∷ []) n) (closed_at_last a.state.moment n (cause_view cause) d.entries (not_closed n a.state d.entries d.stands there))))
+      (λ before history given f. told (closed_by old.state (d.entries ++ shut ∷ []) n) (closed_at_last a.state.moment n (cause_view cause) old.state d.entries a b d.stands there k)))
   by_reader cause false heard w for told there done empty same k = absurd (false≢true (sym k.1 ∙ there))
 
   -- the writer failed, and the session was closed, if it was still open
@@ -226,12 +235,12 @@ module _ {K D C : Type 0} (tells : C → ℕ → C → Type 0) (n : ℕ) (old : 
       let shut : machine.Entry = closing a.state.moment n machine.WriteFault in
       let there : is_open a.state n ≡ true = close_of_open a.state shut (record { state = b.state; sent = k.moves.sent }) k.moves.stepped n machine.WriteFault refl in
       then_served tells n old from a b to WriteFault (shut ∷ []) done k.moves.follows (inr (closes_after n machine.WriteFault a b k)) k.shut (λ whole. absurd (false≢true whole))
-      (λ before history given f. inl (closed_at_last a.state.moment n machine.WriteFault done.entries (not_closed n a.state done.entries done.stands there)))
+      (λ before history given f. inl (closed_at_last a.state.moment n machine.WriteFault old.state done.entries a b done.stands there k))
   by_writer false done k =
-      let within = closed_within n a.state done.entries done.stands k.1 in
+      let within = closed_within n old.state done.entries a.state done.stands k.1 in
       subst (λ (v : CoreState K D). Served tells n old from WriteFault v to) (sym k.0)
       (then_served tells n old from a a to WriteFault [] done (enters_none a) (inl (k.1, refl, refl)) k.1 (λ whole. absurd (false≢true whole))
-      (λ before history given f. told_within n (done.entries ++ []) within.0.last.event within.1))
+      (λ before history given f. told_within n old.state (done.entries ++ []) within.0.last.event within.1))
 
   -- the session was closed by what was read of it
   pub by_stream : (cause : Cause) → (cause ≡ Damaged) ⊎ (cause ≡ Memory) → Finds cause a → is_open a.state n ≡ false → ServedSoFar tells n true old from a to → waiting_for n a.outbox ≡ [] → Served tells n old from cause a to
@@ -239,11 +248,11 @@ module _ {K D C : Type 0} (tells : C → ℕ → C → Type 0) (n : ℕ) (old : 
       subst (λ (v : Cause). Served tells n old from v a to) (sym e)
       (then_served tells n old from a a to Damaged [] done (enters_none a) (gone, refl, refl) gone (λ _. empty) (λ before history given f. found before history given f ∙ ap (λ (v : Cause). Some (cause_view v)) e))
     where
-      found : (before : State) (history : List machine.Entry) (given : ℕ → List (List ℕ)) → Follows before history given old → closed_by (done.entries ++ []) n ≡ Some (cause_view cause)
+      found : (before : State) (history : List machine.Entry) (given : ℕ → List (List ℕ)) → Follows before history given old → closed_by old.state (done.entries ++ []) n ≡ Some (cause_view cause)
       found before history given f = found_cause n old a cause done.entries done.frames done.extends done.stands gone finds before history given f
   by_stream cause (inr e) finds gone done empty =
       subst (λ (v : Cause). Served tells n old from v a to) (sym e)
       (then_served tells n old from a a to Memory [] done (enters_none a) (gone, refl, refl) gone (λ _. empty) (λ before history given f. found before history given f ∙ ap (λ (v : Cause). Some (cause_view v)) e))
     where
-      found : (before : State) (history : List machine.Entry) (given : ℕ → List (List ℕ)) → Follows before history given old → closed_by (done.entries ++ []) n ≡ Some (cause_view cause)
+      found : (before : State) (history : List machine.Entry) (given : ℕ → List (List ℕ)) → Follows before history given old → closed_by old.state (done.entries ++ []) n ≡ Some (cause_view cause)
       found before history given f = found_cause n old a cause done.entries done.frames done.extends done.stands gone finds before history given f

@@ -1,17 +1,16 @@
 -- What a session begins with.
-use Rattle.std.proofs.Common.{◌≡◌, ℕ, ◌≤◌, List, [], ◌∷◌, length, true, false, Option, None, refl, sym, ap, ◌∙◌, max, append-nil}
+use Rattle.std.proofs.Common.{◌≡◌, ℕ, ◌≤◌, List, [], ◌∷◌, length, true, false, refl, sym, ◌∙◌, max, append-nil}
 use Rattle.std.proofs.lemmas.List.Elements.{All-nil}
 use Rattle.std.proofs.lemmas.Bool.{eq-eqb}
 use Rattle.ov_specs.specs.wire.Cut.{cut}
 use Rattle.ov_specs.specs.wire.Message.{asked}
 use Rattle.ov_specs.specs.machine.Machine as machine
-use Rattle.ov_specs.specs.machine.Machine.{is_open, listed}
+use Rattle.ov_specs.specs.machine.Machine.{is_open}
 use Rattle.ov_specs.specs.values.Uuid.{Uuid}
-use Rattle.ov_specs.specs.machine.History.{closing_cause}
-use Rattle.std.specs.Option.{option_or}
 use Rattle.ov_specs.specs.machine.Streams as streams
 use Rattle.ov_specs.specs.machine.Streams.{Opens, no_streams, Expands}
 use Rattle.ov_specs.proofs.laws.Expanding.{one_event}
+use Rattle.ov_specs.proofs.laws.Histories.{leads_none, leads_more, closed_by_more}
 use Rattle.ov_specs.proofs.laws.Turns.{turn_open}
 use Rattle.ov_cut.specs.CutterState.{CutterState, StandsFor}
 use Rattle.ov_core.specs.declared.event.Session.{Session}
@@ -37,10 +36,6 @@ fed_nothing cutter stands = record {
   whole = nothing_damaged;
 }
 
--- an entry that closes nothing
-none_behind : (o : Option machine.Cause) → o ≡ None → option_or o None ≡ None
-none_behind o is = ap (λ v. option_or v None) is
-
 -- a session that was opened
 pub serving_opened : {K D C : Type 0} (draws : D → Uuid → D → Type 0) (tells : C → ℕ → C → Type 0) (session : Session) (old new : CoreState K D) (from : IoState C) (cutter : CutterState) → StandsFor [] [] cutter
     → IsEntered draws (max 0 old.state.moment) machine.Open old (answer.Opened session) new → ServedAndFed tells session.serial old from new from cutter
@@ -64,7 +59,8 @@ serving_opened {K} {D} {C} draws tells session old new from cutter stands entere
         sizes = All-nil (λ (p : ℕ × List ℕ). length p.1 ≤ most_piece_bytes);
         moments = refl;
         serial = entered.tells.1;
-        stands = stands_open session.serial new.state (entered.entry ∷ []) there (none_behind (closing_cause session.serial entered.entry.event (listed 1 entered.entry.choice.outcomes)) turn.cause_is);
+        stands = stands_open session.serial old.state (entered.entry ∷ []) new.state (leads_more old.state [] old.state entered.entry t (leads_none old.state) entered.moves.stepped) there
+            (closed_by_more old.state [] old.state entered.entry t session.serial (leads_none old.state) entered.moves.stepped ∙ turn.cause_is);
       };
       fed = λ _. fed_nothing cutter stands;
     }

@@ -1,17 +1,18 @@
 -- What a history does to sessions that are not open.
-use Rattle.std.proofs.Common.{◌≡◌, ◌≢◌, ℕ, ◌+◌, ◌≤◌, List, [], ◌∷◌, ◌++◌, length, refl, sym, ap, ◌∙◌, cond, eqb, leb, Bool, true, false, Option, Some, None, inl, inr, arith}
-use Rattle.std.specs.Prelude.{◌&&◌, is_some, option_map, option_and_then}
+use Rattle.std.proofs.Common.{◌≡◌, ◌≢◌, ℕ, ◌≤◌, List, [], ◌∷◌, ◌++◌, length, refl, sym, ap, ◌∙◌, cond, eqb, leb, Bool, true, false, Option, Some, None, inl, inr, arith}
+use Rattle.std.specs.Prelude.{◌&&◌, is_some}
 use Rattle.std.proofs.lemmas.Bool.{cases_eq, and_parts, ne_eqb, false≢true}
 use Rattle.serde_json.specs.Data.{Data}
 use Rattle.ov_specs.specs.wire.Message.{Message}
-use Rattle.ov_specs.specs.machine.Machine.{State, Entry, Event, Open, Take, Close, Tick, Cause, Outcome, NoMemory, Committed, Exhausted, Failed, Listed, listed, Stepped, step, takes, sends_at_once, closed, when, is_open, is_without_choice, to_session, none_listed, opening, Work, Answers, Transact, work_of, works, draws_for, does, commits, sends_results, results_of}
+use Rattle.ov_specs.specs.machine.Machine.{State, Entry, Event, Open, Take, Close, Tick, Cause, Outcome, NoMemory, Committed, Exhausted, Failed, Listed, listed, ends, Stepped, step, takes, sends_at_once, closed, when, is_open, is_without_choice, with_next_session, to_session, none_listed, opening, Work, Answers, Transact, work_of, works, draws_for, does, commits, results_of, results_to}
 use Rattle.ov_specs.specs.rows.Database.{Database, same_database}
 use Rattle.ov_specs.specs.schema.SchemaTypes.{Schema}
 use Rattle.ov_specs.specs.operations.Transaction.{Transacted, transaction, exhausted_results, failed_results}
 use Rattle.ov_specs.specs.values.Uuid.{Uuid}
-use Rattle.ov_specs.specs.machine.History.{run, then_sends, frames_to, closing_cause, closed_by}
+use Rattle.ov_specs.specs.machine.History.{run, frames_to, closing_cause, closed_by}
 use Rattle.std.specs.Option.{option_or}
-use Rattle.ov_specs.proofs.laws.Turns.{turn_open, turn_tick, turn_close, turn_close_other, turn_take, turn_take_other, stepped}
+use Rattle.ov_specs.proofs.laws.Histories.{run_parts, closed_by_first}
+use Rattle.ov_specs.proofs.laws.Turns.{ends_tries, turn_open, turn_tick, turn_close, turn_close_other, turn_take, turn_take_other, stepped}
 use Rattle.ov_core.proofs.Answered.{frames_to-to_session}
 use Rattle.ov_core.proofs.Steps.{frames_to-append}
 use Rattle.std.proofs.lemmas.Option.{same_Some}
@@ -33,21 +34,21 @@ sends_aside x t m trees sent h n other =
     ap (λ (v : Stepped). frames_to n v.sent) (sym (same_Some x t h)) ∙ (ap (frames_to n) sent ∙ (frames_to-to_session m n trees ∙ rw (ne_eqb n m other) refl))
 
 -- what is sent at once is nothing to another session
-at_once_aside : (s : State) (m : ℕ) (trees : List Data) (o : Option Outcome) (t : Stepped) → sends_at_once s m trees o ≡ Some t → (n : ℕ) → n ≢ m → frames_to n t.sent ≡ []
+at_once_aside : (s : State) (m : ℕ) (trees : List Data) (o : Option Outcome) (t : Stepped) → sends_at_once s (to_session m trees) o ≡ Some t → (n : ℕ) → n ≢ m → frames_to n t.sent ≡ []
 at_once_aside s m trees None t h n other = sends_aside (record { state = s; sent = to_session m trees }) t m trees refl h n other
 at_once_aside s m trees (Some outcome) t h n other = cc
 
 -- nor is what a commit sends
 commit_aside : (s : State) (m : ℕ) (id : Data) (r : Transacted) (o : Option Outcome) (t : Stepped) → commits s m id r o ≡ Some t → (n : ℕ) → n ≢ m → frames_to n t.sent ≡ []
-commit_aside s m id r (Some Committed) t h n other = sends_aside (sends_results (record s { database = r.database }) m id r.results) t m (results_of id r.results) refl h n other
-commit_aside s m id r (Some Exhausted) t h n other = sends_aside (sends_results s m id (exhausted_results r.results)) t m (results_of id (exhausted_results r.results)) refl h n other
-commit_aside s m id r (Some Failed) t h n other = sends_aside (sends_results (record s { sealed = Some r.database }) m id (failed_results r.results)) t m (results_of id (failed_results r.results)) refl h n other
+commit_aside s m id r (Some Committed) t h n other = sends_aside (record { state = record s { database = r.database }; sent = results_to m id r.results }) t m (results_of id r.results) refl h n other
+commit_aside s m id r (Some Exhausted) t h n other = sends_aside (record { state = s; sent = results_to m id (exhausted_results r.results) }) t m (results_of id (exhausted_results r.results)) refl h n other
+commit_aside s m id r (Some Failed) t h n other = sends_aside (record { state = record s { sealed = Some r.database }; sent = results_to m id (failed_results r.results) }) t m (results_of id (failed_results r.results)) refl h n other
 commit_aside s m id r (Some NoMemory) t h n other = cc
 commit_aside s m id r None t h n other = cc
 
 -- nor what any transaction sends
 attempt_aside : (s : State) (m : ℕ) (id : Data) (r : Transacted) (o : Option Outcome) (t : Stepped) (same sealed : Bool)
-    → cond same (sends_at_once s m (results_of id r.results) o) (cond sealed (sends_at_once s m (results_of id (failed_results r.results)) o) (commits s m id r o)) ≡ Some t
+    → cond same (sends_at_once s (results_to m id r.results) o) (cond sealed (sends_at_once s (results_to m id (failed_results r.results)) o) (commits s m id r o)) ≡ Some t
     → (n : ℕ) → n ≢ m → frames_to n t.sent ≡ []
 attempt_aside s m id r o t true sealed h n other = at_once_aside s m (results_of id r.results) o t h n other
 attempt_aside s m id r o t false true h n other = at_once_aside s m (results_of id (failed_results r.results)) o t h n other
@@ -70,7 +71,7 @@ module _ (s : State) (e : Entry) (t : Stepped) (h : step s e ≡ Some t) where
   -- an opening sends nothing
   open_sends : e.event ≡ Open → t.sent ≡ []
   open_sends is =
-      let x : Stepped = record { state = record (now s e) { sessions = s.sessions ++ s.next ∷ []; next = s.next + 1 }; sent = [] } in
+      let x : Stepped = record { state = with_next_session (now s e); sent = [] } in
       ap (λ (v : Stepped). v.sent) (sym (same_Some x t (suits (is_without_choice e.choice) (Some x) t (stepped s e t Open is h)).1))
 
   -- time sends nothing
@@ -92,16 +93,16 @@ module _ (s : State) (e : Entry) (t : Stepped) (h : step s e ≡ Some t) where
   close_of_open m cause is = (and_parts (is_without_choice e.choice) (is_open s m) (closing_makes m cause is).0).1
 
   -- what taking a message makes, of an open session
-  taking_makes : (m : ℕ) (message : Message) → e.event ≡ Take m message → (is_open s m ≡ true) × (takes (now s e) e.choice m message (listed 1 e.choice.outcomes) ≡ Some t)
-  taking_makes m message is = suits (is_open s m) (takes (now s e) e.choice m message (listed 1 e.choice.outcomes)) t (stepped s e t (Take m message) is h)
+  taking_makes : (m : ℕ) (message : Message) → e.event ≡ Take m message → (is_open s m ≡ true) × (ends (takes (now s e) e.choice m message) ≡ Some t)
+  taking_makes m message is = suits (is_open s m) (ends (takes (now s e) e.choice m message)) t (stepped s e t (Take m message) is h)
 
   -- another session is sent nothing for a message
   take_aside : (m : ℕ) (message : Message) → e.event ≡ Take m message → (n : ℕ) → n ≢ m → frames_to n t.sent ≡ []
   take_aside m message is =
       let first : Listed = listed 1 e.choice.outcomes in
-      let work : Option Stepped = works (now s e) m e.choice.draws first.outcome (work_of (now s e) message) in
+      let work : Option Outcome → Option Stepped = λ o. works (now s e) m e.choice.draws o (work_of (now s e) message) in
       work_aside (now s e) m e.choice.draws first.outcome (work_of (now s e) message) t
-      (suits (none_listed first.others) work t (taking_makes m message is).1).1
+      (suits (none_listed first.others) (work first.outcome) t (sym (ends_tries work 1 e.choice.outcomes) ∙ (taking_makes m message is).1)).1
 
 -- ---- a session that is still to come
 
@@ -114,7 +115,7 @@ pub record Awaits (n : ℕ) (s : State) (e : Entry) (t : Stepped) : Type 0 where
   pub grows : s.next ≤ t.state.next
   pub to_come : ToCome n t.state
   pub silent : s.next ≤ n → frames_to n t.sent ≡ []
-  pub no_cause : s.next ≤ n → closing_cause n e.event (listed 1 e.choice.outcomes) ≡ None
+  pub no_cause : s.next ≤ n → closing_cause n s e.event t.state ≡ None
 
 module _ (n : ℕ) (s : State) (e : Entry) (t : Stepped) (h : step s e ≡ Some t) (to_come : ToCome n s) where
   awaits_open : e.event ≡ Open → Awaits n s e t
@@ -202,33 +203,11 @@ module _ (n : ℕ) (s : State) (e : Entry) (t : Stepped) (h : step s e ≡ Some 
 
 -- ---- whole histories
 
--- the first step of a run, and the others
-pub record Runs (s : State) (e : Entry) (h : List Entry) (t : Stepped) : Type 0 where
-  pub first : Stepped
-  pub rest : Stepped
-  pub stepped : step s e ≡ Some first
-  pub runs : run first.state h ≡ Some rest
-  pub state : rest.state ≡ t.state
-  pub sent : first.sent ++ rest.sent ≡ t.sent
-
-run_parts : (s : State) (e : Entry) (h : List Entry) (t : Stepped) → run s (e ∷ h) ≡ Some t → Runs s e h t
-run_parts s e h t r = first_part (step s e) refl r
-  where
-    second_part : (u : Stepped) → step s e ≡ Some u → (o : Option Stepped) → run u.state h ≡ o → option_map (then_sends u.sent) o ≡ Some t → Runs s e h t
-    second_part u is None k p = cc
-    second_part u is (Some w) k p =
-        let same : then_sends u.sent w ≡ t = same_Some (then_sends u.sent w) t p in
-        record { first = u; rest = w; stepped = is; runs = k; state = ap (λ (v : Stepped). v.state) same; sent = ap (λ (v : Stepped). v.sent) same }
-
-    first_part : (o : Option Stepped) → step s e ≡ o → option_and_then (λ u. option_map (then_sends u.sent) (run u.state h)) o ≡ Some t → Runs s e h t
-    first_part None is p = cc
-    first_part (Some u) is p = second_part u is (run u.state h) refl p
-
 -- a session that is still to come after a history was sent nothing by it, and was not closed
 pub record Unopened (n : ℕ) (s : State) (h : List Entry) (t : Stepped) : Type 0 where
   pub low : s.next ≤ n
   pub silent : frames_to n t.sent ≡ []
-  pub no_cause : closed_by h n ≡ None
+  pub no_cause : closed_by s h n ≡ None
 
 pub unopened : (n : ℕ) (s : State) (h : List Entry) (t : Stepped) → ToCome n s → run s h ≡ Some t → t.state.next ≤ n → Unopened n s h t
 unopened n s [] t to_come r high =
@@ -244,7 +223,7 @@ unopened n s (e ∷ h) t to_come r high =
     record {
       low = low;
       silent = ap (frames_to n) (sym parts.sent) ∙ (frames_to-append n parts.first.sent parts.rest.sent ∙ (ap (λ (fs : List (List ℕ)). fs ++ frames_to n parts.rest.sent) (one.silent low) ∙ others.silent));
-      no_cause = ap (λ (o : Option Cause). option_or o (closed_by h n)) (one.no_cause low) ∙ others.no_cause;
+      no_cause = closed_by_first s e h n parts.first parts.stepped ∙ (ap (λ (o : Option Cause). option_or o (closed_by parts.first.state h n)) (one.no_cause low) ∙ others.no_cause);
     }
 
 -- a history from its opening says nothing of the next session

@@ -1,8 +1,8 @@
--- What is done of a session on the way; for private clauses.
+-- What is done of a session on the way; for private clauses. What names no source is our own.
 use Rattle.std.specs.Prelude.{◌≡◌, ℕ, List, [], ◌∷◌, ◌++◌, Bool, true, false, Some, None, MatchBool}
 use Rattle.ov_specs.specs.machine.Machine as machine
-use Rattle.ov_specs.specs.machine.Machine.{State, is_open}
-use Rattle.ov_specs.specs.machine.History.{joined, closed_by}
+use Rattle.ov_specs.specs.machine.Machine.{State, Sent, is_open}
+use Rattle.ov_specs.specs.machine.History.{run, joined, closed_by}
 use Rattle.ov_specs.specs.machine.Streams.{Streams, no_streams, ExpandsTimed}
 use Rattle.ov_cut.specs.CutterState.{CutterState}
 use Rattle.ov_core.specs.Outbox.{waiting_for}
@@ -13,12 +13,12 @@ use Rattle.ov_serve.specs.Serving.{IoState, ExtendsHanding, WritesOf, Pieces, Ar
 
 -- ---- what is written
 
--- failures were counted: one where the call failed (own)
+-- failures were counted: one where the call failed
 abbrev pub CountsFailures : Bool → ℕ → ℕ → Type 0
 CountsFailures true old new = new ≡ old
 CountsFailures false old new = new ≡ one_more old
 
--- These frames were handed out of the session and written, and no other waits; or a beginning of them was written (own).
+-- These frames were handed out of the session and written, and no other waits; or a beginning of them was written.
 pub record Sends {K D : Type 0} (n : ℕ) (is_whole : Bool) (old new : CoreState K D) (said said' : List ℕ) : Type 0 where
   pub frames : List (List ℕ)
   pub extends : ExtendsHanding n old [] frames new
@@ -27,26 +27,29 @@ pub record Sends {K D : Type 0} (n : ℕ) (is_whole : Bool) (old new : CoreState
 
 -- ---- why a session was closed
 
--- why a session was closed by its stream, by the event that closed it: damage, or want of memory (own)
+-- why a session was closed by its stream, by the event that closed it: damage, or refused memory
 abbrev pub stream_cause : machine.Event → machine.Cause
 stream_cause (machine.Close session machine.Damaged) = machine.Damaged
 stream_cause event = machine.Memory
 
--- the last of these entries closed the session, by its stream (own)
-pub record IsShut (n : ℕ) (entries : List machine.Entry) : Type 0 where
+-- the last of these entries, from this state on, closed the session, by its stream
+pub record IsShut (n : ℕ) (before : State) (entries : List machine.Entry) : Type 0 where
   pub front : List machine.Entry
   pub last : machine.Entry
   pub parts : entries ≡ front ++ last ∷ []
-  pub cause : closed_by entries n ≡ Some (stream_cause last.event)
+  pub cause : closed_by before entries n ≡ Some (stream_cause last.event)
 
--- the session is open and none of the entries closed it, or the last of them did, by its stream (own)
-abbrev pub StandsAfter : ℕ → State → List machine.Entry → Type 0
-StandsAfter n s entries = MatchBool (is_open s n) (closed_by entries n ≡ None) (IsShut n entries)
+-- The entries lead from the one state to the other. There the session is open, and none of them closed it; or the last of them did,
+-- by its stream.
+pub record StandsAfter (n : ℕ) (before : State) (entries : List machine.Entry) (s : State) : Type 0 where
+  pub sent : List Sent
+  pub leads : run before entries ≡ Some (record { state = s; sent = sent })
+  pub stands : MatchBool (is_open s n) (closed_by before entries n ≡ None) (IsShut n before entries)
 
 -- ---- a session
 
 -- What was done since the core was `old`: the session was opened, these pieces of it were read and entered, and all of these
--- frames were written, or a beginning of them (own).
+-- frames were written, or a beginning of them.
 pub record ServedSoFar {K D C : Type 0} (tells : C → ℕ → C → Type 0) (n : ℕ) (is_whole : Bool) (old : CoreState K D) (from : IoState C) (new : CoreState K D) (to : IoState C) : Type 0 where
   pub entries : List machine.Entry
   pub frames : List (List ℕ)
@@ -60,9 +63,9 @@ pub record ServedSoFar {K D C : Type 0} (tells : C → ℕ → C → Type 0) (n 
   pub sizes : ArePieces pieces
   pub moments : TellsMoments tells from.clock pieces to.clock
   pub serial : n ≡ old.state.next
-  pub stands : StandsAfter n new.state entries
+  pub stands : StandsAfter n old.state entries new.state
 
--- the same, where the cutter was given what was read, while the session is open (own)
+-- the same, where the cutter was given what was read, while the session is open
 pub record ServedAndFed {K D C : Type 0} (tells : C → ℕ → C → Type 0) (n : ℕ) (old : CoreState K D) (from : IoState C) (new : CoreState K D) (to : IoState C) (cutter : CutterState) : Type 0 where
   pub done : ServedSoFar tells n true old from new to
   pub fed : is_open new.state n ≡ true → IsFed (bytes_of done.pieces) cutter

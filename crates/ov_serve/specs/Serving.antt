@@ -1,4 +1,4 @@
--- What a session's serving makes of a core and of what stands around it.
+-- What a session's serving makes of a core and of what stands around it. What names no source is our own.
 use Rattle.std.specs.Prelude.{◌≡◌, ◌⊎◌, ◌≤◌, ℕ, List, [], ◌∷◌, ◌++◌, map, length, Bool, true, false, Option, Some}
 use Rattle.std.specs.List.{All, flat_map}
 use Rattle.ov_specs.specs.machine.Machine as machine
@@ -14,64 +14,64 @@ use Rattle.ov_core.specs.Outbox.{waiting_for}
 use Rattle.ov_core.specs.Following.{CoreState, Follows, and_all_handed}
 use Rattle.ov_serve.specs.Ends.{one_more}
 
--- what stands around a core: the bytes that were read and written so far, and the clock (own)
+-- what stands around a core: the bytes that were read and written so far, and the clock
 pub record IoState (C : Type 0) : Type 0 where
   pub read : List ℕ
   pub written : List ℕ
   pub clock : C
 
--- these bytes and this clock (own)
+-- these bytes and this clock
 abbrev pub io_state : {C : Type 0} → List ℕ → List ℕ → C → IoState C
 io_state read written clock = record { read = read; written = written; clock = clock }
 
 -- ---- frames handed out
 
 -- Whatever history and frames the core has followed, it follows the history with these entries behind it, and these frames of
--- the session were handed out on the way (own).
+-- the session were handed out on the way.
 abbrev pub ExtendsHanding : {K D : Type 0} → ℕ → CoreState K D → List machine.Entry → List (List ℕ) → CoreState K D → Type 0
 ExtendsHanding n old entries frames new =
     (before : State) (history : List machine.Entry) (given : ℕ → List (List ℕ)) → Follows before history given old
     → Follows before (history ++ entries) (and_all_handed given n frames) new
 
--- the bytes are the first of those, and others may follow (own)
+-- the bytes are the first of those, and others may follow
 abbrev pub BeginsAs : List ℕ → List ℕ → Type 0
 BeginsAs some all = (others : List ℕ) × (some ++ others ≡ all)
 
--- all of the bytes were written, or a beginning of them (own)
+-- all of the bytes were written, or a beginning of them
 abbrev pub WritesOf : Bool → List ℕ → List ℕ → List ℕ → Type 0
 WritesOf true bytes old new = new ≡ old ++ bytes
 WritesOf false bytes old new = (written : List ℕ) × (new ≡ old ++ written) × BeginsAs written bytes
 
 -- ---- what was read
 
--- pieces, each with the moment at which it came (own)
+-- pieces, each with the moment at which it came
 abbrev pub Pieces : Type 0
 Pieces = List (ℕ × List ℕ)
 
--- the most bytes of a piece (own)
+-- the most bytes of a piece
 abbrev pub most_piece_bytes : ℕ
 most_piece_bytes = 4096
 
--- no piece is longer (own)
+-- no piece is longer
 abbrev pub ArePieces : Pieces → Type 0
 ArePieces pieces = All (λ p. length p.1 ≤ most_piece_bytes) pieces
 
--- the bytes of the pieces (own)
+-- the bytes of the pieces
 abbrev pub bytes_of : Pieces → List ℕ
 bytes_of pieces = flat_map (λ p. p.1) pieces
 
--- the stream events of a session: it opens at the last moment, and then its pieces come, each at its own (own)
+-- the stream events of a session: it opens at the last moment, and then its pieces come, each at its own
 abbrev pub events_of : ℕ → Pieces → List (ℕ × StreamEvent)
 events_of n pieces = (0, Opens) ∷ map (λ p. (p.0, Feed n p.1)) pieces
 
--- the clock told the moments of the pieces, one after another (own)
+-- the clock told the moments of the pieces, one after another
 abbrev pub TellsMoments : {C : Type 0} → (C → ℕ → C → Type 0) → C → Pieces → C → Type 0
 TellsMoments tells old [] new = new ≡ old
 TellsMoments {C} tells old (p ∷ pieces) new = (mid : C) × tells old p.0 mid × TellsMoments tells mid pieces new
 
 -- ---- why a session was closed
 
--- The cause that is told is that of the history. Where a write failed, the stream may have closed the session before (own).
+-- The cause that is told is that of the history. Where a write failed, the stream may have closed the session before.
 abbrev pub IsCauseIn : Cause → Option machine.Cause → Type 0
 IsCauseIn InputEnded closed = closed ≡ Some machine.InputEnded
 IsCauseIn ReadFault closed = closed ≡ Some machine.ReadFault
@@ -80,16 +80,16 @@ IsCauseIn Damaged closed = closed ≡ Some machine.Damaged
 IsCauseIn Memory closed = closed ≡ Some machine.Memory
 IsCauseIn Overrun closed = ⊥
 
--- one entry closes the session for this cause, at the last moment (own)
+-- one entry closes the session for this cause, at the last moment
 abbrev pub ClosesAfter : ℕ → machine.Cause → State → List machine.Entry → State → Type 0
 ClosesAfter n cause mid last new =
     (entry : machine.Entry) × (t : machine.Stepped) × (last ≡ entry ∷ []) × streams.IsEntryAt 0 mid (machine.Close n cause) entry t × (new ≡ t.state)
 
--- the session was closed by what was read, and no entry follows (own)
+-- the session was closed by what was read, and no entry follows
 abbrev pub ClosesWithin : ℕ → State → List machine.Entry → State → Type 0
 ClosesWithin n mid last new = (is_open mid n ≡ false) × (last ≡ []) × (new ≡ mid)
 
--- how the session was closed, by the cause that is told (own)
+-- how the session was closed, by the cause that is told
 abbrev pub ClosesFor : ℕ → Cause → State → List machine.Entry → State → Type 0
 ClosesFor n InputEnded mid last new = ClosesAfter n machine.InputEnded mid last new
 ClosesFor n ReadFault mid last new = ClosesAfter n machine.ReadFault mid last new
@@ -100,7 +100,7 @@ ClosesFor n Overrun mid last new = ⊥
 
 -- ---- a session
 
--- no write failed (own)
+-- no write failed
 abbrev pub is_written : Cause → Bool
 is_written InputEnded = true
 is_written ReadFault = true
@@ -111,14 +111,14 @@ is_written Memory = true
 
 -- What a history from an opening says of a session at its end, by the bytes that were written before it and behind it: all
 -- that the history sends the session was written, or a beginning of that where a write failed; and the history closes the
--- session for the cause that is told (own).
+-- session for the cause that is told.
 pub record EndsAs (n : ℕ) (cause : Cause) (schema : Schema) (database : Database) (history : List machine.Entry) (said said' : List ℕ) : Type 0 where
   pub reached : machine.Stepped
   pub legal : run (opening schema database) history ≡ Some reached
   pub written : WritesOf (is_written cause) (out n reached.sent) said said'
-  pub told : IsCauseIn cause (closed_by history n)
+  pub told : IsCauseIn cause (closed_by (opening schema database) history n)
 
--- What was done from the opening of the session to its closing (own).
+-- What was done from the opening of the session to its closing.
 pub record Served {K D C : Type 0} (tells : C → ℕ → C → Type 0) (n : ℕ) (old : CoreState K D) (from : IoState C) (cause : Cause) (new : CoreState K D) (to : IoState C) : Type 0 where
   -- what the core entered, what it handed out, and what was read
   pub entries : List machine.Entry
@@ -146,7 +146,7 @@ pub record Served {K D C : Type 0} (tells : C → ℕ → C → Type 0) (n : ℕ
       → EndsAs n cause schema database (history ++ entries) from.written to.written
 
 -- What the ends tell of a cause: the input ended only where the reader met its end, and a failure is counted where one is told
--- and nowhere else (own).
+-- and nowhere else.
 abbrev pub CauseMatchesCounts : Cause → Bool → ℕ → ℕ → ℕ → ℕ → Type 0
 CauseMatchesCounts InputEnded at_end reads reads' writes writes' = (at_end ≡ true) × (reads' ≡ reads) × (writes' ≡ writes)
 CauseMatchesCounts ReadFault at_end reads reads' writes writes' = (reads' ≡ one_more reads) × (writes' ≡ writes)

@@ -23,7 +23,7 @@ use std::sync::Wait;
 const PIECE_BYTES: usize = 4096;
 
 /// Serves one session: reads its stream in pieces of at most 4,096 bytes, each at the moment in milliseconds that the clock
-/// tells behind it, and writes what is sent to it before it reads on (own, over RFC 7047, 4).
+/// tells behind it, and writes what is sent to it before it reads on (our own, over RFC 7047, 4).
 ///
 /// It ends with the cause for which the history closed the session, and then all that was sent to it is written and flushed. With
 /// `WriteFault`, where the writer failed, a beginning of that is written, and the stream may have closed the session before.
@@ -119,7 +119,7 @@ fn serve_piece<K: Keeper + Drop, D: Draws + Drop, C: Clock>(
     feed_session(core, alloc, at, session, cutter, piece);
 }
 
-/// Why the session that was closed last was closed, where its stream closed it: by damage, or for want of memory.
+/// Why the session that was closed last was closed, where its stream closed it: by damage, or when out of memory.
 fn cause_of_closing(history: &VecDeque<Entry>) -> Cause
     ensures one_of { (result ≡ Cause.Damaged) ⊎ (result ≡ Cause.Memory) }
     ensures found { (front : List SpecEntry) (last : SpecEntry) → map entry_view history.now.items ≡ front ++ last ∷ [] → cause_view result ≡ stream_cause last.event }

@@ -1,10 +1,8 @@
 //! The OVSDB server: `ov_server [--schema FILE] [--db FILE] [--stdio]`. It serves one session on standard input and output.
 #![tactic(auto)]
 
-mod clock;
 mod database;
 mod draws;
-mod session;
 mod start;
 
 use crate::start::run;

@@ -1,16 +1,12 @@
-//! From the program's words to what it serves, and on to its end.
+//! From the program's arguments to the database that it serves.
 
 use crate::database::built_in_schema;
 use crate::draws::RandomDraws;
-use crate::session::{Ended, serve_over};
 use ov_base::Text;
 use ov_core::Schema;
-use ov_core::early::{KeepFault, Keeper};
 use ov_schema::{read_schema, text_of};
-use ov_store::{close_in_file, store_in_file, store_in_memory};
-use ov_words::{
-    Ending, Settings, ending_of_keeping, ending_of_schema, ending_of_words, read_words,
-};
+use ov_session::{serve_file, serve_memory};
+use ov_words::{Ending, Settings, ending_of_schema, ending_of_words, read_words};
 use sqlite::Start;
 use std::alloc::Global;
 use std::env;
@@ -20,7 +16,7 @@ use std::random::RandomSource;
 use std::rt::Files;
 use std::sync::Wait;
 
-/// Runs the program, and tells how it ends. Faults are looked for in the words, then in the schema, then in the database.
+/// Runs the program, and tells how it ends. Faults are looked for in the arguments, then in the schema, then in the database.
 /// `start` stands for what the database's file and its log hold.
 pub fn run<R: Wait + RandomSource, S: Start, I: Read + Drop, O: Write + Drop>(
     host: &HostRuntime,
@@ -44,13 +40,19 @@ pub fn run<R: Wait + RandomSource, S: Start, I: Read + Drop, O: Write + Drop>(
     let Ok(text) = text_of(host.alloc(), &schema) else {
         return Ending::Memory;
     };
+    let Ok(draws) = RandomDraws::seeded(rt) else {
+        return Ending::Database;
+    };
     match db {
-        None => serve_memory(rt, host.alloc(), text, schema, input, output),
-        Some(path) => serve_file(host, rt, path.as_str(), start, text, schema, input, output),
+        None => serve_memory(rt, host.alloc(), text, schema, draws, input, output),
+        Some(path) => {
+            let path = path.as_str();
+            serve_file(host, rt, path, start, text, schema, draws, input, output)
+        }
     }
 }
 
-/// What the words say.
+/// What the arguments say.
 fn settings<R: Env + AllocGlobal>(rt: &R, alloc: Global) -> Result<Settings, Ending> {
     let mut words = Vec::new(alloc);
     match env::args(rt) {
@@ -79,63 +81,5 @@ fn schema_of<R: Files>(rt: &R, alloc: Global, file: Option<Text>) -> Result<Sche
     match schema {
         Ok(schema) => Ok(schema),
         Err(fault) => Err(ending_of_schema(fault)),
-    }
-}
-
-/// Serves a database in memory.
-fn serve_memory<R: Wait + RandomSource, I: Read + Drop, O: Write + Drop>(
-    rt: &R,
-    alloc: Global,
-    text: Text,
-    schema: Schema,
-    input: I,
-    output: O,
-) -> Ending {
-    let store = store_in_memory(alloc, text);
-    match serve_store(rt, alloc, store, schema, input, output) {
-        Ok(ended) => ended.ending,
-        Err(ending) => ending,
-    }
-}
-
-/// Serves the database of the file at a path. Behind a session that was served the file has the whole, with no log beside it.
-fn serve_file<R: Wait + RandomSource, S: Start, I: Read + Drop, O: Write + Drop>(
-    host: &HostRuntime,
-    rt: &R,
-    path: &str,
-    start: S,
-    text: Text,
-    schema: Schema,
-    input: I,
-    output: O,
-) -> Ending {
-    let store = store_in_file(host, path, text, start);
-    match serve_store(rt, host.alloc(), store, schema, input, output) {
-        Ok(Ended { ending, keeper }) => {
-            // A refused start changes nothing. Where the closing fails nothing is lost: the two belong together, as after a kill.
-            if ending == Ending::InputEnded || ending == Ending::Streams {
-                let _ = close_in_file(host, path, keeper);
-            }
-            ending
-        }
-        Err(ending) => ending,
-    }
-}
-
-/// Serves the database of a store, where it could be opened and the runtime gives a random seed.
-fn serve_store<R: Wait + RandomSource, K: Keeper + Drop, I: Read + Drop, O: Write + Drop>(
-    rt: &R,
-    alloc: Global,
-    store: Result<K, KeepFault>,
-    schema: Schema,
-    input: I,
-    output: O,
-) -> Result<Ended<K>, Ending> {
-    let Ok(draws) = RandomDraws::seeded(rt) else {
-        return Err(Ending::Database);
-    };
-    match store {
-        Ok(keeper) => Ok(serve_over(rt, alloc, keeper, schema, draws, input, output)),
-        Err(fault) => Err(ending_of_keeping(fault)),
     }
 }

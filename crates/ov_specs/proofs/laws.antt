@@ -7,10 +7,12 @@ pub mod Inserting
 pub mod Clashing
 pub mod ReadingBack
 pub mod OfKinds
+pub mod OfColumns
 pub mod DatumOrder
 pub mod Sameness
 pub mod SchemaLaws
 pub mod Expanding
+pub mod Histories
 pub mod Turns
 pub mod LineKeys
 pub mod Truths

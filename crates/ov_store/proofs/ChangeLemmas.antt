@@ -21,7 +21,7 @@ use Rattle.sqlite_rules.specs.Cast.{cast_row}
 use Rattle.sqlite.specs.State.{State}
 use Rattle.ov_specs.specs.rows.Lines.{LineKey, LineBody, line_cmp}
 use Rattle.ov_specs.proofs.laws.LineKeys.{key_total, key_exact, tied_same}
-use Rattle.ov_store.specs.Tables.{line_table}
+use Rattle.ov_store.specs.Tables.{line_table, HasOurTables}
 use Rattle.ov_store.specs.Format.{IsLine, IsMeta, entry, stored_lines}
 use Rattle.ov_store.specs.Changing.{IsNumbered, IsStored, after_update}
 use Rattle.ov_store.proofs.EntryLemmas.{same_cond}
@@ -154,7 +154,7 @@ module _ (t i v b : List ℕ) (named : IsUtf8 t) (id_sixteen : length i ≡ 16) 
     updated_stored =
         let all = all_ready (put_for d.rows) rest news fresh ready in
         record {
-          format = record { schema = d.schema; meta = subst (IsMeta text) (sym d.meta) stored.format.meta; lines = subst (AllByRecursion IsLine) (sym rows_are) all.lines };
+          format = record { schema = subst HasOurTables (sym d.schema) stored.format.schema; meta = subst (IsMeta text) (sym d.meta) stored.format.meta; lines = subst (AllByRecursion IsLine) (sym rows_are) all.lines };
           numbered = subst IsNumbered (sym rows_are) all.numbered;
         }
 

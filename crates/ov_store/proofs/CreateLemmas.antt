@@ -13,7 +13,8 @@ use Rattle.sqlite.specs.Effect.{Database}
 use Rattle.sqlite.specs.State.{State, HasCleanDisk, Survives, Writes, Executes}
 use Rattle.sqlite.proofs.StateLemmas.{survives_then}
 use Rattle.sqlite.proofs.Callers.{IsPlain, command_of, statement_of, runs_as}
-use Rattle.ov_store.specs.Tables.{meta_table, line_table, no_schema, meta_schema, line_schema, create_meta, create_line}
+use Rattle.ov_store.specs.Tables.{meta_table, line_table, no_schema, meta_schema, create_meta, create_line}
+use Rattle.ov_store.proofs.TableLemmas.{our_schema}
 use Rattle.std.specs.List.{AllByRecursion}
 use Rattle.ov_store.specs.Format.{IsLine}
 use Rattle.ov_store.specs.Changing.{IsNumbered}
@@ -56,11 +57,11 @@ module _ (text : List ℕ) (before : Schema) (table : Table) (command : command_
 pub creates_meta : (old new : State) (count : ℕ) → old.now.schema ≡ no_schema → Executes create_meta [] old new (Ok count) → Creates no_schema meta_schema 0 old new
 creates_meta = creates create_meta no_schema meta_table meta_is.0 meta_is.1 meta_is.2 meta_plain refl
 
-made_line : created meta_schema (record line_table { tree = 0 }) ≡ line_schema
+made_line : created meta_schema (record line_table { tree = 0 }) ≡ our_schema [] [] []
 unfolding digits
 made_line = refl
 
-pub creates_line : (old new : State) (count : ℕ) → old.now.schema ≡ meta_schema → Executes create_line [] old new (Ok count) → Creates meta_schema line_schema 2 old new
+pub creates_line : (old new : State) (count : ℕ) → old.now.schema ≡ meta_schema → Executes create_line [] old new (Ok count) → Creates meta_schema (our_schema [] [] []) 2 old new
 creates_line old new count has ran = subst (λ s. Creates meta_schema s 2 old new) made_line (creates create_line meta_schema (record line_table { tree = 0 }) line_is.0 line_is.1 line_is.2 line_plain refl old new count has ran)
 
 -- what is filled is a new database

@@ -1,20 +1,32 @@
 -- From a store of a connection to what its files hold.
-use Rattle.std.proofs.Common.{◌≡◌, ◌≢◌, ◌∙◌, ◌⊎◌, inl, inr, ℕ, List, ap, sym, length, arith, subst}
+use Rattle.std.proofs.Common.{◌≡◌, ◌⊎◌, inl, inr, ℕ, List, ap, sym, length, arith, subst}
 use Rattle.sqlite.specs.Store.{Ghosts}
 use Rattle.sqlite.specs.Effect.{Database}
 use Rattle.sqlite.specs.Schema.{Schema}
-use Rattle.sqlite.specs.State.{HasCleanDisk, Opens, IsLive}
+use Rattle.sqlite.specs.State.{State, HasCleanDisk, Opens, IsLive}
 use Rattle.sqlite.specs.Held.{Held as Connected, state}
 use Rattle.sqlite.specs.Start.{FindsIn}
 use Rattle.sqlite.specs.Files.{AreFoundIn}
 use Rattle.sqlite_wal.specs.Recovery.{Image}
 use Rattle.ov_specs.specs.rows.Lines.{Contents}
-use Rattle.ov_store.specs.Tables.{no_schema, line_schema}
+use Rattle.ov_store.specs.Tables.{no_schema, HasOurTables}
 use Rattle.ov_store.specs.StoreState.{StoreState, MayFind}
-use Rattle.ov_store.specs.Finding.{new_contents, IsNewStore, IsStoreOf, HasNoTable, IsStoredIn}
+use Rattle.ov_store.specs.Finding.{new_contents, IsNewStore, IsStoreOf, HasNoTable, IsNobodyElses, IsStoredIn}
 
-no_tables : (schema : Schema) → schema ≡ no_schema → schema ≢ line_schema
-no_tables schema blank tables = let same = ap (λ (s : Schema). length s.tables) (sym blank ∙ tables) in omega (arith, same)
+pub no_tables : (schema : Schema) → schema ≡ no_schema → ¬ HasOurTables schema
+no_tables schema blank has = let same = ap length ((rw blank at has).tables) in omega (arith, same)
+
+-- what was opened and has a schema that passes is nobody else's
+pub nobody_elses : (seen : Image) (log db : List ℕ) (s : State) → Opens s → IsLive s → AreFoundIn seen s.committed.trees → seen.log ≡ log → seen.db ≡ db
+    → (schema : Schema) → schema ≡ s.now.schema → (schema ≡ no_schema) ⊎ HasOurTables schema → IsNobodyElses (record { log = log; db = db })
+nobody_elses seen log db s opens live found is_log is_db schema is ours =
+    let image : seen ≡ record { log = log; db = db } = λ i. record { log = is_log i; db = is_db i } in
+    record {
+      db = s.now;
+      sound = (live opens.is_open).0;
+      found = subst (λ (i : Image). AreFoundIn i s.now.trees) image (subst (λ (d : Database). AreFoundIn seen d.trees) (sym opens.clean) found);
+      ours = subst (λ (it : Schema). (it ≡ no_schema) ⊎ HasOurTables it) is ours;
+    }
 
 module _ {S : Type 0} (g : Ghosts S) where
   -- a store of a connection that had no table is new

@@ -11,15 +11,15 @@ use Rattle.ov_keeper.specs.Keeping.{LeavesNoMore, LeavesChanged, MayLeaveChanged
 use Rattle.ov_keeper.specs.declared.fault.KeepFault.{KeepFault}
 use Rattle.ov_keeper.specs.declared.fault.KeepFault.TheVariants.{Memory, Device, NotOurs, Format, TooLarge}
 use Rattle.ov_store.specs.Format.{held, stored_schema, stored_lines, IsMeta}
-use Rattle.ov_store.specs.Changing.{MayBeStored, Stores, IsCommitImage}
-use Rattle.ov_store.specs.StoreState.{MayFind}
+use Rattle.ov_store.specs.Changing.{MayBeStored, KeepsOthers, Stores, IsCommitImage}
+use Rattle.ov_store.specs.StoreState.{MayFind, LeavesOthers}
 use Rattle.ov_store.specs.Making.{IsNew}
 use Rattle.ov_store.proofs.OpenLemmas.{schema_is}
 use Rattle.std.specs.FinMap.{empty}
 use Rattle.sqlite.proofs.StateLemmas.{survives_then}
 use Rattle.ov_store.specs.declared.write.WriteError.{WriteError}
 use Rattle.ov_store.specs.WriteError.{IsBefore}
-use Rattle.ov_store.proofs.RunLemmas.{nothing_then, survives_as}
+use Rattle.ov_store.proofs.RunLemmas.{nothing_then, survives_as, others_now}
 
 pub is_zero : (n : ℕ) → true ≡ (n == 0) → n ≡ 0
 is_zero n e = grind (arith, nat_tests)
@@ -69,13 +69,34 @@ module _ {S : Type 0} (g : Ghosts S) (settled : (s : S) (db : Trees) → IsTrue 
   ]
 
   -- a call that was refused, and left the connection open
-  kept_left : (old mid new : Connected S) → KeepsCommit (state g old) (state g mid) → IsUnchanged (state g mid) (state g new) → (db : Trees) → g.recovers new.store db → g.recovers old.store db
+  pub kept_left : (old mid new : Connected S) → KeepsCommit (state g old) (state g mid) → IsUnchanged (state g mid) (state g new) → (db : Trees) → g.recovers new.store db → g.recovers old.store db
   kept_left old mid new kept same db found =
       let before : db ≡ (g.view old.store).committed = settled new.store db same.0.is_open found ∙ ap (λ (d : Database). d.trees) (same.0.committed_is ∙ kept.committed same.0.was_open) in
       subst (g.recovers old.store) (sym before) (stays old.store (kept.was_open same.0.was_open))
 
   pub kept_found : (old mid new : Connected S) → KeepsCommit (state g old) (state g mid) → IsUnchanged (state g mid) (state g new) → LeavesNoMore (MayFind g old) (MayFind g new)
   kept_found old mid new kept same h found = (found.0, kept_left old mid new kept same found.0 found.1, found.2)
+
+  -- what is beside the lines, after each of these
+  others_from : (old : Connected S) (trees : Trees) → IsTrue (state g old).is_open → (state g old).now ≡ (state g old).committed → KeepsOthers old.schema (state g old).now.trees trees
+      → (before : Trees) × (state g old).may_leave before × KeepsOthers old.schema before trees
+  others_from old trees up same kept =
+      ((g.view old.store).committed, stays old.store up, subst (λ (d : Database). KeepsOthers old.schema d.trees trees) same kept)
+
+  pub others_same : (old new : Connected S) → ((db : Trees) → g.recovers new.store db → g.recovers old.store db) → LeavesOthers g old new
+  others_same old new found trees here = (trees, found trees here, others_now old.schema trees)
+
+  pub others_stored : (text : List ℕ) (f : Lines → Lines) (old new : Connected S) → Stores text f (state g old) (state g new) → LeavesOthers g old new
+  others_stored text f old new done trees here =
+      let is : (state g new).now.trees ≡ trees = ap (λ (d : Database). d.trees) done.is_settled ∙ sym (settled new.store trees done.is_open here) in
+      others_from old trees done.was_open done.was_settled (subst (KeepsOthers old.schema (state g old).now.trees) is done.others)
+
+  pub others_crashed : (text : List ℕ) (f : Lines → Lines) (old new : Connected S) → HasCleanDisk (state g new) → MayBeStored text (state g old)
+      → Survives (state g old) (state g new) (λ trees. (text : List ℕ) → MayBeStored text (state g old) → IsCommitImage f (state g old) trees) → LeavesOthers g old new
+  others_crashed text f old new clean may s trees here = elim (s.crash clean trees here) [
+    | inl before ↦ (trees, before, others_now old.schema trees)
+    | inr made ↦ let it = made text may in others_from old trees it.was_open it.was_settled it.others
+  ]
 
   -- a write that was refused: only a failed device may leave what its commit writes
   pub refused_left : (old mid new : Connected S) (P : Trees → Type 0) (fault : KeepFault) (failure : WriteError) → (IsBefore failure → Survives (state g old) (state g mid) (λ _. ⊥)) → Survives (state g old) (state g mid) P
@@ -96,6 +117,9 @@ module _ {S : Type 0} (g : Ghosts S) (settled : (s : S) (db : Trees) → IsTrue 
   -- a call that commits nothing
   pub survives_found : (old new : Connected S) → HasCleanDisk (state g new) → Survives (state g old) (state g new) (λ _. ⊥) → LeavesNoMore (MayFind g old) (MayFind g new)
   survives_found old new clean s h found = elim (s.crash clean found.0 found.1) [ inl before ↦ (found.0, before, found.2) | inr none ↦ absurd none ]
+
+  pub survives_left : (old new : Connected S) → HasCleanDisk (state g new) → Survives (state g old) (state g new) (λ _. ⊥) → (db : Trees) → g.recovers new.store db → g.recovers old.store db
+  survives_left old new clean s db found = elim (s.crash clean db found) [ inl before ↦ before | inr none ↦ absurd none ]
 
   pub found_is : (c : Connected S) → IsTrue (state g c).is_open → (state g c).now ≡ (state g c).committed → (contents : Contents) → MayFind g c contents → contents ≡ held (state g c).now.trees
   found_is c up same contents found = found.2 ∙ ap held (settled c.store found.0 up found.1) ∙ sym (ap (λ (d : Database). held d.trees) same)

@@ -1,5 +1,5 @@
 -- Rows with one key are one line, so that the order in which they are read does not matter.
-use Rattle.std.proofs.Common.{◌≡◌, ◌⊎◌, inl, inr, ℕ, ℤ, List, [], ◌∷◌, map, cond, Bool, true, false, not, ◌&&◌, ◌||◌, Option, Some, None, refl, sym, ap, ap₂, subst, ◌∙◌}
+use Rattle.std.proofs.Common.{◌≡◌, ◌⊎◌, inl, inr, ℕ, ℤ, List, [], ◌∷◌, map, drop, cond, Bool, true, false, not, ◌&&◌, ◌||◌, Option, Some, None, refl, sym, ap, ap₂, subst, ◌∙◌}
 use Rattle.std.specs.List.{AllByRecursion, list_any}
 use Rattle.std.specs.List.Sorted.{IsPermutation}
 use Rattle.std.proofs.lemmas.List.Sorted.{IsPermutation-sym, IsPermutation-map}
@@ -25,7 +25,8 @@ use Rattle.sqlite_trees.specs.Tree.{rowid}
 use Rattle.sqlite.specs.Effect.{Database, IsDatabase}
 use Rattle.ov_specs.specs.rows.Lines.{LineKey, LineBody, line_cmp}
 use Rattle.ov_specs.proofs.laws.LineKeys.{key_total, key_exact, tied_same}
-use Rattle.ov_store.specs.Tables.{line_schema}
+use Rattle.ov_store.specs.Tables.{HasOurTables}
+use Rattle.ov_store.proofs.TableLemmas.{our_schema, schema_is}
 use Rattle.ov_store.specs.Format.{IsLine, entry, stored_lines}
 use Rattle.ov_store.specs.Changing.{IsNumbered}
 use Rattle.ov_store.specs.Reading.{line_selected}
@@ -90,16 +91,17 @@ any_none p (x ∷ xs) h =
     let both = elim (p x) as (λ b. (b || list_any p xs) ≡ false → (b ≡ false) × (list_any p xs ≡ false)) [ true ↦ λ n. absurd cc | false ↦ λ n. (refl, n) ] h in
     (both.0, any_none p xs both.1)
 
-no_clash : (b : Bool) → (not b && true) ≡ true → b ≡ false
-no_clash true h = absurd cc
-no_clash false h = refl
+no_clash : (b c : Bool) → (not b && c) ≡ true → b ≡ false
+no_clash true c h = absurd cc
+no_clash false c h = refl
 
 -- no two rows of `line` have one key and two numbers
-unique : (db : Database) → db.schema ≡ line_schema → IsDatabase db
+unique : (db : Database) → HasOurTables db.schema → IsDatabase db
     → AllByRecursion (λ r. AllByRecursion (λ s. (agree (record { digits = 0 }) (1 ∷ 2 ∷ []) s (1 ∷ 2 ∷ []) r && differ (rowid s) (rowid r)) ≡ false) (db.trees 2)) (db.trees 2)
 unique db has sound =
-    let keeps : Keeps Unique line_schema db.trees = subst (λ schema. Keeps Unique schema db.trees) has (sound.obeys.rules Unique) in
-    all_weaker _ _ (λ r pass. any_none _ (db.trees 2) (no_clash _ pass)) (db.trees 2) keeps.1.0
+    let schema = our_schema (drop 2 db.schema.tables) (drop 2 db.schema.indexes) db.schema.views in
+    let keeps : Keeps Unique schema db.trees = subst (λ s. Keeps Unique s db.trees) (schema_is db.schema has) (sound.obeys.rules Unique) in
+    all_weaker _ _ (λ r pass. any_none _ (db.trees 2) (no_clash _ _ pass)) (db.trees 2) keeps.1.0
 
 text_self : (v w : Value) (t : List ℕ) → v ≡ Text t → w ≡ Text t → is_true (binary (Compare Eq Binary) v w) ≡ true
 text_self v w t e f = rw (e, f) (equal_texts t t ∙ (eq_by_cmp_equiv nat_list_cmp_total).refl t)
@@ -160,7 +162,7 @@ one_key : (rows : List Row) → AllByRecursion IsLine rows → (r : Row) → IsL
 one_key rows lines r l apart one = all_three IsLine (Apart r) (OneNumber r) (OneKey r) (λ s m a n. same_key r s l m a n) rows lines apart one
 
 -- the lines that were read are those that are stored
-pub lines_same : (db : Database) (read : List Row) → db.schema ≡ line_schema → IsDatabase db → AllByRecursion IsLine (db.trees 2) → IsNumbered (db.trees 2) → IsPermutation (map line_selected (db.trees 2)) read
+pub lines_same : (db : Database) (read : List Row) → HasOurTables db.schema → IsDatabase db → AllByRecursion IsLine (db.trees 2) → IsNumbered (db.trees 2) → IsPermutation (map line_selected (db.trees 2)) read
     → stored_lines (db.trees 2) ≡ from_entries (map entry read)
 lines_same db read has sound lines numbered same =
     let rows = db.trees 2 in

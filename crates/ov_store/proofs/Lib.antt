@@ -1,3 +1,4 @@
+pub mod TableLemmas
 pub mod Texts
 pub mod EntryLemmas
 pub mod ResultLemmas

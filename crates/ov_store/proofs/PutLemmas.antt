@@ -15,6 +15,7 @@ use Rattle.sqlite_rules.specs.Edit.{is_taken, are_fresh}
 use Rattle.sqlite.specs.State.{State}
 use Rattle.ov_specs.specs.rows.Lines.{LineKey, LineBody, line_cmp}
 use Rattle.ov_specs.proofs.laws.LineKeys.{key_total, key_exact}
+use Rattle.ov_store.specs.Tables.{HasOurTables}
 use Rattle.ov_store.specs.Format.{IsLine, IsMeta, entry, stored_lines}
 use Rattle.ov_store.specs.Changing.{IsNumbered, IsStored}
 use Rattle.ov_store.proofs.InsertLemmas.{line_row, Inserts}
@@ -102,7 +103,7 @@ module _ (t i v b : List ℕ) (named : IsUtf8 t) (id_sixteen : length i ≡ 16) 
   inserted_stored text old new stored d =
       let row = line_row d.number t i v b in
       record {
-        format = record { schema = d.schema; meta = subst (IsMeta text) (sym d.meta) stored.format.meta; lines = subst (AllByRecursion IsLine) (sym d.rows) (all-put_row IsLine _ _ (new_line d.number) stored.format.lines) };
+        format = record { schema = subst HasOurTables (sym d.schema) stored.format.schema; meta = subst (IsMeta text) (sym d.meta) stored.format.meta; lines = subst (AllByRecursion IsLine) (sym d.rows) (all-put_row IsLine _ _ (new_line d.number) stored.format.lines) };
         numbered = subst IsNumbered (sym d.rows) (put_numbered row (old.now.trees 2) (not_taken (old.now.trees 2) row d.fresh) stored.numbered);
       }
 

@@ -1,5 +1,5 @@
 -- What a query gives, and that it keeps the commit.
-use Rattle.std.proofs.Common.{◌≡◌, ◌⊎◌, inl, inr, ℕ, List, [], ◌∷◌, map, refl, sym, ap, subst, ◌∙◌, Option, Some, None, IsTrue, true}
+use Rattle.std.proofs.Common.{◌≡◌, ◌⊎◌, inl, inr, ℕ, List, [], ◌∷◌, map, drop, refl, sym, ap, subst, ◌∙◌, Option, Some, None, IsTrue, true}
 use Rattle.std.specs.List.{flat_map}
 use Rattle.std.specs.List.Sorted.{IsPermutation}
 use Rattle.std.proofs.lemmas.List.Sorted.{IsPermutation-map}
@@ -12,7 +12,8 @@ use Rattle.sqlite.specs.State.{State, Shown, IsRolledBack, KeepsCommit, ShowsRow
 use Rattle.sqlite_resolve.specs.declared.compiled.Compiled.{Compiled}
 use Rattle.sqlite_schema.specs.declared.command.Returning.{Returning}
 use Rattle.sqlite.proofs.Callers.{reads_as}
-use Rattle.ov_store.specs.Tables.{line_schema, select_text, meta_select_text}
+use Rattle.ov_store.specs.Tables.{HasOurTables, select_text, meta_select_text}
+use Rattle.ov_store.proofs.TableLemmas.{our_schema, schema_is}
 use Rattle.ov_store.specs.Reading.{line_selected, meta_selected}
 use Rattle.ov_store.specs.Querying.{IsAsBefore}
 use Rattle.ov_store.proofs.Texts.{query, select_is, select_plain, meta_query, meta_select_is, meta_select_plain}
@@ -23,9 +24,13 @@ each : {X Y : Type 0} (f : X → Y) (xs : List X) → flat_map (λ x. f x ∷ []
 each f [] = refl
 each f (x ∷ xs) = ap (λ ys. f x ∷ ys) (each f xs)
 
-pub selects : (old new : State) (rows : List Row) → old.now.schema ≡ line_schema → Shown select_text [] old new rows → IsPermutation (map line_selected (old.now.trees 2)) rows
+pub selects : (old new : State) (rows : List Row) → HasOurTables old.now.schema → Shown select_text [] old new rows → IsPermutation (map line_selected (old.now.trees 2)) rows
 selects old new rows has h =
-    let read = reads_as select_text [] old new line_schema has _ select_is.0 select_plain select_is.1 rows h in
+    let tables = drop 2 old.now.schema.tables in
+    let indexes = drop 2 old.now.schema.indexes in
+    let views = old.now.schema.views in
+    let is = select_is tables indexes views in
+    let read = reads_as select_text [] old new (our_schema tables indexes views) (schema_is old.now.schema has) _ is.0 (select_plain tables indexes views) is.1 rows h in
     let db = old.now.trees in
     let a : IsAnswer query (overlay db []) [] rows = read.answer Null in
     let kept : a.kept ≡ map (λ r. ([], line_selected r)) (db 2) = a.distinct ∙ ap (map (output query)) (a.grouped ∙ each (λ r. [] ∷ r ∷ []) (db 2)) ∙ map_then (λ r. [] ∷ r ∷ []) (output query) (db 2) in
@@ -33,9 +38,13 @@ selects old new rows has h =
     IsPermutation-map (λ (o : Output). o.1) _ _ (subst (λ k. IsPermutation k a.ordered) kept a.same) in
     subst (λ xs. IsPermutation xs rows) (map_then (λ r. ([], line_selected r)) (λ (o : Output). o.1) (db 2)) (subst (IsPermutation _) (sym a.shown) same)
 
-pub selects_meta : (old new : State) (rows : List Row) → old.now.schema ≡ line_schema → Shown meta_select_text [] old new rows → IsPermutation (map meta_selected (old.now.trees 0)) rows
+pub selects_meta : (old new : State) (rows : List Row) → HasOurTables old.now.schema → Shown meta_select_text [] old new rows → IsPermutation (map meta_selected (old.now.trees 0)) rows
 selects_meta old new rows has h =
-    let read = reads_as meta_select_text [] old new line_schema has _ meta_select_is.0 meta_select_plain meta_select_is.1 rows h in
+    let tables = drop 2 old.now.schema.tables in
+    let indexes = drop 2 old.now.schema.indexes in
+    let views = old.now.schema.views in
+    let is = meta_select_is tables indexes views in
+    let read = reads_as meta_select_text [] old new (our_schema tables indexes views) (schema_is old.now.schema has) _ is.0 (meta_select_plain tables indexes views) is.1 rows h in
     let db = old.now.trees in
     let a : IsAnswer meta_query (overlay db []) [] rows = read.answer Null in
     let kept : a.kept ≡ map (λ r. ([], meta_selected r)) (db 0) = a.distinct ∙ ap (map (output meta_query)) (a.grouped ∙ each (λ r. [] ∷ r ∷ []) (db 0)) ∙ map_then (λ r. [] ∷ r ∷ []) (output meta_query) (db 0) in

@@ -16,6 +16,7 @@ use Rattle.sqlite_rules.specs.Edit.{id_in, without_all}
 use Rattle.sqlite_rules.specs.Calls.{ids_of}
 use Rattle.sqlite.specs.State.{State}
 use Rattle.ov_specs.specs.rows.Lines.{line_cmp}
+use Rattle.ov_store.specs.Tables.{HasOurTables}
 use Rattle.ov_store.specs.Format.{IsLine, entry, stored_lines}
 use Rattle.ov_store.specs.Changing.{IsNumbered, IsStored}
 use Rattle.ov_store.proofs.RowLemmas.{passes, passes_key, without_all_filter, same_number}
@@ -135,7 +136,7 @@ pub deleted_stored : (text t i : List ℕ) (old new : State) → IsStored text o
 deleted_stored text t i old new stored d =
     let left = deleted_rows t i old new stored.format.lines stored.numbered d in
     record {
-      format = record { schema = d.schema; meta = subst (Rattle.ov_store.specs.Format.IsMeta text) (sym d.meta) stored.format.meta; lines = subst (AllByRecursion IsLine) (sym left) (all-filter _ _ _ stored.format.lines) };
+      format = record { schema = subst HasOurTables (sym d.schema) stored.format.schema; meta = subst (Rattle.ov_store.specs.Format.IsMeta text) (sym d.meta) stored.format.meta; lines = subst (AllByRecursion IsLine) (sym left) (all-filter _ _ _ stored.format.lines) };
       numbered = subst IsNumbered (sym left) (filter_numbered _ _ stored.numbered);
     }
 

@@ -1,5 +1,5 @@
 -- Runs of changes.
-use Rattle.std.proofs.Common.{◌≡◌, ℕ, List, [], false, refl, sym, ap, ◌∙◌, arith, IsTrue, inl, inr, ◌⊎◌, Result, Ok, Err, OnOk, IfOk, IfErr, subst}
+use Rattle.std.proofs.Common.{◌≡◌, ℕ, List, [], ◌∷◌, false, refl, sym, ap, ◌∙◌, arith, IsTrue, inl, inr, ◌⊎◌, Result, Ok, Err, OnOk, IfOk, IfErr, subst}
 use Rattle.sqlite.specs.State.{State, HasCleanDisk, Survives, KeepsCommit, IsUnchanged, IsRolledBack, ExecutesInside, IsNotRun}
 use Rattle.sqlite.specs.Held.{Held as Connected, state}
 use Rattle.sqlite.specs.Store.{Ghosts}
@@ -11,10 +11,29 @@ use Rattle.sqlite.specs.declared.error.Error.{Error}
 use Rattle.sqlite_trees.specs.Tree.{Trees}
 use Rattle.sqlite.proofs.StateLemmas.{survives_then}
 use Rattle.ov_specs.specs.rows.Lines.{Lines}
-use Rattle.ov_store.specs.Changing.{IsStored, MayBeStored, Makes}
+use Rattle.std.specs.List.{AllByRecursion}
+use Rattle.sqlite.specs.Schema.{Schema}
+use Rattle.sqlite_trees.proofs.ListLemmas.{all_weaker, all_both}
+use Rattle.ov_store.specs.Changing.{IsStored, MayBeStored, KeepsOthers, Makes}
+
+pub others_now : (schema : Schema) (trees : Trees) → KeepsOthers schema trees trees
+others_now schema trees = record { tables = all_weaker _ _ (λ t here apart. refl) schema.tables (all_here schema.tables); trees = λ t apart free. refl }
+  where
+    all_here : {X : Type 0} (xs : List X) → AllByRecursion (λ _. Unit {0}) xs
+    all_here [] = tt
+    all_here (x ∷ xs) = (tt, all_here xs)
+
+pub others_then : (schema : Schema) (a b c : Trees) → KeepsOthers schema a b → KeepsOthers schema b c → KeepsOthers schema a c
+others_then schema a b c one two = record {
+  tables = all_both _ _ _ (λ t first then apart. then apart ∙ first apart) schema.tables one.tables two.tables;
+  trees = λ t apart free. two.trees t apart free ∙ one.trees t apart free;
+}
+
+pub others_after : (a b c : State) → b.now.schema ≡ a.now.schema → KeepsOthers a.now.schema a.now.trees b.now.trees → KeepsOthers b.now.schema b.now.trees c.now.trees → KeepsOthers a.now.schema a.now.trees c.now.trees
+others_after a b c same one two = others_then a.now.schema a.now.trees b.now.trees c.now.trees one (subst (λ s. KeepsOthers s b.now.trees c.now.trees) same two)
 
 pub makes_none : (text : List ℕ) (f : Lines → Lines) (s : State) → IsTrue s.in_transaction → MayBeStored text s → ((m : Lines) → f m ≡ m) → Makes text f s s
-makes_none text f s mode stored same = record { mode = mode; opens = λ up. up; stored = stored; lines_are = sym (same _); meta = refl; committed = refl }
+makes_none text f s mode stored same = record { mode = mode; opens = λ up. up; stored = stored; lines_are = sym (same _); meta = refl; schema = refl; others = others_now s.now.schema s.now.trees; committed = refl }
 
 pub makes_then : (text : List ℕ) (f g h : Lines → Lines) (a b c : State) → ((m : Lines) → h m ≡ g (f m)) → Makes text f a b → Makes text g b c → Makes text h a c
 makes_then text f g h a b c is one two = record {
@@ -23,6 +42,8 @@ makes_then text f g h a b c is one two = record {
   stored = two.stored;
   lines_are = two.lines_are ∙ ap g one.lines_are ∙ sym (is _);
   meta = two.meta ∙ one.meta;
+  schema = two.schema ∙ one.schema;
+  others = others_after a b c one.schema one.others two.others;
   committed = two.committed ∙ one.committed;
 }
 

@@ -12,7 +12,12 @@ use Rattle.sqlite.specs.Compile.{table_defined_by}
 use Rattle.sqlite_tied.specs.Compute.{everything}
 use Rattle.sqlite.specs.Listing.{understood, reads_listing}
 use Rattle.sqlite.proofs.Callers.{IsPlain, command_of, statement_of}
-use Rattle.ov_store.specs.Tables.{meta_table, line_table, no_schema, meta_schema, line_schema, create_meta, create_line, delete_text, update_text, insert_text, select_text, meta_insert_text, meta_select_text}
+use Rattle.sqlite.specs.Table.{Table}
+use Rattle.sqlite.specs.Schema.{Schema}
+use Rattle.sqlite_schema.specs.declared.schema.Index.{Index}
+use Rattle.sqlite_schema.specs.declared.schema.View.{View}
+use Rattle.ov_store.proofs.TableLemmas.{our_schema}
+use Rattle.ov_store.specs.Tables.{meta_table, line_table, no_schema, meta_schema, create_meta, create_line, delete_text, update_text, insert_text, select_text, meta_insert_text, meta_select_text}
 
 abbrev pub insert_terms : List Term
 insert_terms = lit Null ∷ col 0 0 ∷ col 0 1 ∷ col 0 2 ∷ col 0 3 ∷ []
@@ -65,38 +70,6 @@ pub line_is : (command_of (understood meta_schema create_line) ≡ CreateTable) 
 unfolding understood everything
 line_is = (refl, refl, refl)
 
-pub insert_is : command_of (understood line_schema insert_text) ≡ Insert 1 (Values insert_terms 5)
-unfolding understood everything
-insert_is = refl
-
-pub select_is : (command_of (understood line_schema select_text) ≡ Select (record { lets = []; body = query }) (codes "rowid" ∷ codes "tbl" ∷ codes "id" ∷ codes "ver" ∷ codes "body" ∷ [])) × (reads_listing line_schema select_text ≡ false)
-unfolding understood everything
-select_is = (refl, refl)
-
-pub delete_is : command_of (understood line_schema delete_text) ≡ Delete 1 (record { lets = []; body = gone })
-unfolding understood everything
-delete_is = refl
-
-pub update_is : command_of (understood line_schema update_text) ≡ Update 1 (record { lets = []; body = changed })
-unfolding understood everything
-update_is = refl
-
-pub update_plain : IsPlain (understood line_schema update_text)
-unfolding understood everything
-update_plain = (refl, refl)
-
-pub insert_plain : IsPlain (understood line_schema insert_text)
-unfolding understood everything
-insert_plain = (refl, refl)
-
-pub delete_plain : IsPlain (understood line_schema delete_text)
-unfolding understood everything
-delete_plain = (refl, refl)
-
-pub select_plain : IsPlain (understood line_schema select_text)
-unfolding understood everything
-select_plain = (refl, refl)
-
 abbrev pub meta_terms : List Term
 meta_terms = lit Null ∷ col 0 0 ∷ col 0 1 ∷ []
 
@@ -113,18 +86,54 @@ meta_query = record {
   offset = lit (Int (pos 0));
 }
 
-pub meta_insert_is : command_of (understood line_schema meta_insert_text) ≡ Insert 0 (Values meta_terms 3)
-unfolding understood everything
-meta_insert_is = refl
+module _ (tables : List Table) (indexes : List Index) (views : List View) where
+  abbrev schema : Schema
+  schema = our_schema tables indexes views
 
-pub meta_insert_plain : IsPlain (understood line_schema meta_insert_text)
-unfolding understood everything
-meta_insert_plain = (refl, refl)
+  pub insert_is : command_of (understood schema insert_text) ≡ Insert 1 (Values insert_terms 5)
+  unfolding understood everything
+  insert_is = refl
 
-pub meta_select_is : (command_of (understood line_schema meta_select_text) ≡ Select (record { lets = []; body = meta_query }) (codes "k" ∷ codes "v" ∷ [])) × (reads_listing line_schema meta_select_text ≡ false)
-unfolding understood everything
-meta_select_is = (refl, refl)
+  pub select_is : (command_of (understood schema select_text) ≡ Select (record { lets = []; body = query }) (codes "rowid" ∷ codes "tbl" ∷ codes "id" ∷ codes "ver" ∷ codes "body" ∷ [])) × (reads_listing schema select_text ≡ false)
+  unfolding understood everything
+  select_is = (refl, refl)
 
-pub meta_select_plain : IsPlain (understood line_schema meta_select_text)
-unfolding understood everything
-meta_select_plain = (refl, refl)
+  pub delete_is : command_of (understood schema delete_text) ≡ Delete 1 (record { lets = []; body = gone })
+  unfolding understood everything
+  delete_is = refl
+
+  pub update_is : command_of (understood schema update_text) ≡ Update 1 (record { lets = []; body = changed })
+  unfolding understood everything
+  update_is = refl
+
+  pub update_plain : IsPlain (understood schema update_text)
+  unfolding understood everything
+  update_plain = (refl, refl)
+
+  pub insert_plain : IsPlain (understood schema insert_text)
+  unfolding understood everything
+  insert_plain = (refl, refl)
+
+  pub delete_plain : IsPlain (understood schema delete_text)
+  unfolding understood everything
+  delete_plain = (refl, refl)
+
+  pub select_plain : IsPlain (understood schema select_text)
+  unfolding understood everything
+  select_plain = (refl, refl)
+
+  pub meta_insert_is : command_of (understood schema meta_insert_text) ≡ Insert 0 (Values meta_terms 3)
+  unfolding understood everything
+  meta_insert_is = refl
+
+  pub meta_insert_plain : IsPlain (understood schema meta_insert_text)
+  unfolding understood everything
+  meta_insert_plain = (refl, refl)
+
+  pub meta_select_is : (command_of (understood schema meta_select_text) ≡ Select (record { lets = []; body = meta_query }) (codes "k" ∷ codes "v" ∷ [])) × (reads_listing schema meta_select_text ≡ false)
+  unfolding understood everything
+  meta_select_is = (refl, refl)
+
+  pub meta_select_plain : IsPlain (understood schema meta_select_text)
+  unfolding understood everything
+  meta_select_plain = (refl, refl)

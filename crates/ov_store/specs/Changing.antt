@@ -1,50 +1,61 @@
--- What a statement makes of the lines (own).
-use Rattle.std.specs.Prelude.{◌≡◌, ℕ, Bool, List, IsTrue, None, if◌then◌else◌}
+-- What a statement makes of the lines. What names no source is our own.
+use Rattle.std.specs.Prelude.{◌≡◌, ◌≢◌, ℕ, Bool, List, IsTrue, None, if◌then◌else◌}
 use Rattle.std.specs.List.{AllByRecursion}
 use Rattle.std.specs.FinMap.{get, insert, remove}
 use Rattle.sqlite.specs.Order.{Row, column}
 use Rattle.sqlite.specs.Tree.{Trees}
+use Rattle.sqlite.specs.Schema.{Schema}
+use Rattle.sqlite_rules.specs.Edit.{IsNoIndex}
 use Rattle.sqlite.specs.Effect.{Database}
 use Rattle.sqlite.specs.State.{State}
 use Rattle.ov_specs.specs.rows.Lines.{LineKey, LineBody, Lines}
 use Rattle.ov_store.specs.Format.{IsFormat, entry, stored_lines}
 
--- rows with one number are one line (own)
+-- rows with one number are one line
 abbrev pub IsNumbered : List Row → Type 0
 IsNumbered rows = AllByRecursion (λ r. AllByRecursion (λ s. column s 0 ≡ column r 0 → entry s ≡ entry r) rows) rows
 
--- stored format 1, in which a number names one line (own)
+-- stored format 1, in which a number names one line
 pub record IsStored (text : List ℕ) (db : Database) : Type 0 where
   pub format : IsFormat text db
   pub numbered : IsNumbered (db.trees 2)
 
--- it is so while the connection is open (own)
+-- it is so while the connection is open
 abbrev pub MayBeStored : List ℕ → State → Type 0
 MayBeStored text s = IsTrue s.is_open → IsStored text s.now
 
--- in a transaction that goes on the lines became what f makes of them, and nothing was committed (own)
+-- what is not of `line` is as it was: the rows of each other table, and whatever stands in a tree that is no index's
+pub record KeepsOthers (schema : Schema) (old new : Trees) : Type 0 where
+  pub tables : AllByRecursion (λ t. t.tree ≢ 2 → new t.tree ≡ old t.tree) schema.tables
+  pub trees : (t : ℕ) → t ≢ 2 → IsNoIndex schema t → new t ≡ old t
+
+-- in a transaction that goes on the lines became what f makes of them, and nothing was committed
 pub record Makes (text : List ℕ) (f : Lines → Lines) (old new : State) : Type 0 where
   pub mode : IsTrue new.in_transaction
   pub opens : IsTrue new.is_open → IsTrue old.is_open
   pub stored : MayBeStored text new
   pub lines_are : stored_lines (new.now.trees 2) ≡ f (stored_lines (old.now.trees 2))
   pub meta : new.now.trees 0 ≡ old.now.trees 0
+  pub schema : new.now.schema ≡ old.now.schema
+  pub others : KeepsOthers old.now.schema old.now.trees new.now.trees
   pub committed : new.committed ≡ old.committed
 
--- one line was added, where its key had none (own)
+-- one line was added, where its key had none
 pub record AddsLine (text : List ℕ) (k : LineKey) (v : LineBody) (old new : State) : Type 0 where
   pub mode : IsTrue new.in_transaction
   pub opens : IsTrue new.is_open → IsTrue old.is_open
   pub stored : MayBeStored text new
   pub lines_are : get (stored_lines (old.now.trees 2)) k ≡ None → stored_lines (new.now.trees 2) ≡ insert (stored_lines (old.now.trees 2)) k v
   pub meta : new.now.trees 0 ≡ old.now.trees 0
+  pub schema : new.now.schema ≡ old.now.schema
+  pub others : KeepsOthers old.now.schema old.now.trees new.now.trees
   pub committed : new.committed ≡ old.committed
 
--- the line of a key takes another version and body; where none was found, no line has the key (own)
+-- the line of a key takes another version and body; where none was found, no line has the key
 abbrev pub after_update : Bool → LineKey → LineBody → Lines → Lines
 after_update is_found k v m = if is_found then insert m k v else remove m k
 
--- the changes are committed (own)
+-- the changes are committed
 pub record Stores (text : List ℕ) (f : Lines → Lines) (old new : State) : Type 0 where
   pub was_open : IsTrue old.is_open
   pub is_open : IsTrue new.is_open
@@ -53,10 +64,12 @@ pub record Stores (text : List ℕ) (f : Lines → Lines) (old new : State) : Ty
   pub stored : IsStored text new.now
   pub lines_are : stored_lines (new.now.trees 2) ≡ f (stored_lines (old.now.trees 2))
   pub meta : new.now.trees 0 ≡ old.now.trees 0
+  pub others : KeepsOthers old.now.schema old.now.trees new.now.trees
 
--- what the commit writes to the disk, if it gets that far (own)
+-- what the commit writes to the disk, if it gets that far
 pub record IsCommitImage (f : Lines → Lines) (old : State) (trees : Trees) : Type 0 where
   pub was_open : IsTrue old.is_open
   pub was_settled : old.now ≡ old.committed
   pub lines_are : stored_lines (trees 2) ≡ f (stored_lines (old.now.trees 2))
   pub meta : trees 0 ≡ old.now.trees 0
+  pub others : KeepsOthers old.now.schema old.now.trees trees

@@ -1,5 +1,5 @@
--- What the store of a connection that was just opened holds (own).
-use Rattle.std.specs.Prelude.{◌≡◌, ◌≢◌, ◌↔◌, ◌⊎◌, ℕ, List, IsTrue, Result, Ok, Err}
+-- What the store of a connection that was just opened holds. What names no source is our own.
+use Rattle.std.specs.Prelude.{◌≡◌, ◌≢◌, ◌↔◌, ◌⊎◌, ◌++◌, ℕ, List, drop, IsTrue, Result, Ok, Err}
 use Rattle.std.specs.FinMap.{empty}
 use Rattle.sqlite.specs.Store.{Ghosts}
 use Rattle.sqlite.specs.declared.error.Error.{Error}
@@ -16,7 +16,7 @@ use Rattle.sqlite_wal.specs.Recovery.{Image}
 use Rattle.ov_specs.specs.rows.Lines.{Contents}
 use Rattle.ov_keeper.specs.declared.fault.KeepFault.{KeepFault}
 use Rattle.ov_keeper.specs.declared.fault.KeepFault.TheVariants.{Device, NotOurs, Format}
-use Rattle.ov_store.specs.Tables.{no_schema, line_schema}
+use Rattle.ov_store.specs.Tables.{no_schema, HasOurTables}
 use Rattle.ov_store.specs.Format.{IsFormat, held}
 use Rattle.ov_store.specs.Making.{IsNewFile}
 use Rattle.ov_store.specs.Querying.{IsAsBefore}
@@ -37,7 +37,7 @@ module _ {S : Type 0} (g : Ghosts S) where
 
   -- the connection had stored format 1, and the store holds what was there
   pub record IsOldStore (c : Connected S) (s : StoreState S) : Type 0 where
-    pub tables : c.schema ≡ line_schema
+    pub tables : HasOurTables c.schema
     pub honest : HasCleanDisk (state g s.connection) → HasCleanDisk (state g c)
     pub format : HasCleanDisk (state g s.connection) → IsFormat s.schema (state g c).now
     pub holds : HasCleanDisk (state g s.connection) → Opens (state g c) → (contents : Contents) → MayFind g s.connection contents → contents ≡ held (state g c).now.trees
@@ -49,8 +49,8 @@ module _ {S : Type 0} (g : Ghosts S) where
   -- why a connection has no store, and what is left of it: what it held, but that a device which failed at the making may
   -- leave the whole new database
   pub record IsRefused (text : List ℕ) (c left : Connected S) (fault : KeepFault) : Type 0 where
-    pub ours : (fault ≡ NotOurs) ↔ ((c.schema ≢ no_schema) × (c.schema ≢ line_schema))
-    pub tables : fault ≡ Format → c.schema ≡ line_schema
+    pub ours : (fault ≡ NotOurs) ↔ ((c.schema ≢ no_schema) × (¬ HasOurTables c.schema))
+    pub tables : fault ≡ Format → HasOurTables c.schema
     pub format : fault ≡ Format → HasCleanDisk (state g left) → (any : List ℕ) → ¬ IsFormat any (state g c).now
     pub same : HasCleanDisk (state g left) → IsAsBefore (state g c) (state g left)
     pub crash : Survives (state g c) (state g left) (λ trees. (fault ≡ Device) × (c.schema ≡ no_schema) × IsNewFile text trees)
@@ -59,7 +59,7 @@ module _ {S : Type 0} (g : Ghosts S) where
   pub record IsRefusedAgain (s : StoreState S) (left : Connected S) (fault : KeepFault) : Type 0 where
     pub again : Connected S
     pub opened : HasCleanDisk (state g again) → Opens (state g again) × MayFind g s.connection (held (state g again).now.trees)
-    pub ours : (fault ≡ NotOurs) ↔ (again.schema ≢ line_schema)
+    pub ours : (fault ≡ NotOurs) ↔ (¬ HasOurTables again.schema)
     pub format : fault ≡ Format → HasCleanDisk (state g left) → (any : List ℕ) → ¬ IsFormat any (state g again).now
 
 -- what the files recover to has no table, index or view
@@ -77,6 +77,17 @@ pub record IsStoredIn (image : Image) (contents : Contents) : Type 0 where
   pub text : List ℕ
   pub format : IsFormat text db
   pub contents_are : contents ≡ held db.trees
+
+-- what the files recover to is nobody else's: it has no table, index or view, or the tables of the format
+pub record IsNobodyElses (image : Image) : Type 0 where
+  pub db : Database
+  pub sound : IsDatabase db
+  pub found : AreFoundIn image db.trees
+  pub ours : (db.schema ≡ no_schema) ⊎ HasOurTables db.schema
+
+-- the text stands somewhere in the bytes
+abbrev pub HasText : List ℕ → List ℕ → Type 0
+HasText text bytes = (at : ℕ) × (rest : List ℕ) × (drop at bytes ≡ text ++ rest)
 
 -- SQLite refuses to open the files
 abbrev pub IsOpenRefused : KeepFault → Type 0

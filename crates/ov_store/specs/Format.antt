@@ -1,4 +1,4 @@
--- Stored format 1: what the two tables hold, and what it stands for (own).
+-- Stored format 1: what the two tables hold, and what it stands for. What names no source is our own.
 use Rattle.std.specs.Prelude.{◌≡◌, ◌⊎◌, ℕ, ℤ, Bool, List, [], ◌∷◌, length, map, find, codes, unwrap_or, option_map, IsUtf8}
 use Rattle.std.specs.List.{AllByRecursion}
 use Rattle.std.specs.Ordering.{is_eq}
@@ -9,9 +9,9 @@ use Rattle.sqlite_value.specs.Order.{bytes}
 use Rattle.sqlite.specs.Tree.{Trees}
 use Rattle.sqlite.specs.Effect.{Database}
 use Rattle.ov_specs.specs.rows.Lines.{LineKey, LineBody, Lines, Contents}
-use Rattle.ov_store.specs.Tables.{line_schema}
+use Rattle.ov_store.specs.Tables.{HasOurTables}
 
--- a row of `line`: its number, and the table's name, the identifier, the version and the body (own)
+-- a row of `line`: its number, and the table's name, the identifier, the version and the body
 pub record IsLine (r : Row) : Type 0 where
   pub number : ℤ
   pub tbl : List ℕ
@@ -27,46 +27,46 @@ pub record IsLine (r : Row) : Type 0 where
   pub id_sixteen : length id ≡ 16
   pub ver_sixteen : length ver ≡ 16
 
--- the key and the rest of a row of `line` (own)
+-- the key and the rest of a row of `line`
 abbrev pub entry : Row → LineKey × LineBody
 entry r = ((bytes (column r 1), bytes (column r 2)), (bytes (column r 3), bytes (column r 4)))
 
--- the row of `meta` that names the format: the byte `1` (own)
+-- the row of `meta` that names the format: the byte `1`
 pub record IsFormatRow (r : Row) : Type 0 where
   pub key : column r 1 ≡ Text (codes "format")
   pub value : column r 2 ≡ Blob (49 ∷ [])
 
--- the row of `meta` that has the text of the schema (own)
+-- the row of `meta` that has the text of the schema
 pub record IsSchemaRow (text : List ℕ) (r : Row) : Type 0 where
   pub key : column r 1 ≡ Text (codes "schema")
   pub value : column r 2 ≡ Blob text
   pub utf8 : IsUtf8 text
 
--- `meta` has these two rows, and no other (own)
+-- `meta` has these two rows, and no other
 pub record IsMeta (text : List ℕ) (rows : List Row) : Type 0 where
   pub first : Row
   pub second : Row
   pub all : rows ≡ first ∷ second ∷ []
   pub are : (IsFormatRow first × IsSchemaRow text second) ⊎ (IsSchemaRow text first × IsFormatRow second)
 
--- the row has the text of the schema (own)
+-- the row has the text of the schema
 abbrev pub is_schema_row : Row → Bool
 is_schema_row r = is_eq (value_cmp (column r 1) (Text (codes "schema")))
 
--- the schema's text that the rows of `meta` give (own)
+-- the schema's text that the rows of `meta` give
 abbrev pub stored_schema : List Row → List ℕ
 stored_schema rows = unwrap_or (option_map (λ r. bytes (column r 2)) (find is_schema_row rows)) []
 
--- the lines that the rows of `line` are (own)
+-- the lines that the rows of `line` are
 abbrev pub stored_lines : List Row → Lines
 stored_lines rows = from_entries (map entry rows)
 
--- what the tables hold (own)
+-- what the tables hold
 abbrev pub held : Trees → Contents
 held trees = record { schema = stored_schema (trees 0); lines = stored_lines (trees 2) }
 
--- the database is one of stored format 1 (own)
+-- the database is one of stored format 1
 pub record IsFormat (text : List ℕ) (db : Database) : Type 0 where
-  pub schema : db.schema ≡ line_schema
+  pub schema : HasOurTables db.schema
   pub meta : IsMeta text (db.trees 0)
   pub lines : AllByRecursion IsLine (db.trees 2)

@@ -1,4 +1,4 @@
--- What an error of SQLite at an open is to the program (own).
+-- What an error of SQLite at an open is to the program. What names no source is our own.
 use Rattle.sqlite.specs.declared.error.ErrorCode.TheVariants.{OutOfMemory, TooBig, NotADatabase, DatabaseCorrupt}
 use Rattle.sqlite.specs.declared.error.Error.{Error}
 use Rattle.sqlite.specs.declared.error.Error.TheVariants.{SqliteFailure}

@@ -1,4 +1,4 @@
--- What contracts see of a store (own).
+-- What contracts see of a store. What names no source is our own.
 use Rattle.std.specs.Prelude.{◌≡◌, ℕ, List, false, refl}
 use Rattle.std.specs.Coded.{Coded, code_by, coded×, coded_ℕ, coded_list}
 use Rattle.sqlite.specs.Store.{Ghosts}
@@ -7,24 +7,28 @@ use Rattle.sqlite.specs.State.{HasCleanDisk}
 use Rattle.sqlite.specs.Held.{Held as Connected, held_code, state}
 use Rattle.ov_specs.specs.rows.Lines.{Contents}
 use Rattle.ov_store.specs.Format.{held}
-use Rattle.ov_store.specs.Changing.{MayBeStored}
+use Rattle.ov_store.specs.Changing.{MayBeStored, KeepsOthers}
 
--- a connection, the text of the schema, and how often the device has failed (own)
+-- a connection, the text of the schema, and how often the device has failed
 pub record StoreState (S : Type 0) : Type 0 where
   pub connection : Connected S
   pub schema : List ℕ
   pub failures : ℕ
 
--- kept as a triple (own)
+-- kept as a triple
 abbrev pub store_code : {S : Type 0} → Coded S → Coded (StoreState S)
 store_code {S} code = code_by (Connected S × (List ℕ × ℕ)) (coded× (held_code code) (coded× (coded_list coded_ℕ) coded_ℕ)) (λ s. (s.connection, (s.schema, s.failures)))
     (λ p. record { connection = p.0; schema = p.1.0; failures = p.1.1 }) (λ _. refl)
 
 module _ {S : Type 0} (g : Ghosts S) where
-  -- between calls no transaction is under way, and while the connection is open the tables are of stored format 1 (own)
+  -- between calls no transaction is under way, and while the connection is open the tables are of stored format 1
   abbrev pub IsAtRest : List ℕ → Connected S → Type 0
   IsAtRest text c = (c.in_transaction ≡ false) × (HasCleanDisk (state g c) → MayBeStored text (state g c))
 
-  -- what an open at this moment may find (own)
+  -- what an open at this moment may find
   abbrev pub MayFind : Connected S → Contents → Type 0
   MayFind c contents = (trees : Trees) × (state g c).may_leave trees × (contents ≡ held trees)
+
+  -- whatever an open may find now, beside the lines it is what one might have found before
+  abbrev pub LeavesOthers : Connected S → Connected S → Type 0
+  LeavesOthers old new = (trees : Trees) → (state g new).may_leave trees → (before : Trees) × (state g old).may_leave before × KeepsOthers old.schema before trees

@@ -1,8 +1,9 @@
--- What is left of a store that is closed (own).
+-- What is left of a store that is closed. What names no source is our own.
 use Rattle.std.specs.Prelude.{◌≡◌, []}
 use Rattle.sqlite_disk.specs.declared.Disk as disk
 use Rattle.sqlite_disk.specs.declared.Files.{Files}
 use Rattle.sqlite_wal.specs.Recovery.{Image}
+use Rattle.sqlite_wal.specs.Reads.{AreClean}
 use Rattle.sqlite_wal.specs.Files.{outcomes}
 use Rattle.sqlite_store.specs.declared.store.FileStore.{FileStore}
 use Rattle.sqlite_trees.specs.Tree.{Trees}
@@ -12,9 +13,13 @@ use Rattle.ov_store.specs.Format.{held}
 use Rattle.ov_store.specs.StoreState.{StoreState, MayFind}
 
 module _ {D : Type 0} {g : disk.Ghosts D} where
-  -- the database file without its log holds all that an open might find, as it reads now and after a crash (own)
+  -- the database file without its log holds all that an open might find, as it reads now and after a crash
   pub record IsWhole (s : StoreState (FileStore D g)) (files : Files D) : Type 0 where
     pub db : Trees
     pub contents : (contents : Contents) → MayFind over_files s.connection contents → contents ≡ held db
     pub seen : ∥ HoldsDatabase (record (image_of g files) { log = [] }) db ∥₁
     pub left : (image : Image) → outcomes g files.log files.db image → ∥ HoldsDatabase (record image { log = [] }) db ∥₁
+
+  -- the two files were so as they were let go
+  abbrev pub WasWhole : StoreState (FileStore D g) → Type 0
+  WasWhole s = (files : Files D) × (AreClean g files.log files.db → IsWhole s files)

@@ -1,12 +1,12 @@
 //! The end of a store over files: all is in the database file, and the log can go.
 
-ghost use Rattle.std.specs.Prelude.{◌≡◌, IfOk, IfErr, IsTrue};
+ghost use Rattle.std.specs.Prelude.{◌≡◌, IfOk, OnOk, IfErr, IsTrue};
 ghost use Rattle.sqlite_wal.specs.Reads.{AreClean};
 ghost use Rattle.sqlite.specs.Held.{state};
 ghost use Rattle.ov_keeper.specs.Keeping.{IsLoadFault};
 ghost use Rattle.ov_store.specs.Format.{held};
 ghost use Rattle.ov_store.specs.StoreState.{MayFind};
-ghost use Rattle.ov_store.specs.Whole.{IsWhole};
+ghost use Rattle.ov_store.specs.Whole.{IsWhole, WasWhole};
 
 use crate::crash::fault_over;
 use crate::store::Store;
@@ -41,12 +41,14 @@ impl<D: Disk + Drop> Store<FileStore<D>> {
 }
 
 /// Closes the store of the file at a path: the file then has the whole, and its log is removed. Where the system refuses
-/// the removal it is `Device`, and the file has the whole all the same.
+/// the removal it is `Device`, and the file has the whole all the same. What a file holds after it was let go, and that a log
+/// is gone, no contract can say; so `whole` speaks of the two files as they are let go.
 pub fn close_in_file<S: Start>(
     rt: &HostRuntime,
     path: &str,
     store: Store<FileStore<FileFrom<S>>>,
 ) -> Result<(), KeepFault>
+    ensures whole { OnOk result (WasWhole store) }
     ensures kinds { IfErr result IsLoadFault }
 {
     let Files { log, db } = store.into_files()?;

@@ -5,7 +5,7 @@ ghost use Rattle.ov_keeper.specs.Views.{changes_view};
 ghost use Rattle.ov_keeper.specs.Keeping.{LeavesChanged, LeavesRefused, IsCommitFault};
 ghost use Rattle.ov_store.specs.WriteError.{IsBefore};
 ghost use Rattle.ov_store.specs.Changing.{MayBeStored};
-ghost use Rattle.ov_store.specs.StoreState.{MayFind};
+ghost use Rattle.ov_store.specs.StoreState.{MayFind, LeavesOthers};
 
 use crate::store::Store;
 use crate::write::{WriteError, is_up, write_all};
@@ -57,7 +57,8 @@ pub(crate) fn fault_at<S: Alter>(conn: &mut Connection<S>, failure: &WriteError)
 
 impl<S: Alter> Store<S> {
     /// Makes all changes in order, in one transaction, or none of them. After `Device` the file may hold all of them or
-    /// none: open it again. An error of SQLite that is neither memory nor size counts as a failure of the device.
+    /// none: open it again. An error of SQLite that is neither memory nor size counts as a failure of the device. Whatever
+    /// stands in other tables is kept.
     pub fn commit(&mut self, changes: &[Change]) -> Result<(), KeepFault>
         ensures ok { HasCleanDisk (state S.Store self.new.connection) → OnOk result (LeavesChanged (changes_view changes.now) (MayFind S.Store self.old.connection) (MayFind S.Store self.new.connection)) }
         ensures err { HasCleanDisk (state S.Store self.new.connection) → IfErr result (LeavesRefused (changes_view changes.now) (MayFind S.Store self.old.connection) (MayFind S.Store self.new.connection)) }
@@ -66,6 +67,7 @@ impl<S: Alter> Store<S> {
         ensures counts { self.old.failures ≤ self.new.failures }
         ensures honest { HasCleanDisk (state S.Store self.new.connection) → HasCleanDisk (state S.Store self.old.connection) }
         ensures schema { self.new.schema ≡ self.old.schema }
+        ensures others { HasCleanDisk (state S.Store self.new.connection) → LeavesOthers S.Store self.old.connection self.new.connection }
     {
         if changes.is_empty() {
             return Ok(());

@@ -31,7 +31,7 @@ fn fault_below(error: StoreError) -> KeepFault
     }
 }
 
-/// What an error is that is for want of memory or the device's.
+/// What an error of memory or of the device is.
 pub(crate) fn fault_over(error: &Error) -> KeepFault
     ensures kind { IsLoadFault result }
     ensures device { result ≡ KeepFault.Device → error.now ≢ SqliteFailure OutOfMemory }
@@ -73,7 +73,7 @@ fn crash_and_reopen<S: Alter + Reopen + Drop>(
 /// commit that was answered the former lines with all its changes, and never with a part of them.
 ///
 /// `Ok(Err(..))` where what the crash left was opened, and is refused as `Store::open` does; `Err(..)` where it was not
-/// opened, for want of memory or by a device that failed.
+/// opened, when out of memory or by a device that failed.
 pub fn reopen_after_crash<S: Alter + Reopen + Drop>(
     alloc: Global,
     store: Store<S>,

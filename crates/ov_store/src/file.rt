@@ -16,7 +16,7 @@ use crate::memory_disk::MemoryDisk;
 use crate::over::store_over;
 use crate::store::Store;
 use ov_base::Text;
-use ov_keeper::KeepFault;
+use ov_keeper::{KeepFault, Keeper};
 use sqlite::{Connection, Error, ErrorCode, FileFrom, FileStore, Start};
 use std::alloc::Global;
 
@@ -79,14 +79,16 @@ pub fn store_in_file<S: Start>(
     }
 }
 
-/// A new store in memory, with this text of a schema and no line. It is refused for want of memory, and as `store_over` is
-/// by a device.
+/// A new store in memory, with this text of a schema and no line. It is refused when out of memory, and as `store_over` is
+/// by a device. Whatever is promised under an honest device needs no premise over it: in memory each one is honest, this store
+/// and what becomes of it.
 pub fn store_in_memory(
     alloc: Global,
     schema: Text,
 ) -> Result<Store<FileStore<MemoryDisk>>, KeepFault>
     ensures found { IfOk result (λ s. (contents : _) → MayFind over_files s.connection contents → contents ≡ new_contents schema) }
     ensures fresh { IfOk result (λ s. s.failures ≡ 0) }
+    ensures honest { (s : _) → ⟦<Store<FileStore<MemoryDisk>> as Keeper>⟧.is_honest s }
     ensures refused { IsMemoryRefused schema result }
 {
     let connection = match open_in_memory(alloc) {

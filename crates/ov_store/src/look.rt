@@ -1,11 +1,14 @@
 //! What a file is, found without a change to it.
 
-ghost use Rattle.std.specs.Prelude.{IfErr, IsTrue};
+ghost use Rattle.std.specs.Prelude.{◌≡◌, ◌≢◌, ◌⊎◌, IfErr, IsTrue, OnOk};
 ghost use Rattle.sqlite.specs.declared.error.Error.TheVariants.{SqliteFailure};
 ghost use Rattle.sqlite.specs.Opening.{is_open_error};
-ghost use Rattle.ov_store.specs.Finding.{IsOpenRefused};
+ghost use Rattle.ov_store.specs.Finding.{HasText, IsNobodyElses, IsOpenRefused};
+ghost use Rattle.ov_store.specs.Refusing.{fault_of_open};
+ghost use Rattle.ov_store.specs.Tables.{no_schema, HasOurTables, create_meta, create_line};
 
 use crate::file::fault_of_open;
+use crate::make::{CREATE_LINE, CREATE_META};
 use crate::memory_disk::MemoryDisk;
 use crate::schema::{is_blank, is_ours};
 use ov_keeper::KeepFault;
@@ -18,17 +21,11 @@ use std::io::{self, ErrorKind, Read};
 /// The first bytes of a file that SQLite made.
 const MAGIC: &[u8] = b"SQLite format 3\0";
 
-/// The tables of stored format 1, as page 1 of a file that has them lists them.
-const META: &[u8] = b"CREATE TABLE meta(k TEXT PRIMARY KEY, v BLOB)";
-
-const LINE: &[u8] =
-    b"CREATE TABLE line(tbl TEXT, id BLOB, ver BLOB, body BLOB, PRIMARY KEY(tbl,id))";
-
 /// A log of fewer bytes has no commit.
 const LOG_HEADER: u64 = 56;
 
 /// Refuses the file at a path where an opening would refuse it as somebody else's. It passes a file that is absent, and one
-/// that has no table yet, or just those of stored format 1.
+/// that has no table yet, or those of stored format 1.
 ///
 /// An opening for writing turns a file of SQLite to write-ahead mode and begins a log beside it, whatever is in it. So the
 /// file is opened here as a copy in memory; but where it lists its tables on its first page, and has no log, at once.
@@ -49,7 +46,8 @@ pub(crate) fn test_file(rt: &HostRuntime, path: &str) -> Result<(), KeepFault>
 /// What the program answers to an error of an opening.
 fn refusal(code: ErrorCode) -> KeepFault
     requires { IsTrue (is_open_error (SqliteFailure code)) }
-    ensures { IsOpenRefused result }
+    ensures value { result ≡ fault_of_open (SqliteFailure code) }
+    ensures refused { IsOpenRefused result }
 {
     fault_of_open(&Error::SqliteFailure(code))
 }
@@ -106,16 +104,20 @@ fn first_page(rt: &HostRuntime, path: &str) -> io::Result<[u8; 4096]> {
 }
 
 /// Whether a first page is that of a file in write-ahead mode with four objects, of which two are the tables.
-fn lists_tables(page: &[u8]) -> bool {
+fn lists_tables(page: &[u8]) -> bool
+    ensures { IsTrue result → HasText create_meta page.now × HasText create_line page.now }
+{
     page.starts_with(MAGIC)
         && page.get(18..20) == Some(&[2, 2])
         && page.get(103..105) == Some(&[0, 4])
-        && has_text(page, META)
-        && has_text(page, LINE)
+        && has_text(page, CREATE_META.as_bytes())
+        && has_text(page, CREATE_LINE.as_bytes())
 }
 
 /// Whether the text stands somewhere in the bytes.
-fn has_text(bytes: &[u8], text: &[u8]) -> bool {
+fn has_text(bytes: &[u8], text: &[u8]) -> bool
+    ensures { IsTrue result → HasText text.now bytes.now }
+{
     for at in 0..bytes.len() {
         if bytes[at..].starts_with(text) {
             return true;
@@ -124,8 +126,9 @@ fn has_text(bytes: &[u8], text: &[u8]) -> bool {
     false
 }
 
-/// Opens the copies as files are opened.
+/// Opens the copies as files are opened, and passes just what is nobody else's.
 fn test_copies(alloc: Global, files: Copies) -> Result<(), KeepFault>
+    ensures passes { OnOk result (IsNobodyElses (record { log = files.log.items; db = files.db.items })) }
     ensures refused { IfErr result IsOpenRefused }
 {
     let Copies { log, db } = files;
@@ -141,6 +144,8 @@ fn test_copies(alloc: Global, files: Copies) -> Result<(), KeepFault>
 
 /// Refuses what is neither blank nor ours.
 fn test_schema(schema: &Schema) -> Result<(), KeepFault>
+    ensures passes { OnOk result ((schema.now ≡ no_schema) ⊎ HasOurTables schema.now) }
+    ensures foreign { IfErr result (λ fault. (fault ≡ KeepFault.NotOurs) × (schema.now ≢ no_schema) × (¬ HasOurTables schema.now)) }
     ensures refused { IfErr result IsOpenRefused }
 {
     if is_blank(schema) || is_ours(schema) {

@@ -12,6 +12,12 @@ use ov_base::Text;
 use sqlite::types::ValueRef;
 use sqlite::{Alter, Connection, Error, Transaction};
 
+/// The tables of stored format 1, as SQLite lists them too.
+pub(crate) const CREATE_META: &str = "CREATE TABLE meta(k TEXT PRIMARY KEY, v BLOB)";
+
+pub(crate) const CREATE_LINE: &str =
+    "CREATE TABLE line(tbl TEXT, id BLOB, ver BLOB, body BLOB, PRIMARY KEY(tbl,id))";
+
 fn make_meta<S: Alter>(tx: &mut Transaction<'_, S>) -> Result<(), Error>
     ensures same_reference { tx.new.conn.ghost_name ≡ tx.old.conn.ghost_name }
     ensures ok { HasCleanDisk (state S.Store tx.new.conn.now) → IsTrue (state S.Store tx.old.conn.now).in_transaction → HasSchema no_schema (state S.Store tx.old.conn.now)
@@ -19,7 +25,7 @@ fn make_meta<S: Alter>(tx: &mut Transaction<'_, S>) -> Result<(), Error>
     ensures kept { HasCleanDisk (state S.Store tx.new.conn.now) → KeepsCommit (state S.Store tx.old.conn.now) (state S.Store tx.new.conn.now) }
     ensures survives { Survives (state S.Store tx.old.conn.now) (state S.Store tx.new.conn.now) (λ _. ⊥) }
 {
-    tx.execute("CREATE TABLE meta(k TEXT PRIMARY KEY, v BLOB)", &[])?;
+    tx.execute(CREATE_META, &[])?;
     Ok(())
 }
 
@@ -30,10 +36,7 @@ fn make_line<S: Alter>(tx: &mut Transaction<'_, S>) -> Result<(), Error>
     ensures kept { HasCleanDisk (state S.Store tx.new.conn.now) → KeepsCommit (state S.Store tx.old.conn.now) (state S.Store tx.new.conn.now) }
     ensures survives { Survives (state S.Store tx.old.conn.now) (state S.Store tx.new.conn.now) (λ _. ⊥) }
 {
-    tx.execute(
-        "CREATE TABLE line(tbl TEXT, id BLOB, ver BLOB, body BLOB, PRIMARY KEY(tbl,id))",
-        &[],
-    )?;
+    tx.execute(CREATE_LINE, &[])?;
     Ok(())
 }
 

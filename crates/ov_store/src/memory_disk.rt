@@ -7,7 +7,7 @@ use std::alloc::{AllocError, Global};
 use std::io;
 
 /// A file in memory that is durable as it is written, so a sync does nothing, and a write or a sync takes no longer in a
-/// long file than in a short one. It fails for want of memory alone.
+/// long file than in a short one. It fails only when out of memory.
 #[derive(Drop)]
 pub struct MemoryDisk {
     bytes: Vec<u8>,

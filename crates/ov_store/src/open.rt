@@ -4,7 +4,7 @@ ghost use Rattle.std.specs.FinMap.{empty};
 ghost use Rattle.sqlite.specs.State.{HasCleanDisk, Survives};
 ghost use Rattle.sqlite.specs.Held.{state};
 ghost use Rattle.ov_keeper.specs.Keeping.{IsCommitFault};
-ghost use Rattle.ov_store.specs.Tables.{no_schema, line_schema};
+ghost use Rattle.ov_store.specs.Tables.{no_schema, HasOurTables};
 ghost use Rattle.ov_store.specs.Format.{IsLine, IsMeta, IsFormat};
 ghost use Rattle.ov_store.specs.Changing.{IsNumbered, IsStored};
 ghost use Rattle.ov_store.specs.Making.{HasSchema, IsNew, IsNewFile};
@@ -28,9 +28,9 @@ use std::alloc::Global;
 fn read_meta<S: Alter>(alloc: Global, conn: &mut Connection<S>) -> Result<Text, KeepFault>
     requires { conn.old.in_transaction ≡ false }
     ensures mode { conn.new.in_transaction ≡ false }
-    ensures ok { HasCleanDisk (state S.Store conn.new) → (state S.Store conn.old).now.schema ≡ line_schema
+    ensures ok { HasCleanDisk (state S.Store conn.new) → HasOurTables (state S.Store conn.old).now.schema
         → IfOk result (λ text. IsTrue (state S.Store conn.old).is_open × IsMeta text ((state S.Store conn.old).now.trees 0)) }
-    ensures format { HasCleanDisk (state S.Store conn.new) → (state S.Store conn.old).now.schema ≡ line_schema
+    ensures format { HasCleanDisk (state S.Store conn.new) → HasOurTables (state S.Store conn.old).now.schema
         → result ≡ Err KeepFault.Format → (text : _) → ¬ IsMeta text ((state S.Store conn.old).now.trees 0) }
     ensures ours { result ≢ Err KeepFault.NotOurs }
     ensures same { HasCleanDisk (state S.Store conn.new) → IsAsBefore (state S.Store conn.old) (state S.Store conn.new) }
@@ -73,9 +73,9 @@ fn make_new<S: Alter>(conn: &mut Connection<S>, schema: &Text) -> Result<(), Kee
 fn test_lines<S: Alter>(conn: &mut Connection<S>) -> Result<(), KeepFault>
     requires { conn.old.in_transaction ≡ false }
     ensures mode { conn.new.in_transaction ≡ false }
-    ensures ok { HasCleanDisk (state S.Store conn.new) → (IsTrue (state S.Store conn.old).is_open → (state S.Store conn.old).now.schema ≡ line_schema)
+    ensures ok { HasCleanDisk (state S.Store conn.new) → (IsTrue (state S.Store conn.old).is_open → HasOurTables (state S.Store conn.old).now.schema)
         → OnOk result (IsTrue (state S.Store conn.old).is_open × AllByRecursion IsLine ((state S.Store conn.old).now.trees 2) × IsNumbered ((state S.Store conn.old).now.trees 2)) }
-    ensures format { HasCleanDisk (state S.Store conn.new) → (IsTrue (state S.Store conn.old).is_open → (state S.Store conn.old).now.schema ≡ line_schema)
+    ensures format { HasCleanDisk (state S.Store conn.new) → (IsTrue (state S.Store conn.old).is_open → HasOurTables (state S.Store conn.old).now.schema)
         → result ≡ Err KeepFault.Format → IsTrue (state S.Store conn.old).is_open × (¬ AllByRecursion IsLine ((state S.Store conn.old).now.trees 2)) }
     ensures ours { result ≢ Err KeepFault.NotOurs }
     ensures same { HasCleanDisk (state S.Store conn.new) → IsAsBefore (state S.Store conn.old) (state S.Store conn.new) }
@@ -91,9 +91,9 @@ fn test_lines<S: Alter>(conn: &mut Connection<S>) -> Result<(), KeepFault>
 fn test_format<S: Alter>(alloc: Global, conn: &mut Connection<S>) -> Result<Text, KeepFault>
     requires { conn.old.in_transaction ≡ false }
     ensures mode { conn.new.in_transaction ≡ false }
-    ensures ok { HasCleanDisk (state S.Store conn.new) → (state S.Store conn.old).now.schema ≡ line_schema
+    ensures ok { HasCleanDisk (state S.Store conn.new) → HasOurTables (state S.Store conn.old).now.schema
         → IfOk result (λ text. IsTrue (state S.Store conn.old).is_open × IsStored text (state S.Store conn.old).now) }
-    ensures format { HasCleanDisk (state S.Store conn.new) → (state S.Store conn.old).now.schema ≡ line_schema
+    ensures format { HasCleanDisk (state S.Store conn.new) → HasOurTables (state S.Store conn.old).now.schema
         → result ≡ Err KeepFault.Format → (text : _) → ¬ IsFormat text (state S.Store conn.old).now }
     ensures ours { result ≢ Err KeepFault.NotOurs }
     ensures same { HasCleanDisk (state S.Store conn.new) → IsAsBefore (state S.Store conn.old) (state S.Store conn.new) }
@@ -140,9 +140,10 @@ impl<S: Alter + Drop> Store<S> {
         }
     }
 
-    /// The store of a database that has stored format 1. `NotOurs` where its tables, indexes and views are not just those
-    /// of that format, `Format` where a row of `meta` or of `line` is not as there. Each row is read once. A refusal leaves
-    /// the connection with what it held, and a crash then leaves what it left before.
+    /// The store of a database that has stored format 1. `NotOurs` where its first two tables and their indexes are not those
+    /// of that format, where another table has a foreign key to them, or another index of theirs is unique; what else stands
+    /// behind them is passed over. `Format` where a row of `meta` or of `line` is not as there. Each row is read once. A refusal
+    /// leaves the connection with what it held, and a crash then leaves what it left before.
     pub fn open(alloc: Global, mut connection: Connection<S>) -> Result<Store<S>, Unopened<S>>
         requires { connection.in_transaction ≡ false }
         ensures ok { IfOk result (λ s. HasCleanDisk (state S.Store s.connection) → IsFormat s.schema (state S.Store connection).now) }
@@ -151,9 +152,9 @@ impl<S: Alter + Drop> Store<S> {
         ensures same_refused { IfErr result (λ e. HasCleanDisk (state S.Store e.connection) → IsAsBefore (state S.Store connection) (state S.Store e.connection)) }
         ensures survives_refused { IfErr result (λ e. Survives (state S.Store connection) (state S.Store e.connection) (λ _. ⊥)) }
         ensures fresh { IfOk result (λ s. s.failures ≡ 0) }
-        ensures tables { IfOk result (λ s. connection.schema ≡ line_schema) }
-        ensures ours { IfErr result (λ e. (e.fault ≡ KeepFault.NotOurs) ↔ (connection.schema ≢ line_schema)) }
-        ensures format_tables { IfErr result (λ e. e.fault ≡ KeepFault.Format → connection.schema ≡ line_schema) }
+        ensures tables { IfOk result (λ s. HasOurTables connection.schema) }
+        ensures ours { IfErr result (λ e. (e.fault ≡ KeepFault.NotOurs) ↔ (¬ HasOurTables connection.schema)) }
+        ensures format_tables { IfErr result (λ e. e.fault ≡ KeepFault.Format → HasOurTables connection.schema) }
         ensures format { IfErr result (λ e. HasCleanDisk (state S.Store e.connection) → e.fault ≡ KeepFault.Format → (text : _) → ¬ IsFormat text (state S.Store connection).now) }
     {
         if !is_ours(connection.schema()) {

@@ -1,11 +1,14 @@
-//! Whether a database has the two tables of stored format 1, and nothing else.
+//! Whether a database has the two tables of stored format 1.
 
-ghost use Rattle.std.specs.Prelude.{◌≡◌, ◌↔◌, ◌∷◌, [], codes, IsTrue};
+ghost use Rattle.std.specs.Prelude.{◌≡◌, ◌↔◌, ◌∷◌, ◌||◌, [], take, drop, true, codes, IsTrue};
+ghost use Rattle.std.specs.List.{list_any, list_all};
 ghost use Rattle.sqlite_schema.specs.declared.schema.Kind.TheVariants as kind;
-ghost use Rattle.ov_store.specs.Tables.{no_schema, line_schema, meta_table, line_table, loose, plain_table, automatic};
+ghost use Rattle.sqlite_schema.specs.Names.{same_name};
+ghost use Rattle.ov_store.specs.Tables.{no_schema, HasOurTables, meta_table, line_table, meta_index, line_index, loose, plain_table, automatic, refers_to_ours, is_other_table, is_other_index};
 
 use sqlite::types::Value;
 use sqlite_items::Items;
+use sqlite_schema::names::same_name;
 use sqlite_schema::schema::{Column, Index, Kind, Schema, Table};
 use sqlite_value::keys::{Collation, Order};
 
@@ -127,12 +130,53 @@ fn is_line(table: &Table) -> bool
         && table.primary.as_slice() == [1, 2].as_slice()
 }
 
-/// Whether these are the indexes of the two primary keys.
-fn are_indexes(indexes: &[Index]) -> bool
-    ensures { IsTrue result ↔ (indexes.now ≡ automatic (codes "sqlite_autoindex_meta_1") 1 0 (1 ∷ []) ∷ automatic (codes "sqlite_autoindex_line_1") 3 2 (1 ∷ 2 ∷ []) ∷ []) }
+/// Whether it has a foreign key to one of our tables.
+fn refers_to_ours(table: &Table) -> bool
+    ensures { result ≡ list_any refers_to_ours table.now.references }
+{
+    table
+        .references
+        .as_slice()
+        .iter()
+        .any(|reference| names_ours(reference.parent.as_slice()))
+}
+
+fn names_ours(name: &[u8]) -> bool
+    ensures { result ≡ (same_name (codes "meta") name.now || same_name (codes "line") name.now) }
+{
+    same_name(b"meta", name) || same_name(b"line", name)
+}
+
+/// Whether it stands behind our tables, and no change of theirs reaches it.
+fn is_other_table(table: &Table) -> bool
+    ensures { result ≡ is_other_table table.now }
+{
+    table.tree > 3 && !refers_to_ours(table)
+}
+
+/// Whether it forbids our tables no row.
+fn is_other_index(index: &Index) -> bool
+    ensures { result ≡ is_other_index index.now }
+{
+    !(index.is_unique && (index.table == 0 || index.table == 2))
+}
+
+/// Whether our two tables stand first.
+fn begin_with_ours(tables: &[Table]) -> bool
+    ensures { IsTrue result ↔ (take 2 tables.now ≡ meta_table ∷ line_table ∷ []) }
+{
+    match tables {
+        [meta, line, ..] => is_meta(meta) && is_line(line),
+        _ => false,
+    }
+}
+
+/// Whether the indexes of our two primary keys stand first.
+fn begin_with_keys(indexes: &[Index]) -> bool
+    ensures { IsTrue result ↔ (take 2 indexes.now ≡ meta_index ∷ line_index ∷ []) }
 {
     match indexes {
-        [meta, line] => {
+        [meta, line, ..] => {
             is_automatic(meta, b"sqlite_autoindex_meta_1", 1, 0, &[1])
                 && is_automatic(line, b"sqlite_autoindex_line_1", 3, 2, &[1, 2])
         }
@@ -140,25 +184,26 @@ fn are_indexes(indexes: &[Index]) -> bool
     }
 }
 
-/// Whether these are the two tables.
-fn are_tables(tables: &[Table]) -> bool
-    ensures { IsTrue result ↔ (tables.now ≡ meta_table ∷ line_table ∷ []) }
+fn are_other_tables(tables: &[Table]) -> bool
+    ensures { result ≡ list_all is_other_table tables.now }
 {
-    match tables {
-        [meta, line] => is_meta(meta) && is_line(line),
-        _ => false,
-    }
+    tables.iter().all(is_other_table)
 }
 
-/// Whether the database has the two tables of stored format 1, and nothing else.
-pub(crate) fn is_ours(schema: &Schema) -> bool
-    ensures { IsTrue result ↔ (schema.now ≡ line_schema) }
+fn are_other_indexes(indexes: &[Index]) -> bool
+    ensures { result ≡ list_all is_other_index indexes.now }
 {
-    if !are_tables(schema.tables.as_slice()) {
+    indexes.iter().all(is_other_index)
+}
+
+/// Whether the database has the two tables of stored format 1. Others may stand behind them.
+pub(crate) fn is_ours(schema: &Schema) -> bool
+    ensures { IsTrue result ↔ HasOurTables schema.now }
+{
+    let tables = schema.tables.as_slice();
+    let indexes = schema.indexes.as_slice();
+    if !begin_with_ours(tables) || !begin_with_keys(indexes) {
         return false;
     }
-    if !are_indexes(schema.indexes.as_slice()) {
-        return false;
-    }
-    schema.views.is_empty()
+    are_other_tables(&tables[2..]) && are_other_indexes(&indexes[2..])
 }

@@ -88,7 +88,7 @@ some k b = rw (le-leb 1 (suc k) (omega arith)) refl
 none_open : (s : State) → is_full s ≡ false → (n : ℕ) → is_open s n ≡ false
 none_open s h n = by_list s.sessions (leb (2 ^ 64 - 1) s.next) h
   where
-    by_list : (xs : List ℕ) (b : Bool) → (leb most_sessions (length xs) || b) ≡ false → list_any (λ m. eqb m n) xs ≡ false
+    by_list : (xs : List machine.Session) (b : Bool) → (leb most_sessions (length xs) || b) ≡ false → list_any (λ m. eqb m.serial n) xs ≡ false
     by_list [] b k = refl
     by_list (x ∷ xs) b k = absurd (false≢true (sym k ∙ some (length xs) b))
 

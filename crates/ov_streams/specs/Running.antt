@@ -1,4 +1,4 @@
--- Which lists of stream events a core with its streams has followed.
+-- Which lists of stream events a core with its streams has followed. What names no source is our own.
 use Rattle.std.specs.Prelude.{◌≡◌, ℕ, ◌++◌, List, map, Option, IsSomeAnd, true}
 use Rattle.ov_specs.specs.machine.Machine as machine
 use Rattle.ov_specs.specs.machine.Machine.{Entry, State, opening, is_open}
@@ -14,42 +14,42 @@ use Rattle.ov_streams.specs.declared.event.StreamEvent.TheVariants.{Open, Feed, 
 use Rattle.ov_streams.specs.declared.session_stream.SessionStream.{SessionStream}
 use Rattle.ov_streams.specs.Feeding.{IsFed}
 
--- an event of the code as that of the definitions (own)
+-- an event of the code as that of the definitions
 abbrev pub stream_event_view : StreamEvent → streams.StreamEvent
 stream_event_view Open = streams.Opens
 stream_event_view (Feed session bytes) = streams.Feed session bytes
 stream_event_view (Finish session) = streams.Finish session
 stream_event_view (Tick moment) = streams.Passes moment
 
--- a list of events (own)
+-- a list of events
 abbrev pub stream_events_view : List StreamEvent → List streams.StreamEvent
 stream_events_view events = map stream_event_view events
 
--- what contracts see: the core, and the cutter of the session that is open, if one is (own)
+-- what contracts see: the core, and the cutter of the session that is open, if one is
 pub record StreamsState (K D : Type 0) : Type 0 where
   pub core : CoreState K D
   pub session_stream : Option SessionStream
 
--- the session has a cutter that was given its stream, which is not damaged (own)
+-- the session has a cutter that was given its stream, which is not damaged
 abbrev pub HasSessionStream : ℕ → List ℕ → Option SessionStream → Type 0
 HasSessionStream n stream session_stream = IsSomeAnd session_stream (λ l. (l.session.serial ≡ n) × IsFed stream l.cutter)
 
 -- The list of events expands to the history that the core has followed from its opening, and each open session has a cutter that
--- was given its stream (own).
+-- was given its stream.
 pub record FollowsEvents {K D : Type 0} (schema : Schema) (database : Database) (list : List streams.StreamEvent) (history : List Entry) (given : ℕ → List (List ℕ)) (now : StreamsState K D) : Type 0 where
   pub fed : Streams
   pub follows : Follows (opening schema database) history given now.core
   pub expands : ExpandsAll (opening schema database) no_streams list history now.core.state fed
   pub session_streams : (n : ℕ) → is_open now.core.state n ≡ true → HasSessionStream n (fed n) now.session_stream
 
--- whatever list the streams suited before, they suit it with these events behind it (own)
+-- whatever list the streams suited before, they suit it with these events behind it
 abbrev pub RunsEvents : {K D : Type 0} → List streams.StreamEvent → StreamsState K D → StreamsState K D → Type 0
 RunsEvents events old new =
     (schema : Schema) (database : Database) (list : List streams.StreamEvent) (history : List Entry) (given : ℕ → List (List ℕ)) → FollowsEvents schema database list history given old
     → (entries : List Entry) × FollowsEvents schema database (list ++ events) (history ++ entries) given new
 
 -- An event is refused in a state where the machine's step for it is, with the fault of that step: an opening or a passing of time
--- may be, what a session sends and its end never are (own).
+-- may be, what a session sends and its end never are.
 abbrev pub RefusesEvent : StreamEvent → State → StepFault → Type 0
 RefusesEvent Open s fault = RefusesStep machine.Open s fault
 RefusesEvent (Feed session bytes) s fault = ⊥

@@ -1,4 +1,4 @@
--- What the settings are, by what is known of the words' parts.
+-- What the settings are, by what is known of the arguments' parts.
 use Rattle.std.proofs.Common.{◌≡◌, ◌≢◌, ◌∙◌, List, [], ◌∷◌, ◌⊎◌, inl, inr, ap, refl, true, false, Bool}
 use Rattle.std.specs.Prelude.{Option, Some, None, ◌&&◌}
 use Rattle.clap.specs.Words.{IsAmong, Kinds, Text, first_of, first_value, found_of, matches_of, rows_of}
@@ -10,7 +10,7 @@ use Rattle.ov_words.specs.Faults.{fault_by}
 use Rattle.ov_words.specs.declared.fault.WordFault.TheVariants.{Refused}
 use Rattle.ov_words.specs.Words.{app, is_file, is_set, settings_by, option_value}
 
--- the value that the matches have is the one that the words give
+-- the value that the matches have is the one that the arguments give
 pub value_of-matches : (words : List Text) (m : ArgMatches) (name : Text) → rows_of (found_of m) ≡ matches_of app words
     → first_value (found_of m) name ≡ option_value words name
 value_of-matches words m name e = first_value-rows (found_of m) name ∙ ap (first_of name) e
@@ -40,7 +40,7 @@ pub settings_by-db : (faults : Kinds) (schema db streams : Option Text) → db �
 settings_by-db [] schema db streams empty = rw (empty, and_false (is_file schema)) refl
 settings_by-db (k ∷ ks) schema db streams empty = refl
 
--- words are refused only where there is something wrong
+-- arguments are refused only where there is something wrong
 pub some_of_refused : (k : ErrorKind) (faults : Kinds) → fault_by k ≡ Refused → (k ≡ OutOfMemory) ⊎ IsAmong k faults → faults ≢ []
 some_of_refused k [] e (inl memory) = absurd (let bad = rw memory at e in cc)
 some_of_refused k [] e (inr among) = absurd among

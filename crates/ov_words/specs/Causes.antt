@@ -1,4 +1,4 @@
--- How the program ends, by what it met (own).
+-- How the program ends, by what it met. What names no source is our own.
 use Rattle.ov_words.specs.declared.ending.Ending.{Ending}
 use Rattle.ov_words.specs.declared.ending.Ending.TheVariants as ends
 use Rattle.ov_words.specs.declared.fault.WordFault.{WordFault}
@@ -14,7 +14,7 @@ use Rattle.ov_core.specs.declared.event.Cause.TheVariants as causes
 use Rattle.ov_core.specs.declared.event.StepFault.{StepFault}
 use Rattle.ov_core.specs.declared.event.StepFault.TheVariants as steps
 
--- where the words give no settings
+-- where the arguments give no settings
 abbrev pub by_words : WordFault → Ending
 by_words words.Refused = ends.Arguments
 by_words words.Memory = ends.Memory

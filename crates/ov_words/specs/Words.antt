@@ -1,4 +1,4 @@
--- What the program's words say, by `clap`'s own reading of them: the first word is the program's name.
+-- What the program's arguments say, by `clap`'s own reading of them: the first argument is the program's name.
 use Rattle.std.specs.Prelude.{◌&&◌, Bool, List, [], ◌∷◌, Option, Some, None, true, false, if◌then◌else◌, codes}
 use Rattle.std.specs.Option.{option_map_or}
 use Rattle.std.specs.Str.{bytes_eq}
@@ -36,13 +36,13 @@ is_file (Some (x ∷ xs)) = true
 abbrev pub is_set : Option Text → Bool
 is_set value = option_map_or (λ text. bytes_eq text (codes "true")) value false
 
--- the settings, by what `clap` finds wrong and by what the words give: none where anything is wrong, or where a file is
+-- the settings, by what `clap` finds wrong and by what the arguments give: none where anything is wrong, or where a file is
 -- named by the empty text
 abbrev pub settings_by : Kinds → Option Text → Option Text → Option Text → Option Settings
 settings_by [] schema db streams = if is_file schema && is_file db
     then Some (record { schema = schema; db = db; is_on_streams = is_set streams }) else None
 settings_by (k ∷ ks) schema db streams = None
 
--- the settings that the words give, or none where they are refused
+-- the settings that the arguments give, or none where they are refused
 abbrev pub settings_of : List Text → Option Settings
 settings_of words = settings_by (fault_of app words) (option_value words (codes "schema")) (option_value words (codes "db")) (option_value words (codes "stdio"))

@@ -9,7 +9,7 @@ use ov_core::early::{KeepFault, OpenFault};
 use ov_core::{Cause, StepFault};
 use ov_schema::SchemaFileFault;
 
-/// Where the words give no settings.
+/// Where the arguments give no settings.
 pub fn ending_of_words(fault: WordFault) -> Ending
     ensures { result ≡ by_words fault }
 {

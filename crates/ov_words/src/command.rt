@@ -8,7 +8,7 @@ use std::alloc::{AllocError, Global};
 use std::convert::AsStr;
 
 #[tactic(auto, using(crate::proofs::WordsLemmas::some_of_refused))]
-/// The program's words, of which the first is its name, as `clap` matches them.
+/// The program's arguments, of which the first is its name, as `clap` matches them.
 pub(crate) fn matches<'a, S: AsStr>(
     alloc: Global,
     words: &'a [S],
@@ -24,7 +24,7 @@ pub(crate) fn matches<'a, S: AsStr>(
     }
 }
 
-/// What `clap` is told of the words. It adds no flags of its own.
+/// What `clap` is told of the arguments. It adds no flags of its own.
 fn command<'a>(alloc: Global) -> Result<Command<'a>, AllocError>
     ensures { IfOk result (λ command. app_of command ≡ app) }
 {

@@ -6,7 +6,7 @@ ghost use Rattle.ov_words.specs.Endings.{error_line, status};
 pub enum Ending {
     /// The input ended.
     InputEnded,
-    /// The words were refused.
+    /// The arguments were refused.
     Arguments,
     /// The schema's file could not be read, or is no JSON, or its schema was refused.
     Schema,

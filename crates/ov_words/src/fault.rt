@@ -2,11 +2,11 @@ use clap::error::ErrorKind;
 use std::alloc::AllocError;
 use thiserror::Error;
 
-/// Why the program's words give no settings.
+/// Why the program's arguments give no settings.
 #[derive(Clone, Copy, Debug, PartialEq, Eq, Error)]
 pub enum WordFault {
     /// `clap` refuses them, or a FILE is empty. There is no help page, so `--help` is refused as well.
-    #[error("not the words of ov_server")]
+    #[error("not the arguments of ov_server")]
     Refused,
     /// A growth was refused.
     #[error("out of memory")]

@@ -1,7 +1,7 @@
-//! What the program is told by its words, and how it ends.
+//! What the program is told by its arguments, and how it ends.
 //!
-//! The words are read by `clap`: no file is opened here, and nothing is written. What ends the program is told by the faults of
-//! the crates below.
+//! The arguments are read by `clap`: no file is opened here, and nothing is written. What ends the program is told by the faults
+//! of the crates below.
 #![tactic(auto)]
 
 mod causes;

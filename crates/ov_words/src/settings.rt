@@ -17,13 +17,13 @@ pub struct Settings {
     pub schema: Option<Text>,
     /// The path of the file that keeps the database, or none for a database in memory.
     pub db: Option<Text>,
-    /// Whether standard input and output are named as what is served. They are served without the word too.
+    /// Whether standard input and output are named as what is served. They are served without the argument too.
     pub is_on_streams: bool,
 }
 
-/// Reads the program's words, `[--schema FILE] [--db FILE] [--stdio]`, of which the first is the program's name.
+/// Reads the program's arguments, `[--schema FILE] [--db FILE] [--stdio]`, of which the first is the program's name.
 ///
-/// A path is any text but the empty one, and no file is looked for. `--db=FILE` is read as `--db FILE`; a word that is
+/// A path is any text but the empty one, and no file is looked for. `--db=FILE` is read as `--db FILE`; an argument that is
 /// given twice is refused.
 pub fn read_words<S: AsStr>(alloc: Global, words: &[S]) -> Result<Settings, WordFault>
     ensures taken { IfOk result (λ settings. settings_of (map S.text words.now) ≡ Some settings) }

@@ -1,7 +1,8 @@
-use crate::stores::created;
+use crate::stores::{created, kept};
 use ov_base::Text;
 use ov_keeper::KeepFault;
 use ov_store::{Store, store_over};
+use sqlite::types::ValueRef;
 use sqlite::{Alter, Connection};
 use std::alloc::Global;
 use std::test::Fail;
@@ -22,6 +23,9 @@ fn statement(word: &str) -> &'static str {
         "foreign" => "CREATE TABLE other(a);",
         "view" => "CREATE VIEW v AS SELECT 1;",
         "index" => "CREATE INDEX other ON line(ver);",
+        "unique" => "CREATE UNIQUE INDEX other ON line(ver);",
+        "key" => "CREATE TABLE other(a REFERENCES meta(k));",
+        "seven_there" => "INSERT INTO other VALUES(7);",
         "text_id" =>
             "CREATE TABLE line(tbl TEXT, id TEXT, ver BLOB, body BLOB, PRIMARY KEY(tbl,id));",
         "seven" => "UPDATE meta SET v=x'37' WHERE k='format';",
@@ -39,8 +43,15 @@ line -> not a database of this program
 meta schema format -> not a database of this program
 line meta schema format -> not a database of this program
 meta text_id schema format -> not a database of this program
-meta line schema format foreign -> not a database of this program
-meta line schema format index -> not a database of this program
+meta line schema format foreign -> old 0
+meta line foreign schema format row -> old 1
+meta line schema format index -> old 0
+meta line schema format view -> old 0
+meta line schema format row foreign view -> old 1
+meta line schema format unique -> not a database of this program
+meta line schema format key -> not a database of this program
+foreign meta line schema format -> not a database of this program
+meta foreign line schema format -> not a database of this program
 meta line -> another format
 meta line schema format third -> another format
 meta line schema format seven -> another format
@@ -52,6 +63,8 @@ meta line schema format row no_text -> another format";
 const MADE_OR_OPENED: &str = " -> new 0
 meta line format schema row -> old 1
 meta line format -> another format
+meta line schema format foreign -> old 0
+foreign -> not a database of this program
 view -> not a database of this program";
 
 /// The schema's text that a store has, and how many lines.
@@ -141,5 +154,38 @@ fn tables_are_made_once(rt: HostRuntime) -> Result<(), Fail> {
     let connection = Connection::open_in_memory(rt.alloc())?;
     let told = made_again(rt.alloc(), connection)?;
     assert_eq!(rt; told.as_str(), "not a database of this program");
+    Ok(())
+}
+
+/// Whether the other table has its row after a commit beside it.
+fn keeps_other_rows<S: Alter + Drop>(
+    alloc: Global,
+    connection: Connection<S>,
+) -> Result<bool, Fail> {
+    let mut connection = connection;
+    for word in "meta line schema format foreign seven_there".split_whitespace() {
+        connection.execute_batch(statement(word))?;
+    }
+    if !connection.is_autocommit() {
+        return Err(Fail::new("in a transaction"));
+    }
+    let store = Store::open(alloc, connection)?;
+    let script = "put Switch 1 0 one
+commit -> made
+lines -> Switch 1 0 one;";
+    let mut connection = kept(alloc, store, script)?.close();
+    let rows = connection
+        .transaction()
+        .query_all("SELECT a FROM other", &[])?;
+    Ok(match rows.as_slice() {
+        [row] => matches!(row.get_ref(0), Ok(ValueRef::Int(7))),
+        _ => false,
+    })
+}
+
+#[test]
+fn a_commit_keeps_other_tables(rt: HostRuntime) -> Result<(), Fail> {
+    let connection = Connection::open_in_memory(rt.alloc())?;
+    assert!(rt; keeps_other_rows(rt.alloc(), connection)?);
     Ok(())
 }

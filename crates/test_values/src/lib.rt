@@ -1,4 +1,4 @@
-//! Tests of what is told by the arguments alone: the words of the program, cuts, messages and frames, trees, values, schemas,
+//! Tests of what is told by the arguments alone: the program's arguments, cuts, messages and frames, trees, values, schemas,
 //! conditions and mutations.
 #![tactic(auto)]
 

@@ -1,7 +1,7 @@
 use crate::shapes::{shapes, value_of};
 use ov_atoms::{Datum, NoNames, write_datum};
 use ov_mutate::{MutateFault, Mutation, MutationFault};
-use ov_schema::{Column, Schema, Table};
+use ov_schema::{Schema, Table};
 use serde_json::Value;
 use std::alloc::Global;
 use std::test::Fail;
@@ -137,13 +137,8 @@ null ["counts","delete",["map",["a"]]] -> syntax
 null ["counts","delete",1] -> syntax"#;
 
 /// What a mutation makes of a value of its column, as it is written, or the word of its fault.
-fn changed(
-    alloc: Global,
-    column: &Column,
-    mutation: &Mutation,
-    before: &Datum,
-) -> Result<String, Fail> {
-    let word = match mutation.mutate(alloc, column, before) {
+fn changed(alloc: Global, mutation: &Mutation<'_>, before: &Datum) -> Result<String, Fail> {
+    let word = match mutation.mutate(alloc, before) {
         Ok(datum) => return Ok(write_datum(alloc, &datum)?.to_string(alloc)?),
         Err(MutateFault::Domain) => "domain",
         Err(MutateFault::Range) => "range",
@@ -157,13 +152,12 @@ fn changed(
 fn applied(
     alloc: Global,
     table: &Table,
-    mutation: &Mutation,
+    mutation: &Mutation<'_>,
     before: &str,
 ) -> Result<String, Fail> {
-    let name = mutation.column();
-    let column = table.column(name).ok_or("no such column")?;
-    let before = value_of(alloc, table, name, &Value::from_str(alloc, before)?)?;
-    changed(alloc, column, mutation, &before)
+    let tree = Value::from_str(alloc, before)?;
+    let before = value_of(alloc, table, mutation.column(), &tree)?;
+    changed(alloc, mutation, &before)
 }
 
 /// The commands are a value and a mutation behind it.

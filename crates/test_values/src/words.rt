@@ -4,7 +4,7 @@ use std::alloc::Global;
 use std::test::Fail;
 use test_support::{Scripted, agrees};
 
-/// Words behind the program's name, with a comma behind each, and the settings: the schema, the database, and whether the
+/// Arguments behind the program's name, with a comma behind each, and the settings: the schema, the database, and whether the
 /// streams are named.
 const TAKEN: &str = " -> -|-|false
 --stdio, -> -|-|true
@@ -16,7 +16,7 @@ const TAKEN: &str = " -> -|-|false
 --schema=--db=x, -> --db=x|-|false
 --db,-,--, -> -|-|false";
 
-/// Words that are refused.
+/// Arguments that are refused.
 const REFUSED: &str = "--help, -> refused
 -h, -> refused
 --version, -> refused
@@ -36,7 +36,7 @@ help, -> refused
 --db=,--stdio, -> refused
 --listen,127.0.0.1:0, -> refused";
 
-/// The words of a case, behind the program's name.
+/// The arguments of a case, behind the program's name.
 fn words_of<'a>(alloc: Global, case: &'a str) -> Result<Vec<&'a str>, Fail> {
     let mut words = Vec::new(alloc);
     words.push("ov_server")?;
@@ -61,7 +61,7 @@ fn text_of(alloc: Global, settings: &Settings) -> Result<String, Fail> {
     Ok(format!(in alloc; "{schema}|{db}|{is_on_streams}")?)
 }
 
-/// The settings that words give.
+/// The settings that arguments give.
 #[derive(Drop)]
 struct Words;
 

@@ -20,7 +20,7 @@ net = opening net_schema empty
 
 -- with session 1 open
 abbrev with_session : State
-with_session = record net { sessions = 1 ∷ []; next = 2 }
+with_session = record net { sessions = record { serial = 1 } ∷ []; next = 2 }
 
 abbrev at : ℕ → Event → Entry
 at moment event = record { event = event; choice = record { moment = moment; draws = []; outcomes = [] } }
@@ -100,17 +100,25 @@ unfolding digits serde_json_on_literals
 other_methods_are_unknown = refl
 
 -- a session that is opened again has a new serial
-pub serials_are_not_used_again : option_map (λ t. t.state.sessions) (run net (at 0 Open ∷ at 0 (Close 1 InputEnded) ∷ at 0 Open ∷ [])) ≡ Some (2 ∷ [])
+pub serials_are_not_used_again : option_map (λ t. t.state.sessions) (run net (at 0 Open ∷ at 0 (Close 1 InputEnded) ∷ at 0 Open ∷ [])) ≡ Some (record { serial = 2 } ∷ [])
 serials_are_not_used_again = refl
 
 pub requests_of_a_history : requests (at 0 Open ∷ at 0 (Take 1 list_dbs) ∷ at 0 (Take 2 echo) ∷ at 0 (Take 1 echo) ∷ []) 1 ≡ list_dbs ∷ echo ∷ []
 requests_of_a_history = refl
 
-pub cause_of_closing : closed_by (at 0 Open ∷ at 0 (Take 1 list_dbs) ∷ at 0 (Close 1 InputEnded) ∷ []) 1 ≡ Some InputEnded
+pub cause_of_closing : closed_by net (at 0 Open ∷ at 0 (Take 1 list_dbs) ∷ at 0 (Close 1 InputEnded) ∷ []) 1 ≡ Some InputEnded
 cause_of_closing = refl
 
-pub memory_is_the_cause : closed_by (at 0 Open ∷ without_memory (Take 1 list_dbs) ∷ []) 1 ≡ Some Memory
+pub memory_is_the_cause : closed_by net (at 0 Open ∷ without_memory (Take 1 list_dbs) ∷ []) 1 ≡ Some Memory
 memory_is_the_cause = refl
+
+-- another session is not closed by it
+pub others_have_no_cause : closed_by net (at 0 Open ∷ at 0 Open ∷ at 0 (Close 1 InputEnded) ∷ []) 2 ≡ None
+others_have_no_cause = refl
+
+-- a session that is not open is not closed
+pub no_cause_before_opening : closed_by net (at 0 (Close 1 InputEnded) ∷ []) 1 ≡ None
+no_cause_before_opening = refl
 
 -- ---- a notification's bytes
 

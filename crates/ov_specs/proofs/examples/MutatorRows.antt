@@ -164,14 +164,14 @@ switch = record { columns = columns; max_rows = None; is_root = true; indexes = 
 abbrev mutation : List ℕ → Option (Result Mutation MutationFault)
 mutation text = option_map (mutation_read no_names switch) (read text)
 
-abbrev of_column : List ℕ → Change → Option (Result Mutation MutationFault)
-of_column column change = Some (Ok (record { column = column; change = change }))
+abbrev of_column : List ℕ → ColumnType → Change → Option (Result Mutation MutationFault)
+of_column column t change = Some (Ok (record { column = column; type_of = t; change = change }))
 
-pub reads_plus_of_a_set : mutation (codes "[\"tags\",\"+=\",[\"set\",[2]]]") ≡ of_column (codes "tags") (Compute Plus (pos 2))
+pub reads_plus_of_a_set : mutation (codes "[\"tags\",\"+=\",[\"set\",[2]]]") ≡ of_column (codes "tags") sets (Compute Plus (pos 2))
 unfolding serde_json_on_literals
 reads_plus_of_a_set = rw (column_is (codes "tags")) (rw (keys-set (pos 2 ∷ []) tt) refl)
 
-pub reads_delete_of_one_key : mutation (codes "[\"ids\",\"delete\",\"a\"]") ≡ of_column (codes "ids") (Delete (Atoms (set_of (Text (codes "a") ∷ []))))
+pub reads_delete_of_one_key : mutation (codes "[\"ids\",\"delete\",\"a\"]") ≡ of_column (codes "ids") maps (Delete (Atoms (set_of (Text (codes "a") ∷ []))))
 unfolding is_utf8 chars serde_json_on_literals
 reads_delete_of_one_key = rw (column_is (codes "ids")) refl
 

@@ -18,11 +18,11 @@ use Rattle.std.proofs.lemmas.List.{nil_from_length}
 -- ---- what stands in an answer that may be none
 
 -- the value, where there is one, passes the test
-abbrev Passes : {A : Type 0} → (A → Bool) → Option A → Type 0
+abbrev pub Passes : {A : Type 0} → (A → Bool) → Option A → Type 0
 Passes test None = Unit {0}
 Passes test (Some a) = test a ≡ true
 
-passes-then : {A B : Type 0} (test : B → Bool) (f : A → Option B) → ((a : A) → Passes test (f a)) → (o : Option A) → Passes test (option_and_then f o)
+pub passes-then : {A B : Type 0} (test : B → Bool) (f : A → Option B) → ((a : A) → Passes test (f a)) → (o : Option A) → Passes test (option_and_then f o)
 passes-then test f h None = tt
 passes-then test f h (Some a) = h a
 
@@ -34,7 +34,7 @@ passes-or : {A : Type 0} (test : A → Bool) (o p : Option A) → Passes test o 
 passes-or test None p h k = k
 passes-or test (Some a) p h k = h
 
-passes-if : {A : Type 0} (test : A → Bool) (b : Bool) (a : A) → (b ≡ true → test a ≡ true) → Passes test (if b then Some a else None)
+pub passes-if : {A : Type 0} (test : A → Bool) (b : Bool) (a : A) → (b ≡ true → test a ≡ true) → Passes test (if b then Some a else None)
 passes-if test true a h = h refl
 passes-if test false a h = tt
 

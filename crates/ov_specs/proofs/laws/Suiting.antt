@@ -11,7 +11,7 @@ use Rattle.serde_json.specs.Data.{Data, Items, no_items, item}
 use Rattle.serde_json.specs.Find as find
 use Rattle.serde_json.specs.Find.{as_object}
 use Rattle.ov_specs.specs.machine.History.{run, then_sends}
-use Rattle.ov_specs.specs.machine.Machine.{State, Entry, Choice, Event, Open, Take, Close, Tick, Outcome, NoMemory, Committed, Exhausted, Failed, Listed, listed, Stepped, step, happens, works, does, commits, sends_at_once, closed, when, is_open, is_without_choice, none_listed, Work, Answers, Transact, work_of, draws_for, results_of, opening}
+use Rattle.ov_specs.specs.machine.Machine.{State, Entry, Choice, Event, Open, Take, Close, Tick, Outcome, NoMemory, Committed, Exhausted, Failed, Listed, listed, Sent, Stepped, step, happens, works, does, commits, sends_at_once, closed, when, is_open, is_without_choice, none_listed, Work, Answers, Transact, work_of, draws_for, to_session, results_to, opening}
 use Rattle.ov_specs.specs.machine.Suiting.{SuitsState, draws_uuids}
 use Rattle.ov_specs.specs.operations.Errors.{OpError, SyntaxError, UnknownTable}
 use Rattle.ov_specs.specs.operations.Operation.{Staged, OperationResult, Succeeds, Fails, some_or_fail, ok_or_fail, operation, insert_row, new_columns, put_under, select_rows, no_names, conditions_read, selected_columns, array_at, text_at}
@@ -23,6 +23,7 @@ use Rattle.ov_specs.specs.rows.Suits.{SuitsTable, SuitsRow, Suits}
 use Rattle.ov_specs.specs.schema.SchemaTypes.{Table, Schema}
 use Rattle.ov_specs.specs.values.Uuid.{Uuid, is_uuid}
 use Rattle.ov_specs.specs.wire.Message.{has_member}
+use Rattle.ov_specs.proofs.laws.Turns.{ends_tries}
 use Rattle.ov_specs.proofs.laws.LineKeys.{key_total, tied_same}
 use Rattle.ov_specs.proofs.laws.SuitingColumns.{MakesRow, new_columns_suit}
 
@@ -146,9 +147,9 @@ if_stays : (schema : Schema) (b : Bool) (o p : Option Stepped) → StaysSuited s
 if_stays schema true o p h k = h
 if_stays schema false o p h k = k
 
-sending_stays : (s : State) (n : ℕ) (trees : List Data) (o : Option Outcome) → SuitsState s → StaysSuited s.schema (sends_at_once s n trees o)
-sending_stays s n trees None suits = (refl, suits)
-sending_stays s n trees (Some outcome) suits = tt
+sending_stays : (s : State) (sent : List Sent) (o : Option Outcome) → SuitsState s → StaysSuited s.schema (sends_at_once s sent o)
+sending_stays s sent None suits = (refl, suits)
+sending_stays s sent (Some outcome) suits = tt
 
 closed_stays : (s : State) (n : ℕ) → SuitsState s → StaysSuited s.schema (Some (closed s n))
 closed_stays s n suits = (refl, record { committed = suits.committed; sealed = suits.sealed })
@@ -161,11 +162,11 @@ commits_stays s n id t (Some NoMemory) suits new = tt
 commits_stays s n id t None suits new = tt
 
 does_stays : (s : State) (n : ℕ) (draws : List Uuid) (o : Option Outcome) (w : Work) → list_all is_uuid draws ≡ true → SuitsState s → StaysSuited s.schema (does s n draws o w)
-does_stays s n draws o (Answers trees) are suits = sending_stays s n trees o suits
+does_stays s n draws o (Answers trees) are suits = sending_stays s (to_session n trees) o suits
 does_stays s n draws o (Transact id operations) are suits =
     let t : Transacted = transaction s.schema s.database draws operations in
-    if_stays s.schema (same_database s.database t.database) _ _ (sending_stays s n (results_of id t.results) o suits)
-    (if_stays s.schema (is_some s.sealed) _ _ (sending_stays s n (results_of id (failed_results t.results)) o suits)
+    if_stays s.schema (same_database s.database t.database) _ _ (sending_stays s (results_to n id t.results) o suits)
+    (if_stays s.schema (is_some s.sealed) _ _ (sending_stays s (results_to n id (failed_results t.results)) o suits)
     (commits_stays s n id t o suits (transaction_suits s.schema s.database draws operations are suits.committed)))
 
 works_stays : (s : State) (n : ℕ) (draws : List Uuid) (o : Option Outcome) (w : Work) → list_all is_uuid draws ≡ true → SuitsState s → StaysSuited s.schema (works s n draws o w)
@@ -176,7 +177,9 @@ happens_stays : (s : State) (c : Choice) (what : Event) → list_all is_uuid c.d
 happens_stays s c Open are suits = when_stays s.schema (is_without_choice c) _ (refl, record { committed = suits.committed; sealed = suits.sealed })
 happens_stays s c (Take n message) are suits =
     let first : Listed = listed 1 c.outcomes in
-    when_stays s.schema (is_open s n) _ (when_stays s.schema (none_listed first.others) _ (works_stays s n c.draws first.outcome (work_of s message) are suits))
+    let work : Option Outcome → Option Stepped = λ o. works s n c.draws o (work_of s message) in
+    when_stays s.schema (is_open s n) _
+    (subst (StaysSuited s.schema) (sym (ends_tries work 1 c.outcomes)) (when_stays s.schema (none_listed first.others) _ (works_stays s n c.draws first.outcome (work_of s message) are suits)))
 happens_stays s c (Close n cause) are suits = when_stays s.schema (is_without_choice c && is_open s n) _ (closed_stays s n suits)
 happens_stays s c Tick are suits = when_stays s.schema (is_without_choice c) _ (refl, suits)
 

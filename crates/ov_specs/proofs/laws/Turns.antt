@@ -1,59 +1,56 @@
 -- What one entry makes of one session.
-use Rattle.std.proofs.Common.{◌≡◌, ◌≢◌, ℕ, ◌+◌, List, [], ◌∷◌, ◌++◌, length, refl, sym, ap, ◌∙◌, append_assoc, cond, eqb, leb, Bool, true, false, Option, Some, None, ◌⊎◌, inl, inr}
-use Rattle.std.specs.Prelude.{not, ◌||◌, ◌&&◌, filter, is_some}
+use Rattle.std.proofs.Common.{◌≡◌, ◌≢◌, ℕ, ◌+◌, List, [], ◌∷◌, ◌++◌, length, refl, sym, ap, ◌∙◌, cond, eqb, leb, Bool, true, false, Option, Some, None, ◌⊎◌, inl, inr}
+use Rattle.std.specs.Prelude.{not, ◌||◌, ◌&&◌, filter, is_some, option_map}
 use Rattle.std.specs.List.{list_any}
-use Rattle.std.proofs.lemmas.List.{append-nil}
 use Rattle.std.proofs.lemmas.List.Folds.{list_any-append}
 use Rattle.std.proofs.lemmas.Map.Views.{any-filter_same}
-use Rattle.std.proofs.lemmas.Bool.{eq-eqb, eqb-true, ne_eqb, not_from_true, not_from_false}
+use Rattle.std.proofs.lemmas.Bool.{eq-eqb, eqb-true, ne_eqb, not_from_true, not_from_false, and_parts}
 use Rattle.ov_specs.specs.wire.Message.{Message}
 use Rattle.ov_specs.specs.rows.Database.{same_database}
 use Rattle.ov_specs.specs.operations.Transaction.{Transacted, transaction, exhausted_results, failed_results}
 use Rattle.ov_specs.specs.values.Uuid.{Uuid}
-use Rattle.ov_specs.specs.machine.Machine.{State, Entry, Event, Open, Take, Close, Tick, Cause, Memory, Outcome, NoMemory, Committed, Exhausted, Failed, Listed, listed, Stepped, step, happens, takes, sends_at_once, closed, when, is_open, is_without_choice, without_session, to_session, none_listed, Work, Answers, Transact, work_of, works, draws_for, does, commits, sends_results, results_of}
-use Rattle.ov_specs.specs.machine.History.{requests, taken_by, closing_cause, closed_by, cause_of_outcome}
-use Rattle.std.specs.Option.{option_or}
+use Rattle.ov_specs.specs.machine.Machine.{State, Entry, Event, Open, Take, Close, Tick, Cause, Memory, Outcome, NoMemory, Committed, Exhausted, Failed, Attempt, Listed, listed, tries, ends, Session, Sent, Stepped, step, happens, takes, sends_at_once, closed, when, is_open, is_without_choice, with_next_session, without_session, to_session, none_listed, Work, Answers, Transact, work_of, works, draws_for, does, commits, results_to}
+use Rattle.ov_specs.specs.machine.History.{taken_by, cause_in, closing_cause}
 use Rattle.serde_json.specs.Data.{Data}
 use Rattle.ov_specs.proofs.laws.Truths.{or_nothing}
 use Rattle.std.proofs.lemmas.Option.{same_Some}
 
--- ---- histories, one entry longer
-
--- none behind it
-pub option_or_none : {A : Type 0} (o : Option A) → option_or o None ≡ o
-option_or_none None = refl
-option_or_none (Some x) = refl
-
--- the first of three
-option_or_assoc : {A : Type 0} (a b c : Option A) → option_or a (option_or b c) ≡ option_or (option_or a b) c
-option_or_assoc None b c = refl
-option_or_assoc (Some x) b c = refl
-
--- one entry more
-pub requests_more : (h : List Entry) (e : Entry) (n : ℕ) → requests (h ++ e ∷ []) n ≡ requests h n ++ taken_by n e.event
-requests_more [] e n = append-nil (taken_by n e.event)
-requests_more (x ∷ h) e n = ap (λ l. taken_by n x.event ++ l) (requests_more h e n) ∙ sym (append_assoc (taken_by n x.event) (requests h n) (taken_by n e.event))
-
--- one entry more
-pub closed_by_more : (h : List Entry) (e : Entry) (n : ℕ) → closed_by (h ++ e ∷ []) n ≡ option_or (closed_by h n) (closing_cause n e.event (listed 1 e.choice.outcomes))
-closed_by_more [] e n = option_or_none (closing_cause n e.event (listed 1 e.choice.outcomes))
-closed_by_more (x ∷ h) e n =
-    let o : Option Cause = closing_cause n x.event (listed 1 x.choice.outcomes) in
-    ap (option_or o) (closed_by_more h e n) ∙ option_or_assoc o (closed_by h n) (closing_cause n e.event (listed 1 e.choice.outcomes))
-
 -- ---- the open sessions
 
 -- one session more
-any_push : (n x : ℕ) (xs : List ℕ) → list_any (λ k. eqb k n) (xs ++ x ∷ []) ≡ (list_any (λ k. eqb k n) xs || eqb x n)
-any_push n x xs = list_any-append (λ k. eqb k n) xs (x ∷ []) ∙ ap (λ b. list_any (λ k. eqb k n) xs || b) (or_nothing (eqb x n))
+any_push : (n x : ℕ) (xs : List Session) → list_any (λ k. eqb k.serial n) (xs ++ record { serial = x } ∷ []) ≡ (list_any (λ k. eqb k.serial n) xs || eqb x n)
+any_push n x xs = list_any-append (λ (k : Session). eqb k.serial n) xs (record { serial = x } ∷ []) ∙ ap (λ b. list_any (λ (k : Session). eqb k.serial n) xs || b) (or_nothing (eqb x n))
 
 -- a session that was taken out is not among them
-none_left : (n : ℕ) (xs : List ℕ) → list_any (λ k. eqb k n) (filter (λ k. not (eqb k n)) xs) ≡ false
-none_left n xs = any-filter_same (λ k. eqb k n) (λ k. not (eqb k n)) false (λ k e. not_from_true (eqb k n) e) xs
+none_left : (n : ℕ) (xs : List Session) → list_any (λ k. eqb k.serial n) (filter (λ k. not (eqb k.serial n)) xs) ≡ false
+none_left n xs = any-filter_same (λ (k : Session). eqb k.serial n) (λ k. not (eqb k.serial n)) false (λ k e. not_from_true (eqb k.serial n) e) xs
 
 -- the others stay
-others_left : (n m : ℕ) (xs : List ℕ) → m ≢ n → list_any (λ k. eqb k n) (filter (λ k. not (eqb k m)) xs) ≡ list_any (λ k. eqb k n) xs
-others_left n m xs ne = any-filter_same (λ k. eqb k n) (λ k. not (eqb k m)) true (λ k e. not_from_false (eqb k m) (ne_eqb k m (λ same. ne (sym same ∙ eqb-true k n e)))) xs
+others_left : (n m : ℕ) (xs : List Session) → m ≢ n → list_any (λ k. eqb k.serial n) (filter (λ k. not (eqb k.serial m)) xs) ≡ list_any (λ k. eqb k.serial n) xs
+others_left n m xs ne =
+    any-filter_same (λ (k : Session). eqb k.serial n) (λ k. not (eqb k.serial m)) true (λ k e. not_from_false (eqb k.serial m) (ne_eqb k.serial m (λ same. ne (sym same ∙ eqb-true k.serial n e)))) xs
+
+-- ---- causes
+
+-- a session that stays as it was has none
+no_cause_same : (n : ℕ) (s t : State) (what : Event) → is_open t n ≡ is_open s n → closing_cause n s what t ≡ None
+no_cause_same n s t what same = ap (λ b. cond (is_open s n && not b) (Some (cause_in n what)) None) same ∙ never (is_open s n)
+  where
+    never : (b : Bool) → cond (b && not b) (Some (cause_in n what)) None ≡ None
+    never true = refl
+    never false = refl
+
+-- one that may be opened has none
+no_cause_more : (n : ℕ) (s t : State) (what : Event) (c : Bool) → is_open t n ≡ (is_open s n || c) → closing_cause n s what t ≡ None
+no_cause_more n s t what c more = ap (λ b. cond (is_open s n && not b) (Some (cause_in n what)) None) more ∙ never (is_open s n)
+  where
+    never : (b : Bool) → cond (b && not (b || c)) (Some (cause_in n what)) None ≡ None
+    never true = refl
+    never false = refl
+
+-- one that is open before and not after has that of the event
+pub cause_shut : (n : ℕ) (s t : State) (what : Event) → is_open s n ≡ true → is_open t n ≡ false → closing_cause n s what t ≡ Some (cause_in n what)
+cause_shut n s t what there away = ap (λ b. cond (b && not (is_open t n)) (Some (cause_in n what)) None) there ∙ ap (λ b. cond (not b) (Some (cause_in n what)) None) away
 
 -- ---- one step
 
@@ -61,6 +58,22 @@ others_left n m xs ne = any-filter_same (λ k. eqb k n) (λ k. not (eqb k m)) tr
 when_is : {A : Type 0} (b : Bool) (o : Option A) (x : A) → when b o ≡ Some x → o ≡ Some x
 when_is true o x h = h
 when_is false o x h = cc
+
+when_suits : {A : Type 0} (b : Bool) (o : Option A) (x : A) → when b o ≡ Some x → b ≡ true
+when_suits true o x h = refl
+when_suits false o x h = cc
+
+-- an attempt behind which nothing is tried
+pub ends_tries : (attempt : Option Outcome → Option Stepped) (number : ℕ) (attempts : List Attempt) → ends (tries attempt number attempts) ≡ when (none_listed (listed number attempts).others) (attempt (listed number attempts).outcome)
+ends_tries attempt number attempts = by (attempt (listed number attempts).outcome)
+  where
+    none : (b : Bool) → None ≡ when {A = Stepped} b None
+    none true = refl
+    none false = refl
+
+    by : (o : Option Stepped) → ends (option_map (λ t. record { stepped = t; others = (listed number attempts).others }) o) ≡ when (none_listed (listed number attempts).others) o
+    by None = none (none_listed (listed number attempts).others)
+    by (Some t) = refl
 
 -- the state at the moment of the entry
 abbrev now : State → Entry → State
@@ -71,138 +84,160 @@ pub stepped : (s : State) (e : Entry) (t : Stepped) (what : Event) → e.event �
 stepped s e t what is h = when_is (leb s.moment e.choice.moment) (happens (now s e) e.choice what) t (sym (ap (λ v. when (leb s.moment e.choice.moment) (happens (now s e) e.choice v)) is) ∙ h)
 
 -- what an entry makes of a session: whether it is open then, the serial of the next one, what was taken of it, and why it was closed
-pub record Turn (n : ℕ) (e : Entry) (t : State) (open' : Bool) (next : ℕ) (taken : List Message) (cause : Option Cause) : Type 0 where
+pub record Turn (n : ℕ) (s : State) (e : Entry) (t : State) (open' : Bool) (next : ℕ) (taken : List Message) (cause : Option Cause) : Type 0 where
   pub open_is : is_open t n ≡ open'
   pub next_is : t.next ≡ next
   pub taken_is : taken_by n e.event ≡ taken
-  pub cause_is : closing_cause n e.event (listed 1 e.choice.outcomes) ≡ cause
+  pub cause_is : closing_cause n s e.event t ≡ cause
 
 module _ (n : ℕ) (s : State) (e : Entry) (t : Stepped) (h : step s e ≡ Some t) where
   -- a session opens
-  pub turn_open : e.event ≡ Open → Turn n e t.state (is_open s n || eqb s.next n) (s.next + 1) [] None
+  pub turn_open : e.event ≡ Open → Turn n s e t.state (is_open s n || eqb s.next n) (s.next + 1) [] None
   turn_open is =
       let k = stepped s e t Open is h in
-      let x : Stepped = record { state = record (now s e) { sessions = s.sessions ++ s.next ∷ []; next = s.next + 1 }; sent = [] } in
+      let x : Stepped = record { state = with_next_session (now s e); sent = [] } in
       let same : x ≡ t = same_Some x t (when_is (is_without_choice e.choice) (Some x) t k) in
+      let open_is : is_open t.state n ≡ (is_open s n || eqb s.next n) = ap (λ (v : Stepped). is_open v.state n) (sym same) ∙ any_push n s.next s.sessions in
       record {
-        open_is = ap (λ (v : Stepped). is_open v.state n) (sym same) ∙ any_push n s.next s.sessions;
+        open_is = open_is;
         next_is = ap (λ (v : Stepped). v.state.next) (sym same);
         taken_is = ap (taken_by n) is;
-        cause_is = ap (λ v. closing_cause n v (listed 1 e.choice.outcomes)) is;
+        cause_is = no_cause_more n s t.state e.event (eqb s.next n) open_is;
       }
 
   -- time passes
-  pub turn_tick : e.event ≡ Tick → Turn n e t.state (is_open s n) s.next [] None
+  pub turn_tick : e.event ≡ Tick → Turn n s e t.state (is_open s n) s.next [] None
   turn_tick is =
       let k = stepped s e t Tick is h in
       let x : Stepped = record { state = now s e; sent = [] } in
       let same : x ≡ t = same_Some x t (when_is (is_without_choice e.choice) (Some x) t k) in
+      let open_is : is_open t.state n ≡ is_open s n = ap (λ (v : Stepped). is_open v.state n) (sym same) in
       record {
-        open_is = ap (λ (v : Stepped). is_open v.state n) (sym same);
+        open_is = open_is;
         next_is = ap (λ (v : Stepped). v.state.next) (sym same);
         taken_is = ap (taken_by n) is;
-        cause_is = ap (λ v. closing_cause n v (listed 1 e.choice.outcomes)) is;
+        cause_is = no_cause_same n s t.state e.event open_is;
       }
 
   -- what a session is closed to
   after_close : (m : ℕ) (cause : Cause) → e.event ≡ Close m cause → closed (now s e) m ≡ t
   after_close m cause is = same_Some (closed (now s e) m) t (when_is (is_without_choice e.choice && is_open s m) (Some (closed (now s e) m)) t (stepped s e t (Close m cause) is h))
 
+  -- it was open before
+  open_to_close : (m : ℕ) (cause : Cause) → e.event ≡ Close m cause → is_open s m ≡ true
+  open_to_close m cause is =
+      (and_parts (is_without_choice e.choice) (is_open s m) (when_suits (is_without_choice e.choice && is_open s m) (Some (closed (now s e) m)) t (stepped s e t (Close m cause) is h))).1
+
   -- the session is closed
-  pub turn_close : (cause : Cause) → e.event ≡ Close n cause → Turn n e t.state false s.next [] (Some cause)
+  pub turn_close : (cause : Cause) → e.event ≡ Close n cause → Turn n s e t.state false s.next [] (Some cause)
   turn_close cause is =
       let same : closed (now s e) n ≡ t = after_close n cause is in
       let own : eqb n n ≡ true = eq-eqb n n refl in
+      let open_is : is_open t.state n ≡ false = ap (λ (v : Stepped). is_open v.state n) (sym same) ∙ none_left n s.sessions in
       record {
-        open_is = ap (λ (v : Stepped). is_open v.state n) (sym same) ∙ none_left n s.sessions;
+        open_is = open_is;
         next_is = ap (λ (v : Stepped). v.state.next) (sym same);
         taken_is = ap (taken_by n) is;
-        cause_is = ap (λ v. closing_cause n v (listed 1 e.choice.outcomes)) is ∙ ap (λ b. cond b (Some cause) None) own;
+        cause_is = cause_shut n s t.state e.event (open_to_close n cause is) open_is ∙ ap (λ c. Some c) (ap (cause_in n) is ∙ ap (λ b. cond b cause Memory) own);
       }
 
   -- another session is closed
-  pub turn_close_other : (m : ℕ) (cause : Cause) → m ≢ n → e.event ≡ Close m cause → Turn n e t.state (is_open s n) s.next [] None
+  pub turn_close_other : (m : ℕ) (cause : Cause) → m ≢ n → e.event ≡ Close m cause → Turn n s e t.state (is_open s n) s.next [] None
   turn_close_other m cause ne is =
       let same : closed (now s e) m ≡ t = after_close m cause is in
+      let open_is : is_open t.state n ≡ is_open s n = ap (λ (v : Stepped). is_open v.state n) (sym same) ∙ others_left n m s.sessions ne in
       record {
-        open_is = ap (λ (v : Stepped). is_open v.state n) (sym same) ∙ others_left n m s.sessions ne;
+        open_is = open_is;
         next_is = ap (λ (v : Stepped). v.state.next) (sym same);
         taken_is = ap (taken_by n) is;
-        cause_is = ap (λ v. closing_cause n v (listed 1 e.choice.outcomes)) is ∙ ap (λ b. cond b (Some cause) None) (ne_eqb m n ne);
+        cause_is = no_cause_same n s t.state e.event open_is;
       }
 
--- what is left of the work on a message: the session is closed for want of memory, or the sessions stay
-abbrev Worked : State → ℕ → Option Outcome → State → Type 0
-Worked s m o t = ((t.sessions ≡ s.sessions) × (t.next ≡ s.next) × (cause_of_outcome o ≡ None)) ⊎ ((t ≡ without_session m s) × (cause_of_outcome o ≡ Some Memory))
+-- what is left of the work on a message: the session is closed when out of memory, or the sessions stay
+abbrev Worked : State → ℕ → State → Type 0
+Worked s m t = ((t.sessions ≡ s.sessions) × (t.next ≡ s.next)) ⊎ (t ≡ without_session m s)
 
 -- an answer at once
-stays : (s : State) (m : ℕ) (o : Option Outcome) (x t : Stepped) → x.state.sessions ≡ s.sessions → x.state.next ≡ s.next → cause_of_outcome o ≡ None → Some x ≡ Some t → Worked s m o t.state
-stays s m o x t sessions next gives h =
+stays : (s : State) (m : ℕ) (x t : Stepped) → x.state.sessions ≡ s.sessions → x.state.next ≡ s.next → Some x ≡ Some t → Worked s m t.state
+stays s m x t sessions next h =
     let same : x ≡ t = same_Some x t h in
-    inl (ap (λ (v : Stepped). v.state.sessions) (sym same) ∙ sessions, ap (λ (v : Stepped). v.state.next) (sym same) ∙ next, gives)
+    inl (ap (λ (v : Stepped). v.state.sessions) (sym same) ∙ sessions, ap (λ (v : Stepped). v.state.next) (sym same) ∙ next)
 
--- trees that are sent at once leave so much
-sent_at_once : (s : State) (m : ℕ) (trees : List Data) (o : Option Outcome) (t : Stepped) → sends_at_once s m trees o ≡ Some t → Worked s m o t.state
-sent_at_once s m trees None t h = stays s m None (record { state = s; sent = to_session m trees }) t refl refl refl h
-sent_at_once s m trees (Some outcome) t h = cc
+-- what is sent at once leaves so much
+sent_at_once : (s : State) (m : ℕ) (sent : List Sent) (o : Option Outcome) (t : Stepped) → sends_at_once s sent o ≡ Some t → Worked s m t.state
+sent_at_once s m sent None t h = stays s m (record { state = s; sent = sent }) t refl refl h
+sent_at_once s m sent (Some outcome) t h = cc
 
 -- a commit leaves so much
-committed : (s : State) (m : ℕ) (id : Data) (r : Transacted) (o : Option Outcome) (t : Stepped) → commits s m id r o ≡ Some t → Worked s m o t.state
-committed s m id r (Some Committed) t h = stays s m (Some Committed) (sends_results (record s { database = r.database }) m id r.results) t refl refl refl h
-committed s m id r (Some Exhausted) t h = stays s m (Some Exhausted) (sends_results s m id (exhausted_results r.results)) t refl refl refl h
-committed s m id r (Some Failed) t h = stays s m (Some Failed) (sends_results (record s { sealed = Some r.database }) m id (failed_results r.results)) t refl refl refl h
+committed : (s : State) (m : ℕ) (id : Data) (r : Transacted) (o : Option Outcome) (t : Stepped) → commits s m id r o ≡ Some t → Worked s m t.state
+committed s m id r (Some Committed) t h = stays s m (record { state = record s { database = r.database }; sent = results_to m id r.results }) t refl refl h
+committed s m id r (Some Exhausted) t h = stays s m (record { state = s; sent = results_to m id (exhausted_results r.results) }) t refl refl h
+committed s m id r (Some Failed) t h = stays s m (record { state = record s { sealed = Some r.database }; sent = results_to m id (failed_results r.results) }) t refl refl h
 committed s m id r (Some NoMemory) t h = cc
 committed s m id r None t h = cc
 
 -- a transaction leaves so much
 attempted : (s : State) (m : ℕ) (id : Data) (r : Transacted) (o : Option Outcome) (t : Stepped) (same sealed : Bool)
-    → cond same (sends_at_once s m (results_of id r.results) o) (cond sealed (sends_at_once s m (results_of id (failed_results r.results)) o) (commits s m id r o)) ≡ Some t → Worked s m o t.state
-attempted s m id r o t true sealed h = sent_at_once s m (results_of id r.results) o t h
-attempted s m id r o t false true h = sent_at_once s m (results_of id (failed_results r.results)) o t h
+    → cond same (sends_at_once s (results_to m id r.results) o) (cond sealed (sends_at_once s (results_to m id (failed_results r.results)) o) (commits s m id r o)) ≡ Some t → Worked s m t.state
+attempted s m id r o t true sealed h = sent_at_once s m (results_to m id r.results) o t h
+attempted s m id r o t false true h = sent_at_once s m (results_to m id (failed_results r.results)) o t h
 attempted s m id r o t false false h = committed s m id r o t h
 
 -- work that is done leaves so much
-done : (s : State) (m : ℕ) (draws : List Uuid) (o : Option Outcome) (w : Work) (t : Stepped) → does s m draws o w ≡ Some t → Worked s m o t.state
-done s m draws o (Answers trees) t h = sent_at_once s m trees o t h
+done : (s : State) (m : ℕ) (draws : List Uuid) (o : Option Outcome) (w : Work) (t : Stepped) → does s m draws o w ≡ Some t → Worked s m t.state
+done s m draws o (Answers trees) t h = sent_at_once s m (to_session m trees) o t h
 done s m draws o (Transact id operations) t h =
     let r : Transacted = transaction s.schema s.database draws operations in
     attempted s m id r o t (same_database s.database r.database) (is_some s.sealed) h
 
 -- the work on a message leaves so much
-any_work : (s : State) (m : ℕ) (draws : List Uuid) (o : Option Outcome) (w : Work) (t : Stepped) → works s m draws o w ≡ Some t → Worked s m o t.state
+any_work : (s : State) (m : ℕ) (draws : List Uuid) (o : Option Outcome) (w : Work) (t : Stepped) → works s m draws o w ≡ Some t → Worked s m t.state
 any_work s m draws (Some NoMemory) w t h =
-    inr (ap (λ (v : Stepped). v.state) (sym (same_Some (closed s m) t (when_is (leb (length draws) (draws_for w)) (Some (closed s m)) t h))), refl)
+    inr (ap (λ (v : Stepped). v.state) (sym (same_Some (closed s m) t (when_is (leb (length draws) (draws_for w)) (Some (closed s m)) t h))))
 any_work s m draws o w t h = done s m draws o w t (when_is (eqb (length draws) (draws_for w)) (does s m draws o w) t h)
 
 module _ (n : ℕ) (s : State) (e : Entry) (t : Stepped) (h : step s e ≡ Some t) where
   -- the state after the work on a message
-  after_take : (m : ℕ) (message : Message) → e.event ≡ Take m message → Worked (now s e) m (listed 1 e.choice.outcomes).outcome t.state
+  after_take : (m : ℕ) (message : Message) → e.event ≡ Take m message → Worked (now s e) m t.state
   after_take m message is =
+      let work : Option Outcome → Option Stepped = λ o. works (now s e) m e.choice.draws o (work_of (now s e) message) in
       let first : Listed = listed 1 e.choice.outcomes in
-      let work : Option Stepped = works (now s e) m e.choice.draws first.outcome (work_of (now s e) message) in
-      let k = when_is (is_open s m) (takes (now s e) e.choice m message first) t (stepped s e t (Take m message) is h) in
-      any_work (now s e) m e.choice.draws first.outcome (work_of (now s e) message) t (when_is (none_listed first.others) work t k)
+      let k = when_is (is_open s m) (ends (takes (now s e) e.choice m message)) t (stepped s e t (Take m message) is h) in
+      any_work (now s e) m e.choice.draws first.outcome (work_of (now s e) message) t (when_is (none_listed first.others) (work first.outcome) t (sym (ends_tries work 1 e.choice.outcomes) ∙ k))
+
+  -- it is open before
+  open_to_take : (m : ℕ) (message : Message) → e.event ≡ Take m message → is_open s m ≡ true
+  open_to_take m message is = when_suits (is_open s m) (ends (takes (now s e) e.choice m message)) t (stepped s e t (Take m message) is h)
 
   -- a message of the session is taken, and may close it
-  pub turn_take : (message : Message) → e.event ≡ Take n message → Turn n e t.state (is_open s n) s.next (message ∷ []) None ⊎ Turn n e t.state false s.next (message ∷ []) (Some Memory)
+  pub turn_take : (message : Message) → e.event ≡ Take n message → Turn n s e t.state (is_open s n) s.next (message ∷ []) None ⊎ Turn n s e t.state false s.next (message ∷ []) (Some Memory)
   turn_take message is =
       let own : eqb n n ≡ true = eq-eqb n n refl in
       let taken : taken_by n e.event ≡ message ∷ [] = ap (taken_by n) is ∙ ap (λ b. cond b (message ∷ []) []) own in
-      let o : Option Outcome = (listed 1 e.choice.outcomes).outcome in
-      let cause : closing_cause n e.event (listed 1 e.choice.outcomes) ≡ cause_of_outcome o = ap (λ v. closing_cause n v (listed 1 e.choice.outcomes)) is ∙ ap (λ b. cond b (cause_of_outcome o) None) own in
       elim (after_take n message is) [
-        | inl w ↦ inl (record { open_is = ap (λ xs. list_any (λ k. eqb k n) xs) w.0; next_is = w.1; taken_is = taken; cause_is = cause ∙ w.2 })
-        | inr w ↦ inr (record { open_is = ap (λ (v : State). is_open v n) w.0 ∙ none_left n s.sessions; next_is = ap (λ (v : State). v.next) w.0; taken_is = taken; cause_is = cause ∙ w.1 })
+        | inl w ↦
+            let open_is : is_open t.state n ≡ is_open s n = ap (λ (xs : List Session). list_any (λ k. eqb k.serial n) xs) w.0 in
+            inl (record { open_is = open_is; next_is = w.1; taken_is = taken; cause_is = no_cause_same n s t.state e.event open_is })
+        | inr w ↦
+            let open_is : is_open t.state n ≡ false = ap (λ (v : State). is_open v n) w ∙ none_left n s.sessions in
+            inr (record {
+              open_is = open_is;
+              next_is = ap (λ (v : State). v.next) w;
+              taken_is = taken;
+              cause_is = cause_shut n s t.state e.event (open_to_take n message is) open_is ∙ ap (λ c. Some c) (ap (cause_in n) is);
+            })
       ]
 
   -- a message of another session is taken
-  pub turn_take_other : (m : ℕ) (message : Message) → m ≢ n → e.event ≡ Take m message → Turn n e t.state (is_open s n) s.next [] None
+  pub turn_take_other : (m : ℕ) (message : Message) → m ≢ n → e.event ≡ Take m message → Turn n s e t.state (is_open s n) s.next [] None
   turn_take_other m message ne is =
       let other : eqb m n ≡ false = ne_eqb m n ne in
       let taken : taken_by n e.event ≡ [] = ap (taken_by n) is ∙ ap (λ b. cond b (message ∷ []) []) other in
-      let o : Option Outcome = (listed 1 e.choice.outcomes).outcome in
-      let cause : closing_cause n e.event (listed 1 e.choice.outcomes) ≡ None = ap (λ v. closing_cause n v (listed 1 e.choice.outcomes)) is ∙ ap (λ b. cond b (cause_of_outcome o) None) other in
       elim (after_take m message is) [
-        | inl w ↦ record { open_is = ap (λ xs. list_any (λ k. eqb k n) xs) w.0; next_is = w.1; taken_is = taken; cause_is = cause }
-        | inr w ↦ record { open_is = ap (λ (v : State). is_open v n) w.0 ∙ others_left n m s.sessions ne; next_is = ap (λ (v : State). v.next) w.0; taken_is = taken; cause_is = cause }
+        | inl w ↦
+            let open_is : is_open t.state n ≡ is_open s n = ap (λ (xs : List Session). list_any (λ k. eqb k.serial n) xs) w.0 in
+            record { open_is = open_is; next_is = w.1; taken_is = taken; cause_is = no_cause_same n s t.state e.event open_is }
+        | inr w ↦
+            let open_is : is_open t.state n ≡ is_open s n = ap (λ (v : State). is_open v n) w ∙ others_left n m s.sessions ne in
+            record { open_is = open_is; next_is = ap (λ (v : State). v.next) w; taken_is = taken; cause_is = no_cause_same n s t.state e.event open_is }
       ]

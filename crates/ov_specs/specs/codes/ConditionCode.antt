@@ -1,11 +1,11 @@
--- How a model stores a condition (own).
+-- How a model stores a condition. What names no source is our own.
 use Rattle.std.specs.Prelude.{◌≡◌, refl, get_or, List, [], ◌∷◌, ℕ}
 use Rattle.std.specs.Coded.{Coded, code_by, coded×, coded_ℕ, coded_list}
 use Rattle.ov_specs.specs.values.Value.{Datum}
 use Rattle.ov_specs.specs.codes.ValueCode.{datum_code}
 use Rattle.ov_specs.specs.operations.Conditions.{Function, Less, LessOrEqual, Greater, GreaterOrEqual, Equal, NotEqual, Includes, Excludes, Condition}
 
--- a function as a number (own)
+-- a function as a number
 abbrev function_to : Function → ℕ
 function_to Less = 0
 function_to LessOrEqual = 1
@@ -16,7 +16,7 @@ function_to NotEqual = 5
 function_to Includes = 6
 function_to Excludes = 7
 
--- and back (own)
+-- and back
 abbrev function_from : ℕ → Function
 function_from n = get_or (Less ∷ LessOrEqual ∷ Greater ∷ GreaterOrEqual ∷ Equal ∷ NotEqual ∷ Includes ∷ []) n Excludes
 
@@ -31,11 +31,11 @@ function_from-function_to NotEqual = refl
 function_from-function_to Includes = refl
 function_from-function_to Excludes = refl
 
--- the code of a function (own)
+-- the code of a function
 abbrev pub function_code : Coded Function
 function_code = code_by ℕ coded_ℕ function_to function_from function_from-function_to
 
--- the code of a condition, as pairs of its parts (own)
+-- the code of a condition, as pairs of its parts
 abbrev pub condition_code : Coded Condition
 condition_code =
     code_by (List ℕ × (Function × Datum)) (coded× (coded_list coded_ℕ) (coded× function_code datum_code))

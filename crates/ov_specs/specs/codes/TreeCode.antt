@@ -1,20 +1,21 @@
--- How a tree is stored in the model of a type: as a value of the toolchain's own, told apart by the shape of its first part (own).
+-- How a tree is stored in the model of a type: as a value of the toolchain's own, told apart by the shape of its first part. What
+-- names no source is our own.
 use Rattle.std.specs.Prelude.{◌≡◌, refl}
 use mathlib.Core.Path.{ap}
 use base.Stored.{Gv, gnil, gnum, gcons, Coded, coded_ℕ, coded_ℤ, coded_bool, coded_list, coded_float}
 use Rattle.serde_json.specs.Data.{Num, unsigned, negative, float, Data, null, boolean, number, string, array, object, Items, no_items, item, Members, no_members, member}
 
--- one step deeper (own)
+-- one step deeper
 abbrev mark : Gv → Gv
 mark g = gcons g gnil
 
--- a number, its kind in front (own)
+-- a number, its kind in front
 abbrev num_code : Num → Gv
 num_code (unsigned n) = gcons gnil (gnum n)
 num_code (negative z) = gcons (mark gnil) (coded_ℤ.code z)
 num_code (float x) = gcons (mark (mark gnil)) (coded_float.code x)
 
--- a tree, its kind in front (own)
+-- a tree, its kind in front
 abbrev mutual
   pub tree_to : Data → Gv
   tree_to null = gnil
@@ -60,10 +61,10 @@ mutual
   members_inj (member k d ms) (member l e ns) p = let o : (coded_list coded_ℕ).code k ≡ (coded_list coded_ℕ).code l = cc in let q : tree_to d ≡ tree_to e = cc in let r : members_to ms ≡ members_to ns = cc in let u = (coded_list coded_ℕ).inj k l o in let s = tree_inj d e q in let t = members_inj ms ns r in cc
   members_inj x y p = cc
 
--- the code of a tree (own)
+-- the code of a tree
 abbrev pub tree_code : Coded Data
 tree_code = record { code = tree_to; inj = tree_inj }
 
--- the code of an array's items (own)
+-- the code of an array's items
 abbrev pub items_code : Coded Items
 items_code = record { code = items_to; inj = items_inj }

@@ -1,5 +1,6 @@
--- The machine: what one event makes of its state and what it sends, given what the outside chose (own, over RFC 7047, 4).
-use Rattle.std.specs.Prelude.{◌≡◌, ◌⊎◌, ℕ, ◌+◌, ◌==◌, ◌&&◌, not, nat_le, List, [], ◌∷◌, ◌++◌, length, map, filter, Bool, if◌then◌else◌, Option, Some, None, is_some, codes}
+-- The machine: what one event makes of its state and what it sends, given what the outside chose (our own, over RFC 7047, 4).
+-- What names no source is our own.
+use Rattle.std.specs.Prelude.{◌≡◌, ◌⊎◌, ℕ, ◌+◌, ◌==◌, ◌&&◌, not, nat_le, List, [], ◌∷◌, ◌++◌, length, map, filter, Bool, if◌then◌else◌, Option, Some, None, is_some, option_map, codes}
 use Rattle.std.specs.List.{list_any}
 use Rattle.serde_json.specs.Data.{Data, array, Items, no_items, item}
 use Rattle.serde_json.specs.Find.{as_str}
@@ -14,7 +15,7 @@ use Rattle.ov_specs.specs.values.Uuid.{Uuid}
 
 -- ---- what happens, and what the outside chose
 
--- why a session is closed (own)
+-- why a session is closed
 pub data Cause : Type 0 where
   InputEnded : Cause
   ReadFault : Cause
@@ -23,70 +24,78 @@ pub data Cause : Type 0 where
   Overrun : Cause
   Memory : Cause
 
--- a session opens, a message of a session is taken, a session is closed, time passes (own)
+-- a session opens, a message of a session is taken, a session is closed, time passes
 pub data Event : Type 0 where
   Open : Event
   Take : (session : ℕ) (message : Message) → Event
   Close : (session : ℕ) (cause : Cause) → Event
   Tick : Event
 
--- what came of an attempt: the store kept its changes, had no room for them, or failed; or memory was refused (own)
+-- what came of an attempt: the store kept its changes, had no room for them, or failed; or memory was refused
 pub data Outcome : Type 0 where
   Committed : Outcome
   Exhausted : Outcome
   Failed : Outcome
   NoMemory : Outcome
 
--- an attempt, by its number in the event from 1, and what came of it (own)
+-- an attempt, by its number in the event from 1, and what came of it
 pub record Attempt : Type 0 where
   pub number : ℕ
   pub outcome : Outcome
 
 -- The moment in milliseconds, the identifiers drawn, and what came of the attempts that are listed: an attempt that is not
--- listed made no store call and was refused no memory (own).
+-- listed made no store call and was refused no memory.
 pub record Choice : Type 0 where
   pub moment : ℕ
   pub draws : List Uuid
   pub outcomes : List Attempt
 
--- an event with its choice (own)
+-- an event with its choice
 pub record Entry : Type 0 where
   pub event : Event
   pub choice : Choice
 
 -- ---- the state
 
--- what the machine knows between two events (own)
+-- an open session
+pub record Session : Type 0 where
+  pub serial : ℕ
+
+-- what the machine knows between two events
 pub record State : Type 0 where
   pub schema : Schema  -- of the database
   pub database : Database  -- as it was committed
   pub sealed : Option Database  -- after a commit that failed, the database that it would have made: nothing is committed any more
-  pub sessions : List ℕ  -- the open sessions by their serials, in order of opening
+  pub sessions : List Session  -- the open ones, in order of opening
   pub next : ℕ  -- the serial of the next session
   pub moment : ℕ  -- the last one
 
--- before any event: the database as it was opened, no session is open, serials begin with 1 (own)
+-- before any event: the database as it was opened, no session is open, serials begin with 1
 abbrev pub opening : Schema → Database → State
 opening schema database = record { schema = schema; database = database; sealed = None; sessions = []; next = 1; moment = 0 }
 
--- What a crash may leave: the database as it was committed, or the one that a failed commit would have made (own).
+-- What a crash may leave: the database as it was committed, or the one that a failed commit would have made.
 abbrev pub Left : State → Database → Type 0
 Left s d = (d ≡ s.database) ⊎ (s.sealed ≡ Some d)
 
--- the session is open (own)
+-- the session is open
 abbrev pub is_open : State → ℕ → Bool
-is_open s session = list_any (λ n. n == session) s.sessions
+is_open s session = list_any (λ n. n.serial == session) s.sessions
 
--- the state without the session (own)
+-- the state with one session more, which has the next serial
+abbrev pub with_next_session : State → State
+with_next_session s = record s { sessions = s.sessions ++ record { serial = s.next } ∷ []; next = s.next + 1 }
+
+-- the state without the session
 abbrev pub without_session : ℕ → State → State
-without_session session s = record s { sessions = filter (λ n. not (n == session)) s.sessions }
+without_session session s = record s { sessions = filter (λ n. not (n.serial == session)) s.sessions }
 
--- a tree, and the session that it is sent to (own)
+-- a tree, and the session that it is sent to
 pub record Sent : Type 0 where
   pub session : ℕ
   pub tree : Data
 
--- a state, and what was sent on the way to it, in order (own)
+-- a state, and what was sent on the way to it, in order
 pub record Stepped : Type 0 where
   pub state : State
   pub sent : List Sent
@@ -127,7 +136,7 @@ schema_call s id no_items = refused id (codes "syntax error")
 schema_call s id (item d no_items) = schema_call_on s id (as_str d)
 schema_call s id (item d (item e items)) = refused id (codes "syntax error")
 
--- what a call asks for, method by method; no other is known (RFC 7047, 4.1.1, 4.1.2, 4.1.3, 4.1.11; the last is own)
+-- what a call asks for, method by method; no other is known (RFC 7047, 4.1.1, 4.1.2, 4.1.3, 4.1.11; the last is our own)
 abbrev pub call_of : State → Data → List ℕ → Items → Work
 call_of s id method params =
     if bytes_eq method (codes "list_dbs") then answered id (database_names s.schema.name)
@@ -143,28 +152,18 @@ work_of s (Note method params) = Answers []
 work_of s Answer = Answers []
 work_of s (Bad id kind) = refused id (bad_text kind)
 
--- these trees, sent to the session (own)
+-- these trees, sent to the session
 abbrev pub to_session : ℕ → List Data → List Sent
 to_session session trees = map (λ tree. record { session = session; tree = tree }) trees
 
--- the session is closed, and is sent nothing (own)
+-- the session is closed, and is sent nothing
 abbrev pub closed : State → ℕ → Stepped
 closed s session = record { state = without_session session s; sent = [] }
 
--- what is listed of one attempt, and of those after it (own)
-pub record Listed : Type 0 where
-  pub outcome : Option Outcome
-  pub others : List Attempt
-
--- what is listed of the attempt with this number, where the attempts before it are taken off the list (own)
-abbrev pub listed : ℕ → List Attempt → Listed
-listed number [] = record { outcome = None; others = [] }
-listed number (a ∷ attempts) = if a.number == number then record { outcome = Some a.outcome; others = attempts } else record { outcome = None; others = a ∷ attempts }
-
--- These trees are sent, and the store is not asked: so it answers nothing (own).
-abbrev pub sends_at_once : State → ℕ → List Data → Option Outcome → Option Stepped
-sends_at_once s session trees None = Some (record { state = s; sent = to_session session trees })
-sends_at_once s session trees (Some outcome) = None
+-- These are sent, and the store is not asked: so it answers nothing.
+abbrev pub sends_at_once : State → List Sent → Option Outcome → Option Stepped
+sends_at_once s sent None = Some (record { state = s; sent = sent })
+sends_at_once s sent (Some outcome) = None
 
 -- ---- a transaction
 
@@ -172,71 +171,97 @@ sends_at_once s session trees (Some outcome) = None
 abbrev pub results_of : Data → Items → List Data
 results_of id results = reply_tree id (array results) ∷ []
 
--- the results, sent from this state (own)
-abbrev pub sends_results : State → ℕ → Data → Items → Stepped
-sends_results s session id results = record { state = s; sent = to_session session (results_of id results) }
+-- the results, sent to the session that asked for the transaction
+abbrev pub results_to : ℕ → Data → Items → List Sent
+results_to session id results = to_session session (results_of id results)
 
 -- What comes of the store's answer: where it keeps the change, the database is the new one; where it has no room, nothing is
--- changed; where it fails, the database stays and is sealed (own).
+-- changed; where it fails, the database stays and is sealed.
 abbrev pub commits : State → ℕ → Data → Transacted → Option Outcome → Option Stepped
-commits s session id t (Some Committed) = Some (sends_results (record s { database = t.database }) session id t.results)
-commits s session id t (Some Exhausted) = Some (sends_results s session id (exhausted_results t.results))
-commits s session id t (Some Failed) = Some (sends_results (record s { sealed = Some t.database }) session id (failed_results t.results))
+commits s session id t (Some Committed) = Some (record { state = record s { database = t.database }; sent = results_to session id t.results })
+commits s session id t (Some Exhausted) = Some (record { state = s; sent = results_to session id (exhausted_results t.results) })
+commits s session id t (Some Failed) = Some (record { state = record s { sealed = Some t.database }; sent = results_to session id (failed_results t.results) })
 commits s session id t outcome = None
 
 -- What comes of a transaction. Where it leaves the database as it was, the store is not asked; a sealed database asks the store
 -- no more, and answers as where it fails; else the store is asked to keep the change (RFC 7047, 4.1.3).
 abbrev pub attempt : State → ℕ → Data → Transacted → Option Outcome → Option Stepped
 attempt s session id t outcome =
-    if same_database s.database t.database then sends_at_once s session (results_of id t.results) outcome
-    else (if is_some s.sealed then sends_at_once s session (results_of id (failed_results t.results)) outcome
+    if same_database s.database t.database then sends_at_once s (results_to session id t.results) outcome
+    else (if is_some s.sealed then sends_at_once s (results_to session id (failed_results t.results)) outcome
     else commits s session id t outcome)
 
--- ---- one step
+-- ---- the attempts of an event
 
--- no attempt is listed (own)
+-- no attempt is listed
 abbrev pub none_listed : List Attempt → Bool
 none_listed attempts = length attempts == 0
 
--- nothing was drawn (own)
-abbrev pub none_drawn : Choice → Bool
-none_drawn c = length c.draws == 0
-
--- nothing was chosen but the moment (own)
-abbrev pub is_without_choice : Choice → Bool
-is_without_choice c = none_listed c.outcomes && none_drawn c
-
--- the answer, where the choice suits (own)
+-- the answer, where the choice suits
 abbrev pub when : {A : Type 0} → Bool → Option A → Option A
 when suits answer = if suits then answer else None
 
--- how many identifiers are drawn for the work (own)
+-- what is listed of one attempt, and of those after it
+pub record Listed : Type 0 where
+  pub outcome : Option Outcome
+  pub others : List Attempt
+
+-- what is listed of the attempt with this number, where the attempts before it are taken off the list
+abbrev pub listed : ℕ → List Attempt → Listed
+listed number [] = record { outcome = None; others = [] }
+listed number (a ∷ attempts) = if a.number == number then record { outcome = Some a.outcome; others = attempts } else record { outcome = None; others = a ∷ attempts }
+
+-- what an attempt comes to, and what is listed of the attempts after it
+pub record Tried : Type 0 where
+  pub stepped : Stepped
+  pub others : List Attempt
+
+-- The attempt with this number takes what is listed of it, and hands on what is listed of those after it.
+abbrev pub tries : (Option Outcome → Option Stepped) → ℕ → List Attempt → Option Tried
+tries attempt number attempts = option_map (λ t. record { stepped = t; others = (listed number attempts).others }) (attempt (listed number attempts).outcome)
+
+-- nothing more is tried: so no attempt is listed any more
+abbrev pub ends : Option Tried → Option Stepped
+ends None = None
+ends (Some tried) = when (none_listed tried.others) (Some tried.stepped)
+
+-- ---- one step
+
+-- nothing was drawn
+abbrev pub none_drawn : Choice → Bool
+none_drawn c = length c.draws == 0
+
+-- nothing was chosen but the moment
+abbrev pub is_without_choice : Choice → Bool
+is_without_choice c = none_listed c.outcomes && none_drawn c
+
+-- how many identifiers are drawn for the work
 abbrev pub draws_for : Work → ℕ
 draws_for (Answers trees) = 0
 draws_for (Transact id operations) = draws_wanted operations
 
--- the work, done with the identifiers that were drawn for it, and with the store's answer where it was asked (own)
+-- the work, done with the identifiers that were drawn for it, and with the store's answer where it was asked
 abbrev pub does : State → ℕ → List Uuid → Option Outcome → Work → Option Stepped
-does s session draws outcome (Answers trees) = sends_at_once s session trees outcome
+does s session draws outcome (Answers trees) = sends_at_once s (to_session session trees) outcome
 does s session draws outcome (Transact id operations) = attempt s session id (transaction s.schema s.database draws operations) outcome
 
 -- The work, with the identifiers that were drawn for it and what is listed of it. Where memory was refused, at most as many
--- were drawn as are wanted, and the session is closed; else just so many were drawn, and the work is done (own).
+-- were drawn as are wanted, and the session is closed; else just so many were drawn, and the work is done.
 abbrev pub works : State → ℕ → List Uuid → Option Outcome → Work → Option Stepped
 works s session draws (Some NoMemory) work = when (nat_le (length draws) (draws_for work)) (Some (closed s session))
 works s session draws outcome work = when (length draws == draws_for work) (does s session draws outcome work)
 
--- the work on a message is attempt 1 of its event, and nothing else is tried (own)
-abbrev pub takes : State → Choice → ℕ → Message → Listed → Option Stepped
-takes s c session message first = when (none_listed first.others) (works s session c.draws first.outcome (work_of s message))
+-- the work on a message is attempt 1 of its event
+abbrev pub takes : State → Choice → ℕ → Message → Option Tried
+takes s c session message = tries (λ outcome. works s session c.draws outcome (work_of s message)) 1 c.outcomes
 
--- the event, at a moment that is the state's (own)
+-- the event, at a moment that is the state's
 abbrev pub happens : State → Choice → Event → Option Stepped
-happens s c Open = when (is_without_choice c) (Some (record { state = record s { sessions = s.sessions ++ s.next ∷ []; next = s.next + 1 }; sent = [] }))
-happens s c (Take session message) = when (is_open s session) (takes s c session message (listed 1 c.outcomes))
+happens s c Open = when (is_without_choice c) (Some (record { state = with_next_session s; sent = [] }))
+happens s c (Take session message) = when (is_open s session) (ends (takes s c session message))
 happens s c (Close session cause) = when (is_without_choice c && is_open s session) (Some (closed s session))
 happens s c Tick = when (is_without_choice c) (Some (record { state = s; sent = [] }))
 
--- the next state and what is sent, or None where the choice does not suit; the moment is not below the last one (own)
+-- the next state and what is sent, or None where the choice does not suit; the moment is not below the last one
 abbrev pub step : State → Entry → Option Stepped
 step s e = when (nat_le s.moment e.choice.moment) (happens (record s { moment = e.choice.moment }) e.choice e.event)

@@ -1,4 +1,4 @@
--- States of the machine whose rows are rows of the schema (own).
+-- States of the machine whose rows are rows of the schema. What names no source is our own.
 use Rattle.std.specs.Prelude.{◌≡◌, Bool, Some}
 use Rattle.std.specs.List.{list_all}
 use Rattle.ov_specs.specs.machine.Machine.{State, Entry}
@@ -6,7 +6,7 @@ use Rattle.ov_specs.specs.rows.Database.{Database}
 use Rattle.ov_specs.specs.rows.Suits.{Suits}
 use Rattle.ov_specs.specs.values.Uuid.{is_uuid}
 
--- the rows that are committed are rows of the schema, and so are those that a failed commit would have made (own)
+-- the rows that are committed are rows of the schema, and so are those that a failed commit would have made
 pub record SuitsState (s : State) : Type 0 where
   pub committed : Suits s.schema s.database
   pub sealed : (database : Database) → s.sealed ≡ Some database → Suits s.schema database

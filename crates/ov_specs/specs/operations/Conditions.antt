@@ -1,4 +1,4 @@
--- The conditions of a "where", and whether a row meets one (RFC 7047, 5.1, <condition>).
+-- The conditions of a "where", and whether a row meets one (RFC 7047, 5.1, <condition>). What names no source is our own.
 use Rattle.std.specs.Prelude.{pos, ℤ, int_lt, int_le, nat_eq, ◌&&◌, not, is_none, List, [], ◌∷◌, ℕ, Bool, true, false, if◌then◌else◌, Option, Some, None, option_map, option_and_then, unwrap_or, codes, Result, Ok, Err}
 use Rattle.std.specs.List.{list_all}
 use Rattle.std.specs.FinMap.{get, contains_key, keys, entries}
@@ -9,9 +9,10 @@ use Rattle.std.specs.Str.{bytes_eq}
 use Rattle.ov_specs.specs.operations.Errors.{OpError, SyntaxError, UnknownColumn, ConstraintViolation}
 use Rattle.ov_specs.specs.values.Reading as reading
 use Rattle.ov_specs.specs.values.Reading.{Reading, Reads, reads}
+use Rattle.ov_specs.specs.schema.Schema.{is_some_and}
 use Rattle.ov_specs.specs.schema.SchemaTypes.{ColumnType, Column, Table, kinds_of}
 use Rattle.ov_specs.specs.values.Uuid.{Uuid, Names}
-use Rattle.ov_specs.specs.values.Value.{AtomKind, Integers, Booleans, Texts, Uuids, Atom, Integer, AtomMap, Datum, Atoms, Pairs, count}
+use Rattle.ov_specs.specs.values.Value.{AtomKind, Integers, Booleans, Texts, Uuids, Atom, Integer, AtomMap, Datum, Atoms, Pairs, count, is_of}
 
 -- ---- conditions
 
@@ -32,13 +33,13 @@ pub record Condition : Type 0 where
   pub function : Function
   pub value : Datum
 
--- why a tree is no condition: it is built wrong, names no column, or has a key with two values (own)
+-- why a tree is no condition: it is built wrong, names no column, or has a key with two values
 pub data ConditionFault : Type 0 where
   BadCondition : ConditionFault
   NoColumn : ConditionFault
   Clash : ConditionFault
 
--- the error of the operation (RFC 7047, 5.2; which one is own)
+-- the error of the operation (RFC 7047, 5.2; which one is our own)
 abbrev pub condition_error : ConditionFault → OpError
 condition_error BadCondition = SyntaxError
 condition_error NoColumn = UnknownColumn
@@ -83,7 +84,7 @@ function_of word =
     else (if bytes_eq word (codes "excludes") then Some Excludes
     else None)))))))
 
--- the number 1 (own)
+-- the number 1
 abbrev is_one : ℤ → Bool
 is_one n = int_le (pos 1) n && int_le n (pos 1)
 
@@ -113,22 +114,22 @@ allows_function t Excludes = true
 abbrev pub function_on : ColumnType → List ℕ → Option Function
 function_on t word = option_and_then (λ f. if allows_function t f then Some f else None) (function_of word)
 
--- the value has one atom where the column is a scalar (own)
+-- the value has one atom where the column is a scalar
 abbrev pub has_right_count : ColumnType → Datum → Bool
 has_right_count t value = if is_scalar t then nat_eq (count value) 1 else true
 
--- the value that was read, of the right count (own)
+-- the value that was read, of the right count
 abbrev pub value_read : ColumnType → Reading Datum → Result Datum ConditionFault
 value_read t reading.Unreadable = Err BadCondition
 value_read t reading.Clashing = Err Clash
 value_read t (Reads value) = if has_right_count t value then Ok value else Err BadCondition
 
--- the condition with this value (own)
+-- the condition with this value
 abbrev pub with_value : List ℕ → Function → Result Datum ConditionFault → Result Condition ConditionFault
 with_value column f (Err fault) = Err fault
 with_value column f (Ok value) = Ok (record { column = column; function = f; value = value })
 
--- The condition with this function. Its value is read by the kinds of the column, and not by its constraints (own).
+-- The condition with this function. Its value is read by the kinds of the column, and not by its constraints.
 abbrev pub with_function : Names → ColumnType → Triple → Option Function → Result Condition ConditionFault
 with_function names t c None = Err BadCondition
 with_function names t c (Some f) = with_value c.column f (value_read t (reads names (kinds_of t) c.value))
@@ -143,10 +144,14 @@ abbrev pub condition_of : Names → Table → Option Triple → Result Condition
 condition_of names table None = Err BadCondition
 condition_of names table (Some c) = condition_on names c (get table.columns c.column)
 
--- The condition that a tree is, or the first fault: its shape, its column, the function on that column, its value (own, over
+-- The condition that a tree is, or the first fault: its shape, its column, the function on that column, its value (our own, over
 -- RFC 7047, 5.1, <condition>).
 abbrev pub condition_read : Names → Table → Data → Result Condition ConditionFault
 condition_read names table d = condition_of names table (triple_read d)
+
+-- the table has the column of the condition, and the value is of its kinds, within their bounds (RFC 7047, 5.1, <condition>)
+abbrev pub suits_condition : Table → Condition → Bool
+suits_condition table c = is_some_and (λ column. is_of (kinds_of column.type_of) c.value) (get table.columns c.column)
 
 -- ---- whether a row meets it
 

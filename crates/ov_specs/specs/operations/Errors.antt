@@ -14,7 +14,7 @@ pub data OpError : Type 0 where
   ResourcesExhausted : OpError
   InputOutput : OpError
 
--- the text that the client is sent (RFC 7047, 3.1, <error>; "unknown .." and "duplicate uuid" are own)
+-- the text that the client is sent (RFC 7047, 3.1, <error>; "unknown .." and "duplicate uuid" are our own)
 abbrev pub error_text : OpError → List ℕ
 error_text SyntaxError = codes "syntax error"
 error_text UnknownTable = codes "unknown table"

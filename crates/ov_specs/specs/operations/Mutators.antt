@@ -1,4 +1,4 @@
--- The mutations of a "mutate", and what they make of a column (RFC 7047, 5.1, <mutation>).
+-- The mutations of a "mutate", and what they make of a column (RFC 7047, 5.1, <mutation>). What names no source is our own.
 use Rattle.std.specs.Prelude.{ℕ, ℤ, pos, ◌+ℤ◌, ◌-ℤ◌, ◌*ℤ◌, int_div, int_rem, int_le, ◌&&◌, ◌||◌, not, is_none, is_some, List, [], ◌∷◌, ◌++◌, map, filter, Bool, false, if◌then◌else◌, Option, Some, None, option_and_then, codes, Result, Ok, Err}
 use Rattle.std.specs.List.{list_any, list_all}
 use Rattle.std.specs.FinMap.{get, contains_key, keys, entries}
@@ -13,7 +13,7 @@ use Rattle.ov_specs.specs.values.Reading as reading
 use Rattle.ov_specs.specs.values.Reading.{Reading, Reads, behind, reads}
 use Rattle.ov_specs.specs.schema.SchemaTypes.{ColumnType, Column, Table, kinds_of}
 use Rattle.ov_specs.specs.values.Uuid.{Names}
-use Rattle.ov_specs.specs.values.Value.{Integers, is_atom_of, Single, Pair, Kinds, Atom, Integer, Boolean, Text, Uuid, Datum, Atoms, Pairs, set_of, map_of}
+use Rattle.ov_specs.specs.values.Value.{Integers, is_in_64_bits, is_atom_of, is_of, Single, Pair, Kinds, Atom, Integer, Boolean, Text, Uuid, Datum, Atoms, Pairs, set_of, map_of}
 
 -- ---- mutations
 
@@ -37,19 +37,20 @@ pub data Change : Type 0 where
   Insert : (elements : Datum) → Change
   Delete : (elements : Datum) → Change
 
--- a column of the table, and what is done to it (RFC 7047, 5.1, <mutation>)
+-- the name and the type of a column of the table, and what is done to it (RFC 7047, 5.1, <mutation>)
 pub record Mutation : Type 0 where
   pub column : List ℕ
+  pub type_of : ColumnType
   pub change : Change
 
--- why a tree is no mutation: it is built wrong, names no column, has a key with two values, or its column is not mutable (own)
+-- why a tree is no mutation: it is built wrong, names no column, has a key with two values, or its column is not mutable
 pub data MutationFault : Type 0 where
   BadMutation : MutationFault
   NoColumn : MutationFault
   Clash : MutationFault
   NotMutable : MutationFault
 
--- the error of the operation (RFC 7047, 5.2; which one is own)
+-- the error of the operation (RFC 7047, 5.2; which one is our own)
 abbrev pub mutation_error : MutationFault → OpError
 mutation_error BadMutation = SyntaxError
 mutation_error NoColumn = UnknownColumn
@@ -80,7 +81,7 @@ allows_mutator t Deletes = not (is_scalar t)
 abbrev pub mutator_on : ColumnType → List ℕ → Option Mutator
 mutator_on t word = option_and_then (λ m. if allows_mutator t m then Some m else None) (mutator_of word)
 
--- a value that reads, as what is done (own)
+-- a value that reads, as what is done
 abbrev pub change_with : (Datum → Change) → Reading Datum → Result Change MutationFault
 change_with change reading.Unreadable = Err BadMutation
 change_with change reading.Clashing = Err Clash
@@ -97,7 +98,8 @@ integer_of reading.Unreadable = None
 integer_of reading.Clashing = None
 integer_of (Reads value) = number_in value
 
--- what goes from a column: a tree that begins with "map" is a map, and another one on a map is a set of its keys (own, over RFC 7047, 5.1, <mutation>)
+-- what goes from a column: a tree that begins with "map" is a map, and another one on a map is a set of its keys (our own, over
+-- RFC 7047, 5.1, <mutation>)
 abbrev pub deleted_kinds : Kinds → Data → Kinds
 deleted_kinds (Single kind) d = Single kind
 deleted_kinds (Pair key value) d = if is_some (behind (codes "map") d) then Pair key value else Single key
@@ -108,15 +110,15 @@ change_read names t (Computes operator) d = compute_with operator (integer_of (r
 change_read names t Inserts d = change_with Insert (reads names (kinds_of t) d)
 change_read names t Deletes d = change_with Delete (reads names (deleted_kinds (kinds_of t) d) d)
 
--- the mutation of this column (own)
-abbrev pub with_change : List ℕ → Result Change MutationFault → Result Mutation MutationFault
-with_change column (Err fault) = Err fault
-with_change column (Ok change) = Ok (record { column = column; change = change })
+-- the mutation of this column
+abbrev pub with_change : List ℕ → ColumnType → Result Change MutationFault → Result Mutation MutationFault
+with_change column t (Err fault) = Err fault
+with_change column t (Ok change) = Ok (record { column = column; type_of = t; change = change })
 
 -- the mutation with this mutator (RFC 7047, 5.1, <mutation>)
 abbrev pub with_mutator : Names → ColumnType → Triple → Option Mutator → Result Mutation MutationFault
 with_mutator names t m None = Err BadMutation
-with_mutator names t m (Some mutator) = with_change m.column (change_read names t mutator m.value)
+with_mutator names t m (Some mutator) = with_change m.column t (change_read names t mutator m.value)
 
 -- the mutation of this column, which is mutable (RFC 7047, 5.1, <mutation>)
 abbrev pub mutation_on : Names → Triple → Option Column → Result Mutation MutationFault
@@ -129,9 +131,20 @@ mutation_of names table None = Err BadMutation
 mutation_of names table (Some m) = mutation_on names m (get table.columns m.column)
 
 -- The mutation that a tree is, or the first fault: its shape, its column, whether that is mutable, the mutator on it, its
--- value (own, over RFC 7047, 5.1, <mutation>).
+-- value (our own, over RFC 7047, 5.1, <mutation>).
 abbrev pub mutation_read : Names → Table → Data → Result Mutation MutationFault
 mutation_read names table d = mutation_of names table (triple_read d)
+
+-- Elements of the column's kinds, or of the kind of its keys alone where they go from a map; and a number of 64 bits where the
+-- column holds integers (RFC 7047, 5.1, <mutation>).
+abbrev pub suits_change : ColumnType → Change → Bool
+suits_change t (Compute operator by) = allows_mutator t (Computes operator) && is_in_64_bits by
+suits_change t (Insert elements) = is_of (kinds_of t) elements
+suits_change t (Delete elements) = is_of (kinds_of t) elements || is_of (Single t.key.kind) elements
+
+-- what is done suits the column (RFC 7047, 5.1, <mutation>)
+abbrev pub suits_mutation : Mutation → Bool
+suits_mutation m = suits_change m.type_of m.change
 
 -- ---- what it makes of a value
 
@@ -149,14 +162,14 @@ computed Times by n = n *ℤ by
 computed Over by n = int_div n by
 computed Modulo by n = int_rem n by
 
--- the same of an atom; others than numbers stay (own)
+-- the same of an atom; others than numbers stay
 abbrev pub computed_atom : Operator → ℤ → Atom → Atom
 computed_atom operator by (Integer n) = Integer (computed operator by n)
 computed_atom operator by (Boolean b) = Boolean b
 computed_atom operator by (Text text) = Text text
 computed_atom operator by (Uuid bytes) = Uuid bytes
 
--- the number 0 (own)
+-- the number 0
 abbrev is_zero : ℤ → Bool
 is_zero n = int_le (pos 0) n && int_le n (pos 0)
 

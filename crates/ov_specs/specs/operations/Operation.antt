@@ -1,4 +1,4 @@
--- One operation of a transaction: what it makes of the rows, and its result (RFC 7047, 5.2).
+-- One operation of a transaction: what it makes of the rows, and its result (RFC 7047, 5.2). What names no source is our own.
 use Rattle.std.specs.Prelude.{ℕ, ◌&&◌, ◌||◌, not, List, [], ◌∷◌, ◌++◌, map, filter, Bool, if◌then◌else◌, Option, Some, None, option_and_then, option_map, option_to_list, codes, Result, Ok, Err}
 use Rattle.std.specs.List.{list_any, list_all, flat_map}
 use Rattle.std.specs.FinMap.{empty, get, contains_key, insert, keys, entries}
@@ -23,7 +23,7 @@ use Rattle.ov_specs.specs.values.Writing.{atom_tree}
 
 -- ---- what an operation does
 
--- the rows as the operations so far have made them, and the identifiers that are left for inserts (own)
+-- the rows as the operations so far have made them, and the identifiers that are left for inserts
 pub record Staged : Type 0 where
   pub rows : Database
   pub draws : List Uuid
@@ -33,21 +33,21 @@ pub data OperationResult : Type 0 where
   Succeeds : (result : Data) (staged : Staged) → OperationResult
   Fails : (error : OpError) → OperationResult
 
--- with what was found, or else refused (own)
+-- with what was found, or else refused
 abbrev pub some_or_fail : {A : Type 0} → Option A → OpError → (A → OperationResult) → OperationResult
 some_or_fail None error next = Fails error
 some_or_fail (Some a) error next = next a
 
--- with what came out, or else refused (own)
+-- with what came out, or else refused
 abbrev pub ok_or_fail : {A : Type 0} → Result A OpError → (A → OperationResult) → OperationResult
 ok_or_fail (Err error) next = Fails error
 ok_or_fail (Ok a) next = next a
 
--- the text at a member (own)
+-- the text at a member
 abbrev pub text_at : List ℕ → Data → Option (List ℕ)
 text_at name d = option_and_then as_str (find.get name d)
 
--- the array at a member (own)
+-- the array at a member
 abbrev pub array_at : List ℕ → Data → Option Items
 array_at name d = option_and_then as_array (find.get name d)
 
@@ -61,7 +61,7 @@ on_table schema d next = some_or_fail (text_at (codes "table") d) SyntaxError (�
 abbrev pub is_own_column : List ℕ → Bool
 is_own_column name = bytes_eq name (codes "_uuid") || bytes_eq name (codes "_version")
 
--- no name stands for a row (own)
+-- no name stands for a row
 abbrev pub no_names : Names
 no_names name = None
 
@@ -80,7 +80,7 @@ abbrev pub member_value : List ℕ → Option Column → Data → Result Datum O
 member_value name None d = Err UnknownColumn
 member_value name (Some column) d = if is_own_column name then Err ConstraintViolation else value_for_column column d
 
--- one column more, and then the rest; or the fault of this one (own)
+-- one column more, and then the rest; or the fault of this one
 abbrev pub with_column : Result Datum OpError → (Datum → Result Columns OpError) → Result Columns OpError
 with_column (Err error) next = Err error
 with_column (Ok datum) next = next datum
@@ -92,7 +92,7 @@ row_values table no_members columns = Ok columns
 row_values table (member name d members) columns =
     with_column (member_value name (get table.columns name) d) (λ datum. row_values table members (insert columns name datum))
 
--- the default of a column, where it fits (RFC 7047, 5.2.1; that a default may not fit is own)
+-- the default of a column, where it fits (RFC 7047, 5.2.1; that a default may not fit is our own)
 abbrev pub fitting_default : Column → Result Datum OpError
 fitting_default column = if fits column.type_of (default_of column.type_of) then Ok (default_of column.type_of) else Err ConstraintViolation
 
@@ -103,7 +103,7 @@ with_defaults (c ∷ cs) columns =
     if is_own_column c.0 || contains_key columns c.0 then with_defaults cs columns
     else with_column (fitting_default c.1) (λ datum. with_defaults cs (insert columns c.0 datum))
 
--- the columns, where there is no fault, and then the rest (own)
+-- the columns, where there is no fault, and then the rest
 abbrev pub and_then_columns : Result Columns OpError → (Columns → Result Columns OpError) → Result Columns OpError
 and_then_columns (Err error) next = Err error
 and_then_columns (Ok columns) next = next columns
@@ -124,7 +124,7 @@ put_under before version rows table columns (id ∷ draws) =
     if contains_key rows (table, id) then Fails DuplicateUuid
     else Succeeds (insert_result id) (record { rows = insert rows (table, id) (row_now before version (table, id) columns); draws = draws })
 
--- The row is put under the next draw. As many draws are made as there are inserts, so one is always left (own).
+-- The row is put under the next draw. As many draws are made as there are inserts, so one is always left.
 abbrev pub put_row : Database → Uuid → Staged → List ℕ → Columns → OperationResult
 put_row before version g table columns = put_under before version g.rows table columns g.draws
 
@@ -142,18 +142,18 @@ insert_row schema before version g d = on_table schema d (λ name table.
 abbrev pub entry_value : LineKey × Row → List ℕ → Option Datum
 entry_value r = column_value r.0.1 r.1.version r.1.columns
 
--- these conditions in front of the others, or the error of the others (own)
+-- these conditions in front of the others, or the error of the others
 abbrev pub and_others : List Condition → Result (List Condition) OpError → Result (List Condition) OpError
 and_others conditions (Err error) = Err error
 and_others conditions (Ok others) = Ok (conditions ++ others)
 
--- a condition in front of the others, or its fault (own)
+-- a condition in front of the others, or its fault
 abbrev pub and_condition : Result Condition ConditionFault → Result (List Condition) OpError → Result (List Condition) OpError
 and_condition (Err fault) others = Err (condition_error fault)
 and_condition (Ok condition) others = and_others (condition ∷ []) others
 
 -- The conditions of a "where", each read wholly before the next one, or the error of the first that does not read (RFC
--- 7047, 5.2.2; the order is own).
+-- 7047, 5.2.2; the order is our own).
 abbrev pub conditions_read : Names → Table → Items → Result (List Condition) OpError
 conditions_read names table no_items = Ok []
 conditions_read names table (item d ds) = and_condition (condition_read names table d) (conditions_read names table ds)
@@ -162,7 +162,7 @@ conditions_read names table (item d ds) = and_condition (condition_read names ta
 abbrev pub is_matching : List ℕ → List Condition → LineKey × Row → Bool
 is_matching table conditions r = bytes_eq r.0.0 table && list_all (holds (entry_value r)) conditions
 
--- these rows, in ascending order of their identifiers (own)
+-- these rows, in ascending order of their identifiers
 abbrev pub matching : Database → List ℕ → List Condition → List (LineKey × Row)
 matching rows table conditions = filter (is_matching table conditions) (entries rows)
 
@@ -183,7 +183,7 @@ written_row columns = object_of (map written_column columns)
 abbrev pub select_result : List (List (List ℕ × Datum)) → Data
 select_result rows = object_of ((codes "rows", array (items_of (map written_row rows))) ∷ [])
 
--- the table's columns that are named, in ascending order (own)
+-- the table's columns that are named, in ascending order
 abbrev pub columns_named : Table → List (List ℕ) → List (List ℕ)
 columns_named table names = filter (λ name. list_any (bytes_eq name) names) (keys table.columns)
 

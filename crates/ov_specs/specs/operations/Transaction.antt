@@ -1,4 +1,5 @@
--- One transaction: operations in order, each on the rows that those before it left (RFC 7047, 4.1.3 and 5.2).
+-- One transaction: operations in order, each on the rows that those before it left (RFC 7047, 4.1.3 and 5.2). What names no
+-- source is our own.
 use Rattle.std.specs.Prelude.{ℕ, ◌+◌, List, [], ◌∷◌, Bool, if◌then◌else◌, codes}
 use Rattle.serde_json.specs.Data.{Data, null, Items, no_items, item}
 use Rattle.ov_specs.specs.rows.Database.{Database}
@@ -14,12 +15,12 @@ use Rattle.ov_specs.specs.values.Uuid.{Uuid}
 abbrev pub is_insert : Data → Bool
 is_insert d = is_word (codes "insert") (text_at (codes "op") d)
 
--- how many of them (own)
+-- how many of them
 abbrev pub insert_count : Items → ℕ
 insert_count no_items = 0
 insert_count (item d operations) = (if is_insert d then 1 else 0) + insert_count operations
 
--- how many identifiers are drawn: the version, and one for each insert, also for one that will be refused (own)
+-- how many identifiers are drawn: the version, and one for each insert, also for one that will be refused
 abbrev pub draws_wanted : Items → ℕ
 draws_wanted operations = 1 + insert_count operations
 
@@ -30,7 +31,7 @@ pub record Transacted : Type 0 where
   pub results : Items
   pub database : Database
 
--- a result in front (own)
+-- a result in front
 abbrev pub with_result : Data → Transacted → Transacted
 with_result result t = record t { results = item result t.results }
 
@@ -58,7 +59,7 @@ transaction schema before (version ∷ draws) operations = perform schema before
 
 -- ---- where the commit fails
 
--- one element more (own)
+-- one element more
 abbrev pub and_item : Items → Data → Items
 and_item no_items d = item d no_items
 and_item (item e items) d = item e (and_item items d)
@@ -67,7 +68,7 @@ and_item (item e items) d = item e (and_item items d)
 abbrev pub and_error : Items → OpError → Items
 and_error results error = and_item results (error_tree error)
 
--- the results where the store has no room for the changes (own)
+-- the results where the store has no room for the changes
 abbrev pub exhausted_results : Items → Items
 exhausted_results results = and_error results ResourcesExhausted
 

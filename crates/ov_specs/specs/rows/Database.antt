@@ -1,4 +1,4 @@
--- The database: rows by their tables and identifiers, and the lines that they are stored as.
+-- The database: rows by their tables and identifiers, and the lines that they are stored as. What names no source is our own.
 use Rattle.std.specs.Prelude.{◌≡◌, ℕ, ◌&&◌, Bool, false, List, [], ◌∷◌, map, option_map}
 use Rattle.std.specs.Cmp.Lexicographic.{pointwise}
 use Rattle.std.specs.FinMap.{FinMap, get, keys, entries}
@@ -22,7 +22,7 @@ pub record Row : Type 0 where
   pub version : Uuid
   pub columns : Columns
 
--- the rows, by the name of their table and their identifier (own)
+-- the rows, by the name of their table and their identifier
 abbrev pub Database : Type 0
 Database = FinMap line_cmp Row
 
@@ -32,12 +32,12 @@ one_uuid id = Atoms (set_of (value.Uuid id ∷ []))
 
 -- ---- what is stored of it
 
--- the members, each put at the place of its name (own)
+-- the members, each put at the place of its name
 abbrev pub placed : Members → List (List ℕ × Data) → Members
 placed members [] = members
 placed members (m ∷ ms) = placed (put m.0 m.1 members) ms
 
--- the object of these members, in ascending order of their names (own)
+-- the object of these members, in ascending order of their names
 abbrev pub object_of : List (List ℕ × Data) → Data
 object_of members = object (placed no_members members)
 
@@ -45,11 +45,11 @@ object_of members = object (placed no_members members)
 abbrev pub written_column : List ℕ × Datum → List ℕ × Data
 written_column column = (column.0, tree column.1)
 
--- a row as it is stored: its version, and the compact text of all columns' written values (own)
+-- a row as it is stored: its version, and the compact text of all columns' written values
 abbrev pub line_of : Row → LineBody
 line_of row = (row.version, frame (object_of (map written_column (entries row.columns))))
 
--- the lines are those of the database's rows (own)
+-- the lines are those of the database's rows
 abbrev pub AreLinesOf : Database → Lines → Type 0
 AreLinesOf database lines = (key : LineKey) → get lines key ≡ option_map line_of (get database key)
 
@@ -73,14 +73,14 @@ same_datum a b = false
 abbrev pub same_columns : List (List ℕ × Datum) → List (List ℕ × Datum) → Bool
 same_columns a b = pointwise (λ c d. bytes_eq c.0 d.0 && same_datum c.1 d.1) a b
 
--- the same version and columns (own)
+-- the same version and columns
 abbrev pub same_row : Row → Row → Bool
 same_row a b = bytes_eq a.version b.version && same_columns (entries a.columns) (entries b.columns)
 
--- the same key (own)
+-- the same key
 abbrev pub same_key : LineKey → LineKey → Bool
 same_key a b = bytes_eq a.0 b.0 && bytes_eq a.1 b.1
 
--- the same rows at the same keys (own)
+-- the same rows at the same keys
 abbrev pub same_database : Database → Database → Bool
 same_database a b = pointwise (λ r s. same_key r.0 s.0 && same_row r.1 s.1) (entries a) (entries b)

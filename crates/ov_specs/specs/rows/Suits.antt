@@ -1,4 +1,4 @@
--- Which rows a database may have under a schema (RFC 7047, 3.2).
+-- Which rows a database may have under a schema (RFC 7047, 3.2). What names no source is our own.
 use Rattle.std.specs.Prelude.{◌≡◌, ℕ, ◌&&◌, List, Bool, true, false, if◌then◌else◌, Option, Some, None}
 use Rattle.std.specs.FinMap.{get}
 use Rattle.ov_specs.specs.rows.Database.{Columns, Row, Database}
@@ -17,7 +17,7 @@ is_value_for column datum = is_of (kinds_of column.type_of) datum && fits column
 abbrev pub column_of_row : Table → List ℕ → Option Column
 column_of_row table name = if is_own_column name then None else get table.columns name
 
--- one value where there is a column, and none where there is no column (own)
+-- one value where there is a column, and none where there is no column
 abbrev pub suits_column : Option Column → Option Datum → Bool
 suits_column None None = true
 suits_column None (Some datum) = false

@@ -1,4 +1,4 @@
--- Which schemas are accepted, and with which refusal the others are not (RFC 7047, 3.2).
+-- Which schemas are accepted, and with which refusal the others are not (RFC 7047, 3.2). What names no source is our own.
 use Rattle.std.specs.Prelude.{ℕ, ℤ, pos, int_lt, nat_le, Bool, true, false, not, ◌&&◌, ◌||◌, ◌==◌, List, [], ◌∷◌, if◌then◌else◌, Option, Some, None, is_some, is_none, codes, length, ◌++◌, map, option_map, unwrap_or, Result, Ok, Err}
 use Rattle.std.specs.FinMap.{from_entries}
 use Rattle.std.specs.List.{list_all, list_any}
@@ -11,7 +11,7 @@ use Rattle.ov_specs.specs.values.Reading.{atoms_read}
 use Rattle.ov_specs.specs.schema.SchemaShape.{TypeName, Kind, Real, BaseShape, Most, AtMost, Unlimited, TypeShape, ColumnShape, TableShape, SchemaShape, plain_base, schema_shape}
 use Rattle.ov_specs.specs.schema.SchemaTypes.{Reference, BaseType, ColumnType, Column, Table, Schema}
 
--- why a tree is no schema, in the order in which the least is answered but for a number that is no integer (own)
+-- why a tree is no schema, in the order in which the least is answered but for a number that is no integer
 pub data SchemaRefusal : Type 0 where
   BadMember : SchemaRefusal  -- a member is missing or of a wrong kind, or a range stands beside another type than its own
   BadName : SchemaRefusal
@@ -25,31 +25,31 @@ pub data SchemaRefusal : Type 0 where
   BadIndex : SchemaRefusal
   StrongWeakMap : SchemaRefusal
 
--- nothing in the list (own)
+-- nothing in the list
 abbrev pub is_empty : {A : Type 0} → List A → Bool
 is_empty [] = true
 is_empty (a ∷ rest) = false
 
 -- ---- places of a schema
 
--- there is something, and it passes (own)
+-- there is something, and it passes
 abbrev pub is_some_and : {A : Type 0} → (A → Bool) → Option A → Bool
 is_some_and test None = false
 is_some_and test (Some a) = test a
 
--- some table passes (own)
+-- some table passes
 abbrev pub any_table : (List ℕ → TableShape → Bool) → SchemaShape → Bool
 any_table test s = list_any (λ t. test t.0 t.1) s.tables
 
--- some column of some table passes (own)
+-- some column of some table passes
 abbrev pub any_column : (List ℕ → ColumnShape → Bool) → SchemaShape → Bool
 any_column test = any_table (λ name t. list_any (λ c. test c.0 c.1) t.columns)
 
--- the type of some column passes (own)
+-- the type of some column passes
 abbrev pub any_type : (TypeShape → Bool) → SchemaShape → Bool
 any_type test = any_column (λ name c. test c.type_of)
 
--- a key type or a value type of some column passes (own)
+-- a key type or a value type of some column passes
 abbrev pub any_base : (BaseShape → Bool) → SchemaShape → Bool
 any_base test = any_type (λ t. test t.key || is_some_and test t.value)
 
@@ -72,12 +72,12 @@ is_digit c = nat_le 48 c && nat_le c 57
 abbrev pub is_number : List ℕ → Bool
 is_number part = not (is_empty part) && list_all is_digit part
 
--- the character, put before the first part (own)
+-- the character, put before the first part
 abbrev pub before_parts : ℕ → List (List ℕ) → List (List ℕ)
 before_parts c [] = []
 before_parts c (part ∷ parts) = (c ∷ part) ∷ parts
 
--- the parts of a text between its dots, one more than it has dots (own)
+-- the parts of a text between its dots, one more than it has dots
 abbrev pub split_at_dots : List ℕ → List (List ℕ)
 split_at_dots [] = [] ∷ []
 split_at_dots (c ∷ cs) = if c == 46 then [] ∷ split_at_dots cs else before_parts c (split_at_dots cs)
@@ -90,19 +90,19 @@ is_version text = let parts = split_at_dots text in (length parts == 3) && list_
 abbrev pub has_bad_version : SchemaShape → Bool
 has_bad_version s = is_some_and (λ v. not (is_version v)) s.version
 
--- a table without columns (own)
+-- a table without columns
 abbrev pub has_no_columns : SchemaShape → Bool
 has_no_columns = any_table (λ name t. is_empty t.columns)
 
 -- ---- ranges
 
--- a least above its greatest, where both are there (own)
+-- a least above its greatest, where both are there
 abbrev pub above : Option ℤ → Option ℤ → Bool
 above None greatest = false
 above (Some least) None = false
 above (Some least) (Some greatest) = int_lt greatest least
 
--- below n, where it is there (own)
+-- below n, where it is there
 abbrev pub below : ℤ → Option ℤ → Bool
 below n o = is_some_and (λ z. int_lt z n) o
 
@@ -125,7 +125,7 @@ has_bad_range s = any_base is_bad_base_range s || any_type is_bad_count s || any
 
 -- ---- types
 
--- "real" (own; RFC 7047, 3.2, <atomic-type> has it)
+-- "real" (our own; RFC 7047, 3.2, <atomic-type> has it)
 abbrev pub is_real_type : TypeName → Bool
 is_real_type (Kind of) = false
 is_real_type Real = true
@@ -135,7 +135,7 @@ abbrev pub is_uuid_type : TypeName → Bool
 is_uuid_type (Kind Uuids) = true
 is_uuid_type name = false
 
--- a table of this name (own)
+-- a table of this name
 abbrev pub has_table : SchemaShape → List ℕ → Bool
 has_table s name = list_any (λ t. bytes_eq t.0 name) s.tables
 
@@ -154,7 +154,7 @@ is_bad_reference b =
     || (is_some b.ref_type && is_none b.ref_table)
     || (is_some b.ref_table && not (is_uuid_type b.of))
 
--- it reads, as one atom or more (own)
+-- it reads, as one atom or more
 abbrev pub is_set_of_one_or_more : Option (List Atom) → Bool
 is_set_of_one_or_more None = false
 is_set_of_one_or_more (Some []) = false
@@ -171,7 +171,7 @@ is_bad_enum b = is_some_and (λ d. not (reads_as_choices b.of d)) b.choices
 
 -- ---- indexes
 
--- the column of this name, `_uuid` and `_version` aside (own)
+-- the column of this name, `_uuid` and `_version` aside
 abbrev pub column_named : List (List ℕ × ColumnShape) → List ℕ → Option ColumnShape
 column_named [] name = None
 column_named (c ∷ cs) name = if bytes_eq c.0 name then Some c.1 else column_named cs name
@@ -181,7 +181,7 @@ abbrev pub is_lasting : Option ColumnShape → Bool
 is_lasting None = false
 is_lasting (Some c) = not c.is_ephemeral
 
--- a name stands twice in the list (own)
+-- a name stands twice in the list
 abbrev pub has_twice : List (List ℕ) → Bool
 has_twice [] = false
 has_twice (name ∷ names) = list_any (λ other. bytes_eq other name) names || has_twice names
@@ -204,18 +204,18 @@ is_weak b = is_some b.ref_table && is_some_and (λ word. bytes_eq word (codes "w
 abbrev pub is_strong : BaseShape → Bool
 is_strong b = is_some b.ref_table && not (is_weak b)
 
--- a map with a strong reference on one side and a weak one on the other (own)
+-- a map with a strong reference on one side and a weak one on the other
 abbrev pub is_strong_weak : TypeShape → Bool
 is_strong_weak t = is_some_and (λ value. (is_strong t.key && is_weak value) || (is_weak t.key && is_strong value)) t.value
 
 -- ---- the refusals in their order
 
--- the first answer whose test holds (own)
+-- the first answer whose test holds
 abbrev pub first_that_holds : {A : Type 0} → List (Bool × A) → Option A
 first_that_holds [] = None
 first_that_holds (p ∷ ps) = if p.0 then Some p.1 else first_that_holds ps
 
--- the least refusal that applies anywhere, once all members are there and of the right kinds (own)
+-- the least refusal that applies anywhere, once all members are there and of the right kinds
 abbrev pub refusal_of_shape : SchemaShape → Option SchemaRefusal
 refusal_of_shape s = first_that_holds (
     (has_bad_name s, BadName)
@@ -260,7 +260,7 @@ max_of (Some Unlimited) = None
 abbrev pub accepted_type : TypeShape → ColumnType
 accepted_type t = record { key = accepted_base t.key; value = option_map accepted_base t.value; min = unwrap_or t.min (pos 1); max = max_of t.max }
 
--- a column that holds weak references is mutable whatever it says (own)
+-- a column that holds weak references is mutable whatever it says
 abbrev pub accepted_column : ColumnShape → Column
 accepted_column c = record { type_of = accepted_type c.type_of; is_ephemeral = c.is_ephemeral; is_mutable = c.is_mutable || is_weak c.type_of.key || is_some_and is_weak c.type_of.value }
 
@@ -287,17 +287,17 @@ accepted_schema d s =
     let some_root = any_table (λ name t. t.is_root) s in
     record { name = s.name; version = s.version; tables = from_entries (map (λ t. (t.0, accepted_table some_root t.1)) s.tables); tree = d }
 
--- the schema, unless it is refused (own)
+-- the schema, unless it is refused
 abbrev pub refused_or : Schema → Option SchemaRefusal → Result Schema SchemaRefusal
 refused_or schema None = Ok schema
 refused_or schema (Some refusal) = Err refusal
 
--- the schema of the members, or its refusal; first of all that one is missing or of a wrong kind (own)
+-- the schema of the members, or its refusal; first of all that one is missing or of a wrong kind
 abbrev pub judged : Data → Option SchemaShape → Result Schema SchemaRefusal
 judged d None = Err BadMember
 judged d (Some s) = refused_or (accepted_schema d s) (refusal_of_shape s)
 
 -- The schema that a tree is, or why it is none: a number that is no 64-bit integer goes before all else (RFC 7047, 3.2; the
--- refusals are own).
+-- refusals are our own).
 abbrev pub accepted : Data → Result Schema SchemaRefusal
 accepted d = if has_real d then Err RealNotSupported else judged d (schema_shape d)

@@ -1,4 +1,4 @@
--- The members of a schema's tree, of the right kinds and not yet judged (RFC 7047, 3.2).
+-- The members of a schema's tree, of the right kinds and not yet judged (RFC 7047, 3.2). What names no source is our own.
 use Rattle.std.specs.Prelude.{ℕ, ℤ, Bool, true, false, not, ◌&&◌, ◌||◌, List, [], ◌∷◌, if◌then◌else◌, Option, Some, None, is_some, option_map, option_and_then, unwrap_or, codes}
 use Rattle.std.specs.Str.{bytes_eq}
 use Rattle.serde_json.specs.Data.{Data, Members, no_members, member}
@@ -55,11 +55,11 @@ pub record SchemaShape : Type 0 where
 
 -- ---- members
 
--- what comes next, where this is there (own)
+-- what comes next, where this is there
 abbrev pub where_read : {A B : Type 0} → Option A → (A → Option B) → Option B
 where_read o next = option_and_then next o
 
--- a member that may be absent, and has to read where it is there (own)
+-- a member that may be absent, and has to read where it is there
 abbrev pub optional : {A : Type 0} → (Data → Option A) → Option Data → Option (Option A)
 optional reader None = Some None
 optional reader (Some d) = option_map Some (reader d)
@@ -68,12 +68,12 @@ optional reader (Some d) = option_map Some (reader d)
 abbrev pub whole_number : Data → Option ℤ
 whole_number d = option_and_then as_i64 (as_number d)
 
--- each member with its name, where all of them read (own)
+-- each member with its name, where all of them read
 abbrev pub each_member : {A : Type 0} → (Data → Option A) → Members → Option (List (List ℕ × A))
 each_member reader no_members = Some []
 each_member reader (member k d ms) = option_and_then (λ a. option_map (λ rest. (k, a) ∷ rest) (each_member reader ms)) (reader d)
 
--- the members of an object, where all of them read (own)
+-- the members of an object, where all of them read
 abbrev pub named_parts : {A : Type 0} → (Data → Option A) → Data → Option (List (List ℕ × A))
 named_parts reader d = option_and_then (each_member reader) (as_object d)
 
@@ -176,7 +176,7 @@ table_shape d =
     Some (record { columns = columns; max_rows = max_rows; is_root = unwrap_or root false; indexes = unwrap_or indexes [] })))))
 
 -- The members, or none where one is missing or of a wrong kind anywhere in the tree; others are passed over (RFC 7047, 3.2,
--- <database-schema>; that `version` may be absent is own).
+-- <database-schema>; that `version` may be absent is our own).
 abbrev pub schema_shape : Data → Option SchemaShape
 schema_shape d =
     where_read (option_and_then as_str (get (codes "name") d)) (λ name.

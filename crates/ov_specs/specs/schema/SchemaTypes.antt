@@ -1,4 +1,4 @@
--- What an accepted schema says of tables and columns (RFC 7047, 3.2).
+-- What an accepted schema says of tables and columns (RFC 7047, 3.2). What names no source is our own.
 use Rattle.std.specs.Prelude.{ℕ, ℤ, Bool, List, Option, Some, None}
 use Rattle.std.specs.declared.cmp.Ordering.{Ordering}
 use Rattle.std.specs.Ordering.{nat_cmp}
@@ -7,7 +7,7 @@ use Rattle.std.specs.FinMap.{FinMap}
 use Rattle.serde_json.specs.Data.{Data}
 use Rattle.ov_specs.specs.values.Value.{AtomKind, AtomSet, Kinds, Single, Pair}
 
--- names in the order of their bytes (own)
+-- names in the order of their bytes
 abbrev pub name_cmp : List ℕ → List ℕ → Ordering
 name_cmp = slice_cmp nat_cmp
 

@@ -1,4 +1,4 @@
--- What a JSON tree stands for, as an atom and as a value (RFC 7047, 5.1).
+-- What a JSON tree stands for, as an atom and as a value (RFC 7047, 5.1). What names no source is our own.
 use Rattle.std.specs.Prelude.{ℤ, ◌&&◌, ◌||◌, not, ℕ, List, [], ◌∷◌, Bool, false, if◌then◌else◌, Option, Some, None, option_map, option_and_then, codes}
 use Rattle.std.specs.Option.{option_or}
 use Rattle.std.specs.List.{list_any}
@@ -11,7 +11,7 @@ use Rattle.ov_specs.specs.values.Uuid as uuid
 use Rattle.ov_specs.specs.values.Uuid.{is_id, Names}
 use Rattle.ov_specs.specs.values.Value.{AtomKind, Integers, Booleans, Texts, Uuids, Atom, Integer, Boolean, Text, Uuid, is_in_64_bits, is_text, atom_cmp, Kinds, Single, Pair, Datum, Atoms, Pairs, set_of, map_of}
 
--- What reading a tree gives: a value; some part does not read; or all parts read and one key has two values (own).
+-- What reading a tree gives: a value; some part does not read; or all parts read and one key has two values.
 pub data Reading (A : Type 0) : Type 0 where
   Reads : (value : A) → Reading A
   Unreadable : Reading A
@@ -19,18 +19,18 @@ pub data Reading (A : Type 0) : Type 0 where
 
 -- ---- parts of trees
 
--- two items and no more (own)
+-- two items and no more
 abbrev pub two_items : Items → Option (Data × Data)
 two_items no_items = None
 two_items (item first no_items) = None
 two_items (item first (item second no_items)) = Some (first, second)
 two_items (item first (item second (item third rest))) = None
 
--- the items of an array of two (own)
+-- the items of an array of two
 abbrev pub as_two : Data → Option (Data × Data)
 as_two d = option_and_then two_items (as_array d)
 
--- the text is there, and is the word (own)
+-- the text is there, and is the word
 abbrev pub is_word : List ℕ → Option (List ℕ) → Bool
 is_word word None = false
 is_word word (Some text) = bytes_eq text word
@@ -72,13 +72,13 @@ atom_read names Uuids d = option_map Uuid (uuid_read names d)
 
 -- ---- lists of atoms and of pairs
 
--- one more in front, where both are there (own)
+-- one more in front, where both are there
 abbrev pub in_front : {A : Type 0} → Option A → Option (List A) → Option (List A)
 in_front None rest = None
 in_front (Some a) None = None
 in_front (Some a) (Some rest) = Some (a ∷ rest)
 
--- the two, where both are there (own)
+-- the two, where both are there
 abbrev pub both : {A B : Type 0} → Option A → Option B → Option (A × B)
 both None b = None
 both (Some a) None = None
@@ -88,12 +88,12 @@ both (Some a) (Some b) = Some (a, b)
 abbrev pub pair_read : Names → AtomKind → AtomKind → Data → Option (Atom × Atom)
 pair_read names key value d = option_and_then (λ p. both (atom_read names key p.0) (atom_read names value p.1)) (as_two d)
 
--- each item, where all of them read (own)
+-- each item, where all of them read
 abbrev pub each_read : {A : Type 0} → (Data → Option A) → Items → Option (List A)
 each_read reader no_items = Some []
 each_read reader (item d ds) = in_front (reader d) (each_read reader ds)
 
--- each item of an array, where all of them read (own)
+-- each item of an array, where all of them read
 abbrev pub list_read : {A : Type 0} → (Data → Option A) → Data → Option (List A)
 list_read reader d = option_and_then (each_read reader) (as_array d)
 
@@ -112,11 +112,11 @@ pairs_read names key value d = option_and_then (list_read (pair_read names key v
 
 -- ---- values
 
--- one key, and two values (own)
+-- one key, and two values
 abbrev pub differ_at_one_key : Atom × Atom → Atom × Atom → Bool
 differ_at_one_key p q = eq_by_cmp atom_cmp p.0 q.0 && not (eq_by_cmp atom_cmp p.1 q.1)
 
--- somewhere in the list one key has two values (own)
+-- somewhere in the list one key has two values
 abbrev pub has_clash : List (Atom × Atom) → Bool
 has_clash [] = false
 has_clash (p ∷ ps) = list_any (differ_at_one_key p) ps || has_clash ps
@@ -126,7 +126,7 @@ abbrev pub set_reading : Option (List Atom) → Reading Datum
 set_reading None = Unreadable
 set_reading (Some atoms) = Reads (Atoms (set_of atoms))
 
--- the map of the pairs; equal ones merge, and one key with two values is a clash (own)
+-- the map of the pairs; equal ones merge, and one key with two values is a clash
 abbrev pub map_reading : Option (List (Atom × Atom)) → Reading Datum
 map_reading None = Unreadable
 map_reading (Some pairs) = if has_clash pairs then Clashing else Reads (Pairs (map_of pairs))

@@ -1,4 +1,4 @@
--- Identifiers, and the names that stand for them in a transaction.
+-- Identifiers, and the names that stand for them in a transaction. What names no source is our own.
 use Rattle.std.specs.Prelude.{◌≡◌, ◌&&◌, ◌||◌, ◌==◌, ℕ, nat_lt, nat_le, List, [], ◌∷◌, length, Bool, true, false, Option, Some}
 use Rattle.std.specs.List.{list_all}
 
@@ -31,6 +31,6 @@ is_id (c ∷ cs) = begins_id c && list_all continues_id cs
 abbrev pub Names : Type 0
 Names = List ℕ → Option Uuid
 
--- whatever a name stands for is an identifier (own)
+-- whatever a name stands for is an identifier
 abbrev pub AreUuids : Names → Type 0
 AreUuids names = (name : List ℕ) (bytes : Uuid) → names name ≡ Some bytes → is_uuid bytes ≡ true

@@ -1,4 +1,4 @@
--- Atoms and values: what a column of a row holds (RFC 7047, 5.1).
+-- Atoms and values: what a column of a row holds (RFC 7047, 5.1). What names no source is our own.
 use Rattle.std.specs.Prelude.{ℕ, ◌^◌, ◌-◌, ◌==◌, ◌&&◌, ℤ, pos, negsuc, int_le, int_lt, not, Bool, true, false, List, [], ◌∷◌, map, Option, Some, None}
 use Rattle.std.specs.List.{list_any, list_all}
 use Rattle.std.specs.declared.cmp.Ordering.{Ordering}
@@ -54,7 +54,7 @@ is_atom_of kind a = false
 
 -- ---- their order
 
--- the place of a kind among the four (own)
+-- the place of a kind among the four
 abbrev pub kind_rank : AtomKind → ℕ
 kind_rank Integers = 0
 kind_rank Booleans = 1
@@ -62,7 +62,7 @@ kind_rank Texts = 2
 kind_rank Uuids = 3
 
 -- By number; false before true; texts by their bytes; identifiers by their number, which is the order of their bytes. Atoms
--- of two kinds, which no column holds, stand by their kinds (own).
+-- of two kinds, which no column holds, stand by their kinds.
 abbrev pub atom_cmp : Atom → Atom → Ordering
 atom_cmp (Integer m) (Integer n) = int_cmp m n
 atom_cmp (Boolean a) (Boolean b) = bool_cmp a b
@@ -85,7 +85,7 @@ AtomSet = map.FinMap atom_cmp (Unit {0})
 abbrev pub AtomMap : Type 0
 AtomMap = map.FinMap atom_cmp Atom
 
--- an atom as an entry of a set (own)
+-- an atom as an entry of a set
 abbrev pub marked : Atom → Atom × Unit {0}
 marked a = (a, tt)
 
@@ -93,7 +93,7 @@ marked a = (a, tt)
 abbrev pub set_of : List Atom → AtomSet
 set_of atoms = map.from_entries (map marked atoms)
 
--- the map of these pairs; of two with one key the first stands (own; reading refuses two unless they are equal)
+-- the map of these pairs; of two with one key the first stands (our own; reading refuses two unless they are equal)
 abbrev pub map_of : List (Atom × Atom) → AtomMap
 map_of pairs = map.from_entries pairs
 
@@ -102,12 +102,12 @@ pub data Datum : Type 0 where
   Atoms : (atoms : AtomSet) → Datum
   Pairs : (pairs : AtomMap) → Datum
 
--- the atoms of a set, ascending; none where it is a map (own)
+-- the atoms of a set, ascending; none where it is a map
 abbrev pub atoms_in : Datum → Option (List Atom)
 atoms_in (Atoms atoms) = Some (map.keys atoms)
 atoms_in (Pairs pairs) = None
 
--- the pairs of a map, ascending by their keys; none where it is a set (own)
+-- the pairs of a map, ascending by their keys; none where it is a set
 abbrev pub pairs_in : Datum → Option (List (Atom × Atom))
 pairs_in (Atoms atoms) = None
 pairs_in (Pairs pairs) = Some (map.entries pairs)
@@ -117,7 +117,7 @@ abbrev pub count : Datum → ℕ
 count (Atoms atoms) = map.len atoms
 count (Pairs pairs) = map.len pairs
 
--- the pair is of these kinds (own)
+-- the pair is of these kinds
 abbrev pub is_pair_of : AtomKind → AtomKind → Atom × Atom → Bool
 is_pair_of key value p = is_atom_of key p.0 && is_atom_of value p.1
 
@@ -127,11 +127,11 @@ is_of (Single kind) (Atoms atoms) = list_all (is_atom_of kind) (map.keys atoms)
 is_of (Pair key value) (Pairs pairs) = list_all (is_pair_of key value) (map.entries pairs)
 is_of kinds d = false
 
--- the order of pairs: by the key, then by the value (own)
+-- the order of pairs: by the key, then by the value
 abbrev pub pair_cmp : Atom × Atom → Atom × Atom → Ordering
 pair_cmp p q = ordering_then (atom_cmp p.0 q.0) (atom_cmp p.1 q.1)
 
--- The order of values: element by element in ascending order, a beginning first. Sets stand before maps; no column holds both (own).
+-- The order of values: element by element in ascending order, a beginning first. Sets stand before maps; no column holds both.
 abbrev pub datum_cmp : Datum → Datum → Ordering
 datum_cmp (Atoms a) (Atoms b) = slice_cmp atom_cmp (map.keys a) (map.keys b)
 datum_cmp (Pairs a) (Pairs b) = slice_cmp pair_cmp (map.entries a) (map.entries b)

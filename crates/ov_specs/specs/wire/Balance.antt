@@ -1,4 +1,5 @@
--- Which texts are messages on a byte stream: JSON objects, told by their braces alone (own; RFC 7047, 4 sends JSON-RPC objects without framing).
+-- Which texts are messages on a byte stream: JSON objects, told by their braces alone (our own; RFC 7047, 4 sends JSON-RPC
+-- objects without framing). What names no source is our own.
 use Rattle.std.specs.Prelude.{◌≡◌, ℕ, ◌<◌, ◌≤◌, ◌==◌, ◌||◌, List, [], ◌∷◌, length, take, Bool, true, false, if◌then◌else◌, count_by, Option, Some, None, option_map, slice_get}
 
 -- white space: space, tab, line feed, carriage return (RFC 8259, 2)
@@ -22,22 +23,22 @@ abbrev mutual
   behind_backslash [] = None
   behind_backslash (x ∷ text) = behind_quote text
 
--- as many opening braces as closing ones; a text with a quote left over has no count (own)
+-- as many opening braces as closing ones; a text with a quote left over has no count
 abbrev pub has_equal_braces : Option (List ℕ) → Bool
 has_equal_braces None = false
 has_equal_braces (Some text) = count_by (λ x. x == 123) text == count_by (λ x. x == 125) text
 
--- as many opening braces as closing ones, those inside literals aside (own)
+-- as many opening braces as closing ones, those inside literals aside
 abbrev pub is_balanced : List ℕ → Bool
 is_balanced text = has_equal_braces (bare text)
 
--- a message begins with a brace, and is balanced as no shorter front of it is, the empty one aside (own)
+-- a message begins with a brace, and is balanced as no shorter front of it is, the empty one aside
 pub record IsMessage (text : List ℕ) : Type 0 where
   pub begins : slice_get text 0 ≡ Some 123
   pub balanced : is_balanced text ≡ true
   pub shortest : (n : ℕ) → 0 < n → n < length text → is_balanced (take n text) ≡ false
 
--- a message that has begun and has not ended (own)
+-- a message that has begun and has not ended
 pub record IsBegun (text : List ℕ) : Type 0 where
   pub begins : slice_get text 0 ≡ Some 123
   pub unclosed : (n : ℕ) → 0 < n → n ≤ length text → is_balanced (take n text) ≡ false

@@ -1,4 +1,4 @@
--- Which message a text is, and which messages a stream asks for.
+-- Which message a text is, and which messages a stream asks for. What names no source is our own.
 use Rattle.std.specs.Prelude.{ℕ, ◌&&◌, ◌||◌, not, List, [], ◌∷◌, Bool, true, false, if◌then◌else◌, Option, Some, None, is_some, option_map, option_and_then, unwrap_or, codes}
 use Rattle.std.specs.Str.{is_utf8}
 use Rattle.serde_json.specs.Data.{Data, null, boolean, number, string, array, object, Items}
@@ -7,7 +7,7 @@ use Rattle.serde_json.specs.Read.{read}
 use Rattle.ov_specs.specs.wire.Tree.{has_real}
 use Rattle.ov_specs.specs.wire.Cut.{Cut, cut}
 
--- why a request can't be taken: it isn't built as one, or it has a number that is no 64-bit integer (own)
+-- why a request can't be taken: it isn't built as one, or it has a number that is no 64-bit integer
 pub data BadKind : Type 0 where
   NotARequest : BadKind
   Reals : BadKind
@@ -19,7 +19,7 @@ pub data Message : Type 0 where
   Answer : Message
   Bad : (id : Data) (kind : BadKind) → Message
 
--- the tree, unless it is null (own)
+-- the tree, unless it is null
 abbrev pub not_null : Data → Option Data
 not_null null = None
 not_null (boolean b) = Some (boolean b)
@@ -32,11 +32,11 @@ not_null (object ms) = Some (object ms)
 abbrev pub asker_of : Data → Option Data
 asker_of d = option_and_then not_null (get (codes "id") d)
 
--- the tree has a member of this name (own)
+-- the tree has a member of this name
 abbrev pub has_member : List ℕ → Data → Bool
 has_member name d = is_some (get name d)
 
--- a number inside the id that is no 64-bit integer (own)
+-- a number inside the id that is no 64-bit integer
 abbrev pub has_real_id : Data → Bool
 has_real_id d = unwrap_or (option_map has_real (get (codes "id") d)) false
 
@@ -44,7 +44,7 @@ has_real_id d = unwrap_or (option_map has_real (get (codes "id") d)) false
 abbrev pub is_answer : Data → Bool
 is_answer d = not (has_member (codes "method") d) && (has_member (codes "result") d || has_member (codes "error") d)
 
--- what is wrong is told to who asked; where nobody did, nothing is (own)
+-- what is wrong is told to who asked; where nobody did, nothing is
 abbrev pub bad : Option Data → BadKind → Message
 bad None kind = Answer
 bad (Some id) kind = Bad id kind
@@ -60,7 +60,8 @@ request None params asker = bad asker NotARequest
 abbrev pub request_in : Data → Message
 request_in d = request (option_and_then as_str (get (codes "method") d)) (option_and_then as_array (get (codes "params") d)) (asker_of d)
 
--- The message that a tree is, or None where it is unreadable: the first case that applies decides (own, over JSON-RPC 1.0, 1).
+-- The message that a tree is, or None where it is unreadable: the first case that applies decides (our own, over JSON-RPC 1.0,
+-- 1).
 abbrev pub message_of : Data → Option Message
 message_of d =
     if has_real_id d then None
@@ -72,25 +73,25 @@ message_of d =
 abbrev pub tree_of : List ℕ → Option Data
 tree_of text = if is_utf8 text then read text else None
 
--- the message that a text is, or None where it is unreadable (own)
+-- the message that a text is, or None where it is unreadable
 unfoldable pub message_in : List ℕ → Option Message
 message_in text = option_and_then message_of (tree_of text)
 
--- what a stream asks for, and whether it is damaged (own)
+-- what a stream asks for, and whether it is damaged
 pub record Asked : Type 0 where
   pub messages : List Message
   pub damaged : Bool
 
--- one message in front, or damage where a text is unreadable (own)
+-- one message in front, or damage where a text is unreadable
 abbrev pub with_asked : Option Message → Asked → Asked
 with_asked None asked = record { messages = []; damaged = true }
 with_asked (Some message) asked = record asked { messages = message ∷ asked.messages }
 
--- the messages of these texts up to the first that is unreadable; damage lies behind the last one (own)
+-- the messages of these texts up to the first that is unreadable; damage lies behind the last one
 abbrev pub asked_of : List (List ℕ) → Bool → Asked
 asked_of [] damaged = record { messages = []; damaged = damaged }
 asked_of (text ∷ texts) damaged = with_asked (message_in text) (asked_of texts damaged)
 
--- the messages of a stream, up to its damage (own)
+-- the messages of a stream, up to its damage
 unfoldable pub asked : List ℕ → Asked
 asked stream = let c : Cut = cut stream in asked_of c.messages (is_some c.damage)

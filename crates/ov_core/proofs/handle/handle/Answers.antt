@@ -1,8 +1,9 @@
 use Rattle.std.proofs.Common.{sym}
 use Rattle.ov_specs.specs.machine.Machine as spec
+use Rattle.ov_specs.specs.machine.Machine.{opening}
 use Rattle.ov_rpc.specs.Message.{message_view}
 use Rattle.ov_core.specs.Handling.{with_db}
-use Rattle.ov_core.proofs.Workings.{asks_none, nothing_drawn, answers_work, transact_work}
+use Rattle.ov_core.proofs.Workings.{answer_asks_none, nothing_drawn, answers_work, transact_work}
 use Rattle.ov_core.proofs.handle.handle.Goals as goal
 
 pub returns-in-Err-clause-is_handled : goal.returns-in-Err-clause-is_handled
@@ -22,4 +23,8 @@ returns-in-Ok-Transact-clause-is_handled g c = λ s.
     rw is (c.transact.ensures.is_handled s)
 
 pub returns-in-Ok-Answer-clause-asks : goal.returns-in-Ok-Answer-clause-asks
-returns-in-Ok-Answer-clause-asks g c = asks_none g.K.Keeper.failed c.args.session c.in-Ok-Answer.frame c.args.outbox.now c.send.new.outbox c.send.result c.args.database.now c.send.ensures
+returns-in-Ok-Answer-clause-asks g c =
+    let d = c.args.database.now in
+    let s = opening d.schema d.committed in
+    answer_asks_none g.K.Keeper.failed c.args.session (spec.work_of s (message_view c.args.message.now)) c.in-Ok-Answer.frame c.args.outbox.now c.send.new.outbox c.send.result d
+    ((rw c.in-Ok-Answer.field-0-is at c.in-Ok-Answer.ensures) s (sym c.schema.ensures)) c.send.ensures

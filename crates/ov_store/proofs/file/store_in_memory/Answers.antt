@@ -14,3 +14,16 @@ returns-in-Ok-store_over-clause-found c =
 pub returns-in-Err-store_over-clause-refused : goal.returns-in-Err-store_over-clause-refused
 returns-in-Err-store_over-clause-refused c =
     inr (c.in-Ok.connection, c.in-Err-store_over.refused.connection, c.in-Ok.ensures.empty, c.in-Err-store_over.ensures.refused)
+
+-- whatever was called, a file in memory is clean
+pub returns-in-Err-clause-honest : goal.returns-in-Err-clause-honest
+unfolding state
+returns-in-Err-clause-honest c s = no_doubt _ refl
+
+pub returns-in-Ok-store_over-clause-honest : goal.returns-in-Ok-store_over-clause-honest
+unfolding state
+returns-in-Ok-store_over-clause-honest c s = no_doubt _ refl
+
+pub returns-in-Err-store_over-clause-honest : goal.returns-in-Err-store_over-clause-honest
+unfolding state
+returns-in-Err-store_over-clause-honest c s = no_doubt _ refl

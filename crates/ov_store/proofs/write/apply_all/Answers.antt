@@ -1,4 +1,6 @@
-use Rattle.std.proofs.Common.{◌+◌, refl, arith, take, ◌∙◌}
+use Rattle.std.proofs.Common.{◌≡◌, ◌+◌, refl, subst, arith, take, ◌∙◌}
+use Rattle.std.proofs.lemmas.List.{take_all}
+use Rattle.ov_store.specs.Changing.{Makes}
 use Rattle.sqlite.specs.State.{HasCleanDisk}
 use Rattle.sqlite.specs.Held.{state}
 use Rattle.ov_specs.specs.rows.Lines.{after_changes, after_change}
@@ -44,3 +46,12 @@ returns-in_err-apply-clause-kept g c clean mode =
     let mid = state g.S.Store c.loop-change.tx.conn.now in
     let early : HasCleanDisk mid = omega (arith, c.apply.ensures.survives.clean) in
     keeps_then _ _ _ (c.loop-change.invariant.kept early mode) (c.apply.ensures.kept clean (c.loop-change.invariant.goes_on early mode))
+
+pub returns-clause-ok : goal.returns-clause-ok
+returns-clause-ok g c clean mode text may =
+    let all = c.args.changes.now in
+    let i = c.loop-change.change-index in
+    let old = state g.S.Store c.args.tx.now.conn.now in
+    let new = state g.S.Store c.loop-change.tx.conn.now in
+    let whole : take i all ≡ all = take_all i all (omega (arith, c.loop-change-test.false)) in
+    subst (λ changes. Makes text (after_changes (changes_view changes)) old new) whole (c.loop-change.invariant.makes clean mode text may)

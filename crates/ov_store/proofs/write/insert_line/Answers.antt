@@ -25,6 +25,8 @@ returns-clause-ok g c clean mode text may =
       stored = λ _. inserted_stored t i v b named id_sixteen ver_sixteen text old new stored d;
       lines_are = λ none. inserted_lines t i v b old new none d;
       meta = d.meta;
+      schema = d.schema;
+      others = d.others;
       committed = ran.1.committed_is;
     }
 

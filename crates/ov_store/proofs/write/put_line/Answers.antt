@@ -6,7 +6,7 @@ use Rattle.ov_specs.specs.rows.Lines.{LineKey, LineBody, line_cmp}
 use Rattle.ov_keeper.specs.Views.{line_entry}
 use Rattle.ov_store.specs.Format.{stored_lines}
 use Rattle.ov_store.specs.Changing.{Makes, after_update}
-use Rattle.ov_store.proofs.RunLemmas.{on_ok}
+use Rattle.ov_store.proofs.RunLemmas.{on_ok, others_after}
 use Rattle.ov_store.proofs.write.put_line.Goals as goal
 use Rattle.ov_keeper.proofs.LineLemmas.{not_found, insert-remove}
 
@@ -26,5 +26,7 @@ returns-clause-ok g c clean mode text may =
       stored = two.stored;
       lines_are = two.lines_are none ∙ ap (λ m. insert {R = line_cmp} m k v) one.lines_are ∙ insert-remove (stored_lines (old.now.trees 2)) k v;
       meta = two.meta ∙ one.meta;
+      schema = two.schema ∙ one.schema;
+      others = others_after old mid new one.schema one.others two.others;
       committed = two.committed ∙ one.committed;
     })

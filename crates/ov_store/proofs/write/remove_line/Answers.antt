@@ -17,6 +17,8 @@ returns-clause-ok g c clean mode text may =
       stored = λ _. deleted_stored text c.args.table.now c.args.id old new stored d;
       lines_are = deleted_lines text c.args.table.now c.args.id old new stored d;
       meta = d.meta;
+      schema = d.schema;
+      others = d.others;
       committed = ran.1.committed_is;
     }
 

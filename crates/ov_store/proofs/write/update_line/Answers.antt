@@ -26,6 +26,8 @@ returns-clause-ok g c clean mode text may =
       stored = λ _. updated_stored t i v b named id_sixteen ver_sixteen text old new count stored d;
       lines_are = updated_lines t i v b named id_sixteen ver_sixteen text old new count stored d;
       meta = d.meta;
+      schema = d.schema;
+      others = d.others;
       committed = ran.1.committed_is;
     }
 

@@ -12,5 +12,5 @@ loop-item-preserved c =
     let table = c.args.table.now in
     c.loop-item.invariant
     ∙ and_others-item spec.no_names table items i (i + 1) c.item-item.result c.loop-item.conditions.items c.in_ok-condition.condition c.loop-item-test.true refl
-    (ap (λ v. condition_read spec.no_names table (view v)) (sym c.item-item.is) ∙ c.in_ok-condition.ensures)
+    (ap (λ v. condition_read spec.no_names table (view v)) (sym c.item-item.is) ∙ c.in_ok-condition.ensures.value)
     ∙ ap (λ read. spec.and_others read (spec.conditions_read spec.no_names table (items_view (drop (i + 1) items)))) (sym c.in_default.ensures.items)

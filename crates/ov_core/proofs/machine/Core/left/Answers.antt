@@ -1,4 +1,4 @@
-use Rattle.std.specs.Prelude.{option_to_list}
+use Rattle.ov_core.specs.Sessions.{sessions_of}
 use Rattle.ov_core.proofs.Workings.{its_own}
 use Rattle.ov_core.proofs.machine.Core.left.Goals as goal
 
@@ -6,4 +6,4 @@ pub returns : goal.returns
 returns g c =
     let d = c.self.inside.database in
     rw (← c.self.view_is) (λ honest held found.
-    its_own (record { schema = d.schema; database = d.committed; sealed = d.sealed; sessions = option_to_list c.self.inside.session; next = c.self.inside.next; moment = c.self.inside.moment }) held (c.left.ensures.held honest held found))
+    its_own (record { schema = d.schema; database = d.committed; sealed = d.sealed; sessions = sessions_of c.self.inside.session; next = c.self.inside.next; moment = c.self.inside.moment }) held (c.left.ensures.held honest held found))

@@ -7,7 +7,7 @@ use Rattle.ov_keeper.proofs.LineLemmas.{contents_after-append}
 use Rattle.ov_keeper.proofs.list.ListKeeperKeeper.commit.Goals as goal
 
 pub returns-in-Ok-append-clause-ok : goal.returns-in-Ok-append-clause-ok
-returns-in-Ok-append-clause-ok c _ held is =
+returns-in-Ok-append-clause-ok c held is =
     let schema = c.args.self.now.schema in
     let made = c.args.self.now.made.items in
     let before = contents_after schema (changes_view made) in (

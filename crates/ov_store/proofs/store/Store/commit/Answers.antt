@@ -8,8 +8,8 @@ use Rattle.ov_keeper.specs.Views.{changes_view}
 use Rattle.sqlite.specs.Tree.{Trees}
 use Rattle.sqlite.proofs.StateLemmas.{survives_then}
 use Rattle.ov_store.specs.Changing.{MayBeStored, IsCommitImage}
-use Rattle.ov_store.specs.StoreState.{StoreState, MayFind}
-use Rattle.ov_store.proofs.FoundLemmas.{is_zero, refused, stores_changes, crash_changes, kept_found, survives_found}
+use Rattle.ov_store.specs.StoreState.{StoreState, MayFind, LeavesOthers}
+use Rattle.ov_store.proofs.FoundLemmas.{is_zero, refused, stores_changes, crash_changes, kept_found, kept_left, survives_found, survives_left, others_same, others_stored, others_crashed}
 use Rattle.ov_store.proofs.RunLemmas.{nothing_then}
 use Rattle.ov_keeper.specs.declared.fault.KeepFault.TheVariants.{Device}
 use Rattle.ov_store.proofs.store.Store.commit.Goals as goal
@@ -59,3 +59,55 @@ returns-clause-err g c clean =
     ] in
     refused (changes_view c.args.changes.now) (MayFind g.S.Store c.args.self.now.connection) (MayFind g.S.Store new) fault c.fault_at-fault.ensures.kind other
     (subst (λ was. LeavesNoMore (MayFind g.S.Store was) (MayFind g.S.Store new)) same kept)
+
+pub returns-then-is_empty-clause-others : goal.returns-then-is_empty-clause-others
+returns-then-is_empty-clause-others g c clean =
+    others_same g.S.Store g.met.S.Store.settled g.met.S.Store.stays c.args.self.now.connection c.args.self.now.connection (λ db found. found)
+
+pub returns-in_default-clause-others : goal.returns-in_default-clause-others
+returns-in_default-clause-others g c clean =
+    let old = c.self.inside.connection in
+    let new = c.write_all.new.conn in
+    let early : HasCleanDisk (state g.S.Store old) = omega (arith, c.write_all.ensures.crash.clean) in
+    let same : old ≡ c.args.self.now.connection = ap (λ (s : StoreState _). s.connection) c.self.view_is in
+    let done = c.in_default.ensures.ok clean c.self.inside.schema (c.self.invariant.1 early) in
+    subst (λ was. LeavesOthers g.S.Store was new) same
+    (others_stored g.S.Store g.met.S.Store.settled g.met.S.Store.stays c.self.inside.schema (after_changes (changes_view c.args.changes.now)) old new done)
+
+pub returns-then-eq-clause-others : goal.returns-then-eq-clause-others
+returns-then-eq-clause-others g c clean =
+    let old = c.self.inside.connection in
+    let mid = c.write_all.new.conn in
+    let new = c.fault_at-fault.new.conn in
+    let moved = c.count_failure.ensures.same.0 in
+    let late : HasCleanDisk (state g.S.Store new) = rw moved at clean in
+    let middle : HasCleanDisk (state g.S.Store mid) = omega (arith, c.fault_at-fault.ensures.survives.clean) in
+    let early : HasCleanDisk (state g.S.Store old) = omega (arith, c.write_all.ensures.crash.clean) in
+    let same : old ≡ c.args.self.now.connection = ap (λ (s : StoreState _). s.connection) c.self.view_is in
+    let changes = after_changes (changes_view c.args.changes.now) in
+    let P = λ (trees : Trees). (text : List ℕ) → MayBeStored text (state g.S.Store old) → IsCommitImage changes (state g.S.Store old) trees in
+    let whole = survives_then (state g.S.Store old) (state g.S.Store mid) (state g.S.Store new) P (λ _. ⊥) P (λ _ db h. h) (λ _ db none. absurd none) c.write_all.ensures.crash c.fault_at-fault.ensures.survives in
+    rw moved (subst (λ was. LeavesOthers g.S.Store was new) same
+    (others_crashed g.S.Store g.met.S.Store.settled g.met.S.Store.stays c.self.inside.schema changes old new late (c.self.invariant.1 early) whole))
+
+pub returns-clause-others : goal.returns-clause-others
+returns-clause-others g c clean =
+    let old = c.self.inside.connection in
+    let mid = c.write_all.new.conn in
+    let new = c.fault_at-fault.new.conn in
+    let fault = c.fault_at-fault.result in
+    let same : old ≡ c.args.self.now.connection = ap (λ (s : StoreState _). s.connection) c.self.view_is in
+    let middle : HasCleanDisk (state g.S.Store mid) = omega (arith, c.fault_at-fault.ensures.survives.clean) in
+    let other : fault ≢ Device = λ e. absurd (let clash = rw e at c.if-eq.ensures in cc) in
+    let found : (db : Trees) → g.S.Store.recovers new.store db → g.S.Store.recovers old.store db = λ db here. elim (c.fault_at-fault.ensures.shown clean other) [
+      | inl before ↦ survives_left g.S.Store g.met.S.Store.settled g.met.S.Store.stays old new clean (nothing_then _ _ _ (c.in-Err.ensures.before before) c.fault_at-fault.ensures.survives) db here
+      | inr up ↦ kept_left g.S.Store g.met.S.Store.settled g.met.S.Store.stays old mid new (c.in-Err.ensures.unmoved middle) up db here
+    ] in
+    subst (λ was. LeavesOthers g.S.Store was new) same (others_same g.S.Store g.met.S.Store.settled g.met.S.Store.stays old new found)
+
+pub invariant_of-self : goal.invariant_of-self
+invariant_of-self g c = (
+  c.write_all.ensures.mode,
+  λ clean. let early : HasCleanDisk (state g.S.Store c.self.inside.connection) = omega (arith, c.write_all.ensures.crash.clean) in
+      c.write_all.ensures.kept clean c.self.inside.schema (c.self.invariant.1 early),
+)

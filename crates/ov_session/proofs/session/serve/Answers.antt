@@ -1,5 +1,5 @@
 use Rattle.std.proofs.Common.{refl, inl, inr}
-use Rattle.ov_server.proofs.session.serve.Goals as goal
+use Rattle.ov_session.proofs.session.serve.Goals as goal
 
 pub returns-in-Ok-clause-chain : goal.returns-in-Ok-clause-chain
 returns-in-Ok-clause-chain g c =

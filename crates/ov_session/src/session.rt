@@ -1,6 +1,5 @@
-ghost use Rattle.std.specs.Prelude.{◌≡◌, ◌≢◌, ◌⊎◌, [], false};
-ghost use Rattle.ov_server.specs.declared.clock.StillClock.{StillClock};
-ghost use Rattle.ov_server.specs.Chain.{Ends, EndsChain, EndsSession, ends, reader_state, writer_state};
+ghost use Rattle.std.specs.Prelude.{◌≢◌};
+ghost use Rattle.ov_session.specs.Chain.{EndsChain, EndsOver, EndsSession, ends, reader_state, writer_state};
 
 use crate::clock::StillClock;
 use ov_core::early::{Draws, Keeper};
@@ -31,9 +30,8 @@ pub fn serve_over<R: Wait, K: Keeper + Drop, D: Draws + Drop, I: Read + Drop, O:
     input: I,
     output: O,
 ) -> Ended<K>
-    ensures chain { ((result.ending ≡ Ending.Memory) × (result.keeper ≡ keeper)) ⊎ ((from to : Ends StillClock)
-        × (from.reader ≡ reader_state [] (I.remaining input) false 0) × (from.writer ≡ writer_state [] (O.contents output) false 0)
-        × EndsChain K.Keeper ⟦<StillClock as Clock>⟧.tells keeper schema draws from result.ending result.keeper to) }
+    ensures chain { EndsOver K.Keeper ⟦<StillClock as Clock>⟧.tells keeper schema draws (I.remaining input) (O.contents output)
+        result.ending result.keeper }
     ensures kind { (result.ending ≢ Ending.Arguments) × (result.ending ≢ Ending.Schema) }
 {
     let Ok(output) = BufWriter::new(alloc, output) else {

@@ -1,0 +1,5 @@
+/// What the machine knows of an open session.
+#[derive(Drop)]
+pub(crate) struct OpenSession {
+    pub serial: u64,
+}

@@ -1,0 +1,25 @@
+-- The store that a session is served of: a new one in memory, or the one in a file. What names no source is our own.
+use Rattle.std.specs.Prelude.{◌≡◌, ◌⊎◌, ℕ, List, IfOk, Result}
+use Rattle.sqlite.specs.Files.{file_state, over_files}
+use Rattle.sqlite.specs.State.{HasCleanDisk}
+use Rattle.sqlite_disk.specs.declared.Disk as disk
+use Rattle.sqlite_store.specs.declared.store.FileStore.{FileStore}
+use Rattle.sqlite_wal.specs.Recovery.{Image}
+use Rattle.ov_specs.specs.rows.Lines.{Contents}
+use Rattle.ov_keeper.specs.declared.fault.KeepFault.{KeepFault}
+use Rattle.ov_store.specs.Finding.{HasNoTable, IsFileRefused, IsMemoryRefused, IsStoredIn, new_contents}
+use Rattle.ov_store.specs.StoreState.{MayFind, StoreState}
+
+module _ {D : Type 0} {g : disk.Ghosts D} where
+  -- a new store under this text of a schema, without a line; or why there is none
+  pub record IsNewInMemory (text : List ℕ) (store : Result (StoreState (FileStore D g)) KeepFault) : Type 0 where
+    pub found : IfOk store (λ s. (contents : Contents) → MayFind over_files s.connection contents → contents ≡ new_contents text)
+    pub fresh : IfOk store (λ s. s.failures ≡ 0)
+    pub refused : IsMemoryRefused text store
+
+  -- the store of what the files held, or a new one where they had no table; or why there is none
+  pub record IsOfFiles (image : Image) (text : List ℕ) (store : Result (StoreState (FileStore D g)) KeepFault) : Type 0 where
+    pub found : IfOk store (λ s. HasCleanDisk (file_state s.connection) → (contents : Contents) → MayFind over_files s.connection contents
+        → (HasNoTable image × (contents ≡ new_contents text)) ⊎ IsStoredIn image contents)
+    pub fresh : IfOk store (λ s. s.failures ≡ 0)
+    pub refused : IsFileRefused image text store

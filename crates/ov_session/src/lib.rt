@@ -1,0 +1,9 @@
+//! One session of a database: opened over a keeper, served over a reader and a writer, and closed.
+#![tactic(auto)]
+
+mod clock;
+mod session;
+mod stores;
+
+pub use session::{Ended, serve, serve_over};
+pub use stores::{serve_file, serve_memory};

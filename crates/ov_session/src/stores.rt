@@ -1,0 +1,105 @@
+//! One session of a store, in memory or in a file.
+
+ghost use Rattle.std.specs.Prelude.{Option, Result};
+ghost use Rattle.sqlite_wal.specs.Files.{image_at};
+ghost use Rattle.ov_session.specs.Chain.{EndsStore};
+ghost use Rattle.ov_session.specs.Stores.{IsNewInMemory, IsOfFiles};
+
+use crate::clock::StillClock;
+use crate::session::{Ended, serve_over};
+use ov_base::Text;
+use ov_core::Schema;
+use ov_core::early::{Draws, KeepFault, Keeper};
+use ov_serve::Clock;
+use ov_store::{MemoryDisk, Store, close_in_file, store_in_file, store_in_memory};
+use ov_words::{Ending, ending_of_keeping};
+use sqlite::{FileFrom, FileStore, Start};
+use std::alloc::Global;
+use std::io::{Read, Write};
+use std::sync::Wait;
+
+/// Serves one session of a new database in memory, as `serve_over` does. `text` is the schema's. Where no store could be made,
+/// nothing is read or written.
+pub fn serve_memory<R: Wait, D: Draws + Drop, I: Read + Drop, O: Write + Drop>(
+    rt: &R,
+    alloc: Global,
+    text: Text,
+    schema: Schema,
+    draws: D,
+    input: I,
+    output: O,
+) -> Ending
+    ensures chain { (store : _) × (left : _) × IsNewInMemory text store
+        × EndsStore ⟦<Store<FileStore<MemoryDisk>> as Keeper>⟧ ⟦<StillClock as Clock>⟧.tells store schema draws
+        (I.remaining input) (O.contents output) result left }
+{
+    let store = store_in_memory(alloc, text);
+    serve_store(rt, alloc, store, schema, draws, input, output).ending
+}
+
+/// Serves one session of the database in the file at a path, as `serve_over` does. `text` is the schema's, and `start` stands for
+/// what the file and its log held. Behind a session that was served the file has the whole, with no log beside it. Where the file
+/// is refused, it is left as it was, and nothing is read or written.
+pub fn serve_file<R: Wait, S: Start, D: Draws + Drop, I: Read + Drop, O: Write + Drop>(
+    host: &HostRuntime,
+    rt: &R,
+    path: &str,
+    start: S,
+    text: Text,
+    schema: Schema,
+    draws: D,
+    input: I,
+    output: O,
+) -> Ending
+    ensures chain { (store : _) × (left : _) × IsOfFiles (image_at S.Start) text store
+        × EndsStore ⟦<Store<FileStore<FileFrom<S>>> as Keeper>⟧ ⟦<StillClock as Clock>⟧.tells store schema draws
+        (I.remaining input) (O.contents output) result left }
+{
+    let store = store_in_file(host, path, text, start);
+    let Ended { ending, keeper } = serve_store(
+        rt,
+        host.alloc(),
+        store,
+        schema,
+        draws,
+        input,
+        output,
+    );
+    // A refused start changes nothing. Where the closing fails nothing is lost: the two belong together, as after a kill.
+    if ending == Ending::InputEnded || ending == Ending::Streams {
+        if let Some(store) = keeper {
+            let _ = close_in_file(host, path, store);
+        }
+    }
+    ending
+}
+
+/// Serves one session of a store, where it could be opened.
+fn serve_store<R: Wait, K: Keeper + Drop, D: Draws + Drop, I: Read + Drop, O: Write + Drop>(
+    rt: &R,
+    alloc: Global,
+    store: Result<K, KeepFault>,
+    schema: Schema,
+    draws: D,
+    input: I,
+    output: O,
+) -> Ended<Option<K>>
+    ensures chain { EndsStore K.Keeper ⟦<StillClock as Clock>⟧.tells store schema draws (I.remaining input) (O.contents output)
+        result.ending result.keeper }
+{
+    match store {
+        Ok(store) => {
+            let Ended { ending, keeper } = serve_over(
+                rt, alloc, store, schema, draws, input, output,
+            );
+            Ended {
+                ending,
+                keeper: Some(keeper),
+            }
+        }
+        Err(fault) => Ended {
+            ending: ending_of_keeping(fault),
+            keeper: None,
+        },
+    }
+}

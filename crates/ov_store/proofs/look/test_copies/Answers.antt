@@ -1,0 +1,17 @@
+use Rattle.std.proofs.Common.{refl}
+use Rattle.sqlite_pool.specs.Pool.{state}
+use Rattle.sqlite_trees.proofs.Doubt.{no_doubt}
+use Rattle.sqlite.specs.State.{HasCleanDisk}
+use Rattle.sqlite.specs.Files.{file_state}
+use Rattle.ov_store.proofs.FileLemmas.{nobody_elses}
+use Rattle.ov_store.proofs.RunLemmas.{on_ok}
+use Rattle.ov_store.proofs.look.test_copies.Goals as goal
+
+pub returns-in-Ok-clause-passes : goal.returns-in-Ok-clause-passes
+unfolding state
+returns-in-Ok-clause-passes c =
+    let now = file_state c.in-Ok.connection in
+    let clean : HasCleanDisk now = no_doubt _ refl in
+    let opened = c.in-Ok.ensures.opened clean in
+    on_ok c.test_schema.result c.test_schema.ensures.passes
+    (nobody_elses _ _ _ now opened.0 opened.1 (c.in-Ok.ensures.found clean).reads c.holding.ensures.holds c.holding-2.ensures.holds _ c.schema.ensures.value)
