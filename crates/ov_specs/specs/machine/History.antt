@@ -38,7 +38,7 @@ taken_by session Tick = []
 abbrev pub requests : List Entry → ℕ → List Message
 requests history session = flat_map (λ e. taken_by session e.event) history
 
--- why the event closes the session, where it does: for the cause of a closing of it, and else since memory was refused
+-- why the event closes the session, where it does: a closing of it for its own cause, and all else when out of memory
 abbrev pub cause_in : ℕ → Event → Cause
 cause_in session Open = Memory
 cause_in session (Take other message) = Memory

@@ -216,9 +216,9 @@ pub record Tried : Type 0 where
   pub stepped : Stepped
   pub others : List Attempt
 
--- The attempt with this number: the work takes what is listed of it, and what is listed of the attempts after it is handed on.
+-- The attempt with this number takes what is listed of it, and hands on what is listed of those after it.
 abbrev pub tries : (Option Outcome → Option Stepped) → ℕ → List Attempt → Option Tried
-tries work number attempts = option_map (λ t. record { stepped = t; others = (listed number attempts).others }) (work (listed number attempts).outcome)
+tries attempt number attempts = option_map (λ t. record { stepped = t; others = (listed number attempts).others }) (attempt (listed number attempts).outcome)
 
 -- nothing more is tried: so no attempt is listed any more
 abbrev pub ends : Option Tried → Option Stepped
