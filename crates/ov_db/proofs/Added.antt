@@ -59,9 +59,6 @@ some_more : (b : Bool) (r : Row) (o : Option Row) → is_some o ≡ true → is_
 some_more true r o h = refl
 some_more false r o h = h
 
-pub copied : (db db' : Database) (k k' : LineKey) (r : Row) → db' ≡ insert db k' r → k' ≡ k → db' ≡ insert db k r
-copied db db' k k' r is same_key = is ∙ ap (λ x. insert db x r) same_key
-
 pub other_stays : (db db' : Database) (k : LineKey) (r : Row) (q : LineKey) → db' ≡ insert db k r → same q k ≡ false → get db' q ≡ get db q
 other_stays db db' k r q is apart = at_key db db' k r q is ∙ ap (λ b. cond b (Some r) (get db q)) apart
 

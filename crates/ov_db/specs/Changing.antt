@@ -1,4 +1,4 @@
--- Changes of a database by their keys, and the database after them.
+-- Changes of a database by their keys, and the database after them. What names no source is our own.
 use Rattle.std.specs.Prelude.{◌≡◌, List, [], ◌∷◌, Option, Some, None}
 use Rattle.std.specs.FinMap.{FinMap, get, insert, remove, entries}
 use Rattle.ov_specs.specs.rows.Database.{Database, Row, line_of}
@@ -6,7 +6,7 @@ use Rattle.ov_specs.specs.rows.Lines.{LineKey, LineChange, Put, Remove, line_cmp
 use Rattle.ov_specs.specs.rows.Suits.{SuitsRow}
 use Rattle.ov_specs.specs.schema.SchemaTypes.{Schema}
 
--- at each key the new row, or none in its place (own)
+-- at each key the new row, or none in its place
 abbrev pub Delta : Type 0
 Delta = FinMap line_cmp (Option Row)
 
@@ -20,7 +20,7 @@ abbrev pub with_rows : List (LineKey × Option Row) → Database → Database
 with_rows [] database = database
 with_rows (change ∷ changes) database = with_rows changes (with_row change.0 change.1 database)
 
--- the database after all changes of the delta (own)
+-- the database after all changes of the delta
 abbrev pub applied : Delta → Database → Database
 applied delta database = with_rows (entries delta) database
 
@@ -29,6 +29,6 @@ abbrev pub change_of : LineKey × Option Row → LineChange
 change_of (key, Some row) = Put key (line_of row)
 change_of (key, None) = Remove key
 
--- each row that the changes put is a row of the schema (own)
+-- each row that the changes put is a row of the schema
 abbrev pub SuitsChanges : Schema → Delta → Type 0
 SuitsChanges schema delta = (key : LineKey) (row : Row) → get delta key ≡ Some (Some row) → SuitsRow schema key row

@@ -1,4 +1,4 @@
--- Changes of a database as a model stores them.
+-- Changes of a database as a model stores them. What names no source is our own.
 use Rattle.std.specs.Prelude.{List, Option}
 use Rattle.std.specs.Coded.{Coded, coded×, coded_ℕ, coded_list, coded_option}
 use Rattle.std.specs.FinMap as map
@@ -11,6 +11,6 @@ use Rattle.ov_db.specs.Changing.{Delta}
 abbrev pub delta_of : List (LineKey × Option Row) → Delta
 delta_of es = map.from_sorted {R = line_cmp} es
 
--- changes as a map (own)
+-- changes as a map
 abbrev pub delta_code : Coded Delta
 delta_code = map.code (coded× (coded_list coded_ℕ) (coded_list coded_ℕ)) (coded_option row_code)

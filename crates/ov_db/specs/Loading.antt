@@ -1,4 +1,4 @@
--- The rows that a list of lines gives, one line after another (own).
+-- The rows that a list of lines gives, one line after another. What names no source is our own.
 use Rattle.std.specs.Prelude.{◌≡◌, List, [], ◌∷◌, if◌then◌else◌, Option, Some, None, option_and_then, option_map, Result, Ok, Err}
 use Rattle.std.specs.FinMap.{contains_key, insert}
 use Rattle.ov_keeper.specs.declared.fault.KeepFault.TheVariants.{Memory}
@@ -18,7 +18,7 @@ abbrev pub with_lines : Schema → List (LineKey × LineBody) → Database → O
 with_lines schema [] rows = Some rows
 with_lines schema (entry ∷ entries) rows = option_and_then (with_lines schema entries) (with_line schema entry rows)
 
--- nothing is given; want of memory may be answered to anything
+-- nothing is given; "out of memory" may be answered to anything
 abbrev pub IsNotLoaded : {A : Type 0} → Option A → OpenFault → Type 0
 IsNotLoaded given BadBody = given ≡ None
 IsNotLoaded given (Keeping fault) = fault ≡ Memory

@@ -1,4 +1,4 @@
--- When an open is refused, and what it finds where it is not, by what the keeper holds (own).
+-- When an open is refused, and what it finds where it is not, by what the keeper holds. What names no source is our own.
 use Rattle.std.specs.Prelude.{◌≡◌, ◌≢◌}
 use Rattle.serde_json.specs.Written.{compact_text}
 use Rattle.ov_specs.specs.rows.Database.{Database}

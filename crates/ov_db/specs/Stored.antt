@@ -1,4 +1,4 @@
--- Which stored lines are rows under a schema, and the rows that they are (own).
+-- Which stored lines are rows under a schema, and the rows that they are. What names no source is our own.
 use Rattle.std.specs.Prelude.{◌≡◌, ℕ, List, [], ◌∷◌, map, if◌then◌else◌, Option, Some, None, option_and_then, option_map}
 use Rattle.std.specs.FinMap.{empty, get, insert, entries}
 use Rattle.serde_json.specs.Data.{Data}

@@ -6,7 +6,7 @@ use std::alloc::{AllocError, Global};
 use std::collections::BTreeMap;
 use std::marker::Model;
 
-/// Changes of a database: at each key the new row, or none in its place (own).
+/// Changes of a database: at each key the new row, or none in its place.
 #[derive(Drop)]
 pub struct Delta {
     pub(crate) changes: BTreeMap<RowKey, Option<Row>>,

@@ -31,7 +31,7 @@ itself name = equal_is _ ((eq_by_cmp_equiv name_cmp_total).refl name)
 
 module _ (name : List ℕ) where
   -- keys of one table stand by their identifiers
-  within : (a b : Uuid) → line_cmp (name, a) (name, b) ≡ id_cmp a b
+  pub within : (a b : Uuid) → line_cmp (name, a) (name, b) ≡ id_cmp a b
   within a b = ap (λ o. ordering_then o (id_cmp a b)) (itself name)
 
   below_within : (a : Uuid) (es : List (Uuid × Row)) → T (below_all id_cmp a es) → T (below_all line_cmp (name, a) (in_table name es))

@@ -1,4 +1,4 @@
--- Rows and databases as models store them.
+-- Rows and databases as models store them. What names no source is our own.
 use Rattle.std.specs.Prelude.{ℕ, List, String, refl}
 use Rattle.std.specs.declared.alloc.Global.{Global}
 use Rattle.std.specs.Coded.{Coded, code_by, coded×, coded_ℕ, coded_list}
@@ -24,18 +24,18 @@ nested_of ts = database_of (all_rows (named ts))
 
 -- ---- how a model stores them
 
--- columns as a map (own)
+-- columns as a map
 abbrev pub columns_code : Coded Columns
 columns_code = map.code (coded_list coded_ℕ) datum_code
 
--- a row as a pair (own)
+-- a row as a pair
 abbrev pub row_code : Coded Row
 row_code = code_by (List ℕ × Columns) (coded× (coded_list coded_ℕ) columns_code) (λ r. (r.version, r.columns)) (λ p. record { version = p.0; columns = p.1 }) (λ _. refl)
 
--- a database as a map (own)
+-- a database as a map
 abbrev pub database_code : Coded Database
 database_code = map.code (coded× (coded_list coded_ℕ) (coded_list coded_ℕ)) row_code
 
--- the rows of a table as a map (own)
+-- the rows of a table as a map
 abbrev pub table_code : Coded TableRows
 table_code = map.code (coded_list coded_ℕ) row_code

@@ -76,7 +76,7 @@ impl Columns {
         Ok(())
     }
 
-    /// The object of all columns, each with its written value, in ascending order of their names: the body of a line (own).
+    /// The object of all columns, each with its written value, in ascending order of their names: the body of a line.
     pub fn tree(&self, alloc: Global) -> Result<Tree, AllocError>
         ensures { IfOk result (λ tree. tree ≡ object_of (map written_column (entries self.now))) }
     {

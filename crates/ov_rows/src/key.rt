@@ -49,6 +49,13 @@ impl RowKey {
         self.id
     }
 
+    /// The row's identifier, lent.
+    pub fn as_id(&self) -> &Uuid
+        ensures { result.now ≡ self.now.1 }
+    {
+        &self.id
+    }
+
     /// The same key once more.
     pub fn copy(&self, alloc: Global) -> Result<RowKey, AllocError>
         ensures { IfOk result (λ key. key ≡ self.now) }

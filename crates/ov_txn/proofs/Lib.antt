@@ -4,6 +4,7 @@ pub mod Equal
 pub mod Placing
 pub mod Matching
 pub mod Repeats
+pub mod Showing
 pub mod Performing
 pub mod Stages
 pub mod Merging

@@ -19,7 +19,7 @@ use Rattle.ov_rows.specs.Resident.{database_of}
 use Rattle.ov_rows.proofs.Nesting.{within}
 use Rattle.ov_db.proofs.Places.{Changes, get-applied, or_before}
 use Rattle.ov_txn.specs.Staging.{row_made, place, placed}
-use Rattle.ov_txn.proofs.Equal.{drop-at}
+use Rattle.ov_txn.proofs.Equal.{drop-at, map-push}
 use Rattle.ov_specs.proofs.laws.Truths.{both_hold, cond-not, left_holds, less_is, right_holds}
 
 abbrev pub Entries : Type 0
@@ -284,3 +284,11 @@ module _ (table : List ℕ) where
   pub keyed-map : {A X : Type 0} (f : A → Uuid × X) (xs : List A) → keyed (map f xs) ≡ map (λ x. ((table, (f x).0), (f x).1)) xs
   keyed-map f [] = refl
   keyed-map f (x ∷ xs) = ap (λ es. ((table, (f x).0), (f x).1) ∷ es) (keyed-map f xs)
+
+  -- a change of the table is listed
+  pub change-listed : {A : Type 0} (f : A → LineKey × Option Row) (items : List A) (x : A) (e : LineKey × Option Row) (rest later all : Changes) → rest ≡ e ∷ later → bytes_eq e.0.0 table ≡ true → f x ≡ e
+      → map f items ++ filter (λ c. bytes_eq c.0.0 table) rest ≡ all → map f (items ++ x ∷ []) ++ filter (λ c. bytes_eq c.0.0 table) later ≡ all
+  change-listed f items x e rest later all is test same h =
+      let others : Changes = filter (λ c. bytes_eq c.0.0 table) later in
+      ap (λ ys. ys ++ others) (map-push f items x) ∙ append_assoc (map f items) (f x ∷ []) others ∙ ap (λ y. map f items ++ y ∷ others) same
+      ∙ sym (ap (λ (es : Changes). map f items ++ filter (λ c. bytes_eq c.0.0 table) es) is ∙ ap (λ b. map f items ++ cond b (e ∷ others) others) test) ∙ h

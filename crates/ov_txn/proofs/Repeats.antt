@@ -1,19 +1,14 @@
 -- Rows that are shown once: the first of those that are equal, as a walk from the front keeps them.
-use Rattle.std.proofs.Common.{◌≡◌, ◌<◌, ◌+◌, length, get_or, drop, ℕ, List, [], ◌∷◌, ◌++◌, Bool, true, false, not, ◌||◌, ◌&&◌, cond, if◌then◌else◌, filter, map, refl, sym, ap, ◌∙◌, append_assoc, append-nil}
-use Rattle.std.proofs.lemmas.Bool.{and_parts, and_from, false≢true}
+use Rattle.std.proofs.Common.{◌≡◌, ℕ, List, [], ◌∷◌, ◌++◌, Bool, true, false, not, ◌||◌, cond, if◌then◌else◌, filter, refl, sym, ap, ◌∙◌, append_assoc, append-nil}
+use Rattle.std.proofs.lemmas.Bool.{false≢true}
 use Rattle.std.proofs.lemmas.List.Folds.{list_any-append}
-use Rattle.std.specs.List.{list_any, list_all}
+use Rattle.std.specs.List.{list_any}
 use Rattle.std.specs.Cmp.{eq_by_cmp_equiv, partial_equiv_from_equiv}
-use Rattle.std.specs.Cmp.Lexicographic.{pointwise, nat_list_eq_equiv}
-use Rattle.std.specs.FinMap.{keys, entries}
-use Rattle.ov_specs.specs.rows.Database.{Row, same_atom, same_pair, same_datum, same_columns}
-use Rattle.std.specs.Str.{bytes_eq}
-use Rattle.ov_specs.specs.rows.Lines.{LineKey}
-use Rattle.ov_specs.specs.operations.Conditions.{Condition, holds}
-use Rattle.ov_specs.specs.operations.Operation.{entry_value, projection, is_matching, without_repeats}
-use Rattle.ov_specs.specs.values.Value.{Datum, Atoms, Pairs}
-use Rattle.ov_specs.proofs.laws.Order.{atom_cmp_total}
-use Rattle.ov_txn.proofs.Equal.{drop-at}
+use Rattle.std.specs.Cmp.Lexicographic.{lists_total}
+use Rattle.ov_specs.specs.rows.Database.{same_columns}
+use Rattle.ov_specs.specs.operations.Operation.{without_repeats}
+use Rattle.ov_specs.specs.values.Value.{Datum}
+use Rattle.ov_specs.proofs.laws.Sameness.{column_cmp_total, columns-tied}
 use Rattle.ov_specs.proofs.laws.Truths.{or_nothing, or_truth}
 
 abbrev pub Shown : Type 0
@@ -24,48 +19,8 @@ Shown = List (List ℕ × Datum)
 abbrev PassesOn : {A : Type 0} → (A → A → Bool) → Type 0
 PassesOn {A} E = (x y z : A) → E x y ≡ true → E y z ≡ true → E x z ≡ true
 
-module _ {A : Type 0} (E : A → A → Bool) (on : PassesOn E) where
-  pointwise_passes : PassesOn (pointwise E)
-  pointwise_passes [] [] zs h k = k
-  pointwise_passes [] (y ∷ ys) zs h k = absurd (false≢true h)
-  pointwise_passes (x ∷ xs) [] zs h k = absurd (false≢true h)
-  pointwise_passes (x ∷ xs) (y ∷ ys) [] h k = absurd (false≢true k)
-  pointwise_passes (x ∷ xs) (y ∷ ys) (z ∷ zs) h k =
-      let a = and_parts (E x y) (pointwise E xs ys) h in
-      let b = and_parts (E y z) (pointwise E ys zs) k in
-      and_from (E x z) (pointwise E xs zs) (on x y z a.0 b.0) (pointwise_passes xs ys zs a.1 b.1)
-
-text_passes : PassesOn bytes_eq
-text_passes = (partial_equiv_from_equiv nat_list_eq_equiv).trans
-
-atom_passes : PassesOn same_atom
-atom_passes = (partial_equiv_from_equiv (eq_by_cmp_equiv atom_cmp_total)).trans
-
-pair_passes : PassesOn same_pair
-pair_passes p q r h k =
-    let a = and_parts (same_atom p.0 q.0) (same_atom p.1 q.1) h in
-    let b = and_parts (same_atom q.0 r.0) (same_atom q.1 r.1) k in
-    and_from (same_atom p.0 r.0) (same_atom p.1 r.1) (atom_passes p.0 q.0 r.0 a.0 b.0) (atom_passes p.1 q.1 r.1 a.1 b.1)
-
-datum_passes : PassesOn same_datum
-datum_passes (Atoms a) (Atoms b) (Atoms c) h k = pointwise_passes same_atom atom_passes (keys a) (keys b) (keys c) h k
-datum_passes (Atoms a) (Atoms b) (Pairs c) h k = absurd (false≢true k)
-datum_passes (Atoms a) (Pairs b) z h k = absurd (false≢true h)
-datum_passes (Pairs a) (Atoms b) z h k = absurd (false≢true h)
-datum_passes (Pairs a) (Pairs b) (Atoms c) h k = absurd (false≢true k)
-datum_passes (Pairs a) (Pairs b) (Pairs c) h k = pointwise_passes same_pair pair_passes (entries a) (entries b) (entries c) h k
-
-abbrev is_cell : List ℕ × Datum → List ℕ × Datum → Bool
-is_cell c d = bytes_eq c.0 d.0 && same_datum c.1 d.1
-
-cell_passes : PassesOn is_cell
-cell_passes x y z h k =
-    let a = and_parts (bytes_eq x.0 y.0) (same_datum x.1 y.1) h in
-    let b = and_parts (bytes_eq y.0 z.0) (same_datum y.1 z.1) k in
-    and_from (bytes_eq x.0 z.0) (same_datum x.1 z.1) (text_passes x.0 y.0 z.0 a.0 b.0) (datum_passes x.1 y.1 z.1 a.1 b.1)
-
 columns_pass : PassesOn same_columns
-columns_pass = pointwise_passes is_cell cell_passes
+columns_pass x y z h k = columns-tied x z ∙ (partial_equiv_from_equiv (eq_by_cmp_equiv (lists_total column_cmp_total))).trans x y z (sym (columns-tied x y) ∙ h) (sym (columns-tied y z) ∙ k)
 
 -- ---- the walk from the front
 
@@ -83,6 +38,14 @@ module _ {A : Type 0} where
   drop_one : (p : A → Bool) (y : A) (kept ys : List A) (b : Bool) → (b ≡ true → p y ≡ false) → filter p kept ≡ filter p ys → filter p (cond (not b) (y ∷ kept) kept) ≡ cond (p y) (y ∷ filter p ys) (filter p ys)
   drop_one p y kept ys true apart e = rw (apart refl) e
   drop_one p y kept ys false apart e = ap (λ zs. cond (p y) (y ∷ zs) zs) e
+
+passed_over : (a b c : Bool) → (b ≡ true → a ≡ true) → (a || c) ≡ (a || (b || c))
+passed_over a false c h = refl
+passed_over a true c h = rw (h refl) refl
+
+joined : (a b c : Bool) → ((a || b) || c) ≡ (a || (b || c))
+joined true b c = refl
+joined false b c = refl
 
 module _ {A : Type 0} (E : A → A → Bool) where
   -- one that is equal is kept
@@ -131,6 +94,25 @@ module _ {A : Type 0} (E : A → A → Bool) where
         | false ↦ λ h. kept_with-once on (kept ++ x ∷ []) xs ∙ (append_assoc kept (x ∷ []) _ ∙ ap (λ zs. kept ++ (x ∷ zs)) (filter-both kept x (once xs)))
       ] refl
 
+  -- one row more
+  pub kept_with-push : (kept xs : List A) (x : A) → kept_with kept (xs ++ x ∷ []) ≡ (if among (kept_with kept xs) x then kept_with kept xs else kept_with kept xs ++ x ∷ [])
+  kept_with-push kept [] x = refl
+  kept_with-push kept (y ∷ ys) x =
+      elim (among kept y) as (λ b. (if b then kept_with kept (ys ++ x ∷ []) else kept_with (kept ++ y ∷ []) (ys ++ x ∷ []))
+      ≡ (if among (if b then kept_with kept ys else kept_with (kept ++ y ∷ []) ys) x then (if b then kept_with kept ys else kept_with (kept ++ y ∷ []) ys) else (if b then kept_with kept ys else kept_with (kept ++ y ∷ []) ys) ++ x ∷ [])) [
+        | true ↦ kept_with-push kept ys x
+        | false ↦ kept_with-push (kept ++ y ∷ []) ys x
+      ]
+
+  -- what is equal to one of the rows is equal to one that is kept
+  pub among-kept : PassesOn E → (kept xs : List A) (x : A) → among (kept_with kept xs) x ≡ (among kept x || list_any (λ y. E y x) xs)
+  among-kept on kept [] x = sym (or_nothing (among kept x))
+  among-kept on kept (y ∷ ys) x =
+      elim (among kept y) as (λ b. among kept y ≡ b → among (if b then kept_with kept ys else kept_with (kept ++ y ∷ []) ys) x ≡ (among kept x || (E y x || list_any (λ z. E z x) ys))) [
+        | true ↦ λ is. among-kept on kept ys x ∙ passed_over (among kept x) (E y x) (list_any (λ z. E z x) ys) (among-passes on kept y x is)
+        | false ↦ λ is. among-kept on (kept ++ y ∷ []) ys x ∙ ap (λ b. b || list_any (λ z. E z x) ys) (among-push kept y x) ∙ joined (among kept x) (E y x) (list_any (λ z. E z x) ys)
+      ] refl
+
 without_repeats-once : (rows : List Shown) → without_repeats rows ≡ once same_columns rows
 without_repeats-once [] = refl
 without_repeats-once (row ∷ rows) = ap (λ others. row ∷ filter (λ other. not (same_columns row other)) others) (without_repeats-once rows)
@@ -139,47 +121,6 @@ without_repeats-once (row ∷ rows) = ap (λ others. row ∷ filter (λ other. n
 pub without_repeats-kept : (rows : List Shown) → without_repeats rows ≡ kept_with same_columns [] rows
 without_repeats-kept rows = without_repeats-once rows ∙ sym (kept_with-once same_columns columns_pass [] rows ∙ filter-all (once same_columns rows))
 
--- ---- the rows of a table
-
--- a row that meets all conditions
-abbrev pub is_met : List Condition → LineKey × Row → Bool
-is_met conditions r = list_all (holds (entry_value r)) conditions
-
--- the table's rows that meet all conditions
-pub matching-of_table : (table : List ℕ) (conditions : List Condition) (rows : List (LineKey × Row)) → filter (is_matching table conditions) rows ≡ filter (is_met conditions) (filter (λ r. bytes_eq r.0.0 table) rows)
-matching-of_table table conditions [] = refl
-matching-of_table table conditions (r ∷ rows) =
-    let others = filter (is_matching table conditions) rows in
-    let of_table = filter (λ r. bytes_eq r.0.0 table) rows in
-    elim (bytes_eq r.0.0 table) as (λ b. cond (b && is_met conditions r) (r ∷ others) others ≡ filter (is_met conditions) (cond b (r ∷ of_table) of_table)) [
-      | true ↦ ap (λ (rest : List (LineKey × Row)). cond (is_met conditions r) (r ∷ rest) rest) (matching-of_table table conditions rows)
-      | false ↦ matching-of_table table conditions rows
-    ]
-
--- what is kept, with what is shown of those of these rows that meet all conditions
-abbrev pub shown_with : List (List ℕ) → List Condition → List Shown → List (LineKey × Row) → List Shown
-shown_with names conditions kept rows = kept_with same_columns kept (map (projection names) (filter (is_met conditions) rows))
-
-module _ {A : Type 0} (f : A → LineKey × Row) (names : List (List ℕ)) (conditions : List Condition) (kept : List Shown) (rows : List A) (i : ℕ) (r : A) (p : i < length rows) (at : r ≡ get_or rows i r) where
-  here : map f (drop i rows) ≡ f r ∷ map f (drop (i + 1) rows)
-  here = ap (map f) (drop-at rows i r p at)
-
-  pub shown-new : is_met conditions (f r) ≡ true → among same_columns kept (projection names (f r)) ≡ false
-      → shown_with names conditions kept (map f (drop i rows)) ≡ shown_with names conditions (kept ++ projection names (f r) ∷ []) (map f (drop (i + 1) rows))
-  shown-new h k = ap (shown_with names conditions kept) here ∙ new
-    where
-      new : shown_with names conditions kept (f r ∷ map f (drop (i + 1) rows)) ≡ shown_with names conditions (kept ++ projection names (f r) ∷ []) (map f (drop (i + 1) rows))
-      new = rw (h, k) refl
-
-  pub shown-again : is_met conditions (f r) ≡ true → among same_columns kept (projection names (f r)) ≡ true
-      → shown_with names conditions kept (map f (drop i rows)) ≡ shown_with names conditions kept (map f (drop (i + 1) rows))
-  shown-again h k = ap (shown_with names conditions kept) here ∙ again
-    where
-      again : shown_with names conditions kept (f r ∷ map f (drop (i + 1) rows)) ≡ shown_with names conditions kept (map f (drop (i + 1) rows))
-      again = rw (h, k) refl
-
-  pub shown-other : is_met conditions (f r) ≡ false → shown_with names conditions kept (map f (drop i rows)) ≡ shown_with names conditions kept (map f (drop (i + 1) rows))
-  shown-other h = ap (shown_with names conditions kept) here ∙ other
-    where
-      other : shown_with names conditions kept (f r ∷ map f (drop (i + 1) rows)) ≡ shown_with names conditions kept (map f (drop (i + 1) rows))
-      other = rw h refl
+-- a row is kept exactly where none of the rows before it is equal to it
+pub kept_is_seen : (rows : List Shown) (row : Shown) → among same_columns (kept_with same_columns [] rows) row ≡ list_any (λ x. same_columns x row) rows
+kept_is_seen rows row = among-kept same_columns columns_pass [] rows row

@@ -19,7 +19,7 @@ error_view error.Constraint = spec.ConstraintViolation
 error_view error.ResourcesExhausted = spec.ResourcesExhausted
 error_view error.InputOutput = spec.InputOutput
 
--- what is given, or the error that there is in place of it; want of memory may be answered to anything
+-- what is given, or the error that there is in place of it; "out of memory" may be answered to anything
 abbrev pub IsOpResult : {A B : Type 0} → (A → B) → Result B spec.OpError → Result A OpFault → Type 0
 IsOpResult seen given (Ok a) = given ≡ Ok (seen a)
 IsOpResult seen given (Err (Refused error)) = given ≡ Err (error_view error)

@@ -8,10 +8,11 @@ ghost use Rattle.ov_txn.specs.Errors.{IsOpResult};
 use crate::fault::OpFault;
 use ov_atoms::NoNames;
 use ov_conds::{Condition, RowView};
-use ov_rows::{Row, RowKey};
+use ov_rows::Row;
 use ov_schema::Table;
 use serde_json::Value;
 use std::alloc::{AllocError, Global};
+use uuid::Uuid;
 
 /// The conditions of a `where`, or the fault of the first that does not read (RFC 7047, 5.2.2).
 pub(crate) fn conditions_of(
@@ -43,12 +44,12 @@ fn meets(conditions: &[Condition], row: &RowView<'_>) -> bool
     true
 }
 
-/// Whether a row meets all conditions, its key and version among its columns.
-pub(crate) fn is_matching(conditions: &[Condition], key: &RowKey, row: &Row) -> bool
-    ensures { result ≡ list_all (holds (spec.entry_value (key.now, row.now))) conditions.now }
+/// Whether a row meets all conditions, its identifier and version among its columns.
+pub(crate) fn is_matching(conditions: &[Condition], id: &Uuid, row: &Row) -> bool
+    ensures { result ≡ list_all (holds (column_value id.now row.now.version row.now.columns)) conditions.now }
 {
     let seen = RowView {
-        id: key.id(),
+        id: *id,
         version: row.version,
         columns: &row.columns,
     };

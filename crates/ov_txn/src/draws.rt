@@ -44,7 +44,7 @@ fn count_inserts(operations: &[Value]) -> usize
 }
 
 /// Draws what a transaction uses: the version of the rows that it changes, and then an identifier for each operation that
-/// is an object whose `op` is `insert`, also for one that will be refused (RFC 7047, 5.2.1; the order is own). Refused for
+/// is an object whose `op` is `insert`, also for one that will be refused (RFC 7047, 5.2.1; the order is our own). Refused for
 /// memory, it has drawn nothing.
 pub fn draws_for<D: Draws>(
     alloc: Global,

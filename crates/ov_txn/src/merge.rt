@@ -12,12 +12,12 @@ use std::cmp::Ordering;
 use uuid::Uuid;
 
 /// The rows of a table, in ascending order of their identifiers.
-fn listed<'a>(alloc: Global, table: &'a TableRows) -> Result<Vec<(Uuid, &'a Row)>, AllocError>
-    ensures { IfOk result (λ rows. map (λ r. (r.0, r.1.now)) rows.items ≡ entries table.now) }
+fn listed<'a>(alloc: Global, table: &'a TableRows) -> Result<Vec<(&'a Uuid, &'a Row)>, AllocError>
+    ensures { IfOk result (λ rows. map (λ r. (r.0.now, r.1.now)) rows.items ≡ entries table.now) }
 {
     let mut rows = Vec::new(alloc);
     for (id, row) in table.map() {
-        rows.push((*id, row))?;
+        rows.push((id, row))?;
     }
     Ok(rows)
 }
@@ -27,8 +27,8 @@ pub(crate) fn rows_of<'a>(
     alloc: Global,
     rows: &'a Rows,
     table: &str,
-) -> Result<Vec<(Uuid, &'a Row)>, AllocError>
-    ensures { IfOk result (λ listed. map (λ r. ((table.now, r.0), r.1.now)) listed.items ≡ filter (λ r. bytes_eq r.0.0 table.now) (entries rows.now)) }
+) -> Result<Vec<(&'a Uuid, &'a Row)>, AllocError>
+    ensures { IfOk result (λ listed. map (λ r. ((table.now, r.0.now), r.1.now)) listed.items ≡ filter (λ r. bytes_eq r.0.0 table.now) (entries rows.now)) }
 {
     match rows.of_table(table) {
         Some(rows) => listed(alloc, rows),
@@ -41,13 +41,13 @@ pub(crate) fn changes_of<'a>(
     alloc: Global,
     delta: &'a Delta,
     table: &str,
-) -> Result<Vec<(Uuid, &'a Option<Row>)>, AllocError>
-    ensures { IfOk result (λ changes. map (λ c. ((table.now, c.0), c.1.now)) changes.items ≡ filter (λ c. bytes_eq c.0.0 table.now) (entries delta.now)) }
+) -> Result<Vec<(&'a Uuid, &'a Option<Row>)>, AllocError>
+    ensures { IfOk result (λ changes. map (λ c. ((table.now, c.0.now), c.1.now)) changes.items ≡ filter (λ c. bytes_eq c.0.0 table.now) (entries delta.now)) }
 {
     let mut changes = Vec::new(alloc);
     for (key, change) in delta.map() {
         if key.table() == table {
-            changes.push((key.id(), change))?;
+            changes.push((key.as_id(), change))?;
         }
     }
     Ok(changes)
@@ -55,10 +55,10 @@ pub(crate) fn changes_of<'a>(
 
 /// Adds the row that the change makes, if it makes one.
 fn push_change<'a>(
-    merged: &mut Vec<(Uuid, &'a Row)>,
-    change: (Uuid, &'a Option<Row>),
+    merged: &mut Vec<(&'a Uuid, &'a Row)>,
+    change: (&'a Uuid, &'a Option<Row>),
 ) -> Result<(), AllocError>
-    ensures { OnOk result (map (λ r. (r.0, r.1.now)) merged.new.items ≡ map (λ r. (r.0, r.1.now)) merged.old.items ++ row_made (change.entry.0, change.entry.1.now)) }
+    ensures { OnOk result (map (λ r. (r.0.now, r.1.now)) merged.new.items ≡ map (λ r. (r.0.now, r.1.now)) merged.old.items ++ row_made (change.entry.0.now, change.entry.1.now)) }
 {
     if let Some(row) = change.1 {
         merged.push((change.0, row))?;
@@ -67,10 +67,10 @@ fn push_change<'a>(
 }
 
 fn push_changes<'a>(
-    merged: &mut Vec<(Uuid, &'a Row)>,
-    changes: &[(Uuid, &'a Option<Row>)],
+    merged: &mut Vec<(&'a Uuid, &'a Row)>,
+    changes: &[(&'a Uuid, &'a Option<Row>)],
 ) -> Result<(), AllocError>
-    ensures { OnOk result (map (λ r. (r.0, r.1.now)) merged.new.items ≡ map (λ r. (r.0, r.1.now)) merged.old.items ++ flat_map row_made (map (λ c. (c.0, c.1.now)) changes.now)) }
+    ensures { OnOk result (map (λ r. (r.0.now, r.1.now)) merged.new.items ≡ map (λ r. (r.0.now, r.1.now)) merged.old.items ++ flat_map row_made (map (λ c. (c.0.now, c.1.now)) changes.now)) }
 {
     for change in changes {
         push_change(merged, *change)?;
@@ -82,12 +82,12 @@ fn push_changes<'a>(
 /// stands at its place. Each row and each change is looked at once.
 pub(crate) fn merged<'a>(
     alloc: Global,
-    rows: &[(Uuid, &'a Row)],
-    changes: &[(Uuid, &'a Option<Row>)],
-) -> Result<Vec<(Uuid, &'a Row)>, AllocError>
-    requires rows { T (is_sorted id_cmp (map (λ r. (r.0, r.1.now)) rows.now)) }
-    requires changes { T (is_sorted id_cmp (map (λ c. (c.0, c.1.now)) changes.now)) }
-    ensures { IfOk result (λ merged. map (λ r. (r.0, r.1.now)) merged.items ≡ placed id_cmp (map (λ c. (c.0, c.1.now)) changes.now) (map (λ r. (r.0, r.1.now)) rows.now)) }
+    rows: &[(&'a Uuid, &'a Row)],
+    changes: &[(&'a Uuid, &'a Option<Row>)],
+) -> Result<Vec<(&'a Uuid, &'a Row)>, AllocError>
+    requires rows { T (is_sorted id_cmp (map (λ r. (r.0.now, r.1.now)) rows.now)) }
+    requires changes { T (is_sorted id_cmp (map (λ c. (c.0.now, c.1.now)) changes.now)) }
+    ensures { IfOk result (λ merged. map (λ r. (r.0.now, r.1.now)) merged.items ≡ placed id_cmp (map (λ c. (c.0.now, c.1.now)) changes.now) (map (λ r. (r.0.now, r.1.now)) rows.now)) }
 {
     let mut merged = Vec::new(alloc);
     let mut i = 0;
@@ -95,7 +95,7 @@ pub(crate) fn merged<'a>(
     'turns: while i < rows.len() && j < changes.len() {
         let row = rows[i];
         let change = changes[j];
-        match row.0.cmp(&change.0) {
+        match row.0.cmp(change.0) {
             Ordering::Less => {
                 merged.push(row)?;
                 i += 1;

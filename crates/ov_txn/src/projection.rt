@@ -38,7 +38,8 @@ fn texts_of(alloc: Global, tree: &Value) -> Result<Option<Vec<Text>>, AllocError
     }
 }
 
-fn is_among(names: &[Text], name: &str) -> bool
+/// Whether the name is one of these.
+pub(crate) fn is_among(names: &[Text], name: &str) -> bool
     ensures { result ≡ list_any (bytes_eq name.now) names.now }
 {
     for named in names {

@@ -106,7 +106,7 @@ fn and_error(alloc: Global, results: &Trees, error: OpError) -> Result<Trees, Al
 }
 
 /// What is answered where the store has no room for the changes: a copy of the results with `resources exhausted` behind
-/// them (own).
+/// them.
 pub fn exhausted(alloc: Global, results: &Trees) -> Result<Trees, AllocError>
     ensures { IfOk result (λ t. t ≡ transaction.exhausted_results results.now) }
 {

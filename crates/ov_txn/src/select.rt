@@ -1,8 +1,9 @@
-ghost use Rattle.std.specs.Prelude.{◌≡◌, ◌∷◌, [], ℕ, List, IfOk, map, false, codes};
+ghost use Rattle.std.specs.Prelude.{◌≡◌, ◌∷◌, [], ℕ, List, IfOk, map, true, false, codes};
 ghost use Rattle.std.specs.List.{list_any};
+ghost use Rattle.std.specs.Str.{bytes_eq};
 ghost use Rattle.serde_json.specs.Data.{array};
 ghost use Rattle.serde_json.specs.View.{view, items_view};
-ghost use Rattle.ov_specs.specs.rows.Database.{same_columns, object_of};
+ghost use Rattle.ov_specs.specs.rows.Database.{object_of};
 ghost use Rattle.ov_specs.specs.operations.Operation as spec;
 ghost use Rattle.ov_specs.specs.wire.Tree.{items_have_real};
 ghost use Rattle.ov_specs.specs.values.Uuid.{Uuid};
@@ -11,7 +12,7 @@ ghost use Rattle.ov_txn.specs.Staging.{staged, IsDone};
 use crate::conditions::{conditions_of, is_matching};
 use crate::fault::{OpError, OpFault};
 use crate::member::text_at;
-use crate::projection::chosen_columns;
+use crate::projection::{chosen_columns, is_among};
 use crate::shown::ShownRow;
 use crate::stage::Stage;
 use ov_base::{Text, Tree};
@@ -19,21 +20,9 @@ use ov_conds::Condition;
 use ov_schema::Schema;
 use serde_json::{Value, json};
 use std::alloc::{AllocError, Global};
+use std::collections::BTreeSet;
 
-/// Whether an equal one is among the rows.
-fn is_among(rows: &[ShownRow], shown: &ShownRow) -> bool
-    ensures { result ≡ list_any (λ row. same_columns row shown.now) rows.now }
-{
-    for row in rows {
-        if row.is_same(shown) {
-            return true;
-        }
-    }
-    false
-}
-
-/// The chosen columns of the table's rows that meet the conditions, in ascending order of the identifiers; of equal ones the first alone (RFC 7047,
-/// 5.2.2).
+/// What is shown of the table's rows that meet the conditions, in ascending order of their identifiers.
 fn shown_rows(
     alloc: Global,
     stage: &Stage<'_>,
@@ -41,21 +30,19 @@ fn shown_rows(
     conditions: &[Condition],
     names: &[Text],
 ) -> Result<Vec<ShownRow>, AllocError>
-    ensures { IfOk result (λ v. v.items ≡ spec.without_repeats (map (spec.projection names.now) (spec.matching stage.now.now table.now conditions.now))) }
+    ensures { IfOk result (λ v. v.items ≡ map (spec.projection names.now) (spec.matching stage.now.now table.now conditions.now)) }
 {
     let mut shown = Vec::new(alloc);
     let rows = stage.rows_of(alloc, table)?;
-    for (key, row) in &rows {
-        if is_matching(conditions, key, row) {
-            let chosen = ShownRow::of(alloc, names, key, row)?;
-            if !is_among(shown.as_slice(), &chosen) {
-                shown.push(chosen)?;
-            }
+    for (id, row) in &rows {
+        if is_matching(conditions, id, row) {
+            shown.push(ShownRow::of(alloc, names, id, row)?)?;
         }
     }
     Ok(shown)
 }
 
+/// The trees of these rows.
 fn trees_of(alloc: Global, rows: &[ShownRow]) -> Result<Vec<Value>, AllocError>
     ensures trees { IfOk result (λ v. map view v.items ≡ map spec.written_row rows.now) }
     ensures plain { IfOk result (λ v. items_have_real (items_view v.items) ≡ false) }
@@ -65,6 +52,35 @@ fn trees_of(alloc: Global, rows: &[ShownRow]) -> Result<Vec<Value>, AllocError>
         trees.push(row.tree(alloc)?.into_value())?;
     }
     Ok(trees)
+}
+
+/// The trees of these rows, of equal ones that of the first alone.
+fn trees_once(alloc: Global, rows: &[ShownRow]) -> Result<Vec<Value>, AllocError>
+    ensures trees { IfOk result (λ v. map view v.items ≡ map spec.written_row (spec.without_repeats rows.now)) }
+    ensures plain { IfOk result (λ v. items_have_real (items_view v.items) ≡ false) }
+{
+    let mut seen = BTreeSet::new(alloc);
+    let mut trees = Vec::new(alloc);
+    for row in rows {
+        if seen.insert(row)? {
+            trees.push(row.tree(alloc)?.into_value())?;
+        }
+    }
+    Ok(trees)
+}
+
+/// The trees of these rows without repeats. Where the rows have their identifiers among these columns no two are equal, and
+/// none has to be looked for.
+fn trees_shown(alloc: Global, names: &[Text], rows: &[ShownRow]) -> Result<Vec<Value>, AllocError>
+    requires { list_any (bytes_eq (codes "_uuid")) names.now ≡ true → spec.without_repeats rows.now ≡ rows.now }
+    ensures trees { IfOk result (λ v. map view v.items ≡ map spec.written_row (spec.without_repeats rows.now)) }
+    ensures plain { IfOk result (λ v. items_have_real (items_view v.items) ≡ false) }
+{
+    if is_among(names, "_uuid") {
+        trees_of(alloc, rows)
+    } else {
+        trees_once(alloc, rows)
+    }
 }
 
 fn rows_value(alloc: Global, items: Vec<Value>) -> Result<Value, AllocError>
@@ -85,7 +101,7 @@ fn select_result(
     ensures { IfOk result (λ t. t ≡ spec.select_result (spec.without_repeats (map (spec.projection names.now) (spec.matching stage.now.now table.now conditions.now)))) }
 {
     let shown = shown_rows(alloc, stage, table, conditions, names)?;
-    let items = trees_of(alloc, shown.as_slice())?;
+    let items = trees_shown(alloc, names, shown.as_slice())?;
     Ok(Tree::new(rows_value(alloc, items)?))
 }
 

@@ -1,26 +1,25 @@
-ghost use Rattle.std.specs.Prelude.{◌≡◌, ◌&&◌, IfOk, OnOk, false};
-ghost use Rattle.std.specs.Cmp.Lexicographic.{pointwise};
-ghost use Rattle.serde_json.specs.Data.{object, put};
+ghost use Rattle.std.specs.Prelude.{◌≡◌, List, ℕ, IfOk, OnOk, false};
+ghost use Rattle.serde_json.specs.Data.{put};
 ghost use Rattle.serde_json.specs.View.{members_view};
-ghost use Rattle.ov_atoms.specs.Views.{atoms_view, pairs_view};
-ghost use Rattle.ov_specs.specs.rows.Database.{same_atom, same_pair, same_datum, same_columns, one_uuid};
-ghost use Rattle.std.specs.Str.{bytes_eq};
+ghost use Rattle.ov_specs.specs.rows.Database.{one_uuid};
+ghost use Rattle.ov_specs.specs.operations.Conditions.{column_value};
 ghost use Rattle.ov_specs.specs.operations.Operation as spec;
 ghost use Rattle.ov_specs.specs.wire.Tree.{has_real};
 ghost use Rattle.ov_specs.specs.values.Writing.{tree};
 
 use ov_atoms::{Atom, Datum, write_datum};
 use ov_base::{Text, Tree};
-use ov_rows::{Row, RowKey};
+use ov_rows::Row;
 use serde_json::{Map, Value};
 use std::alloc::{AllocError, Global};
+use std::cmp::Ordering;
 use std::marker::Model;
 use uuid::Uuid;
 
 /// What is shown of a row: the chosen columns that it has, in the order in which they are chosen.
 #[derive(Drop)]
 pub(crate) struct ShownRow {
-    columns: Vec<(Text, Datum)>,
+    columns: Vec<(String, Datum)>,
 }
 
 impl Model for ShownRow {
@@ -28,12 +27,13 @@ impl Model for ShownRow {
     ghost use Rattle.std.specs.Coded.{coded×, coded_ℕ, coded_list};
     ghost use Rattle.ov_specs.specs.values.Value as value;
     ghost use Rattle.ov_specs.specs.codes.ValueCode.{datum_code};
+    ghost use Rattle.ov_rows.specs.Named.{named};
 
     ghost Value = { List (List ℕ × value.Datum) };
 
     ghost coded = { coded_list (coded× (coded_list coded_ℕ) datum_code) };
 
-    ghost view = { λ r. r.columns.items };
+    ghost view = { λ r. named r.columns.items };
 }
 
 /// A set of one identifier (RFC 7047, 5.1, `<uuid>`).
@@ -44,16 +44,11 @@ fn one_uuid(alloc: Global, id: Uuid) -> Result<Datum, AllocError>
 }
 
 /// The value of a row's column, `_uuid` and `_version` too (RFC 7047, 3.2).
-fn column_of(
-    alloc: Global,
-    key: &RowKey,
-    row: &Row,
-    name: &str,
-) -> Result<Option<Datum>, AllocError>
-    ensures { IfOk result (λ o. o ≡ spec.entry_value (key.now, row.now) name.now) }
+fn column_of(alloc: Global, id: &Uuid, row: &Row, name: &str) -> Result<Option<Datum>, AllocError>
+    ensures { IfOk result (λ o. o ≡ column_value id.now row.now.version row.now.columns name.now) }
 {
     if name == "_uuid" {
-        return Ok(Some(one_uuid(alloc, key.id())?));
+        return Ok(Some(one_uuid(alloc, *id)?));
     }
     if name == "_version" {
         return Ok(Some(one_uuid(alloc, row.version)?));
@@ -64,78 +59,23 @@ fn column_of(
     }
 }
 
-fn are_atoms(a: &[Atom], b: &[Atom]) -> bool
-    ensures { result ≡ pointwise same_atom (atoms_view a.now) (atoms_view b.now) }
-{
-    a == b
-}
-
-fn are_pairs(a: &[(Atom, Atom)], b: &[(Atom, Atom)]) -> bool
-    ensures { result ≡ pointwise same_pair (pairs_view a.now) (pairs_view b.now) }
-{
-    a == b
-}
-
-/// The same set or map.
-fn is_datum(a: &Datum, b: &Datum) -> bool
-    ensures { result ≡ same_datum a.now b.now }
-{
-    match a.atoms() {
-        Some(atoms) => match b.atoms() {
-            Some(others) => are_atoms(atoms, others),
-            None => false,
-        },
-        None => match a.pairs() {
-            Some(pairs) => match b.pairs() {
-                Some(others) => are_pairs(pairs, others),
-                None => false,
-            },
-            None => false,
-        },
-    }
-}
-
-/// The same value in the same column.
-fn is_cell(a: &(Text, Datum), b: &(Text, Datum)) -> bool
-    ensures { result ≡ (bytes_eq a.now.0 b.now.0 && same_datum a.now.1 b.now.1) }
-{
-    a.0.as_str() == b.0.as_str() && is_datum(&a.1, &b.1)
-}
-
 impl ShownRow {
     /// These columns of a row, with their names (RFC 7047, 5.2.2).
     pub(crate) fn of(
         alloc: Global,
         names: &[Text],
-        key: &RowKey,
+        id: &Uuid,
         row: &Row,
     ) -> Result<ShownRow, AllocError>
-        ensures { IfOk result (λ r. r ≡ spec.projection names.now (key.now, row.now)) }
+        ensures { (table : List ℕ) → IfOk result (λ r. r ≡ spec.projection names.now ((table, id.now), row.now)) }
     {
         let mut columns = Vec::new(alloc);
         for name in names {
-            if let Some(datum) = column_of(alloc, key, row, name.as_str())? {
-                columns.push((Text::from_str(alloc, name.as_str())?, datum))?;
+            if let Some(datum) = column_of(alloc, id, row, name.as_str())? {
+                columns.push((String::from_str(alloc, name.as_str())?, datum))?;
             }
         }
         Ok(ShownRow { columns })
-    }
-
-    /// The same values in the same columns.
-    pub(crate) fn is_same(&self, other: &ShownRow) -> bool
-        ensures { result ≡ same_columns self.now other.now }
-    {
-        let columns = self.columns.as_slice();
-        let others = other.columns.as_slice();
-        if columns.len() != others.len() {
-            return false;
-        }
-        for i in 0..columns.len() {
-            if !is_cell(&columns[i], &others[i]) {
-                return false;
-            }
-        }
-        true
     }
 
     /// The row as it is shown (RFC 7047, 5.1, `<row>`).
@@ -162,4 +102,62 @@ fn put_column(
 {
     members.insert(String::from_str(alloc, name)?, write_datum(alloc, datum)?)?;
     Ok(())
+}
+
+impl PartialEq for ShownRow {
+    ghost use Rattle.std.specs.Ordering.{eq_by_cmp};
+    ghost use Rattle.std.specs.Cmp.{partial_equiv_from_equiv, eq_by_cmp_equiv};
+    ghost use Rattle.std.specs.Cmp.Lexicographic.{slice_cmp, lists_total};
+    ghost use Rattle.ov_specs.proofs.laws.Sameness.{column_cmp, column_cmp_total};
+
+    ghost eq = { eq_by_cmp (slice_cmp column_cmp) };
+
+    ghost laws = { partial_equiv_from_equiv (eq_by_cmp_equiv (lists_total column_cmp_total)) };
+
+    /// The same values in the same columns.
+    fn eq(&self, other: &ShownRow) -> bool {
+        self.cmp(other) == Ordering::Equal
+    }
+}
+
+impl Eq for ShownRow {
+    ghost use Rattle.std.specs.Cmp.{eq_by_cmp_equiv};
+    ghost use Rattle.std.specs.Cmp.Lexicographic.{lists_total};
+    ghost use Rattle.ov_specs.proofs.laws.Sameness.{column_cmp_total};
+
+    ghost laws = { eq_by_cmp_equiv (lists_total column_cmp_total) };
+}
+
+impl PartialOrd for ShownRow {
+    ghost use Rattle.std.specs.Prelude.{Some, refl};
+    ghost use Rattle.std.specs.Cmp.{partial_order_from_agreeing_total};
+    ghost use Rattle.std.specs.Cmp.Lexicographic.{slice_cmp, lists_total};
+    ghost use Rattle.ov_specs.proofs.laws.Sameness.{column_cmp, column_cmp_total};
+
+    ghost partial_cmp = { λ a b. Some (slice_cmp column_cmp a b) };
+
+    ghost laws = { partial_order_from_agreeing_total (slice_cmp column_cmp) (lists_total column_cmp_total) (λ a b. refl) (λ a b. refl) };
+
+    fn partial_cmp(&self, other: &ShownRow) -> Option<Ordering> {
+        Some(self.cmp(other))
+    }
+}
+
+impl Ord for ShownRow {
+    ghost use Rattle.std.specs.Prelude.{refl};
+    ghost use Rattle.std.specs.Cmp.Lexicographic.{slice_cmp, lists_total};
+    ghost use Rattle.ov_specs.proofs.laws.Sameness.{column_cmp, column_cmp_total};
+
+    ghost cmp = { slice_cmp column_cmp };
+
+    ghost total = { lists_total column_cmp_total };
+
+    ghost matches_partial_cmp = { λ a b. refl };
+
+    ghost matches_eq = { λ a b. refl };
+
+    /// Column by column, by its name and then by its value.
+    fn cmp(&self, other: &ShownRow) -> Ordering {
+        self.columns.as_slice().cmp(other.columns.as_slice())
+    }
 }

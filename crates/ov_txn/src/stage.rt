@@ -76,8 +76,8 @@ impl<'a> Stage<'a> {
         &self,
         alloc: Global,
         table: &str,
-    ) -> Result<Vec<(Uuid, &Row)>, AllocError>
-        ensures { IfOk result (λ rows. map (λ r. ((table.now, r.0), r.1.now)) rows.items ≡ filter (λ r. bytes_eq r.0.0 table.now) (entries self.now.now)) }
+    ) -> Result<Vec<(&Uuid, &Row)>, AllocError>
+        ensures { IfOk result (λ rows. map (λ r. ((table.now, r.0.now), r.1.now)) rows.items ≡ filter (λ r. bytes_eq r.0.0 table.now) (entries self.now.now)) }
     {
         let rows = rows_of(alloc, self.rows, table)?;
         if self.delta.is_empty() {

@@ -4,7 +4,7 @@ ghost use Rattle.ov_db.specs.Changing.{SuitsChanges};
 use crate::rows::key_of;
 use ov_db::{Db, Delta, StoreAnswer};
 use ov_keeper::Line;
-use ov_rows::{Row, RowKey};
+use ov_rows::Row;
 use ov_schema::Schema;
 use std::alloc::Global;
 use std::test::Fail;
@@ -55,9 +55,9 @@ fn removal_of(alloc: Global, schema: &Schema, number: &str) -> Result<Delta, Fai
 }
 
 /// The text of a switch: its number and its body.
-fn text_of(alloc: Global, key: &RowKey, row: &Row) -> Result<String, Fail> {
+fn text_of(alloc: Global, id: &Uuid, row: &Row) -> Result<String, Fail> {
     let body = compact(alloc, &row.columns.tree(alloc)?)?;
-    let id = key.id().as_u128();
+    let id = id.as_u128();
     Ok(format!(in alloc; "{id} {body};")?)
 }
 
@@ -94,7 +94,7 @@ impl Database {
     /// Whether there is a row of a key.
     fn has_row(&self, alloc: Global, key: &str) -> Result<String, Fail> {
         let key = key_of(alloc, key)?;
-        let has_row = self.db.row(&key).is_some();
+        let has_row = self.db.row(key.table(), key.id()).is_some();
         Ok(format!(in alloc; "{has_row}")?)
     }
 
@@ -110,8 +110,11 @@ impl Database {
     /// The switches.
     fn switches(&self, alloc: Global) -> Result<String, Fail> {
         let mut text = String::new(alloc);
-        for (key, row) in &self.db.rows_of(alloc, "Switch")? {
-            text.push_str(text_of(alloc, key, row)?.as_str())?;
+        let Some(rows) = self.db.rows_of("Switch") else {
+            return Ok(text);
+        };
+        for (id, row) in rows.map() {
+            text.push_str(text_of(alloc, id, row)?.as_str())?;
         }
         Ok(text)
     }

@@ -1,7 +1,7 @@
 use ov_atoms::{Atom, Datum};
 use ov_base::Text;
 use ov_db::Delta;
-use ov_rows::{Columns, RowKey, Rows};
+use ov_rows::{Columns, RowKey, Rows, TableRows};
 use std::alloc::{AllocError, Global};
 use std::test::Fail;
 use test_support::{Scripted, agrees, compact, number, switch};
@@ -90,13 +90,20 @@ pub(crate) struct Standing {
     pub(crate) rows: Rows,
 }
 
+/// Adds the keys of a table's rows.
+fn push_keys(alloc: Global, text: &mut String, table: &str, rows: &TableRows) -> Result<(), Fail> {
+    for (id, _row) in rows.map() {
+        let id = id.as_u128();
+        text.push_str(format!(in alloc; "{table} {id};")?.as_str())?;
+    }
+    Ok(())
+}
+
 impl Standing {
     fn keys(&self, alloc: Global) -> Result<String, Fail> {
         let mut text = String::new(alloc);
-        for (key, _row) in self.rows.map() {
-            let table = key.table();
-            let id = key.id().as_u128();
-            text.push_str(format!(in alloc; "{table} {id};")?.as_str())?;
+        for (table, rows) in self.rows.tables() {
+            push_keys(alloc, &mut text, table.as_str(), rows)?;
         }
         Ok(text)
     }
@@ -104,7 +111,7 @@ impl Standing {
     fn put(&mut self, alloc: Global, key: &str) -> Result<(), Fail> {
         let key = key_of(alloc, key)?;
         let row = switch(alloc, "s1", 4)?;
-        self.rows.insert(key, row)?;
+        self.rows.insert(alloc, &key, row)?;
         Ok(())
     }
 }

@@ -1,9 +1,10 @@
 use ov_db::Db;
 use ov_keeper::{Line, ListKeeper};
-use ov_rows::{Row, RowKey, Rows};
+use ov_rows::{Row, Rows, TableRows};
 use std::alloc::Global;
 use std::test::Fail;
 use test_support::{NET, Scripted, agrees, keeper_of, line_of, net, put_line, schema_of_text};
+use uuid::Uuid;
 
 /// The schema Net in its version 0.
 const NET_0: &str =
@@ -38,21 +39,28 @@ const BODIES: &str = r#"x -> a stored row does not fit the schema
 {"name":"p1","peer":["set",[]],"tag":7} -> Port 2 1 {"name":"p1","peer":["set",[]],"tag":7}"#;
 
 /// The text of a row, as that of its line.
-fn text_of_row(alloc: Global, key: &RowKey, row: &Row) -> Result<String, Fail> {
+fn text_of_row(alloc: Global, table: &str, id: &Uuid, row: &Row) -> Result<String, Fail> {
     let body = row.columns.tree(alloc)?.to_bytes(alloc)?;
-    let table = key.table();
-    let id = key.id().as_u128();
+    let id = id.as_u128();
     let version = row.version.as_u128();
     let body = str::from_utf8(body.as_slice())?;
     Ok(format!(in alloc; "{table} {id} {version} {body}")?)
 }
 
+/// Adds the texts of a table's rows, each with the end of its line.
+fn push_rows(alloc: Global, text: &mut String, table: &str, rows: &TableRows) -> Result<(), Fail> {
+    for (id, row) in rows.map() {
+        text.push_str(text_of_row(alloc, table, id, row)?.as_str())?;
+        text.push_str("\n")?;
+    }
+    Ok(())
+}
+
 /// The texts of rows, each with the end of its line.
 fn text_of_rows(alloc: Global, rows: &Rows) -> Result<String, Fail> {
     let mut text = String::new(alloc);
-    for (key, row) in rows.map() {
-        text.push_str(text_of_row(alloc, key, row)?.as_str())?;
-        text.push_str("\n")?;
+    for (table, rows) in rows.tables() {
+        push_rows(alloc, &mut text, table.as_str(), rows)?;
     }
     Ok(text)
 }

@@ -5,4 +5,4 @@ use Rattle.ov_txn.proofs.merge.changes_of.Given as goal
 
 abbrev pub invariant-loop-key : goal.invariant-loop-key
 invariant-loop-key l =
-    map (λ c. ((l.table, c.0), c.1.now)) l.changes.items ++ filter (λ c. bytes_eq c.0.0 l.table) l.key-iterator ≡ filter (λ c. bytes_eq c.0.0 l.table) l.initial.key-iterator
+    map (λ c. ((l.table, c.0.now), c.1.now)) l.changes.items ++ filter (λ c. bytes_eq c.0.0 l.table) l.key-iterator ≡ filter (λ c. bytes_eq c.0.0 l.table) l.initial.key-iterator

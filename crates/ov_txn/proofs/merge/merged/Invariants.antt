@@ -8,10 +8,10 @@ abbrev pub invariant-turns : goal.invariant-turns
 invariant-turns l = record {
   row : l.i ≤ length l.rows;
   change : l.j ≤ length l.changes;
-  rows : T (is_sorted id_cmp (map (λ r. (r.0, r.1.now)) (drop l.i l.rows)));
-  changes : T (is_sorted id_cmp (map (λ c. (c.0, c.1.now)) (drop l.j l.changes)));
-  going : map (λ r. (r.0, r.1.now)) l.merged.items ++ placed id_cmp (map (λ c. (c.0, c.1.now)) (drop l.j l.changes)) (map (λ r. (r.0, r.1.now)) (drop l.i l.rows))
-      ≡ placed id_cmp (map (λ c. (c.0, c.1.now)) l.changes) (map (λ r. (r.0, r.1.now)) l.rows);
+  rows : T (is_sorted id_cmp (map (λ r. (r.0.now, r.1.now)) (drop l.i l.rows)));
+  changes : T (is_sorted id_cmp (map (λ c. (c.0.now, c.1.now)) (drop l.j l.changes)));
+  going : map (λ r. (r.0.now, r.1.now)) l.merged.items ++ placed id_cmp (map (λ c. (c.0.now, c.1.now)) (drop l.j l.changes)) (map (λ r. (r.0.now, r.1.now)) (drop l.i l.rows))
+      ≡ placed id_cmp (map (λ c. (c.0.now, c.1.now)) l.changes) (map (λ r. (r.0.now, r.1.now)) l.rows);
 }
 
 abbrev pub decreases-turns : goal.decreases-turns

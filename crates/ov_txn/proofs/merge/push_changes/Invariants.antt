@@ -5,5 +5,5 @@ use Rattle.ov_txn.proofs.merge.push_changes.Given as goal
 
 abbrev pub invariant-loop-change : goal.invariant-loop-change
 invariant-loop-change l =
-    map (λ r. (r.0, r.1.now)) l.merged.items ++ flat_map row_made (map (λ c. (c.0, c.1.now)) (drop l.change-index l.changes))
-    ≡ map (λ r. (r.0, r.1.now)) l.fn.merged.items ++ flat_map row_made (map (λ c. (c.0, c.1.now)) l.changes)
+    map (λ r. (r.0.now, r.1.now)) l.merged.items ++ flat_map row_made (map (λ c. (c.0.now, c.1.now)) (drop l.change-index l.changes))
+    ≡ map (λ r. (r.0.now, r.1.now)) l.fn.merged.items ++ flat_map row_made (map (λ c. (c.0.now, c.1.now)) l.changes)

@@ -1,4 +1,4 @@
-use Rattle.std.proofs.Common.{map, sym, ap, ◌∙◌}
+use Rattle.std.proofs.Common.{sym, ap, ◌∙◌}
 use Rattle.std.proofs.lemmas.Result.{IfOk-weaker}
 use Rattle.ov_txn.proofs.Merging.{keyed, keyed-map}
 use Rattle.ov_txn.proofs.merge.rows_of.Goals as goal
@@ -6,4 +6,4 @@ use Rattle.ov_txn.proofs.merge.rows_of.Goals as goal
 pub returns-in-Some : goal.returns-in-Some
 returns-in-Some c =
     let table = c.args.table.now in
-    IfOk-weaker c.listed.result _ _ (λ listed h. sym (keyed-map table (λ r. (r.0, r.1.now)) listed.items) ∙ ap (keyed table) h ∙ c.in-Some.ensures) c.listed.ensures
+    IfOk-weaker c.listed.result _ _ (λ listed h. sym (keyed-map table (λ r. (r.0.now, r.1.now)) listed.items) ∙ ap (keyed table) h ∙ c.in-Some.ensures) c.listed.ensures

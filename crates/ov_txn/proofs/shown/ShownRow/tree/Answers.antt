@@ -4,6 +4,7 @@ use Rattle.serde_json.specs.Data.{object, no_members}
 use Rattle.serde_json.specs.View.{members_view}
 use Rattle.serde_json.proofs.Views.{view-Object}
 use Rattle.ov_specs.specs.rows.Database.{placed, written_column}
+use Rattle.ov_rows.specs.Named.{named}
 use Rattle.ov_specs.specs.wire.Tree.{members_have_real}
 use Rattle.ov_specs.specs.values.Writing.{tree}
 use Rattle.ov_txn.proofs.Placing.{placed-at}
@@ -20,7 +21,7 @@ loop-name-preserved c =
     let within : i < length cells = c.loop-name-test.true in
     record {
       placed_so_far = c.loop-name.invariant.placed_so_far
-          ∙ placed-at cells i cell before after c.as_str.result.now within c.loop-name-item.is c.as_str.ensures c.in_ok-put_column.ensures.put;
+          ∙ placed-at cells i cell before after c.as_str.result.now within c.loop-name-item.is c.as_str.ensures.value c.in_ok-put_column.ensures.put;
       plain = ap members_have_real c.in_ok-put_column.ensures.put
           ∙ put_plain c.as_str.result.now (tree cell.1) before c.in_ok-put_column.ensures.plain c.loop-name.invariant.plain;
     }
@@ -29,5 +30,5 @@ pub returns : goal.returns
 returns c =
     let members = members_view c.loop-name.members.entries in
     c.new.ensures ∙ view-Object c.loop-name.members
-    ∙ ap object (sym (c.loop-name.invariant.placed_so_far ∙ ap (λ es. placed members (map written_column es)) (drop_all c.loop-name.name-index c.deref-name-items.result.now (omega arith))))
-    ∙ ap (λ es. object (placed no_members (map written_column es))) (c.deref-name-items.ensures.value ∙ c.self.view_is)
+    ∙ ap object (sym (c.loop-name.invariant.placed_so_far ∙ ap (λ es. placed members (map written_column (named es))) (drop_all c.loop-name.name-index c.deref-name-items.result.now (omega arith))))
+    ∙ ap (λ es. object (placed no_members (map written_column es))) (ap named c.deref-name-items.ensures.value ∙ c.self.view_is)

@@ -1,0 +1,16 @@
+use Rattle.std.proofs.Common.{◌≡◌, [], map, take, false}
+use Rattle.std.specs.List.{list_any}
+use Rattle.serde_json.specs.View.{view, items_view}
+use Rattle.ov_specs.specs.operations.Operation.{written_row}
+use Rattle.ov_specs.specs.rows.Database.{same_columns}
+use Rattle.ov_specs.specs.wire.Tree.{items_have_real}
+use Rattle.ov_txn.proofs.Repeats.{Shown, kept_with}
+use Rattle.ov_txn.proofs.Showing.{any_at}
+use Rattle.ov_txn.proofs.select.trees_once.Given as goal
+
+abbrev pub invariant-loop-row : goal.invariant-loop-row
+invariant-loop-row l = record {
+  trees : map view l.trees.items ≡ map written_row (kept_with same_columns [] (take l.row-index l.rows));
+  seen : (q : Shown) → any_at q l.seen.keys ≡ list_any (λ x. same_columns x q) (take l.row-index l.rows);
+  plain : items_have_real (items_view l.trees.items) ≡ false;
+}

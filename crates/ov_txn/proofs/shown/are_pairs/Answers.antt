@@ -1,8 +1,0 @@
-use Rattle.std.proofs.Common.{◌∙◌}
-use Rattle.ov_atoms.specs.Views.{pair_view}
-use Rattle.ov_specs.specs.rows.Database.{same_pair}
-use Rattle.ov_txn.proofs.shown.are_pairs.Goals as goal
-use Rattle.ov_conds.proofs.Seen.{pointwise-map}
-
-pub returns : goal.returns
-returns c = c.eq.ensures ∙ pointwise-map same_pair pair_view c.args.a.now c.args.b.now
