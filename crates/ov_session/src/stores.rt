@@ -38,8 +38,8 @@ pub fn serve_memory<R: Wait, D: Draws + Drop, I: Read + Drop, O: Write + Drop>(
 }
 
 /// Serves one session of the database in the file at a path, as `serve_over` does. `text` is the schema's, and `start` stands for
-/// what the file and its log held. Behind a session that was served the file has the whole, with no log beside it. Where the file
-/// is refused, it is left as it was, and nothing is read or written.
+/// what the file and its log held. Where the session ended by its input or by its streams, the file is then closed: it has the
+/// whole, with no log beside it, unless the system refuses that. Where the file is refused, nothing is read or written.
 pub fn serve_file<R: Wait, S: Start, D: Draws + Drop, I: Read + Drop, O: Write + Drop>(
     host: &HostRuntime,
     rt: &R,
@@ -65,7 +65,8 @@ pub fn serve_file<R: Wait, S: Start, D: Draws + Drop, I: Read + Drop, O: Write +
         input,
         output,
     );
-    // A refused start changes nothing. Where the closing fails nothing is lost: the two belong together, as after a kill.
+    // Of a file that was refused nothing is copied. Where the closing fails nothing is lost: the two belong together, as after
+    // a kill.
     if ending == Ending::InputEnded || ending == Ending::Streams {
         if let Some(store) = keeper {
             let _ = close_in_file(host, path, store);
