@@ -80,7 +80,7 @@ fn answer_failed(
 }
 
 /// Commits the changes. The frame of a commit that is kept waits before the store is asked, and gives way to another where
-/// the store refuses: so nothing wants memory behind a commit.
+/// the store refuses: so nothing takes memory behind a commit.
 fn commit<K: Keeper + Drop>(
     db: &mut Db<K>,
     alloc: Global,

@@ -24,7 +24,7 @@ pub enum Cause {
     Damaged,
     /// It did not take what was sent to it.
     Overrun,
-    /// Memory was refused while its request was worked on.
+    /// Memory was refused, while its input was read and cut or while its request was worked on.
     Memory,
 }
 

@@ -8,7 +8,7 @@ use ov_rpc::reply;
 use ov_txn::{exhausted, failed};
 use std::alloc::{AllocError, Global};
 
-/// The reply to a transaction for each answer of the store. They are made before it is asked, so that nothing wants
+/// The reply to a transaction for each answer of the store. They are made before it is asked, so that nothing takes
 /// memory behind a commit.
 #[derive(Drop)]
 pub(crate) struct Frames {

@@ -16,7 +16,7 @@ use std::cmp::Ordering;
 use std::marker::Model;
 use uuid::Uuid;
 
-/// What is shown of a row: the chosen columns that it has, in the order in which they are chosen.
+/// What is shown of a row: the chosen columns that it has, in ascending order of their names.
 #[derive(Drop)]
 pub(crate) struct ShownRow {
     columns: Vec<(String, Datum)>,
