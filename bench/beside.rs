@@ -1,0 +1,230 @@
+//! A driver for the server in memory beside Open vSwitch's ovsdb-server: echoes of all sizes, the memory that they leave behind,
+//! selects and inserts.
+//!
+//! Each reply is compared with the one that is wanted, byte by byte; the rows of a select may stand in any order. Those that are
+//! compared take turns in one run. Plain Rust, std only; `bench/run` builds and starts it.
+
+mod systems;
+
+use std::collections::BTreeSet;
+use std::path::Path;
+use std::process::ExitCode;
+use std::time::{Duration, Instant};
+use systems::{Exchange, Folder, Measured, Outcome, Server, System, Systems, inserts, say, search, transact};
+
+/// What is compared. The peer writes a file without a sync, since it has no database in memory alone.
+const SYSTEMS: [System; 2] = [System::Memory, System::Peer];
+
+/// The size of a piece, in bytes: what the server reads at once.
+const PIECE: usize = 4_096;
+
+/// How many small echoes come in one turn, and how many selects.
+const ECHOES_IN_A_TURN: usize = 2_000;
+const SELECTS_IN_A_TURN: usize = 3;
+
+/// The tables that selects go over, by their rows.
+const TABLES: [usize; 3] = [2_000, 10_000, 20_000];
+
+/// How many echoes come before each look at the resident memory.
+const ECHOES_BEFORE_A_LOOK: [usize; 4] = [0, 5_000, 100_000, 1_000_000];
+
+/// A request of a few bytes, which is answered with its own parameters (RFC 7047, 4.1.11).
+fn small_echo(id: u64) -> Exchange {
+    Exchange {
+        id,
+        request: format!("{{\"id\":{id},\"method\":\"echo\",\"params\":[\"hello\",{id}]}}"),
+        result: format!("[\"hello\",{id}]"),
+    }
+}
+
+/// An echo of one text in a request of so many bytes.
+fn long_echo(length: usize) -> Exchange {
+    let begin = "{\"id\":0,\"method\":\"echo\",\"params\":[\"";
+    let text = "a".repeat(length - begin.len() - "\"]}".len());
+    Exchange { id: 0, request: format!("{begin}{text}\"]}}"), result: format!("[\"{text}\"]") }
+}
+
+/// Sends a request in pieces, and waits for its reply.
+fn ask_in_pieces(server: &mut Server, exchange: &Exchange) -> Outcome<()> {
+    let text = &exchange.request;
+    let ends = (PIECE..text.len()).step_by(PIECE).chain([text.len()]);
+    ends.scan(0, |from, to| Some(std::mem::replace(from, to)..to)).try_for_each(|piece| server.send(&text[piece]))?;
+    server.receive(exchange)
+}
+
+/// Asks for the names of all rows, and compares the names of the reply, which may stand in any order. It gives the time until
+/// the reply was whole.
+fn select_all(server: &mut Server, rows: usize) -> Outcome<Duration> {
+    let rows_of = |numbers: &mut dyn Iterator<Item = usize>| {
+        numbers.map(|n| format!("{{\"name\":\"switch {n}\"}}")).collect::<Vec<_>>().join(",")
+    };
+    let wanted = rows_of(&mut (0..rows));
+    let operation = ",{\"op\":\"select\",\"table\":\"Switch\",\"where\":[],\"columns\":[\"name\"]}";
+    let exchange = transact(1, operation, format!("[{{\"rows\":[{wanted}]}}]"));
+    let begin = Instant::now();
+    server.send(&exchange.request)?;
+    let reply = server.take(&exchange)?;
+    let time = begin.elapsed();
+    let names: BTreeSet<&str> = reply.split('"').filter(|part| part.starts_with("switch ")).collect();
+    let all = (0..rows).all(|n| names.contains(format!("switch {n}").as_str()));
+    if all && names.len() == rows { Ok(time) } else { Err(format!("a wrong select of {}", server.system.name())) }
+}
+
+/// The driver: the systems that are there, where the peer's files lie, and the time for one figure of a system.
+struct Bench<'a> {
+    systems: Systems,
+    above: &'a Path,
+    limit: Duration,
+}
+
+impl Bench<'_> {
+    /// Measures one figure: a turn of each system after the other, until the time is over. It gives what was measured of each.
+    fn in_turns(
+        &self,
+        rows: usize,
+        mut turn: impl FnMut(&mut Server, &mut Measured) -> Outcome<()>,
+    ) -> Outcome<Vec<(System, Measured)>> {
+        let folder = Folder::make(self.above)?;
+        let present = self.systems.present(&SYSTEMS);
+        let mut servers = self.systems.filled(&present, &folder.0, rows)?;
+        let mut all: Vec<(System, Measured)> = present.into_iter().map(|system| (system, Measured::default())).collect();
+        while all.iter().any(|(_, measured)| measured.whole < self.limit) {
+            servers.iter_mut().zip(&mut all).try_for_each(|(server, (_, measured))| turn(server, measured))?;
+        }
+        servers.into_iter().try_for_each(Server::finish)?;
+        Ok(all)
+    }
+
+    /// Prints how many a second each system answered, and the ratio.
+    fn say_rates(&self, name: &str, all: &[(System, Measured)]) -> Outcome<()> {
+        for (system, measured) in all {
+            let (rate, median) = (measured.rate(), measured.median());
+            say(&format!("{name}, {}", system.name()), format!("{rate:>9.0} per second  {median:>11.1} us median"))?;
+        }
+        if let [(_, ours), (_, peer)] = all {
+            say(&format!("{name}, ours / peer"), format!("{:>9.2} times as many", ours.rate() / peer.rate()))?;
+        }
+        Ok(())
+    }
+
+    /// Prints the medians of each system, and the ratio. It gives ours.
+    fn say_medians(&self, name: &str, all: &[(System, Measured)]) -> Outcome<f64> {
+        for (system, measured) in all {
+            let value = format!("{:>11.1} us median  {:>6} requests", measured.median(), measured.times.len());
+            say(&format!("{name}, {}", system.name()), value)?;
+        }
+        if let [(_, ours), (_, peer)] = all {
+            say(&format!("{name}, ours / peer"), format!("{:>9.2} times as long", ours.median() / peer.median()))?;
+        }
+        Ok(all.first().map_or(0.0, |(_, measured)| measured.median()))
+    }
+
+    fn small_echoes(&self, depth: usize) -> Outcome<()> {
+        let mut id = 0;
+        let mut next = move |_: &mut Server| {
+            id += 1;
+            small_echo(id)
+        };
+        let all = self.in_turns(0, |server, measured| measured.add_turn(server, depth, ECHOES_IN_A_TURN, &mut next))?;
+        self.say_rates(&format!("small echo, depth {depth}"), &all)
+    }
+
+    /// The median time of an echo of so many bytes that comes in pieces.
+    fn long_echoes(&self, name: &str, length: usize) -> Outcome<f64> {
+        let exchange = long_echo(length);
+        let all = self.in_turns(0, |server, measured| measured.time(|| ask_in_pieces(server, &exchange)))?;
+        self.say_medians(name, &all)
+    }
+
+    /// The resident memory after ever more small echoes.
+    fn memory(&self) -> Outcome<()> {
+        let folder = Folder::make(self.above)?;
+        let mut servers = self.systems.filled(&self.systems.present(&SYSTEMS), &folder.0, 0)?;
+        for server in &mut servers {
+            let mut sent = 0;
+            for count in ECHOES_BEFORE_A_LOOK {
+                let mut next = |_: &mut Server| {
+                    sent += 1;
+                    small_echo(sent as u64)
+                };
+                let more = count - ECHOES_BEFORE_A_LOOK.iter().filter(|&&before| before < count).max().unwrap_or(&0);
+                Measured::default().add_turn(server, 32, more, &mut next)?;
+                let name = format!("resident memory, {count} small echoes, {}", server.system.name());
+                say(&name, format!("{:>9} KiB", server.resident()?))?;
+            }
+        }
+        servers.into_iter().try_for_each(Server::finish)
+    }
+
+    /// Selects of all names over tables of more and more rows, and by how much longer the largest takes than the smallest.
+    fn selects(&self) -> Outcome<()> {
+        let mut medians = Vec::new();
+        for rows in TABLES {
+            let all = self.in_turns(rows, |server, measured| {
+                (0..SELECTS_IN_A_TURN).try_for_each(|_| {
+                    let time = select_all(server, rows)?;
+                    measured.add(time);
+                    Ok(())
+                })
+            })?;
+            medians.push(self.say_medians(&format!("select of all names, {rows} rows"), &all)?);
+        }
+        if let [first, .., last] = medians.as_slice() {
+            say("select of all names, 20000 rows over 2000, ours", format!("{:>9.2} times as long", last / first))?;
+        }
+        Ok(())
+    }
+
+    /// Selects of one row by its name.
+    fn searches(&self, rows: usize) -> Outcome<()> {
+        let mut n = 0;
+        let all = self.in_turns(rows, |server, measured| {
+            n = (n + 7_919) % rows as u64;
+            measured.time(|| server.ask(&search(n)))
+        })?;
+        self.say_medians(&format!("select by name, {rows} rows"), &all).map(drop)
+    }
+
+    /// Inserts of one row a transaction, 32 under way.
+    fn inserts(&self, rows: usize) -> Outcome<()> {
+        let all = self.in_turns(rows, |server, measured| {
+            measured.add_turn(server, 32, 200, |server| {
+                server.rows += 1;
+                inserts(server.system, server.rows - 1, 1)
+            })
+        })?;
+        self.say_rates(&format!("insert, depth 32, {rows} rows and more"), &all)
+    }
+
+    fn figures(&self) -> Outcome<()> {
+        self.small_echoes(1)?;
+        self.small_echoes(32)?;
+        let shorter = self.long_echoes("64 KiB echo in pieces", 1 << 16)?;
+        let longer = self.long_echoes("1 MiB echo in pieces", 1 << 20)?;
+        say("1 MiB over 64 KiB, time for a byte, ours", format!("{:>9.2} times as long", longer / shorter / 16.0))?;
+        self.memory()?;
+        self.selects()?;
+        self.searches(10_000)?;
+        self.inserts(1_000)
+    }
+}
+
+fn main() -> ExitCode {
+    let words: Vec<String> = std::env::args().skip(1).collect();
+    let seconds = words.get(1).map_or(Ok(4.0), |word| word.parse::<f64>());
+    let (Some(program), Ok(seconds), 1..=4) = (words.first(), seconds, words.len()) else {
+        eprintln!("beside PROGRAM [SECONDS [ROOT-OF-THE-PEER [FOLDER-FOR-FILES]]]");
+        return ExitCode::from(2);
+    };
+    let root = words.get(2).map_or("/", String::as_str);
+    let above = Path::new(words.get(3).map_or(".", String::as_str));
+    let limit = Duration::from_secs_f64(seconds.clamp(0.1, 60.0));
+    let done = Systems::find(program, Path::new(root)).and_then(|systems| Bench { systems, above, limit }.figures());
+    match done {
+        Ok(()) => ExitCode::SUCCESS,
+        Err(why) => {
+            eprintln!("beside: {why}");
+            ExitCode::FAILURE
+        }
+    }
+}

@@ -1,0 +1,477 @@
+//! What the drivers share that compare the server with Open vSwitch's ovsdb-server: how each is started and spoken to, how a
+//! reply is compared with the one that is wanted, and how figures are printed.
+//!
+//! Ours is spoken to over pipes, the peer over a Unix socket. Plain Rust, std only.
+
+// Each driver uses some of it.
+#![allow(dead_code)]
+
+use std::collections::VecDeque;
+use std::fs;
+use std::io::{Read, Write};
+use std::os::unix::net::UnixStream;
+use std::path::{Path, PathBuf};
+use std::process::{Child, Command, Stdio};
+use std::time::{Duration, Instant};
+
+pub type Outcome<T> = Result<T, String>;
+
+/// The server's own schema, which the peer's file is made with.
+const SCHEMA: &str = r#"{"name":"Net","tables":{"Port":{"columns":{"name":{"type":"string"},"peer":{"type":{"key":{"refTable":"Port","type":"uuid"},"max":1,"min":0}},"tag":{"type":{"key":{"maxInteger":4095,"minInteger":0,"type":"integer"},"max":1,"min":0}}}},"Switch":{"columns":{"load":{"type":"integer"},"main":{"type":{"key":{"refTable":"Port","refType":"weak","type":"uuid"},"max":1,"min":0}},"name":{"type":"string"},"ports":{"type":{"key":{"refTable":"Port","type":"uuid"},"max":"unlimited","min":0}}},"indexes":[["name"]],"isRoot":true}},"version":"1.0.0"}"#;
+
+/// Stands in a wanted reply for each byte of an identifier that the server draws.
+const DRAWN: u8 = 0;
+
+/// How many rows one transaction inserts while a table is filled: some 80 KB of text.
+const FILLED_AT_ONCE: usize = 1_000;
+
+/// How long a start may take.
+const LONGEST_START: Duration = Duration::from_secs(300);
+
+/// An order of a reply's members: `error`, `id` and `result` by their numbers.
+type Order = [usize; 3];
+
+/// All orders, ours first. The peer's is the one of its hashes.
+const ORDERS: [Order; 6] = [[0, 1, 2], [0, 2, 1], [1, 0, 2], [1, 2, 0], [2, 0, 1], [2, 1, 0]];
+
+/// What is measured.
+#[derive(Clone, Copy, PartialEq)]
+pub enum System {
+    File,
+    Memory,
+    /// The peer over a file, which it writes without a sync.
+    Peer,
+    /// The peer over a file, each commit of which is synced before the reply.
+    DurablePeer,
+}
+
+impl System {
+    pub fn name(self) -> &'static str {
+        match self {
+            System::File => "ours in a file",
+            System::Memory => "ours in memory",
+            System::Peer => "peer without a sync",
+            System::DurablePeer => "peer in a file",
+        }
+    }
+
+    fn orders(self) -> &'static [Order] {
+        match self {
+            System::File | System::Memory => &ORDERS[..1],
+            System::Peer | System::DurablePeer => &ORDERS,
+        }
+    }
+
+    fn is_peer(self) -> bool {
+        matches!(self, System::Peer | System::DurablePeer)
+    }
+}
+
+/// A request, and the result that is wanted in its reply.
+pub struct Exchange {
+    pub id: u64,
+    pub request: String,
+    pub result: String,
+}
+
+impl Exchange {
+    /// The wanted reply, its members in this order.
+    fn reply(&self, order: Order) -> Vec<u8> {
+        let members = ["\"error\":null".into(), format!("\"id\":{}", self.id), format!("\"result\":{}", self.result)];
+        format!("{{{}}}", order.map(|member| members[member].as_str()).join(",")).into_bytes()
+    }
+}
+
+pub fn list_dbs(system: System) -> Exchange {
+    let result = if system.is_peer() { "[\"Net\",\"_Server\"]" } else { "[\"Net\"]" };
+    Exchange { id: 0, request: "{\"id\":0,\"method\":\"list_dbs\",\"params\":[]}".into(), result: result.into() }
+}
+
+pub fn transact(id: u64, operations: &str, result: String) -> Exchange {
+    Exchange { id, request: format!("{{\"id\":{id},\"method\":\"transact\",\"params\":[\"Net\"{operations}]}}"), result }
+}
+
+/// One transaction that inserts rows of the numbers from `first` on. The peer is told that it must be on the disk before
+/// the reply (RFC 7047, 5.2.7); ours always is.
+pub fn inserts(system: System, first: u64, rows: usize) -> Exchange {
+    let mut operations: String = (first..)
+        .take(rows)
+        .map(|n| format!(",{{\"op\":\"insert\",\"table\":\"Switch\",\"row\":{{\"load\":{n},\"name\":\"switch {n}\"}}}}"))
+        .collect();
+    let drawn = String::from(char::from(DRAWN)).repeat(36);
+    let mut results = vec![format!("{{\"uuid\":[\"uuid\",\"{drawn}\"]}}"); rows];
+    if system == System::DurablePeer {
+        operations.push_str(",{\"op\":\"commit\",\"durable\":true}");
+        results.push("{}".into());
+    }
+    transact(first, &operations, format!("[{}]", results.join(",")))
+}
+
+/// A search for the row of a number, which must be there once.
+pub fn search(n: u64) -> Exchange {
+    let operation = format!(
+        ",{{\"op\":\"select\",\"table\":\"Switch\",\"where\":[[\"name\",\"==\",\"switch {n}\"]],\"columns\":[\"name\"]}}"
+    );
+    transact(n, &operation, format!("[{{\"rows\":[{{\"name\":\"switch {n}\"}}]}}]"))
+}
+
+fn is_wanted(seen: &[u8], wanted: &[u8]) -> bool {
+    let is_of_an_id = |byte: u8| byte == b'-' || byte.is_ascii_hexdigit();
+    seen.iter().zip(wanted).all(|(&s, &w)| s == w || w == DRAWN && is_of_an_id(s))
+}
+
+/// A process that is killed where it has not ended.
+struct Process(Child);
+
+impl Drop for Process {
+    fn drop(&mut self) {
+        let _ = self.0.kill();
+        let _ = self.0.wait();
+    }
+}
+
+/// A running server, how many rows it has, and what came of its output and has not been compared.
+pub struct Server {
+    pub system: System,
+    order: Order,
+    pub rows: u64,
+    process: Process,
+    input: Box<dyn Write>,
+    output: Box<dyn Read>,
+    unread: Vec<u8>,
+    chunk: Vec<u8>,
+}
+
+impl Server {
+    fn new(system: System, process: Process, input: Box<dyn Write>, output: Box<dyn Read>) -> Server {
+        let order = ORDERS[0];
+        Server { system, order, rows: 0, process, input, output, unread: Vec::new(), chunk: vec![0; 1 << 16] }
+    }
+
+    pub fn send(&mut self, text: &str) -> Outcome<()> {
+        self.input.write_all(text.as_bytes()).map_err(|e| format!("a write to the server: {e}"))
+    }
+
+    /// Reads until so many bytes are there that nobody has compared.
+    fn read(&mut self, length: usize) -> Outcome<()> {
+        while self.unread.len() < length {
+            let n = self.output.read(&mut self.chunk).map_err(|e| format!("a read from the server: {e}"))?;
+            if n == 0 {
+                let name = self.system.name();
+                return Err(format!("{name} ended its output after {}", String::from_utf8_lossy(&self.unread)));
+            }
+            self.unread.extend_from_slice(&self.chunk[..n]);
+        }
+        Ok(())
+    }
+
+    /// Reads as many bytes as the wanted reply has, and gives them.
+    pub fn take(&mut self, exchange: &Exchange) -> Outcome<String> {
+        let length = exchange.reply(self.order).len();
+        self.read(length)?;
+        String::from_utf8(self.unread.drain(..length).collect()).map_err(|e| format!("a reply: {e}"))
+    }
+
+    /// Reads until the wanted reply is whole, and compares it.
+    pub fn receive(&mut self, exchange: &Exchange) -> Outcome<()> {
+        self.receive_in(exchange, &[self.order]).map(drop)
+    }
+
+    /// Reads until the wanted reply is whole, and compares it in each of these orders. It gives the one that fits.
+    fn receive_in(&mut self, exchange: &Exchange, orders: &[Order]) -> Outcome<Order> {
+        let length = exchange.reply(self.order).len();
+        self.read(length)?;
+        let seen = &self.unread[..length];
+        let Some(order) = orders.iter().find(|&&order| is_wanted(seen, &exchange.reply(order))) else {
+            let seen = String::from_utf8_lossy(&seen[..length.min(300)]);
+            return Err(format!("a wrong reply of {}: {seen}", self.system.name()));
+        };
+        self.unread.drain(..length);
+        Ok(*order)
+    }
+
+    /// Sends a request whole before it reads the reply: a server answers a message only when it has all of it.
+    pub fn ask(&mut self, exchange: &Exchange) -> Outcome<()> {
+        self.send(&exchange.request)?;
+        self.receive(exchange)
+    }
+
+    /// The first request: its reply tells the order of the members of all others.
+    pub fn greet(&mut self) -> Outcome<()> {
+        let exchange = list_dbs(self.system);
+        self.send(&exchange.request)?;
+        self.order = self.receive_in(&exchange, self.system.orders())?;
+        Ok(())
+    }
+
+    /// Brings the table to so many rows.
+    pub fn fill(&mut self, rows: usize) -> Outcome<()> {
+        while self.rows < rows as u64 {
+            let count = FILLED_AT_ONCE.min(rows - self.rows as usize);
+            let exchange = inserts(self.system, self.rows, count);
+            self.ask(&exchange)?;
+            self.rows += count as u64;
+        }
+        Ok(())
+    }
+
+    /// Resident memory in KiB.
+    pub fn resident(&self) -> Outcome<u64> {
+        let path = format!("/proc/{}/status", self.process.0.id());
+        let text = fs::read_to_string(&path).map_err(|e| format!("{path}: {e}"))?;
+        text.lines()
+            .find_map(|line| line.strip_prefix("VmRSS:"))
+            .and_then(|rest| rest.split_whitespace().next())
+            .and_then(|number| number.parse().ok())
+            .ok_or_else(|| format!("{path}: no VmRSS"))
+    }
+
+    /// Looks for the last row, and ends the server: ours by the end of its input, the peer by a kill.
+    pub fn finish(mut self) -> Outcome<()> {
+        if self.rows > 0 {
+            self.ask(&search(self.rows - 1))?;
+        }
+        let Server { system, mut process, input, mut output, unread: mut rest, .. } = self;
+        drop(input);
+        if system.is_peer() {
+            return if rest.is_empty() { Ok(()) } else { Err("bytes of the peer that nobody asked for".into()) };
+        }
+        output.read_to_end(&mut rest).map_err(|e| format!("the last read: {e}"))?;
+        let status = process.0.wait().map_err(|e| format!("waiting for the server: {e}"))?;
+        if !status.success() || !rest.is_empty() {
+            return Err(format!("the server ended with {status} and {} bytes that nobody asked for", rest.len()));
+        }
+        Ok(())
+    }
+}
+
+/// The peer's executables and libraries, where its package is installed or unpacked.
+struct Peer {
+    server: PathBuf,
+    tool: PathBuf,
+    libraries: PathBuf,
+}
+
+impl Peer {
+    /// The peer under a root, and its version, if it is there and starts.
+    fn find(root: &Path) -> Option<(Peer, String)> {
+        let libraries = root.join(format!("usr/lib/{}-linux-gnu", std::env::consts::ARCH));
+        let place = |name: &str| {
+            ["usr/sbin", "usr/bin", ""].iter().map(|folder| root.join(folder).join(name)).find(|path| path.is_file())
+        };
+        let peer = Peer { server: place("ovsdb-server")?, tool: place("ovsdb-tool")?, libraries };
+        let said = peer.command(&peer.server).arg("--version").output().ok().filter(|said| said.status.success())?;
+        let version = String::from_utf8_lossy(&said.stdout).lines().next()?.to_string();
+        Some((peer, version))
+    }
+
+    fn command(&self, executable: &Path) -> Command {
+        let mut command = Command::new(executable);
+        command.env("LD_LIBRARY_PATH", &self.libraries).stdin(Stdio::null());
+        command
+    }
+
+    /// Makes a database file in a folder.
+    fn create(&self, folder: &Path) -> Outcome<()> {
+        let (file, schema) = (folder.join("peer.db"), folder.join("net.ovsschema"));
+        fs::write(&schema, SCHEMA).map_err(|e| format!("the peer's schema: {e}"))?;
+        let status = self.command(&self.tool).arg("create").arg(&file).arg(&schema).status();
+        match status {
+            Ok(status) if status.success() => Ok(()),
+            Ok(status) => Err(format!("ovsdb-tool ended with {status}")),
+            Err(error) => Err(format!("ovsdb-tool: {error}")),
+        }
+    }
+
+    /// Starts the peer over the file in a folder, and waits for its socket.
+    fn start(&self, system: System, folder: &Path) -> Outcome<Server> {
+        let socket = folder.join("peer.sock");
+        let _ = fs::remove_file(&socket);
+        let child = self
+            .command(&self.server)
+            .arg(format!("--remote=punix:{}", socket.display()))
+            .arg(format!("--unixctl={}", folder.join("peer.ctl").display()))
+            .args(["-vconsole:off", "-vsyslog:off"])
+            .arg(folder.join("peer.db"))
+            .stdout(Stdio::null())
+            .spawn()
+            .map_err(|e| format!("ovsdb-server: {e}"))?;
+        let process = Process(child);
+        let stream = connect(&socket)?;
+        let input = stream.try_clone().map_err(|e| format!("the peer's socket: {e}"))?;
+        Ok(Server::new(system, process, Box::new(input), Box::new(stream)))
+    }
+}
+
+/// Tries until a socket takes a connection.
+fn connect(socket: &Path) -> Outcome<UnixStream> {
+    let begin = Instant::now();
+    loop {
+        match UnixStream::connect(socket) {
+            Ok(stream) => return Ok(stream),
+            Err(error) if begin.elapsed() > LONGEST_START => return Err(format!("the peer's socket: {error}")),
+            Err(_) => std::thread::sleep(Duration::from_micros(100)),
+        }
+    }
+}
+
+/// A folder for the files of one figure, which is removed at the end.
+pub struct Folder(pub PathBuf);
+
+impl Folder {
+    pub fn make(above: &Path) -> Outcome<Folder> {
+        let path = above.join(format!("bench-{}", std::process::id()));
+        fs::create_dir(&path).map_err(|e| format!("{}: {e}", path.display()))?;
+        Ok(Folder(path))
+    }
+}
+
+impl Drop for Folder {
+    fn drop(&mut self) {
+        let _ = fs::remove_dir_all(&self.0);
+    }
+}
+
+/// The kind of the file system that a folder lies on. One in memory is refused, since a sync costs nothing there.
+pub fn file_system(folder: &Path) -> Outcome<String> {
+    let mounts = fs::read_to_string("/proc/self/mounts").map_err(|e| format!("the mounts: {e}"))?;
+    let kind = mounts
+        .lines()
+        .filter_map(|line| line.split(' ').skip(1).take(2).collect::<Vec<_>>().try_into().ok())
+        .filter(|[place, _]: &[&str; 2]| folder.starts_with(place))
+        .max_by_key(|[place, _]| place.len())
+        .map(|[_, kind]| kind.to_string())
+        .ok_or("no file system is mounted there")?;
+    if kind == "tmpfs" || kind == "ramfs" {
+        return Err(format!("the folder for the files lies on {kind}, which is no disk"));
+    }
+    Ok(kind)
+}
+
+/// What was measured of one figure.
+#[derive(Default)]
+pub struct Measured {
+    pub times: Vec<Duration>,
+    pub whole: Duration,
+}
+
+impl Measured {
+    pub fn rate(&self) -> f64 {
+        self.times.len() as f64 / self.whole.as_secs_f64()
+    }
+
+    /// The median in microseconds.
+    pub fn median(&self) -> f64 {
+        let mut times = self.times.clone();
+        times.sort();
+        times.get(times.len() / 2).map_or(0.0, |time| time.as_secs_f64() * 1e6)
+    }
+
+    /// Adds a turn: so many requests, as `make` says, with up to `depth` under way. New ones are sent when half of them are
+    /// answered.
+    pub fn add_turn(
+        &mut self,
+        server: &mut Server,
+        depth: usize,
+        count: usize,
+        mut make: impl FnMut(&mut Server) -> Exchange,
+    ) -> Outcome<()> {
+        let begin = Instant::now();
+        let mut sent: VecDeque<(Instant, Exchange)> = VecDeque::new();
+        let mut left = count;
+        while left > 0 || !sent.is_empty() {
+            if sent.len() <= depth / 2 && left > 0 {
+                let more = left.min(depth - sent.len());
+                let exchanges: Vec<Exchange> = (0..more).map(|_| make(server)).collect();
+                let batch: String = exchanges.iter().map(|exchange| exchange.request.as_str()).collect();
+                let now = Instant::now();
+                sent.extend(exchanges.into_iter().map(|exchange| (now, exchange)));
+                left -= more;
+                server.send(&batch)?;
+            }
+            if let Some((at, exchange)) = sent.pop_front() {
+                server.receive(&exchange)?;
+                self.times.push(at.elapsed());
+            }
+        }
+        self.whole += begin.elapsed();
+        Ok(())
+    }
+
+    /// Adds a turn of one time.
+    pub fn add(&mut self, time: Duration) {
+        self.times.push(time);
+        self.whole += time;
+    }
+
+    /// Adds a turn: the time that this takes.
+    pub fn time(&mut self, work: impl FnOnce() -> Outcome<()>) -> Outcome<()> {
+        let begin = Instant::now();
+        work()?;
+        self.add(begin.elapsed());
+        Ok(())
+    }
+
+    /// The longest time in milliseconds.
+    pub fn longest(&self) -> f64 {
+        self.times.iter().max().map_or(0.0, |time| time.as_secs_f64() * 1e3)
+    }
+}
+
+/// Prints the line of one figure.
+pub fn say(name: &str, value: String) -> Outcome<()> {
+    writeln!(std::io::stdout(), "{name:<52} {value}").map_err(|e| format!("printing a figure: {e}"))
+}
+
+/// The program, and the peer if it is there.
+pub struct Systems {
+    program: String,
+    peer: Option<Peer>,
+}
+
+impl Systems {
+    /// The program at a path, and the peer under a root, whose version is printed.
+    pub fn find(program: &str, root: &Path) -> Outcome<Systems> {
+        let found = Peer::find(root);
+        say("peer", found.as_ref().map_or("missing, and left out".into(), |(_, version)| version.clone()))?;
+        Ok(Systems { program: program.into(), peer: found.map(|(peer, _)| peer) })
+    }
+
+    /// Those of these systems that are there.
+    pub fn present(&self, all: &[System]) -> Vec<System> {
+        all.iter().copied().filter(|system| !system.is_peer() || self.peer.is_some()).collect()
+    }
+
+    /// Makes what a system finds in a folder at its first start.
+    pub fn prepare(&self, folder: &Path) -> Outcome<()> {
+        self.peer.as_ref().map_or(Ok(()), |peer| peer.create(folder))
+    }
+
+    /// Starts a system over the files in a folder, or in memory.
+    pub fn start(&self, system: System, folder: &Path) -> Outcome<Server> {
+        if let (true, Some(peer)) = (system.is_peer(), &self.peer) {
+            return peer.start(system, folder);
+        }
+        let mut command = Command::new(&self.program);
+        if system == System::File {
+            command.arg("--db").arg(folder.join("ours.db"));
+        }
+        let spawned = command.stdin(Stdio::piped()).stdout(Stdio::piped()).spawn();
+        let mut process = Process(spawned.map_err(|e| format!("{}: {e}", self.program))?);
+        let input = process.0.stdin.take().ok_or("no standard input")?;
+        let output = process.0.stdout.take().ok_or("no standard output")?;
+        Ok(Server::new(system, process, Box::new(input), Box::new(output)))
+    }
+
+    /// Systems that are started anew in a folder, each with a table of so many rows.
+    pub fn filled(&self, systems: &[System], folder: &Path, rows: usize) -> Outcome<Vec<Server>> {
+        self.prepare(folder)?;
+        let start = |&system: &System| {
+            let mut server = self.start(system, folder)?;
+            server.greet()?;
+            server.fill(rows)?;
+            Ok(server)
+        };
+        systems.iter().map(start).collect()
+    }
+}
