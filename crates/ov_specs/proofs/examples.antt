@@ -7,3 +7,10 @@ mod MutatorRows
 mod TransactionRows
 mod MachineRows
 mod SuitsRows
+mod NetRows
+mod OperationFaultRows
+mod NamedUuidRows
+mod TwoSwitches
+mod StagedRows
+mod WaitRows
+mod AnyTransactionRows

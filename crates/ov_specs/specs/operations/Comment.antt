@@ -1,0 +1,11 @@
+-- comment: a text for a log, of which this server has none (RFC 7047, 5.2.9). The machine does not use this yet.
+use Rattle.std.specs.Prelude.{codes}
+use Rattle.serde_json.specs.Data.{Data}
+use Rattle.ov_specs.specs.operations.Errors.{SyntaxError}
+use Rattle.ov_specs.specs.operations.Operation.{text_at}
+use Rattle.ov_specs.specs.operations.OpOutcome.{OpOutcome, Done, empty_result, some_or_fault}
+use Rattle.ov_specs.specs.rows.Database.{Database}
+
+-- "comment" is a text, whichever (RFC 7047, 5.2.9)
+abbrev pub comment_outcome : Database → Data → OpOutcome
+comment_outcome rows d = some_or_fault (text_at (codes "comment") d) SyntaxError (λ text. Done empty_result rows)

@@ -1,0 +1,16 @@
+-- delete: the rows that match go (RFC 7047, 5.2.5). The machine does not use this yet.
+use Rattle.std.specs.Prelude.{List, map, length}
+use Rattle.serde_json.specs.Data.{Data}
+use Rattle.ov_specs.specs.operations.MatchingRows.{on_conditions, count_result, without_rows}
+use Rattle.ov_specs.specs.operations.Operation.{matching}
+use Rattle.ov_specs.specs.operations.OpOutcome.{OpContext, OpOutcome, Done, on_table}
+use Rattle.ov_specs.specs.rows.Database.{Row, Database}
+use Rattle.ov_specs.specs.rows.Lines.{LineKey}
+
+-- without these rows (RFC 7047, 5.2.5)
+abbrev pub deletes : List (LineKey × Row) → Database → OpOutcome
+deletes found rows = Done (count_result (length found)) (without_rows (map (λ r. r.0) found) rows)
+
+-- Its members are looked at in this order: "table", "where" (RFC 7047, 5.2.5; the order is our own).
+abbrev pub delete_outcome : OpContext → Database → Data → OpOutcome
+delete_outcome c rows d = on_table c d (λ name table. on_conditions c table d (λ conditions. deletes (matching rows name conditions) rows))

@@ -1,0 +1,48 @@
+-- insert: a row is made of "row" and put under the identifier that was drawn for it (RFC 7047, 5.2.1). The machine does not use
+-- this yet.
+use Rattle.std.specs.Prelude.{ℕ, not, List, if◌then◌else◌, Option, Some, None, codes, Result}
+use Rattle.std.specs.FinMap.{empty, contains_key, insert, entries}
+use Rattle.serde_json.specs.Data.{Data, Members}
+use Rattle.serde_json.specs.Find as find
+use Rattle.serde_json.specs.Find.{as_str}
+use Rattle.ov_specs.specs.operations.Errors.{OpError, SyntaxError, DuplicateName, DuplicateUuid, ResourcesExhausted}
+use Rattle.ov_specs.specs.operations.GivenRow.{may_be_new, given_values}
+use Rattle.ov_specs.specs.operations.NamedUuids.{is_declared_before, id_at}
+use Rattle.ov_specs.specs.operations.Operation.{and_then_columns, with_defaults, insert_result}
+use Rattle.ov_specs.specs.operations.OpOutcome.{OpContext, OpOutcome, Done, Fault, names_in, object_at, some_or_fault, ok_or_fault, unless_fault, on_table}
+use Rattle.ov_specs.specs.rows.Database.{Columns, Database}
+use Rattle.ov_specs.specs.rows.Version.{row_now}
+use Rattle.ov_specs.specs.schema.SchemaTypes.{Table}
+use Rattle.ov_specs.specs.values.Uuid.{Uuid, is_id, Names}
+use Rattle.ov_specs.specs.wire.Message.{has_member}
+
+-- what is wrong with a text as the name of a new row: it is no <id>, or an earlier operation has declared it
+abbrev pub name_text_fault : OpContext → ℕ → Option (List ℕ) → Option OpError
+name_text_fault c place None = Some SyntaxError
+name_text_fault c place (Some name) =
+    if not (is_id name) then Some SyntaxError else (if is_declared_before name place c.operations then Some DuplicateName else None)
+
+-- what is wrong with "uuid-name", which may be left out (RFC 7047, 5.2.1)
+abbrev pub name_fault : OpContext → ℕ → Option Data → Option OpError
+name_fault c place None = None
+name_fault c place (Some d) = name_text_fault c place (as_str d)
+
+-- all columns of a new row: those that are given, and then the defaults of the others (RFC 7047, 5.2.1)
+abbrev pub new_row : Names → Table → Members → Result Columns OpError
+new_row names table members = and_then_columns (given_values may_be_new names table members empty) (λ columns. with_defaults (entries table.columns) columns)
+
+-- The row under its identifier, which no row of the table may have. Each insert has one drawn, so there always is one.
+abbrev pub put_new : OpContext → Database → List ℕ → Columns → Option Uuid → OpOutcome
+put_new c rows table columns None = Fault ResourcesExhausted
+put_new c rows table columns (Some id) =
+    if contains_key rows (table, id) then Fault DuplicateUuid
+    else Done (insert_result id) (insert rows (table, id) (row_now c.before c.version (table, id) columns))
+
+-- The insert at this place of the transaction. Its members are looked at in this order: "table"; "uuid", which can't be chosen yet;
+-- "uuid-name"; "row" (RFC 7047, 5.2.1; the order is our own).
+abbrev pub insert_outcome : OpContext → ℕ → Database → Data → OpOutcome
+insert_outcome c place rows d = on_table c d (λ name table.
+    if has_member (codes "uuid") d then Fault SyntaxError
+    else unless_fault (name_fault c place (find.get (codes "uuid-name") d)) (
+    some_or_fault (object_at (codes "row") d) SyntaxError (λ members.
+    ok_or_fault (new_row (names_in c) table members) (λ columns. put_new c rows name columns (id_at c.ids c.operations place)))))
