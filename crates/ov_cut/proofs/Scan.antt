@@ -1,15 +1,17 @@
--- How the scan goes on by one byte.
-use Rattle.std.proofs.Common.{◌≡◌, ◌≢◌, ℕ, ◌+◌, ◌-◌, ◌<◌, ◌≤◌, List, [], ◌∷◌, ◌++◌, length, get_or, take, drop, refl, sym, ap, ◌∙◌, append_assoc, cond, eqb, Bool, true, false, ◌&&◌, Option, Some, None, option_map, inl, inr, arith, subst}
+-- How a message and the white space before one go on.
+use Rattle.std.proofs.Common.{◌≡◌, ◌≢◌, ℕ, ◌+◌, ◌-◌, ◌<◌, ◌≤◌, min, List, [], ◌∷◌, ◌++◌, length, get_or, take, drop, refl, sym, ap, ◌∙◌, append_assoc, cond, eqb, Bool, true, false, ◌&&◌, Option, Some, None, option_map, inl, inr, arith, subst}
 use Rattle.std.specs.Prelude.{count_by, slice_get}
 use Rattle.std.proofs.lemmas.Bool.Decides.{nat_tests}
 use Rattle.std.proofs.lemmas.Bool.{eq-eqb, ne_eqb, le-ltb, lt-ltb, cases_eq, and_from, and_right}
 use Rattle.std.proofs.lemmas.List.Sums.{sum_by-append}
-use Rattle.std.proofs.lemmas.List.{append-nil, take_more, drop_more, length_push, length-take}
-use Rattle.ov_specs.specs.wire.Balance.{bare, behind_quote, behind_backslash, has_equal_braces, is_balanced}
-use Rattle.ov_specs.specs.wire.Cut.{cut_from, after_byte, after_byte_inside, with_message, TooLong}
+use Rattle.std.proofs.lemmas.List.Elements.{All-head, All-tail}
+use Rattle.std.proofs.lemmas.List.{append-nil, take_more, drop_more, drop-take, take-take, take-append-drop, length_push, length-append, length-take}
+use Rattle.ov_specs.specs.wire.Balance.{bare, behind_quote, behind_backslash, has_equal_braces, is_balanced, is_space}
+use Rattle.ov_specs.specs.wire.Cut.{AllSpace, cut_from, after_byte, after_byte_inside, with_message, with_messages, continue_cut, max_message, Stray, TooLong}
+use Rattle.ov_specs.proofs.laws.Cuts.{cut_append}
 use Rattle.ov_cut.specs.declared.message.Mode.{Mode}
 use Rattle.ov_cut.specs.declared.message.Mode.TheVariants.{Outside, InLiteral, Escaped}
-use Rattle.ov_cut.specs.Message.{mode_after, bare_in, LeavesMode}
+use Rattle.ov_cut.specs.Message.{mode_after, bare_in, LeavesMode, IsBegunAs, Brings}
 
 -- ---- one more byte of a message
 
@@ -131,38 +133,96 @@ run_whole most at begun x s some short balanced = rw (next_is most at begun x so
 pub run_more : (most at : ℕ) (begun : List ℕ) (x : ℕ) (s : List ℕ) → 0 < length begun → length (begun ++ x ∷ []) ≤ most → is_balanced (begun ++ x ∷ []) ≡ false → cut_from most at begun (x ∷ s) ≡ cut_from most (at + 1) (begun ++ x ∷ []) s
 run_more most at begun x s some short unbalanced = rw (next_is most at begun x some, le-ltb most _ short, unbalanced) refl
 
--- ---- what the loop needs
+-- ---- one text behind another
 
-pub start_run : (most at : ℕ) (text : List ℕ) → slice_get text 0 ≡ Some 123 → cut_from most at [] text ≡ cut_from most (at + 1) (take 1 text) (drop 1 text)
-start_run most at [] h = cc
-start_run most at (x ∷ text) h = let e : x ≡ 123 = cc in rw e refl
+-- the cut behind what a text begins with
+pub goes_on : (front p q : List ℕ) (messages : List (List ℕ)) (rest : List ℕ) (at : ℕ) → Brings front p messages rest → cut_from max_message at front (p ++ q) ≡ with_messages messages (cut_from max_message (at + length p) rest q)
+goes_on front p q messages rest at b = cut_append max_message at front p q ∙ ap (λ k. continue_cut k (λ r. cut_from max_message (at + length p) r q)) (b at)
 
-pub start_leaves : (text : List ℕ) → slice_get text 0 ≡ Some 123 → LeavesMode (take 1 text) Outside 1
-start_leaves [] h = cc
-start_leaves (x ∷ text) h = let e : x ≡ 123 = cc in rw e (record { kept = 123 ∷ []; reads = λ more. refl; braces = refl })
+pub brings_then : (front p q : List ℕ) (messages : List (List ℕ)) (mid rest : List ℕ) → Brings front p [] mid → Brings mid q messages rest → Brings front (p ++ q) messages rest
+brings_then front p q messages mid rest a b = λ at. goes_on front p q [] mid at a ∙ ap (with_messages []) (b (at + length p))
 
-module _ (text : List ℕ) (i : ℕ) (mode : Mode) (depth : ℕ) (p : Mode × ℕ) (within : i < length text) (some : 0 < i) (is : p ≡ mode_after mode depth (get_or text i 0)) (l : LeavesMode (take i text) mode depth) (low : 0 < depth) where
-  pub scan_leaves : LeavesMode (take (i + 1) text) p.0 p.1
-  scan_leaves = rw (take_more text i 0 within, is) (leaves_more (take i text) mode depth (get_or text i 0) low l)
+pub take_add : (m n : ℕ) (xs : List ℕ) → take m xs ++ take n (drop m xs) ≡ take (m + n) xs
+take_add m n xs = let le : m ≤ m + n = omega arith in rw (← drop-take m n xs, ← take-take m (m + n) xs le) (take-append-drop m (take (m + n) xs))
 
-  balanced : is_balanced (take i text ++ get_or text i 0 ∷ []) ≡ (is_outside p.0 && eqb p.1 0)
-  balanced = ap is_balanced (sym (take_more text i 0 within)) ∙ balanced_by (take (i + 1) text) p.0 p.1 scan_leaves
+pub take_and_rest : (text : List ℕ) (i : ℕ) → i < length text → take i text ++ (get_or text i 0 ∷ drop (i + 1) text) ≡ text
+take_and_rest text i within = rw (← drop_more text i 0 within) (take-append-drop i text)
 
-  len : length (take i text ++ get_or text i 0 ∷ []) ≡ i + 1
-  len = simp (length_push, length-take) (omega arith)
+-- ---- white space
 
-  at_more : (at : ℕ) → (at + i) + 1 ≡ at + (i + 1)
-  at_more at = omega arith
+pub gap_brings : (gap : List ℕ) → AllSpace gap → Brings [] gap [] []
+gap_brings [] h = λ at. refl
+gap_brings (x ∷ gap) h = λ at. rw (All-head (λ y. is_space y ≡ true) x gap h) (gap_brings gap (All-tail (λ y. is_space y ≡ true) x gap h) (at + 1))
 
-  pub scan_more : (most at : ℕ) → i < most → 0 < p.1 → cut_from most (at + i) (take i text) (drop i text) ≡ cut_from most (at + (i + 1)) (take (i + 1) text) (drop (i + 1) text)
-  scan_more most at short deep = rw (drop_more text i 0 within, take_more text i 0 within, ← at_more at)
-      (run_more most (at + i) (take i text) (get_or text i 0) (drop (i + 1) text) (rw length-take (omega arith)) (rw len (omega arith)) (balanced ∙ and_right _ _ (ne_eqb p.1 0 (λ e. omega arith))))
+-- a byte that begins no message
+pub stray_brings : (text : List ℕ) (n : ℕ) → n < length text → AllSpace (take n text) → is_space (get_or text n 0) ≡ false → get_or text n 0 ≢ 123 → (at : ℕ) → cut_from max_message at [] text ≡ record { messages = []; rest = []; damage = Some (Stray (at + n)) }
+stray_brings text n within gap no_space no_brace at =
+    ap (cut_from max_message at []) (sym (take_and_rest text n within))
+    ∙ (goes_on [] (take n text) (get_or text n 0 ∷ drop (n + 1) text) [] [] at (gap_brings (take n text) gap)
+    ∙ (rw (no_space, ne_eqb _ 123 no_brace, length-take) (let e : min n (length text) ≡ n = omega arith in ap (λ k. record { messages = []; rest = []; damage = Some (Stray (at + k)) }) e)))
 
-  pub scan_whole : (most at : ℕ) → i < most → p.1 ≡ 0 → cut_from most (at + i) (take i text) (drop i text) ≡ with_message (take (i + 1) text) (cut_from most (at + (i + 1)) [] (drop (i + 1) text))
-  scan_whole most at short zero = rw (drop_more text i 0 within, take_more text i 0 within, ← at_more at)
-      (run_whole most (at + i) (take i text) (get_or text i 0) (drop (i + 1) text) (rw length-take (omega arith)) (rw len (omega arith))
+-- ---- the brace of a message
+
+pub first_leaves : (text : List ℕ) → slice_get text 0 ≡ Some 123 → LeavesMode (take 1 text) Outside 1
+first_leaves [] h = cc
+first_leaves (x ∷ text) h = let e : x ≡ 123 = cc in rw e (record { kept = 123 ∷ []; reads = λ more. refl; braces = refl })
+
+pub first_brings : (text : List ℕ) → slice_get text 0 ≡ Some 123 → Brings [] (take 1 text) [] (take 1 text)
+first_brings [] h = cc
+first_brings (x ∷ text) h = let e : x ≡ 123 = cc in rw e (λ at. refl)
+
+pub first_length : (text : List ℕ) → slice_get text 0 ≡ Some 123 → length (take 1 text) ≡ 1
+first_length [] h = cc
+first_length (x ∷ text) h = refl
+
+pub first_some : (text : List ℕ) → slice_get text 0 ≡ Some 123 → 0 < length text
+first_some [] h = cc
+first_some (x ∷ text) h = omega arith
+
+pub first_begun : (text : List ℕ) → slice_get text 0 ≡ Some 123 → IsBegunAs (take 1 text) (record { mode = Outside; depth = 1 })
+first_begun text h = record {
+  leaves = first_leaves text h;
+  low = omega arith;
+  high = omega (arith, first_length text h);
+  short = omega (arith, first_length text h);
+}
+
+-- ---- one more byte behind a message that has begun
+
+module _ (front text : List ℕ) (i : ℕ) (mode : Mode) (depth : ℕ) (p : Mode × ℕ) (within : i < length text) (some : 0 < length front) (is : p ≡ mode_after mode depth (get_or text i 0)) (l : LeavesMode (front ++ take i text) mode depth) (low : 0 < depth) where
+  more_is : front ++ take (i + 1) text ≡ (front ++ take i text) ++ get_or text i 0 ∷ []
+  more_is = ap (λ t. front ++ t) (take_more text i 0 within) ∙ sym (append_assoc front (take i text) (get_or text i 0 ∷ []))
+
+  pub scan_leaves : LeavesMode (front ++ take (i + 1) text) p.0 p.1
+  scan_leaves = rw (more_is, is) (leaves_more (front ++ take i text) mode depth (get_or text i 0) low l)
+
+  balanced : is_balanced ((front ++ take i text) ++ get_or text i 0 ∷ []) ≡ (is_outside p.0 && eqb p.1 0)
+  balanced = ap is_balanced (sym more_is) ∙ balanced_by (front ++ take (i + 1) text) p.0 p.1 scan_leaves
+
+  len : length ((front ++ take i text) ++ get_or text i 0 ∷ []) ≡ length front + (i + 1)
+  len = simp (length_push, length-append, length-take) (omega arith)
+
+  begun : 0 < length (front ++ take i text)
+  begun = simp length-append (omega arith)
+
+  pub scan_more : length front + i < max_message → 0 < p.1 → Brings front (take i text) [] (front ++ take i text) → Brings front (take (i + 1) text) [] (front ++ take (i + 1) text)
+  scan_more short deep run = λ at.
+      ap (cut_from max_message at front) (take_more text i 0 within)
+      ∙ (goes_on front (take i text) (get_or text i 0 ∷ []) [] (front ++ take i text) at run
+      ∙ (ap (with_messages []) (run_more max_message (at + length (take i text)) (front ++ take i text) (get_or text i 0) [] begun (rw len (omega arith)) (balanced ∙ and_right _ _ (ne_eqb p.1 0 (λ e. omega arith))))
+      ∙ ap (λ r. record { messages = []; rest = r; damage = None }) (sym more_is)))
+
+  pub scan_whole : length front + i < max_message → p.1 ≡ 0 → Brings front (take i text) [] (front ++ take i text) → Brings front (take (i + 1) text) ((front ++ take (i + 1) text) ∷ []) []
+  scan_whole short zero run = λ at.
+      ap (cut_from max_message at front) (take_more text i 0 within)
+      ∙ (goes_on front (take i text) (get_or text i 0 ∷ []) [] (front ++ take i text) at run
+      ∙ (ap (with_messages []) (run_whole max_message (at + length (take i text)) (front ++ take i text) (get_or text i 0) [] begun (rw len (omega arith))
       (balanced ∙ and_from _ _ (ap (λ (q : Mode × ℕ). is_outside q.0) is ∙ closes_outside mode depth (get_or text i 0) low (ap (λ (q : Mode × ℕ). q.1) (sym is) ∙ zero)) (eq-eqb p.1 0 zero)))
+      ∙ ap (λ m. record { messages = m ∷ []; rest = []; damage = None }) (sym more_is)))
 
-  pub scan_long : (most at : ℕ) → most ≤ i → cut_from most (at + i) (take i text) (drop i text) ≡ record { messages = []; rest = []; damage = Some TooLong }
-  scan_long most at long = rw (drop_more text i 0 within)
-      (run_long most (at + i) (take i text) (get_or text i 0) (drop (i + 1) text) (rw length-take (omega arith)) (rw len (omega arith)))
+-- a message with more bytes than it may have
+pub scan_long : (front text : List ℕ) (i : ℕ) → i < length text → 0 < length front → max_message ≤ length front + i → Brings front (take i text) [] (front ++ take i text) → (at : ℕ) → cut_from max_message at front text ≡ record { messages = []; rest = []; damage = Some TooLong }
+scan_long front text i within some long run at =
+    ap (cut_from max_message at front) (sym (take_and_rest text i within))
+    ∙ (goes_on front (take i text) (get_or text i 0 ∷ drop (i + 1) text) [] (front ++ take i text) at run
+    ∙ ap (with_messages []) (run_long max_message (at + length (take i text)) (front ++ take i text) (get_or text i 0) (drop (i + 1) text) (simp length-append (omega arith)) (simp (length_push, length-append, length-take) (omega arith))))

@@ -14,11 +14,13 @@ fault_of_damage None = None
 fault_of_damage (Some (Stray offset)) = Some (fault.Damaged (offset_in_64_bits offset))
 fault_of_damage (Some TooLong) = Some fault.TooLong
 
--- what a cutter has: where in the stream its rest begins, the rest, which is a message that has begun, and the fault
+-- what a cutter has: where in the stream its rest begins, the rest, which is a message that has begun, the fault, and at how many
+-- bytes it looked
 pub record CutterState : Type 0 where
   pub start : ℕ
   pub rest : List ℕ
   pub fault : Option CutFault
+  pub looked : ℕ
 
 -- The cutter was given this stream and gave these messages: they, its rest and its fault are those of the cut of the stream.
 -- With the fault `Memory` it stands for no stream.

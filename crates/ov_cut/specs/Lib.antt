@@ -1,5 +1,4 @@
+pub mod Gap
 pub mod Message
-pub mod Front
-pub mod Taking
 pub mod CutterState
-pub mod AfterPiece
+pub mod Piece

@@ -1,17 +1,12 @@
--- What the scan of a message finds; for private clauses.
-use Rattle.std.specs.Prelude.{◌≡◌, ℕ, ◌+◌, ◌-◌, ◌<◌, ◌≤◌, ◌==◌, List, [], ◌++◌, length, take, drop, if◌then◌else◌, Option, Some, None, option_map, count_by}
+-- How a message goes on; for private clauses.
+use Rattle.std.specs.Prelude.{◌≡◌, ℕ, ◌+◌, ◌-◌, ◌<◌, ◌≤◌, ◌==◌, List, [], ◌∷◌, ◌++◌, length, take, if◌then◌else◌, Option, Some, None, option_map, count_by}
 use Rattle.ov_specs.specs.wire.Balance.{bare, behind_quote, behind_backslash}
-use Rattle.ov_specs.specs.wire.Cut.{cut_from, with_message, max_message, TooLong}
+use Rattle.ov_specs.specs.wire.Cut.{cut_from, max_message, TooLong}
 use Rattle.ov_cut.specs.declared.message.Found.{Found}
 use Rattle.ov_cut.specs.declared.message.Found.TheVariants as found
 use Rattle.ov_cut.specs.declared.message.Mode.{Mode}
 use Rattle.ov_cut.specs.declared.message.Mode.TheVariants.{Outside, InLiteral, Escaped}
-
--- the cut of a text that begins with a brace, by what the scan found
-abbrev pub Finds : List ℕ → Found → Type 0
-Finds text (found.Whole n) = (0 < n) × (n ≤ length text) × ((at : ℕ) → cut_from max_message at [] text ≡ with_message (take n text) (cut_from max_message (at + n) [] (drop n text)))
-Finds text found.Begun = (at : ℕ) → cut_from max_message at [] text ≡ record { messages = []; rest = text; damage = None }
-Finds text found.TooLong = (at : ℕ) → cut_from max_message at [] text ≡ record { messages = []; rest = []; damage = Some TooLong }
+use Rattle.ov_cut.specs.declared.message.Scan.{Scan}
 
 -- what one more byte does to the mode and to the number of open braces
 abbrev pub mode_after : Mode → ℕ → ℕ → Mode × ℕ
@@ -30,3 +25,31 @@ pub record LeavesMode (text : List ℕ) (mode : Mode) (depth : ℕ) : Type 0 whe
   pub kept : List ℕ
   pub reads : (more : List ℕ) → bare (text ++ more) ≡ option_map (λ rest. kept ++ rest) (bare_in mode more)
   pub braces : count_by (λ x. x == 123) kept ≡ count_by (λ x. x == 125) kept + depth
+
+-- a message has begun with this text, which leaves it there
+pub record IsBegunAs (text : List ℕ) (scan : Scan) : Type 0 where
+  pub leaves : LeavesMode text scan.mode scan.depth
+  pub low : 0 < scan.depth
+  pub high : scan.depth ≤ length text
+  pub short : length text ≤ max_message
+
+-- no message has begun, or one with this rest, which leaves it there
+abbrev pub IsLeftAs : List ℕ → Option Scan → Type 0
+IsLeftAs rest None = rest ≡ []
+IsLeftAs rest (Some scan) = IsBegunAs rest scan
+
+-- behind this front the text brings these messages, and leaves this rest
+abbrev pub Brings : List ℕ → List ℕ → List (List ℕ) → List ℕ → Type 0
+Brings front text messages rest = (at : ℕ) → cut_from max_message at front text ≡ record { messages = messages; rest = rest; damage = None }
+
+-- what comes of a message that has begun with this front, where this text follows
+abbrev pub Finds : List ℕ → List ℕ → Found → Type 0
+Finds front text (found.Whole n) = (0 < n) × (n ≤ length text) × Brings front (take n text) ((front ++ take n text) ∷ []) []
+Finds front text (found.Begun scan) = IsBegunAs (front ++ text) scan × Brings front text [] (front ++ text)
+Finds front text found.TooLong = (at : ℕ) → cut_from max_message at front text ≡ record { messages = []; rest = []; damage = Some TooLong }
+
+-- how often it was looked: at each byte of the text up to the message's end
+abbrev pub LooksForEnd : ℕ → List ℕ → Found → ℕ → Type 0
+LooksForEnd old text (found.Whole n) new = new ≡ old + n
+LooksForEnd old text (found.Begun scan) new = new ≡ old + length text
+LooksForEnd old text found.TooLong new = new ≤ old + length text

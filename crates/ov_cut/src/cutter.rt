@@ -1,13 +1,17 @@
-ghost use Rattle.std.specs.Prelude.{◌≡◌, ◌≢◌, ◌+◌, ◌≤◌, ℕ, List, [], ◌++◌, Some, IsSome, length, drop, if◌then◌else◌};
+ghost use Rattle.std.specs.Prelude.{◌≡◌, ◌≢◌, ◌↔◌, ◌+◌, ◌<◌, ◌≤◌, ℕ, List, [], ◌++◌, Some, None, IsSome, IsTrue, length, take, slice_get};
 ghost use Rattle.ov_specs.specs.wire.Cut.{cut};
 ghost use Rattle.ov_cut.specs.CutterState.{StandsFor, IsBeginning, offset_in_64_bits};
-ghost use Rattle.ov_cut.specs.AfterPiece.{with_fault, after_taking, with_piece};
+ghost use Rattle.ov_cut.specs.Message.{IsBegunAs};
+ghost use Rattle.ov_cut.specs.Piece.{with_fault, advanced, KeepsMore, GivesMessage, TakesPiece, TakesFront, LooksAtFront};
 
 use crate::fault::CutFault;
-use crate::take::{CutEnd, Taken, take_messages};
+use crate::looks::Looks;
+use crate::message::{FIRST, Found, Scan, find_end};
+use crate::space::{Gap, find_gap};
 use ov_base::Bytes;
 use std::alloc::Global;
 use std::marker::Model;
+use std::mem;
 
 /// What a piece of a stream brought.
 #[derive(Drop)]
@@ -23,7 +27,10 @@ pub struct Fed {
 pub struct Cutter {
     start: u64,
     rest: Vec<u8>,
+    /// Where the rest leaves the message that has begun, so that no byte of it is looked at again.
+    scan: Option<Scan>,
     fault: Option<CutFault>,
+    looks: Looks,
 }
 
 impl Model for Cutter {
@@ -31,19 +38,24 @@ impl Model for Cutter {
 
     ghost Value = { CutterState };
 
-    ghost view = { λ c. record { start = c.start; rest = c.rest.items; fault = c.fault } };
+    ghost use Rattle.ov_cut.specs.Message.{IsLeftAs};
+
+    ghost view = { λ c. record { start = c.start; rest = c.rest.items; fault = c.fault; looked = c.looks } };
+
+    ghost invariant = { λ c. IsLeftAs c.rest.items c.scan };
 }
 
 impl Cutter {
     /// A cutter of a stream of which nothing has come. It takes no memory before the first piece.
-    #[tactic(auto, using(crate::proofs::Feeding::stands_for_nothing))]
     pub fn new(alloc: Global) -> Cutter
         ensures { StandsFor [] [] result }
     {
         Cutter {
             start: 0,
             rest: Vec::new(alloc),
+            scan: None,
             fault: None,
+            looks: Looks::new(),
         }
     }
 
@@ -71,61 +83,200 @@ impl Cutter {
         // With a fault no more messages come, and each later call gives the same fault.
         ensures over_messages { IsSome self.old.fault → result.messages.items ≡ [] }
         ensures over_state { IsSome self.old.fault → self.new ≡ self.old }
-    {
-        if self.fault.is_some() {
-            return self.report(Vec::new(alloc));
-        }
-        if !self.take_in(piece) {
-            return self.report(Vec::new(alloc));
-        }
-        let Taken {
-            messages,
-            used,
-            end,
-        } = take_messages(alloc, &self.rest);
-        self.finish_piece(used, end);
-        self.report(messages)
-    }
 
-    /// These messages, and the fault that the cutter has now.
-    fn report(&self, messages: Vec<Bytes>) -> Fed
-        ensures { result ≡ record { messages = messages; fault = self.now.fault } }
+        // Each byte of the piece is looked at at most once, and those of earlier pieces no more; with no fault, each is.
+        ensures looked { self.new.looked ≤ self.old.looked + length piece.now }
+        ensures looked_at_all { self.new.fault ≡ None → self.new.looked ≡ self.old.looked + length piece.now }
     {
+        let mut messages = Vec::new(alloc);
+        let mut used = 0;
+        'fronts: while used < piece.len() && !self.is_over() {
+            used += self.feed_front(alloc, &mut messages, &piece[used..]);
+        }
         Fed {
             messages,
             fault: self.fault,
         }
     }
 
-    /// Puts the piece behind the rest, where there is memory for it.
-    fn take_in(&mut self, piece: &[u8]) -> bool
-        ensures { self.new ≡ with_piece result self.old piece.now }
+    /// Whether no more messages come.
+    fn is_over(&self) -> bool
+        ensures { IsTrue result ↔ IsSome self.now.fault }
     {
-        let is_in = self.rest.extend_from_slice(piece).is_ok();
-        if !is_in {
-            self.fail(CutFault::Memory);
-        }
-        is_in
+        self.fault.is_some()
     }
 
-    /// Lets go of the bytes that were used, and keeps the fault at which the taking stopped.
-    fn finish_piece(&mut self, used: usize, end: CutEnd)
-        requires { used ≤ length self.old.rest }
-        ensures { self.new ≡ after_taking self.old used end }
+    /// Takes the piece up to the end of its first message, or all of it where none ends in it or there is a fault.
+    /// Says how many bytes that are.
+    fn feed_front(&mut self, alloc: Global, messages: &mut Vec<Bytes>, piece: &[u8]) -> usize
+        requires sound { self.old.fault ≡ None }
+        requires some { 0 < length piece.now }
+        ensures within { result ≤ length piece.now }
+        ensures more { 0 < result }
+        ensures takes { TakesPiece self.old messages.old.items (take result piece.now) self.new messages.new.items }
+        ensures looked { self.new.looked ≤ self.old.looked + result }
+        ensures looked_at_all { self.new.fault ≡ None → self.new.looked ≡ self.old.looked + result }
     {
-        self.start = moved(self.start, used);
-        match end {
-            CutEnd::End => remove_front(&mut self.rest, used),
-            CutEnd::Stray => self.fail(CutFault::Damaged(self.start)),
-            CutEnd::TooLong => self.fail(CutFault::TooLong),
-            CutEnd::Memory => self.fail(CutFault::Memory),
+        match self.take_front(alloc, messages, piece) {
+            Ok(len) => len,
+            Err(fault) => {
+                self.fail(fault);
+                piece.len()
+            }
         }
+    }
+
+    /// Takes the piece up to the end of its first message, or all of it where none ends in it.
+    fn take_front(
+        &mut self,
+        alloc: Global,
+        messages: &mut Vec<Bytes>,
+        piece: &[u8],
+    ) -> Result<usize, CutFault>
+        requires sound { self.old.fault ≡ None }
+        requires some { 0 < length piece.now }
+        ensures takes { TakesFront self.old messages.old.items piece.now result self.new messages.new.items }
+        ensures looked { LooksAtFront self.old.looked piece.now result self.new.looked }
+    {
+        let Some(scan) = self.scan else {
+            return self.take_gap(alloc, messages, piece);
+        };
+        match find_end(&mut self.looks, &self.rest, scan, piece) {
+            Found::Whole(len) => {
+                self.end_message(alloc, messages, &piece[..len])?;
+                Ok(len)
+            }
+            Found::Begun(scan) => {
+                self.keep(scan, piece)?;
+                Ok(piece.len())
+            }
+            Found::TooLong => Err(CutFault::TooLong),
+        }
+    }
+
+    /// The same where no message has begun.
+    fn take_gap(
+        &mut self,
+        alloc: Global,
+        messages: &mut Vec<Bytes>,
+        piece: &[u8],
+    ) -> Result<usize, CutFault>
+        requires sound { self.old.fault ≡ None }
+        requires between { self.old.rest ≡ [] }
+        requires some { 0 < length piece.now }
+        ensures takes { TakesFront self.old messages.old.items piece.now result self.new messages.new.items }
+        ensures looked { LooksAtFront self.old.looked piece.now result self.new.looked }
+    {
+        match find_gap(&mut self.looks, piece) {
+            Gap::Space => {
+                self.advance(piece.len());
+                Ok(piece.len())
+            }
+            Gap::Brace(gap) => {
+                self.advance(gap);
+                Ok(gap + self.take_message(alloc, messages, &piece[gap..])?)
+            }
+            Gap::Stray(gap) => Err(CutFault::Damaged(moved(self.start, gap))),
+        }
+    }
+
+    /// The same where the piece begins with the brace of a message, which was looked at.
+    fn take_message(
+        &mut self,
+        alloc: Global,
+        messages: &mut Vec<Bytes>,
+        piece: &[u8],
+    ) -> Result<usize, CutFault>
+        requires sound { self.old.fault ≡ None }
+        requires between { self.old.rest ≡ [] }
+        requires brace { slice_get piece.now 0 ≡ Some 123 }
+        ensures takes { TakesFront self.old messages.old.items piece.now result self.new messages.new.items }
+        ensures looked { LooksAtFront self.old.looked piece.now result (self.new.looked + 1) }
+    {
+        let (brace, behind) = piece.split_at(1);
+        match find_end(&mut self.looks, brace, FIRST, behind) {
+            Found::Whole(len) => {
+                self.copy_message(alloc, messages, &piece[..len + 1])?;
+                Ok(len + 1)
+            }
+            Found::Begun(scan) => {
+                self.keep(scan, piece)?;
+                Ok(piece.len())
+            }
+            Found::TooLong => Err(CutFault::TooLong),
+        }
+    }
+
+    /// Keeps these bytes behind the rest, where there is memory for them. They leave the message there.
+    fn keep(&mut self, scan: Scan, more: &[u8]) -> Result<(), CutFault>
+        requires { IsBegunAs (self.old.rest ++ more.now) scan }
+        ensures { KeepsMore self.old more.now result self.new }
+    {
+        if self.rest.extend_from_slice(more).is_err() {
+            return Err(CutFault::Memory);
+        }
+        self.scan = Some(scan);
+        Ok(())
+    }
+
+    /// Gives the message that has begun, which these bytes end. The rest itself becomes the message.
+    fn end_message(
+        &mut self,
+        alloc: Global,
+        messages: &mut Vec<Bytes>,
+        end: &[u8],
+    ) -> Result<(), CutFault>
+        ensures { GivesMessage self.old (self.old.rest ++ end.now) messages.old.items result self.new messages.new.items }
+    {
+        if self.rest.extend_from_slice(end).is_err() {
+            return Err(CutFault::Memory);
+        }
+        self.rest.shrink_to_fit();
+        let message = mem::replace(&mut self.rest, Vec::new(alloc));
+        self.scan = None;
+        self.give(messages, Bytes::from_vec(message))
+    }
+
+    /// Gives a message that stands in one piece.
+    fn copy_message(
+        &mut self,
+        alloc: Global,
+        messages: &mut Vec<Bytes>,
+        message: &[u8],
+    ) -> Result<(), CutFault>
+        requires { self.old.rest ≡ [] }
+        ensures { GivesMessage self.old message.now messages.old.items result self.new messages.new.items }
+    {
+        match Bytes::from_slice(alloc, message) {
+            Ok(copy) => self.give(messages, copy),
+            Err(_) => Err(CutFault::Memory),
+        }
+    }
+
+    /// Gives a message, behind which no other has begun.
+    fn give(&mut self, messages: &mut Vec<Bytes>, message: Bytes) -> Result<(), CutFault>
+        requires { self.old.rest ≡ [] }
+        ensures { GivesMessage self.old message messages.old.items result self.new messages.new.items }
+    {
+        self.advance(message.as_slice().len());
+        if messages.push(message).is_err() {
+            return Err(CutFault::Memory);
+        }
+        Ok(())
+    }
+
+    /// The rest begins so many bytes later in the stream.
+    fn advance(&mut self, len: usize)
+        ensures { self.new ≡ advanced self.old len }
+    {
+        self.start = moved(self.start, len);
     }
 
     fn fail(&mut self, fault: CutFault)
         ensures { self.new ≡ with_fault self.old fault }
     {
         self.rest.clear();
+        self.scan = None;
         self.fault = Some(fault);
     }
 }
@@ -135,11 +286,4 @@ fn moved(offset: u64, len: usize) -> u64
     ensures { result ≡ offset_in_64_bits (offset + len) }
 {
     offset.saturating_add(len as u64)
-}
-
-fn remove_front(bytes: &mut Vec<u8>, len: usize)
-    requires { len ≤ length bytes.old.items }
-    ensures { bytes.new.items ≡ drop len bytes.old.items }
-{
-    drop(bytes.drain(..len));
 }

@@ -1,11 +1,13 @@
-ghost use Rattle.std.specs.Prelude.{◌≡◌, ◌<◌, ◌↔◌, slice_get, Some, IsTrue};
+ghost use Rattle.std.specs.Prelude.{◌≡◌, ◌<◌, ◌≤◌, ◌↔◌, length, IsTrue};
 ghost use Rattle.ov_specs.specs.wire.Cut.{max_message};
-ghost use Rattle.ov_cut.specs.Message.{Finds, mode_after};
+ghost use Rattle.ov_cut.specs.Message.{Finds, LooksForEnd, IsBegunAs, mode_after};
+
+use crate::looks::Looks;
 
 /// The longest message, in bytes.
 const MAX_MESSAGE: usize = 1_048_576;
 
-/// Where the bytes so far leave a message.
+/// Whether the next byte stands in a string literal, and behind a backslash there.
 #[derive(Clone, Copy, Debug, PartialEq, Eq)]
 pub(crate) enum Mode {
     Outside,
@@ -13,13 +15,27 @@ pub(crate) enum Mode {
     Escaped,
 }
 
-/// What a text that begins with a brace begins with.
+/// Where its bytes so far leave a message that has begun.
+#[derive(Clone, Copy, Debug, PartialEq, Eq)]
+pub(crate) struct Scan {
+    pub mode: Mode,
+    /// How many braces are open.
+    pub depth: usize,
+}
+
+/// Where its first brace leaves a message.
+pub(crate) const FIRST: Scan = Scan {
+    mode: Mode::Outside,
+    depth: 1,
+};
+
+/// What comes of a message that has begun.
 #[derive(Clone, Copy, Debug, PartialEq, Eq)]
 pub(crate) enum Found {
-    /// A message of this many bytes.
+    /// It ends with this many bytes more.
     Whole(usize),
-    /// A message that has not ended.
-    Begun,
+    /// It has not ended.
+    Begun(Scan),
     TooLong,
 }
 
@@ -33,7 +49,7 @@ fn is_too_long(len: usize) -> bool
 /// One more byte of a message: the mode behind it, and how many braces are open.
 fn next_mode(mode: Mode, depth: usize, byte: u8) -> (Mode, usize)
     requires low { 0 < depth }
-    requires high { depth < max_message }
+    requires high { depth ≤ max_message }
     ensures { result ≡ mode_after mode depth byte }
 {
     match mode {
@@ -52,21 +68,25 @@ fn next_mode(mode: Mode, depth: usize, byte: u8) -> (Mode, usize)
     }
 }
 
-/// The first message of a text that begins with a brace.
-pub(crate) fn find(text: &[u8]) -> Found
-    requires { slice_get text.now 0 ≡ Some 123 }
-    ensures { Finds text.now result }
+/// Looks for the end of a message that has begun with these bytes, in the text behind them. No byte of the front is
+/// looked at again: `begun` is where they leave the message.
+pub(crate) fn find_end(looks: &mut Looks, front: &[u8], begun: Scan, text: &[u8]) -> Found
+    requires { IsBegunAs front.now begun }
+    ensures end { Finds front.now text.now result }
+    ensures looked { LooksForEnd looks.old text.now result looks.new }
 {
-    let mut mode = Mode::Outside;
-    let mut depth = 1;
-    for i in 1..text.len() {
-        if is_too_long(i + 1) {
+    let Scan {
+        mut mode,
+        mut depth,
+    } = begun;
+    for place in 0..text.len() {
+        if is_too_long(front.len() + place + 1) {
             return Found::TooLong;
         }
-        (mode, depth) = next_mode(mode, depth, text[i]);
+        (mode, depth) = next_mode(mode, depth, looks.byte(text, place));
         if depth == 0 {
-            return Found::Whole(i + 1);
+            return Found::Whole(place + 1);
         }
     }
-    Found::Begun
+    Found::Begun(Scan { mode, depth })
 }

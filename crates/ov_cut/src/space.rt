@@ -1,25 +1,40 @@
-ghost use Rattle.std.specs.Prelude.{◌≡◌, ℕ, ◌+◌, ◌<◌, ◌≤◌, [], length, drop, slice_index, false};
+ghost use Rattle.std.specs.Prelude.{◌≡◌};
 ghost use Rattle.ov_specs.specs.wire.Balance.{is_space as is_gap};
-ghost use Rattle.ov_specs.specs.wire.Cut.{cut_from};
+ghost use Rattle.ov_cut.specs.Gap.{IsGap, LooksForGap};
+
+use crate::looks::Looks;
+
+/// What a text begins with, between two messages.
+#[derive(Clone, Copy, Debug, PartialEq, Eq)]
+pub(crate) enum Gap {
+    /// White space, and nothing else.
+    Space,
+    /// White space of this many bytes, and then the brace of a message.
+    Brace(usize),
+    /// White space, and then a byte that begins no message.
+    Stray(usize),
+}
 
 /// White space of JSON (RFC 8259, 2).
-pub(crate) fn is_space(byte: u8) -> bool
+fn is_space(byte: u8) -> bool
     ensures { result ≡ is_gap byte }
 {
     byte == b' ' || byte == b'\t' || byte == b'\n' || byte == b'\r'
 }
 
-/// How many bytes of white space the text begins with.
-pub(crate) fn gap_len(text: &[u8]) -> usize
-    ensures within { result ≤ length text.now }
-    ensures skipped { (most at : ℕ) → cut_from most at [] text.now
-        ≡ cut_from most (at + result) [] (drop result text.now) }
-    ensures stops { result < length text.now → is_gap (slice_index text.now result) ≡ false }
+/// What the text begins with. The byte that ends the white space is looked at too.
+pub(crate) fn find_gap(looks: &mut Looks, text: &[u8]) -> Gap
+    ensures gap { IsGap text.now result }
+    ensures looked { LooksForGap looks.old text.now result looks.new }
 {
-    for (i, byte) in text.iter().enumerate() {
-        if !is_space(*byte) {
-            return i;
+    for place in 0..text.len() {
+        let byte = looks.byte(text, place);
+        if byte == b'{' {
+            return Gap::Brace(place);
+        }
+        if !is_space(byte) {
+            return Gap::Stray(place);
         }
     }
-    text.len()
+    Gap::Space
 }

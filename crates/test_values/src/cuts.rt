@@ -1,15 +1,18 @@
+ghost use Rattle.std.specs.Prelude.{◌+◌, ◌≤◌, length};
+
+use ov_base::Bytes;
 use ov_cut::{CutFault, Cutter};
 use std::alloc::{AllocError, Global};
 use std::test::Fail;
 use test_support::{Scripted, agrees};
 
-/// Two messages, one behind the other.
-const BOTH: &str =
-    r#"{"id":0,"method":"list_dbs","params":[]}{"id":"x","method":"echo","params":["a\"}",{}]}"#;
+/// Three inputs, one behind the other: of one message, of one with a brace in a literal, and of two.
+const JOINED: &str =
+    r#"{"id":0,"method":"list_dbs","params":[]}{"id":"x","method":"echo","params":["a\"}",{}]}{"id":1,"method":"transact","params":["Net",{"op":"insert","table":"Switch","row":{"name":"s1"}}]}{"id":2,"method":"transact","params":["Net",{"op":"select","table":"Switch","where":[]}]}"#;
 
-/// The same, with a bar behind each.
+/// The same, with a bar behind each message.
 const CUT: &str =
-    r#"{"id":0,"method":"list_dbs","params":[]}|{"id":"x","method":"echo","params":["a\"}",{}]}|"#;
+    r#"{"id":0,"method":"list_dbs","params":[]}|{"id":"x","method":"echo","params":["a\"}",{}]}|{"id":1,"method":"transact","params":["Net",{"op":"insert","table":"Switch","row":{"name":"s1"}}]}|{"id":2,"method":"transact","params":["Net",{"op":"select","table":"Switch","where":[]}]}|"#;
 
 /// A brace in a literal, behind an escaped quote, behind an escaped backslash; white space before, between and behind.
 const BRACES: &str = r#"{"a":"}"} -> {"a":"}"}|None
@@ -56,7 +59,7 @@ impl Cut {
         Ok(fed.fault)
     }
 
-    /// Whether the messages of both texts were cut, and nothing is left.
+    /// Whether the messages of all inputs were cut, and nothing is left.
     fn is_whole(&self) -> bool {
         self.messages.as_str() == CUT && self.cutter.rest().is_empty()
     }
@@ -75,19 +78,19 @@ impl Scripted for Cut {
     }
 }
 
-/// Whether both messages are cut, where their bytes come in two pieces.
+/// Whether all messages are cut, where their bytes come in two pieces.
 fn is_cut_at(alloc: Global, place: usize) -> Result<bool, Fail> {
-    let (first, second) = BOTH.split_at_checked(place).ok_or("no place")?;
+    let (first, second) = JOINED.split_at_checked(place).ok_or("no place")?;
     let mut cut = Cut::new(alloc);
     let is_good = cut.feed(alloc, first.as_bytes())?.is_none();
     let is_good_still = cut.feed(alloc, second.as_bytes())?.is_none();
     Ok(is_good && is_good_still && cut.is_whole())
 }
 
-/// Whether both messages are cut, where their bytes come one by one.
+/// Whether all messages are cut, where their bytes come one by one.
 fn is_cut_by_bytes(alloc: Global) -> Result<bool, Fail> {
     let mut cut = Cut::new(alloc);
-    for byte in BOTH.as_bytes() {
+    for byte in JOINED.as_bytes() {
         if cut.feed(alloc, &[*byte])?.is_some() {
             return Ok(false);
         }
@@ -96,15 +99,15 @@ fn is_cut_by_bytes(alloc: Global) -> Result<bool, Fail> {
 }
 
 #[test]
-fn two_messages_may_be_cut_at_any_place(rt: HostRuntime) -> Result<(), Fail> {
-    for place in 0..=BOTH.len() {
+fn joined_inputs_may_be_cut_at_any_place(rt: HostRuntime) -> Result<(), Fail> {
+    for place in 0..=JOINED.len() {
         assert!(rt; is_cut_at(rt.alloc(), place)?, "cut at {place}");
     }
     Ok(())
 }
 
 #[test]
-fn two_messages_may_come_byte_by_byte(rt: HostRuntime) -> Result<(), Fail> {
+fn joined_inputs_may_come_byte_by_byte(rt: HostRuntime) -> Result<(), Fail> {
     assert!(rt; is_cut_by_bytes(rt.alloc())?);
     Ok(())
 }
@@ -140,6 +143,31 @@ fn the_longest_message_is_given(rt: HostRuntime) -> Result<(), Fail> {
     assert_eq!(rt; fed.fault, None);
     assert_eq!(rt; fed.messages.len(), 1);
     assert!(rt; fed.messages[0].as_slice() == text.as_slice());
+    Ok(())
+}
+
+/// The last message that ends where the text comes byte by byte. Each byte is looked at once at most, however many came before.
+fn last_by_bytes(alloc: Global, cutter: &mut Cutter, text: &[u8]) -> Option<Bytes>
+    ensures { cutter.new.looked ≤ cutter.old.looked + length text.now }
+{
+    let mut last = None;
+    for byte in text {
+        let mut fed = cutter.feed(alloc, &[*byte]);
+        if let Some(message) = fed.messages.pop() {
+            last = Some(message);
+        }
+    }
+    last
+}
+
+#[test]
+fn the_longest_message_may_come_byte_by_byte(rt: HostRuntime) -> Result<(), Fail> {
+    let alloc = rt.alloc();
+    let text = long_echo(alloc, 1_048_538)?;
+    let mut cutter = Cutter::new(alloc);
+    let message = last_by_bytes(alloc, &mut cutter, &text).ok_or("no message")?;
+    assert!(rt; message.as_slice() == text.as_slice());
+    assert!(rt; cutter.rest().is_empty());
     Ok(())
 }
 
