@@ -8,3 +8,4 @@ pub mod Ordered
 pub mod Permuting
 pub mod Sorting
 pub mod Ascending
+pub mod Tokens

@@ -13,6 +13,7 @@ mod kind;
 mod names;
 mod order;
 mod read;
+mod text;
 mod two;
 mod write;
 
@@ -24,4 +25,5 @@ pub use identifier::has_sixteen_bytes;
 pub use kind::{AtomKind, Kinds};
 pub use names::{Names, NoNames};
 pub use read::{read_atom, read_datum};
+pub use text::put_datum;
 pub use write::write_datum;

@@ -2,3 +2,4 @@ pub mod Queueing
 pub mod Steps
 pub mod Answered
 pub mod Workings
+mod Framing

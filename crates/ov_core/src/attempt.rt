@@ -7,12 +7,12 @@ ghost use Rattle.ov_core.specs.Handling.{AsksStore, IsAttempt, CommitsWithReply,
 ghost use Rattle.ov_core.specs.Preparing.{AreFrames};
 
 use crate::event::Outcome;
-use crate::frames::{Frames, reply_of};
+use crate::frames::{Frames, failed_reply_of, reply_of};
 use crate::outbox::{Outbox, send};
 use ov_base::{Tree, Trees};
 use ov_db::{Db, Delta, StoreAnswer};
 use ov_keeper::Keeper;
-use ov_txn::{Performed, failed, perform};
+use ov_txn::{Performed, perform};
 use std::alloc::Global;
 use uuid::Uuid;
 
@@ -39,7 +39,7 @@ pub(crate) fn attempt<K: Keeper + Drop>(
         return answer(alloc, outbox, session, id, results);
     }
     if db.sealed() {
-        return answer_failed(alloc, outbox, session, id, &results);
+        return answer_failed(alloc, outbox, session, id, results);
     }
     let Ok(frames) = Frames::new(alloc, id, results) else {
         return Some(Outcome::NoMemory);
@@ -69,12 +69,12 @@ fn answer_failed(
     outbox: &mut Outbox,
     session: u64,
     id: &Tree,
-    results: &Trees,
+    results: Trees,
 ) -> Option<Outcome>
-    ensures { PostsIfRoom (results_to session id.now (failed_results results.now)) outbox.old result outbox.new }
+    ensures { PostsIfRoom (results_to session id.now (failed_results results)) outbox.old result outbox.new }
 {
-    match failed(alloc, results) {
-        Ok(results) => answer(alloc, outbox, session, id, results),
+    match failed_reply_of(alloc, id, results) {
+        Ok(frame) => send(alloc, outbox, session, Some(frame)),
         Err(_) => Some(Outcome::NoMemory),
     }
 }

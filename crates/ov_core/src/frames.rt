@@ -1,15 +1,16 @@
 ghost use Rattle.std.specs.Prelude.{◌≡◌, IfOk};
 ghost use Rattle.serde_json.specs.Data.{array};
 ghost use Rattle.ov_specs.specs.wire.Frame.{frame, reply_tree};
+ghost use Rattle.ov_specs.specs.operations.Transaction.{failed_results};
 ghost use Rattle.ov_core.specs.Preparing.{AreFrames};
 
 use ov_base::{Bytes, Tree, Trees};
-use ov_rpc::reply;
+use ov_rpc::{append_item, reply};
 use ov_txn::{exhausted, failed};
 use std::alloc::{AllocError, Global};
 
 /// The reply to a transaction for each answer of the store. They are made before it is asked, so that nothing takes
-/// memory behind a commit.
+/// memory behind a commit; the results are encoded once.
 #[derive(Drop)]
 pub(crate) struct Frames {
     pub kept: Bytes,
@@ -22,12 +23,14 @@ impl Frames {
     pub fn new(alloc: Global, id: &Tree, results: Trees) -> Result<Frames, AllocError>
         ensures { IfOk result (AreFrames id.now results) }
     {
-        let no_room = exhausted(alloc, &results)?;
-        let broken = failed(alloc, &results)?;
+        let is_first = results.as_slice().is_empty();
+        let kept = reply_of(alloc, id, results)?;
+        let exhausted = append_item(alloc, &kept, is_first, &exhausted(alloc)?)?;
+        let failed = append_item(alloc, &kept, is_first, &failed(alloc)?)?;
         Ok(Frames {
-            kept: reply_of(alloc, id, results)?,
-            exhausted: reply_of(alloc, id, no_room)?,
-            failed: reply_of(alloc, id, broken)?,
+            kept,
+            exhausted,
+            failed,
         })
     }
 }
@@ -37,4 +40,13 @@ pub(crate) fn reply_of(alloc: Global, id: &Tree, results: Trees) -> Result<Bytes
     ensures { IfOk result (λ b. b ≡ frame (reply_tree id.now (array results))) }
 {
     reply(alloc, id.copy()?, results.into_tree())
+}
+
+/// The reply with these results, and the error of a failed commit behind them.
+pub(crate) fn failed_reply_of(alloc: Global, id: &Tree, results: Trees) -> Result<Bytes, AllocError>
+    ensures { IfOk result (λ b. b ≡ frame (reply_tree id.now (array (failed_results results)))) }
+{
+    let is_first = results.as_slice().is_empty();
+    let kept = reply_of(alloc, id, results)?;
+    append_item(alloc, &kept, is_first, &failed(alloc)?)
 }

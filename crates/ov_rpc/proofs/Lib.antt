@@ -1,2 +1,3 @@
 pub mod Members
 pub mod Requests
+pub mod Appending

@@ -1,11 +1,13 @@
 //! Messages and frames of JSON-RPC 1.0: which request a text is, and the bytes of what is sent.
 #![tactic(auto)]
 
+mod append;
 mod fault;
 mod frame;
 mod message;
 mod request;
 
+pub use append::append_item;
 pub use fault::RpcFault;
 pub use frame::{failure, note, reply};
 pub use message::{BadKind, Message};

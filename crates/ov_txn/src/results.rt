@@ -2,8 +2,7 @@ ghost use Rattle.std.specs.Prelude.{◌≡◌, IfOk, OnOk};
 ghost use Rattle.serde_json.specs.Data.{no_items};
 ghost use Rattle.serde_json.specs.View.{view, items_view};
 ghost use Rattle.ov_specs.specs.operations.Errors as spec;
-ghost use Rattle.ov_specs.specs.operations.Transaction.{and_item, and_error};
-ghost use Rattle.ov_specs.specs.operations.Transaction as transaction;
+ghost use Rattle.ov_specs.specs.operations.Transaction.{and_item};
 ghost use Rattle.ov_txn.specs.Errors.{error_view};
 ghost use Rattle.ov_txn.specs.Results.{nulls_after};
 
@@ -43,17 +42,6 @@ impl Results {
         Results {
             items: Vec::new(alloc),
         }
-    }
-
-    /// A copy of these.
-    fn copy_of(alloc: Global, trees: &Trees) -> Result<Results, AllocError>
-        ensures { IfOk result (λ r. r ≡ trees.now) }
-    {
-        let mut items = Vec::new(alloc);
-        for tree in trees.as_slice() {
-            items.push(tree.clone()?)?;
-        }
-        Ok(Results { items })
     }
 
     /// One more, behind the others.
@@ -97,25 +85,16 @@ pub(crate) fn error_tree(alloc: Global, error: OpError) -> Result<Tree, AllocErr
     Ok(Tree::new(error_value(alloc, error)?))
 }
 
-fn and_error(alloc: Global, results: &Trees, error: OpError) -> Result<Trees, AllocError>
-    ensures { IfOk result (λ t. t ≡ and_error results.now (error_view error)) }
+/// The result behind all others where the store has no room for the changes: `resources exhausted` (RFC 7047, 4.1.3).
+pub fn exhausted(alloc: Global) -> Result<Tree, AllocError>
+    ensures { IfOk result (λ t. t ≡ spec.error_tree spec.ResourcesExhausted) }
 {
-    let mut all = Results::copy_of(alloc, results)?;
-    all.push(error_tree(alloc, error)?)?;
-    Ok(all.into_trees())
+    error_tree(alloc, OpError::ResourcesExhausted)
 }
 
-/// What is answered where the store has no room for the changes: a copy of the results with `resources exhausted` behind
-/// them.
-pub fn exhausted(alloc: Global, results: &Trees) -> Result<Trees, AllocError>
-    ensures { IfOk result (λ t. t ≡ transaction.exhausted_results results.now) }
+/// The result behind all others where the store fails: `I/O error` (RFC 7047, 4.1.3).
+pub fn failed(alloc: Global) -> Result<Tree, AllocError>
+    ensures { IfOk result (λ t. t ≡ spec.error_tree spec.InputOutput) }
 {
-    and_error(alloc, results, OpError::ResourcesExhausted)
-}
-
-/// What is answered where the store fails: a copy of the results with `I/O error` behind them (RFC 7047, 4.1.3).
-pub fn failed(alloc: Global, results: &Trees) -> Result<Trees, AllocError>
-    ensures { IfOk result (λ t. t ≡ transaction.failed_results results.now) }
-{
-    and_error(alloc, results, OpError::InputOutput)
+    error_tree(alloc, OpError::InputOutput)
 }

@@ -150,26 +150,15 @@ fn each_refusal_has_its_error(rt: HostRuntime) -> Result<(), Fail> {
     performs(rt.alloc(), REFUSED)
 }
 
-/// What is answered behind these results where the store has no room.
-fn answer_of_exhausted(alloc: Global, results: &Trees) -> Result<String, Fail> {
-    compact(alloc, &exhausted(alloc, results)?.into_tree())
-}
-
-/// What is answered behind them where it fails.
-fn answer_of_failed(alloc: Global, results: &Trees) -> Result<String, Fail> {
-    compact(alloc, &failed(alloc, results)?.into_tree())
-}
-
 #[test]
 fn a_failed_commit_is_answered_behind_the_results(rt: HostRuntime) -> Result<(), Fail> {
-    let results = trees(rt.alloc(), "[{}]")?;
     assert_eq!(rt;
-        answer_of_exhausted(rt.alloc(), &results)?.as_str(),
-        r#"[{},{"error":"resources exhausted"}]"#
+        compact(rt.alloc(), &exhausted(rt.alloc())?)?.as_str(),
+        r#"{"error":"resources exhausted"}"#
     );
     assert_eq!(rt;
-        answer_of_failed(rt.alloc(), &results)?.as_str(),
-        r#"[{},{"error":"I/O error"}]"#
+        compact(rt.alloc(), &failed(rt.alloc())?)?.as_str(),
+        r#"{"error":"I/O error"}"#
     );
     Ok(())
 }

@@ -1,8 +1,9 @@
 ghost use Rattle.std.specs.Prelude.{◌≡◌, option_map};
 
+use json::Writer;
 use ov_atoms::{
     Atom, AtomFault, AtomKind, Datum, Kinds, Names, NoNames, has_sixteen_bytes, is_id, read_atom,
-    read_datum, write_datum,
+    put_datum, read_datum, write_datum,
 };
 use ov_base::Text;
 use serde_json::Value;
@@ -89,9 +90,17 @@ const IDENTIFIERS: &str =
 "550e8400-e29b-41d4-a716-446655440000" -> syntax
 ["named-uuid","a"] -> syntax"#;
 
-/// A value as it is written.
+/// A value as it is written, as a tree and at once.
 fn text_of(alloc: Global, datum: &Datum) -> Result<String, Fail> {
-    Ok(write_datum(alloc, datum)?.to_string(alloc)?)
+    let written = write_datum(alloc, datum)?.to_string(alloc)?;
+    let mut out = Writer::new(Vec::new(alloc));
+    put_datum(&mut out, datum)?;
+    let put = String::from_utf8(out.into_inner())?;
+    if put.as_str() == written.as_str() {
+        Ok(put)
+    } else {
+        Err(Fail::from("the texts differ"))
+    }
 }
 
 /// What a text of these kinds reads as, copied and written again, or the word of its refusal.

@@ -1,5 +1,5 @@
 use ov_base::Bytes;
-use ov_rpc::{failure, note, reply};
+use ov_rpc::{append_item, failure, note, reply};
 use std::alloc::Global;
 use std::test::Fail;
 use test_support::{Scripted, agrees, tree, trees};
@@ -9,7 +9,10 @@ const FRAMES: &str =
     r#"reply [7,{"z":-1,"a":true}] ["OVN_Northbound"] -> {"error":null,"id":[7,{"a":true,"z":-1}],"result":["OVN_Northbound"]}
 failure "x" unknown method -> {"error":"unknown method","id":"x","result":null}
 note echo [] -> {"id":null,"method":"echo","params":[]}
-note locked ["L"] -> {"id":null,"method":"locked","params":["L"]}"#;
+note locked ["L"] -> {"id":null,"method":"locked","params":["L"]}
+append [] {"error":"e"} -> {"error":null,"id":"]}","result":[{"error":"e"}]}
+append [[]] {} -> {"error":null,"id":"]}","result":[[],{}]}
+append [1,"]}"] null -> {"error":null,"id":"]}","result":[1,"]}",null]}"#;
 
 fn text_of(frame: Bytes) -> Result<String, Fail> {
     Ok(String::from_utf8(frame.into_vec())?)
@@ -28,7 +31,15 @@ fn note_of(alloc: Global, method: &str, params: &str) -> Result<String, Fail> {
     text_of(note(alloc, method, trees(alloc, params)?)?)
 }
 
-/// The commands are `reply ID RESULT`, `failure ID ERROR` and `note METHOD PARAMS`.
+/// A reply with these results, and one item more behind them.
+fn appended(alloc: Global, results: &str, item: &str) -> Result<String, Fail> {
+    let results = trees(alloc, results)?;
+    let is_first = results.as_slice().is_empty();
+    let reply = reply(alloc, tree(alloc, "\"]}\"")?, results.into_tree())?;
+    text_of(append_item(alloc, &reply, is_first, &tree(alloc, item)?)?)
+}
+
+/// The commands are `reply ID RESULT`, `failure ID ERROR`, `note METHOD PARAMS` and `append RESULTS ITEM`.
 #[derive(Drop)]
 struct Frames;
 
@@ -39,6 +50,7 @@ impl Scripted for Frames {
         match kind {
             "reply" => reply_of(alloc, first, second),
             "failure" => failure_of(alloc, first, second),
+            "append" => appended(alloc, first, second),
             _ => note_of(alloc, first, second),
         }
     }
