@@ -21,3 +21,4 @@ pub mod SuitingColumns
 pub mod Suiting
 pub mod Nesting
 pub mod Bodies
+pub mod RowNames
