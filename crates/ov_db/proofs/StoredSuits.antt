@@ -63,7 +63,7 @@ module _ (table : Table) (body : Data) where
       subst (λ (columns : Columns). Completes table [] before columns) (same_Some before after h) (record { suits = suits; stays = λ name there. there; has = λ name column own found. cc })
   columns_complete (c ∷ cs) before after stand suits h = one_column c cs before after stand.0 suits h (λ more suits' k. columns_complete cs more after stand.1 suits' k)
 
-  stored_columns_suit : (columns : Columns) → columns_stored body (entries table.columns) empty ≡ Some columns → SuitsTable table columns
+  pub stored_columns_suit : (columns : Columns) → columns_stored body (entries table.columns) empty ≡ Some columns → SuitsTable table columns
   stored_columns_suit columns h = complete_suits table empty columns (columns_complete (entries table.columns) empty columns (each_entry table.columns) (none_suits table) h)
 
 -- ---- a row

@@ -12,7 +12,7 @@ ghost use Rattle.ov_db.specs.Stored.{IsBodyRead, IsPutRead, ArePutRead};
 use crate::delta::Delta;
 use ov_base::{Bytes, Text};
 use ov_keeper::{Change, Line};
-use ov_rows::{Columns, Row, RowKey, Rows};
+use ov_rows::{ColumnNames, Columns, NamedValues, Row, RowKey, Rows};
 use std::alloc::{AllocError, Global};
 use uuid::Uuid;
 
@@ -81,8 +81,9 @@ pub(crate) fn place(
     ensures same { OnOk result (IsSameBeside delta.now rows.old rows.new) }
     ensures placed { OnOk result (IsPlaced delta.now rows.new) }
 {
+    let nothing = ColumnNames::new(alloc, Vec::new(alloc))?;
     for (key, row) in &delta.changes {
-        place_one(alloc, rows, key, row, added)?;
+        place_one(alloc, rows, key, row, &nothing, added)?;
     }
     Ok(())
 }
@@ -93,8 +94,10 @@ fn place_one(
     rows: &mut Rows,
     key: &RowKey,
     row: &Option<Row>,
+    nothing: &ColumnNames,
     added: &mut Vec<RowKey>,
 ) -> Result<(), AllocError>
+    requires { nothing.now ≡ [] }
     ensures added { without_rows added.new.items rows.new ≡ without_rows added.old.items rows.old }
     ensures same { (other : LineKey) → eq_by_cmp line_cmp other key.now ≡ false → get rows.new other ≡ get rows.old other }
     ensures stays { (other : LineKey) → contains_key rows.old other ≡ true → contains_key rows.new other ≡ true }
@@ -103,7 +106,7 @@ fn place_one(
     if row.is_none() || rows.contains(key) {
         return Ok(());
     }
-    place_at(alloc, rows, key, added)
+    place_at(alloc, rows, key, nothing, added)
 }
 
 /// Puts an empty row at a new key, which is listed. Where a growth is refused, nothing is changed.
@@ -111,9 +114,11 @@ fn place_at(
     alloc: Global,
     rows: &mut Rows,
     key: &RowKey,
+    nothing: &ColumnNames,
     added: &mut Vec<RowKey>,
 ) -> Result<(), AllocError>
-    requires { contains_key rows.old key.now ≡ false }
+    requires absent { contains_key rows.old key.now ≡ false }
+    requires nothing { nothing.now ≡ [] }
     ensures added { without_rows added.new.items rows.new ≡ without_rows added.old.items rows.old }
     ensures same { (other : LineKey) → eq_by_cmp line_cmp other key.now ≡ false → get rows.new other ≡ get rows.old other }
     ensures stays { (other : LineKey) → contains_key rows.old other ≡ true → contains_key rows.new other ≡ true }
@@ -123,7 +128,7 @@ fn place_at(
     added.reserve(1)?;
     let row = Row {
         version: Uuid::nil(),
-        columns: Columns::new(alloc),
+        columns: Columns::of(alloc, nothing, NamedValues::new(alloc))?,
     };
     rows.insert(alloc, key, row)?;
     added.push_reserved(listed);

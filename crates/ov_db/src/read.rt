@@ -2,7 +2,6 @@ ghost use Rattle.std.specs.Prelude.{◌≡◌};
 ghost use Rattle.std.specs.FinMap.{empty, entries};
 ghost use Rattle.serde_json.specs.View.{view};
 ghost use Rattle.ov_specs.specs.wire.Message.{tree_of};
-ghost use Rattle.ov_specs.specs.operations.Operation.{is_own_column};
 ghost use Rattle.ov_keeper.specs.Views.{line_entry};
 ghost use Rattle.ov_db.specs.Loading.{IsLoaded};
 ghost use Rattle.ov_db.specs.Stored.{columns_stored, row_of_table, row_stored, value_stored};
@@ -10,8 +9,8 @@ ghost use Rattle.ov_db.specs.Stored.{columns_stored, row_of_table, row_stored, v
 use crate::fault::OpenFault;
 use ov_atoms::{AtomFault, Datum, NoNames, read_datum};
 use ov_keeper::{KeepFault, Line};
-use ov_rows::{Columns, Row};
-use ov_schema::{Column, Schema, Table};
+use ov_rows::{Columns, NamedValues, Row};
+use ov_schema::{Column, Schema, Table, is_own};
 use serde_json::Value;
 use std::alloc::Global;
 
@@ -59,14 +58,22 @@ fn body_of(alloc: Global, body: &[u8]) -> Result<Value, OpenFault>
 fn columns_of(alloc: Global, table: &Table, body: &Value) -> Result<Columns, OpenFault>
     ensures { IsLoaded (λ columns. columns) (columns_stored (view body.now) (entries table.now.columns) empty) result }
 {
-    let mut columns = Columns::new(alloc);
+    let values = values_of(alloc, table, body)?;
+    Ok(Columns::of(alloc, table.names_of_row(), values)?)
+}
+
+/// The values that the body has for the columns of the table but those that rows have by themselves.
+fn values_of(alloc: Global, table: &Table, body: &Value) -> Result<NamedValues, OpenFault>
+    ensures { IsLoaded (λ values. values) (columns_stored (view body.now) (entries table.now.columns) empty) result }
+{
+    let mut values = NamedValues::new(alloc);
     for (name, column) in table.columns() {
         if !is_own(name.as_str()) {
             let datum = value_of(alloc, body, name.as_str(), column)?;
-            columns.insert(String::from_str(alloc, name.as_str())?, datum)?;
+            values.insert(String::from_str(alloc, name.as_str())?, datum)?;
         }
     }
-    Ok(columns)
+    Ok(values)
 }
 
 /// The value that the body has for a column, where it fits.
@@ -81,11 +88,4 @@ fn value_of(alloc: Global, body: &Value, name: &str, column: &Column) -> Result<
         Ok(_) | Err(AtomFault::Syntax | AtomFault::Clash) => Err(OpenFault::BadBody),
         Err(AtomFault::Memory) => Err(OpenFault::Keeping(KeepFault::Memory)),
     }
-}
-
-/// A column that each row has by itself (RFC 7047, 3.2).
-fn is_own(name: &str) -> bool
-    ensures { result ≡ is_own_column name.now }
-{
-    name == "_uuid" || name == "_version"
 }

@@ -1,8 +1,9 @@
 -- The columns of the code as those of the definitions.
-use Rattle.std.proofs.Common.{◌≡◌, ℕ, List, [], ◌∷◌, Bool, false, cond, T, ◌&&◌, ◌||◌, Some, refl, sym, ap, ◌∙◌, String, string_bytes, Global, Ordering, Less, Equal, Greater}
+use Rattle.std.proofs.Common.{◌≡◌, ℕ, List, [], ◌∷◌, map, length, zip, suc, ◌⊎◌, inl, inr, arith, Iter, Bool, true, false, cond, T, ◌&&◌, ◌||◌, Some, refl, sym, ap, subst, ◌∙◌, String, string_bytes, Global, Ordering, Less, Equal, Greater}
+use Rattle.std.specs.declared.iter.Zip.{Zip}
 use Rattle.std.specs.BTreeMap.{insert_entry, is_at}
 use Rattle.std.specs.Cmp.Lexicographic.{pointwise, slice_cmp, nat_list_cmp_total}
-use Rattle.std.specs.FinMap.{find, put, is_sorted, insert, get, entries, get-from_sorted, entries-from_sorted, entries-insert, same_entries_map}
+use Rattle.std.specs.FinMap.{find, put, is_sorted, empty, insert, get, keys, values, entries, entries_sorted, len-entries, len-empty, get-from_sorted, entries-from_sorted, entries-insert, same_entries_map}
 use Rattle.std.specs.FinMap.Entries.{below_all, by_order}
 use Rattle.std.specs.List.{AllByRecursion}
 use Rattle.std.specs.List.Sorted.{IsStrictlySortedBy}
@@ -12,12 +13,14 @@ use Rattle.serde_json.specs.Data.{Members, no_members, member, put as put_member
 use Rattle.ov_specs.specs.schema.SchemaTypes.{name_cmp}
 use Rattle.ov_specs.specs.wire.Tree.{has_real, members_have_real}
 use Rattle.std.specs.Str.{bytes_eq}
-use Rattle.ov_specs.specs.rows.Database.{same_columns}
+use Rattle.ov_specs.specs.rows.Database.{Columns, same_columns}
 use Rattle.ov_specs.specs.values.Value.{Datum, datum_cmp}
-use Rattle.ov_rows.specs.Named.{named, columns_of}
+use Rattle.ov_rows.specs.Named.{named, columns_of, columns_at}
 use Rattle.ov_specs.proofs.laws.Sameness.{datum-tied}
 use Rattle.ov_specs.proofs.laws.Truths.{both_hold}
 use Rattle.std.proofs.lemmas.Bool.{or_parts}
+use Rattle.std.proofs.lemmas.List.{nil_from_length}
+use Rattle.std.proofs.lemmas.Map.Text.{is_eq-slice_cmp}
 
 abbrev name_order : String Global → String Global → Ordering
 name_order a b = name_cmp (string_bytes a) (string_bytes b)
@@ -57,13 +60,103 @@ pub columns_of-insert : (es es' : List (String Global × Datum)) (k : String Glo
 columns_of-insert es es' k v h h' is = same_entries_map _ _
     (entries-columns_of es' h' ∙ ap named is ∙ sym (put-named k v es) ∙ sym (entries-insert nat_list_cmp_total (columns_of es) (string_bytes k) v ∙ ap (put name_cmp (string_bytes k) v) (entries-columns_of es h)))
 
+pub values-named : (es : List (String Global × Datum)) → map (λ e. e.1) es ≡ map (λ e. e.1) (named es)
+values-named [] = refl
+values-named (e ∷ es) = ap (λ vs. e.1 ∷ vs) (values-named es)
+
+pub keys-named : (es : List (String Global × Datum)) → map (λ e. string_bytes e.0) es ≡ map (λ e. e.0) (named es)
+keys-named [] = refl
+keys-named (e ∷ es) = ap (λ ns. string_bytes e.0 ∷ ns) (keys-named es)
+
+-- ---- values at the places of their names
+
+-- the names, each with the value at its place
+abbrev pub paired : List (String Global) → List Datum → List (List ℕ × Datum)
+paired names values = zip (map string_bytes names) values
+
+pub get-columns_at : (names : List (List ℕ)) (values : List Datum) (q : List ℕ) → T (is_sorted name_cmp (zip names values)) → get (columns_at names values) q ≡ find name_cmp q (zip names values)
+get-columns_at names values q h = get-from_sorted name_cmp (zip names values) q h
+
+pub entries-columns_at : (names : List (List ℕ)) (values : List Datum) → T (is_sorted name_cmp (zip names values)) → entries (columns_at names values) ≡ zip names values
+entries-columns_at names values h = entries-from_sorted name_cmp (zip names values) h
+
+-- the first pair has the name that is looked for, or it is found behind
+pub find-paired : (q : List ℕ) (name : String Global) (datum : Datum) (names : List (String Global)) (values : List Datum) (b : Bool) → bytes_eq q (string_bytes name) ≡ b
+    → find name_cmp q (paired (name ∷ names) (datum ∷ values)) ≡ cond b (Some datum) (find name_cmp q (paired names values))
+find-paired q name datum names values b is = ap (λ t. cond t (Some datum) (find name_cmp q (paired names values))) (is_eq-slice_cmp q (string_bytes name) ∙ is)
+
+-- the pairs of entries are the entries
+pub zip-entries : (es : List (List ℕ × Datum)) → zip (map (λ e. e.0) es) (map (λ e. e.1) es) ≡ es
+zip-entries [] = refl
+zip-entries (e ∷ es) = ap (λ xs. e ∷ xs) (zip-entries es)
+
+-- all pairs are still to come
+pub paired-start : (pairs given : Zip (Iter (String Global)) (Iter Datum)) (iterator : Iter (String Global)) (slice : List (String Global)) (names : List (List ℕ)) (values : List Datum)
+    → pairs ≡ given → given.a ≡ iterator → iterator.rest.now ≡ slice → map string_bytes slice ≡ names → given.b.rest.now ≡ values → paired pairs.a.rest.now pairs.b.rest.now ≡ zip names values
+paired-start pairs given iterator slice names values is first rest are second =
+    ap (λ (z : Zip (Iter (String Global)) (Iter Datum)). paired z.a.rest.now z.b.rest.now) is
+    ∙ (λ i. zip ((ap (λ (it : Iter (String Global)). map string_bytes it.rest.now) first ∙ ap (map string_bytes) rest ∙ are) i) (second i))
+
+-- no pair is left where no name or no value is left
+pub paired-end : (names : List (String Global)) (values : List Datum) → (names ≡ []) ⊎ (values ≡ []) → paired names values ≡ []
+paired-end names values (inl is) = ap (λ ns. paired ns values) is
+paired-end [] values (inr is) = refl
+paired-end (name ∷ names) values (inr is) = ap (paired (name ∷ names)) is
+
+-- ---- values with their names apart
+
+as_many : (es : List (List ℕ × Datum)) → length (map (λ e. e.1) es) ≡ length (map (λ e. e.0) es)
+as_many [] = refl
+as_many (e ∷ es) = ap suc (as_many es)
+
+module _ (m : Columns) (names : List (List ℕ)) (listed : List Datum) (of_keys : names ≡ keys m) (of_values : listed ≡ values m) where
+  zip-apart : zip names listed ≡ entries m
+  zip-apart = (λ i. zip (of_keys i) (of_values i)) ∙ zip-entries (entries m)
+
+  pub apart-invariant : T (is_sorted name_cmp (zip names listed)) × (length listed ≡ length names)
+  apart-invariant = (subst (λ es. T (is_sorted name_cmp es)) (sym zip-apart) (entries_sorted m), ap length of_values ∙ as_many (entries m) ∙ ap length (sym of_keys))
+
+  -- they are put together again
+  pub columns_at-apart : columns_at names listed ≡ m
+  columns_at-apart = same_entries_map _ m (entries-columns_at names listed apart-invariant.0 ∙ zip-apart)
+
+-- no value has no name
+pub no_keys : keys (empty {X = Datum} {R = name_cmp}) ≡ []
+no_keys = ap (map (λ e. e.0)) (nil_from_length _ (sym (len-entries empty) ∙ len-empty name_cmp Datum))
+
 -- ---- columns that are the same
 
-pub same-named : (xs ys : List (String Global × Datum)) → pointwise (λ x y. bytes_eq (string_bytes x.0) (string_bytes y.0) && eq_by_cmp datum_cmp x.1 y.1) xs ys ≡ same_columns (named xs) (named ys)
-same-named [] [] = refl
-same-named [] (y ∷ ys) = refl
-same-named (x ∷ xs) [] = refl
-same-named (x ∷ xs) (y ∷ ys) = λ i. (bytes_eq (string_bytes x.0) (string_bytes y.0) && sym (datum-tied x.1 y.1) i) && same-named xs ys i
+-- four tests, two by two
+shuffled : (a p b q : Bool) → ((a && p) && (b && q)) ≡ ((a && b) && (p && q))
+shuffled false p b q = refl
+shuffled true true b q = refl
+shuffled true false true q = refl
+shuffled true false false q = refl
+
+pub same-paired : (xs ys : List (String Global)) (vs ws : List Datum) → length vs ≡ length (map string_bytes xs) → length ws ≡ length (map string_bytes ys)
+    → (pointwise (λ x y. bytes_eq (string_bytes x) (string_bytes y)) xs ys && pointwise (eq_by_cmp datum_cmp) vs ws) ≡ same_columns (paired xs vs) (paired ys ws)
+same-paired [] [] [] [] h k = refl
+same-paired [] [] [] (w ∷ ws) h k = absurd (omega arith)
+same-paired [] [] (v ∷ vs) ws h k = absurd (omega arith)
+same-paired [] (y ∷ ys) vs [] h k = absurd (omega arith)
+same-paired [] (y ∷ ys) vs (w ∷ ws) h k = refl
+same-paired (x ∷ xs) ys [] ws h k = absurd (omega arith)
+same-paired (x ∷ xs) [] (v ∷ vs) ws h k = refl
+same-paired (x ∷ xs) (y ∷ ys) (v ∷ vs) [] h k = absurd (omega arith)
+same-paired (x ∷ xs) (y ∷ ys) (v ∷ vs) (w ∷ ws) h k =
+    shuffled (bytes_eq (string_bytes x) (string_bytes y)) (pointwise (λ a b. bytes_eq (string_bytes a) (string_bytes b)) xs ys) (eq_by_cmp datum_cmp v w) (pointwise (eq_by_cmp datum_cmp) vs ws)
+    ∙ (λ i. (bytes_eq (string_bytes x) (string_bytes y) && sym (datum-tied v w) i) && same-paired xs ys vs ws (omega arith) (omega arith) i)
+
+-- what is said of these lists is said of the columns that they are
+abbrev IsListed : List (List ℕ) → List Datum → Type 0
+IsListed names values = T (is_sorted name_cmp (zip names values)) × (length values ≡ length names)
+
+pub same-listed : (xs ys : List (String Global)) (vs ws : List Datum) (ns ms : List (List ℕ)) (a b : Columns) → map string_bytes xs ≡ ns → map string_bytes ys ≡ ms → IsListed ns vs → IsListed ms ws
+    → columns_at ns vs ≡ a → columns_at ms ws ≡ b → (pointwise (λ x y. bytes_eq (string_bytes x) (string_bytes y)) xs ys && pointwise (eq_by_cmp datum_cmp) vs ws) ≡ same_columns (entries a) (entries b)
+same-listed xs ys vs ws ns ms a b of_xs of_ys h k is_a is_b =
+    let left = ap (λ names. zip names vs) of_xs ∙ sym (entries-columns_at ns vs h.0) ∙ ap entries is_a in
+    let right = ap (λ names. zip names ws) of_ys ∙ sym (entries-columns_at ms ws k.0) ∙ ap entries is_b in
+    same-paired xs ys vs ws (h.1 ∙ ap length (sym of_xs)) (k.1 ∙ ap length (sym of_ys)) ∙ (λ i. same_columns (left i) (right i))
 
 -- ---- members without reals
 

@@ -1,5 +1,5 @@
 -- The columns of the code as those of the definitions.
-use Rattle.std.specs.Prelude.{ℕ, List, map, String, string_bytes}
+use Rattle.std.specs.Prelude.{ℕ, List, map, zip, String, string_bytes}
 use Rattle.std.specs.declared.alloc.Global.{Global}
 use Rattle.std.specs.FinMap.{from_sorted}
 use Rattle.ov_specs.specs.rows.Database.{Columns}
@@ -13,3 +13,7 @@ named = map (λ e. (string_bytes e.0, e.1))
 -- the columns of an ascending list
 abbrev pub columns_of : List (String Global × Datum) → Columns
 columns_of es = from_sorted {R = name_cmp} (named es)
+
+-- the columns of these names, which ascend, each with the value that stands at its place
+abbrev pub columns_at : List (List ℕ) → List Datum → Columns
+columns_at names values = from_sorted {R = name_cmp} (zip names values)

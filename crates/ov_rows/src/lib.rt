@@ -2,14 +2,18 @@
 //! What names no source is our own.
 #![tactic(auto)]
 
+mod column_names;
 mod columns;
 mod key;
+mod named_values;
 mod row;
 mod rows;
 mod table_rows;
 
+pub use column_names::ColumnNames;
 pub use columns::Columns;
 pub use key::RowKey;
+pub use named_values::NamedValues;
 pub use row::Row;
 pub use rows::Rows;
 pub use table_rows::TableRows;

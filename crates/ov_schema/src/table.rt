@@ -1,6 +1,7 @@
 ghost use Rattle.std.specs.Prelude.{◌≡◌, ◌++◌, ◌||◌, not, IfOk, map};
 ghost use Rattle.std.specs.Option.{option_copied};
 ghost use Rattle.std.specs.FinMap.{get, entries};
+ghost use Rattle.ov_specs.specs.rows.RowNames.{row_names};
 ghost use Rattle.ov_specs.specs.schema.Schema.{own_column, own_columns, accepted_table};
 ghost use Rattle.ov_schema.specs.Built.{named_column_of, indexes_in};
 ghost use Rattle.ov_schema.specs.NamedViews.{named_view};
@@ -10,7 +11,9 @@ use crate::column::Column;
 use crate::named::{ascending, find_named};
 use crate::parse::table_shape::TableShape;
 use crate::parse::type_shape::ColumnShape;
+use crate::row_names::names_of_row;
 use ov_base::Text;
+use ov_rows::ColumnNames;
 use std::alloc::{AllocError, Global};
 use std::marker::Model;
 
@@ -19,14 +22,16 @@ use std::marker::Model;
 #[derive(Drop)]
 pub struct Table {
     columns: Vec<(Text, Column)>,
+    row_names: ColumnNames,
     max_rows: Option<i64>,
     is_root: bool,
     indexes: Vec<Vec<Text>>,
 }
 
 impl Model for Table {
-    ghost use Rattle.std.specs.Prelude.{T};
+    ghost use Rattle.std.specs.Prelude.{◌≡◌, T, map};
     ghost use Rattle.std.specs.FinMap.{from_entries, is_sorted};
+    ghost use Rattle.ov_specs.specs.rows.RowNames.{without_own};
     ghost use Rattle.ov_specs.specs.schema.SchemaTypes as types;
     ghost use Rattle.ov_specs.specs.codes.SchemaCode.{table_code};
     ghost use Rattle.ov_schema.specs.Built.{indexes_in};
@@ -37,7 +42,7 @@ impl Model for Table {
 
     ghost view = { λ t. record { columns = from_entries t.columns.items; max_rows = t.max_rows; is_root = t.is_root; indexes = indexes_in t.indexes.items } };
 
-    ghost invariant = { λ t. T (is_sorted types.name_cmp t.columns.items) };
+    ghost invariant = { λ t. T (is_sorted types.name_cmp t.columns.items) × (t.row_names ≡ without_own (map (λ c. c.0) t.columns.items)) };
 }
 
 impl Table {
@@ -49,9 +54,10 @@ impl Table {
     ) -> Result<Table, AllocError>
         ensures { IfOk result (λ t. t ≡ accepted_table some_root (table_view shape.now)) }
     {
-        let columns = columns_of(alloc, shape.columns.as_slice())?;
+        let columns = ascending(alloc, columns_of(alloc, shape.columns.as_slice())?)?;
         Ok(Table {
-            columns: ascending(alloc, columns)?,
+            row_names: names_of_row(alloc, columns.as_slice())?,
+            columns,
             max_rows: shape.max_rows,
             is_root: is_root(shape.is_root, some_root),
             indexes: copy_indexes(alloc, shape.indexes.as_slice())?,
@@ -70,6 +76,13 @@ impl Table {
         ensures { result.now ≡ entries self.now.columns }
     {
         self.columns.as_slice()
+    }
+
+    /// The names of the columns that a row has, `_uuid` and `_version` not among them, in ascending order of their bytes.
+    pub fn names_of_row(&self) -> &ColumnNames
+        ensures { result.now ≡ row_names self.now }
+    {
+        &self.row_names
     }
 
     /// The greatest count of rows after a commit, at least 1, or none where there is no limit.

@@ -22,3 +22,4 @@ pub mod Suiting
 pub mod Nesting
 pub mod Bodies
 pub mod Printing
+pub mod RowNames

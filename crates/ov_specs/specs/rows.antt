@@ -2,3 +2,4 @@ pub mod Lines
 pub mod Database
 pub mod Version
 pub mod Suits
+pub mod RowNames

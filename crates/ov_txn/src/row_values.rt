@@ -7,10 +7,9 @@ ghost use Rattle.ov_specs.specs.values.Reading.{Reads};
 ghost use Rattle.ov_txn.specs.Errors.{IsOpResult};
 
 use crate::fault::{OpError, OpFault};
-use crate::member::is_own;
 use ov_atoms::{AtomFault, Datum, NoNames, read_datum};
-use ov_rows::Columns;
-use ov_schema::{Column, Table};
+use ov_rows::{Columns, NamedValues};
+use ov_schema::{Column, Table, is_own};
 use serde_json::{Map, Value};
 use std::alloc::Global;
 
@@ -56,20 +55,20 @@ fn column_given(
 }
 
 /// The columns that are given, in ascending order of their names; or the fault of the first that has one.
-fn columns_given(
+fn values_given(
     alloc: Global,
     table: &Table,
     members: &Map<String, Value>,
-) -> Result<Columns, OpFault>
-    ensures { IsOpResult (λ c. c) (spec.row_values table.now (members_view members.now.entries) empty) result }
+) -> Result<NamedValues, OpFault>
+    ensures { IsOpResult (λ v. v) (spec.row_values table.now (members_view members.now.entries) empty) result }
 {
-    let mut columns = Columns::new(alloc);
+    let mut values = NamedValues::new(alloc);
     for (name, tree) in members.iter() {
         let column = table.column(name.as_str());
         let datum = column_given(alloc, name.as_str(), column, tree)?;
-        columns.insert(String::from_str(alloc, name.as_str())?, datum)?;
+        values.insert(String::from_str(alloc, name.as_str())?, datum)?;
     }
-    Ok(columns)
+    Ok(values)
 }
 
 /// The default of a column, where it fits.
@@ -79,18 +78,30 @@ fn default_given(alloc: Global, column: &Column) -> Result<Datum, OpFault>
     fitting(column, column.default_of(alloc)?)
 }
 
-/// The columns with the defaults of those that were not given.
-fn with_defaults(alloc: Global, table: &Table, columns: Columns) -> Result<Columns, OpFault>
-    ensures { IsOpResult (λ c. c) (spec.with_defaults (entries table.now.columns) columns) result }
+/// The values with the defaults of those that were not given.
+fn with_defaults(alloc: Global, table: &Table, values: NamedValues) -> Result<NamedValues, OpFault>
+    ensures { IsOpResult (λ v. v) (spec.with_defaults (entries table.now.columns) values) result }
 {
-    let mut columns = columns;
+    let mut values = values;
     for (name, column) in table.columns() {
-        if !is_own(name.as_str()) && !columns.contains(name.as_str()) {
+        if !is_own(name.as_str()) && !values.contains(name.as_str()) {
             let datum = default_given(alloc, column)?;
-            columns.insert(String::from_str(alloc, name.as_str())?, datum)?;
+            values.insert(String::from_str(alloc, name.as_str())?, datum)?;
         }
     }
-    Ok(columns)
+    Ok(values)
+}
+
+/// The values of all columns of a new row.
+fn new_values(
+    alloc: Global,
+    table: &Table,
+    members: &Map<String, Value>,
+) -> Result<NamedValues, OpFault>
+    ensures { IsOpResult (λ v. v) (spec.new_columns table.now (members_view members.now.entries)) result }
+{
+    let values = values_given(alloc, table, members)?;
+    with_defaults(alloc, table, values)
 }
 
 /// All columns of a new row (RFC 7047, 5.2.1).
@@ -101,6 +112,6 @@ pub(crate) fn new_columns(
 ) -> Result<Columns, OpFault>
     ensures { IsOpResult (λ c. c) (spec.new_columns table.now (members_view members.now.entries)) result }
 {
-    let columns = columns_given(alloc, table, members)?;
-    with_defaults(alloc, table, columns)
+    let values = new_values(alloc, table, members)?;
+    Ok(Columns::of(alloc, table.names_of_row(), values)?)
 }

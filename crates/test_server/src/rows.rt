@@ -1,32 +1,25 @@
 use ov_atoms::{Atom, Datum};
 use ov_base::Text;
 use ov_db::Delta;
-use ov_rows::{Columns, RowKey, Rows, TableRows};
+use ov_rows::{Columns, NamedValues, RowKey, Rows, TableRows};
 use std::alloc::{AllocError, Global};
+use std::mem;
 use std::test::Fail;
-use test_support::{Scripted, agrees, compact, number, switch};
+use test_support::{Scripted, agrees, compact, net, number, switch};
 
 /// Columns are found by name and written in order.
-const COLUMNS: &str = r#"put name s2
-has load -> true
-has loads -> false
-get name -> atoms
+const COLUMNS: &str = r#"get name -> atoms
+get load -> atoms
 get id -> none
-tree -> {"load":4,"main":["set",[]],"name":"s2","ports":["set",[]]}"#;
+tree -> {"load":4,"main":["set",[]],"name":"s1","ports":["set",[]]}"#;
 
-/// The columns of a row.
+/// The columns of a row. The commands are `get NAME` and `tree`.
 #[derive(Drop)]
 struct Cells {
     columns: Columns,
 }
 
 impl Cells {
-    /// Puts a text at a column.
-    fn put(&mut self, alloc: Global, name: &str, text: &str) -> Result<(), AllocError> {
-        let datum = Datum::of_atom(alloc, Atom::Text(Text::from_str(alloc, text)?))?;
-        self.columns.insert(String::from_str(alloc, name)?, datum)
-    }
-
     /// What stands at a column.
     fn get(&self, name: &str) -> &'static str {
         match self.columns.get(name) {
@@ -37,20 +30,11 @@ impl Cells {
     }
 }
 
-/// The commands are `put NAME TEXT`, `has NAME`, `get NAME` and `tree`.
 impl Scripted for Cells {
     fn answer(&mut self, alloc: Global, command: &str) -> Result<String, Fail> {
-        let (word, rest) = command.split_once(" ").unwrap_or((command, ""));
-        match word {
-            "put" => {
-                let (name, text) = rest.split_once(" ").ok_or("no text")?;
-                self.put(alloc, name, text)?;
-                Ok(String::new(alloc))
-            }
-            "has" => Ok(format!(in alloc; "{}", self.columns.contains(rest))?),
-            "get" => Ok(String::from_str(alloc, self.get(rest))?),
-            "tree" => compact(alloc, &self.columns.tree(alloc)?),
-            _ => Err(Fail::new("no command")),
+        match command.split_once(" ") {
+            Some(("get", name)) => Ok(String::from_str(alloc, self.get(name))?),
+            _ => compact(alloc, &self.columns.tree(alloc)?),
         }
     }
 }
@@ -59,6 +43,71 @@ impl Scripted for Cells {
 fn columns_are_found_by_name_and_written_in_order(rt: HostRuntime) -> Result<(), Fail> {
     let columns = switch(rt.alloc(), "s1", 4)?.columns;
     agrees(rt.alloc(), Cells { columns }, COLUMNS)
+}
+
+/// Of two values of one name the second stays.
+const GATHERED: &str = r#"has name -> false
+put name s1
+put name s2
+put id a
+has name -> true
+has load -> false
+tree -> {"id":"a","name":"s2"}
+has name -> false"#;
+
+/// Values by their names. The commands are `put NAME TEXT`, `has NAME` and `tree`, which makes columns of them.
+#[derive(Drop)]
+struct Gathered {
+    values: NamedValues,
+}
+
+impl Gathered {
+    /// Puts a text at a column.
+    fn put(&mut self, alloc: Global, name: &str, text: &str) -> Result<(), AllocError> {
+        let datum = Datum::of_atom(alloc, Atom::Text(Text::from_str(alloc, text)?))?;
+        self.values.insert(String::from_str(alloc, name)?, datum)
+    }
+
+    /// The columns of these values. No value is left.
+    fn tree(&mut self, alloc: Global) -> Result<String, Fail> {
+        let values = mem::replace(&mut self.values, NamedValues::new(alloc));
+        let columns = Columns::with_own_names(alloc, values)?;
+        compact(alloc, &columns.tree(alloc)?)
+    }
+}
+
+impl Scripted for Gathered {
+    fn answer(&mut self, alloc: Global, command: &str) -> Result<String, Fail> {
+        let (word, rest) = command.split_once(" ").unwrap_or((command, ""));
+        match word {
+            "put" => {
+                let (name, text) = rest.split_once(" ").ok_or("no text")?;
+                self.put(alloc, name, text)?;
+                Ok(String::new(alloc))
+            }
+            "has" => Ok(format!(in alloc; "{}", self.values.contains(rest))?),
+            _ => self.tree(alloc),
+        }
+    }
+}
+
+#[test]
+fn values_are_gathered_by_their_names(rt: HostRuntime) -> Result<(), Fail> {
+    let values = NamedValues::new(rt.alloc());
+    agrees(rt.alloc(), Gathered { values }, GATHERED)
+}
+
+#[test]
+fn names_are_shared(rt: HostRuntime) -> Result<(), Fail> {
+    let schema = net(rt.alloc())?;
+    let table = schema.table("Switch").ok_or("no table")?;
+    let names = table.names_of_row().share()?;
+    let mut told = String::new(rt.alloc());
+    for name in names.as_slice() {
+        told.push_str(format!(in rt.alloc(); "{name};")?.as_str())?;
+    }
+    assert_eq!(rt; told.as_str(), "load;main;name;ports;");
+    Ok(())
 }
 
 /// The key of a table and a number.

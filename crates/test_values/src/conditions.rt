@@ -1,7 +1,7 @@
 use crate::shapes::{shapes, value_of};
 use ov_atoms::NoNames;
 use ov_conds::{Condition, ConditionFault, RowView};
-use ov_rows::Columns;
+use ov_rows::{Columns, NamedValues};
 use ov_schema::{Schema, Table};
 use serde_json::Value;
 use std::alloc::Global;
@@ -114,22 +114,22 @@ const REFUSED: &str = r#"{} {} -> syntax
 fn put(
     alloc: Global,
     table: &Table,
-    columns: &mut Columns,
+    values: &mut NamedValues,
     name: &str,
     tree: &Value,
 ) -> Result<(), Fail> {
     let datum = value_of(alloc, table, name, tree)?;
-    Ok(columns.insert(String::from_str(alloc, name)?, datum)?)
+    Ok(values.insert(String::from_str(alloc, name)?, datum)?)
 }
 
 /// The values of a row.
 fn columns_of(alloc: Global, table: &Table, row: &str) -> Result<Columns, Fail> {
     let row = Value::from_str(alloc, row)?;
-    let mut columns = Columns::new(alloc);
+    let mut values = NamedValues::new(alloc);
     for (name, tree) in row.as_object().ok_or("no object")? {
-        put(alloc, table, &mut columns, name.as_str(), tree)?;
+        put(alloc, table, &mut values, name.as_str(), tree)?;
     }
-    Ok(columns)
+    Ok(Columns::with_own_names(alloc, values)?)
 }
 
 /// Whether a row with these values meets the condition, or the word of its refusal.

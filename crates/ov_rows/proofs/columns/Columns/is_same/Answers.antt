@@ -1,14 +1,26 @@
-use Rattle.std.proofs.Common.{◌∙◌, sym}
+use Rattle.std.proofs.Common.{◌≡◌, ◌&&◌, zip, ◌∙◌, sym, ap}
+use Rattle.std.specs.Cmp.Lexicographic.{pointwise}
 use Rattle.std.specs.FinMap.{entries}
+use Rattle.std.specs.Ordering.{eq_by_cmp}
 use Rattle.ov_specs.specs.rows.Database.{Columns, same_columns}
-use Rattle.ov_rows.proofs.Names.{entries-columns_of, same-named}
+use Rattle.ov_specs.specs.values.Value.{datum_cmp}
+use Rattle.ov_rows.proofs.Names.{same-listed}
 use Rattle.ov_rows.proofs.columns.Columns.is_same.Goals as goal
 
-pub returns : goal.returns
-returns c =
-    let xs = c.self.inside.values.entries in
-    let ys = c.other.inside.values.entries in
-    let same : Columns → Columns → _ = λ a b. same_columns (entries a) (entries b) in
-    c.eq.ensures ∙ same-named xs ys
-    ∙ (λ i. same_columns (sym (entries-columns_of xs c.self.invariant) i) (sym (entries-columns_of ys c.other.invariant) i))
-    ∙ (λ i. same (c.self.view_is i) (c.other.view_is i))
+pub returns-then-eq : goal.returns-then-eq
+returns-then-eq c =
+    let xs = c.as_slice.result.now in
+    let ys = c.as_slice-2.result.now in
+    let vs = c.self.inside.values.items in
+    let ws = c.other.inside.values.items in
+    c.eq-then-eq.ensures ∙ ap (λ b. b && pointwise (eq_by_cmp datum_cmp) vs ws) (sym c.if-eq.true ∙ c.eq.ensures)
+    ∙ same-listed xs ys vs ws _ _ c.args.self.now c.args.other.now c.as_slice.ensures c.as_slice-2.ensures c.self.invariant c.other.invariant c.self.view_is c.other.view_is
+
+pub returns-else-eq : goal.returns-else-eq
+returns-else-eq c =
+    let xs = c.as_slice.result.now in
+    let ys = c.as_slice-2.result.now in
+    let vs = c.self.inside.values.items in
+    let ws = c.other.inside.values.items in
+    c.if-eq.false ∙ ap (λ b. b && pointwise (eq_by_cmp datum_cmp) vs ws) (sym c.if-eq.false ∙ c.eq.ensures)
+    ∙ same-listed xs ys vs ws _ _ c.args.self.now c.args.other.now c.as_slice.ensures c.as_slice-2.ensures c.self.invariant c.other.invariant c.self.view_is c.other.view_is

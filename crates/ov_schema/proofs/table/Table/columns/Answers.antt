@@ -6,5 +6,5 @@ use Rattle.ov_schema.proofs.table.Table.columns.Goals as goal
 
 pub returns : goal.returns
 returns c =
-    c.as_slice.ensures.value ∙ sym (entries-from_entries c.self.inside.columns.items c.self.invariant)
+    c.as_slice.ensures.value ∙ sym (entries-from_entries c.self.inside.columns.items c.self.invariant.0)
     ∙ ap (λ (t : Table). entries t.columns) c.self.view_is

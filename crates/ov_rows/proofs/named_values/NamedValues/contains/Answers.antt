@@ -2,7 +2,7 @@ use Rattle.std.proofs.Common.{is_some, sym, ap, ◌∙◌}
 use Rattle.std.specs.FinMap.{contains_key}
 use Rattle.ov_specs.specs.rows.Database.{Columns}
 use Rattle.ov_rows.proofs.Names.{get-columns_of}
-use Rattle.ov_rows.proofs.columns.Columns.contains.Goals as goal
+use Rattle.ov_rows.proofs.named_values.NamedValues.contains.Goals as goal
 
 pub returns : goal.returns
 returns c =

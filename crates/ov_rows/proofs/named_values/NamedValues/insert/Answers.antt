@@ -2,7 +2,7 @@ use Rattle.std.proofs.Common.{ap, ◌∙◌, string_bytes}
 use Rattle.std.specs.FinMap.{insert}
 use Rattle.ov_specs.specs.rows.Database.{Columns}
 use Rattle.ov_rows.proofs.Names.{names-ascend, columns_of-insert}
-use Rattle.ov_rows.proofs.columns.Columns.insert.Goals as goal
+use Rattle.ov_rows.proofs.named_values.NamedValues.insert.Goals as goal
 
 pub invariant_of-self-2 : goal.invariant_of-self-2
 invariant_of-self-2 c = names-ascend c.insert.new.self.entries c.in_ok-insert.ensures.ordered

@@ -1,0 +1,11 @@
+use Rattle.std.proofs.Common.{sym, ◌∙◌}
+use Rattle.serde_json.specs.View.{view}
+use Rattle.ov_specs.proofs.laws.RowNames.{names_of_suiting}
+use Rattle.ov_db.proofs.StoredSuits.{stored_columns_suit}
+use Rattle.ov_db.proofs.read.columns_of.Goals as goal
+
+pub of-requires : goal.of-requires
+of-requires c =
+    let table = c.args.table.now in
+    let values = c.in_ok-values.values in
+    names_of_suiting table values (stored_columns_suit table (view c.args.body.now) values c.in_ok-values.ensures) ∙ sym c.names_of_row.ensures

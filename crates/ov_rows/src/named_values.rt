@@ -1,0 +1,81 @@
+ghost use Rattle.std.specs.Prelude.{◌≡◌, IfOk, OnOk, OnErr, string_bytes};
+ghost use Rattle.std.specs.FinMap.{empty, contains_key, insert, keys, values};
+
+use crate::column_names::ColumnNames;
+use ov_atoms::Datum;
+use std::alloc::{AllocError, Global};
+use std::collections::BTreeMap;
+use std::marker::Model;
+
+/// Values by the names of their columns, as a row is put together of them (RFC 7047, 5.1, `<row>`).
+#[derive(Drop)]
+pub struct NamedValues {
+    values: BTreeMap<String, Datum>,
+}
+
+impl Model for NamedValues {
+    ghost use Rattle.std.specs.Prelude.{T};
+    ghost use Rattle.std.specs.FinMap.{is_sorted};
+    ghost use Rattle.ov_specs.specs.rows.Database.{Columns};
+    ghost use Rattle.ov_specs.specs.schema.SchemaTypes.{name_cmp};
+    ghost use Rattle.ov_rows.specs.Resident.{columns_code};
+    ghost use Rattle.ov_rows.specs.Named.{named, columns_of};
+
+    ghost Value = { Columns };
+
+    ghost coded = { columns_code };
+
+    ghost view = { λ v. columns_of v.values.entries };
+
+    ghost invariant = { λ v. T (is_sorted name_cmp (named v.values.entries)) };
+}
+
+impl NamedValues {
+    /// No value.
+    pub fn new(alloc: Global) -> NamedValues
+        ensures { result ≡ empty }
+    {
+        NamedValues {
+            values: BTreeMap::new(alloc),
+        }
+    }
+
+    /// Whether there is a value for the column of this name.
+    pub fn contains(&self, name: &str) -> bool
+        ensures { result ≡ contains_key self.now name.now }
+    {
+        self.values.contains_key(name)
+    }
+
+    /// Puts the value at the column of this name, in place of the one that is there. Where a growth is refused, nothing is changed.
+    pub fn insert(&mut self, name: String, datum: Datum) -> Result<(), AllocError>
+        ensures ok { OnOk result (self.new ≡ insert self.old (string_bytes name) datum) }
+        ensures err { OnErr result (self.new ≡ self.old) }
+    {
+        self.values.insert(name, datum)?;
+        Ok(())
+    }
+
+    /// The names of the columns that have a value, ascending.
+    pub(crate) fn names(&self, alloc: Global) -> Result<ColumnNames, AllocError>
+        ensures { IfOk result (λ names. names ≡ keys self.now) }
+    {
+        let mut names = Vec::new(alloc);
+        for (name, _datum) in &self.values {
+            names.push(String::from_str(alloc, name.as_str())?)?;
+        }
+        ColumnNames::new(alloc, names)
+    }
+
+    /// The values without their names, in ascending order of the names.
+    pub(crate) fn into_values(self, alloc: Global) -> Result<Vec<Datum>, AllocError>
+        ensures { IfOk result (λ listed. listed.items ≡ values self) }
+    {
+        let NamedValues { values } = self;
+        let mut listed = Vec::with_capacity(alloc, values.len())?;
+        for (_name, datum) in values {
+            listed.push(datum)?;
+        }
+        Ok(listed)
+    }
+}
