@@ -1,3 +1,4 @@
 pub mod Named
 pub mod Nested
 pub mod Resident
+pub mod Body

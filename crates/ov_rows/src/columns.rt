@@ -1,24 +1,18 @@
-ghost use Rattle.std.specs.Prelude.{◌≡◌, IfOk, OnOk, false, map, option_copied};
+ghost use Rattle.std.specs.Prelude.{◌≡◌, IfOk, option_copied};
 ghost use Rattle.std.specs.FinMap.{get, keys, entries};
-ghost use Rattle.serde_json.specs.Data.{put};
-ghost use Rattle.serde_json.specs.View.{members_view};
-ghost use Rattle.ov_specs.specs.rows.Database.{object_of, written_column, same_columns};
-ghost use Rattle.ov_specs.specs.wire.Tree.{has_real};
-ghost use Rattle.ov_specs.specs.values.Writing.{tree};
+ghost use Rattle.ov_specs.specs.rows.Database.{same_columns};
 
 use crate::column_names::ColumnNames;
 use crate::named_values::NamedValues;
-use ov_atoms::{Datum, write_datum};
-use ov_base::Tree;
-use serde_json::{Map, Value};
+use ov_atoms::Datum;
 use std::alloc::{AllocError, Global};
 use std::marker::Model;
 
 /// The values of a row (RFC 7047, 5.1, `<row>`), in the order of the names of their columns, which other rows share.
 #[derive(Drop)]
 pub struct Columns {
-    names: ColumnNames,
-    values: Vec<Datum>,
+    pub(crate) names: ColumnNames,
+    pub(crate) values: Vec<Datum>,
 }
 
 impl Model for Columns {
@@ -76,29 +70,4 @@ impl Columns {
     {
         self.names.as_slice() == other.names.as_slice() && self.values == other.values
     }
-
-    /// The object of all columns, each with its written value, in ascending order of their names: the body of a line.
-    pub fn tree(&self, alloc: Global) -> Result<Tree, AllocError>
-        ensures { IfOk result (λ tree. tree ≡ object_of (map written_column (entries self.now))) }
-    {
-        let mut members = Map::new(alloc);
-        for (name, datum) in self.names.as_slice().iter().zip(&self.values) {
-            put_column(alloc, &mut members, name.as_str(), datum)?;
-        }
-        Ok(Tree::new(Value::Object(members)))
-    }
-}
-
-/// Puts the written value of a column among the members.
-fn put_column(
-    alloc: Global,
-    members: &mut Map<String, Value>,
-    name: &str,
-    datum: &Datum,
-) -> Result<(), AllocError>
-    ensures put { OnOk result (members_view members.new.entries ≡ put name.now (tree datum.now) (members_view members.old.entries)) }
-    ensures plain { OnOk result (has_real (tree datum.now) ≡ false) }
-{
-    members.insert(String::from_str(alloc, name)?, write_datum(alloc, datum)?)?;
-    Ok(())
 }

@@ -2,6 +2,7 @@
 //! What names no source is our own.
 #![tactic(auto)]
 
+mod body;
 mod column_names;
 mod columns;
 mod key;

@@ -72,7 +72,7 @@ mutual
 
 -- ---- the members of an object, in the order of a list
 
-abbrev in_order : List (List ℕ × Data) → Members
+abbrev pub in_order : List (List ℕ × Data) → Members
 in_order [] = no_members
 in_order (m ∷ ms) = member m.0 m.1 (in_order ms)
 
@@ -168,7 +168,7 @@ written-below : (name : List ℕ) (es : List (List ℕ × Datum)) → T (below_a
 written-below name [] h = tt
 written-below name (e ∷ es) h = both_hold _ _ (left_holds _ _ h) (written-below name es (right_holds _ _ h))
 
-written-sorted : (es : List (List ℕ × Datum)) → T (is_sorted name_cmp es) → T (is_sorted name_cmp (map written_column es))
+pub written-sorted : (es : List (List ℕ × Datum)) → T (is_sorted name_cmp es) → T (is_sorted name_cmp (map written_column es))
 written-sorted [] h = tt
 written-sorted (e ∷ es) h = both_hold _ _ (written-below e.0 es (left_holds _ _ h)) (written-sorted es (right_holds _ _ h))
 
