@@ -1,5 +1,6 @@
 -- Rows that are added to a database, and taken out again.
-use Rattle.std.specs.Prelude.{List, [], ◌∷◌}
+use Rattle.std.specs.Borrow.{Bor}
+use Rattle.std.specs.Prelude.{List, [], ◌∷◌, map}
 use Rattle.std.specs.FinMap.{remove}
 use Rattle.ov_specs.specs.rows.Database.{Database}
 use Rattle.ov_specs.specs.rows.Lines.{LineKey}
@@ -8,3 +9,7 @@ use Rattle.ov_specs.specs.rows.Lines.{LineKey}
 abbrev pub without_rows : List LineKey → Database → Database
 without_rows [] database = database
 without_rows (key ∷ keys) database = remove (without_rows keys database) key
+
+-- keys that are lent
+abbrev pub lent_keys : List (Bor LineKey) → List LineKey
+lent_keys = map (λ key. key.now)

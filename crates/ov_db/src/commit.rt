@@ -4,7 +4,7 @@ ghost use Rattle.std.specs.Ordering.{eq_by_cmp};
 ghost use Rattle.ov_specs.specs.rows.Database.{line_of};
 ghost use Rattle.ov_specs.specs.rows.Lines.{LineKey, Remove, line_cmp};
 ghost use Rattle.ov_keeper.specs.Views.{changes_view, change_view, line_entry};
-ghost use Rattle.ov_db.specs.Adding.{without_rows};
+ghost use Rattle.ov_db.specs.Adding.{lent_keys, without_rows};
 ghost use Rattle.ov_db.specs.Changing.{applied, change_of, with_row};
 ghost use Rattle.ov_db.specs.Placing.{IsPlaced, IsSameBeside};
 ghost use Rattle.ov_db.specs.Stored.{IsBodyRead, IsPutRead, ArePutRead};
@@ -70,14 +70,14 @@ pub(crate) fn changes_of(alloc: Global, delta: &Delta) -> Result<Vec<Change>, Al
 }
 
 /// Puts an empty row at each new key that the changes give a row, so that no growth is left for later. The new keys are listed.
-pub(crate) fn place(
+pub(crate) fn place<'a>(
     alloc: Global,
     rows: &mut Rows,
-    delta: &Delta,
-    added: &mut Vec<RowKey>,
+    delta: &'a Delta,
+    added: &mut Vec<&'a RowKey>,
 ) -> Result<(), AllocError>
     requires { added.old.items ≡ [] }
-    ensures added { without_rows added.new.items rows.new ≡ rows.old }
+    ensures added { without_rows (lent_keys added.new.items) rows.new ≡ rows.old }
     ensures same { OnOk result (IsSameBeside delta.now rows.old rows.new) }
     ensures placed { OnOk result (IsPlaced delta.now rows.new) }
 {
@@ -89,16 +89,16 @@ pub(crate) fn place(
 }
 
 /// Puts an empty row at the key where it is new and the change gives it a row.
-fn place_one(
+fn place_one<'a>(
     alloc: Global,
     rows: &mut Rows,
-    key: &RowKey,
+    key: &'a RowKey,
     row: &Option<Row>,
     nothing: &ColumnNames,
-    added: &mut Vec<RowKey>,
+    added: &mut Vec<&'a RowKey>,
 ) -> Result<(), AllocError>
     requires { nothing.now ≡ [] }
-    ensures added { without_rows added.new.items rows.new ≡ without_rows added.old.items rows.old }
+    ensures added { without_rows (lent_keys added.new.items) rows.new ≡ without_rows (lent_keys added.old.items) rows.old }
     ensures same { (other : LineKey) → eq_by_cmp line_cmp other key.now ≡ false → get rows.new other ≡ get rows.old other }
     ensures stays { (other : LineKey) → contains_key rows.old other ≡ true → contains_key rows.new other ≡ true }
     ensures placed { OnOk result (is_some row.now ≡ true → contains_key rows.new key.now ≡ true) }
@@ -110,37 +110,37 @@ fn place_one(
 }
 
 /// Puts an empty row at a new key, which is listed. Where a growth is refused, nothing is changed.
-fn place_at(
+fn place_at<'a>(
     alloc: Global,
     rows: &mut Rows,
-    key: &RowKey,
+    key: &'a RowKey,
     nothing: &ColumnNames,
-    added: &mut Vec<RowKey>,
+    added: &mut Vec<&'a RowKey>,
 ) -> Result<(), AllocError>
     requires absent { contains_key rows.old key.now ≡ false }
     requires nothing { nothing.now ≡ [] }
-    ensures added { without_rows added.new.items rows.new ≡ without_rows added.old.items rows.old }
+    ensures added { without_rows (lent_keys added.new.items) rows.new ≡ without_rows (lent_keys added.old.items) rows.old }
     ensures same { (other : LineKey) → eq_by_cmp line_cmp other key.now ≡ false → get rows.new other ≡ get rows.old other }
     ensures stays { (other : LineKey) → contains_key rows.old other ≡ true → contains_key rows.new other ≡ true }
     ensures placed { OnOk result (contains_key rows.new key.now ≡ true) }
 {
-    let listed = key.copy(alloc)?;
     added.reserve(1)?;
     let row = Row {
         version: Uuid::nil(),
         columns: Columns::of(alloc, nothing, NamedValues::new(alloc))?,
     };
     rows.insert(alloc, key, row)?;
-    added.push_reserved(listed);
+    added.push_reserved(key);
     Ok(())
 }
 
 /// Takes the rows of these keys out again, the last one first.
-pub(crate) fn take_out(rows: &mut Rows, added: &mut Vec<RowKey>)
-    ensures { rows.new ≡ without_rows added.old.items rows.old }
+pub(crate) fn take_out(rows: &mut Rows, added: Vec<&RowKey>)
+    ensures { rows.new ≡ without_rows (lent_keys added.entry.items) rows.old }
 {
+    let mut added = added;
     while let Some(key) = added.pop() {
-        rows.remove(&key);
+        rows.remove(key);
     }
 }
 

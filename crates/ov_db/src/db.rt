@@ -197,21 +197,22 @@ impl<K: Keeper + Drop> Db<K> {
         };
         let mut added = Vec::new(alloc);
         let Ok(()) = place(alloc, &mut self.rows, &delta, &mut added) else {
-            take_out(&mut self.rows, &mut added);
+            take_out(&mut self.rows, added);
             return StoreAnswer::Exhausted;
         };
         match self.keeper.commit(alloc, changes.as_slice()) {
             Ok(()) => {
+                drop(added);
                 make(alloc, &mut self.rows, delta);
                 StoreAnswer::Kept
             }
             Err(KeepFault::Device) => {
-                take_out(&mut self.rows, &mut added);
+                take_out(&mut self.rows, added);
                 self.failed = Some(delta);
                 StoreAnswer::Failed
             }
             Err(_) => {
-                take_out(&mut self.rows, &mut added);
+                take_out(&mut self.rows, added);
                 StoreAnswer::Exhausted
             }
         }

@@ -55,13 +55,6 @@ impl RowKey {
     {
         &self.id
     }
-
-    /// The same key once more.
-    pub fn copy(&self, alloc: Global) -> Result<RowKey, AllocError>
-        ensures { IfOk result (λ key. key ≡ self.now) }
-    {
-        RowKey::new(alloc, self.table.as_str(), self.id)
-    }
 }
 
 impl PartialEq for RowKey {

@@ -2,7 +2,7 @@ use Rattle.std.proofs.Common.{◌≡◌, ◌∷◌, T, Option, refl, sym, ap, su
 use Rattle.std.specs.FinMap.{find, get, is_sorted, get-from_sorted}
 use Rattle.ov_specs.specs.rows.Database.{Row}
 use Rattle.ov_specs.specs.rows.Lines.{LineKey, line_cmp}
-use Rattle.ov_db.specs.Adding.{without_rows}
+use Rattle.ov_db.specs.Adding.{lent_keys, without_rows}
 use Rattle.ov_db.specs.Changing.{Delta}
 use Rattle.ov_db.proofs.Places.{Changes, sorted-rest, found-later, not-next, not-there, left-later, all-placed}
 use Rattle.ov_db.proofs.commit.place.Goals as goal
@@ -11,7 +11,7 @@ pub loop-key-init : goal.loop-key-init
 loop-key-init c = record {
   ascending = subst (λ (es : Changes). T (is_sorted line_cmp es)) (sym c.into_iter-key-iterator.ensures.into_iter_gives.0) c.delta.invariant;
   inside = λ q o found. found;
-  added = ap (λ ks. without_rows ks c.args.rows.now) c.requires;
+  added = ap (λ ks. without_rows (lent_keys ks) c.args.rows.now) c.requires;
   same = λ q none. refl;
   left = λ q r found absent. found;
 }

@@ -1,9 +1,9 @@
 use Rattle.std.proofs.Common.{◌≡◌, length}
-use Rattle.ov_db.specs.Adding.{without_rows}
+use Rattle.ov_db.specs.Adding.{lent_keys, without_rows}
 use Rattle.ov_db.proofs.commit.take_out.Given as goal
 
 abbrev pub invariant-loop-key : goal.invariant-loop-key
-invariant-loop-key l = without_rows l.added.items l.rows ≡ without_rows l.fn.added.items l.fn.rows
+invariant-loop-key l = without_rows (lent_keys l.added.items) l.rows ≡ without_rows (lent_keys l.fn.added.items) l.fn.rows
 
 abbrev pub decreases-loop-key : goal.decreases-loop-key
 decreases-loop-key l = length l.added.items
