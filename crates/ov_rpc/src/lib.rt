@@ -4,8 +4,10 @@
 mod fault;
 mod frame;
 mod message;
+mod received;
 mod request;
 
 pub use fault::RpcFault;
 pub use frame::{failure, note, reply};
 pub use message::{BadKind, Message};
+pub use received::{MessageText, Received};
