@@ -1,4 +1,5 @@
 pub mod Queueing
+pub mod Histories
 pub mod Steps
 pub mod Answered
 pub mod Workings

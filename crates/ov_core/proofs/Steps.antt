@@ -1,7 +1,7 @@
 -- One step of the machine, and of the core.
-use Rattle.std.proofs.Common.{◌≡◌, ◌≢◌, ℕ, ◌+◌, ◌<◌, ◌≤◌, List, [], ◌∷◌, ◌++◌, map, refl, sym, ap, subst, ◌∙◌, cond, eqb, Bool, true, false, Option, Some, None, append_assoc, length, leb, ◌^◌, ◌-◌, arith, inr}
+use Rattle.std.proofs.Common.{◌≡◌, ◌≢◌, ℕ, ◌+◌, ◌<◌, ◌≤◌, List, [], ◌∷◌, ◌++◌, map, refl, sym, ap, subst, ◌∙◌, cond, eqb, Bool, true, false, Option, Some, None, append_assoc, length, leb, ◌^◌, ◌-◌, arith}
 use Rattle.std.specs.List.{list_any}
-use Rattle.std.specs.Prelude.{MatchBool, is_some, not, ◌||◌, filter}
+use Rattle.std.specs.Prelude.{is_some, not, ◌||◌, filter}
 use Rattle.std.proofs.lemmas.List.{append-nil, map-append}
 use Rattle.std.proofs.lemmas.List.Elements.{filter-append}
 use Rattle.std.proofs.lemmas.Bool.{le-leb, lt-leb, false≢true}
@@ -19,12 +19,16 @@ use Rattle.ov_core.specs.declared.event.Outcome.TheVariants as outcome
 use Rattle.ov_core.specs.declared.handle.Handled.{Handled}
 use Rattle.ov_core.specs.Entries.{entry_view, listed_attempts, is_closing}
 use Rattle.ov_core.specs.Outbox.{WaitingFrames, waiting_for, PostsSent, HasSameFrames}
-use Rattle.ov_core.specs.Sessions.{session_view, sessions_of}
+use Rattle.ov_core.specs.Sessions.{session_view, sessions_of, state_of}
+use Rattle.ov_specs.specs.schema.SchemaTypes.{Schema}
+use Rattle.ov_specs.specs.rows.Database.{Database}
 use Rattle.ov_core.specs.declared.session.OpenSession.{OpenSession}
 use Rattle.ov_db.specs.KeptDatabase.{KeptDatabase}
 use Rattle.ov_keeper.specs.Keeping.{HasFailed}
 use Rattle.ov_core.specs.Handling.{AsksStore, with_db, closed_if_no_memory, listed_first, IsHandled}
-use Rattle.ov_core.specs.Following.{CoreState, EntersEntry}
+use Rattle.ov_core.specs.Following.{CoreState, EntersEntry, Follows, none_given}
+use Rattle.ov_core.specs.History.{newest, HasHistory}
+use Rattle.ov_core.proofs.Histories.{entered_behind, keeps_more, has_more}
 use Rattle.ov_core.specs.Stepping.{closing, most_sessions, AsksKeeper, Closes, HasSameKeeper, IsEntered, has_outcome, is_failure, is_of_store}
 use Rattle.ov_core.specs.declared.event.Stepped.TheVariants as answer
 use Rattle.std.proofs.lemmas.Option.{same_Some}
@@ -38,22 +42,25 @@ frames_to-append s xs ys = ap (map (λ (t : Sent). frame t.tree)) (filter-append
 -- ---- what a step of the code leaves
 
 -- an entry that is a step of the machine, is kept, and whose frames wait
-pub moves_with : {K D : Type 0} (old new : CoreState K D) (e : machine.Entry) (x : Entry) (sent : List Sent) → step old.state e ≡ Some (record { state = new.state; sent = sent }) → new.kept ≡ old.kept ++ x ∷ [] → entry_view x ≡ e
+pub moves_with : {K D : Type 0} (old new : CoreState K D) (e : machine.Entry) (x : Entry) (sent : List Sent) → step old.state e ≡ Some (record { state = new.state; sent = sent }) → new.kept ≡ newest (old.kept ++ x ∷ []) → entry_view x ≡ e
     → PostsSent sent old.outbox new.outbox → EntersEntry old e new
 moves_with old new e x sent stepped kept is waits = record {
   sent = sent;
   stepped = stepped;
   waits = waits;
-  follows = λ before history given f. record {
-    sent = f.sent ++ sent;
-    legal = run_more before history e (record { state = old.state; sent = f.sent }) (record { state = new.state; sent = sent }) f.legal stepped;
-    kept = ap (map entry_view) kept ∙ (map-append entry_view old.kept (x ∷ []) ∙ (ap (λ (y : machine.Entry). map entry_view old.kept ++ y ∷ []) is ∙ ap (λ (h : List machine.Entry). h ++ e ∷ []) f.kept));
-    issued = λ s. frames_to-append s f.sent sent ∙ (ap (λ (fs : List (List ℕ)). fs ++ frames_to s sent) (f.issued s) ∙ (append_assoc (given s) (waiting_for s old.outbox) (frames_to s sent) ∙ ap (λ (fs : List (List ℕ)). given s ++ fs) (sym (waits s))));
+  follows = record {
+    follows = λ before history given f. record {
+      sent = f.sent ++ sent;
+      legal = run_more before history e (record { state = old.state; sent = f.sent }) (record { state = new.state; sent = sent }) f.legal stepped;
+      kept = keeps_more old.kept new.kept history e f.kept (entered_behind old.kept new.kept x e kept is);
+      issued = λ s. frames_to-append s f.sent sent ∙ (ap (λ (fs : List (List ℕ)). fs ++ frames_to s sent) (f.issued s) ∙ (append_assoc (given s) (waiting_for s old.outbox) (frames_to s sent) ∙ ap (λ (fs : List (List ℕ)). given s ++ fs) (sym (waits s))));
+    };
+    keeps = entered_behind old.kept new.kept x e kept is;
   };
 }
 
 -- a step that sends nothing
-pub moves_silent : {K D : Type 0} (old new : CoreState K D) (e : machine.Entry) (x : Entry) → step old.state e ≡ Some (record { state = new.state; sent = [] }) → new.kept ≡ old.kept ++ x ∷ [] → entry_view x ≡ e
+pub moves_silent : {K D : Type 0} (old new : CoreState K D) (e : machine.Entry) (x : Entry) → step old.state e ≡ Some (record { state = new.state; sent = [] }) → new.kept ≡ newest (old.kept ++ x ∷ []) → entry_view x ≡ e
     → HasSameFrames old.outbox new.outbox → EntersEntry old e new
 moves_silent old new e x stepped kept is same = moves_with old new e x [] stepped kept is (λ s. same s ∙ sym (append-nil (waiting_for s old.outbox)))
 
@@ -69,19 +76,32 @@ nothing_chosen m = record { moment = m; draws = []; outcomes = [] }
 abbrev pub entry_of : machine.Event → machine.Choice → machine.Entry
 entry_of event choice = record { event = event; choice = choice }
 
-pub ticked : {K D : Type 0} (old : CoreState K D) (m : ℕ) (x : Entry) (kept : List Entry) → old.state.moment ≤ m → kept ≡ old.kept ++ x ∷ [] → entry_view x ≡ entry_of machine.Tick (nothing_chosen m)
+pub ticked : {K D : Type 0} (old : CoreState K D) (m : ℕ) (x : Entry) (kept : List Entry) → old.state.moment ≤ m → kept ≡ newest (old.kept ++ x ∷ []) → entry_view x ≡ entry_of machine.Tick (nothing_chosen m)
     → EntersEntry old (entry_of machine.Tick (nothing_chosen m)) (record old { state = record old.state { moment = m }; kept = kept })
 ticked old m x kept low added is = moves_silent old _ _ x (step_at old.state machine.Tick (nothing_chosen m) low) added is (λ s. refl)
 
-pub opened : {K D : Type 0} (old : CoreState K D) (m : ℕ) (x : Entry) (kept : List Entry) (sessions : List machine.Session) → old.state.moment ≤ m → kept ≡ old.kept ++ x ∷ [] → entry_view x ≡ entry_of machine.Open (nothing_chosen m)
+pub has_ticked : (s : State) (m : ℕ) (x : Entry) (old new : List Entry) → s.moment ≤ m → new ≡ newest (old ++ x ∷ []) → entry_view x ≡ entry_of machine.Tick (nothing_chosen m) → HasHistory s old → HasHistory (record s { moment = m }) new
+has_ticked s m x old new low added is has = has_more s (record s { moment = m }) old new (entry_of machine.Tick (nothing_chosen m)) [] (step_at s machine.Tick (nothing_chosen m) low) (entered_behind old new x _ added is) has
+
+pub opened : {K D : Type 0} (old : CoreState K D) (m : ℕ) (x : Entry) (kept : List Entry) (sessions : List machine.Session) → old.state.moment ≤ m → kept ≡ newest (old.kept ++ x ∷ []) → entry_view x ≡ entry_of machine.Open (nothing_chosen m)
     → sessions ≡ old.state.sessions ++ record { serial = old.state.next } ∷ []
     → EntersEntry old (entry_of machine.Open (nothing_chosen m)) (record old { state = record old.state { moment = m; sessions = sessions; next = old.state.next + 1 }; kept = kept })
 opened old m x kept sessions low added is grown = moves_silent old _ _ x (step_at old.state machine.Open (nothing_chosen m) low ∙ rw grown refl) added is (λ s. refl)
 
-pub closed : {K D : Type 0} (old : CoreState K D) (m : ℕ) (s : ℕ) (cause : machine.Cause) (x : Entry) (kept : List Entry) (sessions : List machine.Session) (outbox : WaitingFrames) → old.state.moment ≤ m → machine.is_open old.state s ≡ true → kept ≡ old.kept ++ x ∷ [] → entry_view x ≡ closing m s cause
+pub has_opened : (s : State) (m : ℕ) (x : Entry) (old new : List Entry) (sessions : List machine.Session) → s.moment ≤ m → new ≡ newest (old ++ x ∷ []) → entry_view x ≡ entry_of machine.Open (nothing_chosen m) → sessions ≡ s.sessions ++ record { serial = s.next } ∷ [] → HasHistory s old
+    → HasHistory (record s { moment = m; sessions = sessions; next = s.next + 1 }) new
+has_opened s m x old new sessions low added is grown has =
+    has_more s (record s { moment = m; sessions = sessions; next = s.next + 1 }) old new (entry_of machine.Open (nothing_chosen m)) [] (step_at s machine.Open (nothing_chosen m) low ∙ rw grown refl) (entered_behind old new x _ added is) has
+
+pub closed : {K D : Type 0} (old : CoreState K D) (m : ℕ) (s : ℕ) (cause : machine.Cause) (x : Entry) (kept : List Entry) (sessions : List machine.Session) (outbox : WaitingFrames) → old.state.moment ≤ m → machine.is_open old.state s ≡ true → kept ≡ newest (old.kept ++ x ∷ []) → entry_view x ≡ closing m s cause
     → sessions ≡ (machine.without_session s old.state).sessions → HasSameFrames old.outbox outbox
     → EntersEntry old (closing m s cause) (record old { state = record old.state { moment = m; sessions = sessions }; kept = kept; outbox = outbox })
 closed old m s cause x kept sessions outbox low there added is left same = moves_silent old _ _ x (step_at old.state (machine.Close s cause) (nothing_chosen m) low ∙ rw (there, left) refl) added is same
+
+pub has_closed : (st : State) (m s : ℕ) (cause : machine.Cause) (x : Entry) (old new : List Entry) (sessions : List machine.Session) → st.moment ≤ m → machine.is_open st s ≡ true → new ≡ newest (old ++ x ∷ []) → entry_view x ≡ closing m s cause
+    → sessions ≡ (machine.without_session s st).sessions → HasHistory st old → HasHistory (record st { moment = m; sessions = sessions }) new
+has_closed st m s cause x old new sessions low there added is left has =
+    has_more st (record st { moment = m; sessions = sessions }) old new (closing m s cause) [] (step_at st (machine.Close s cause) (nothing_chosen m) low ∙ rw (there, left) refl) (entered_behind old new x _ added is) has
 
 -- the one session
 pub alone : (o : Option OpenSession) (s : ℕ) → list_any (λ n. eqb n.serial s) (sessions_of o) ≡ true → [] ≡ filter (λ n. not (eqb n.serial s)) (sessions_of o)
@@ -103,9 +123,11 @@ abbrev pub taking : ℕ → ℕ → Message → List Uuid → Option Outcome →
 taking m s message draws o = entry_of (machine.Take s message) (record { moment = m; draws = draws; outcomes = listed_attempts o })
 
 -- the entry of the code is the machine's
-pub entered_as : (m n : ℕ) (message : Message) (draws : List Uuid) (o : Option Outcome) (outcomes : List machine.Attempt) (x : Entry)
-    → entry_view x ≡ entry_of (machine.Take n message) (record { moment = m; draws = draws; outcomes = outcomes }) → outcomes ≡ listed_attempts o → entry_view x ≡ taking m n message draws o
-entered_as m n message draws o outcomes x is are = is ∙ ap (λ (os : List machine.Attempt). entry_of (machine.Take n message) (record { moment = m; draws = draws; outcomes = os })) are
+pub entered_as : (m n : ℕ) (message text : Message) (draws : List Uuid) (o : Option Outcome) (outcomes : List machine.Attempt) (x : Entry)
+    → entry_view x ≡ entry_of (machine.Take n text) (record { moment = m; draws = draws; outcomes = outcomes }) → text ≡ message → outcomes ≡ listed_attempts o → entry_view x ≡ taking m n message draws o
+entered_as m n message text draws o outcomes x is same are =
+    is ∙ (ap (λ (v : Message). entry_of (machine.Take n v) (record { moment = m; draws = draws; outcomes = outcomes })) same
+    ∙ ap (λ (os : List machine.Attempt). entry_of (machine.Take n message) (record { moment = m; draws = draws; outcomes = os })) are)
 
 -- what is listed of attempt 1, and no more
 listed_alone : (o : Option Outcome) → machine.listed 1 (listed_attempts o) ≡ record { outcome = listed_first o; others = [] }
@@ -155,7 +177,7 @@ after_work failed old m sessions entries outbox kept source = record {
 
 -- the work was entered
 pub taken : {K D : Type 0} (failed : K → ℕ) (old : CoreState K D) (m n : ℕ) (message : Message) (handled : Handled) (x : Entry) (entries : List Entry) (sessions : List machine.Session) (outbox : WaitingFrames) (kept : KeptDatabase K) (source : D)
-    → old.state.moment ≤ m → machine.is_open old.state n ≡ true → entries ≡ old.kept ++ x ∷ [] → entry_view x ≡ taking m n message handled.draws.items handled.outcome
+    → old.state.moment ≤ m → machine.is_open old.state n ≡ true → entries ≡ newest (old.kept ++ x ∷ []) → entry_view x ≡ taking m n message handled.draws.items handled.outcome
     → closed_if_no_memory n handled.outcome (with_db (record old.state { moment = m }) kept) ≡ (after_work failed old m sessions entries outbox kept source).state
     → IsHandled n (λ s. machine.work_of s message) (kept_of old) old.outbox handled kept outbox
     → EntersEntry old (taking m n message handled.draws.items handled.outcome) (after_work failed old m sessions entries outbox kept source)
@@ -165,6 +187,20 @@ taken failed old m n message handled x entries sessions outbox kept source low t
     moves_with old (after_work failed old m sessions entries outbox kept source) (taking m n message handled.draws.items handled.outcome) x came.0
     (taking_step old.state m n message handled.draws.items handled.outcome low there ∙ (came.1 ∙ ap (λ (s : State). Some (record { state = s; sent = came.0 })) left))
     added is came.2
+
+-- and there still is a legal history
+pub has_taken : {K : Type 0} (s t : State) (before : KeptDatabase K) (m n : ℕ) (message : Message) (handled : Handled) (x : Entry) (old new : List Entry) (waited waits : WaitingFrames) (kept : KeptDatabase K)
+    → with_db s before ≡ s → s.moment ≤ m → machine.is_open s n ≡ true → new ≡ newest (old ++ x ∷ []) → entry_view x ≡ taking m n message handled.draws.items handled.outcome → closed_if_no_memory n handled.outcome (with_db (record s { moment = m }) kept) ≡ t
+    → IsHandled n (λ s. machine.work_of s message) before waited handled kept waits → HasHistory s old → HasHistory t new
+has_taken s t before m n message handled x old new waited waits kept over low there added is left is_handled has =
+    let now : State = record s { moment = m } in
+    let came = is_handled now in
+    let same : with_db now before ≡ now = ap (λ (v : State). record v { moment = m }) over in
+    has_more s t old new (taking m n message handled.draws.items handled.outcome) came.0
+    (taking_step s m n message handled.draws.items handled.outcome low there
+    ∙ (ap (λ (v : State). machine.works v n handled.draws.items (listed_first handled.outcome) (machine.work_of v message)) (sym same)
+    ∙ (came.1 ∙ ap (λ (v : State). Some (record { state = v; sent = came.0 })) left)))
+    (entered_behind old new x _ added is) has
 
 -- ---- what the keeper was asked
 
@@ -221,15 +257,33 @@ asks_closing m n cause old new c = asks_nothing old new (closing m n cause) refl
 pub not_full : (o : Option OpenSession) (n : ℕ) → o ≡ None → n ≢ 2 ^ 64 - 1 → n < 2 ^ 64 → (leb most_sessions (length (sessions_of o)) || leb (2 ^ 64 - 1) n) ≡ false
 not_full o n none other fits = rw none (lt-leb (2 ^ 64 - 1) n (omega arith))
 
--- a session that is open was closed
-pub it_closed : (b o : Bool) (P Q : Type 0) → MatchBool b P (Q × (o ≡ false)) → o ≡ true → P
-it_closed true o P Q h there = h
-it_closed false o P Q h there = absurd (false≢true (sym h.1 ∙ there))
-
--- a Close when out of memory stands in place of a Take
-pub stood_in : {K D : Type 0} (draws : D → Uuid → D → Type 0) (at s : ℕ) (message : Message) (old new : CoreState K D) → Closes at s machine.Memory old new → IsEntered draws at (machine.Take s message) old answer.Closed new
-stood_in draws at s message old new c = record { entry = closing at s machine.Memory; tells = (inr refl, c.shut); moment = refl; drawn = c.drawn; moves = c.moves; asks = asks_closing at s machine.Memory old new c }
-
 -- a Close as it was asked for
 pub closed_as_asked : {K D : Type 0} (draws : D → Uuid → D → Type 0) (at s : ℕ) (cause : machine.Cause) (old new : CoreState K D) → Closes at s cause old new → IsEntered draws at (machine.Close s cause) old answer.Done new
 closed_as_asked draws at s cause old new c = record { entry = closing at s cause; tells = refl; moment = refl; drawn = c.drawn; moves = c.moves; asks = asks_closing at s cause old new c }
+
+-- ---- before any entry
+
+-- the state of a database that was opened
+opened_state : {K : Type 0} (schema : Schema) (d : KeptDatabase K) → d.schema ≡ schema → d.sealed ≡ None → state_of d None 1 0 ≡ machine.opening schema d.committed
+opened_state schema d same unsealed =
+    ap (λ (v : Schema). record (state_of d None 1 0) { schema = v }) same ∙ ap (λ (v : Option Database). record (machine.opening schema d.committed) { sealed = v }) unsealed
+
+-- the empty history is legal
+pub has_none : {K : Type 0} (d : KeptDatabase K) (kept : List Entry) → d.sealed ≡ None → kept ≡ [] → HasHistory (state_of d None 1 0) kept
+has_none d kept unsealed none = record {
+  schema = d.schema;
+  database = d.committed;
+  history = [];
+  sent = [];
+  legal = ap (λ (s : State). Some (record { state = s; sent = [] })) (sym (opened_state d.schema d refl unsealed));
+  ends = ap (map entry_view) none;
+}
+
+-- and the core has followed it
+pub follows_none : {K D : Type 0} (schema : Schema) (d : KeptDatabase K) (core : CoreState K D) → d.schema ≡ schema → d.sealed ≡ None → core.state ≡ state_of d None 1 0 → core.kept ≡ [] → core.outbox ≡ [] → Follows (machine.opening schema d.committed) [] none_given core
+follows_none schema d core same unsealed is none nothing = record {
+  sent = [];
+  legal = ap (λ (s : State). Some (record { state = s; sent = [] })) (sym (is ∙ opened_state schema d same unsealed));
+  kept = ([], ap (map entry_view) none);
+  issued = λ s. ap (λ (waits : WaitingFrames). waiting_for s waits) (sym nothing);
+}

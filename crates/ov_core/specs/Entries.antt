@@ -1,6 +1,6 @@
 -- Events and entries of the code as those of the machine. What names no source is our own.
-use Rattle.std.specs.Prelude.{List, [], ◌∷◌, map, Bool, true, false, Option, Some, None}
-use Rattle.ov_rpc.specs.Message.{message_view}
+use Rattle.std.specs.Prelude.{List, [], ◌∷◌, map, Bool, true, false, Option, Some, None, option_to_list}
+use Rattle.ov_specs.specs.wire.Message.{Message}
 use Rattle.ov_specs.specs.machine.Machine as machine
 use Rattle.ov_core.specs.declared.event.Cause.{Cause}
 use Rattle.ov_core.specs.declared.event.Cause.TheVariants.{InputEnded, ReadFault, WriteFault, Damaged, Overrun, Memory}
@@ -22,9 +22,9 @@ cause_view Overrun = machine.Overrun
 cause_view Memory = machine.Memory
 
 -- an event: the machine knows sessions by their serials
-abbrev pub event_view : Event → machine.Event
+abbrev pub event_view : Event Message → machine.Event
 event_view Open = machine.Open
-event_view (Take session message) = machine.Take session.serial (message_view message)
+event_view (Take session message) = machine.Take session.serial message
 event_view (Close session cause) = machine.Close session.serial (cause_view cause)
 event_view Tick = machine.Tick
 
@@ -41,7 +41,7 @@ attempt_view a = record { number = a.number; outcome = outcome_view a.outcome }
 
 -- a choice
 abbrev pub choice_view : Choice → machine.Choice
-choice_view c = record { moment = c.moment; draws = c.draws.items; outcomes = map attempt_view c.outcomes.items }
+choice_view c = record { moment = c.moment; draws = c.draws.items; outcomes = map attempt_view (option_to_list c.attempt) }
 
 -- an entry
 abbrev pub entry_view : Entry → machine.Entry

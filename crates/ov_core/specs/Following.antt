@@ -1,10 +1,10 @@
 -- Which histories a core has followed, and which frames were handed out of it. What names no source is our own.
-use Rattle.std.specs.Prelude.{◌≡◌, ℕ, ◌==◌, ◌++◌, List, [], ◌∷◌, map, if◌then◌else◌, Option, Some, option_to_list}
+use Rattle.std.specs.Prelude.{◌≡◌, ℕ, ◌==◌, ◌++◌, List, [], ◌∷◌, if◌then◌else◌, Option, Some, option_to_list}
 use Rattle.ov_specs.specs.machine.Machine as machine
 use Rattle.ov_specs.specs.machine.Machine.{State, Sent}
 use Rattle.ov_specs.specs.machine.History.{run, frames_to}
 use Rattle.ov_core.specs.declared.event.Entry.{Entry}
-use Rattle.ov_core.specs.Entries.{entry_view}
+use Rattle.ov_core.specs.History.{Keeps, KeepsNewest}
 use Rattle.ov_core.specs.Outbox.{WaitingFrames, waiting_for, PostsSent}
 
 -- what contracts see of a core: its state, the entries that it keeps, the frames that wait, its keeper, how often the keeper's
@@ -17,11 +17,7 @@ pub record CoreState (K D : Type 0) : Type 0 where
   pub failures : ℕ
   pub source : D
 
--- the entries that are kept are the history, whole
-abbrev pub Keeps : List Entry → List machine.Entry → Type 0
-Keeps kept history = map entry_view kept ≡ history
-
--- The history leads from the state before it to the core's state, the core keeps it, and of the frames that it sends to each
+-- The history leads from the state before it to the core's state, it ends with the entries that are kept, and of the frames that it sends to each
 -- session `given` were handed out and the others wait.
 pub record Follows {K D : Type 0} (before : State) (history : List machine.Entry) (given : ℕ → List (List ℕ)) (core : CoreState K D) : Type 0 where
   pub sent : List Sent
@@ -29,11 +25,11 @@ pub record Follows {K D : Type 0} (before : State) (history : List machine.Entry
   pub kept : Keeps core.kept history
   pub issued : (session : ℕ) → frames_to session sent ≡ given session ++ waiting_for session core.outbox
 
--- whatever history and frames the core has followed, it follows the history with these entries behind it, and no frame is handed
--- out
-abbrev pub Extends : {K D : Type 0} → CoreState K D → List machine.Entry → CoreState K D → Type 0
-Extends old entries new =
-    (before : State) (history : List machine.Entry) (given : ℕ → List (List ℕ)) → Follows before history given old → Follows before (history ++ entries) given new
+-- Whatever history and frames the core has followed, it follows the history with these entries behind it, and no frame is handed
+-- out. Of the entries that were kept and these the newest are kept.
+pub record Extends {K D : Type 0} (old : CoreState K D) (entries : List machine.Entry) (new : CoreState K D) : Type 0 where
+  pub follows : (before : State) (history : List machine.Entry) (given : ℕ → List (List ℕ)) → Follows before history given old → Follows before (history ++ entries) given new
+  pub keeps : KeepsNewest old.kept entries new.kept
 
 -- no frame was handed out of any session
 abbrev pub none_given : ℕ → List (List ℕ)

@@ -1,4 +1,5 @@
 pub mod Entries
+pub mod History
 pub mod Sessions
 pub mod Outbox
 pub mod Handling

@@ -1,7 +1,7 @@
-ghost use Rattle.std.specs.Prelude.{◌≡◌, IfOk};
+ghost use Rattle.std.specs.Prelude.{◌≡◌, IfOk, Some, MatchOption};
+ghost use Rattle.serde_json.specs.Data.{no_items, item};
 ghost use Rattle.serde_json.specs.View.{view};
 ghost use Rattle.ov_specs.specs.wire.Method.{database_names, bad_text};
-ghost use Rattle.std.specs.Prelude.{Some};
 ghost use Rattle.ov_specs.specs.machine.Machine.{State, work_of, call_of, transact_call, schema_call, schema_call_on, answered, refused};
 ghost use Rattle.ov_rpc.specs.Message.{message_view, bad_kind_view};
 ghost use Rattle.ov_core.specs.Handling.{IsWork};
@@ -52,20 +52,32 @@ fn refused_work(alloc: Global, id: Tree, text: &str) -> Result<Work, AllocError>
     Ok(Work::Answer(Some(failure(alloc, id, text)?)))
 }
 
-/// What a call of "transact" asks for: its params are the database's name, and then the operations (RFC 7047, 4.1.3).
-fn transact_work(alloc: Global, name: &Text, id: Tree, params: &Trees) -> Result<Work, AllocError>
-    ensures { IfOk result (λ w. (s : State) → s.schema.name ≡ name.now → IsWork (transact_call s id params.now) w) }
+/// The first of the trees, and those behind it, not copied; None where there is no tree.
+fn split_first(trees: Trees) -> Option<(Value, Trees)>
+    ensures { MatchOption result (trees ≡ no_items) (λ parts. trees ≡ item (view parts.0) parts.1) }
 {
-    let items = params.as_slice();
+    let Value::Array(mut items) = trees.into_tree().into_value() else {
+        unreachable!()
+    };
     if items.is_empty() {
-        return refused_work(alloc, id, "syntax error");
+        return None;
     }
-    let (_first, operations) = items.split_at(1);
-    match items[0].as_str() {
+    let first = items.remove(0);
+    Some((first, Trees::new(items)))
+}
+
+/// What a call of "transact" asks for: its params are the database's name, and then the operations (RFC 7047, 4.1.3).
+fn transact_work(alloc: Global, name: &Text, id: Tree, params: Trees) -> Result<Work, AllocError>
+    ensures { IfOk result (λ w. (s : State) → s.schema.name ≡ name.now → IsWork (transact_call s id params) w) }
+{
+    let Some((first, operations)) = split_first(params) else {
+        return refused_work(alloc, id, "syntax error");
+    };
+    match first.as_str() {
         None => refused_work(alloc, id, "syntax error"),
         Some(text) => {
             if text == name.as_str() {
-                Ok(Work::Transact(id, Trees::from_slice(alloc, operations)?))
+                Ok(Work::Transact(id, operations))
             } else {
                 refused_work(alloc, id, "unknown database")
             }
@@ -103,32 +115,32 @@ fn call_work(
     schema: &Schema,
     id: Tree,
     method: &str,
-    params: &Trees,
+    params: Trees,
 ) -> Result<Work, AllocError>
-    ensures { IfOk result (λ w. (s : State) → s.schema ≡ schema.now → IsWork (call_of s id method.now params.now) w) }
+    ensures { IfOk result (λ w. (s : State) → s.schema ≡ schema.now → IsWork (call_of s id method.now params) w) }
 {
     if method == "list_dbs" {
         answered_work(alloc, id, Tree::new(names_of(alloc, schema.name())?))
     } else if method == "get_schema" {
-        schema_work(alloc, schema, id, params)
+        schema_work(alloc, schema, id, &params)
     } else if method == "transact" {
         transact_work(alloc, schema.name(), id, params)
     } else if method == "echo" {
-        answered_work(alloc, id, params.copy_as_tree(alloc)?)
+        answered_work(alloc, id, params.into_tree())
     } else {
         refused_work(alloc, id, "unknown method")
     }
 }
 
 /// What a message asks for, where the database has this schema.
-pub(crate) fn work_of(alloc: Global, schema: &Schema, message: &Message) -> Result<Work, AllocError>
-    ensures { IfOk result (λ w. (s : State) → s.schema ≡ schema.now → IsWork (work_of s (message_view message.now)) w) }
+pub(crate) fn work_of(alloc: Global, schema: &Schema, message: Message) -> Result<Work, AllocError>
+    ensures { IfOk result (λ w. (s : State) → s.schema ≡ schema.now → IsWork (work_of s (message_view message)) w) }
 {
     match message {
         Message::Call { id, method, params } => {
-            call_work(alloc, schema, id.copy()?, method.as_str(), params)
+            call_work(alloc, schema, id, method.as_str(), params)
         }
-        Message::Bad { id, kind } => refused_work(alloc, id.copy()?, bad_kind_text(*kind)),
+        Message::Bad { id, kind } => refused_work(alloc, id, bad_kind_text(kind)),
         Message::Note { .. } | Message::Answer => Ok(Work::Answer(None)),
     }
 }

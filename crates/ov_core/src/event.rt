@@ -1,4 +1,4 @@
-use ov_rpc::Message;
+use ov_rpc::MessageText;
 use thiserror::Error;
 use uuid::Uuid;
 
@@ -28,13 +28,14 @@ pub enum Cause {
     Memory,
 }
 
-/// What happens to the machine.
+/// What happens to the machine. `M` is what stands for a message: a `Received` where it is taken, and its `MessageText` where the
+/// history tells of it.
 #[derive(Drop)]
-pub enum Event {
+pub enum Event<M> {
     /// A session opens, with the next serial.
     Open,
     /// A message of a session is taken, and answered at once if it is answered (RFC 7047, 4.1).
-    Take(Session, Message),
+    Take(Session, M),
     /// A session is closed. What waits for it still waits.
     Close(Session, Cause),
     /// Time has come to the moment.
@@ -70,15 +71,15 @@ pub struct Choice {
     pub moment: u64,
     /// The identifiers that were drawn, in order.
     pub draws: Vec<Uuid>,
-    /// The attempts that asked the store or were refused memory, in order.
-    pub outcomes: Vec<Attempt>,
+    /// The attempt, where it asked the store or was refused memory. An event has one at most.
+    pub attempt: Option<Attempt>,
 }
 
 /// One entry of the history.
 #[derive(Drop)]
 pub struct Entry {
     /// What happened.
-    pub event: Event,
+    pub event: Event<MessageText>,
     /// What the outside chose for it.
     pub choice: Choice,
 }
@@ -89,7 +90,7 @@ pub enum StepFault {
     /// A session is open already, or no serial is left: the last one is 2^64-2.
     #[error("too many sessions")]
     TooMany,
-    /// A growth was refused.
+    /// A growth was refused. No step answers it today, since the history has its room from the opening on.
     #[error("out of memory")]
     Memory,
     /// The session is not open.

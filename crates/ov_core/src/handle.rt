@@ -70,9 +70,9 @@ pub(crate) fn handle<K: Keeper + Drop, D: Draws>(
     source: &mut D,
     outbox: &mut Outbox,
     session: u64,
-    message: &Message,
+    message: Message,
 ) -> Handled
-    ensures is_handled { IsHandled session (λ s. spec.work_of s (message_view message.now)) database.old outbox.old result database.new outbox.new }
+    ensures is_handled { IsHandled session (λ s. spec.work_of s (message_view message)) database.old outbox.old result database.new outbox.new }
     ensures asks { AsksStore K.failed result.outcome database.old database.new }
     ensures counts { K.failed database.old.keeper ≤ K.failed database.new.keeper }
     ensures drawn { DrawsFrom D.draws source.old result.draws.items source.new }

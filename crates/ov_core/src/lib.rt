@@ -10,6 +10,7 @@ mod entry;
 mod event;
 mod frames;
 mod handle;
+mod history;
 mod machine;
 mod outbox;
 mod session;

@@ -3,34 +3,36 @@ ghost use Rattle.serde_json.specs.Written.{compact_text};
 ghost use Rattle.ov_specs.specs.rows.Lines.{Contents};
 ghost use Rattle.ov_specs.specs.machine.History.{joined};
 ghost use Rattle.ov_specs.specs.machine.Machine.{State, opening, is_open, Open as SpecOpen, Tick as SpecTick, Take as SpecTake, Entry as SpecEntry};
-ghost use Rattle.ov_rpc.specs.Message.{message_view};
 ghost use Rattle.ov_keeper.specs.Keeping.{LeavesNoMore, HasFailed};
 ghost use Rattle.ov_keeper.specs.declared.fault.KeepFault.TheVariants.{Device};
 ghost use Rattle.ov_db.specs.Opening.{CanOpen, IsOpenFault, RefusesOpen};
 ghost use Rattle.ov_db.specs.declared.fault.OpenFault.TheVariants.{Keeping};
 ghost use Rattle.ov_core.specs.Entries.{event_view, cause_view};
 ghost use Rattle.ov_core.specs.Outbox.{waiting_for, has_queue};
+ghost use Rattle.ov_core.specs.History.{HasHistory};
 ghost use Rattle.ov_core.specs.Following.{Follows, none_given, and_handed, and_all_handed};
 ghost use Rattle.ov_core.specs.Stepping.{StepIs, Closes};
 ghost use Rattle.ov_core.specs.Leaving.{LeavesItsOwn};
 ghost use Rattle.ov_db.specs.Committing.{MayFind};
 
-use crate::entry::{entry_with_choice, entry_without_choice, is_closing, listed};
+use crate::entry::{entry_with_choice, entry_without_choice, first_attempt, is_closing};
 use crate::event::{Cause, Entry, Event, Session, StepFault, Stepped};
 use crate::handle::{Handled, handle};
+use crate::history::History;
 use crate::outbox::Outbox;
 use crate::session::OpenSession;
 use ov_base::Bytes;
-use ov_db::{Db, RefusedOpen};
-use ov_keeper::Keeper;
-use ov_rpc::Message;
+use ov_db::{Db, OpenFault, RefusedOpen};
+use ov_keeper::{KeepFault, Keeper};
+use ov_rpc::Received;
 use ov_schema::Schema;
 use ov_txn::Draws;
 use std::alloc::{AllocError, Global};
 use std::collections::VecDeque;
 use std::marker::Model;
 
-/// The machine over a keeper, with its history (our own, over RFC 7047, 4). One session may be open at a time.
+/// The machine over a keeper, with the newest 4,096 entries of its history (our own, over RFC 7047, 4). One session may be open at
+/// a time.
 #[derive(Drop)]
 pub struct Core<K: Keeper, D> {
     database: Db<K>,
@@ -38,36 +40,34 @@ pub struct Core<K: Keeper, D> {
     session: Option<OpenSession>,
     next: u64,
     moment: u64,
-    history: VecDeque<Entry>,
+    history: History,
     outbox: Outbox,
     alloc: Global,
 }
 
 impl<K: Keeper, D> Model for Core<K, D> {
-    ghost use Rattle.std.specs.Prelude.{◌≡◌, ◌+◌, ◌≤◌, length, option_to_list};
-    ghost use Rattle.std.specs.VecDeque.{deque_len, deque_capacity};
     ghost use Rattle.std.specs.Coded.{codes};
     ghost use Rattle.ov_specs.specs.codes.TreeCode.{tree_code, items_code};
     ghost use Rattle.ov_specs.specs.codes.SchemaCode.{schema_code};
     ghost use Rattle.ov_rows.specs.Resident.{database_code};
     ghost use Rattle.ov_core.specs.Following.{CoreState};
-    ghost use Rattle.ov_core.specs.Sessions.{sessions_of};
+    ghost use Rattle.ov_core.specs.History.{HasHistory};
+    ghost use Rattle.ov_core.specs.Sessions.{state_of};
 
     ghost Value = { CoreState K D };
 
     ghost coded = { Prim.hlevel (codes, schema_code, database_code, tree_code, items_code, K.code, D.code) };
 
     ghost view = { λ c. record {
-      state = record { schema = c.database.schema; database = c.database.committed; sealed = c.database.sealed; sessions = sessions_of c.session; next = c.next; moment = c.moment };
-      kept = c.history.items;
+      state = state_of c.database c.session c.next c.moment;
+      kept = c.history;
       outbox = c.outbox;
       keeper = c.database.keeper;
       failures = K.Keeper.failed c.database.keeper;
       source = c.source;
     } };
 
-    // The entry of the open session's closing has room.
-    ghost invariant = { λ c. deque_len c.history + length (option_to_list c.session) ≤ deque_capacity c.history };
+    ghost invariant = { λ c. HasHistory (state_of c.database c.session c.next c.moment) c.history };
 }
 
 impl<K: Keeper + Drop, D: Draws + Drop> Core<K, D> {
@@ -75,7 +75,8 @@ impl<K: Keeper + Drop, D: Draws + Drop> Core<K, D> {
     ///
     /// It is refused as `SchemaDiffers` where the keeper holds another text than the schema's (RFC 7047, 3.2), as `BadBody`
     /// where one of its lines is no row of the schema, and with the fault of the keeper's load. Memory that is refused is the
-    /// keeper's fault `Memory`. What the keeper holds is not changed, and a refusal gives it back.
+    /// keeper's fault `Memory`. What the keeper holds is not changed, and a refusal gives it back. The room for the 4,096 entries
+    /// of the history is taken here.
     pub fn open(
         alloc: Global,
         keeper: K,
@@ -98,6 +99,12 @@ impl<K: Keeper + Drop, D: Draws + Drop> Core<K, D> {
         ensures same_refused { IfErr result (λ e. K.is_honest e.keeper → LeavesNoMore (K.leaves keeper) (K.leaves e.keeper)) }
         ensures honest_refused { IfErr result (λ e. K.is_honest e.keeper → K.is_honest keeper) }
     {
+        let Ok(history) = History::new(alloc) else {
+            return Err(RefusedOpen {
+                fault: OpenFault::Keeping(KeepFault::Memory),
+                keeper,
+            });
+        };
         let database = Db::open(alloc, keeper, schema)?;
         Ok(Core {
             database,
@@ -105,7 +112,7 @@ impl<K: Keeper + Drop, D: Draws + Drop> Core<K, D> {
             session: None,
             next: 1,
             moment: 0,
-            history: VecDeque::new(alloc),
+            history,
             outbox: Outbox::new(alloc),
             alloc,
         })
@@ -114,15 +121,15 @@ impl<K: Keeper + Drop, D: Draws + Drop> Core<K, D> {
     /// Enters an event at a moment in milliseconds, or at the last one if that is later.
     ///
     /// An `Open` is refused as `TooMany` while a session is open and where no serial is left, a `Take` or a `Close` as
-    /// `NotOpen` where its session is not open, and an `Open` or a `Tick` as `Memory` where memory is refused. A `Take` for
-    /// which memory is refused closes its session. A refused step changes nothing.
-    pub fn step(&mut self, alloc: Global, moment: u64, event: Event) -> Stepped
+    /// `NotOpen` where its session is not open. A `Take` for which memory is refused closes its session. A refused step changes
+    /// nothing. The entry takes no memory: the history has room for it, and keeps the message's text as it came.
+    pub fn step(&mut self, alloc: Global, moment: u64, event: Event<Received>) -> Stepped
         ensures { StepIs D.draws (max moment self.old.state.moment) (event_view event) self.old result self.new }
     {
         let moment = moment.max(self.moment);
         match event {
             Event::Open => self.open_session(moment),
-            Event::Take(session, message) => self.take(alloc, moment, session, message),
+            Event::Take(session, received) => self.take(alloc, moment, session, received),
             Event::Close(session, cause) => {
                 if self.close_at(moment, session, cause) {
                     Stepped::Done
@@ -163,11 +170,13 @@ impl<K: Keeper + Drop, D: Draws + Drop> Core<K, D> {
         }
     }
 
-    /// The whole history since the core was opened, oldest entry first.
+    /// The last 4,096 entries of the history since the core was opened, oldest first.
     pub fn history(&self) -> &VecDeque<Entry>
-        ensures { result.now.items ≡ self.now.kept }
+        ensures kept { result.now.items ≡ self.now.kept }
+        // Each core keeps true of itself that there is such a history.
+        ensures legal { HasHistory self.now.state self.now.kept }
     {
-        &self.history
+        self.history.entries()
     }
 
     /// Hands out the oldest frame that waits for the session, also for a closed one; None where nothing waits for it.
@@ -245,11 +254,8 @@ impl<K: Keeper + Drop, D: Draws + Drop> Core<K, D> {
         if self.session.is_some() || self.next == u64::MAX {
             return Stepped::Refused(StepFault::TooMany);
         }
-        if self.history.reserve(2).is_err() {
-            return Stepped::Refused(StepFault::Memory);
-        }
         self.history
-            .push_back_reserved(entry_without_choice(self.alloc, moment, Event::Open));
+            .push(entry_without_choice(self.alloc, moment, Event::Open));
         let serial = self.next;
         self.session = Some(OpenSession { serial });
         self.next = serial + 1;
@@ -261,11 +267,8 @@ impl<K: Keeper + Drop, D: Draws + Drop> Core<K, D> {
         requires { self.old.state.moment ≤ moment }
         ensures { StepIs D.draws moment SpecTick self.old result self.new }
     {
-        if self.history.reserve(2).is_err() {
-            return Stepped::Refused(StepFault::Memory);
-        }
         self.history
-            .push_back_reserved(entry_without_choice(self.alloc, moment, Event::Tick));
+            .push(entry_without_choice(self.alloc, moment, Event::Tick));
         self.moment = moment;
         Stepped::Done
     }
@@ -279,46 +282,34 @@ impl<K: Keeper + Drop, D: Draws + Drop> Core<K, D> {
         if !self.is_open(session) {
             return false;
         }
-        self.history.push_back_reserved(entry_without_choice(
-            self.alloc,
-            moment,
-            Event::Close(session, cause),
-        ));
+        self.history.push(entry_without_choice(self.alloc, moment, Event::Close(session, cause)));
         self.session = None;
         self.moment = moment;
         self.outbox.forget(session.serial);
         true
     }
 
-    fn take(&mut self, alloc: Global, moment: u64, session: Session, message: Message) -> Stepped
+    fn take(&mut self, alloc: Global, moment: u64, session: Session, received: Received) -> Stepped
         requires { self.old.state.moment ≤ moment }
-        ensures { StepIs D.draws moment (SpecTake session.serial (message_view message)) self.old result self.new }
+        ensures { StepIs D.draws moment (SpecTake session.serial received) self.old result self.new }
     {
         if !self.is_open(session) {
             return Stepped::Refused(StepFault::NotOpen);
         }
-        let Ok(room) = Vec::with_capacity(alloc, 1) else {
-            let _ = self.close_at(moment, session, Cause::Memory);
-            return Stepped::Closed;
-        };
-        if self.history.reserve(2).is_err() {
-            let _ = self.close_at(moment, session, Cause::Memory);
-            return Stepped::Closed;
-        }
+        let (message, text) = received.into_parts();
         let Handled { draws, outcome } = handle(
             alloc,
             &mut self.database,
             &mut self.source,
             &mut self.outbox,
             session.serial,
-            &message,
+            message,
         );
-        let event = Event::Take(session, message);
-        self.history.push_back_reserved(entry_with_choice(
+        self.history.push(entry_with_choice(
             moment,
-            event,
+            Event::Take(session, text),
             draws,
-            listed(room, outcome),
+            first_attempt(outcome),
         ));
         self.moment = moment;
         if is_closing(outcome) {

@@ -5,9 +5,11 @@ mod append;
 mod fault;
 mod frame;
 mod message;
+mod received;
 mod request;
 
 pub use append::append_item;
 pub use fault::RpcFault;
 pub use frame::{failure, note, reply};
 pub use message::{BadKind, Message};
+pub use received::{MessageText, Received};

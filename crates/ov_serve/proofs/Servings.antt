@@ -22,7 +22,9 @@ use Rattle.ov_core.specs.declared.event.Cause.TheVariants.{WriteFault, Damaged, 
 use Rattle.ov_core.specs.Entries.{cause_view, entry_view}
 use Rattle.ov_core.specs.Outbox.{waiting_for}
 use Rattle.ov_core.specs.Following.{CoreState, Follows, Extends, and_all_handed}
+use Rattle.ov_core.specs.History.{KeepsNewest}
 use Rattle.ov_core.specs.Stepping.{closing, Closes}
+use Rattle.ov_core.proofs.Histories.{keeps_last}
 use Rattle.ov_streams.specs.Feeding.{IsFed, EntersPiece}
 use Rattle.ov_serve.specs.Serving.{IoState, io_state, ExtendsHanding, Pieces, most_piece_bytes, bytes_of, events_of, TellsMoments, IsCauseIn, ClosesAfter, ClosesFor, is_written, EndsAs, Served, WritesOf}
 use Rattle.ov_serve.specs.Progress.{Sends, stream_cause, IsShut, StandsAfter, ServedSoFar, ServedAndFed}
@@ -161,7 +163,7 @@ module _ {K D C : Type 0} (tells : C → ℕ → C → Type 0) (n : ℕ) (old : 
     written = done.written;
     none_left = none_left;
     ends = λ schema database history given f.
-        ends_as n cause old b schema database history (done.entries ++ last) given done.frames from.written to.written done.serial f (goes_on_entering n old a b done.entries last done.frames done.extends enters (opening schema database) history given f) done.written none_left
+        ends_as n cause old b schema database history (done.entries ++ last) given done.frames from.written to.written done.serial f ((goes_on_entering n old a b done.entries last done.frames done.extends enters).follows (opening schema database) history given f) done.written none_left
         (told (opening schema database) history given f);
   }
 
@@ -205,14 +207,12 @@ abbrev pub Finds : {K D : Type 0} → Cause → CoreState K D → Type 0
 Finds cause core = (front : List machine.Entry) (last : machine.Entry) → map entry_view core.kept ≡ front ++ last ∷ [] → cause_view cause ≡ stream_cause last.event
 
 -- the cause that was found is that of the history
-found_cause : {K D : Type 0} (n : ℕ) (old a : CoreState K D) (cause : Cause) (entries : List machine.Entry) (frames : List (List ℕ)) → ExtendsHanding n old entries frames a → StandsAfter n old.state entries a.state → is_open a.state n ≡ false → Finds cause a
-    → (before : State) (history : List machine.Entry) (given : ℕ → List (List ℕ)) → Follows before history given old → closed_by old.state (entries ++ []) n ≡ Some (cause_view cause)
-found_cause n old a cause entries frames extends stands gone finds before history given f =
+found_cause : {K D : Type 0} (n : ℕ) (old a : CoreState K D) (cause : Cause) (entries : List machine.Entry) (frames : List (List ℕ)) → ExtendsHanding n old entries frames a → StandsAfter n old.state entries a.state → is_open a.state n ≡ false → Finds cause a → closed_by old.state (entries ++ []) n ≡ Some (cause_view cause)
+found_cause n old a cause entries frames extends stands gone finds =
     let within = closed_within n old.state entries a.state stands gone in
     let shut = within.0 in
-    let kept : map entry_view a.kept ≡ (history ++ shut.front) ++ shut.last ∷ [] =
-    (extends before history given f).kept ∙ (ap (λ (l : List machine.Entry). history ++ l) shut.parts ∙ sym (append_assoc history shut.front (shut.last ∷ []))) in
-    within.1 ∙ ap (λ c. Some c) (sym (finds (history ++ shut.front) shut.last kept))
+    let kept = keeps_last old.kept a.kept shut.front shut.last (subst (λ (l : List machine.Entry). KeepsNewest old.kept l a.kept) shut.parts extends.keeps) in
+    within.1 ∙ ap (λ c. Some c) (sym (finds kept.0 shut.last kept.1))
 
 module _ {K D C : Type 0} (tells : C → ℕ → C → Type 0) (n : ℕ) (old : CoreState K D) (from : IoState C) (a b : CoreState K D) (to : IoState C) where
   -- the open session was closed because of its reader, which gave nothing more
@@ -246,13 +246,13 @@ module _ {K D C : Type 0} (tells : C → ℕ → C → Type 0) (n : ℕ) (old : 
   pub by_stream : (cause : Cause) → (cause ≡ Damaged) ⊎ (cause ≡ Memory) → Finds cause a → is_open a.state n ≡ false → ServedSoFar tells n true old from a to → waiting_for n a.outbox ≡ [] → Served tells n old from cause a to
   by_stream cause (inl e) finds gone done empty =
       subst (λ (v : Cause). Served tells n old from v a to) (sym e)
-      (then_served tells n old from a a to Damaged [] done (enters_none a) (gone, refl, refl) gone (λ _. empty) (λ before history given f. found before history given f ∙ ap (λ (v : Cause). Some (cause_view v)) e))
+      (then_served tells n old from a a to Damaged [] done (enters_none a) (gone, refl, refl) gone (λ _. empty) (λ before history given f. found ∙ ap (λ (v : Cause). Some (cause_view v)) e))
     where
-      found : (before : State) (history : List machine.Entry) (given : ℕ → List (List ℕ)) → Follows before history given old → closed_by old.state (done.entries ++ []) n ≡ Some (cause_view cause)
-      found before history given f = found_cause n old a cause done.entries done.frames done.extends done.stands gone finds before history given f
+      found : closed_by old.state (done.entries ++ []) n ≡ Some (cause_view cause)
+      found = found_cause n old a cause done.entries done.frames done.extends done.stands gone finds
   by_stream cause (inr e) finds gone done empty =
       subst (λ (v : Cause). Served tells n old from v a to) (sym e)
-      (then_served tells n old from a a to Memory [] done (enters_none a) (gone, refl, refl) gone (λ _. empty) (λ before history given f. found before history given f ∙ ap (λ (v : Cause). Some (cause_view v)) e))
+      (then_served tells n old from a a to Memory [] done (enters_none a) (gone, refl, refl) gone (λ _. empty) (λ before history given f. found ∙ ap (λ (v : Cause). Some (cause_view v)) e))
     where
-      found : (before : State) (history : List machine.Entry) (given : ℕ → List (List ℕ)) → Follows before history given old → closed_by old.state (done.entries ++ []) n ≡ Some (cause_view cause)
-      found before history given f = found_cause n old a cause done.entries done.frames done.extends done.stands gone finds before history given f
+      found : closed_by old.state (done.entries ++ []) n ≡ Some (cause_view cause)
+      found = found_cause n old a cause done.entries done.frames done.extends done.stands gone finds

@@ -12,6 +12,7 @@ use Rattle.ov_core.specs.declared.event.Cause.{Cause}
 use Rattle.ov_core.specs.declared.event.Cause.TheVariants.{InputEnded, ReadFault, WriteFault, Damaged, Overrun, Memory}
 use Rattle.ov_core.specs.Outbox.{waiting_for}
 use Rattle.ov_core.specs.Following.{CoreState, Follows, and_all_handed}
+use Rattle.ov_core.specs.History.{KeepsNewest}
 use Rattle.ov_serve.specs.Ends.{one_more}
 
 -- what stands around a core: the bytes that were read and written so far, and the clock
@@ -27,11 +28,11 @@ io_state read written clock = record { read = read; written = written; clock = c
 -- ---- frames handed out
 
 -- Whatever history and frames the core has followed, it follows the history with these entries behind it, and these frames of
--- the session were handed out on the way.
-abbrev pub ExtendsHanding : {K D : Type 0} → ℕ → CoreState K D → List machine.Entry → List (List ℕ) → CoreState K D → Type 0
-ExtendsHanding n old entries frames new =
-    (before : State) (history : List machine.Entry) (given : ℕ → List (List ℕ)) → Follows before history given old
-    → Follows before (history ++ entries) (and_all_handed given n frames) new
+-- the session were handed out on the way. Of the entries that were kept and these the newest are kept.
+pub record ExtendsHanding {K D : Type 0} (n : ℕ) (old : CoreState K D) (entries : List machine.Entry) (frames : List (List ℕ)) (new : CoreState K D) : Type 0 where
+  pub follows : (before : State) (history : List machine.Entry) (given : ℕ → List (List ℕ)) → Follows before history given old
+      → Follows before (history ++ entries) (and_all_handed given n frames) new
+  pub keeps : KeepsNewest old.kept entries new.kept
 
 -- the bytes are the first of those, and others may follow
 abbrev pub BeginsAs : List ℕ → List ℕ → Type 0

@@ -14,6 +14,7 @@ use crate::send::write_waiting;
 use ov_core::early::{Draws, Keeper};
 use ov_core::{Cause, Core, Entry, Event, Session, StepFault, Stepped};
 use ov_cut::Cutter;
+use ov_rpc::MessageText;
 use ov_streams::feed_session;
 use std::alloc::Global;
 use std::collections::VecDeque;
@@ -131,7 +132,7 @@ fn cause_of_closing(history: &VecDeque<Entry>) -> Cause
 }
 
 /// Why a stream closed its session, by the event that did.
-fn cause_by(event: &Event) -> Cause
+fn cause_by(event: &Event<MessageText>) -> Cause
     ensures one_of { (result ≡ Cause.Damaged) ⊎ (result ≡ Cause.Memory) }
     ensures is { cause_view result ≡ stream_cause (event_view event.now) }
 {

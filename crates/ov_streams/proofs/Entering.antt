@@ -1,7 +1,7 @@
 -- How texts of a session go into the history.
-use Rattle.std.proofs.Common.{◌≡◌, ℕ, ◌+◌, ◌<◌, List, [], ◌∷◌, ◌++◌, refl, sym, ap, subst, ◌∙◌, Bool, true, false, Option, Some, None, append_assoc, ◌⊎◌, inl, inr, length, get_or, drop, max}
+use Rattle.std.proofs.Common.{◌≡◌, ℕ, List, [], ◌∷◌, ◌++◌, refl, sym, ap, subst, ◌∙◌, Bool, true, false, Option, Some, None, append_assoc, ◌⊎◌, inl, inr, max}
 use Rattle.std.specs.Prelude.{MatchBool}
-use Rattle.std.proofs.lemmas.List.{append-nil, drop_more}
+use Rattle.std.proofs.lemmas.List.{append-nil}
 use Rattle.std.proofs.lemmas.Bool.{false≢true}
 use Rattle.ov_specs.specs.wire.Message.{Message, Asked, asked_of, with_asked, message_in}
 use Rattle.ov_specs.specs.machine.Machine as machine
@@ -15,6 +15,7 @@ use Rattle.ov_core.specs.declared.event.Stepped.TheVariants as answer
 use Rattle.ov_core.specs.declared.event.StepFault.TheVariants as fault
 use Rattle.ov_core.specs.Following.{CoreState, Follows, Extends}
 use Rattle.ov_core.specs.Stepping.{StepIs, IsEntered}
+use Rattle.ov_core.proofs.Histories.{keeps_on}
 use Rattle.ov_streams.specs.Entering.{ExtendsByStep, ClosesByEntry, TakesMessage, EntersText, EntersTexts}
 
 -- ---- what a step of the core is
@@ -111,11 +112,13 @@ ended_by at n text texts d s e t shut (inr (inr (none, h))) = feeds_as at s n _ 
 -- ---- the loop
 
 pub enters_none : {K D : Type 0} (core : CoreState K D) → Extends core [] core
-enters_none core before history given h = subst (λ (k : List Entry). Follows before k given core) (sym (append-nil history)) h
+enters_none core = record { follows = λ before history given h. subst (λ (k : List Entry). Follows before k given core) (sym (append-nil history)) h; keeps = refl }
 
 pub enters_more : {K D : Type 0} (old mid new : CoreState K D) (entries more : List Entry) → Extends old entries mid → Extends mid more new → Extends old (entries ++ more) new
-enters_more old mid new entries more one two before history given h =
-    subst (λ (k : List Entry). Follows before k given new) (append_assoc history entries more) (two before (history ++ entries) given (one before history given h))
+enters_more old mid new entries more one two = record {
+  follows = λ before history given h. subst (λ (k : List Entry). Follows before k given new) (append_assoc history entries more) (two.follows before (history ++ entries) given (one.follows before history given h));
+  keeps = keeps_on old.kept mid.kept new.kept entries more one.keeps two.keeps;
+}
 
 -- what is still to come of these texts, whatever follows them, comes of all of them
 abbrev pub Continues : {K D : Type 0} → ℕ → ℕ → List (List ℕ) → List (List ℕ) → CoreState K D → CoreState K D → List Entry → Type 0
@@ -124,22 +127,16 @@ Continues at n all rest first now entries =
     → FeedsAsked at now.state n (asked_of (rest ++ others) damaged) more last
     → FeedsAsked at first.state n (asked_of (all ++ others) damaged) (entries ++ more) last
 
--- the texts from a place on
-rest_is : (texts : List (List ℕ)) (i : ℕ) (text : List ℕ) (others : List (List ℕ)) (d : Bool) → i < length texts → text ≡ get_or texts i text
-    → asked_of (drop i texts ++ others) d ≡ asked_of (text ∷ (drop (i + 1) texts ++ others)) d
-rest_is texts i text others d h e =
-    ap (λ (ts : List (List ℕ)). asked_of (ts ++ others) d) (drop_more texts i text h ∙ ap (λ (t : List ℕ). t ∷ drop (i + 1) texts) (sym e))
-
-module _ {K D : Type 0} (at n : ℕ) (first now new : CoreState K D) (texts : List (List ℕ)) (i : ℕ) (text : List ℕ) (within : i < length texts) (is : text ≡ get_or texts i text)
-    (entries : List Entry) (en : Extends first entries now) (on : Continues at n texts (drop i texts) first now entries) (one : EntersText at n text now new) where
+module _ {K D : Type 0} (at n : ℕ) (first now new : CoreState K D) (texts rest later : List (List ℕ)) (text : List ℕ) (is : rest ≡ text ∷ later)
+    (entries : List Entry) (en : Extends first entries now) (on : Continues at n texts rest first now entries) (one : EntersText at n text now new) where
   -- the session is still open
-  pub continues : is_open new.state n ≡ true → Continues at n texts (drop (i + 1) texts) first new (entries ++ one.entry ∷ [])
+  pub continues : is_open new.state n ≡ true → Continues at n texts later first new (entries ++ one.entry ∷ [])
   continues there others damaged more last f = elim one.outcome [
     | inl (still, taken) ↦
         subst (λ (k : List Entry). FeedsAsked at first.state n (asked_of (texts ++ others) damaged) k last) (sym (append_assoc entries (one.entry ∷ []) more))
-        (on others damaged (one.entry ∷ more) last (feeds_as at now.state n _ _ _ _ (rest_is texts i text others damaged within is)
-        (taken_then at n text (drop (i + 1) texts ++ others) damaged now.state one.entry one.step more last still taken
-        (subst (λ (s : State). FeedsAsked at s n (asked_of (drop (i + 1) texts ++ others) damaged) more last) (sym one.adds.state) f))))
+        (on others damaged (one.entry ∷ more) last (feeds_as at now.state n _ _ _ _ (ap (λ (ts : List (List ℕ)). asked_of (ts ++ others) damaged) is)
+        (taken_then at n text (later ++ others) damaged now.state one.entry one.step more last still taken
+        (subst (λ (s : State). FeedsAsked at s n (asked_of (later ++ others) damaged) more last) (sym one.adds.state) f))))
     | inr (shut, how) ↦ absurd (false≢true (sym (ap (λ (s : State). is_open s n) (sym one.adds.state) ∙ shut) ∙ there))
   ]
 
@@ -155,9 +152,9 @@ module _ {K D : Type 0} (at n : ℕ) (first now new : CoreState K D) (texts : Li
     ends = λ _ others damaged. elim one.outcome [
       | inl (still, taken) ↦ absurd (false≢true (sym (ap (λ (s : State). is_open s n) one.adds.state ∙ away) ∙ still))
       | inr (shut, how) ↦
-          on others damaged (one.entry ∷ []) new.state (feeds_as at now.state n _ _ _ _ (rest_is texts i text others damaged within is)
-          (subst (λ (s : State). FeedsAsked at now.state n (asked_of (text ∷ (drop (i + 1) texts ++ others)) damaged) (one.entry ∷ []) s) one.adds.state
-          (ended_by at n text (drop (i + 1) texts ++ others) damaged now.state one.entry one.step shut how)))
+          on others damaged (one.entry ∷ []) new.state (feeds_as at now.state n _ _ _ _ (ap (λ (ts : List (List ℕ)). asked_of (ts ++ others) damaged) is)
+          (subst (λ (s : State). FeedsAsked at now.state n (asked_of (text ∷ (later ++ others)) damaged) (one.entry ∷ []) s) one.adds.state
+          (ended_by at n text (later ++ others) damaged now.state one.entry one.step shut how)))
     ];
   }
 
@@ -169,3 +166,8 @@ all_entered at n first now texts entries en on there = record {
   goes_on = λ _. on;
   ends = λ away. absurd (false≢true (sym away ∙ there));
 }
+
+-- a session that is open was closed
+pub it_closed : (b o : Bool) (P Q : Type 0) → MatchBool b P (Q × (o ≡ false)) → o ≡ true → P
+it_closed true o P Q h there = h
+it_closed false o P Q h there = absurd (false≢true (sym h.1 ∙ there))

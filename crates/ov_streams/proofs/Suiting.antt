@@ -35,7 +35,7 @@ suits_more : {K D : Type 0} (schema : Schema) (database : Database) (list : List
     → Extends old.core k new.core → Expands 0 old.core.state s.fed e k new.core.state after → ((n : ℕ) → is_open new.core.state n ≡ true → HasSessionStream n (after n) new.session_stream) → FollowsEvents schema database (list ++ e ∷ []) (h ++ k) given new
 suits_more schema database list h given old new s e k after enters x session_streams = record {
   fed = after;
-  follows = enters (opening schema database) h given s.follows;
+  follows = enters.follows (opening schema database) h given s.follows;
   expands = one_more (opening schema database) no_streams list h old.core.state s.fed e k new.core.state after s.expands x;
   session_streams = session_streams;
 }

@@ -7,8 +7,8 @@ ghost use Rattle.ov_streams.specs.Entering.{EntersTexts, EntersText, ClosesByEnt
 use ov_base::Bytes;
 use ov_core::early::{Draws, Keeper};
 use ov_core::{Cause, Core, Event, Session};
-use ov_cut::{CutFault, Cutter};
-use ov_rpc::{Message, RpcFault};
+use ov_cut::{CutFault, Cutter, Fed};
+use ov_rpc::{Received, RpcFault};
 use std::alloc::Global;
 
 /// Enters the messages that a piece of the open session's stream ends, at the moment or at the last one if that is later, and
@@ -24,12 +24,12 @@ pub fn feed_session<K: Keeper + Drop, D: Draws + Drop>(
     requires { is_open core.old.state session.serial ≡ true }
     ensures { (stream : List ℕ) → IsFed stream cutter.old → EntersPiece moment session.serial stream piece.now core.old core.new cutter.new }
 {
-    let fed = cutter.feed(alloc, piece);
-    enter_all(core, alloc, moment, session, &fed.messages);
+    let Fed { messages, fault } = cutter.feed(alloc, piece);
+    enter_all(core, alloc, moment, session, messages);
     if !core.is_open(session) {
         return;
     }
-    let Some(fault) = fed.fault else {
+    let Some(fault) = fault else {
         return;
     };
     close_at(core, alloc, moment, session, cause_of(fault));
@@ -51,33 +51,33 @@ fn enter_all<K: Keeper + Drop, D: Draws + Drop>(
     alloc: Global,
     moment: u64,
     session: Session,
-    texts: &[Bytes],
+    texts: Vec<Bytes>,
 )
     requires { is_open core.old.state session.serial ≡ true }
-    ensures { EntersTexts moment session.serial texts.now core.old core.new }
+    ensures { EntersTexts moment session.serial texts.items core.old core.new }
 {
     for text in texts {
-        enter_one(core, alloc, moment, session, text.as_slice());
+        enter_one(core, alloc, moment, session, text);
         if !core.is_open(session) {
             return;
         }
     }
 }
 
-/// Enters one message, or closes the session as Damaged where it is unreadable.
+/// Enters one message, which the history then keeps as this text, or closes the session as Damaged where it is unreadable.
 fn enter_one<K: Keeper + Drop, D: Draws + Drop>(
     core: &mut Core<K, D>,
     alloc: Global,
     moment: u64,
     session: Session,
-    text: &[u8],
+    text: Bytes,
 )
     requires { is_open core.old.state session.serial ≡ true }
-    ensures { EntersText moment session.serial text.now core.old core.new }
+    ensures { EntersText moment session.serial text core.old core.new }
 {
-    match Message::read(alloc, text) {
-        Ok(message) => {
-            let _ = core.step(alloc, moment, Event::Take(session, message));
+    match Received::read(alloc, text) {
+        Ok(received) => {
+            let _ = core.step(alloc, moment, Event::Take(session, received));
         }
         Err(RpcFault::Unreadable) => {
             close_at(core, alloc, moment, session, Cause::Damaged);

@@ -44,6 +44,18 @@ open 9 -> Opened(Session { key: 0, serial: 1 })
 close 1 -> true
 moments -> 5;5;9;9;"#;
 
+/// The last 4,096 entries are kept.
+const NEWEST: &str = r#"open 0 -> Opened(Session { key: 0, serial: 1 })
+echoes 0 4095
+entries -> 4096
+first -> open
+echoes 4095 4096
+entries -> 4096
+first -> {"id":0,"method":"echo","params":[]}
+echoes 4096 4097
+entries -> 4096
+first -> {"id":1,"method":"echo","params":[]}"#;
+
 #[test]
 fn one_session_is_open_at_a_time(rt: HostRuntime) -> Result<(), Fail> {
     steps(rt.alloc(), ONE_AT_A_TIME)
@@ -67,6 +79,11 @@ fn what_waits_is_handed_out_joined_and_once(rt: HostRuntime) -> Result<(), Fail>
 #[test]
 fn an_earlier_moment_counts_as_the_last_one(rt: HostRuntime) -> Result<(), Fail> {
     steps(rt.alloc(), MOMENTS)
+}
+
+#[test]
+fn the_newest_entries_are_kept(rt: HostRuntime) -> Result<(), Fail> {
+    steps(rt.alloc(), NEWEST)
 }
 
 /// Why a machine is not opened over a keeper of this schema's text and of these lines.

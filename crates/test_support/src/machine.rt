@@ -2,8 +2,9 @@ use crate::counter::Counter;
 use crate::keepers::{Faults, NetKeeper, net_keeper};
 use crate::schemas::net;
 use crate::scripts::{Scripted, agrees};
+use ov_base::Bytes;
 use ov_core::{Cause, Core, Event, Session};
-use ov_rpc::Message;
+use ov_rpc::{MessageText, Received};
 use std::alloc::Global;
 use std::test::Fail;
 
@@ -17,11 +18,27 @@ pub fn net_core(alloc: Global, faults: Faults) -> Result<NetCore, Fail> {
     Ok(Core::open(alloc, keeper, schema, Counter::new())?)
 }
 
+/// The session of a serial. One is open at a time, so all have the first key.
+fn session_of(serial: u64) -> Session {
+    Session { key: 0, serial }
+}
+
+/// An event of the history: the text of a message that was taken, or a word.
+fn event_text(alloc: Global, event: &Event<MessageText>) -> Result<String, Fail> {
+    match event {
+        Event::Open => Ok(String::from_str(alloc, "open")?),
+        Event::Take(_, text) => Ok(String::from_utf8(Vec::from_slice(alloc, text.as_slice())?)?),
+        Event::Close(..) => Ok(String::from_str(alloc, "close")?),
+        Event::Tick => Ok(String::from_str(alloc, "tick")?),
+    }
+}
+
 /// A machine behind a script.
 ///
 /// The commands are `open MOMENT`, `tick MOMENT`, `take SERIAL MESSAGE`, `end SERIAL`, `close SERIAL`, `is_open SERIAL`, `frame SERIAL`
-/// for the oldest frame that waits, `output SERIAL` for all of them, and `moments` for those of the history. What comes of an
-/// event is told in the words of the code.
+/// for the oldest frame that waits, and `output SERIAL` for all of them. What comes of an event is told in the words of the code.
+/// Of the history, `moments` tells those of all entries that are kept, `entries` how many there are, and `first` what the first
+/// is. `echoes ID BEYOND` takes echoes of session 1, with the ids from the first up to below the second.
 #[derive(Drop)]
 struct Machine {
     core: NetCore,
@@ -29,15 +46,36 @@ struct Machine {
 
 impl Machine {
     /// Enters an event.
-    fn step(&mut self, alloc: Global, moment: u64, event: Event) -> Result<String, Fail> {
+    fn step(&mut self, alloc: Global, moment: u64, event: Event<Received>) -> Result<String, Fail> {
         let stepped = self.core.step(alloc, moment, event);
         Ok(format!(in alloc; "{stepped:?}")?)
     }
 
     /// Takes the message of a session.
     fn take(&mut self, alloc: Global, session: Session, text: &str) -> Result<String, Fail> {
-        let message = Message::read(alloc, text.as_bytes())?;
-        self.step(alloc, 0, Event::Take(session, message))
+        let received = Received::read(alloc, Bytes::from_slice(alloc, text.as_bytes())?)?;
+        self.step(alloc, 0, Event::Take(session, received))
+    }
+
+    /// Takes an echo of session 1.
+    fn echo(&mut self, alloc: Global, id: u64) -> Result<(), Fail> {
+        let text = format!(in alloc; "{{\"id\":{id},\"method\":\"echo\",\"params\":[]}}")?;
+        self.take(alloc, session_of(1), text.as_str())?;
+        Ok(())
+    }
+
+    /// Takes echoes of session 1.
+    fn echoes(&mut self, alloc: Global, first: u64, beyond: u64) -> Result<String, Fail> {
+        for id in first..beyond {
+            self.echo(alloc, id)?;
+        }
+        Ok(String::new(alloc))
+    }
+
+    /// What the first entry is that the history keeps.
+    fn first(&self, alloc: Global) -> Result<String, Fail> {
+        let entry = self.core.history().front().ok_or("no entry")?;
+        event_text(alloc, &entry.event)
     }
 
     /// Closes a session that did not take what was sent to it.
@@ -70,13 +108,9 @@ impl Machine {
         Ok(text)
     }
 
-    /// What comes of a command for a number, which is a moment or a serial. One session is open at a time, so all have the
-    /// first key.
+    /// What comes of a command for a number, which is a moment, a serial or an id.
     fn act(&mut self, alloc: Global, word: &str, number: u64, text: &str) -> Result<String, Fail> {
-        let session = Session {
-            key: 0,
-            serial: number,
-        };
+        let session = session_of(number);
         match word {
             "open" => self.step(alloc, number, Event::Open),
             "tick" => self.step(alloc, number, Event::Tick),
@@ -86,6 +120,7 @@ impl Machine {
             "is_open" => Ok(format!(in alloc; "{}", self.core.is_open(session))?),
             "frame" => self.frame(alloc, session),
             "output" => self.output(alloc, session),
+            "echoes" => self.echoes(alloc, number, text.parse::<u64>()?),
             _ => Err(Fail::new("no command")),
         }
     }
@@ -93,8 +128,11 @@ impl Machine {
 
 impl Scripted for Machine {
     fn answer(&mut self, alloc: Global, command: &str) -> Result<String, Fail> {
-        if command == "moments" {
-            return self.moments(alloc);
+        match command {
+            "moments" => return self.moments(alloc),
+            "entries" => return Ok(format!(in alloc; "{}", self.core.history().len())?),
+            "first" => return self.first(alloc),
+            _ => {}
         }
         let (word, rest) = command.split_once(" ").ok_or("no number")?;
         let (number, text) = rest.split_once(" ").unwrap_or((rest, ""));

@@ -20,7 +20,7 @@ returns-then-not-is_open-clause-served g c first from start =
     let on = c.loop.invariant.0 first from start in
     let sent = then_sent g.C.Clock.tells c.args.session.serial first from true c.loop.core c.write_waiting.new.core to (g.W.Sink.bytes_written c.write_waiting.new.writer) on.done c.if-not-write_waiting.ensures.sends c.if-not-write_waiting.ensures.state in
     by_stream g.C.Clock.tells c.args.session.serial first from c.write_waiting.new.core c.write_waiting.new.core (io_state (g.S.Source.bytes_read c.loop.reader) (g.W.Sink.bytes_written c.write_waiting.new.writer) c.loop.clock) c.cause_of_closing.result c.cause_of_closing.ensures.one_of
-    (λ front last is. c.cause_of_closing.ensures.found front last (ap (λ kept. map entry_view kept) c.history.ensures ∙ is)) (sym c.if-not-is_open.ensures) sent (c.if-not-write_waiting.ensures.sends.none_left refl)
+    (λ front last is. c.cause_of_closing.ensures.found front last (ap (λ kept. map entry_view kept) c.history.ensures.kept ∙ is)) (sym c.if-not-is_open.ensures) sent (c.if-not-write_waiting.ensures.sends.none_left refl)
 
 pub returns-in-Some-eq0-clause-served : goal.returns-in-Some-eq0-clause-served
 returns-in-Some-eq0-clause-served g c first from start =

@@ -1,5 +1,5 @@
 use Rattle.std.proofs.Common.{◌≤◌, refl, rules}
-use Rattle.ov_core.proofs.Steps.{asks_nothing, ticked, nothing_chosen, entry_of}
+use Rattle.ov_core.proofs.Steps.{asks_nothing, ticked, has_ticked, nothing_chosen, entry_of}
 use Rattle.ov_specs.specs.machine.Machine.{Tick}
 use Rattle.ov_core.proofs.machine.Core.tick.Goals as goal
 
@@ -11,6 +11,11 @@ returns g c =
       tells = refl;
       moment = refl;
       drawn = refl;
-      moves = ticked _ c.args.moment c.entry_without_choice.result _ low (rw (← c.reserve.ensures.items) c.push_back_reserved.ensures.items) c.entry_without_choice.ensures;
+      moves = ticked _ c.args.moment c.entry_without_choice.result _ low c.push.ensures c.entry_without_choice.ensures;
       asks = asks_nothing _ _ _ refl (refl, refl) refl;
     })
+
+pub invariant_of-self : goal.invariant_of-self
+invariant_of-self g c =
+    let low : c.self.inside.moment ≤ c.args.moment = search rules in
+    has_ticked _ c.args.moment c.entry_without_choice.result _ _ low c.push.ensures c.entry_without_choice.ensures c.self.invariant

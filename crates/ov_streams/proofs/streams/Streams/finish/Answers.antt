@@ -2,7 +2,7 @@ use Rattle.std.proofs.Common.{◌≡◌, refl, true, false, rules}
 use Rattle.ov_specs.specs.machine.Machine.{is_open}
 use Rattle.ov_streams.proofs.Suiting.{finished, not_finished}
 use Rattle.ov_streams.proofs.streams.Streams.finish.Goals as goal
-use Rattle.ov_core.proofs.Steps.{it_closed}
+use Rattle.ov_streams.proofs.Entering.{it_closed}
 
 pub returns-then-is_open : goal.returns-then-is_open
 returns-then-is_open g c =

@@ -1,0 +1,39 @@
+-- Which entries of the history are kept. What names no source is our own.
+use Rattle.std.specs.Prelude.{◌≡◌, ℕ, ◌-◌, ◌++◌, List, [], ◌∷◌, map, length, drop, Some}
+use Rattle.ov_specs.specs.machine.Machine as machine
+use Rattle.ov_specs.specs.machine.Machine.{State, Sent, opening}
+use Rattle.ov_specs.specs.machine.History.{run}
+use Rattle.ov_specs.specs.schema.SchemaTypes.{Schema}
+use Rattle.ov_specs.specs.rows.Database.{Database}
+use Rattle.ov_core.specs.declared.event.Entry.{Entry}
+use Rattle.ov_core.specs.Entries.{entry_view}
+
+-- the most entries that are kept
+abbrev pub most_entries : ℕ
+most_entries = 4096
+
+-- the newest of the entries, which are all of them or as many as are kept
+abbrev pub newest : {A : Type 0} → List A → List A
+newest entries = drop (length entries - most_entries) entries
+
+-- the history ends with the entries that are kept
+abbrev pub Keeps : List Entry → List machine.Entry → Type 0
+Keeps kept history = (front : List machine.Entry) × (front ++ map entry_view kept ≡ history)
+
+-- One entry after another is put behind those that are kept, and of these the newest stay.
+abbrev pub kept_after : List machine.Entry → List machine.Entry → List machine.Entry
+kept_after kept [] = kept
+kept_after kept (e ∷ entries) = kept_after (newest (kept ++ e ∷ [])) entries
+
+-- these entries were put behind those that were kept
+abbrev pub KeepsNewest : List Entry → List machine.Entry → List Entry → Type 0
+KeepsNewest old entries new = map entry_view new ≡ kept_after (map entry_view old) entries
+
+-- Some legal history leads from the opening of a database to the state, and the entries that are kept are the newest of it.
+pub record HasHistory (state : State) (kept : List Entry) : Type 0 where
+  pub schema : Schema
+  pub database : Database
+  pub history : List machine.Entry
+  pub sent : List Sent
+  pub legal : run (opening schema database) history ≡ Some (record { state = state; sent = sent })
+  pub ends : map entry_view kept ≡ newest history

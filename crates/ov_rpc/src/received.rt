@@ -1,0 +1,84 @@
+ghost use Rattle.std.specs.Prelude.{◌≡◌, Some, None, IfOk};
+ghost use Rattle.ov_specs.specs.wire.Message.{message_in};
+ghost use Rattle.ov_rpc.specs.Message.{message_view};
+
+use crate::fault::RpcFault;
+use crate::message::Message;
+use ov_base::Bytes;
+use std::alloc::Global;
+use std::marker::Model;
+
+/// A message with the text that it was cut as, which contracts see as the message.
+#[derive(Drop)]
+pub struct Received {
+    message: Message,
+    text: Bytes,
+}
+
+impl Model for Received {
+    ghost use Rattle.std.specs.Prelude.{◌≡◌, Some};
+    ghost use Rattle.ov_specs.specs.wire.Message.{Message, message_in};
+    ghost use Rattle.std.specs.Coded.{codes};
+    ghost use Rattle.ov_specs.specs.codes.TreeCode.{tree_code, items_code};
+    ghost use Rattle.ov_rpc.specs.Message.{message_view};
+
+    ghost Value = { Message };
+
+    ghost coded = { Prim.hlevel (codes, tree_code, items_code) };
+
+    ghost view = { λ r. message_view r.message };
+
+    ghost invariant = { λ r. message_in r.text ≡ Some (message_view r.message) };
+}
+
+impl Received {
+    /// The message that a text is, with the text, which is not copied. `Message::read` says when a text is unreadable.
+    pub fn read(alloc: Global, text: Bytes) -> Result<Received, RpcFault>
+        ensures message { IfOk result (λ m. message_in text ≡ Some m) }
+        ensures unreadable { result ≡ Err RpcFault.Unreadable → message_in text ≡ None }
+    {
+        let message = Message::read(alloc, text.as_slice())?;
+        Ok(Received { message, text })
+    }
+
+    /// The message, and its text alone.
+    pub fn into_parts(self) -> (Message, MessageText)
+        ensures message { message_view result.0 ≡ self }
+        ensures text { result.1 ≡ self }
+    {
+        let Received { message, text } = self;
+        (message, MessageText { text })
+    }
+}
+
+/// The text of a message, which contracts see as the message. It takes its bytes, where the tree of a message can take many
+/// times as much.
+#[derive(Drop)]
+pub struct MessageText {
+    text: Bytes,
+}
+
+impl Model for MessageText {
+    ghost use Rattle.std.specs.Prelude.{◌≡◌, is_some, true};
+    ghost use Rattle.ov_specs.specs.wire.Message.{Message, message_in};
+    ghost use Rattle.std.specs.Coded.{codes};
+    ghost use Rattle.ov_specs.specs.codes.TreeCode.{tree_code, items_code};
+    ghost use Rattle.ov_rpc.specs.MessageText.{message_of_text};
+
+    ghost Value = { Message };
+
+    ghost coded = { Prim.hlevel (codes, tree_code, items_code) };
+
+    ghost view = { λ t. message_of_text t.text };
+
+    ghost invariant = { λ t. is_some (message_in t.text) ≡ true };
+}
+
+impl MessageText {
+    /// The text, to be read.
+    pub fn as_slice(&self) -> &[u8]
+        ensures { message_in result.now ≡ Some self.now }
+    {
+        self.text.as_slice()
+    }
+}
