@@ -20,6 +20,7 @@ use Rattle.ov_specs.proofs.laws.Suiting.{no_row_suits, one_row_suits}
 use Rattle.ov_db.specs.Changing.{Delta, applied, SuitsChanges}
 use Rattle.ov_db.specs.Committing.{AreKept, IsHeld, MayHold, MayFind}
 use Rattle.ov_db.specs.Opening.{CanOpen}
+use Rattle.ov_rows.specs.Body.{body_of, AreOfKinds}
 use Rattle.ov_db.specs.Stored.{row_stored, IsBodyRead, IsPutRead, ArePutRead, KeepsRows}
 use Rattle.ov_db.proofs.Added.{same}
 use Rattle.ov_db.proofs.Loads.{line_of_stored}
@@ -109,12 +110,10 @@ pub sealed_some : (schema : Schema) (committed failed : Database) → KeepsRows 
 sealed_some schema committed failed kept left = record { committed_kept = kept; sealed_kept = λ database is. subst (KeepsRows schema) (same_Some failed database is) left }
 
 -- a body that reads back, as a call says it
-pub read_as_written : {E : Type 0} (row : Row) (body : Data) (result : Result (List ℕ) E) → body ≡ object_of (map written_column (entries row.columns)) → IfOk result (λ bytes. bytes ≡ compact_text body)
-    → (depth body ≤ max_depth → IfOk result (λ bytes. tree_of bytes ≡ Some body)) → IfOk result (λ bytes. IsBodyRead row)
-read_as_written row body (Err e) is text read = tt
-read_as_written row body (Ok bytes) is text read =
-    let shallow : depth body ≤ max_depth = subst (λ (d : Data). depth d ≤ max_depth) (sym is) (body_depth (entries row.columns)) in
-    sym (ap (λ (d : Data). tree_of (compact_text d)) is) ∙ sym (ap tree_of text) ∙ read shallow ∙ ap Some is
+pub read_as_written : {E : Type 0} (row : Row) (result : Result (List ℕ) E) → IfOk result (λ text. text ≡ compact_text (body_of row.columns))
+    → (AreOfKinds row.columns → IfOk result (λ text. tree_of text ≡ Some (body_of row.columns))) → IfOk result (λ text. IsBodyRead row)
+read_as_written row (Err e) is read = tt
+read_as_written row (Ok text) is read = λ of_kinds. ap tree_of (sym is) ∙ read of_kinds
 
 -- ---- changes of one row
 

@@ -12,11 +12,12 @@ use Rattle.ov_specs.specs.rows.Suits.{is_value_for, column_of_row, suits_column,
 use Rattle.ov_specs.specs.schema.Fitting.{fits}
 use Rattle.ov_specs.specs.schema.SchemaTypes.{Column, Table, Schema, kinds_of, name_cmp}
 use Rattle.ov_specs.specs.values.Reading.{reads}
-use Rattle.ov_specs.specs.values.Value.{Datum, is_of}
+use Rattle.ov_specs.specs.values.Value.{Datum, Kinds, is_of}
 use Rattle.ov_specs.specs.values.Writing.{tree}
 use Rattle.ov_specs.proofs.laws.Bodies.{get-body}
 use Rattle.ov_specs.proofs.laws.Names.{name_cmp_total, name_exact, same_name, same_name-is, EachEntry, each_entry}
 use Rattle.ov_specs.proofs.laws.ReadingBack.{reads-tree}
+use Rattle.ov_rows.specs.Body.{AreOfKinds}
 use Rattle.ov_db.specs.Stored.{fitting_value, value_stored, columns_stored, row_of_columns, row_of_table, row_stored, IsBodyRead, AllReadBack, AreRowsOf}
 use Rattle.ov_db.proofs.Same.{text-same}
 
@@ -130,11 +131,18 @@ module _ (table : Table) (columns : Columns) (suits : SuitsTable table columns) 
 
 -- ---- a row
 
+values_of_kinds : (table : Table) (columns : Columns) → SuitsTable table columns → AreOfKinds columns
+values_of_kinds table columns suits name datum is = by (column_of_row table name) (sym (ap (suits_column (column_of_row table name)) is) ∙ suits name)
+  where
+    by : (o : Option Column) → suits_column o (Some datum) ≡ true → (kinds : Kinds) × (is_of kinds datum ≡ true)
+    by None h = cc
+    by (Some column) h = (kinds_of column.type_of, (and_parts (is_of (kinds_of column.type_of) datum) (fits column.type_of datum) h).0)
+
 -- where its body reads as it was written, the line of a row of the schema reads back as the row
 pub reads_back : (schema : Schema) (key : LineKey) (row : Row) → SuitsRow schema key row → IsBodyRead row → row_stored schema key (line_of row) ≡ Some row
 reads_back schema key row suits read =
     ap (option_and_then (λ table. row_of_table table (line_of row))) suits.named
-    ∙ ap (option_and_then (λ body. option_and_then (row_of_columns (line_of row)) (columns_stored body (entries suits.table.columns) empty))) read
+    ∙ ap (option_and_then (λ body. option_and_then (row_of_columns (line_of row)) (columns_stored body (entries suits.table.columns) empty))) (read (values_of_kinds suits.table row.columns suits.columns))
     ∙ ap (option_and_then (row_of_columns (line_of row))) (columns_are_stored suits.table row.columns suits.columns)
     ∙ ap (λ b. cond b (Some row) None) (text-same (line_of row).1)
 

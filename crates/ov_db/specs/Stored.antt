@@ -1,9 +1,10 @@
 -- Which stored lines are rows under a schema, and the rows that they are. What names no source is our own.
-use Rattle.std.specs.Prelude.{◌≡◌, ℕ, List, [], ◌∷◌, map, if◌then◌else◌, Option, Some, None, option_and_then, option_map}
+use Rattle.std.specs.Prelude.{◌≡◌, ℕ, List, [], ◌∷◌, if◌then◌else◌, Option, Some, None, option_and_then, option_map}
 use Rattle.std.specs.FinMap.{empty, get, insert, entries}
 use Rattle.serde_json.specs.Data.{Data}
 use Rattle.serde_json.specs.Find as find
-use Rattle.ov_specs.specs.rows.Database.{Columns, Row, Database, line_of, object_of, written_column}
+use Rattle.ov_specs.specs.rows.Database.{Columns, Row, Database, line_of}
+use Rattle.ov_rows.specs.Body.{body_of, AreOfKinds}
 use Rattle.ov_specs.specs.rows.Suits.{Suits}
 use Rattle.ov_specs.specs.schema.Fitting.{fits}
 use Rattle.ov_specs.specs.rows.Lines.{LineKey, LineBody, Lines}
@@ -49,9 +50,9 @@ row_of_table table line = option_and_then (λ body. option_and_then (row_of_colu
 abbrev pub row_stored : Schema → LineKey → LineBody → Option Row
 row_stored schema key line = option_and_then (λ table. row_of_table table line) (get schema.tables key.0)
 
--- the body of the row's line reads as what was written
+-- the body of the row's line reads as what was written, where its values are of any kinds
 abbrev pub IsBodyRead : Row → Type 0
-IsBodyRead row = tree_of (line_of row).1 ≡ Some (object_of (map written_column (entries row.columns)))
+IsBodyRead row = AreOfKinds row.columns → tree_of (line_of row).1 ≡ Some (body_of row.columns)
 
 -- the body of the row that a change puts, if it puts one, reads as what was written
 abbrev pub IsPutRead : Option Row → Type 0

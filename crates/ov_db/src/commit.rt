@@ -16,12 +16,12 @@ use ov_rows::{ColumnNames, Columns, NamedValues, Row, RowKey, Rows};
 use std::alloc::{AllocError, Global};
 use uuid::Uuid;
 
-/// The body of the line that stores a row: it reads back as what is written.
+/// The body of the line that stores a row: it reads back as what is written, where its values are of any kinds.
 fn body_of(alloc: Global, row: &Row) -> Result<Bytes, AllocError>
     ensures body { IfOk result (λ body. body ≡ (line_of row.now).1) }
     ensures read { IfOk result (λ body. IsBodyRead row.now) }
 {
-    row.columns.tree(alloc)?.to_bytes(alloc)
+    row.columns.text(alloc)
 }
 
 /// The line that stores a row.

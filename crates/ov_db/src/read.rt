@@ -35,7 +35,7 @@ fn row_of_table(alloc: Global, table: &Table, line: &Line) -> Result<Row, OpenFa
         version: line.version,
         columns,
     };
-    let stored = row.columns.tree(alloc)?.to_bytes(alloc)?;
+    let stored = row.columns.text(alloc)?;
     if stored.as_slice() == line.body.as_slice() {
         Ok(row)
     } else {
