@@ -1,7 +1,7 @@
 -- What the front of a piece makes of a cutter, by what was found in it.
 use Rattle.std.proofs.Common.{◌≡◌, ◌≢◌, ℕ, ◌+◌, ◌<◌, ◌≤◌, List, [], ◌∷◌, ◌++◌, length, take, drop, get_or, false, refl, sym, ap, subst, ◌∙◌, Some, None, arith}
 use Rattle.std.specs.Prelude.{slice_get}
-use Rattle.std.proofs.lemmas.List.{append-nil, length-append, take_all, take-append-drop, length-take, length-take-le}
+use Rattle.std.proofs.lemmas.List.{append-nil, length-append, take_all, take-append-drop, length-take-le}
 use Rattle.ov_specs.specs.wire.Balance.{is_space}
 use Rattle.ov_specs.specs.wire.Cut.{AllSpace, cut_from, with_messages, max_message, Stray, TooLong}
 use Rattle.ov_cut.specs.declared.fault.CutFault.{CutFault}
@@ -9,7 +9,7 @@ use Rattle.ov_cut.specs.declared.fault.CutFault.TheVariants as fault
 use Rattle.ov_cut.specs.CutterState.{CutterState, offset_in_64_bits}
 use Rattle.ov_cut.specs.Message.{Brings}
 use Rattle.ov_cut.specs.Piece.{TakesPiece, advanced, with_fault}
-use Rattle.ov_cut.proofs.Scan.{goes_on, brings_then, first_brings, first_length, gap_brings, stray_brings, take_add}
+use Rattle.ov_cut.proofs.Scan.{goes_on, brings_then, first_brings, gap_brings, stray_brings, take_add}
 use Rattle.ov_cut.proofs.Feeding.{takes_messages, takes_damage, takes_memory, takes_then}
 
 -- ---- a message that begins in the piece

@@ -1,4 +1,4 @@
-use Rattle.std.proofs.Common.{◌≡◌, ℕ, ◌<◌, ◌≤◌, Bool, true, false, length, get_or, refl, arith}
+use Rattle.std.proofs.Common.{◌≡◌, ℕ, ◌<◌, ◌≤◌, Bool, true, false, arith}
 use Rattle.std.specs.Prelude.{◌↔◌, IsTrue}
 use Rattle.ov_specs.specs.wire.Cut.{max_message}
 use Rattle.ov_cut.proofs.Scan.{step_high, scan_leaves, scan_more, scan_whole, scan_long}

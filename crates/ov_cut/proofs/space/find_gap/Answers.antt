@@ -1,6 +1,6 @@
-use Rattle.std.proofs.Common.{◌≡◌, true, arith, rules, take, length}
+use Rattle.std.proofs.Common.{◌≡◌, true, arith, rules}
 use Rattle.std.proofs.lemmas.List.{take_all}
-use Rattle.std.proofs.lemmas.List.Elements.{All-more, All-same}
+use Rattle.std.proofs.lemmas.List.Elements.{All-more}
 use Rattle.ov_specs.specs.wire.Balance.{is_space}
 use Rattle.ov_cut.proofs.space.find_gap.Goals as goal
 

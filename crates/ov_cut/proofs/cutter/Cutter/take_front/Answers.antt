@@ -1,4 +1,4 @@
-use Rattle.std.proofs.Common.{◌≡◌, ◌+◌, ◌∙◌, [], ◌++◌, ◌∷◌, ap, subst, arith, length, length-append, take}
+use Rattle.std.proofs.Common.{◌∙◌, [], ◌++◌, ◌∷◌, ap, subst, arith, length, length-append, take}
 use Rattle.std.proofs.lemmas.Result.{err_from_is_err_and}
 use Rattle.ov_cut.specs.CutterState.{CutterState}
 use Rattle.ov_cut.specs.Message.{Brings, Finds}
