@@ -19,5 +19,8 @@ pub mod Truths
 pub mod Names
 pub mod SuitingColumns
 pub mod Suiting
+pub mod FoundRows
+pub mod MadeRows
+pub mod OutcomeSuiting
 pub mod Nesting
 pub mod Bodies
