@@ -22,5 +22,6 @@ pub mod Suiting
 pub mod FoundRows
 pub mod MadeRows
 pub mod OutcomeSuiting
+pub mod RefusedOutcome
 pub mod Nesting
 pub mod Bodies
