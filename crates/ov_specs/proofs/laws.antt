@@ -23,5 +23,6 @@ pub mod FoundRows
 pub mod MadeRows
 pub mod OutcomeSuiting
 pub mod RefusedOutcome
+pub mod AsToday
 pub mod Nesting
 pub mod Bodies
