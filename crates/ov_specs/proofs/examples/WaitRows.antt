@@ -45,6 +45,11 @@ a_row_too_few =
     rw (table_is (codes "Switch")) (rw (entries-switch, entries-rows) (rw (on_switch (codes "name"), text_s1) (rw (on_switch (codes "name")) (rw (told (codes "name") (one (Text (codes "s1")))) (rw (in_1 (codes "name"), in_2 (codes "name"))
     (rw (entries-one (Text (codes "s1")), entries-one (Text (codes "s2"))) refl))))))
 
+-- what is told has to be there too
+pub a_row_too_many : done_on empty (codes "{\"columns\":[\"ports\"],\"op\":\"wait\",\"rows\":[{}],\"table\":\"Switch\",\"until\":\"==\",\"where\":[]}") ≡ Some (Blocked None)
+unfolding serde_json_on_literals
+a_row_too_many = rw (table_is (codes "Switch")) (rw (entries-switch, entries-empty) (rw (on_switch (codes "ports")) refl))
+
 pub a_row_too_few_is_another : done_on rows (codes "{\"columns\":[\"name\"],\"op\":\"wait\",\"rows\":[{\"name\":\"s1\"}],\"table\":\"Switch\",\"until\":\"!=\",\"where\":[]}") ≡ Some (Done empty_result rows)
 unfolding serde_json_on_literals
 a_row_too_few_is_another =
