@@ -19,6 +19,11 @@ pub mod Truths
 pub mod Names
 pub mod SuitingColumns
 pub mod Suiting
+pub mod FoundRows
+pub mod MadeRows
+pub mod OutcomeSuiting
+pub mod RefusedOutcome
+pub mod AsToday
 pub mod Nesting
 pub mod Bodies
 pub mod Printing

@@ -95,6 +95,21 @@ unfolding serde_json_on_literals
 each_value_is_tested =
     rw (table_is (codes "Switch")) (rw (on_switch (codes "load")) (rw (entries-one (Integer (pos 4611686018427387904)), entries-one (Integer (pos 0))) (rw entries-rows (rw (in_1 (codes "load")) (rw (entries-one (Integer (pos 4))) refl)))))
 
+-- the rows one after another: the first has all its mutations before the second, whose sum would be out of range
+pub rows_one_after_another : done_on rows (codes "{\"mutations\":[[\"load\",\"+=\",9223372036854775802],[\"load\",\"/=\",0]],\"op\":\"mutate\",\"table\":\"Switch\",\"where\":[]}") ≡ Some (Fault DomainError)
+unfolding serde_json_on_literals
+rows_one_after_another =
+    rw (table_is (codes "Switch")) (rw (on_switch (codes "load")) (rw (entries-one (Integer (pos 9223372036854775802)), entries-one (Integer (pos 0))) (rw entries-rows (rw (in_1 (codes "load")) (rw (entries-one (Integer (pos 4)))
+    (rw (len-one (Integer (pos 9223372036854775806)), entries-one (Integer (pos 9223372036854775806))) (rw (get-insert name_cmp_total columns_1 (codes "load") (one (Integer (pos 9223372036854775806))) (codes "load"))
+    (rw (entries-one (Integer (pos 9223372036854775806))) refl))))))))
+
+-- a fault of a later row counts as well
+pub second_sum_out_of_range : done_on rows (codes "{\"mutations\":[[\"load\",\"+=\",9223372036854775802]],\"op\":\"mutate\",\"table\":\"Switch\",\"where\":[]}") ≡ Some (Fault RangeError)
+unfolding serde_json_on_literals
+second_sum_out_of_range =
+    rw (table_is (codes "Switch")) (rw (on_switch (codes "load")) (rw (entries-one (Integer (pos 9223372036854775802)), entries-rows) (rw (in_1 (codes "load"), in_2 (codes "load")) (rw (entries-one (Integer (pos 4)), entries-one (Integer (pos 6)))
+    (rw (len-one (Integer (pos 9223372036854775806)), entries-one (Integer (pos 9223372036854775806))) refl)))))
+
 pub divided_by_zero : done_on rows (codes "{\"mutations\":[[\"load\",\"/=\",0]],\"op\":\"mutate\",\"table\":\"Switch\",\"where\":[]}") ≡ Some (Fault DomainError)
 unfolding serde_json_on_literals
 divided_by_zero =

@@ -2,16 +2,15 @@
 -- by their laws.
 use Rattle.std.proofs.Common.{◌≡◌, ℕ, pos, List, [], ◌∷◌, Bool, true, false, cond, Option, Some, None, refl, sym, ap, ◌∙◌, codes}
 use Rattle.std.specs.Str.{is_utf8, chars}
-use Rattle.std.specs.FinMap.{FinMap, empty, get, entries, insert, from_entries, get-empty, get-insert, get-from_entries}
+use Rattle.std.specs.FinMap.{empty, get, entries, insert, from_entries, get-empty, get-insert, get-from_entries}
 use Rattle.serde_json.specs.Data.{null}
 use Rattle.serde_json.proofs.OnLiterals.{serde_json_on_literals}
 use Rattle.ov_specs.specs.operations.Operation.{is_own_column}
-use Rattle.ov_specs.specs.rows.Database.{Columns, Row, Database}
-use Rattle.ov_specs.specs.rows.Suits.{is_value_for, column_of_row, suits_column, SuitsTable, SuitsRow, Suits}
+use Rattle.ov_specs.specs.rows.Database.{Columns, Row}
+use Rattle.ov_specs.specs.rows.Suits.{is_value_for, suits_column, SuitsTable, SuitsRow, Suits}
 use Rattle.ov_specs.specs.schema.SchemaTypes.{Column, Table, Schema, name_cmp}
-use Rattle.ov_specs.specs.values.Uuid.{Uuid, is_uuid, zero_uuid}
-use Rattle.ov_specs.specs.values.Value.{AtomKind, Integers, Texts, Uuids, Atom, Integer, Text, is_text, Datum, Atoms, set_of}
-use Rattle.ov_specs.proofs.laws.LineKeys.{key_total, same_tied}
+use Rattle.ov_specs.specs.values.Uuid.{is_uuid, zero_uuid}
+use Rattle.ov_specs.specs.values.Value.{AtomKind, Integers, Texts, Uuids, Integer, is_text, Datum, Atoms, set_of}
 use Rattle.ov_specs.proofs.laws.Names.{name_cmp_total, same_name, same_name-is}
 use Rattle.ov_specs.proofs.laws.ReadingBack.{entries-from_entries}
 use Rattle.ov_specs.proofs.laws.Suiting.{no_row_suits, one_row_suits}

@@ -5,6 +5,7 @@ use Rattle.std.specs.FinMap.{empty, get, insert, entries, get-empty, get-insert}
 use Rattle.serde_json.proofs.OnLiterals.{serde_json_on_literals}
 use Rattle.ov_specs.specs.operations.Errors.{TimedOut}
 use Rattle.ov_specs.specs.operations.OpOutcome.{Done, Fault, Blocked, empty_result}
+use Rattle.ov_specs.specs.rows.Database.{Columns}
 use Rattle.ov_specs.specs.schema.SchemaTypes.{name_cmp}
 use Rattle.ov_specs.specs.values.Uuid.{zero_uuid}
 use Rattle.ov_specs.specs.values.Value.{Integer, Text, Uuid, Datum, Atoms, set_of}
@@ -12,7 +13,7 @@ use Rattle.ov_specs.proofs.laws.Names.{name_cmp_total, same_name-itself}
 use Rattle.ov_specs.proofs.laws.ReadingBack.{entries-from_entries}
 use Rattle.ov_specs.proofs.examples.ConditionRows.{len-one}
 use Rattle.ov_specs.proofs.examples.NetRows.{table_is, on_switch, entries-switch, done_at, done_on}
-use Rattle.ov_specs.proofs.examples.TwoSwitches.{one, entries-one, entries-none, columns_1, in_1, in_2, row, rows, entries-rows, entries-empty, entries-put, text_s1}
+use Rattle.ov_specs.proofs.examples.TwoSwitches.{key, one, entries-one, entries-none, columns_1, in_1, in_2, row, rows, entries-rows, entries-empty, entries-put, text_s1}
 
 text_s2 : is_utf8 (codes "s2") ≡ true
 unfolding is_utf8 chars serde_json_on_literals
@@ -44,6 +45,11 @@ unfolding serde_json_on_literals
 a_row_too_few =
     rw (table_is (codes "Switch")) (rw (entries-switch, entries-rows) (rw (on_switch (codes "name"), text_s1) (rw (on_switch (codes "name")) (rw (told (codes "name") (one (Text (codes "s1")))) (rw (in_1 (codes "name"), in_2 (codes "name"))
     (rw (entries-one (Text (codes "s1")), entries-one (Text (codes "s2"))) refl))))))
+
+-- what is told has to be there too
+pub a_row_too_many : done_on empty (codes "{\"columns\":[\"ports\"],\"op\":\"wait\",\"rows\":[{}],\"table\":\"Switch\",\"until\":\"==\",\"where\":[]}") ≡ Some (Blocked None)
+unfolding serde_json_on_literals
+a_row_too_many = rw (table_is (codes "Switch")) (rw (entries-switch, entries-empty) (rw (on_switch (codes "ports")) refl))
 
 pub a_row_too_few_is_another : done_on rows (codes "{\"columns\":[\"name\"],\"op\":\"wait\",\"rows\":[{\"name\":\"s1\"}],\"table\":\"Switch\",\"until\":\"!=\",\"where\":[]}") ≡ Some (Done empty_result rows)
 unfolding serde_json_on_literals
@@ -88,6 +94,29 @@ pub constraints_are_not_tested : done_on rows (codes "{\"columns\":[\"load\"],\"
 unfolding serde_json_on_literals
 constraints_are_not_tested =
     rw (table_is (codes "Switch")) (rw (entries-switch, entries-rows) (rw (on_switch (codes "load")) (rw (on_switch (codes "load")) (rw (told (codes "load") four_and_six) (rw (in_1 (codes "load"), in_2 (codes "load")) (rw (entries-four_and_six, entries-one (Integer (pos 4))) refl))))))
+
+-- without columns all are compared but `_uuid` and `_version`
+abbrev told_switch : Columns
+told_switch = insert (insert empty (codes "load") (one (Integer (pos 4)))) (codes "name") (one (Text (codes "s1")))
+
+told_load : get told_switch (codes "load") ≡ Some (one (Integer (pos 4)))
+told_load = get-insert name_cmp_total _ (codes "name") (one (Text (codes "s1"))) (codes "load") ∙ told (codes "load") (one (Integer (pos 4)))
+
+told_name : get told_switch (codes "name") ≡ Some (one (Text (codes "s1")))
+told_name = get-insert name_cmp_total _ (codes "name") (one (Text (codes "s1"))) (codes "name")
+
+told_ports : get told_switch (codes "ports") ≡ None
+told_ports =
+    get-insert name_cmp_total _ (codes "name") (one (Text (codes "s1"))) (codes "ports")
+    ∙ (get-insert name_cmp_total empty (codes "load") (one (Integer (pos 4))) (codes "ports") ∙ not_told (codes "ports"))
+
+pub wait_without_columns : done_on (insert empty (key 7) (row columns_1)) (codes "{\"op\":\"wait\",\"rows\":[{\"load\":4,\"name\":\"s1\"}],\"table\":\"Switch\",\"until\":\"==\",\"where\":[]}")
+    ≡ Some (Done empty_result (insert empty (key 7) (row columns_1)))
+unfolding serde_json_on_literals
+wait_without_columns =
+    rw (table_is (codes "Switch")) (rw (entries-switch, entries-put (key 7) (row columns_1)) (rw (on_switch (codes "load")) (rw (on_switch (codes "name"), text_s1)
+    (rw (on_switch (codes "load"), on_switch (codes "name"), on_switch (codes "ports")) (rw (told_load, told_name, told_ports) (rw (in_1 (codes "load"), in_1 (codes "name"), in_1 (codes "ports"))
+    (rw (entries-one (Integer (pos 4)), entries-one (Text (codes "s1"))) (rw entries-none refl))))))))
 
 -- without columns, and without rows
 pub nothing_is_told_of_nothing : done_on empty (codes "{\"op\":\"wait\",\"rows\":[],\"table\":\"Switch\",\"until\":\"==\",\"where\":[]}") ≡ Some (Done empty_result empty)

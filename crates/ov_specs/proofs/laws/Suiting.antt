@@ -65,7 +65,7 @@ if_suits schema true d e p q = p
 if_suits schema false d e p q = q
 
 -- the version is the transaction's, or that of a row before it
-version_suits : (before : Option Row) (version : Uuid) (columns : Columns) → is_uuid version ≡ true → ((row : Row) → before ≡ Some row → is_uuid row.version ≡ true) → is_uuid (version_over before version columns) ≡ true
+pub version_suits : (before : Option Row) (version : Uuid) (columns : Columns) → is_uuid version ≡ true → ((row : Row) → before ≡ Some row → is_uuid row.version ≡ true) → is_uuid (version_over before version columns) ≡ true
 version_suits None version columns is_version all = is_version
 version_suits (Some row) version columns is_version all = by (same_columns (entries row.columns) (entries columns))
   where

@@ -23,7 +23,7 @@ pub no_uuids : AreUuids no_names
 no_uuids name bytes e = cc
 
 -- a value of the kinds, once it is seen to fit
-fitted : (column : Column) (v datum : Datum) → is_of (kinds_of column.type_of) v ≡ true → (if fits column.type_of v then Ok v else Err ConstraintViolation) ≡ Ok datum → is_value_for column datum ≡ true
+pub fitted : (column : Column) (v datum : Datum) → is_of (kinds_of column.type_of) v ≡ true → (if fits column.type_of v then Ok v else Err ConstraintViolation) ≡ Ok datum → is_value_for column datum ≡ true
 fitted column v datum of = by (fits column.type_of v) refl
   where
     by : (b : Bool) → fits column.type_of v ≡ b → ◌≡◌ {A = Result Datum OpError} (if b then Ok v else Err ConstraintViolation) (Ok datum) → is_value_for column datum ≡ true
@@ -110,7 +110,7 @@ pub record Completes (table : Table) (cs : List (List ℕ × Column)) (before af
   pub stays : (name : List ℕ) → contains_key before name ≡ true → contains_key after name ≡ true
   pub has : HasAll cs after
 
-abbrev MakesComplete : Table → List (List ℕ × Column) → Columns → Result Columns OpError → Type 0
+abbrev pub MakesComplete : Table → List (List ℕ × Column) → Columns → Result Columns OpError → Type 0
 MakesComplete table cs before (Ok after) = Completes table cs before after
 MakesComplete table cs before (Err error) = Unit {0}
 
@@ -175,7 +175,7 @@ column_complete table c cs columns stands suits others next = by (is_own_column 
     by false true is_own is_there = passed table c cs columns (with_defaults cs columns) (ap (λ b. b || contains_key columns c.0) is_own ∙ is_there) others
     by false false is_own is_there = by_default (fitting_default c.1) is_own refl
 
-defaults_complete : (table : Table) (cs : List (List ℕ × Column)) (columns : Columns) → StandIn table cs → SuitsSoFar table columns → MakesComplete table cs columns (with_defaults cs columns)
+pub defaults_complete : (table : Table) (cs : List (List ℕ × Column)) (columns : Columns) → StandIn table cs → SuitsSoFar table columns → MakesComplete table cs columns (with_defaults cs columns)
 defaults_complete table [] columns stand suits = record { suits = suits; stays = λ name there. there; has = λ name column own found. cc }
 defaults_complete table (c ∷ cs) columns stand suits =
     column_complete table c cs columns stand.0 suits (defaults_complete table cs columns stand.1 suits) (λ datum more. defaults_complete table cs (insert columns c.0 datum) stand.1 more)

@@ -1,0 +1,142 @@
+-- The rows that an operation is about are rows of the schema, and rows stay so where some are put and others removed.
+use Rattle.std.proofs.Common.{◌≡◌, ℕ, zero, suc, List, [], ◌∷◌, filter, Bool, true, false, cond, T, Option, Some, None, refl, sym, ap, subst, ◌∙◌}
+use Rattle.std.specs.Prelude.{slice_get, option_and_then}
+use Rattle.std.specs.List.{list_all}
+use Rattle.std.specs.Str.{bytes_eq}
+use Rattle.std.specs.Ordering.{eq_by_cmp, is_lt, is_eq}
+use Rattle.std.specs.declared.cmp.Ordering.{Ordering}
+use Rattle.std.specs.declared.cmp.Ordering.TheVariants.{Less, Equal, Greater}
+use Rattle.std.specs.FinMap.{get, remove, keys, entries, find, is_sorted, entries_sorted, get-entries, get-remove}
+use Rattle.std.specs.FinMap.Entries.{below_all}
+use Rattle.std.proofs.lemmas.Bool.{and_parts}
+use Rattle.std.proofs.lemmas.Option.{same_Some}
+use Rattle.std.proofs.lemmas.Slice.Eq.{bytes_eq-Decides}
+use Rattle.serde_json.specs.Data.{Items}
+use Rattle.ov_specs.specs.operations.Conditions.{Condition}
+use Rattle.ov_specs.specs.operations.MatchingRows.{put_rows, without_rows}
+use Rattle.ov_specs.specs.operations.NamedUuids.{place_declared, id_at, names_of, inserts_before}
+use Rattle.ov_specs.specs.operations.Operation.{matching, is_matching}
+use Rattle.ov_specs.specs.operations.OpOutcome.{OpContext}
+use Rattle.ov_specs.specs.rows.Database.{Columns, Row, Database}
+use Rattle.ov_specs.specs.rows.Lines.{LineKey, line_cmp}
+use Rattle.ov_specs.specs.rows.Suits.{SuitsTable, SuitsRow, Suits}
+use Rattle.ov_specs.specs.rows.Version.{row_now}
+use Rattle.ov_specs.specs.schema.SchemaTypes.{Table, Schema}
+use Rattle.ov_specs.specs.values.Uuid.{Uuid, is_uuid, AreUuids}
+use Rattle.ov_specs.proofs.laws.LineKeys.{key_total, tied_same, same_tied}
+use Rattle.ov_specs.proofs.laws.Suiting.{one_row_suits, version_suits}
+use Rattle.ov_specs.proofs.laws.Truths.{left_holds, right_holds}
+
+-- ---- the names of a transaction stand for identifiers
+
+pub got : (ids : List Uuid) (i : ℕ) (id : Uuid) → list_all is_uuid ids ≡ true → slice_get ids i ≡ Some id → is_uuid id ≡ true
+got [] i id are h = cc
+got (x ∷ ids) zero id are h = subst (λ y. is_uuid y ≡ true) (same_Some x id h) (and_parts (is_uuid x) (list_all is_uuid ids) are).0
+got (x ∷ ids) (suc i) id are h = got ids i id (and_parts (is_uuid x) (list_all is_uuid ids) are).1 h
+
+pub names_are : (ids : List Uuid) (operations : Items) → list_all is_uuid ids ≡ true → AreUuids (names_of ids operations)
+names_are ids operations are name id h = by (place_declared name operations) h
+  where
+    by : (o : Option ℕ) → option_and_then (id_at ids operations) o ≡ Some id → is_uuid id ≡ true
+    by None e = cc
+    by (Some place) e = got ids (inserts_before place operations) id are e
+
+-- ---- each row stands at its key
+
+abbrev pub EachRow : (LineKey → Row → Type 0) → List (LineKey × Row) → Type 0
+EachRow P [] = Unit {0}
+EachRow P (r ∷ rs) = P r.0 r.1 × EachRow P rs
+
+-- a key that is below all is none of them
+pub not_tied : (o : Ordering) → T (is_lt o) → is_eq o ≡ false
+not_tied Less h = refl
+not_tied Equal h = absurd h
+not_tied Greater h = absurd h
+
+pub find-below : (key : LineKey) (rs : List (LineKey × Row)) → T (below_all line_cmp key rs) → find line_cmp key rs ≡ None
+find-below key [] h = refl
+find-below key (r ∷ rs) h =
+    ap (λ b. cond b (Some r.1) (find line_cmp key rs)) (not_tied (line_cmp key r.0) (left_holds _ _ h)) ∙ find-below key rs (right_holds _ _ h)
+
+pub find-later : (r : LineKey × Row) (rs : List (LineKey × Row)) (key : LineKey) (row : Row) → T (is_sorted line_cmp (r ∷ rs)) → find line_cmp key rs ≡ Some row → find line_cmp key (r ∷ rs) ≡ Some row
+find-later r rs key row h found = by (eq_by_cmp line_cmp key r.0) refl
+  where
+    no : find line_cmp r.0 rs ≡ None → find line_cmp r.0 rs ≡ Some row → ⊥
+    no n s = cc
+
+    by : (b : Bool) → eq_by_cmp line_cmp key r.0 ≡ b → cond b (Some r.1) (find line_cmp key rs) ≡ Some row
+    by false is = found
+    by true is = absurd (no (find-below r.0 rs (left_holds _ _ h)) (sym (ap (λ k. find line_cmp k rs) (tied_same key r.0 is)) ∙ found))
+
+pub each_found : (P : LineKey → Row → Type 0) (rs : List (LineKey × Row)) → T (is_sorted line_cmp rs) → ((key : LineKey) (row : Row) → find line_cmp key rs ≡ Some row → P key row) → EachRow P rs
+each_found P [] h all = tt
+each_found P (r ∷ rs) h all = (
+  all r.0 r.1 (ap (λ b. cond b (Some r.1) (find line_cmp r.0 rs)) (same_tied r.0 r.0 refl)),
+  each_found P rs (right_holds _ _ h) (λ key row found. all key row (find-later r rs key row h found)),
+)
+
+-- ---- the rows that match
+
+-- a row of the table, with an identifier, and of columns that suit it
+pub record IsFound (schema : Schema) (table : Table) (key : LineKey) (columns : Columns) : Type 0 where
+  pub named : get schema.tables key.0 ≡ Some table
+  pub id : is_uuid key.1 ≡ true
+  pub suits : SuitsTable table columns
+
+abbrev pub AreFound : Schema → Table → List (LineKey × Row) → Type 0
+AreFound schema table = EachRow (λ key row. IsFound schema table key row.columns)
+
+pub filtered : {P Q : LineKey → Row → Type 0} (test : LineKey × Row → Bool) (rs : List (LineKey × Row)) → ((key : LineKey) (row : Row) → P key row → test (key, row) ≡ true → Q key row) → EachRow P rs → EachRow Q (filter test rs)
+filtered test [] next all = tt
+filtered {P = P} {Q = Q} test (r ∷ rs) next all = by (test r) refl (filtered {P = P} {Q = Q} test rs next all.1)
+  where
+    by : (b : Bool) → test r ≡ b → EachRow Q (filter test rs) → EachRow Q (cond b (r ∷ filter test rs) (filter test rs))
+    by true is others = (next r.0 r.1 all.0 is, others)
+    by false is others = others
+
+pub found_is : (schema : Schema) (name : List ℕ) (table : Table) (key : LineKey) (row : Row) → get schema.tables name ≡ Some table → SuitsRow schema key row → bytes_eq key.0 name ≡ true → IsFound schema table key row.columns
+found_is schema name table key row named suits at =
+    let here : key.0 ≡ name = (bytes_eq-Decides key.0 name).0 at in
+    let is : get schema.tables key.0 ≡ Some table = ap (λ n. get schema.tables n) here ∙ named in
+    let same : suits.table ≡ table = same_Some suits.table table (sym suits.named ∙ is) in
+    record { named = is; id = suits.id; suits = subst (λ t. SuitsTable t row.columns) same suits.columns }
+
+pub matching_are : (schema : Schema) (rows : Database) (name : List ℕ) (table : Table) (conditions : List Condition) → get schema.tables name ≡ Some table → Suits schema rows → AreFound schema table (matching rows name conditions)
+matching_are schema rows name table conditions named suits =
+    filtered {P = λ key row. SuitsRow schema key row} (is_matching name conditions) (entries rows)
+    (λ key row is met. found_is schema name table key row named is (and_parts (bytes_eq key.0 name) _ met).0)
+    (each_found (λ key row. SuitsRow schema key row) (entries rows) (entries_sorted rows) (λ key row found. suits key row (get-entries rows key ∙ found)))
+
+-- ---- rows that are put and removed
+
+abbrev pub AreMade : Schema → Table → List (LineKey × Columns) → Type 0
+AreMade schema table [] = Unit {0}
+AreMade schema table (r ∷ rs) = IsFound schema table r.0 r.1 × AreMade schema table rs
+
+pub row_suits : (schema : Schema) (before : Database) (version : Uuid) (table : Table) (key : LineKey) (columns : Columns) → Suits schema before → is_uuid version ≡ true → IsFound schema table key columns
+    → SuitsRow schema key (row_now before version key columns)
+row_suits schema before version table key columns all is_version made = record {
+  table = table;
+  named = made.named;
+  id = made.id;
+  version = version_suits (get before key) version columns is_version (λ row is. (all key row is).version);
+  columns = made.suits;
+}
+
+pub put_suits : (c : OpContext) (table : Table) (changed : List (LineKey × Columns)) (rows : Database) → Suits c.schema c.before → is_uuid c.version ≡ true → AreMade c.schema table changed → Suits c.schema rows
+    → Suits c.schema (put_rows c changed rows)
+put_suits c table [] rows all is_version made suits = suits
+put_suits c table (r ∷ changed) rows all is_version made suits =
+    put_suits c table changed _ all is_version made.1
+    (one_row_suits c.schema rows r.0 (row_now c.before c.version r.0 r.1) (row_suits c.schema c.before c.version table r.0 r.1 all is_version made.0) suits)
+
+pub one_row_less : (schema : Schema) (rows : Database) (key : LineKey) → Suits schema rows → Suits schema (remove rows key)
+one_row_less schema rows key suits q row h = by (eq_by_cmp line_cmp q key) (sym (get-remove key_total rows key q) ∙ h)
+  where
+    by : (b : Bool) → cond b None (get rows q) ≡ Some row → SuitsRow schema q row
+    by true e = cc
+    by false e = suits q row e
+
+pub without_suits : (schema : Schema) (keys : List LineKey) (rows : Database) → Suits schema rows → Suits schema (without_rows keys rows)
+without_suits schema [] rows suits = suits
+without_suits schema (key ∷ keys) rows suits = without_suits schema keys (remove rows key) (one_row_less schema rows key suits)
