@@ -10,10 +10,10 @@ ghost use Rattle.ov_conds.specs.Views.{function_view, IsConditionRead};
 use crate::elements::Elements;
 use crate::fault::ConditionFault;
 use crate::function::Function;
-use crate::row::RowView;
 use crate::triple::Triple;
 use ov_atoms::{Atom, Datum, Names, read_datum};
 use ov_base::Text;
+use ov_rows::RowView;
 use ov_schema::{Column, Table};
 use serde_json::Value;
 use std::alloc::Global;
@@ -73,16 +73,17 @@ impl Condition {
 
     /// Whether a row meets the condition. A row that lacks the column meets none (RFC 7047, 5.1, `<condition>`).
     pub fn holds(&self, row: &RowView<'_>) -> bool
-        ensures { result ≡ holds (column_value row.now.id row.now.version row.now.columns.now) self.now }
+        ensures { result ≡ holds (column_value row.now.id.now row.now.row.now.version row.now.row.now.columns) self.now }
     {
         let name = self.column.as_str();
+        let stored = row.row;
         if name == "_uuid" {
-            return self.holds_of_uuid(row.id);
+            return self.holds_of_uuid(*row.id);
         }
         if name == "_version" {
-            return self.holds_of_uuid(row.version);
+            return self.holds_of_uuid(stored.version);
         }
-        match row.columns.get(name) {
+        match stored.columns.get(name) {
             Some(datum) => self.holds_of(datum),
             None => false,
         }

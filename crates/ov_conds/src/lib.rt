@@ -9,7 +9,6 @@ mod condition;
 mod elements;
 mod fault;
 mod function;
-mod row;
 mod triple;
 mod walk;
 
@@ -17,6 +16,5 @@ pub use condition::Condition;
 pub use elements::Elements;
 pub use fault::ConditionFault;
 pub use function::{Function, holds_integers};
-pub use row::RowView;
 pub use triple::Triple;
 pub use walk::{atoms_from, pairs_from};

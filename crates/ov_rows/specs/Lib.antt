@@ -1,3 +1,4 @@
+pub mod Lending
 pub mod Named
 pub mod Nested
 pub mod Resident

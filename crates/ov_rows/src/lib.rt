@@ -8,6 +8,7 @@ mod columns;
 mod key;
 mod named_values;
 mod row;
+mod row_view;
 mod rows;
 mod table_rows;
 
@@ -16,5 +17,6 @@ pub use columns::Columns;
 pub use key::RowKey;
 pub use named_values::NamedValues;
 pub use row::Row;
+pub use row_view::RowView;
 pub use rows::Rows;
 pub use table_rows::TableRows;

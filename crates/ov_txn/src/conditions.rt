@@ -7,12 +7,11 @@ ghost use Rattle.ov_txn.specs.Errors.{IsOpResult};
 
 use crate::fault::OpFault;
 use ov_atoms::NoNames;
-use ov_conds::{Condition, RowView};
-use ov_rows::Row;
+use ov_conds::Condition;
+use ov_rows::RowView;
 use ov_schema::Table;
 use serde_json::Value;
 use std::alloc::{AllocError, Global};
-use uuid::Uuid;
 
 /// The conditions of a `where`, or the fault of the first that does not read (RFC 7047, 5.2.2).
 pub(crate) fn conditions_of(
@@ -32,9 +31,9 @@ pub(crate) fn conditions_of(
     Ok(conditions)
 }
 
-/// Whether a row meets all conditions.
-fn meets(conditions: &[Condition], row: &RowView<'_>) -> bool
-    ensures { result ≡ list_all (holds (column_value row.now.id row.now.version row.now.columns.now)) conditions.now }
+/// Whether a row meets all conditions, its identifier and version among its columns.
+pub(crate) fn meets(conditions: &[Condition], row: &RowView<'_>) -> bool
+    ensures { result ≡ list_all (holds (column_value row.now.id.now row.now.row.now.version row.now.row.now.columns)) conditions.now }
 {
     for condition in conditions {
         if !condition.holds(row) {
@@ -42,16 +41,4 @@ fn meets(conditions: &[Condition], row: &RowView<'_>) -> bool
         }
     }
     true
-}
-
-/// Whether a row meets all conditions, its identifier and version among its columns.
-pub(crate) fn is_matching(conditions: &[Condition], id: &Uuid, row: &Row) -> bool
-    ensures { result ≡ list_all (holds (column_value id.now row.now.version row.now.columns)) conditions.now }
-{
-    let seen = RowView {
-        id: *id,
-        version: row.version,
-        columns: &row.columns,
-    };
-    meets(conditions, &seen)
 }

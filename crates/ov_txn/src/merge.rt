@@ -1,23 +1,24 @@
 ghost use Rattle.std.specs.Prelude.{◌≡◌, ◌++◌, T, map, IfOk, OnOk};
 ghost use Rattle.std.specs.List.{filter, flat_map};
 ghost use Rattle.std.specs.FinMap.{entries, is_sorted};
+ghost use Rattle.ov_rows.specs.Lending.{lent_row, lent_row_of};
 ghost use Rattle.ov_rows.specs.Nested.{id_cmp};
 ghost use Rattle.std.specs.Str.{bytes_eq};
 ghost use Rattle.ov_txn.specs.Staging.{row_made, placed};
 
 use ov_db::Delta;
-use ov_rows::{Row, Rows, TableRows};
+use ov_rows::{Row, RowView, Rows, TableRows};
 use std::alloc::{AllocError, Global};
 use std::cmp::Ordering;
 use uuid::Uuid;
 
 /// The rows of a table, in ascending order of their identifiers.
-fn listed<'a>(alloc: Global, table: &'a TableRows) -> Result<Vec<(&'a Uuid, &'a Row)>, AllocError>
-    ensures { IfOk result (λ rows. map (λ r. (r.0.now, r.1.now)) rows.items ≡ entries table.now) }
+fn listed<'a>(alloc: Global, table: &'a TableRows) -> Result<Vec<RowView<'a>>, AllocError>
+    ensures { IfOk result (λ rows. map lent_row rows.items ≡ entries table.now) }
 {
     let mut rows = Vec::new(alloc);
     for (id, row) in table.map() {
-        rows.push((id, row))?;
+        rows.push(RowView { id, row })?;
     }
     Ok(rows)
 }
@@ -27,8 +28,8 @@ pub(crate) fn rows_of<'a>(
     alloc: Global,
     rows: &'a Rows,
     table: &str,
-) -> Result<Vec<(&'a Uuid, &'a Row)>, AllocError>
-    ensures { IfOk result (λ listed. map (λ r. ((table.now, r.0.now), r.1.now)) listed.items ≡ filter (λ r. bytes_eq r.0.0 table.now) (entries rows.now)) }
+) -> Result<Vec<RowView<'a>>, AllocError>
+    ensures { IfOk result (λ listed. map (lent_row_of table.now) listed.items ≡ filter (λ r. bytes_eq r.0.0 table.now) (entries rows.now)) }
 {
     match rows.of_table(table) {
         Some(rows) => listed(alloc, rows),
@@ -55,22 +56,22 @@ pub(crate) fn changes_of<'a>(
 
 /// Adds the row that the change makes, if it makes one.
 fn push_change<'a>(
-    merged: &mut Vec<(&'a Uuid, &'a Row)>,
+    merged: &mut Vec<RowView<'a>>,
     change: (&'a Uuid, &'a Option<Row>),
 ) -> Result<(), AllocError>
-    ensures { OnOk result (map (λ r. (r.0.now, r.1.now)) merged.new.items ≡ map (λ r. (r.0.now, r.1.now)) merged.old.items ++ row_made (change.entry.0.now, change.entry.1.now)) }
+    ensures { OnOk result (map lent_row merged.new.items ≡ map lent_row merged.old.items ++ row_made (change.entry.0.now, change.entry.1.now)) }
 {
     if let Some(row) = change.1 {
-        merged.push((change.0, row))?;
+        merged.push(RowView { id: change.0, row })?;
     }
     Ok(())
 }
 
 fn push_changes<'a>(
-    merged: &mut Vec<(&'a Uuid, &'a Row)>,
+    merged: &mut Vec<RowView<'a>>,
     changes: &[(&'a Uuid, &'a Option<Row>)],
 ) -> Result<(), AllocError>
-    ensures { OnOk result (map (λ r. (r.0.now, r.1.now)) merged.new.items ≡ map (λ r. (r.0.now, r.1.now)) merged.old.items ++ flat_map row_made (map (λ c. (c.0.now, c.1.now)) changes.now)) }
+    ensures { OnOk result (map lent_row merged.new.items ≡ map lent_row merged.old.items ++ flat_map row_made (map (λ c. (c.0.now, c.1.now)) changes.now)) }
 {
     for change in changes {
         push_change(merged, *change)?;
@@ -82,12 +83,12 @@ fn push_changes<'a>(
 /// stands at its place. Each row and each change is looked at once.
 pub(crate) fn merged<'a>(
     alloc: Global,
-    rows: &[(&'a Uuid, &'a Row)],
+    rows: &[RowView<'a>],
     changes: &[(&'a Uuid, &'a Option<Row>)],
-) -> Result<Vec<(&'a Uuid, &'a Row)>, AllocError>
-    requires rows { T (is_sorted id_cmp (map (λ r. (r.0.now, r.1.now)) rows.now)) }
+) -> Result<Vec<RowView<'a>>, AllocError>
+    requires rows { T (is_sorted id_cmp (map lent_row rows.now)) }
     requires changes { T (is_sorted id_cmp (map (λ c. (c.0.now, c.1.now)) changes.now)) }
-    ensures { IfOk result (λ merged. map (λ r. (r.0.now, r.1.now)) merged.items ≡ placed id_cmp (map (λ c. (c.0.now, c.1.now)) changes.now) (map (λ r. (r.0.now, r.1.now)) rows.now)) }
+    ensures { IfOk result (λ merged. map lent_row merged.items ≡ placed id_cmp (map (λ c. (c.0.now, c.1.now)) changes.now) (map lent_row rows.now)) }
 {
     let mut merged = Vec::new(alloc);
     let mut i = 0;
@@ -95,7 +96,7 @@ pub(crate) fn merged<'a>(
     'turns: while i < rows.len() && j < changes.len() {
         let row = rows[i];
         let change = changes[j];
-        match row.0.cmp(change.0) {
+        match row.id.cmp(change.0) {
             Ordering::Less => {
                 merged.push(row)?;
                 i += 1;

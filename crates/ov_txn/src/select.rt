@@ -9,7 +9,7 @@ ghost use Rattle.ov_specs.specs.wire.Tree.{items_have_real};
 ghost use Rattle.ov_specs.specs.values.Uuid.{Uuid};
 ghost use Rattle.ov_txn.specs.Staging.{staged, IsDone};
 
-use crate::conditions::{conditions_of, is_matching};
+use crate::conditions::{conditions_of, meets};
 use crate::fault::{OpError, OpFault};
 use crate::member::text_at;
 use crate::projection::{chosen_columns, is_among};
@@ -34,9 +34,9 @@ fn shown_rows(
 {
     let mut shown = Vec::new(alloc);
     let rows = stage.rows_of(alloc, table)?;
-    for (id, row) in &rows {
-        if is_matching(conditions, id, row) {
-            shown.push(ShownRow::of(alloc, names, id, row)?)?;
+    for row in &rows {
+        if meets(conditions, row) {
+            shown.push(ShownRow::of(alloc, names, row)?)?;
         }
     }
     Ok(shown)

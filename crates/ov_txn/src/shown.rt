@@ -1,6 +1,7 @@
 ghost use Rattle.std.specs.Prelude.{◌≡◌, List, ℕ, IfOk, OnOk, false};
 ghost use Rattle.serde_json.specs.Data.{put};
 ghost use Rattle.serde_json.specs.View.{members_view};
+ghost use Rattle.ov_rows.specs.Lending.{lent_row_of};
 ghost use Rattle.ov_specs.specs.rows.Database.{one_uuid};
 ghost use Rattle.ov_specs.specs.operations.Conditions.{column_value};
 ghost use Rattle.ov_specs.specs.operations.Operation as spec;
@@ -9,7 +10,7 @@ ghost use Rattle.ov_specs.specs.values.Writing.{tree};
 
 use ov_atoms::{Atom, Datum, write_datum};
 use ov_base::{Text, Tree};
-use ov_rows::Row;
+use ov_rows::RowView;
 use serde_json::{Map, Value};
 use std::alloc::{AllocError, Global};
 use std::cmp::Ordering;
@@ -44,16 +45,17 @@ fn one_uuid(alloc: Global, id: Uuid) -> Result<Datum, AllocError>
 }
 
 /// The value of a row's column, `_uuid` and `_version` too (RFC 7047, 3.2).
-fn column_of(alloc: Global, id: &Uuid, row: &Row, name: &str) -> Result<Option<Datum>, AllocError>
-    ensures { IfOk result (λ o. o ≡ column_value id.now row.now.version row.now.columns name.now) }
+fn column_of(alloc: Global, row: &RowView<'_>, name: &str) -> Result<Option<Datum>, AllocError>
+    ensures { IfOk result (λ o. o ≡ column_value row.now.id.now row.now.row.now.version row.now.row.now.columns name.now) }
 {
+    let stored = row.row;
     if name == "_uuid" {
-        return Ok(Some(one_uuid(alloc, *id)?));
+        return Ok(Some(one_uuid(alloc, *row.id)?));
     }
     if name == "_version" {
-        return Ok(Some(one_uuid(alloc, row.version)?));
+        return Ok(Some(one_uuid(alloc, stored.version)?));
     }
-    match row.columns.get(name) {
+    match stored.columns.get(name) {
         Some(datum) => Ok(Some(datum.copy(alloc)?)),
         None => Ok(None),
     }
@@ -64,14 +66,13 @@ impl ShownRow {
     pub(crate) fn of(
         alloc: Global,
         names: &[Text],
-        id: &Uuid,
-        row: &Row,
+        row: &RowView<'_>,
     ) -> Result<ShownRow, AllocError>
-        ensures { (table : List ℕ) → IfOk result (λ r. r ≡ spec.projection names.now ((table, id.now), row.now)) }
+        ensures { (table : List ℕ) → IfOk result (λ r. r ≡ spec.projection names.now (lent_row_of table row.now)) }
     {
         let mut columns = Vec::new(alloc);
         for name in names {
-            if let Some(datum) = column_of(alloc, id, row, name.as_str())? {
+            if let Some(datum) = column_of(alloc, row, name.as_str())? {
                 columns.push((String::from_str(alloc, name.as_str())?, datum))?;
             }
         }

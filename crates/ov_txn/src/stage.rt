@@ -2,6 +2,7 @@ ghost use Rattle.std.specs.Prelude.{◌≡◌, ◌==◌, false, map, IfOk, OnOk,
 ghost use Rattle.std.specs.List.{filter};
 ghost use Rattle.std.specs.FinMap.{contains_key, insert, entries, len};
 ghost use Rattle.ov_db.specs.Changing.{applied};
+ghost use Rattle.ov_rows.specs.Lending.{lent_row_of};
 ghost use Rattle.ov_specs.specs.rows.Database.{same_database};
 ghost use Rattle.ov_specs.specs.rows.Version.{row_now};
 ghost use Rattle.std.specs.Str.{bytes_eq};
@@ -9,7 +10,7 @@ ghost use Rattle.std.specs.Str.{bytes_eq};
 use crate::merge::{changes_of, merged, rows_of};
 use crate::version::row_now;
 use ov_db::Delta;
-use ov_rows::{Columns, Row, RowKey, Rows};
+use ov_rows::{Columns, RowKey, RowView, Rows};
 use std::alloc::{AllocError, Global};
 use std::marker::Model;
 use uuid::Uuid;
@@ -72,12 +73,8 @@ impl<'a> Stage<'a> {
     }
 
     /// The rows of the table of this name as they are now, in ascending order of their identifiers.
-    pub(crate) fn rows_of(
-        &self,
-        alloc: Global,
-        table: &str,
-    ) -> Result<Vec<(&Uuid, &Row)>, AllocError>
-        ensures { IfOk result (λ rows. map (λ r. ((table.now, r.0.now), r.1.now)) rows.items ≡ filter (λ r. bytes_eq r.0.0 table.now) (entries self.now.now)) }
+    pub(crate) fn rows_of(&self, alloc: Global, table: &str) -> Result<Vec<RowView<'_>>, AllocError>
+        ensures { IfOk result (λ rows. map (lent_row_of table.now) rows.items ≡ filter (λ r. bytes_eq r.0.0 table.now) (entries self.now.now)) }
     {
         let rows = rows_of(alloc, self.rows, table)?;
         if self.delta.is_empty() {

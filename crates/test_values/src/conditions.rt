@@ -1,7 +1,7 @@
 use crate::shapes::{shapes, value_of};
 use ov_atoms::NoNames;
-use ov_conds::{Condition, ConditionFault, RowView};
-use ov_rows::{Columns, NamedValues};
+use ov_conds::{Condition, ConditionFault};
+use ov_rows::{Columns, NamedValues, Row, RowView};
 use ov_schema::{Schema, Table};
 use serde_json::Value;
 use std::alloc::Global;
@@ -122,23 +122,23 @@ fn put(
     Ok(values.insert(String::from_str(alloc, name)?, datum)?)
 }
 
-/// The values of a row.
-fn columns_of(alloc: Global, table: &Table, row: &str) -> Result<Columns, Fail> {
+/// A row of these values.
+fn row_of(alloc: Global, table: &Table, row: &str) -> Result<Row, Fail> {
     let row = Value::from_str(alloc, row)?;
     let mut values = NamedValues::new(alloc);
     for (name, tree) in row.as_object().ok_or("no object")? {
         put(alloc, table, &mut values, name.as_str(), tree)?;
     }
-    Ok(Columns::with_own_names(alloc, values)?)
+    Ok(Row {
+        version: Uuid::from_u128(0x4000_8000_0000_0000_0002),
+        columns: Columns::with_own_names(alloc, values)?,
+    })
 }
 
 /// Whether a row with these values meets the condition, or the word of its refusal.
-fn judged(alloc: Global, table: &Table, columns: &Columns, tree: &Value) -> &'static str {
-    let row = RowView {
-        id: Uuid::from_u128(0x4000_8000_0000_0000_0001),
-        version: Uuid::from_u128(0x4000_8000_0000_0000_0002),
-        columns,
-    };
+fn judged(alloc: Global, table: &Table, row: &Row, tree: &Value) -> &'static str {
+    let id = Uuid::from_u128(0x4000_8000_0000_0000_0001);
+    let row = RowView { id: &id, row };
     match Condition::read(alloc, table, tree, &NoNames) {
         Ok(condition) => {
             if condition.holds(&row) {
@@ -165,8 +165,8 @@ impl Scripted for Conditions {
         let (row, condition) = command.split_once(" ").ok_or("no condition")?;
         let table = self.schema.table("Port").ok_or("no table")?;
         let condition = Value::from_str(alloc, condition)?;
-        let columns = columns_of(alloc, table, row)?;
-        let word = judged(alloc, table, &columns, &condition);
+        let row = row_of(alloc, table, row)?;
+        let word = judged(alloc, table, &row, &condition);
         Ok(String::from_str(alloc, word)?)
     }
 }

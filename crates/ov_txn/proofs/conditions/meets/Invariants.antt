@@ -5,5 +5,5 @@ use Rattle.ov_txn.proofs.conditions.meets.Given as goal
 
 abbrev pub invariant-loop-condition : goal.invariant-loop-condition
 invariant-loop-condition l =
-    list_all (holds (column_value l.row.id l.row.version l.row.columns.now)) l.conditions
-    ≡ list_all (holds (column_value l.row.id l.row.version l.row.columns.now)) (drop l.condition-index l.conditions)
+    list_all (holds (column_value l.row.id.now l.row.row.now.version l.row.row.now.columns)) l.conditions
+    ≡ list_all (holds (column_value l.row.id.now l.row.row.now.version l.row.row.now.columns)) (drop l.condition-index l.conditions)

@@ -1,8 +1,9 @@
 use Rattle.std.proofs.Common.{◌≡◌, ◌++◌, drop, map}
+use Rattle.ov_rows.specs.Lending.{lent_row_of}
 use Rattle.ov_txn.proofs.Showing.{shown_of}
 use Rattle.ov_txn.proofs.select.shown_rows.Given as goal
 
-abbrev pub invariant-loop-id : goal.invariant-loop-id
-invariant-loop-id l =
-    shown_of l.names l.conditions (map (λ r. ((l.table, r.0.now), r.1.now)) l.id-items)
-    ≡ l.shown.items ++ shown_of l.names l.conditions (map (λ r. ((l.table, r.0.now), r.1.now)) (drop l.id-index l.id-items))
+abbrev pub invariant-loop-row : goal.invariant-loop-row
+invariant-loop-row l =
+    shown_of l.names l.conditions (map (lent_row_of l.table) l.row-items)
+    ≡ l.shown.items ++ shown_of l.names l.conditions (map (lent_row_of l.table) (drop l.row-index l.row-items))
