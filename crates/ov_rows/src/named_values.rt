@@ -47,7 +47,7 @@ impl NamedValues {
         self.values.contains_key(name)
     }
 
-    /// Puts the value at the column of this name, in place of the one that is there. Where a growth is refused, nothing is changed.
+    /// Puts the value at the column of this name, in place of the one there. Where a growth is refused, nothing is changed.
     pub fn insert(&mut self, name: String, datum: Datum) -> Result<(), AllocError>
         ensures ok { OnOk result (self.new ≡ insert self.old (string_bytes name) datum) }
         ensures err { OnErr result (self.new ≡ self.old) }
