@@ -9,7 +9,7 @@ use ov_schema::Schema;
 use std::alloc::Global;
 use std::test::Fail;
 use test_support::{
-    Faults, NetKeeper, Scripted, agrees, compact, follows, line_of, net, net_keeper, no_changes,
+    Faults, NetKeeper, Scripted, agrees, follows, line_of, net, net_keeper, no_changes,
     put_line, remove_row,
 };
 use uuid::Uuid;
@@ -56,7 +56,7 @@ fn removal_of(alloc: Global, schema: &Schema, number: &str) -> Result<Delta, Fai
 
 /// The text of a switch: its number and its body.
 fn text_of(alloc: Global, id: &Uuid, row: &Row) -> Result<String, Fail> {
-    let body = compact(alloc, &row.columns.tree(alloc)?)?;
+    let body = String::from_utf8(row.columns.text(alloc)?.into_vec())?;
     let id = id.as_u128();
     Ok(format!(in alloc; "{id} {body};")?)
 }

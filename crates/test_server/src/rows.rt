@@ -5,15 +5,20 @@ use ov_rows::{Columns, NamedValues, RowKey, Rows, TableRows};
 use std::alloc::{AllocError, Global};
 use std::mem;
 use std::test::Fail;
-use test_support::{Scripted, agrees, compact, net, number, switch};
+use test_support::{Scripted, agrees, net, number, switch};
 
 /// Columns are found by name and written in order.
 const COLUMNS: &str = r#"get name -> atoms
 get load -> atoms
 get id -> none
-tree -> {"load":4,"main":["set",[]],"name":"s1","ports":["set",[]]}"#;
+text -> {"load":4,"main":["set",[]],"name":"s1","ports":["set",[]]}"#;
 
-/// The columns of a row. The commands are `get NAME` and `tree`.
+/// The text of a row's columns.
+fn text_of(alloc: Global, columns: &Columns) -> Result<String, Fail> {
+    Ok(String::from_utf8(columns.text(alloc)?.into_vec())?)
+}
+
+/// The columns of a row. The commands are `get NAME` and `text`.
 #[derive(Drop)]
 struct Cells {
     columns: Columns,
@@ -34,7 +39,7 @@ impl Scripted for Cells {
     fn answer(&mut self, alloc: Global, command: &str) -> Result<String, Fail> {
         match command.split_once(" ") {
             Some(("get", name)) => Ok(String::from_str(alloc, self.get(name))?),
-            _ => compact(alloc, &self.columns.tree(alloc)?),
+            _ => text_of(alloc, &self.columns),
         }
     }
 }
@@ -52,7 +57,7 @@ put name s2
 put id a
 has name -> true
 has load -> false
-tree -> {"id":"a","name":"s2"}
+text -> {"id":"a","name":"s2"}
 has name -> false"#;
 
 /// Values by their names. The commands are `put NAME TEXT`, `has NAME` and `tree`, which makes columns of them.
@@ -69,10 +74,10 @@ impl Gathered {
     }
 
     /// The columns of these values. No value is left.
-    fn tree(&mut self, alloc: Global) -> Result<String, Fail> {
+    fn text(&mut self, alloc: Global) -> Result<String, Fail> {
         let values = mem::replace(&mut self.values, NamedValues::new(alloc));
         let columns = Columns::with_own_names(alloc, values)?;
-        compact(alloc, &columns.tree(alloc)?)
+        text_of(alloc, &columns)
     }
 }
 
@@ -86,7 +91,7 @@ impl Scripted for Gathered {
                 Ok(String::new(alloc))
             }
             "has" => Ok(format!(in alloc; "{}", self.values.contains(rest))?),
-            _ => self.tree(alloc),
+            _ => self.text(alloc),
         }
     }
 }

@@ -40,7 +40,7 @@ const BODIES: &str = r#"x -> a stored row does not fit the schema
 
 /// The text of a row, as that of its line.
 fn text_of_row(alloc: Global, table: &str, id: &Uuid, row: &Row) -> Result<String, Fail> {
-    let body = row.columns.tree(alloc)?.to_bytes(alloc)?;
+    let body = row.columns.text(alloc)?;
     let id = id.as_u128();
     let version = row.version.as_u128();
     let body = str::from_utf8(body.as_slice())?;
