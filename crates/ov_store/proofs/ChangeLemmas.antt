@@ -22,7 +22,7 @@ use Rattle.sqlite.specs.State.{State}
 use Rattle.ov_specs.specs.rows.Lines.{LineKey, LineBody, line_cmp}
 use Rattle.ov_specs.proofs.laws.LineKeys.{key_total, key_exact, tied_same}
 use Rattle.ov_store.specs.Tables.{line_table, HasOurTables}
-use Rattle.ov_store.specs.Format.{IsLine, IsMeta, entry, stored_lines}
+use Rattle.ov_store.specs.Format.{IsLine, IsMeta, entry, stored_lines, rows_of_line}
 use Rattle.ov_store.specs.Changing.{IsNumbered, IsStored, after_update}
 use Rattle.ov_store.proofs.EntryLemmas.{same_cond}
 use Rattle.ov_store.proofs.RowLemmas.{passes, passes_key}
@@ -57,7 +57,7 @@ some : (n : ℕ) → nat_lt 0 (suc n) ≡ true
 some n = grind (arith, nat_tests)
 
 -- the columns as they are cast
-cast_again : (v b : List ℕ) (r : Row) (n : ℤ) (t i : List ℕ) → column r 0 ≡ Int n → column r 1 ≡ Text t → column r 2 ≡ Blob i → cast_row line_table (again v b r) ≡ line_row n t i v b
+cast_again : (v b : List ℕ) (r : Row) (n : ℤ) (t i : List ℕ) → column r 0 ≡ Int n → column r 1 ≡ Text t → column r 2 ≡ Blob i → cast_row (line_table 0) (again v b r) ≡ line_row n t i v b
 cast_again v b r n t i number tbl id = rw (number, tbl, id, cast_int n) refl
 
 module _ (t i v b : List ℕ) (named : IsUtf8 t) (id_sixteen : length i ≡ 16) (ver_sixteen : length v ≡ 16) where
@@ -76,7 +76,7 @@ module _ (t i v b : List ℕ) (named : IsUtf8 t) (id_sixteen : length i ≡ 16) 
     numbered : IsNumbered rows
     agree : Agree (k, body) rows
 
-  is_put : (r : Row) → IsLine r → passes t i r ≡ true → IsPut (cast_row line_table (again v b r))
+  is_put : (r : Row) → IsLine r → passes t i r ≡ true → IsPut (cast_row (line_table 0) (again v b r))
   is_put r l is =
       let key : (t, i) ≡ (entry r).0 = tied_same (t, i) (entry r).0 (sym (passes_key t i r l) ∙ is) in
       let tbl : l.tbl ≡ t = sym (ap bytes l.tbl_is) ∙ sym (ap (λ (e : LineKey). e.0) key) in
@@ -86,7 +86,7 @@ module _ (t i v b : List ℕ) (named : IsUtf8 t) (id_sixteen : length i ≡ 16) 
   all_put : (rows given : List Row) → AllByRecursion IsLine rows
       → (ordered : List Output) × IsPermutation (map (λ r. ([], rowid r ∷ again v b r)) (filter (passes t i) rows)) ordered × (given ≡ map (λ o. o.1) ordered) → AllByRecursion IsPut (put_for given)
   all_put rows given lines same =
-      let P = λ (s : Row). IsPut (cast_row line_table (drop 1 s)) in
+      let P = λ (s : Row). IsPut (cast_row (line_table 0) (drop 1 s)) in
       let passing = all_weaker _ _ (λ r both. is_put r both.0 both.1) (filter (passes t i) rows) (all_passing IsLine (passes t i) rows lines) in
       let outputs = map_all (λ (o : Output). P o.1) (λ r. ([], rowid r ∷ again v b r)) (filter (passes t i) rows) passing in
       let shuffled = every_shuffled (λ (o : Output). P o.1) _ same.0 same.1 outputs in
@@ -129,25 +129,25 @@ module _ (t i v b : List ℕ) (named : IsUtf8 t) (id_sixteen : length i ≡ 16) 
 
   module _ (text : List ℕ) (old new : State) (count : ℕ) (stored : IsStored text old.now) (d : Updates t i v b old new count) where
     abbrev rest : List Row
-    rest = filter (λ r. not (eq_by_cmp line_cmp k (entry r).0)) (old.now.trees 2)
+    rest = filter (λ r. not (eq_by_cmp line_cmp k (entry r).0)) (rows_of_line old.now.trees)
 
-    left : without_all (old.now.trees 2) (ids_of d.rows) ≡ rest
-    left = left_rows (again v b) t i (old.now.trees 2) d.rows stored.format.lines stored.numbered d.same
+    left : without_all (rows_of_line old.now.trees) (ids_of d.rows) ≡ rest
+    left = left_rows (again v b) t i (rows_of_line old.now.trees) d.rows stored.format.lines stored.numbered d.same
 
     ready : AreReady rest
     ready = record {
       lines = all-filter IsLine _ _ stored.format.lines;
       numbered = filter_numbered _ _ stored.numbered;
-      agree = all_weaker _ _ (λ r both is. absurd (not_same _ both.1 is)) rest (all_passing IsLine _ (old.now.trees 2) stored.format.lines);
+      agree = all_weaker _ _ (λ r both is. absurd (not_same _ both.1 is)) rest (all_passing IsLine _ (rows_of_line old.now.trees) stored.format.lines);
     }
 
     news : AllByRecursion IsPut (put_for d.rows)
-    news = all_put (old.now.trees 2) d.rows stored.format.lines d.same
+    news = all_put (rows_of_line old.now.trees) d.rows stored.format.lines d.same
 
     fresh : are_fresh rest (put_for d.rows) ≡ true
     fresh = subst (λ rows. are_fresh rows (put_for d.rows) ≡ true) left d.fresh
 
-    rows_are : new.now.trees 2 ≡ put_all rest (put_for d.rows)
+    rows_are : rows_of_line new.now.trees ≡ put_all rest (put_for d.rows)
     rows_are = d.put ∙ ap (λ rows. put_all rows (put_for d.rows)) left
 
     pub updated_stored : IsStored text new.now
@@ -156,12 +156,13 @@ module _ (t i v b : List ℕ) (named : IsUtf8 t) (id_sixteen : length i ≡ 16) 
         record {
           format = record { schema = subst HasOurTables (sym d.schema) stored.format.schema; meta = subst (IsMeta text) (sym d.meta) stored.format.meta; lines = subst (AllByRecursion IsLine) (sym rows_are) all.lines };
           numbered = subst IsNumbered (sym rows_are) all.numbered;
+          sound = d.sound;
         }
 
-    pub updated_lines : stored_lines (new.now.trees 2) ≡ after_update (nat_lt 0 count) k body (stored_lines (old.now.trees 2))
+    pub updated_lines : stored_lines (rows_of_line new.now.trees) ≡ after_update (nat_lt 0 count) k body (stored_lines (rows_of_line old.now.trees))
     updated_lines =
-        let m = stored_lines (old.now.trees 2) in
+        let m = stored_lines (rows_of_line old.now.trees) in
         ap stored_lines rows_are ∙ put_lines d.rows rest news fresh ready
         ∙ ap (λ n. cond (nat_lt 0 n) (insert (stored_lines rest) k body) (stored_lines rest)) (sym d.counted)
-        ∙ ap (λ l. cond (nat_lt 0 count) (insert {R = line_cmp} l k body) l) (left_lines t i (old.now.trees 2))
+        ∙ ap (λ l. cond (nat_lt 0 count) (insert {R = line_cmp} l k body) l) (left_lines t i (rows_of_line old.now.trees))
         ∙ ap (λ l. cond (nat_lt 0 count) l (remove m k)) (insert-remove m k body)

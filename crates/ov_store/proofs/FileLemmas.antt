@@ -14,7 +14,7 @@ use Rattle.ov_store.specs.StoreState.{StoreState, MayFind}
 use Rattle.ov_store.specs.Finding.{new_contents, IsNewStore, IsStoreOf, HasNoTable, IsNobodyElses, IsStoredIn}
 
 pub no_tables : (schema : Schema) → schema ≡ no_schema → ¬ HasOurTables schema
-no_tables schema blank has = let same = ap length ((rw blank at has).tables) in omega (arith, same)
+no_tables schema blank has = let none = (rw blank at has).meta.named in absurd cc
 
 -- what was opened and has a schema that passes is nobody else's
 pub nobody_elses : (seen : Image) (log db : List ℕ) (s : State) → Opens s → IsLive s → AreFoundIn seen s.committed.trees → seen.log ≡ log → seen.db ≡ db

@@ -10,7 +10,7 @@ use Rattle.ov_specs.specs.rows.Lines.{Contents, LineChange, Lines, after_changes
 use Rattle.ov_keeper.specs.Keeping.{LeavesNoMore, LeavesChanged, MayLeaveChanged, LeavesRefused, IsCommitFault, changed}
 use Rattle.ov_keeper.specs.declared.fault.KeepFault.{KeepFault}
 use Rattle.ov_keeper.specs.declared.fault.KeepFault.TheVariants.{Memory, Device, NotOurs, Format, TooLarge}
-use Rattle.ov_store.specs.Format.{held, stored_schema, stored_lines, IsMeta}
+use Rattle.ov_store.specs.Format.{held, stored_schema, stored_lines, IsMeta, rows_of_meta, rows_of_line}
 use Rattle.ov_store.specs.Changing.{MayBeStored, KeepsOthers, Stores, IsCommitImage}
 use Rattle.ov_store.specs.StoreState.{MayFind, LeavesOthers}
 use Rattle.ov_store.specs.Making.{IsNew}
@@ -39,14 +39,14 @@ device_or NotOurs = inr (λ e. absurd cc)
 device_or Format = inr (λ e. absurd cc)
 
 -- the same rows of `meta`, and lines that are changed
-pub held_changed : (changes : List LineChange) (before after : Trees) → after 0 ≡ before 0 → stored_lines (after 2) ≡ after_changes changes (stored_lines (before 2)) → held after ≡ changed changes (held before)
+pub held_changed : (changes : List LineChange) (before after : Trees) → rows_of_meta after ≡ rows_of_meta before → stored_lines (rows_of_line after) ≡ after_changes changes (stored_lines (rows_of_line before)) → held after ≡ changed changes (held before)
 held_changed changes before after meta lines = λ i. record { schema = stored_schema (meta i); lines = lines i }
 
 pub same_text : (lines : Lines) (t u : List ℕ) → t ≡ u → ◌≡◌ {A = Contents} (record { schema = t; lines = lines }) (record { schema = u; lines = lines })
 same_text lines t u e = λ i. record { schema = e i; lines = lines }
 
-pub held_is : (text : List ℕ) (trees : Trees) (lines : Lines) → IsMeta text (trees 0) → stored_lines (trees 2) ≡ lines → held trees ≡ record { schema = text; lines = lines }
-held_is text trees lines meta is = λ i. record { schema = schema_is text (trees 0) meta i; lines = is i }
+pub held_is : (text : List ℕ) (trees : Trees) (lines : Lines) → IsMeta text (rows_of_meta trees) → stored_lines (rows_of_line trees) ≡ lines → held trees ≡ record { schema = text; lines = lines }
+held_is text trees lines meta is = λ i. record { schema = schema_is text (rows_of_meta trees) meta i; lines = is i }
 
 module _ {S : Type 0} (g : Ghosts S) (settled : (s : S) (db : Trees) → IsTrue (g.view s).is_open → g.recovers s db → db ≡ (g.view s).committed)
     (stays : (s : S) → IsTrue (g.view s).is_open → g.recovers s (g.view s).committed) where

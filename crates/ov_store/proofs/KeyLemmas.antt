@@ -1,6 +1,6 @@
 -- Rows with one key are one line, so that the order in which they are read does not matter.
-use Rattle.std.proofs.Common.{◌≡◌, ◌⊎◌, inl, inr, ℕ, ℤ, List, [], ◌∷◌, map, drop, cond, Bool, true, false, not, ◌&&◌, ◌||◌, Option, Some, None, refl, sym, ap, ap₂, subst, ◌∙◌}
-use Rattle.std.specs.List.{AllByRecursion, list_any}
+use Rattle.std.proofs.Common.{◌≡◌, ◌⊎◌, inl, inr, ℕ, ℤ, List, [], ◌∷◌, map, codes, cond, Bool, true, false, not, ◌&&◌, ◌||◌, ◌==◌, arith, Option, Some, None, refl, sym, ap, ap₂, subst, ◌∙◌}
+use Rattle.std.specs.List.{AllByRecursion, list_any, list_all}
 use Rattle.std.specs.List.Sorted.{IsPermutation}
 use Rattle.std.proofs.lemmas.List.Sorted.{IsPermutation-sym, IsPermutation-map}
 use Rattle.std.specs.declared.cmp.Ordering.{Ordering}
@@ -18,16 +18,20 @@ use Rattle.sqlite_sql.specs.declared.ops.BinaryOp.TheVariants.{Compare}
 use Rattle.sqlite_sql.specs.declared.ops.CompareOp.TheVariants.{Eq, Ne}
 use Rattle.sqlite.specs.Collation.TheVariants.{Binary}
 use Rattle.sqlite_schema.specs.declared.schema.Constraint.TheVariants.{Unique}
-use Rattle.sqlite_schema.specs.Rules.{Keeps, agree, differ}
+use Rattle.sqlite_schema.specs.Rules.{agree, differ, clashes}
 use Rattle.sqlite_trees.proofs.ListLemmas.{all_weaker}
 use Rattle.sqlite_value.specs.Keys.{first_key}
 use Rattle.sqlite_trees.specs.Tree.{rowid}
 use Rattle.sqlite.specs.Effect.{Database, IsDatabase}
 use Rattle.ov_specs.specs.rows.Lines.{LineKey, LineBody, line_cmp}
 use Rattle.ov_specs.proofs.laws.LineKeys.{key_total, key_exact, tied_same}
-use Rattle.ov_store.specs.Tables.{HasOurTables}
-use Rattle.ov_store.proofs.TableLemmas.{our_schema, schema_is}
-use Rattle.ov_store.specs.Format.{IsLine, entry, stored_lines}
+use Rattle.ov_store.specs.Tables.{line_table, tree_of, HasOurTables}
+use Rattle.ov_store.proofs.TableLemmas.{found_has}
+use Rattle.ov_store.proofs.ListingLemmas.{line_rows_are}
+use Rattle.sqlite_rules.specs.Lists.{Has}
+use Rattle.sqlite_rules.proofs.ListLemmas.{all_has}
+use Rattle.std.proofs.lemmas.Bool.Decides.{nat_tests}
+use Rattle.ov_store.specs.Format.{IsLine, entry, stored_lines, rows_of_line}
 use Rattle.ov_store.specs.Changing.{IsNumbered}
 use Rattle.ov_store.specs.Reading.{line_selected}
 use Rattle.ov_store.proofs.RowLemmas.{equal_texts, equal_blobs, truth_of, same_number, map_then}
@@ -91,17 +95,32 @@ any_none p (x ∷ xs) h =
     let both = elim (p x) as (λ b. (b || list_any p xs) ≡ false → (b ≡ false) × (list_any p xs ≡ false)) [ true ↦ λ n. absurd cc | false ↦ λ n. (refl, n) ] h in
     (both.0, any_none p xs both.1)
 
-no_clash : (b c : Bool) → (not b && c) ≡ true → b ≡ false
-no_clash true c h = absurd cc
-no_clash false c h = refl
+was_false : (b : Bool) → not b ≡ true → b ≡ false
+was_false true h = absurd cc
+was_false false h = refl
+
+all_at : {X : Type 0} (p : X → Bool) (xs : List X) (x : X) → list_all p xs ≡ true → Has xs x → p x ≡ true
+all_at p [] x all h = absurd h
+all_at p (y ∷ xs) x all h = let parts = both p y xs all in elim h [ inl same ↦ ap p same ∙ parts.0 | inr more ↦ all_at p xs x parts.1 more ]
+  where
+    both : {X : Type 0} (p : X → Bool) (y : X) (xs : List X) → (p y && list_all p xs) ≡ true → (p y ≡ true) × (list_all p xs ≡ true)
+    both p y xs h = elim (p y) as (λ b. (b && list_all p xs) ≡ true → (b ≡ true) × (list_all p xs ≡ true)) [ true ↦ λ e. (refl, e) | false ↦ λ e. absurd cc ] h
+
+itself : (n : ℕ) → (n == n) ≡ true
+itself n = grind (arith, nat_tests)
 
 -- no two rows of `line` have one key and two numbers
 unique : (db : Database) → HasOurTables db.schema → IsDatabase db
-    → AllByRecursion (λ r. AllByRecursion (λ s. (agree (record { digits = 0 }) (1 ∷ 2 ∷ []) s (1 ∷ 2 ∷ []) r && differ (rowid s) (rowid r)) ≡ false) (db.trees 2)) (db.trees 2)
+    → AllByRecursion (λ r. AllByRecursion (λ s. (agree (record { digits = 0 }) (1 ∷ 2 ∷ []) s (1 ∷ 2 ∷ []) r && differ (rowid s) (rowid r)) ≡ false) (rows_of_line db.trees)) (rows_of_line db.trees)
 unique db has sound =
-    let schema = our_schema (drop 2 db.schema.tables) (drop 2 db.schema.indexes) db.schema.views in
-    let keeps : Keeps Unique schema db.trees = subst (λ s. Keeps Unique s db.trees) (schema_is db.schema has) (sound.obeys.rules Unique) in
-    all_weaker _ _ (λ r pass. any_none _ (db.trees 2) (no_clash _ _ pass)) (db.trees 2) keeps.1.0
+    let l = tree_of db.schema (codes "line") in
+    let here = found_has _ db.schema.tables (line_table l) has.line.named in
+    let index = all_has _ db.schema.tables (line_table l) sound.lists.guarded here 0 (1 ∷ 2 ∷ []) refl in
+    let keeps = all_has _ db.schema.tables (line_table l) (sound.obeys.rules Unique) here in
+    let once : AllByRecursion (λ r. clashes (record { digits = 0 }) (1 ∷ 2 ∷ []) (db.trees l) r ≡ false) (db.trees l) =
+    all_weaker _ _ (λ r pass. let one = all_at _ db.schema.indexes _ pass index.1 in was_false _ (rw (itself l) at one)) (db.trees l) keeps in
+    subst (λ rows. AllByRecursion (λ r. AllByRecursion (λ s. (agree (record { digits = 0 }) (1 ∷ 2 ∷ []) s (1 ∷ 2 ∷ []) r && differ (rowid s) (rowid r)) ≡ false) rows) rows) (sym (line_rows_are db has sound))
+    (all_weaker _ _ (λ r none. any_none _ (db.trees l) none) (db.trees l) once)
 
 text_self : (v w : Value) (t : List ℕ) → v ≡ Text t → w ≡ Text t → is_true (binary (Compare Eq Binary) v w) ≡ true
 text_self v w t e f = rw (e, f) (equal_texts t t ∙ (eq_by_cmp_equiv nat_list_cmp_total).refl t)
@@ -162,10 +181,10 @@ one_key : (rows : List Row) → AllByRecursion IsLine rows → (r : Row) → IsL
 one_key rows lines r l apart one = all_three IsLine (Apart r) (OneNumber r) (OneKey r) (λ s m a n. same_key r s l m a n) rows lines apart one
 
 -- the lines that were read are those that are stored
-pub lines_same : (db : Database) (read : List Row) → HasOurTables db.schema → IsDatabase db → AllByRecursion IsLine (db.trees 2) → IsNumbered (db.trees 2) → IsPermutation (map line_selected (db.trees 2)) read
-    → stored_lines (db.trees 2) ≡ from_entries (map entry read)
+pub lines_same : (db : Database) (read : List Row) → HasOurTables db.schema → IsDatabase db → AllByRecursion IsLine (rows_of_line db.trees) → IsNumbered (rows_of_line db.trees) → IsPermutation (map line_selected (rows_of_line db.trees)) read
+    → stored_lines (rows_of_line db.trees) ≡ from_entries (map entry read)
 lines_same db read has sound lines numbered same =
-    let rows = db.trees 2 in
+    let rows = rows_of_line db.trees in
     let keys = all_three IsLine (λ r. AllByRecursion (Apart r) rows) (λ r. AllByRecursion (OneNumber r) rows) (λ r. AllByRecursion (OneKey r) rows) (one_key rows lines) rows lines (unique db has sound) numbered in
     let ones = map_all _ entry rows (all_weaker _ _ (λ r inner. map_all _ entry rows inner) rows keys) in
     same_entries (map entry rows) (map entry read) (subst (λ xs. IsPermutation xs (map entry read)) (map_then line_selected entry rows) (IsPermutation-map entry (map line_selected rows) read same)) ones

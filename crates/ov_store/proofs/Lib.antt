@@ -1,5 +1,10 @@
 pub mod TableLemmas
+pub mod ListingLemmas
 pub mod Texts
+pub mod Compiling
+pub mod Statements
+pub mod LineTexts
+pub mod MetaTexts
 pub mod EntryLemmas
 pub mod ResultLemmas
 pub mod RowLemmas

@@ -1,5 +1,5 @@
 -- What the INSERT into `meta` does, and what the rows of `meta` give.
-use Rattle.std.proofs.Common.{◌≡◌, inl, inr, ℕ, ℤ, List, [], ◌∷◌, true, false, not, ◌&&◌, ◌||◌, None, Ok, refl, sym, ap, subst, ◌∙◌, arith, codes, IsUtf8, drop}
+use Rattle.std.proofs.Common.{◌≡◌, inl, inr, ℕ, ℤ, List, [], ◌∷◌, true, false, not, ◌&&◌, ◌||◌, None, Ok, refl, sym, ap, subst, ◌∙◌, codes, IsUtf8}
 use Rattle.std.specs.declared.cmp.Ordering.{Ordering}
 use Rattle.std.specs.declared.cmp.Ordering.TheVariants.{Less, Equal, Greater}
 use Rattle.std.specs.Ordering.{is_eq, match_ordering}
@@ -10,56 +10,60 @@ use Rattle.sqlite.specs.Command.TheVariants.{Insert}
 use Rattle.sqlite.specs.Edit.{edit_of}
 use Rattle.sqlite_rules.specs.Edit.{next_rowid, are_fresh}
 use Rattle.sqlite_rules.specs.declared.error.Rowids.TheVariants.{Chosen}
-use Rattle.sqlite.specs.Does.{Tally, Does}
+use Rattle.sqlite.specs.Does.{Tally}
 use Rattle.sqlite.specs.Rows.{Written}
 use Rattle.sqlite_trees.specs.Tree.{Trees, put_row}
-use Rattle.sqlite.specs.Listing.{understood}
 use Rattle.sqlite.specs.Effect.{Database, IsDatabase}
-use Rattle.sqlite.specs.State.{State, mode_of, Executes}
-use Rattle.sqlite.proofs.Callers.{statement_of, runs_as}
-use Rattle.ov_store.specs.Tables.{meta_table, HasOurTables, meta_insert_text}
-use Rattle.ov_store.proofs.TableLemmas.{our_schema, schema_is, our_step}
-use Rattle.ov_store.specs.Format.{IsMeta, IsFormatRow, IsSchemaRow}
+use Rattle.sqlite.specs.State.{State, Executes}
+use Rattle.sqlite.proofs.Callers.{IsPlain, command_of, runs_as}
+use Rattle.ov_store.specs.Tables.{meta_table, tree_of, HasOurTables, meta_insert_text}
+use Rattle.ov_store.proofs.TableLemmas.{our_step, meta_is_ours}
+use Rattle.ov_store.proofs.ListingLemmas.{meta_stands, meta_rows_are, meta_after, line_beside}
+use Rattle.ov_store.specs.Format.{IsMeta, IsFormatRow, IsSchemaRow, rows_of_meta, rows_of_line}
 use Rattle.ov_store.specs.Making.{meta_row}
-use Rattle.ov_store.proofs.Texts.{meta_terms, meta_insert_is, meta_insert_plain}
-use Rattle.ov_store.proofs.DeleteLemmas.{went, same_value}
+use Rattle.ov_store.proofs.Statements.{meta_insert_terms}
+use Rattle.ov_store.proofs.MetaTexts.{meta_insert_is}
+use Rattle.ov_store.proofs.DeleteLemmas.{went, same_value, at_placed}
 use Rattle.ov_store.proofs.InsertLemmas.{cast_null}
 
 pub record InsertsMeta (k v : List ℕ) (old new : State) : Type 0 where
   pub schema : new.now.schema ≡ old.now.schema
-  pub lines : new.now.trees 2 ≡ old.now.trees 2
+  pub lines : rows_of_line new.now.trees ≡ rows_of_line old.now.trees
   pub number : ℤ
-  pub rows : new.now.trees 0 ≡ put_row (meta_row number k v) (old.now.trees 0)
-  pub fresh : are_fresh (old.now.trees 0) (meta_row number k v ∷ []) ≡ true
+  pub rows : rows_of_meta new.now.trees ≡ put_row (meta_row number k v) (rows_of_meta old.now.trees)
+  pub fresh : are_fresh (rows_of_meta old.now.trees) (meta_row number k v ∷ []) ≡ true
   pub sound : IsDatabase new.now
 
-pub inserts_meta : (old new : State) (k v : List ℕ) (count : ℕ) → HasOurTables old.now.schema → Executes meta_insert_text (Text k ∷ Blob v ∷ []) old new (Ok count) → InsertsMeta k v old new
-inserts_meta old new k v count has h =
-    let tables = drop 2 old.now.schema.tables in
-    let indexes = drop 2 old.now.schema.indexes in
-    let views = old.now.schema.views in
-    let schema = our_schema tables indexes views in
-    let same = schema_is old.now.schema has in
+pub inserts_meta : (old new : State) (k v : List ℕ) (count : ℕ) → HasOurTables old.now.schema → IsDatabase old.now → Executes meta_insert_text (Text k ∷ Blob v ∷ []) old new (Ok count) → InsertsMeta k v old new
+inserts_meta old new k v count has sound h =
+    let schema = old.now.schema in
+    let m = tree_of schema (codes "meta") in
+    let stood = meta_stands old.now has sound in
+    let at = stood.0 in
+    let it = stood.1 in
     let params = Text k ∷ Blob v ∷ [] in
     let db = old.now.trees in
-    let command = Insert 0 (Values meta_terms 3) in
-    let w = runs_as meta_insert_text params old new schema same command (meta_insert_is tables indexes views) (meta_insert_plain tables indexes views) count h in
-    let text = statement_of meta_insert_text (understood schema meta_insert_text) in
-    let done = went (subst (λ s. Does old.step_limit (mode_of old) params (record old.now { schema = s }) text None command (Ok (w.tally, new.now))) same w.changed) in
+    let command = Insert at (Values meta_insert_terms 3) in
+    let known = meta_insert_is schema at m it in
+    let w = runs_as meta_insert_text params old new schema refl command (ap command_of known) (subst IsPlain (sym known) (refl, refl)) count h in
+    let done = went (at_placed old params command at (meta_table m) (Ok (w.tally, new.now)) it.placed w.changed) in
     let now = ap (λ (p : Tally × Database). p.1) (same_value (went (went done.2).2).2) in
     let given = went done.1 in
     let written = went (went given.2).2 in
     let counted = went written.2 in
     let trees : done.0.trees ≡ written.0 = ap (λ (it : Written). it.trees) (same_value counted.2) ∙ same_value counted.1 in
-    let step = our_step tables indexes views has.other_tables _ db written.0 (edit_of db meta_table [] Chosen 0 given.0) refl written.1 in
-    let n = next_rowid (db 0) in
-    let news : (edit_of db meta_table [] Chosen 0 given.0).news ≡ meta_row n k v ∷ [] = ap (λ all. (edit_of db meta_table [] Chosen 0 all).news) given.1.1 ∙ rw cast_null in
+    let path : new.now.trees ≡ written.0 = ap (λ (d : Database). d.trees) now ∙ trees in
+    let edit = edit_of db (meta_table m) [] Chosen 0 given.0 in
+    let step = our_step schema has _ db written.0 edit (meta_is_ours schema) written.1 in
+    let n = next_rowid (db m) in
+    let news : edit.news ≡ meta_row n k v ∷ [] = ap (λ all. (edit_of db (meta_table m) [] Chosen 0 all).news) given.1.1 ∙ rw cast_null in
+    let was : db m ≡ rows_of_meta db = sym (meta_rows_are old.now has sound) in
     record {
-      schema = ap (λ (d : Database). d.schema) now ∙ sym same;
-      lines = ap (λ (d : Database). d.trees 2) now ∙ ap (λ (t : Trees). t 2) trees ∙ step.tables.1.0 (λ e. absurd (omega arith));
+      schema = ap (λ (d : Database). d.schema) now;
+      lines = ap rows_of_line path ∙ line_beside old.now has sound _ edit written.0 step refl;
       number = n;
-      rows = ap (λ (d : Database). d.trees 0) now ∙ ap (λ (t : Trees). t 0) trees ∙ step.rows ∙ ap (λ all. Rattle.sqlite_rules.specs.Edit.put_all (db 0) all) news;
-      fresh = ap (are_fresh (db 0)) (sym news) ∙ step.fresh;
+      rows = ap rows_of_meta path ∙ meta_after old.now has sound _ edit written.0 step refl ∙ step.rows ∙ ap (λ all. Rattle.sqlite_rules.specs.Edit.put_all (db m) all) news ∙ ap (put_row (meta_row n k v)) was;
+      fresh = ap (λ rows. are_fresh rows (meta_row n k v ∷ [])) (sym was) ∙ ap (are_fresh (db m)) (sym news) ∙ step.fresh;
       sound = w.sound;
     }
 

@@ -16,7 +16,7 @@ use Rattle.sqlite.specs.State.{State}
 use Rattle.ov_specs.specs.rows.Lines.{LineKey, LineBody, line_cmp}
 use Rattle.ov_specs.proofs.laws.LineKeys.{key_total, key_exact}
 use Rattle.ov_store.specs.Tables.{HasOurTables}
-use Rattle.ov_store.specs.Format.{IsLine, IsMeta, entry, stored_lines}
+use Rattle.ov_store.specs.Format.{IsLine, IsMeta, entry, stored_lines, rows_of_line}
 use Rattle.ov_store.specs.Changing.{IsNumbered, IsStored}
 use Rattle.ov_store.proofs.InsertLemmas.{line_row, Inserts}
 use Rattle.ov_specs.proofs.laws.Truths.{equal_is, right_fails}
@@ -104,12 +104,13 @@ module _ (t i v b : List ℕ) (named : IsUtf8 t) (id_sixteen : length i ≡ 16) 
       let row = line_row d.number t i v b in
       record {
         format = record { schema = subst HasOurTables (sym d.schema) stored.format.schema; meta = subst (IsMeta text) (sym d.meta) stored.format.meta; lines = subst (AllByRecursion IsLine) (sym d.rows) (all-put_row IsLine _ _ (new_line d.number) stored.format.lines) };
-        numbered = subst IsNumbered (sym d.rows) (put_numbered row (old.now.trees 2) (not_taken (old.now.trees 2) row d.fresh) stored.numbered);
+        numbered = subst IsNumbered (sym d.rows) (put_numbered row (rows_of_line old.now.trees) (not_taken (rows_of_line old.now.trees) row d.fresh) stored.numbered);
+        sound = d.sound;
       }
 
-pub inserted_lines : (t i v b : List ℕ) (old new : State) → get (stored_lines (old.now.trees 2)) (t, i) ≡ None → Inserts t i v b old new → stored_lines (new.now.trees 2) ≡ insert (stored_lines (old.now.trees 2)) (t, i) (v, b)
+pub inserted_lines : (t i v b : List ℕ) (old new : State) → get (stored_lines (rows_of_line old.now.trees)) (t, i) ≡ None → Inserts t i v b old new → stored_lines (rows_of_line new.now.trees) ≡ insert (stored_lines (rows_of_line old.now.trees)) (t, i) (v, b)
 inserted_lines t i v b old new none d =
-    let rows = old.now.trees 2 in
+    let rows = rows_of_line old.now.trees in
     same_map key_total key_exact _ _ (λ q.
     ap (λ rs. get {R = line_cmp} (from_entries (map entry rs)) q) d.rows ∙ get-from_entries key_total _ q
     ∙ find_put (line_row d.number t i v b) rows q (not_taken rows (line_row d.number t i v b) d.fresh) (none_agree ((t, i), (v, b)) rows (sym (get-from_entries key_total (map entry rows) (t, i)) ∙ none))

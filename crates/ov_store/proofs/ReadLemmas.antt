@@ -1,5 +1,5 @@
 -- What a query gives, and that it keeps the commit.
-use Rattle.std.proofs.Common.{◌≡◌, ◌⊎◌, inl, inr, ℕ, List, [], ◌∷◌, map, drop, refl, sym, ap, subst, ◌∙◌, Option, Some, None, IsTrue, true}
+use Rattle.std.proofs.Common.{◌≡◌, ◌⊎◌, inl, inr, ℕ, List, [], ◌∷◌, map, codes, refl, sym, ap, subst, ◌∙◌, Option, Some, None, IsTrue, true}
 use Rattle.std.specs.List.{flat_map}
 use Rattle.std.specs.List.Sorted.{IsPermutation}
 use Rattle.std.proofs.lemmas.List.Sorted.{IsPermutation-map}
@@ -11,12 +11,18 @@ use Rattle.sqlite.specs.Program.{overlay}
 use Rattle.sqlite.specs.State.{State, Shown, IsRolledBack, KeepsCommit, ShowsRows, FailsToQuery, FailsToShow, IsNotRun, IsTooLate}
 use Rattle.sqlite_resolve.specs.declared.compiled.Compiled.{Compiled}
 use Rattle.sqlite_schema.specs.declared.command.Returning.{Returning}
-use Rattle.sqlite.proofs.Callers.{reads_as}
-use Rattle.ov_store.specs.Tables.{HasOurTables, select_text, meta_select_text}
-use Rattle.ov_store.proofs.TableLemmas.{our_schema, schema_is}
+use Rattle.sqlite.proofs.Callers.{IsPlain, command_of, reads_as}
+use Rattle.ov_store.specs.Tables.{HasOurTables, tree_of, select_text, meta_select_text}
+use Rattle.ov_store.proofs.ListingLemmas.{line_stands, line_rows_are, meta_stands, meta_rows_are}
 use Rattle.ov_store.specs.Reading.{line_selected, meta_selected}
 use Rattle.ov_store.specs.Querying.{IsAsBefore}
-use Rattle.ov_store.proofs.Texts.{query, select_is, select_plain, meta_query, meta_select_is, meta_select_plain}
+use Rattle.ov_store.proofs.Statements.{selects as draft, selects_meta as meta_draft, runs}
+use Rattle.ov_store.proofs.LineTexts.{select_is, select_listed}
+use Rattle.ov_store.proofs.MetaTexts.{meta_select_is, meta_select_listed}
+use Rattle.sqlite_draft.specs.Query.{query_of}
+use Rattle.sqlite.specs.Effect.{IsDatabase}
+use Rattle.ov_store.specs.Format.{rows_of_meta, rows_of_line}
+use Rattle.sqlite.specs.Command.TheVariants.{Select}
 use Rattle.ov_store.proofs.RowLemmas.{map_then}
 use Rattle.ov_store.proofs.RunLemmas.{unchanged_keeps, rolled_keeps}
 
@@ -24,33 +30,43 @@ each : {X Y : Type 0} (f : X → Y) (xs : List X) → flat_map (λ x. f x ∷ []
 each f [] = refl
 each f (x ∷ xs) = ap (λ ys. f x ∷ ys) (each f xs)
 
-pub selects : (old new : State) (rows : List Row) → HasOurTables old.now.schema → Shown select_text [] old new rows → IsPermutation (map line_selected (old.now.trees 2)) rows
-selects old new rows has h =
-    let tables = drop 2 old.now.schema.tables in
-    let indexes = drop 2 old.now.schema.indexes in
-    let views = old.now.schema.views in
-    let is = select_is tables indexes views in
-    let read = reads_as select_text [] old new (our_schema tables indexes views) (schema_is old.now.schema has) _ is.0 (select_plain tables indexes views) is.1 rows h in
+pub selects : (old new : State) (rows : List Row) → HasOurTables old.now.schema → IsDatabase old.now → Shown select_text [] old new rows → IsPermutation (map line_selected (rows_of_line old.now.trees)) rows
+selects old new rows has sound h =
+    let schema = old.now.schema in
+    let tree = tree_of schema (codes "line") in
+    let stood = line_stands old.now has sound in
+    let at = stood.0 in
+    let it = stood.1 in
+    let known = select_is schema at tree it in
+    let query = query_of (draft tree) in
+    let read = reads_as select_text [] old new schema refl (Select (runs (draft tree)) (codes "rowid" ∷ codes "tbl" ∷ codes "id" ∷ codes "ver" ∷ codes "body" ∷ [])) (ap command_of known) (subst IsPlain (sym known) (refl, refl)) (select_listed schema at tree it) rows h in
     let db = old.now.trees in
     let a : IsAnswer query (overlay db []) [] rows = read.answer Null in
-    let kept : a.kept ≡ map (λ r. ([], line_selected r)) (db 2) = a.distinct ∙ ap (map (output query)) (a.grouped ∙ each (λ r. [] ∷ r ∷ []) (db 2)) ∙ map_then (λ r. [] ∷ r ∷ []) (output query) (db 2) in
-    let same : IsPermutation (map (λ (o : Output). o.1) (map (λ r. ([], line_selected r)) (db 2))) (map (λ (o : Output). o.1) a.ordered) =
+    let here : overlay db [] tree ≡ rows_of_line db = rw it.not_high (sym (line_rows_are old.now has sound)) in
+    let kept : a.kept ≡ map (λ r. ([], line_selected r)) (rows_of_line db) =
+    a.distinct ∙ ap (map (output query)) (a.grouped ∙ each (λ r. [] ∷ r ∷ []) (overlay db [] tree)) ∙ map_then (λ r. [] ∷ r ∷ []) (output query) (overlay db [] tree) ∙ ap (map (λ r. ([], line_selected r))) here in
+    let same : IsPermutation (map (λ (o : Output). o.1) (map (λ r. ([], line_selected r)) (rows_of_line db))) (map (λ (o : Output). o.1) a.ordered) =
     IsPermutation-map (λ (o : Output). o.1) _ _ (subst (λ k. IsPermutation k a.ordered) kept a.same) in
-    subst (λ xs. IsPermutation xs rows) (map_then (λ r. ([], line_selected r)) (λ (o : Output). o.1) (db 2)) (subst (IsPermutation _) (sym a.shown) same)
+    subst (λ xs. IsPermutation xs rows) (map_then (λ r. ([], line_selected r)) (λ (o : Output). o.1) (rows_of_line db)) (subst (IsPermutation _) (sym a.shown) same)
 
-pub selects_meta : (old new : State) (rows : List Row) → HasOurTables old.now.schema → Shown meta_select_text [] old new rows → IsPermutation (map meta_selected (old.now.trees 0)) rows
-selects_meta old new rows has h =
-    let tables = drop 2 old.now.schema.tables in
-    let indexes = drop 2 old.now.schema.indexes in
-    let views = old.now.schema.views in
-    let is = meta_select_is tables indexes views in
-    let read = reads_as meta_select_text [] old new (our_schema tables indexes views) (schema_is old.now.schema has) _ is.0 (meta_select_plain tables indexes views) is.1 rows h in
+pub selects_meta : (old new : State) (rows : List Row) → HasOurTables old.now.schema → IsDatabase old.now → Shown meta_select_text [] old new rows → IsPermutation (map meta_selected (rows_of_meta old.now.trees)) rows
+selects_meta old new rows has sound h =
+    let schema = old.now.schema in
+    let tree = tree_of schema (codes "meta") in
+    let stood = meta_stands old.now has sound in
+    let at = stood.0 in
+    let it = stood.1 in
+    let known = meta_select_is schema at tree it in
+    let query = query_of (meta_draft tree) in
+    let read = reads_as meta_select_text [] old new schema refl (Select (runs (meta_draft tree)) (codes "k" ∷ codes "v" ∷ [])) (ap command_of known) (subst IsPlain (sym known) (refl, refl)) (meta_select_listed schema at tree it) rows h in
     let db = old.now.trees in
-    let a : IsAnswer meta_query (overlay db []) [] rows = read.answer Null in
-    let kept : a.kept ≡ map (λ r. ([], meta_selected r)) (db 0) = a.distinct ∙ ap (map (output meta_query)) (a.grouped ∙ each (λ r. [] ∷ r ∷ []) (db 0)) ∙ map_then (λ r. [] ∷ r ∷ []) (output meta_query) (db 0) in
-    let same : IsPermutation (map (λ (o : Output). o.1) (map (λ r. ([], meta_selected r)) (db 0))) (map (λ (o : Output). o.1) a.ordered) =
+    let a : IsAnswer query (overlay db []) [] rows = read.answer Null in
+    let here : overlay db [] tree ≡ rows_of_meta db = rw it.not_high (sym (meta_rows_are old.now has sound)) in
+    let kept : a.kept ≡ map (λ r. ([], meta_selected r)) (rows_of_meta db) =
+    a.distinct ∙ ap (map (output query)) (a.grouped ∙ each (λ r. [] ∷ r ∷ []) (overlay db [] tree)) ∙ map_then (λ r. [] ∷ r ∷ []) (output query) (overlay db [] tree) ∙ ap (map (λ r. ([], meta_selected r))) here in
+    let same : IsPermutation (map (λ (o : Output). o.1) (map (λ r. ([], meta_selected r)) (rows_of_meta db))) (map (λ (o : Output). o.1) a.ordered) =
     IsPermutation-map (λ (o : Output). o.1) _ _ (subst (λ k. IsPermutation k a.ordered) kept a.same) in
-    subst (λ xs. IsPermutation xs rows) (map_then (λ r. ([], meta_selected r)) (λ (o : Output). o.1) (db 0)) (subst (IsPermutation _) (sym a.shown) same)
+    subst (λ xs. IsPermutation xs rows) (map_then (λ r. ([], meta_selected r)) (λ (o : Output). o.1) (rows_of_meta db)) (subst (IsPermutation _) (sym a.shown) same)
 
 opened_by : (sql : List ℕ) (old new : State) (c : Compiled) (params : Row) (rows : List Row) (o : Option Returning) → ShowsRows old new sql c params rows o → IsTrue old.is_open
 opened_by sql old new c params rows None h = h.3.0.was_open

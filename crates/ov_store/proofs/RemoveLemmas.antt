@@ -17,7 +17,7 @@ use Rattle.sqlite_rules.specs.Calls.{ids_of}
 use Rattle.sqlite.specs.State.{State}
 use Rattle.ov_specs.specs.rows.Lines.{line_cmp}
 use Rattle.ov_store.specs.Tables.{HasOurTables}
-use Rattle.ov_store.specs.Format.{IsLine, entry, stored_lines}
+use Rattle.ov_store.specs.Format.{IsLine, entry, stored_lines, rows_of_line}
 use Rattle.ov_store.specs.Changing.{IsNumbered, IsStored}
 use Rattle.ov_store.proofs.RowLemmas.{passes, passes_key, without_all_filter, same_number}
 use Rattle.ov_store.proofs.DeleteLemmas.{Deletes}
@@ -125,9 +125,9 @@ left_rows f t i rows gone lines numbered same =
 pub left_lines : (t i : List ℕ) (rows : List Row) → stored_lines (filter (λ r. not (eq_by_cmp line_cmp (t, i) (entry r).0)) rows) ≡ remove (stored_lines rows) (t, i)
 left_lines t i rows = ap from_entries (sym (filter-map (λ e. not (eq_by_cmp line_cmp (t, i) e.0)) entry rows)) ∙ from_entries-filter (map entry rows) (t, i)
 
-deleted_rows : (t i : List ℕ) (old new : State) → AllByRecursion IsLine (old.now.trees 2) → IsNumbered (old.now.trees 2) → Deletes t i old new
-    → new.now.trees 2 ≡ filter (λ r. not (eq_by_cmp line_cmp (t, i) (entry r).0)) (old.now.trees 2)
-deleted_rows t i old new lines numbered d = d.left ∙ left_rows (λ _. []) t i (old.now.trees 2) d.rows lines numbered d.same
+deleted_rows : (t i : List ℕ) (old new : State) → AllByRecursion IsLine (rows_of_line old.now.trees) → IsNumbered (rows_of_line old.now.trees) → Deletes t i old new
+    → rows_of_line new.now.trees ≡ filter (λ r. not (eq_by_cmp line_cmp (t, i) (entry r).0)) (rows_of_line old.now.trees)
+deleted_rows t i old new lines numbered d = d.left ∙ left_rows (λ _. []) t i (rows_of_line old.now.trees) d.rows lines numbered d.same
 
 pub filter_numbered : (p : Row → Bool) (rows : List Row) → IsNumbered rows → IsNumbered (filter p rows)
 filter_numbered p rows numbered = all-filter _ p rows (all_weaker _ _ (λ r ones. all-filter _ p rows ones) rows numbered)
@@ -138,8 +138,9 @@ deleted_stored text t i old new stored d =
     record {
       format = record { schema = subst HasOurTables (sym d.schema) stored.format.schema; meta = subst (Rattle.ov_store.specs.Format.IsMeta text) (sym d.meta) stored.format.meta; lines = subst (AllByRecursion IsLine) (sym left) (all-filter _ _ _ stored.format.lines) };
       numbered = subst IsNumbered (sym left) (filter_numbered _ _ stored.numbered);
+      sound = d.sound;
     }
 
-pub deleted_lines : (text t i : List ℕ) (old new : State) → IsStored text old.now → Deletes t i old new → stored_lines (new.now.trees 2) ≡ remove (stored_lines (old.now.trees 2)) (t, i)
+pub deleted_lines : (text t i : List ℕ) (old new : State) → IsStored text old.now → Deletes t i old new → stored_lines (rows_of_line new.now.trees) ≡ remove (stored_lines (rows_of_line old.now.trees)) (t, i)
 deleted_lines text t i old new stored d =
-    ap stored_lines (deleted_rows t i old new stored.format.lines stored.numbered d) ∙ left_lines t i (old.now.trees 2)
+    ap stored_lines (deleted_rows t i old new stored.format.lines stored.numbered d) ∙ left_lines t i (rows_of_line old.now.trees)

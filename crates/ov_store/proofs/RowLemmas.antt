@@ -22,12 +22,12 @@ use Rattle.sqlite_sql.specs.declared.ops.CompareOp.TheVariants.{Eq}
 use Rattle.sqlite.specs.Collation.TheVariants.{Binary}
 use Rattle.ov_specs.specs.rows.Lines.{line_cmp}
 use Rattle.ov_store.specs.Format.{IsLine, entry}
-use Rattle.ov_store.proofs.Texts.{gone}
+use Rattle.ov_store.proofs.Statements.{key_terms}
 use Rattle.ov_specs.proofs.laws.Truths.{equal_is}
 
 -- the row passes the test of the DELETE
 abbrev pub passes : List ℕ → List ℕ → Row → Bool
-passes t i r = list_all (holds ((Text t ∷ Blob i ∷ []) ∷ r ∷ [])) gone.filter
+passes t i r = list_all (holds ((Text t ∷ Blob i ∷ []) ∷ r ∷ [])) key_terms
 
 is_eq_then : (a b : Ordering) → is_eq (ordering_then a b) ≡ (is_eq a && is_eq b)
 is_eq_then Less b = refl

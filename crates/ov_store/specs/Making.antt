@@ -8,7 +8,7 @@ use Rattle.sqlite.specs.State.{State}
 use Rattle.sqlite_trees.specs.Tree.{Trees, put_row}
 use Rattle.sqlite_rules.specs.Edit.{are_fresh}
 use Rattle.ov_store.specs.Tables.{meta_schema, HasOurTables}
-use Rattle.ov_store.specs.Format.{IsMeta}
+use Rattle.ov_store.specs.Format.{IsMeta, rows_of_meta, rows_of_line}
 use Rattle.ov_store.specs.Changing.{IsStored}
 
 -- while it is open it has this schema
@@ -25,7 +25,8 @@ pub record HasMeta (s : State) : Type 0 where
 pub record HasTables (s : State) : Type 0 where
   pub mode : IsTrue s.in_transaction
   pub schema : HasOurTables s.now.schema
-  pub lines : s.now.trees 2 ≡ []
+  pub lines : rows_of_line s.now.trees ≡ []
+  pub sound : IsDatabase s.now
 
 -- a row of `meta` with its number
 abbrev pub meta_row : ℤ → List ℕ → List ℕ → Row
@@ -35,21 +36,18 @@ meta_row n k v = Int n ∷ Text k ∷ Blob v ∷ []
 pub record AddsMeta (k v : List ℕ) (old new : State) : Type 0 where
   pub tables : HasTables new
   pub number : ℤ
-  pub rows : new.now.trees 0 ≡ put_row (meta_row number k v) (old.now.trees 0)
-  pub fresh : are_fresh (old.now.trees 0) (meta_row number k v ∷ []) ≡ true
-  pub sound : IsDatabase new.now
+  pub rows : rows_of_meta new.now.trees ≡ put_row (meta_row number k v) (rows_of_meta old.now.trees)
+  pub fresh : are_fresh (rows_of_meta old.now.trees) (meta_row number k v ∷ []) ≡ true
 
 -- `meta` is filled
 pub record IsFilled (text : List ℕ) (s : State) : Type 0 where
   pub tables : HasTables s
-  pub meta : IsMeta text (s.now.trees 0)
-  pub sound : IsDatabase s.now
+  pub meta : IsMeta text (rows_of_meta s.now.trees)
 
 -- a database of stored format 1 with this text and no line
 pub record IsNewDatabase (text : List ℕ) (db : Database) : Type 0 where
   pub stored : IsStored text db
-  pub no_line : db.trees 2 ≡ []
-  pub sound : IsDatabase db
+  pub no_line : rows_of_line db.trees ≡ []
 
 -- what the commit of a new database writes to the disk, if it gets that far: the whole of it
 pub record IsNewFile (text : List ℕ) (trees : Trees) : Type 0 where
@@ -62,4 +60,4 @@ pub record IsNew (text : List ℕ) (s : State) : Type 0 where
   pub is_open : IsTrue s.is_open
   pub settled : s.now ≡ s.committed
   pub stored : IsStored text s.now
-  pub no_line : s.now.trees 2 ≡ []
+  pub no_line : rows_of_line s.now.trees ≡ []

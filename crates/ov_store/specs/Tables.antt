@@ -1,5 +1,5 @@
 -- The two tables of stored format 1, as `sqlite` understands their texts. What names no source is our own.
-use Rattle.std.specs.Prelude.{◌≡◌, true, false, not, ◌&&◌, ◌||◌, ◌==◌, nat_lt, [], ◌∷◌, take, drop, None, codes, Bool, List, ℕ}
+use Rattle.std.specs.Prelude.{◌≡◌, true, false, not, ◌&&◌, ◌||◌, ◌==◌, [], ◌∷◌, find, Option, Some, None, option_map, unwrap_or, codes, Bool, List, ℕ}
 use Rattle.std.specs.List.{list_any, list_all}
 use Rattle.sqlite.specs.Collation.TheVariants.{Binary}
 use Rattle.sqlite.specs.declared.types.Value.TheVariants.{Null}
@@ -39,12 +39,12 @@ abbrev pub automatic : List ℕ → ℕ → ℕ → List ℕ → Index
 automatic name tree table key = record { name = name; tree = tree; table = table; columns = key; order = record { digits = 0 }; is_unique = true }
 
 -- meta(k TEXT PRIMARY KEY, v BLOB)
-abbrev pub meta_table : Table
-meta_table = plain_table (codes "meta") 0 (loose (codes "k") Text ∷ loose (codes "v") Any ∷ []) (1 ∷ [])
+abbrev pub meta_table : ℕ → Table
+meta_table tree = plain_table (codes "meta") tree (loose (codes "k") Text ∷ loose (codes "v") Any ∷ []) (1 ∷ [])
 
 -- line(tbl TEXT, id BLOB, ver BLOB, body BLOB, PRIMARY KEY(tbl,id))
-abbrev pub line_table : Table
-line_table = plain_table (codes "line") 2 (loose (codes "tbl") Text ∷ loose (codes "id") Any ∷ loose (codes "ver") Any ∷ loose (codes "body") Any ∷ []) (1 ∷ 2 ∷ [])
+abbrev pub line_table : ℕ → Table
+line_table tree = plain_table (codes "line") tree (loose (codes "tbl") Text ∷ loose (codes "id") Any ∷ loose (codes "ver") Any ∷ loose (codes "body") Any ∷ []) (1 ∷ 2 ∷ [])
 
 -- the schema of an empty file (SQLite)
 abbrev pub no_schema : Schema
@@ -52,33 +52,51 @@ no_schema = record { tables = []; indexes = []; views = [] }
 
 -- the schema with the first table alone
 abbrev pub meta_schema : Schema
-meta_schema = created no_schema meta_table
+meta_schema = created no_schema (meta_table 0)
 
--- the indexes of their primary keys
-abbrev pub meta_index : Index
-meta_index = automatic (codes "sqlite_autoindex_meta_1") 1 0 (1 ∷ [])
+-- the table of this name, as SQLite looks for it
+abbrev pub table_of : Schema → List ℕ → Option Table
+table_of schema name = find (λ t. same_name t.name name) schema.tables
 
-abbrev pub line_index : Index
-line_index = automatic (codes "sqlite_autoindex_line_1") 3 2 (1 ∷ 2 ∷ [])
+-- the number of its tree
+abbrev pub tree_of : Schema → List ℕ → ℕ
+tree_of schema name = unwrap_or (option_map (λ t. t.tree) (table_of schema name)) 0
+
+-- the number is that of one of the two
+abbrev pub is_tree_of_ours : Schema → ℕ → Bool
+is_tree_of_ours schema tree = (tree == tree_of schema (codes "meta")) || (tree == tree_of schema (codes "line"))
+
+-- a foreign key that points to a table with one of these trees
+abbrev pub points_to : ℕ → ℕ → Schema → Reference → Bool
+points_to a b schema ref = unwrap_or (option_map (λ t. (t.tree == a) || (t.tree == b)) (table_of schema ref.parent)) false
 
 -- a foreign key that points to one of the two
-abbrev pub refers_to_ours : Reference → Bool
-refers_to_ours ref = same_name (codes "meta") ref.parent || same_name (codes "line") ref.parent
+abbrev pub refers_to_ours : Schema → Reference → Bool
+refers_to_ours schema = points_to (tree_of schema (codes "meta")) (tree_of schema (codes "line")) schema
 
--- a table that stands behind the two and has no foreign key to them, so that no change of theirs reaches it
-abbrev pub is_other_table : Table → Bool
-is_other_table t = nat_lt 3 t.tree && not (list_any refers_to_ours t.references)
+-- a table without a foreign key to the two, so that no change of theirs reaches it
+abbrev pub is_apart : Schema → Table → Bool
+is_apart schema t = not (list_any (refers_to_ours schema) t.references)
 
--- an index behind theirs that forbids them no row
-abbrev pub is_other_index : Index → Bool
-is_other_index i = not (i.is_unique && ((i.table == 0) || (i.table == 2)))
+-- the index that SQLite makes of a primary key (SQLite: "sqlite_autoindex")
+abbrev pub is_key_of_ours : Index → Bool
+is_key_of_ours i = same_name (codes "sqlite_autoindex_meta_1") i.name || same_name (codes "sqlite_autoindex_line_1") i.name
 
--- the database has the two tables of stored format 1, and may have other tables, indexes and views behind them
+-- an index that forbids them no row but for their primary keys
+abbrev pub is_allowed_index : Schema → Index → Bool
+is_allowed_index schema i = not (i.is_unique && is_tree_of_ours schema i.table) || is_key_of_ours i
+
+-- the schema has this table under its name, and none besides it with its tree
+pub record HasTable (schema : Schema) (table : Table) : Type 0 where
+  pub named : table_of schema table.name ≡ Some table
+  pub alone : list_all (λ t. not (t.tree == table.tree) || same_name t.name table.name) schema.tables ≡ true
+
+-- the database has the two tables of stored format 1, and may have other tables, indexes and views
 pub record HasOurTables (schema : Schema) : Type 0 where
-  pub tables : take 2 schema.tables ≡ meta_table ∷ line_table ∷ []
-  pub indexes : take 2 schema.indexes ≡ meta_index ∷ line_index ∷ []
-  pub other_tables : list_all is_other_table (drop 2 schema.tables) ≡ true
-  pub other_indexes : list_all is_other_index (drop 2 schema.indexes) ≡ true
+  pub meta : HasTable schema (meta_table (tree_of schema (codes "meta")))
+  pub line : HasTable schema (line_table (tree_of schema (codes "line")))
+  pub other_tables : list_all (is_apart schema) schema.tables ≡ true
+  pub other_indexes : list_all (is_allowed_index schema) schema.indexes ≡ true
 
 -- the statements
 abbrev pub create_meta : List ℕ

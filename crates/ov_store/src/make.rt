@@ -4,6 +4,7 @@ ghost use Rattle.std.specs.Prelude.{◌≡◌, false, [], IsTrue, IfErr, OnOk, O
 ghost use Rattle.sqlite.specs.State.{HasCleanDisk, Survives, KeepsCommit};
 ghost use Rattle.sqlite.specs.Held.{state};
 ghost use Rattle.ov_store.specs.Tables.{no_schema};
+ghost use Rattle.ov_store.specs.Format.{rows_of_meta};
 ghost use Rattle.ov_store.specs.Making.{HasSchema, HasMeta, HasTables, AddsMeta, IsFilled, IsNew, IsNewFile};
 ghost use Rattle.ov_store.specs.WriteError.{IsBefore};
 
@@ -32,7 +33,7 @@ fn make_meta<S: Alter>(tx: &mut Transaction<'_, S>) -> Result<(), Error>
 fn make_line<S: Alter>(tx: &mut Transaction<'_, S>) -> Result<(), Error>
     ensures same_reference { tx.new.conn.ghost_name ≡ tx.old.conn.ghost_name }
     ensures ok { HasCleanDisk (state S.Store tx.new.conn.now) → IsTrue (state S.Store tx.old.conn.now).in_transaction → HasMeta (state S.Store tx.old.conn.now)
-        → OnOk result (HasTables (state S.Store tx.new.conn.now) × ((state S.Store tx.new.conn.now).now.trees 0 ≡ [])) }
+        → OnOk result (HasTables (state S.Store tx.new.conn.now) × (rows_of_meta (state S.Store tx.new.conn.now).now.trees ≡ [])) }
     ensures kept { HasCleanDisk (state S.Store tx.new.conn.now) → KeepsCommit (state S.Store tx.old.conn.now) (state S.Store tx.new.conn.now) }
     ensures survives { Survives (state S.Store tx.old.conn.now) (state S.Store tx.new.conn.now) (λ _. ⊥) }
 {
@@ -57,7 +58,7 @@ fn insert_meta<S: Alter>(tx: &mut Transaction<'_, S>, key: &str, value: &[u8]) -
 /// Writes the two rows of `meta`.
 fn fill_meta<S: Alter>(tx: &mut Transaction<'_, S>, schema: &Text) -> Result<(), Error>
     ensures same_reference { tx.new.conn.ghost_name ≡ tx.old.conn.ghost_name }
-    ensures ok { HasCleanDisk (state S.Store tx.new.conn.now) → IsTrue (state S.Store tx.old.conn.now).in_transaction → HasTables (state S.Store tx.old.conn.now) → (state S.Store tx.old.conn.now).now.trees 0 ≡ []
+    ensures ok { HasCleanDisk (state S.Store tx.new.conn.now) → IsTrue (state S.Store tx.old.conn.now).in_transaction → HasTables (state S.Store tx.old.conn.now) → rows_of_meta (state S.Store tx.old.conn.now).now.trees ≡ []
         → OnOk result (IsFilled schema.now (state S.Store tx.new.conn.now)) }
     ensures kept { HasCleanDisk (state S.Store tx.new.conn.now) → KeepsCommit (state S.Store tx.old.conn.now) (state S.Store tx.new.conn.now) }
     ensures survives { Survives (state S.Store tx.old.conn.now) (state S.Store tx.new.conn.now) (λ _. ⊥) }

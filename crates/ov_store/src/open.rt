@@ -5,7 +5,7 @@ ghost use Rattle.sqlite.specs.State.{HasCleanDisk, Survives};
 ghost use Rattle.sqlite.specs.Held.{state};
 ghost use Rattle.ov_keeper.specs.Keeping.{IsCommitFault};
 ghost use Rattle.ov_store.specs.Tables.{no_schema, HasOurTables};
-ghost use Rattle.ov_store.specs.Format.{IsLine, IsMeta, IsFormat};
+ghost use Rattle.ov_store.specs.Format.{IsLine, IsMeta, IsFormat, rows_of_meta, rows_of_line};
 ghost use Rattle.ov_store.specs.Changing.{IsNumbered, IsStored};
 ghost use Rattle.ov_store.specs.Making.{HasSchema, IsNew, IsNewFile};
 ghost use Rattle.ov_store.specs.Querying.{IsAsBefore};
@@ -29,9 +29,9 @@ fn read_meta<S: Alter>(alloc: Global, conn: &mut Connection<S>) -> Result<Text, 
     requires { conn.old.in_transaction ≡ false }
     ensures mode { conn.new.in_transaction ≡ false }
     ensures ok { HasCleanDisk (state S.Store conn.new) → HasOurTables (state S.Store conn.old).now.schema
-        → IfOk result (λ text. IsTrue (state S.Store conn.old).is_open × IsMeta text ((state S.Store conn.old).now.trees 0)) }
+        → IfOk result (λ text. IsTrue (state S.Store conn.old).is_open × IsMeta text (rows_of_meta (state S.Store conn.old).now.trees)) }
     ensures format { HasCleanDisk (state S.Store conn.new) → HasOurTables (state S.Store conn.old).now.schema
-        → result ≡ Err KeepFault.Format → (text : _) → ¬ IsMeta text ((state S.Store conn.old).now.trees 0) }
+        → result ≡ Err KeepFault.Format → (text : _) → ¬ IsMeta text (rows_of_meta (state S.Store conn.old).now.trees) }
     ensures ours { result ≢ Err KeepFault.NotOurs }
     ensures same { HasCleanDisk (state S.Store conn.new) → IsAsBefore (state S.Store conn.old) (state S.Store conn.new) }
     ensures survives { Survives (state S.Store conn.old) (state S.Store conn.new) (λ _. ⊥) }
@@ -74,9 +74,9 @@ fn test_lines<S: Alter>(conn: &mut Connection<S>) -> Result<(), KeepFault>
     requires { conn.old.in_transaction ≡ false }
     ensures mode { conn.new.in_transaction ≡ false }
     ensures ok { HasCleanDisk (state S.Store conn.new) → (IsTrue (state S.Store conn.old).is_open → HasOurTables (state S.Store conn.old).now.schema)
-        → OnOk result (IsTrue (state S.Store conn.old).is_open × AllByRecursion IsLine ((state S.Store conn.old).now.trees 2) × IsNumbered ((state S.Store conn.old).now.trees 2)) }
+        → OnOk result (IsTrue (state S.Store conn.old).is_open × AllByRecursion IsLine (rows_of_line (state S.Store conn.old).now.trees) × IsNumbered (rows_of_line (state S.Store conn.old).now.trees)) }
     ensures format { HasCleanDisk (state S.Store conn.new) → (IsTrue (state S.Store conn.old).is_open → HasOurTables (state S.Store conn.old).now.schema)
-        → result ≡ Err KeepFault.Format → IsTrue (state S.Store conn.old).is_open × (¬ AllByRecursion IsLine ((state S.Store conn.old).now.trees 2)) }
+        → result ≡ Err KeepFault.Format → IsTrue (state S.Store conn.old).is_open × (¬ AllByRecursion IsLine (rows_of_line (state S.Store conn.old).now.trees)) }
     ensures ours { result ≢ Err KeepFault.NotOurs }
     ensures same { HasCleanDisk (state S.Store conn.new) → IsAsBefore (state S.Store conn.old) (state S.Store conn.new) }
     ensures survives { Survives (state S.Store conn.old) (state S.Store conn.new) (λ _. ⊥) }
@@ -99,6 +99,8 @@ fn test_format<S: Alter>(alloc: Global, conn: &mut Connection<S>) -> Result<Text
     ensures same { HasCleanDisk (state S.Store conn.new) → IsAsBefore (state S.Store conn.old) (state S.Store conn.new) }
     ensures survives { Survives (state S.Store conn.old) (state S.Store conn.new) (λ _. ⊥) }
 {
+    // Its clause says that the rows obey the schema.
+    let _schema = conn.schema();
     let text = match read_meta(alloc, conn) {
         Ok(text) => text,
         Err(fault) => return Err(fault),
@@ -140,9 +142,9 @@ impl<S: Alter + Drop> Store<S> {
         }
     }
 
-    /// The store of a database that has stored format 1. `NotOurs` where its first two tables and their indexes are not those
-    /// of that format, where another table has a foreign key to them, or another index of theirs is unique; what else stands
-    /// behind them is passed over. `Format` where a row of `meta` or of `line` is not as there. Each row is read once. A refusal
+    /// The store of a database that has stored format 1. `NotOurs` where one of its two tables is missing or is another, where
+    /// another table has a foreign key to them, or another index of theirs is unique; what else stands beside them is passed
+    /// over. `Format` where a row of `meta` or of `line` is not as there. Each row is read once. A refusal
     /// leaves the connection with what it held, and a crash then leaves what it left before.
     pub fn open(alloc: Global, mut connection: Connection<S>) -> Result<Store<S>, Unopened<S>>
         requires { connection.in_transaction ≡ false }

@@ -5,6 +5,7 @@ ghost use Rattle.std.specs.List.Sorted.{IsPermutation};
 ghost use Rattle.sqlite.specs.State.{HasCleanDisk, Survives, Shown};
 ghost use Rattle.sqlite.specs.Effect.{IsDatabase};
 ghost use Rattle.sqlite.specs.Held.{state};
+ghost use Rattle.ov_store.specs.Format.{rows_of_line, rows_of_meta};
 ghost use Rattle.ov_store.specs.Tables.{HasOurTables};
 ghost use Rattle.ov_store.specs.Querying.{IsAsBefore};
 ghost use Rattle.ov_store.specs.Reading.{line_selected, meta_selected};
@@ -36,7 +37,7 @@ pub(crate) fn line_rows<S: Alter>(conn: &mut Connection<S>) -> Result<Vec<Row>, 
     requires { conn.old.in_transaction ≡ false }
     ensures mode { conn.new.in_transaction ≡ false }
     ensures rows { HasCleanDisk (state S.Store conn.new) → (IsTrue (state S.Store conn.old).is_open → HasOurTables (state S.Store conn.old).now.schema)
-        → IfOk result (λ rows. IsTrue (state S.Store conn.old).is_open × IsPermutation (map line_selected ((state S.Store conn.old).now.trees 2)) rows.items) }
+        → IfOk result (λ rows. IsTrue (state S.Store conn.old).is_open × IsPermutation (map line_selected (rows_of_line (state S.Store conn.old).now.trees)) rows.items) }
     ensures settled { IsTrue (state S.Store conn.old).is_open → ((state S.Store conn.old).now ≡ (state S.Store conn.old).committed) × IsDatabase (state S.Store conn.old).now }
     ensures same { HasCleanDisk (state S.Store conn.new) → IsAsBefore (state S.Store conn.old) (state S.Store conn.new) }
     ensures survives { Survives (state S.Store conn.old) (state S.Store conn.new) (λ _. ⊥) }
@@ -49,7 +50,7 @@ pub(crate) fn meta_rows<S: Alter>(conn: &mut Connection<S>) -> Result<Vec<Row>, 
     requires { conn.old.in_transaction ≡ false }
     ensures mode { conn.new.in_transaction ≡ false }
     ensures rows { HasCleanDisk (state S.Store conn.new) → (IsTrue (state S.Store conn.old).is_open → HasOurTables (state S.Store conn.old).now.schema)
-        → IfOk result (λ rows. IsTrue (state S.Store conn.old).is_open × IsPermutation (map meta_selected ((state S.Store conn.old).now.trees 0)) rows.items) }
+        → IfOk result (λ rows. IsTrue (state S.Store conn.old).is_open × IsPermutation (map meta_selected (rows_of_meta (state S.Store conn.old).now.trees)) rows.items) }
     ensures settled { IsTrue (state S.Store conn.old).is_open → ((state S.Store conn.old).now ≡ (state S.Store conn.old).committed) × IsDatabase (state S.Store conn.old).now }
     ensures same { HasCleanDisk (state S.Store conn.new) → IsAsBefore (state S.Store conn.old) (state S.Store conn.new) }
     ensures survives { Survives (state S.Store conn.old) (state S.Store conn.new) (λ _. ⊥) }

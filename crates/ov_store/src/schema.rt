@@ -1,15 +1,15 @@
 //! Whether a database has the two tables of stored format 1.
 
-ghost use Rattle.std.specs.Prelude.{◌≡◌, ◌↔◌, ◌∷◌, ◌||◌, [], take, drop, true, codes, IsTrue};
+ghost use Rattle.std.specs.Prelude.{◌≡◌, ◌↔◌, ◌∷◌, ◌||◌, ◌&&◌, [], codes, IsTrue, Some, not, ◌==◌, option_map};
 ghost use Rattle.std.specs.List.{list_any, list_all};
 ghost use Rattle.sqlite_schema.specs.declared.schema.Kind.TheVariants as kind;
 ghost use Rattle.sqlite_schema.specs.Names.{same_name};
-ghost use Rattle.ov_store.specs.Tables.{no_schema, HasOurTables, meta_table, line_table, meta_index, line_index, loose, plain_table, automatic, refers_to_ours, is_other_table, is_other_index};
+ghost use Rattle.ov_store.specs.Tables.{no_schema, HasOurTables, meta_table, line_table, loose, plain_table, table_of, points_to, is_key_of_ours};
 
 use sqlite::types::Value;
 use sqlite_items::Items;
 use sqlite_schema::names::same_name;
-use sqlite_schema::schema::{Column, Index, Kind, Schema, Table};
+use sqlite_schema::schema::{Column, Index, Kind, Reference, Schema, Table};
 use sqlite_value::keys::{Collation, Order};
 
 /// Whether nothing was made yet.
@@ -98,112 +98,140 @@ fn is_plain(table: &Table) -> bool
         && !table.is_counted
 }
 
-/// Whether it is the index that SQLite makes of a primary key.
-fn is_automatic(index: &Index, name: &[u8], tree: u32, table: u32, columns: &[usize]) -> bool
-    ensures { IsTrue result ↔ (index.now ≡ automatic name.now tree table columns.now) }
-{
-    index.name.as_slice() == name
-        && index.tree == tree
-        && index.table == table
-        && index.columns.as_slice() == columns
-        && index.order.digits == 0
-        && index.is_unique
-}
-
 fn is_meta(table: &Table) -> bool
-    ensures { IsTrue result ↔ (table.now ≡ meta_table) }
+    ensures { IsTrue result ↔ (table.now ≡ meta_table table.now.tree) }
 {
     is_plain(table)
         && table.name.as_slice() == b"meta".as_slice()
-        && table.tree == 0
         && are_meta_columns(table.columns.as_slice())
         && table.primary.as_slice() == [1].as_slice()
 }
 
 fn is_line(table: &Table) -> bool
-    ensures { IsTrue result ↔ (table.now ≡ line_table) }
+    ensures { IsTrue result ↔ (table.now ≡ line_table table.now.tree) }
 {
     is_plain(table)
         && table.name.as_slice() == b"line".as_slice()
-        && table.tree == 2
         && are_line_columns(table.columns.as_slice())
         && table.primary.as_slice() == [1, 2].as_slice()
 }
 
-/// Whether it has a foreign key to one of our tables.
-fn refers_to_ours(table: &Table) -> bool
-    ensures { result ≡ list_any refers_to_ours table.now.references }
+/// The table of a name, as SQLite looks for it.
+fn table_of<'a>(schema: &'a Schema, name: &[u8]) -> Option<&'a Table>
+    ensures { option_map (λ t. t.now) result ≡ table_of schema.now name.now }
 {
-    table
-        .references
+    schema
+        .tables
         .as_slice()
         .iter()
-        .any(|reference| names_ours(reference.parent.as_slice()))
+        .find(|table| same_name(table.name.as_slice(), name))
 }
 
-fn names_ours(name: &[u8]) -> bool
-    ensures { result ≡ (same_name (codes "meta") name.now || same_name (codes "line") name.now) }
+/// Whether no table of another name has the tree of this one.
+fn is_alone(schema: &Schema, table: &Table) -> bool
+    ensures { result ≡ list_all (λ t. not (t.tree == table.now.tree) || same_name t.name table.now.name) schema.now.tables }
 {
-    same_name(b"meta", name) || same_name(b"line", name)
+    let tree = table.tree;
+    let name = table.name.as_slice();
+    schema.tables.as_slice().iter().all(|other| other.tree != tree
+        || same_name(other.name.as_slice(), name))
 }
 
-/// Whether it stands behind our tables, and no change of theirs reaches it.
-fn is_other_table(table: &Table) -> bool
-    ensures { result ≡ is_other_table table.now }
-{
-    table.tree > 3 && !refers_to_ours(table)
+/// The trees of our two tables.
+#[derive(Clone, Copy)]
+struct Trees {
+    meta: u32,
+    line: u32,
 }
 
-/// Whether it forbids our tables no row.
-fn is_other_index(index: &Index) -> bool
-    ensures { result ≡ is_other_index index.now }
-{
-    !(index.is_unique && (index.table == 0 || index.table == 2))
-}
-
-/// Whether our two tables stand first.
-fn begin_with_ours(tables: &[Table]) -> bool
-    ensures { IsTrue result ↔ (take 2 tables.now ≡ meta_table ∷ line_table ∷ []) }
-{
-    match tables {
-        [meta, line, ..] => is_meta(meta) && is_line(line),
-        _ => false,
+impl Trees {
+    fn have(self, tree: u32) -> bool
+        ensures { result ≡ ((tree == self.meta) || (tree == self.line)) }
+    {
+        tree == self.meta || tree == self.line
     }
-}
 
-/// Whether the indexes of our two primary keys stand first.
-fn begin_with_keys(indexes: &[Index]) -> bool
-    ensures { IsTrue result ↔ (take 2 indexes.now ≡ meta_index ∷ line_index ∷ []) }
-{
-    match indexes {
-        [meta, line, ..] => {
-            is_automatic(meta, b"sqlite_autoindex_meta_1", 1, 0, &[1])
-                && is_automatic(line, b"sqlite_autoindex_line_1", 3, 2, &[1, 2])
+    /// Whether it is a foreign key to one of the two.
+    fn are_referred(self, schema: &Schema, reference: &Reference) -> bool
+        ensures { result ≡ points_to self.meta self.line schema.now reference.now }
+    {
+        match table_of(schema, reference.parent.as_slice()) {
+            Some(table) => self.have(table.tree),
+            None => false,
         }
-        _ => false,
+    }
+
+    /// Whether the table has a foreign key to one of them.
+    fn are_parents(self, schema: &Schema, table: &Table) -> bool
+        ensures { result ≡ list_any (points_to self.meta self.line schema.now) table.now.references }
+    {
+        table
+            .references
+            .as_slice()
+            .iter()
+            .any(|reference| self.are_referred(schema, reference))
+    }
+
+    /// Whether it forbids them no row but for their primary keys.
+    fn allow(self, index: &Index) -> bool
+        ensures { result ≡ (not (index.now.is_unique && ((index.now.table == self.meta) || (index.now.table == self.line))) || is_key_of_ours index.now) }
+    {
+        !(index.is_unique && self.have(index.table)) || is_key_of_ours(index)
     }
 }
 
-fn are_other_tables(tables: &[Table]) -> bool
-    ensures { result ≡ list_all is_other_table tables.now }
+/// Whether it is the index of one of our primary keys.
+fn is_key_of_ours(index: &Index) -> bool
+    ensures { result ≡ is_key_of_ours index.now }
 {
-    tables.iter().all(is_other_table)
+    let name = index.name.as_slice();
+    same_name(b"sqlite_autoindex_meta_1", name) || same_name(b"sqlite_autoindex_line_1", name)
 }
 
-fn are_other_indexes(indexes: &[Index]) -> bool
-    ensures { result ≡ list_all is_other_index indexes.now }
+fn are_apart(schema: &Schema, trees: Trees) -> bool
+    ensures { result ≡ list_all (λ t. not (list_any (points_to trees.meta trees.line schema.now) t.references)) schema.now.tables }
 {
-    indexes.iter().all(is_other_index)
+    schema
+        .tables
+        .as_slice()
+        .iter()
+        .all(|table| !trees.are_parents(schema, table))
 }
 
-/// Whether the database has the two tables of stored format 1. Others may stand behind them.
+fn are_allowed(schema: &Schema, trees: Trees) -> bool
+    ensures { result ≡ list_all (λ i. not (i.is_unique && ((i.table == trees.meta) || (i.table == trees.line))) || is_key_of_ours i) schema.now.indexes }
+{
+    schema
+        .indexes
+        .as_slice()
+        .iter()
+        .all(|index| trees.allow(index))
+}
+
+/// Whether the two tables are those of stored format 1, and what else there is leaves them alone.
+fn are_ours(schema: &Schema, meta: &Table, line: &Table) -> bool
+    requires meta { table_of schema.now (codes "meta") ≡ Some meta.now }
+    requires line { table_of schema.now (codes "line") ≡ Some line.now }
+    ensures { IsTrue result ↔ HasOurTables schema.now }
+{
+    let trees = Trees {
+        meta: meta.tree,
+        line: line.tree,
+    };
+    is_meta(meta)
+        && is_line(line)
+        && is_alone(schema, meta)
+        && is_alone(schema, line)
+        && are_apart(schema, trees)
+        && are_allowed(schema, trees)
+}
+
+/// Whether the database has the two tables of stored format 1, wherever they stand. Others may stand beside them.
 pub(crate) fn is_ours(schema: &Schema) -> bool
     ensures { IsTrue result ↔ HasOurTables schema.now }
 {
-    let tables = schema.tables.as_slice();
-    let indexes = schema.indexes.as_slice();
-    if !begin_with_ours(tables) || !begin_with_keys(indexes) {
-        return false;
+    match (table_of(schema, b"meta"), table_of(schema, b"line")) {
+        (Some(meta), Some(line)) => are_ours(schema, meta, line),
+        _ => false,
     }
-    are_other_tables(&tables[2..]) && are_other_indexes(&indexes[2..])
 }

@@ -41,7 +41,7 @@ const OPENED: &str = "meta line schema format -> old 0
 meta line schema format row -> old 1
 line -> not a database of this program
 meta schema format -> not a database of this program
-line meta schema format -> not a database of this program
+line meta schema format -> old 0
 meta text_id schema format -> not a database of this program
 meta line schema format foreign -> old 0
 meta line foreign schema format row -> old 1
@@ -50,8 +50,11 @@ meta line schema format view -> old 0
 meta line schema format row foreign view -> old 1
 meta line schema format unique -> not a database of this program
 meta line schema format key -> not a database of this program
-foreign meta line schema format -> not a database of this program
-meta foreign line schema format -> not a database of this program
+foreign meta line schema format -> old 0
+meta foreign line schema format -> old 0
+view foreign line meta index format schema row -> old 1
+foreign meta schema format -> not a database of this program
+key meta line schema format -> not a database of this program
 meta line -> another format
 meta line schema format third -> another format
 meta line schema format seven -> another format
@@ -64,6 +67,7 @@ const MADE_OR_OPENED: &str = " -> new 0
 meta line format schema row -> old 1
 meta line format -> another format
 meta line schema format foreign -> old 0
+foreign line meta schema format row -> old 1
 foreign -> not a database of this program
 view -> not a database of this program";
 
@@ -157,13 +161,14 @@ fn tables_are_made_once(rt: HostRuntime) -> Result<(), Fail> {
     Ok(())
 }
 
-/// Whether the other table has its row after a commit beside it.
+/// Whether the other table of these statements has its row after a commit beside it.
 fn keeps_other_rows<S: Alter + Drop>(
     alloc: Global,
     connection: Connection<S>,
+    words: &str,
 ) -> Result<bool, Fail> {
     let mut connection = connection;
-    for word in "meta line schema format foreign seven_there".split_whitespace() {
+    for word in words.split_whitespace() {
         connection.execute_batch(statement(word))?;
     }
     if !connection.is_autocommit() {
@@ -186,6 +191,10 @@ lines -> Switch 1 0 one;";
 #[test]
 fn a_commit_keeps_other_tables(rt: HostRuntime) -> Result<(), Fail> {
     let connection = Connection::open_in_memory(rt.alloc())?;
-    assert!(rt; keeps_other_rows(rt.alloc(), connection)?);
+    let behind = "meta line schema format foreign seven_there";
+    assert!(rt; keeps_other_rows(rt.alloc(), connection, behind)?);
+    let connection = Connection::open_in_memory(rt.alloc())?;
+    let before = "foreign seven_there line meta format schema";
+    assert!(rt; keeps_other_rows(rt.alloc(), connection, before)?);
     Ok(())
 }

@@ -4,7 +4,7 @@ use Rattle.sqlite.specs.Held.{state}
 use Rattle.std.specs.Prelude.{IsUtf8}
 use Rattle.sqlite_trees.specs.Tree.{put_row}
 use Rattle.ov_store.specs.Making.{meta_row}
-use Rattle.ov_store.specs.Format.{IsMeta}
+use Rattle.ov_store.specs.Format.{IsMeta, rows_of_meta}
 use Rattle.ov_store.proofs.MetaLemmas.{filled}
 use Rattle.ov_store.proofs.make.fill_meta.Goals as goal
 
@@ -17,4 +17,4 @@ returns-clause-ok g c clean mode was empty =
     let utf8 = subst IsUtf8 (c.as_bytes.ensures.value ∙ c.as_str.ensures) c.as_bytes.ensures.utf8 in
     let first = meta_row one.number (codes "format") (49 ∷ []) in
     let rows = one.rows ∙ ap (put_row first) empty in
-    record { tables = two.tables; meta = subst (IsMeta c.args.schema.now) (sym two.rows) (filled one.number two.number c.args.schema.now (mid.now.trees 0) utf8 rows two.fresh); sound = two.sound }
+    record { tables = two.tables; meta = subst (IsMeta c.args.schema.now) (sym two.rows) (filled one.number two.number c.args.schema.now (rows_of_meta mid.now.trees) utf8 rows two.fresh) }

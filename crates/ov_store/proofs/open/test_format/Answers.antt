@@ -5,7 +5,7 @@ use Rattle.sqlite.specs.Effect.{Database}
 use Rattle.sqlite.specs.State.{HasCleanDisk}
 use Rattle.sqlite.specs.Held.{state}
 use Rattle.ov_store.specs.Tables.{HasOurTables}
-use Rattle.ov_store.specs.Format.{IsLine}
+use Rattle.ov_store.specs.Format.{IsLine, rows_of_line}
 use Rattle.ov_store.specs.Changing.{IsNumbered}
 use Rattle.ov_store.proofs.open.test_format.Goals as goal
 
@@ -21,7 +21,7 @@ returns-in-Err-test_lines-clause-format g c clean has err text f =
     let early : HasCleanDisk mid = omega (arith, c.test_lines.ensures.survives.clean) in
     let same = c.read_meta.ensures.same early in
     let bad = c.in-Err-test_lines.ensures.format clean (λ up. subst HasOurTables (sym (ap (λ (d : Database). d.schema) (same.now up))) has) (ap Err (same_fault err)) in
-    bad.1 (subst (AllByRecursion IsLine) (sym (ap (λ (d : Database). d.trees 2) (same.now bad.0))) f.lines)
+    bad.1 (subst (AllByRecursion IsLine) (sym (ap (λ (d : Database). rows_of_line d.trees) (same.now bad.0))) f.lines)
 
 pub returns-in-Ok-test_lines-clause-ok : goal.returns-in-Ok-test_lines-clause-ok
 returns-in-Ok-test_lines-clause-ok g c clean has =
@@ -30,10 +30,11 @@ returns-in-Ok-test_lines-clause-ok g c clean has =
     let same = c.read_meta.ensures.same early in
     let meta = c.in-Ok.ensures.ok early has in
     let lines = c.in-Ok-test_lines.ensures.ok clean (λ up. subst HasOurTables (sym (ap (λ (d : Database). d.schema) (same.now up))) has) in
-    let rows = ap (λ (d : Database). d.trees 2) (same.now lines.0) in (
+    let rows = ap (λ (d : Database). rows_of_line d.trees) (same.now lines.0) in (
       meta.0,
       record {
         format = record { schema = has; meta = meta.1; lines = subst (AllByRecursion IsLine) rows lines.1 };
         numbered = subst IsNumbered rows lines.2;
+        sound = (c.schema-schema.ensures.live meta.0).0;
       },
     )

@@ -7,4 +7,4 @@ use Rattle.ov_store.proofs.query.meta_rows.Goals as goal
 pub returns-clause-rows : goal.returns-clause-rows
 returns-clause-rows g c clean has =
     let begun = state g.S.Store (record c.args.conn.now { in_transaction = true }) in
-    IfOk-weaker c.query.result _ _ (λ rows it. let up = shown_open _ _ begun (state g.S.Store it.0) rows.items it.1 in (up, selects_meta begun (state g.S.Store it.0) rows.items (has up) it.1)) (c.query.ensures.rows clean)
+    IfOk-weaker c.query.result _ _ (λ rows it. let up = shown_open _ _ begun (state g.S.Store it.0) rows.items it.1 in (up, selects_meta begun (state g.S.Store it.0) rows.items (has up) (c.query.ensures.settled up).1 it.1)) (c.query.ensures.rows clean)

@@ -10,7 +10,7 @@ returns-clause-ok g c clean mode text may =
     let new = state g.S.Store c.execute.new.self.conn.now in
     let ran = c.in_ok-execute.ensures.runs clean mode in
     let stored = may ran.1.was_open in
-    let d = deletes old new c.args.table.now c.args.id c.in_ok-execute.field-0 stored.format.schema (rw (c.as_bytes.ensures.value, c.as_bytes-2.ensures) at ran.0) in
+    let d = deletes old new c.args.table.now c.args.id c.in_ok-execute.field-0 stored.format.schema stored.sound (rw (c.as_bytes.ensures.value, c.as_bytes-2.ensures) at ran.0) in
     record {
       mode = ran.1.mode;
       opens = λ _. ran.1.was_open;

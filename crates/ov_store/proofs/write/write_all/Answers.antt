@@ -8,7 +8,9 @@ use Rattle.std.specs.Prelude.{List, ℕ}
 use Rattle.ov_specs.specs.rows.Lines.{after_changes}
 use Rattle.ov_keeper.specs.Views.{changes_view}
 use Rattle.ov_store.specs.Format.{stored_lines}
-use Rattle.ov_store.specs.Changing.{MayBeStored, KeepsOthers, IsCommitImage}
+use Rattle.sqlite.specs.Effect.{Database}
+use Rattle.ov_store.specs.Changing.{IsStored, MayBeStored, KeepsOthers, Stores, IsCommitImage}
+use Rattle.ov_store.specs.Format.{rows_of_meta, rows_of_line}
 use Rattle.ov_store.proofs.write.write_all.Goals as goal
 
 pub returns-in-Err-commit-clause-crash : goal.returns-in-Err-commit-clause-crash
@@ -23,7 +25,61 @@ returns-in-Err-commit-clause-crash g c =
     (λ clean db is text may.
     let late : HasCleanDisk (state g.S.Store last) = omega (arith, c.commit.ensures.survives.clean) in
     let was : IsTrue (state g.S.Store old).is_open = (rw begun at c.in-Ok.ensures.opened) late refl c.requires.some in
-    record { was_open = was; was_settled = c.is_autocommit.ensures.settled c.if-not-is_autocommit.false was; lines_are = ap (λ (t : Trees). stored_lines (t 2)) is ∙ (made late text may).lines_are; meta = ap (λ (t : Trees). t 0) is ∙ (made late text may).meta; others = subst (KeepsOthers (state g.S.Store old).now.schema (state g.S.Store old).now.trees) (sym is) (made late text may).others })
+    record { was_open = was; was_settled = c.is_autocommit.ensures.settled c.if-not-is_autocommit.false was; lines_are = ap (λ (t : Trees). stored_lines (rows_of_line t)) is ∙ (made late text may).lines_are; meta = ap (λ (t : Trees). rows_of_meta t) is ∙ (made late text may).meta; others = subst (KeepsOthers (state g.S.Store old).now.schema (state g.S.Store old).now.trees) (sym is) (made late text may).others })
     (survives_begin g.S.Store old (state g.S.Store last) _ (rw begun at c.apply_all.ensures.survives)) c.commit.ensures.survives in
     let same : end ≡ c.conn-2-1.given.0 = search rules in
     subst (λ h. Survives (state g.S.Store old) (state g.S.Store h) P) same whole
+
+pub returns-in-Ok-commit-clause-crash : goal.returns-in-Ok-commit-clause-crash
+returns-in-Ok-commit-clause-crash g c =
+    let old = c.args.conn.now in
+    let last = c.apply_all.new.tx.conn.now in
+    let end = c.commit.new.self.0 in
+    let begun = c.transaction-tx.ensures.begun in
+    let P = λ (trees : Trees). (text : List ℕ) → MayBeStored text (state g.S.Store old) → IsCommitImage (after_changes (changes_view c.args.changes.now)) (state g.S.Store old) trees in
+    let made = λ (clean : HasCleanDisk (state g.S.Store last)). (rw begun at c.in-Ok.ensures.ok) clean refl in
+    let whole = survives_then (state g.S.Store old) (state g.S.Store last) (state g.S.Store end) (λ _. ⊥) (λ db. db ≡ (state g.S.Store last).now.trees) P (λ _ db none. absurd none)
+    (λ clean db is text may.
+    let late : HasCleanDisk (state g.S.Store last) = omega (arith, c.commit.ensures.survives.clean) in
+    let was : IsTrue (state g.S.Store old).is_open = (rw begun at c.in-Ok.ensures.opened) late refl c.requires.some in
+    record { was_open = was; was_settled = c.is_autocommit.ensures.settled c.if-not-is_autocommit.false was; lines_are = ap (λ (t : Trees). stored_lines (rows_of_line t)) is ∙ (made late text may).lines_are; meta = ap (λ (t : Trees). rows_of_meta t) is ∙ (made late text may).meta; others = subst (KeepsOthers (state g.S.Store old).now.schema (state g.S.Store old).now.trees) (sym is) (made late text may).others })
+    (survives_begin g.S.Store old (state g.S.Store last) _ (rw begun at c.apply_all.ensures.survives)) c.commit.ensures.survives in
+    let same : end ≡ c.conn-2-1.given.0 = search rules in
+    subst (λ h. Survives (state g.S.Store old) (state g.S.Store h) P) same whole
+
+pub returns-in-Ok-commit-clause-ok : goal.returns-in-Ok-commit-clause-ok
+returns-in-Ok-commit-clause-ok g c =
+    let old = c.args.conn.now in
+    let last = c.apply_all.new.tx.conn.now in
+    let end = c.commit.new.self.0 in
+    let begun = c.transaction-tx.ensures.begun in
+    let made = λ (clean : HasCleanDisk (state g.S.Store last)). (rw begun at c.in-Ok.ensures.ok) clean refl in
+    let same : end ≡ c.conn-2-1.given.0 = search rules in
+    subst (λ h. HasCleanDisk (state g.S.Store h) → (text : List ℕ) → MayBeStored text (state g.S.Store old) → Stores text (after_changes (changes_view c.args.changes.now)) (state g.S.Store old) (state g.S.Store h)) same (λ clean text may.
+    let late : HasCleanDisk (state g.S.Store last) = omega (arith, c.commit.ensures.survives.clean) in
+    let was : IsTrue (state g.S.Store old).is_open = (rw begun at c.in-Ok.ensures.opened) late refl c.requires.some in
+    let shows = (c.in-Ok-commit.ensures.ok clean).1 in
+    let one = made late text may in
+    record {
+      was_open = was;
+      is_open = shows.is_open;
+      was_settled = c.is_autocommit.ensures.settled c.if-not-is_autocommit.false was;
+      is_settled = shows.now_is ∙ sym shows.committed_is;
+      stored = subst (IsStored text) (sym shows.now_is) (one.stored shows.was_open);
+      lines_are = ap (λ (d : Database). stored_lines (rows_of_line d.trees)) shows.now_is ∙ one.lines_are;
+      meta = ap (λ (d : Database). rows_of_meta d.trees) shows.now_is ∙ one.meta;
+      others = subst (λ (d : Database). KeepsOthers (state g.S.Store old).now.schema (state g.S.Store old).now.trees d.trees) (sym shows.now_is) one.others;
+    })
+
+pub returns-in-Ok-commit-clause-kept : goal.returns-in-Ok-commit-clause-kept
+returns-in-Ok-commit-clause-kept g c =
+    let old = c.args.conn.now in
+    let last = c.apply_all.new.tx.conn.now in
+    let end = c.commit.new.self.0 in
+    let begun = c.transaction-tx.ensures.begun in
+    let made = λ (clean : HasCleanDisk (state g.S.Store last)). (rw begun at c.in-Ok.ensures.ok) clean refl in
+    let same : end ≡ c.conn-2-1.given.0 = search rules in
+    subst (λ h. HasCleanDisk (state g.S.Store h) → (text : List ℕ) → MayBeStored text (state g.S.Store old) → MayBeStored text (state g.S.Store h)) same (λ clean text may up.
+    let late : HasCleanDisk (state g.S.Store last) = omega (arith, c.commit.ensures.survives.clean) in
+    let shows = (c.in-Ok-commit.ensures.ok clean).1 in
+    subst (IsStored text) (sym shows.now_is) ((made late text may).stored shows.was_open))

@@ -111,3 +111,19 @@ invariant_of-self g c = (
   λ clean. let early : HasCleanDisk (state g.S.Store c.self.inside.connection) = omega (arith, c.write_all.ensures.crash.clean) in
       c.write_all.ensures.kept clean c.self.inside.schema (c.self.invariant.1 early),
 )
+
+pub invariant_of-self-then-eq : goal.invariant_of-self-then-eq
+invariant_of-self-then-eq g c = (
+  c.fault_at-fault.ensures.mode,
+  λ clean. let middle : HasCleanDisk (state g.S.Store c.write_all.new.conn) = omega (arith, c.fault_at-fault.ensures.survives.clean) in
+      let early : HasCleanDisk (state g.S.Store c.self.inside.connection) = omega (arith, c.write_all.ensures.crash.clean) in
+      c.fault_at-fault.ensures.kept clean c.self.inside.schema (c.write_all.ensures.kept middle c.self.inside.schema (c.self.invariant.1 early)),
+)
+
+pub invariant_of-self-else-eq : goal.invariant_of-self-else-eq
+invariant_of-self-else-eq g c = (
+  c.fault_at-fault.ensures.mode,
+  λ clean. let middle : HasCleanDisk (state g.S.Store c.write_all.new.conn) = omega (arith, c.fault_at-fault.ensures.survives.clean) in
+      let early : HasCleanDisk (state g.S.Store c.self.inside.connection) = omega (arith, c.write_all.ensures.crash.clean) in
+      c.fault_at-fault.ensures.kept clean c.self.inside.schema (c.write_all.ensures.kept middle c.self.inside.schema (c.self.invariant.1 early)),
+)
