@@ -9,8 +9,8 @@ use ov_schema::Schema;
 use std::alloc::Global;
 use std::test::Fail;
 use test_support::{
-    Faults, NetKeeper, Scripted, agrees, follows, line_of, net, net_keeper, no_changes,
-    put_line, remove_row,
+    Faults, NetKeeper, Scripted, agrees, follows, line_of, net, net_keeper, no_changes, put_line,
+    remove_row,
 };
 use uuid::Uuid;
 

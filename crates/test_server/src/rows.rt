@@ -60,7 +60,7 @@ has load -> false
 text -> {"id":"a","name":"s2"}
 has name -> false"#;
 
-/// Values by their names. The commands are `put NAME TEXT`, `has NAME` and `tree`, which makes columns of them.
+/// Values by their names. The commands are `put NAME TEXT`, `has NAME` and `text`, which makes columns of them.
 #[derive(Drop)]
 struct Gathered {
     values: NamedValues,

@@ -2,8 +2,8 @@ ghost use Rattle.std.specs.Prelude.{◌≡◌, option_map};
 
 use json::Writer;
 use ov_atoms::{
-    Atom, AtomFault, AtomKind, Datum, Kinds, Names, NoNames, has_sixteen_bytes, is_id, read_atom,
-    put_datum, read_datum, write_datum,
+    Atom, AtomFault, AtomKind, Datum, Kinds, Names, NoNames, has_sixteen_bytes, is_id, put_datum,
+    read_atom, read_datum, write_datum,
 };
 use ov_base::Text;
 use serde_json::Value;
