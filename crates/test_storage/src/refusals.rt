@@ -189,12 +189,17 @@ lines -> Switch 1 0 one;";
 }
 
 #[test]
-fn a_commit_keeps_other_tables(rt: HostRuntime) -> Result<(), Fail> {
+fn a_commit_keeps_the_tables_behind(rt: HostRuntime) -> Result<(), Fail> {
     let connection = Connection::open_in_memory(rt.alloc())?;
-    let behind = "meta line schema format foreign seven_there";
-    assert!(rt; keeps_other_rows(rt.alloc(), connection, behind)?);
+    let words = "meta line schema format foreign seven_there";
+    assert!(rt; keeps_other_rows(rt.alloc(), connection, words)?);
+    Ok(())
+}
+
+#[test]
+fn a_commit_keeps_the_tables_before(rt: HostRuntime) -> Result<(), Fail> {
     let connection = Connection::open_in_memory(rt.alloc())?;
-    let before = "foreign seven_there line meta format schema";
-    assert!(rt; keeps_other_rows(rt.alloc(), connection, before)?);
+    let words = "foreign seven_there line meta format schema";
+    assert!(rt; keeps_other_rows(rt.alloc(), connection, words)?);
     Ok(())
 }
