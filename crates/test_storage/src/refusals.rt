@@ -52,9 +52,6 @@ meta line schema format unique -> not a database of this program
 meta line schema format key -> not a database of this program
 foreign meta line schema format -> old 0
 meta foreign line schema format -> old 0
-view foreign line meta index format schema row -> old 1
-foreign meta schema format -> not a database of this program
-key meta line schema format -> not a database of this program
 meta line -> another format
 meta line schema format third -> another format
 meta line schema format seven -> another format
