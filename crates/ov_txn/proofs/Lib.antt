@@ -1,11 +1,4 @@
 pub mod Drawing
 pub mod Pushing
-pub mod Equal
-pub mod Placing
-pub mod Matching
-pub mod Repeats
-pub mod Showing
 pub mod Performing
-pub mod Stages
-pub mod Merging
 pub mod Suiting

@@ -1,4 +1,3 @@
 pub mod Drawing
-pub mod Errors
 pub mod Results
 pub mod Staging

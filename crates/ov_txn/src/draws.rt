@@ -5,9 +5,9 @@ ghost use Rattle.ov_specs.specs.operations.Transaction.{is_insert, insert_count,
 ghost use Rattle.ov_specs.specs.values.Uuid.{Uuid as Bytes16, is_uuid};
 ghost use Rattle.ov_txn.specs.Drawing.{DrawsFrom};
 
-use crate::member::text_at;
 use ov_atoms::has_sixteen_bytes;
 use ov_base::Trees;
+use ov_stage::text_at;
 use serde_json::Value;
 use std::alloc::{AllocError, Global};
 use uuid::Uuid;

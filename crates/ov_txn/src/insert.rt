@@ -5,13 +5,11 @@ ghost use Rattle.ov_specs.specs.values.Value as value;
 ghost use Rattle.ov_specs.specs.values.Writing.{atom_tree};
 ghost use Rattle.ov_txn.specs.Staging.{staged, IsDone};
 
-use crate::fault::{OpError, OpFault};
-use crate::member::text_at;
 use crate::row_values::new_columns;
-use crate::stage::Stage;
 use ov_base::Tree;
 use ov_rows::{Columns, RowKey};
 use ov_schema::Schema;
+use ov_stage::{OpError, OpFault, Stage, text_at};
 use serde_json::{Value, json};
 use std::alloc::{AllocError, Global};
 use uuid::Uuid;

@@ -2,21 +2,13 @@
 //! source is our own.
 #![tactic(auto)]
 
-mod conditions;
 mod draws;
-mod fault;
 mod insert;
-mod member;
-mod merge;
 mod operation;
-mod projection;
 mod results;
 mod row_values;
 mod select;
-mod shown;
-mod stage;
 mod transaction;
-mod version;
 
 pub use draws::{Draws, draws_for};
 pub use results::{exhausted, failed};

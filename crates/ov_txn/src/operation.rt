@@ -3,13 +3,11 @@ ghost use Rattle.serde_json.specs.View.{view};
 ghost use Rattle.ov_specs.specs.operations.Operation as spec;
 ghost use Rattle.ov_txn.specs.Staging.{staged, IsDone};
 
-use crate::fault::{OpError, OpFault};
 use crate::insert::insert_row;
-use crate::member::text_at;
 use crate::select::select_rows;
-use crate::stage::Stage;
 use ov_base::Tree;
 use ov_schema::Schema;
+use ov_stage::{OpError, OpFault, Stage, text_at};
 use serde_json::Value;
 use std::alloc::Global;
 use uuid::Uuid;

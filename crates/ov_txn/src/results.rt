@@ -3,11 +3,11 @@ ghost use Rattle.serde_json.specs.Data.{no_items};
 ghost use Rattle.serde_json.specs.View.{view, items_view};
 ghost use Rattle.ov_specs.specs.operations.Errors as spec;
 ghost use Rattle.ov_specs.specs.operations.Transaction.{and_item};
-ghost use Rattle.ov_txn.specs.Errors.{error_view};
+ghost use Rattle.ov_stage.specs.Errors.{error_view};
 ghost use Rattle.ov_txn.specs.Results.{nulls_after};
 
-use crate::fault::OpError;
 use ov_base::{Tree, Trees};
+use ov_stage::OpError;
 use serde_json::{Value, json};
 use std::alloc::{AllocError, Global};
 use std::marker::Model;

@@ -4,12 +4,12 @@ ghost use Rattle.std.specs.FinMap.{empty, entries};
 ghost use Rattle.serde_json.specs.View.{view, members_view};
 ghost use Rattle.ov_specs.specs.operations.Operation as spec;
 ghost use Rattle.ov_specs.specs.values.Reading.{Reads};
-ghost use Rattle.ov_txn.specs.Errors.{IsOpResult};
+ghost use Rattle.ov_stage.specs.Errors.{IsOpResult};
 
-use crate::fault::{OpError, OpFault};
 use ov_atoms::{AtomFault, Datum, NoNames, read_datum};
 use ov_rows::{Columns, NamedValues};
 use ov_schema::{Column, Table, is_own};
+use ov_stage::{OpError, OpFault};
 use serde_json::{Map, Value};
 use std::alloc::Global;
 

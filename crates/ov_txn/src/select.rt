@@ -9,15 +9,10 @@ ghost use Rattle.ov_specs.specs.wire.Tree.{items_have_real};
 ghost use Rattle.ov_specs.specs.values.Uuid.{Uuid};
 ghost use Rattle.ov_txn.specs.Staging.{staged, IsDone};
 
-use crate::conditions::{conditions_of, meets};
-use crate::fault::{OpError, OpFault};
-use crate::member::text_at;
-use crate::projection::{chosen_columns, is_among};
-use crate::shown::ShownRow;
-use crate::stage::Stage;
 use ov_base::{Text, Tree};
 use ov_conds::Condition;
 use ov_schema::Schema;
+use ov_stage::{OpError, OpFault, ShownRow, Stage, chosen_columns, conditions_of, is_among, meets, text_at};
 use serde_json::{Value, json};
 use std::alloc::{AllocError, Global};
 use std::collections::BTreeSet;

@@ -3,7 +3,7 @@ use Rattle.std.proofs.lemmas.List.{drop_all}
 use Rattle.std.specs.FinMap.{entries}
 use Rattle.ov_specs.specs.operations.Operation.{projection}
 use Rattle.ov_rows.specs.Lending.{lent_row_of}
-use Rattle.ov_txn.proofs.Showing.{matching-of_table, shown_of}
+use Rattle.ov_stage.proofs.Showing.{matching-of_table, shown_of}
 use Rattle.ov_txn.proofs.select.shown_rows.Goals as goal
 
 pub returns : goal.returns

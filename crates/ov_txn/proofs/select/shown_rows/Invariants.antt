@@ -1,6 +1,6 @@
 use Rattle.std.proofs.Common.{◌≡◌, ◌++◌, drop, map}
 use Rattle.ov_rows.specs.Lending.{lent_row_of}
-use Rattle.ov_txn.proofs.Showing.{shown_of}
+use Rattle.ov_stage.proofs.Showing.{shown_of}
 use Rattle.ov_txn.proofs.select.shown_rows.Given as goal
 
 abbrev pub invariant-loop-row : goal.invariant-loop-row

@@ -5,9 +5,9 @@ use Rattle.ov_specs.specs.operations.Operation.{written_row}
 use Rattle.ov_specs.specs.rows.Database.{same_columns}
 use Rattle.ov_specs.specs.wire.Tree.{items_have_real}
 use Rattle.ov_atoms.proofs.Plain.{plain-push}
-use Rattle.ov_txn.proofs.Equal.{map-push}
-use Rattle.ov_txn.proofs.Repeats.{kept_with, among, kept_is_seen, without_repeats-kept}
-use Rattle.ov_txn.proofs.Showing.{was_new, was_seen, kept-new, kept-again, seen-push}
+use Rattle.ov_stage.proofs.Equal.{map-push}
+use Rattle.ov_stage.proofs.Repeats.{kept_with, among, kept_is_seen, without_repeats-kept}
+use Rattle.ov_stage.proofs.Showing.{was_new, was_seen, kept-new, kept-again, seen-push}
 use Rattle.ov_txn.proofs.select.trees_once.Goals.{then-branch+in_ok-tree+in_ok-push, else-branch}
 use Rattle.ov_txn.proofs.select.trees_once.Goals as goal
 

@@ -8,11 +8,12 @@ use Rattle.ov_specs.specs.rows.Database.{Database, same_database}
 use Rattle.ov_specs.specs.operations.Errors.{error_tree}
 use Rattle.ov_specs.specs.operations.Operation.{Fails, operation}
 use Rattle.ov_specs.specs.operations.Transaction.{transaction, and_item}
-use Rattle.ov_txn.specs.Errors.{error_view}
+use Rattle.ov_stage.specs.Errors.{error_view}
 use Rattle.ov_txn.specs.Results.{nulls_after}
-use Rattle.ov_txn.specs.Staging.{Stage, staged}
+use Rattle.ov_stage.specs.Staging.{Stage}
+use Rattle.ov_txn.specs.Staging.{staged}
 use Rattle.ov_txn.proofs.Performing.{items_at, at_does, at_refuses, at_end}
-use Rattle.ov_txn.proofs.Stages.{applied-empty, least-empty}
+use Rattle.ov_stage.proofs.Stages.{applied-empty, least-empty}
 use Rattle.ov_txn.proofs.transaction.perform_operations.Goals as goal
 
 pub returns-in-Err-Refused-clause-results : goal.returns-in-Err-Refused-clause-results

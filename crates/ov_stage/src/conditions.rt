@@ -1,0 +1,44 @@
+ghost use Rattle.std.specs.Prelude.{◌≡◌};
+ghost use Rattle.std.specs.List.{list_all};
+ghost use Rattle.serde_json.specs.View.{items_view};
+ghost use Rattle.ov_specs.specs.operations.Conditions.{column_value, holds};
+ghost use Rattle.ov_specs.specs.operations.Operation as spec;
+ghost use Rattle.ov_stage.specs.Errors.{IsOpResult};
+
+use crate::fault::OpFault;
+use ov_atoms::NoNames;
+use ov_conds::Condition;
+use ov_rows::RowView;
+use ov_schema::Table;
+use serde_json::Value;
+use std::alloc::{AllocError, Global};
+
+/// The conditions of a `where`, or the fault of the first that does not read (RFC 7047, 5.2.2).
+pub fn conditions_of(
+    alloc: Global,
+    table: &Table,
+    items: &[Value],
+) -> Result<Vec<Condition>, OpFault>
+    ensures { IsOpResult (λ v. v.items) (spec.conditions_read spec.no_names table.now (items_view items.now)) result }
+{
+    let mut conditions = Vec::new(alloc);
+    for item in items {
+        let condition = Condition::read(alloc, table, item, &NoNames)?;
+        if let Err(refused) = conditions.push(condition) {
+            return Err(AllocError::from(refused).into());
+        }
+    }
+    Ok(conditions)
+}
+
+/// Whether a row meets all conditions, its identifier and version among its columns.
+pub fn meets(conditions: &[Condition], row: &RowView<'_>) -> bool
+    ensures { result ≡ list_all (holds (column_value row.now.id.now row.now.row.now.version row.now.row.now.columns)) conditions.now }
+{
+    for condition in conditions {
+        if !condition.holds(row) {
+            return false;
+        }
+    }
+    true
+}

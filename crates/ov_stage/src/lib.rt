@@ -1,0 +1,19 @@
+//! What the operations of a transaction share: the rows as those so far have made them, which rows match, what is shown of them, and
+//! the errors (RFC 7047, 3.1, 4.1.3 and 5.2). What names no source is our own.
+#![tactic(auto)]
+
+mod conditions;
+mod fault;
+mod member;
+mod merge;
+mod projection;
+mod shown;
+mod stage;
+mod version;
+
+pub use conditions::{conditions_of, meets};
+pub use fault::{OpError, OpFault};
+pub use member::text_at;
+pub use projection::{chosen_columns, is_among};
+pub use shown::ShownRow;
+pub use stage::Stage;

@@ -1,9 +1,0 @@
-use Rattle.std.proofs.Common.{◌≡◌, drop}
-use Rattle.serde_json.specs.View.{items_view}
-use Rattle.ov_specs.specs.operations.Operation as spec
-use Rattle.ov_txn.proofs.conditions.conditions_of.Given as goal
-
-abbrev pub invariant-loop-item : goal.invariant-loop-item
-invariant-loop-item l =
-    spec.conditions_read spec.no_names l.table (items_view l.items)
-    ≡ spec.and_others l.conditions.items (spec.conditions_read spec.no_names l.table (items_view (drop l.item-index l.items)))
