@@ -6,7 +6,7 @@ ghost use Rattle.ov_specs.specs.operations.Operation as spec;
 ghost use Rattle.ov_stage.specs.Errors.{IsOpResult};
 
 use crate::fault::OpFault;
-use ov_atoms::NoNames;
+use ov_atoms::Names;
 use ov_conds::Condition;
 use ov_rows::RowView;
 use ov_schema::Table;
@@ -14,16 +14,17 @@ use serde_json::Value;
 use std::alloc::{AllocError, Global};
 
 /// The conditions of a `where`, or the fault of the first that does not read (RFC 7047, 5.2.2).
-pub fn conditions_of(
+pub fn conditions_of<N: Names>(
     alloc: Global,
     table: &Table,
     items: &[Value],
+    names: &N,
 ) -> Result<Vec<Condition>, OpFault>
-    ensures { IsOpResult (λ v. v.items) (spec.conditions_read spec.no_names table.now (items_view items.now)) result }
+    ensures { IsOpResult (λ v. v.items) (spec.conditions_read (N.names names.now) table.now (items_view items.now)) result }
 {
     let mut conditions = Vec::new(alloc);
     for item in items {
-        let condition = Condition::read(alloc, table, item, &NoNames)?;
+        let condition = Condition::read(alloc, table, item, names)?;
         if let Err(refused) = conditions.push(condition) {
             return Err(AllocError::from(refused).into());
         }

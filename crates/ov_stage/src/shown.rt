@@ -2,6 +2,7 @@ ghost use Rattle.std.specs.Prelude.{◌≡◌, List, ℕ, IfOk, OnOk, false};
 ghost use Rattle.serde_json.specs.Data.{put};
 ghost use Rattle.serde_json.specs.View.{members_view};
 ghost use Rattle.ov_rows.specs.Lending.{lent_row_of};
+ghost use Rattle.ov_rows.specs.Named.{named};
 ghost use Rattle.ov_specs.specs.rows.Database.{one_uuid};
 ghost use Rattle.ov_specs.specs.operations.Conditions.{column_value};
 ghost use Rattle.ov_specs.specs.operations.Operation as spec;
@@ -77,6 +78,13 @@ impl ShownRow {
             }
         }
         Ok(ShownRow { columns })
+    }
+
+    /// These values with their names, in this order.
+    pub fn new(columns: Vec<(String, Datum)>) -> ShownRow
+        ensures { result ≡ named columns.items }
+    {
+        ShownRow { columns }
     }
 
     /// The row as it is shown (RFC 7047, 5.1, `<row>`).

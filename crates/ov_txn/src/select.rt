@@ -9,6 +9,7 @@ ghost use Rattle.ov_specs.specs.wire.Tree.{items_have_real};
 ghost use Rattle.ov_specs.specs.values.Uuid.{Uuid};
 ghost use Rattle.ov_txn.specs.Staging.{staged, IsDone};
 
+use ov_atoms::NoNames;
 use ov_base::{Text, Tree};
 use ov_conds::Condition;
 use ov_schema::Schema;
@@ -118,7 +119,7 @@ pub(crate) fn select_rows(
     let Some(items) = operation.get("where").and_then(Value::as_array) else {
         return Err(OpFault::Refused(OpError::Syntax));
     };
-    let conditions = conditions_of(alloc, table, items.as_slice())?;
+    let conditions = conditions_of(alloc, table, items.as_slice(), &NoNames)?;
     let names = chosen_columns(alloc, table, operation.get("columns"))?;
     Ok(select_result(alloc, stage, name, conditions.as_slice(), names.as_slice())?)
 }
