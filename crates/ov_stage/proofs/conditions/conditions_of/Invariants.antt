@@ -4,6 +4,7 @@ use Rattle.ov_specs.specs.operations.Operation as spec
 use Rattle.ov_stage.proofs.conditions.conditions_of.Given as goal
 
 abbrev pub invariant-loop-item : goal.invariant-loop-item
-invariant-loop-item l =
-    spec.conditions_read spec.no_names l.table (items_view l.items)
-    ≡ spec.and_others l.conditions.items (spec.conditions_read spec.no_names l.table (items_view (drop l.item-index l.items)))
+invariant-loop-item g l =
+    let names = g.N.Names.names l.names in
+    spec.conditions_read names l.table (items_view l.items)
+    ≡ spec.and_others l.conditions.items (spec.conditions_read names l.table (items_view (drop l.item-index l.items)))
