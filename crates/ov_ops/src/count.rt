@@ -1,0 +1,25 @@
+ghost use Rattle.std.specs.Prelude.{◌≡◌, IfOk};
+ghost use Rattle.serde_json.specs.View.{view};
+ghost use Rattle.ov_specs.specs.operations.MatchingRows as spec;
+
+use ov_base::{Tree, has_real};
+use serde_json::{Value, json};
+use std::alloc::{AllocError, Global};
+
+fn count_value(alloc: Global, count: u64) -> Result<Value, AllocError>
+    ensures { IfOk result (λ v. view v ≡ spec.count_result count) }
+{
+    json!(in alloc; {"count": count})
+}
+
+/// The result of an operation that counts the rows which match, changed or not (RFC 7047, 5.2.3 to 5.2.5).
+pub(crate) fn count_result(alloc: Global, count: usize) -> Result<Tree, AllocError>
+    ensures { IfOk result (λ t. t ≡ spec.count_result count) }
+{
+    let value = count_value(alloc, count as u64)?;
+    // A count past 2^63-1 would be a real to OVSDB. No memory holds so many rows.
+    if has_real(&value) {
+        return Err(AllocError);
+    }
+    Ok(Tree::new(value))
+}
