@@ -61,7 +61,7 @@ abbrev pub or_before : Option (Option Row) → Option Row → Option Row
 or_before (Some new) old = new
 or_before None old = old
 
-at_one : (k : LineKey) (o : Option Row) (db : Database) (q : LineKey) → get (with_row k o db) q ≡ cond (same q k) o (get db q)
+pub at_one : (k : LineKey) (o : Option Row) (db : Database) (q : LineKey) → get (with_row k o db) q ≡ cond (same q k) o (get db q)
 at_one k (Some r) db q = get-insert key_total db k r q
 at_one k None db q = get-remove key_total db k q
 

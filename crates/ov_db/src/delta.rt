@@ -1,5 +1,5 @@
 ghost use Rattle.std.specs.Prelude.{◌≡◌, ◌==◌, OnOk, OnErr, option_copied};
-ghost use Rattle.std.specs.FinMap.{empty, get, insert, entries, len};
+ghost use Rattle.std.specs.FinMap.{empty, get, insert, remove, entries, len};
 
 use ov_rows::{Row, RowKey};
 use std::alloc::{AllocError, Global};
@@ -66,5 +66,12 @@ impl Delta {
     {
         self.changes.insert(key, row)?;
         Ok(())
+    }
+
+    /// Takes the change of the key back, if there is one.
+    pub fn remove(&mut self, key: &RowKey)
+        ensures { self.new ≡ remove self.old key.now }
+    {
+        self.changes.remove(key);
     }
 }

@@ -2,7 +2,9 @@ pub mod Equal
 pub mod Placing
 pub mod Plain
 pub mod Matching
+pub mod Meeting
 pub mod Repeats
+pub mod SameRows
 pub mod Showing
 pub mod Stages
 pub mod Merging

@@ -1,67 +1,30 @@
 -- What is shown of the rows of a table: those that meet all conditions, and none twice where their identifiers are shown.
-use Rattle.std.proofs.Common.{◌≡◌, ◌<◌, ◌+◌, length, get_or, drop, take, ℕ, List, [], ◌∷◌, ◌++◌, Bool, true, false, not, ◌||◌, ◌&&◌, cond, if◌then◌else◌, filter, map, Option, Some, None, T, refl, sym, ap, subst, ◌∙◌, append_assoc, codes, Bor, String, string_bytes, Global, Ordering, Less, Equal, Greater}
+use Rattle.std.proofs.Common.{◌≡◌, ◌<◌, ◌+◌, length, get_or, take, ℕ, List, [], ◌∷◌, ◌++◌, Bool, true, false, not, ◌||◌, cond, if◌then◌else◌, filter, map, Option, Some, None, T, refl, sym, ap, subst, ◌∙◌, codes, Bor, String, string_bytes, Global, Ordering, Less, Equal, Greater}
 use Rattle.std.specs.Prelude.{option_map, option_to_list}
 use Rattle.std.proofs.lemmas.Bool.{and_parts, false≢true}
 use Rattle.std.proofs.lemmas.List.{take_more}
 use Rattle.std.proofs.lemmas.List.Folds.{list_any-append}
-use Rattle.std.proofs.lemmas.Map.Lookups.{exact_pairs}
 use Rattle.std.proofs.lemmas.Option.{same_Some}
-use Rattle.std.specs.List.{list_any, list_all}
+use Rattle.std.specs.List.{list_any}
 use Rattle.std.specs.Cmp.Lexicographic.{slice_cmp, same_text}
-use Rattle.std.specs.FinMap.{IsAntisymmetric, nat_cmp-IsAntisymmetric, slice_cmp-IsAntisymmetric, is_sorted, entries, entries_sorted}
+use Rattle.std.specs.FinMap.{is_sorted, entries, entries_sorted}
 use Rattle.std.specs.FinMap.Entries.{below_all}
 use Rattle.std.specs.Ordering.{nat_cmp, eq_by_cmp, is_lt, is_eq, ordering_then}
 use Rattle.std.specs.Str.{bytes_eq}
 use Rattle.ov_specs.specs.rows.Database.{Row, Database, one_uuid, same_columns}
 use Rattle.ov_specs.specs.rows.Lines.{LineKey, line_cmp}
-use Rattle.ov_specs.specs.operations.Conditions.{Condition, holds}
+use Rattle.ov_specs.specs.operations.Conditions.{Condition}
 use Rattle.ov_specs.specs.operations.Operation.{entry_value, projection, is_matching, matching, without_repeats}
 use Rattle.ov_specs.specs.values.Uuid.{Uuid as Identifier}
 use Rattle.ov_specs.specs.values.Value.{Atom, Uuid, Datum, datum_cmp, Atoms, Pairs}
-use Rattle.ov_specs.proofs.laws.DatumOrder.{datum_cmp-IsAntisymmetric}
 use Rattle.ov_specs.proofs.laws.LineKeys.{same_tied}
 use Rattle.ov_specs.proofs.laws.ReadingBack.{entries-from_entries}
 use Rattle.ov_specs.proofs.laws.Sameness.{column_cmp, columns-tied}
-use Rattle.ov_specs.proofs.laws.Truths.{equal_is, left_holds, right_holds, or_nothing, or_truth}
+use Rattle.ov_specs.proofs.laws.Truths.{left_holds, right_holds, or_nothing, or_truth}
 use Rattle.ov_rows.specs.Named.{named}
-use Rattle.ov_stage.proofs.Equal.{drop-at}
+use Rattle.ov_stage.proofs.Meeting.{is_met}
 use Rattle.ov_stage.proofs.Repeats.{Shown, among, kept_with, kept_with-push}
-
--- ---- the rows that meet the conditions
-
--- a row that meets all conditions
-abbrev pub is_met : List Condition → LineKey × Row → Bool
-is_met conditions r = list_all (holds (entry_value r)) conditions
-
--- the table's rows that meet all conditions
-pub matching-of_table : (table : List ℕ) (conditions : List Condition) (rows : List (LineKey × Row)) → filter (is_matching table conditions) rows ≡ filter (is_met conditions) (filter (λ r. bytes_eq r.0.0 table) rows)
-matching-of_table table conditions [] = refl
-matching-of_table table conditions (r ∷ rows) =
-    let others = filter (is_matching table conditions) rows in
-    let of_table = filter (λ r. bytes_eq r.0.0 table) rows in
-    elim (bytes_eq r.0.0 table) as (λ b. cond (b && is_met conditions r) (r ∷ others) others ≡ filter (is_met conditions) (cond b (r ∷ of_table) of_table)) [
-      | true ↦ ap (λ (rest : List (LineKey × Row)). cond (is_met conditions r) (r ∷ rest) rest) (matching-of_table table conditions rows)
-      | false ↦ matching-of_table table conditions rows
-    ]
-
--- what is shown of those of these rows that meet all conditions
-abbrev pub shown_of : List (List ℕ) → List Condition → List (LineKey × Row) → List Shown
-shown_of names conditions rows = map (projection names) (filter (is_met conditions) rows)
-
-module _ {A : Type 0} (f : A → LineKey × Row) (names : List (List ℕ)) (conditions : List Condition) (shown : List Shown) (rows : List A) (i : ℕ) (r : A) (p : i < length rows) (at : r ≡ get_or rows i r) where
-  here : map f (drop i rows) ≡ f r ∷ map f (drop (i + 1) rows)
-  here = ap (map f) (drop-at rows i r p at)
-
-  pub shown-one : is_met conditions (f r) ≡ true → shown ++ shown_of names conditions (map f (drop i rows)) ≡ (shown ++ projection names (f r) ∷ []) ++ shown_of names conditions (map f (drop (i + 1) rows))
-  shown-one h =
-      ap (λ rs. shown ++ shown_of names conditions rs) here
-      ∙ ap (λ b. shown ++ map (projection names) (cond b (f r ∷ filter (is_met conditions) (map f (drop (i + 1) rows))) (filter (is_met conditions) (map f (drop (i + 1) rows))))) h
-      ∙ sym (append_assoc shown (projection names (f r) ∷ []) (shown_of names conditions (map f (drop (i + 1) rows))))
-
-  pub shown-other : is_met conditions (f r) ≡ false → shown ++ shown_of names conditions (map f (drop i rows)) ≡ shown ++ shown_of names conditions (map f (drop (i + 1) rows))
-  shown-other h =
-      ap (λ rs. shown ++ shown_of names conditions rs) here
-      ∙ ap (λ b. shown ++ map (projection names) (cond b (f r ∷ filter (is_met conditions) (map f (drop (i + 1) rows))) (filter (is_met conditions) (map f (drop (i + 1) rows))))) h
+use Rattle.ov_stage.proofs.SameRows.{same-is}
 
 -- ---- rows whose identifiers are shown
 
@@ -104,12 +67,6 @@ uuid_in (Pairs pairs) = []
 
 uuid_in-one : (id : Identifier) → uuid_in (one_uuid id) ≡ id
 uuid_in-one id = ap first_uuid (entries-from_entries ((Uuid id, tt) ∷ []) tt)
-
-column_cmp-IsAntisymmetric : IsAntisymmetric column_cmp
-column_cmp-IsAntisymmetric = exact_pairs (slice_cmp nat_cmp) _ (slice_cmp-IsAntisymmetric nat_cmp-IsAntisymmetric) datum_cmp-IsAntisymmetric
-
-same-is : (a b : Shown) → same_columns a b ≡ true → a ≡ b
-same-is a b h = slice_cmp-IsAntisymmetric column_cmp-IsAntisymmetric a b (equal_is _ (sym (columns-tied a b) ∙ h))
 
 module _ (names : List (List ℕ)) (among : list_any (bytes_eq uuid_name) names ≡ true) where
   same_id : (r s : LineKey × Row) → same_columns (projection names r) (projection names s) ≡ true → r.0.1 ≡ s.0.1

@@ -1,13 +1,17 @@
 -- The rows of a transaction, and changes made in a list of rows. What names no source is our own.
-use Rattle.std.specs.Prelude.{◌≡◌, ◌≤◌, ◌<◌, not, List, [], ◌∷◌, refl, Option, Some, None, option_map, option_to_list}
+use Rattle.std.specs.Prelude.{◌≡◌, ◌≢◌, not, List, [], ◌∷◌, refl, Bool, false, Option, Some, None, option_map, option_to_list}
 use Rattle.std.specs.declared.cmp.Ordering.{Ordering}
 use Rattle.std.specs.Ordering.{eq_by_cmp}
 use Rattle.std.specs.Coded.{Coded, code_by, coded×}
-use Rattle.std.specs.FinMap.{len, put}
+use Rattle.std.specs.FinMap.{get, entries, put}
 use Rattle.std.specs.FinMap.Entries.{where_key}
-use Rattle.ov_db.specs.Changing.{Delta, applied}
+use Rattle.std.specs.List.{list_all}
+use Rattle.ov_db.specs.Changing.{Delta}
 use Rattle.ov_rows.specs.Resident.{database_code}
-use Rattle.ov_specs.specs.rows.Database.{Database, Row}
+use Rattle.ov_rows.specs.declared.row_view.RowView.{RowView}
+use Rattle.ov_specs.specs.operations.Conditions.{Condition, column_value, holds}
+use Rattle.ov_specs.specs.rows.Database.{Columns, Database, Row, same_columns}
+use Rattle.ov_specs.specs.rows.Lines.{LineKey}
 
 -- ---- the rows of a transaction
 
@@ -20,9 +24,20 @@ pub record Stage : Type 0 where
 abbrev pub stage_code : Coded Stage
 stage_code = code_by (Database × Database) (coded× database_code database_code) (λ s. (s.before, s.now)) (λ p. record { before = p.0; now = p.1 }) (λ _. refl)
 
--- no row was lost, and where there are changes there are more rows than before
-abbrev pub IsGrown : Delta → Database → Type 0
-IsGrown delta before = (len before ≤ len (applied delta before)) × (0 < len delta → len before < len (applied delta before))
+-- no change leaves what stood there before
+abbrev pub Differs : Delta → Database → Type 0
+Differs delta before = (key : LineKey) (change : Option Row) → get delta key ≡ Some change → change ≢ get before key
+
+-- there is a row, and it has these columns
+abbrev pub has_columns : Columns → Option Row → Bool
+has_columns columns None = false
+has_columns columns (Some row) = same_columns (entries row.columns) (entries columns)
+
+-- ---- the rows that meet conditions
+
+-- a row, lent, that meets all conditions
+abbrev pub meets : List Condition → RowView → Bool
+meets conditions r = list_all (holds (column_value r.id.now r.row.now.version r.row.now.columns)) conditions
 
 -- ---- changes that are made in an ascending list of rows, by whatever keys
 

@@ -1,9 +1,9 @@
-ghost use Rattle.std.specs.Prelude.{◌≡◌};
-ghost use Rattle.std.specs.List.{list_all};
+ghost use Rattle.std.specs.Prelude.{◌≡◌, IfOk};
+ghost use Rattle.std.specs.List.{filter};
 ghost use Rattle.serde_json.specs.View.{items_view};
-ghost use Rattle.ov_specs.specs.operations.Conditions.{column_value, holds};
 ghost use Rattle.ov_specs.specs.operations.Operation as spec;
 ghost use Rattle.ov_stage.specs.Errors.{IsOpResult};
+ghost use Rattle.ov_stage.specs.Staging.{meets};
 
 use crate::fault::OpFault;
 use ov_atoms::Names;
@@ -33,8 +33,8 @@ pub fn conditions_of<N: Names>(
 }
 
 /// Whether a row meets all conditions, its identifier and version among its columns.
-pub fn meets(conditions: &[Condition], row: &RowView<'_>) -> bool
-    ensures { result ≡ list_all (holds (column_value row.now.id.now row.now.row.now.version row.now.row.now.columns)) conditions.now }
+fn meets(conditions: &[Condition], row: &RowView<'_>) -> bool
+    ensures { result ≡ meets conditions.now row.now }
 {
     for condition in conditions {
         if !condition.holds(row) {
@@ -42,4 +42,21 @@ pub fn meets(conditions: &[Condition], row: &RowView<'_>) -> bool
         }
     }
     true
+}
+
+/// Those of the rows that meet all conditions.
+pub(crate) fn meeting<'a>(
+    alloc: Global,
+    rows: &[RowView<'a>],
+    conditions: &[Condition],
+) -> Result<Vec<RowView<'a>>, AllocError>
+    ensures { IfOk result (λ met. met.items ≡ filter (meets conditions.now) rows.now) }
+{
+    let mut met = Vec::new(alloc);
+    for row in rows {
+        if meets(conditions, row) {
+            met.push(*row)?;
+        }
+    }
+    Ok(met)
 }

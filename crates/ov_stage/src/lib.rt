@@ -4,16 +4,16 @@
 
 mod conditions;
 mod fault;
+mod former;
 mod member;
 mod merge;
 mod projection;
 mod shown;
 mod stage;
-mod version;
 
-pub use conditions::{conditions_of, meets};
+pub use conditions::conditions_of;
 pub use fault::{OpError, OpFault};
 pub use member::text_at;
-pub use projection::{chosen_columns, is_among};
+pub use projection::{chosen_columns, compared_columns, is_among, listed_columns};
 pub use shown::ShownRow;
 pub use stage::Stage;

@@ -1,17 +1,18 @@
-ghost use Rattle.std.specs.Prelude.{◌≡◌, IfOk, option_map};
-ghost use Rattle.std.specs.List.{list_all, list_any};
+ghost use Rattle.std.specs.Prelude.{◌≡◌, IfOk, not, option_map};
+ghost use Rattle.std.specs.List.{filter, list_all, list_any};
 ghost use Rattle.std.specs.Option.{option_copied};
 ghost use Rattle.std.specs.FinMap.{keys, contains_key};
 ghost use Rattle.serde_json.specs.Find.{as_str};
 ghost use Rattle.serde_json.specs.View.{view, items_view};
 ghost use Rattle.std.specs.Str.{bytes_eq};
 ghost use Rattle.ov_specs.specs.operations.Operation as spec;
+ghost use Rattle.ov_specs.specs.operations.Wait.{compared_columns};
 ghost use Rattle.ov_specs.specs.values.Reading.{each_read, list_read};
 ghost use Rattle.ov_stage.specs.Errors.{IsOpResult};
 
 use crate::fault::{OpError, OpFault};
 use ov_base::Text;
-use ov_schema::Table;
+use ov_schema::{Table, is_own};
 use serde_json::Value;
 use std::alloc::{AllocError, Global};
 
@@ -84,6 +85,32 @@ fn all_columns(alloc: Global, table: &Table) -> Result<Vec<Text>, AllocError>
     Ok(names)
 }
 
+/// The columns of the table but `_uuid` and `_version`, in ascending order.
+fn other_columns(alloc: Global, table: &Table) -> Result<Vec<Text>, AllocError>
+    ensures { IfOk result (λ v. v.items ≡ filter (λ name. not (spec.is_own_column name)) (keys table.now.columns)) }
+{
+    let mut names = Vec::new(alloc);
+    for (name, _column) in table.columns() {
+        if !is_own(name.as_str()) {
+            names.push(Text::from_str(alloc, name.as_str())?)?;
+        }
+    }
+    Ok(names)
+}
+
+/// The columns that an array names, in ascending order (RFC 7047, 5.2.2).
+pub fn listed_columns(alloc: Global, table: &Table, columns: &Value) -> Result<Vec<Text>, OpFault>
+    ensures { IsOpResult (λ v. v.items) (spec.listed_columns table.now (list_read as_str (view columns.now))) result }
+{
+    let Some(names) = texts_of(alloc, columns)? else {
+        return Err(OpFault::Refused(OpError::Syntax));
+    };
+    if !are_known(table, names.as_slice()) {
+        return Err(OpFault::Refused(OpError::UnknownColumn));
+    }
+    Ok(columns_named(alloc, table, names.as_slice())?)
+}
+
 /// The columns that are chosen; without `columns` all of them (RFC 7047, 5.2.2).
 pub fn chosen_columns(
     alloc: Global,
@@ -92,14 +119,22 @@ pub fn chosen_columns(
 ) -> Result<Vec<Text>, OpFault>
     ensures { IsOpResult (λ v. v.items) (spec.selected_columns table.now (option_map view (option_copied columns.entry))) result }
 {
-    let Some(columns) = columns else {
-        return Ok(all_columns(alloc, table)?);
-    };
-    let Some(names) = texts_of(alloc, columns)? else {
-        return Err(OpFault::Refused(OpError::Syntax));
-    };
-    if !are_known(table, names.as_slice()) {
-        return Err(OpFault::Refused(OpError::UnknownColumn));
+    match columns {
+        Some(columns) => listed_columns(alloc, table, columns),
+        None => Ok(all_columns(alloc, table)?),
     }
-    Ok(columns_named(alloc, table, names.as_slice())?)
+}
+
+/// The columns that are compared; without `columns` all but `_uuid` and `_version` (RFC 7047, 5.2.6; the default is our own).
+pub fn compared_columns(
+    alloc: Global,
+    table: &Table,
+    columns: Option<&Value>,
+) -> Result<Vec<Text>, OpFault>
+    ensures { IsOpResult (λ v. v.items) (compared_columns table.now (option_map view (option_copied columns.entry))) result }
+{
+    match columns {
+        Some(columns) => listed_columns(alloc, table, columns),
+        None => Ok(other_columns(alloc, table)?),
+    }
 }

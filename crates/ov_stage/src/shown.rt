@@ -64,11 +64,7 @@ fn column_of(alloc: Global, row: &RowView<'_>, name: &str) -> Result<Option<Datu
 
 impl ShownRow {
     /// These columns of a row, with their names (RFC 7047, 5.2.2).
-    pub fn of(
-        alloc: Global,
-        names: &[Text],
-        row: &RowView<'_>,
-    ) -> Result<ShownRow, AllocError>
+    pub fn of(alloc: Global, names: &[Text], row: &RowView<'_>) -> Result<ShownRow, AllocError>
         ensures { (table : List ℕ) → IfOk result (λ r. r ≡ spec.projection names.now (lent_row_of table row.now)) }
     {
         let mut columns = Vec::new(alloc);

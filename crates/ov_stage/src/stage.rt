@@ -1,16 +1,19 @@
-ghost use Rattle.std.specs.Prelude.{◌≡◌, ◌==◌, false, map, IfOk, OnOk, OnErr};
+ghost use Rattle.std.specs.Prelude.{◌≡◌, ◌==◌, map, IfOk, OnOk, OnErr};
 ghost use Rattle.std.specs.List.{filter};
-ghost use Rattle.std.specs.FinMap.{contains_key, insert, entries, len};
+ghost use Rattle.std.specs.FinMap.{contains_key, insert, remove, entries, len};
 ghost use Rattle.ov_db.specs.Changing.{applied};
 ghost use Rattle.ov_rows.specs.Lending.{lent_row_of};
+ghost use Rattle.ov_specs.specs.operations.Operation.{matching};
 ghost use Rattle.ov_specs.specs.rows.Database.{same_database};
 ghost use Rattle.ov_specs.specs.rows.Version.{row_now};
 ghost use Rattle.std.specs.Str.{bytes_eq};
 
+use crate::conditions::meeting;
+use crate::former::is_former;
 use crate::merge::{changes_of, merged, rows_of};
-use crate::version::row_now;
+use ov_conds::Condition;
 use ov_db::Delta;
-use ov_rows::{Columns, RowKey, RowView, Rows};
+use ov_rows::{Columns, Row, RowKey, RowView, Rows};
 use std::alloc::{AllocError, Global};
 use std::marker::Model;
 use uuid::Uuid;
@@ -24,7 +27,7 @@ pub struct Stage<'a> {
 
 impl<'a> Model for Stage<'a> {
     ghost use Rattle.ov_db.specs.Changing.{applied};
-    ghost use Rattle.ov_stage.specs.Staging.{Stage, stage_code, IsGrown};
+    ghost use Rattle.ov_stage.specs.Staging.{Differs, Stage, stage_code};
 
     ghost Value = { Stage };
 
@@ -32,7 +35,7 @@ impl<'a> Model for Stage<'a> {
 
     ghost view = { λ s. record { before = s.rows.now; now = applied s.delta s.rows.now } };
 
-    ghost invariant = { λ s. IsGrown s.delta s.rows.now };
+    ghost invariant = { λ s. Differs s.delta s.rows.now };
 }
 
 impl<'a> Stage<'a> {
@@ -56,24 +59,35 @@ impl<'a> Stage<'a> {
         }
     }
 
-    /// Puts a row of these columns at a new key, in a transaction of this version. Where a growth is refused, nothing is changed.
-    pub fn put(
-        &mut self,
-        key: RowKey,
-        version: Uuid,
-        columns: Columns,
-    ) -> Result<(), AllocError>
-        requires { contains_key self.old.now key ≡ false }
+    /// Puts a row of these columns at the key, in a transaction of this version. A row that is as it was before the transaction
+    /// keeps its version, and is no change (RFC 7047, 3.2). Where a growth is refused, nothing is changed.
+    pub fn put(&mut self, key: RowKey, version: Uuid, columns: Columns) -> Result<(), AllocError>
         ensures ok { OnOk result (self.new ≡ record self.old { now = insert self.old.now key (row_now self.old.before version key columns) }) }
         ensures err { OnErr result (self.new ≡ self.old) }
     {
-        let row = row_now(self.rows, version, &key, columns);
-        self.delta.insert(key, Some(row))?;
+        if is_former(self.rows, &key, &columns) {
+            self.delta.remove(&key);
+            return Ok(());
+        }
+        self.delta.insert(key, Some(Row { version, columns }))?;
+        Ok(())
+    }
+
+    /// Takes the row of the key out, if there is one. Where a growth is refused, nothing is changed.
+    pub fn remove(&mut self, key: RowKey) -> Result<(), AllocError>
+        ensures ok { OnOk result (self.new ≡ record self.old { now = remove self.old.now key }) }
+        ensures err { OnErr result (self.new ≡ self.old) }
+    {
+        if !self.rows.contains(&key) {
+            self.delta.remove(&key);
+            return Ok(());
+        }
+        self.delta.insert(key, None)?;
         Ok(())
     }
 
     /// The rows of the table of this name as they are now, in ascending order of their identifiers.
-    pub fn rows_of(&self, alloc: Global, table: &str) -> Result<Vec<RowView<'_>>, AllocError>
+    pub(crate) fn rows_of(&self, alloc: Global, table: &str) -> Result<Vec<RowView<'_>>, AllocError>
         ensures { IfOk result (λ rows. map (lent_row_of table.now) rows.items ≡ filter (λ r. bytes_eq r.0.0 table.now) (entries self.now.now)) }
     {
         let rows = rows_of(alloc, self.rows, table)?;
@@ -82,6 +96,19 @@ impl<'a> Stage<'a> {
         }
         let changes = changes_of(alloc, &self.delta, table)?;
         merged(alloc, rows.as_slice(), changes.as_slice())
+    }
+
+    /// The rows of the table of this name that meet all conditions, in ascending order of their identifiers (RFC 7047, 5.2.2).
+    pub fn matching(
+        &self,
+        alloc: Global,
+        table: &str,
+        conditions: &[Condition],
+    ) -> Result<Vec<RowView<'_>>, AllocError>
+        ensures { IfOk result (λ rows. map (lent_row_of table.now) rows.items ≡ matching self.now.now table.now conditions.now) }
+    {
+        let rows = self.rows_of(alloc, table)?;
+        meeting(alloc, rows.as_slice(), conditions)
     }
 
     /// What the operations have changed. It is empty exactly where the rows are as before them.

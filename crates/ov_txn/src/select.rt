@@ -13,7 +13,7 @@ use ov_atoms::NoNames;
 use ov_base::{Text, Tree};
 use ov_conds::Condition;
 use ov_schema::Schema;
-use ov_stage::{OpError, OpFault, ShownRow, Stage, chosen_columns, conditions_of, is_among, meets, text_at};
+use ov_stage::{OpError, OpFault, ShownRow, Stage, chosen_columns, conditions_of, is_among, text_at};
 use serde_json::{Value, json};
 use std::alloc::{AllocError, Global};
 use std::collections::BTreeSet;
@@ -29,11 +29,9 @@ fn shown_rows(
     ensures { IfOk result (λ v. v.items ≡ map (spec.projection names.now) (spec.matching stage.now.now table.now conditions.now)) }
 {
     let mut shown = Vec::new(alloc);
-    let rows = stage.rows_of(alloc, table)?;
+    let rows = stage.matching(alloc, table, conditions)?;
     for row in &rows {
-        if meets(conditions, row) {
-            shown.push(ShownRow::of(alloc, names, row)?)?;
-        }
+        shown.push(ShownRow::of(alloc, names, row)?)?;
     }
     Ok(shown)
 }

@@ -1,12 +1,12 @@
 use Rattle.std.proofs.Common.{sym, ap, subst, ◌∙◌}
 use Rattle.ov_db.specs.Changing.{Delta, applied}
 use Rattle.ov_specs.specs.rows.Database.{Database}
-use Rattle.ov_stage.specs.Staging.{Stage, IsGrown}
-use Rattle.ov_stage.proofs.Stages.{applied-empty, grown-empty}
+use Rattle.ov_stage.specs.Staging.{Differs, Stage}
+use Rattle.ov_stage.proofs.Stages.{applied-empty, differs-empty}
 use Rattle.ov_stage.proofs.stage.Stage.new.Goals as goal
 
 pub invariant_of-result : goal.invariant_of-result
-invariant_of-result c = subst (λ (d : Delta). IsGrown d c.args.rows.now) (sym c.new.ensures) (grown-empty c.args.rows.now)
+invariant_of-result c = subst (λ (d : Delta). Differs d c.args.rows.now) (sym c.new.ensures) (differs-empty c.args.rows.now)
 
 pub returns : goal.returns
 returns c =
