@@ -1,11 +1,27 @@
 -- What an operation comes to in the code, as it does in the definitions. What names no source is our own.
-use Rattle.std.specs.Prelude.{◌≡◌, Result, Ok, Err}
+use Rattle.std.specs.Prelude.{◌≡◌, ℕ, List, Option, Result, Ok, Err}
 use Rattle.serde_json.specs.Data.{Data}
 use Rattle.ov_specs.specs.operations.OpOutcome as spec
+use Rattle.ov_specs.specs.operations.OpOutcome.{OpContext}
 use Rattle.ov_specs.specs.rows.Database.{Database}
+use Rattle.ov_specs.specs.values.Uuid.{Uuid}
+use Rattle.ov_ops.specs.declared.context.OpCtx.{OpCtx}
+use Rattle.ov_ops.specs.declared.outcome.OpOutcome.{OpOutcome}
+use Rattle.ov_ops.specs.declared.outcome.OpOutcome.TheVariants.{Done, Fault, Blocked, NoMemory}
 use Rattle.ov_stage.specs.declared.fault.OpFault.{OpFault}
 use Rattle.ov_stage.specs.declared.fault.OpFault.TheVariants.{Refused, Memory}
 use Rattle.ov_stage.specs.Errors.{error_view}
+
+-- the transaction that an operation is one of, on the database as it was before
+abbrev pub context_of : OpCtx → Database → OpContext
+context_of ctx before = record {
+  schema = ctx.schema.now;
+  before = before;
+  version = ctx.version;
+  ids = ctx.inserts.now.ids;
+  operations = ctx.inserts.now.operations;
+  age = ctx.age;
+}
 
 -- the result of an operation, and the rows that it leaves, or its error; "out of memory" may be answered to anything
 abbrev pub IsDone : spec.OpOutcome → Result Data OpFault → Database → Type 0
@@ -13,8 +29,21 @@ IsDone outcome (Ok result) rows = outcome ≡ spec.Done result rows
 IsDone outcome (Err (Refused error)) rows = outcome ≡ spec.Fault (error_view error)
 IsDone outcome (Err Memory) rows = Unit {0}
 
+-- the same, of an operation that may wait
+abbrev pub IsOutcome : spec.OpOutcome → OpOutcome → Database → Type 0
+IsOutcome outcome (Done result) rows = outcome ≡ spec.Done result rows
+IsOutcome outcome (Fault error) rows = outcome ≡ spec.Fault (error_view error)
+IsOutcome outcome (Blocked timeout) rows = outcome ≡ spec.Blocked timeout
+IsOutcome outcome NoMemory rows = Unit {0}
+
 -- an operation goes on with what was read of its members, or has the error of that
 abbrev pub GoesOn : {A : Type 0} → spec.OpOutcome → (A → spec.OpOutcome) → Result A OpFault → Type 0
 GoesOn outcome next (Ok a) = outcome ≡ next a
 GoesOn outcome next (Err (Refused error)) = outcome ≡ spec.Fault (error_view error)
 GoesOn outcome next (Err Memory) = Unit {0}
+
+-- the result of an operation, as its outcome
+abbrev pub outcome_of_result : Result Data OpFault → OpOutcome
+outcome_of_result (Ok result) = Done result
+outcome_of_result (Err (Refused error)) = Fault error
+outcome_of_result (Err Memory) = NoMemory

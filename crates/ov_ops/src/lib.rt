@@ -3,9 +3,26 @@
 #![tactic(auto)]
 
 mod abort;
+mod changed;
 mod comment;
 mod commit;
+mod context;
 mod count;
+mod delete;
 mod empty;
+mod insert;
+mod members;
+mod mutate;
+mod operation;
+mod outcome;
+mod select;
 mod told;
 mod until;
+mod update;
+mod wait;
+
+pub use context::OpCtx;
+pub use insert::insert_result;
+pub use operation::run_op;
+pub use outcome::OpOutcome;
+pub use select::select_result;

@@ -1,40 +1,17 @@
-ghost use Rattle.std.specs.Prelude.{◌≡◌, IfOk};
+ghost use Rattle.std.specs.Prelude.{◌≡◌};
 ghost use Rattle.serde_json.specs.View.{view};
 ghost use Rattle.ov_specs.specs.operations.Operation as spec;
-ghost use Rattle.ov_specs.specs.values.Value as value;
-ghost use Rattle.ov_specs.specs.values.Writing.{atom_tree};
 ghost use Rattle.ov_txn.specs.Staging.{staged, IsDone};
 
 use crate::row_values::new_columns;
 use ov_base::Tree;
+use ov_ops::insert_result;
 use ov_rows::{Columns, RowKey};
 use ov_schema::Schema;
 use ov_stage::{OpError, OpFault, Stage, text_at};
-use serde_json::{Value, json};
-use std::alloc::{AllocError, Global};
+use serde_json::Value;
+use std::alloc::Global;
 use uuid::Uuid;
-
-fn uuid_value(alloc: Global, id: Uuid) -> Result<Value, AllocError>
-    ensures { IfOk result (λ v. view v ≡ atom_tree (value.Uuid id)) }
-{
-    let mut buffer = Uuid::encode_buffer();
-    let text: &str = id.hyphenated().encode_lower(&mut buffer);
-    json!(in alloc; ["uuid", text])
-}
-
-fn insert_value(alloc: Global, id: Uuid) -> Result<Value, AllocError>
-    ensures { IfOk result (λ v. view v ≡ spec.insert_result id) }
-{
-    let uuid = uuid_value(alloc, id)?;
-    json!(in alloc; {"uuid": uuid})
-}
-
-/// The result of an insert: the identifier of its row (RFC 7047, 5.2.1).
-fn insert_result(alloc: Global, id: Uuid) -> Result<Tree, AllocError>
-    ensures { IfOk result (λ t. t ≡ spec.insert_result id) }
-{
-    Ok(Tree::new(insert_value(alloc, id)?))
-}
 
 /// The row under the next draw, which is used up.
 fn put_row(

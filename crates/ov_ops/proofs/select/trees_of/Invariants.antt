@@ -2,7 +2,7 @@ use Rattle.std.proofs.Common.{◌≡◌, map, take, false}
 use Rattle.serde_json.specs.View.{view, items_view}
 use Rattle.ov_specs.specs.operations.Operation.{written_row}
 use Rattle.ov_specs.specs.wire.Tree.{items_have_real}
-use Rattle.ov_txn.proofs.select.trees_of.Given as goal
+use Rattle.ov_ops.proofs.select.trees_of.Given as goal
 
 abbrev pub invariant-loop-row : goal.invariant-loop-row
 invariant-loop-row l = record {

@@ -2,7 +2,7 @@ use Rattle.std.proofs.Common.{◌++◌, map, sym, ap, ◌∙◌, append-nil, ari
 use Rattle.std.proofs.lemmas.List.{drop_all}
 use Rattle.ov_specs.specs.operations.Operation.{projection}
 use Rattle.ov_rows.specs.Lending.{lent_row_of}
-use Rattle.ov_txn.proofs.select.shown_rows.Goals as goal
+use Rattle.ov_ops.proofs.select.shown_rows.Goals as goal
 
 pub returns : goal.returns
 returns c =

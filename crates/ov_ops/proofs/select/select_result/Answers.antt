@@ -1,7 +1,7 @@
 use Rattle.std.proofs.Common.{sym, ap, ◌∙◌}
 use Rattle.ov_specs.specs.operations.Operation.{without_repeats}
 use Rattle.ov_stage.proofs.Showing.{shown_once}
-use Rattle.ov_txn.proofs.select.select_result.Goals as goal
+use Rattle.ov_ops.proofs.select.select_result.Goals as goal
 
 pub trees_shown-requires : goal.trees_shown-requires
 trees_shown-requires c among =

@@ -6,7 +6,7 @@ use Rattle.ov_specs.specs.rows.Database.{same_columns}
 use Rattle.ov_specs.specs.wire.Tree.{items_have_real}
 use Rattle.ov_stage.proofs.Repeats.{Shown, kept_with}
 use Rattle.ov_stage.proofs.Showing.{any_at}
-use Rattle.ov_txn.proofs.select.trees_once.Given as goal
+use Rattle.ov_ops.proofs.select.trees_once.Given as goal
 
 abbrev pub invariant-loop-row : goal.invariant-loop-row
 invariant-loop-row l = record {

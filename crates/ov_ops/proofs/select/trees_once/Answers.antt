@@ -8,8 +8,8 @@ use Rattle.ov_atoms.proofs.Plain.{plain-push}
 use Rattle.ov_stage.proofs.Equal.{map-push}
 use Rattle.ov_stage.proofs.Repeats.{kept_with, among, kept_is_seen, without_repeats-kept}
 use Rattle.ov_stage.proofs.Showing.{was_new, was_seen, kept-new, kept-again, seen-push}
-use Rattle.ov_txn.proofs.select.trees_once.Goals.{then-branch+in_ok-tree+in_ok-push, else-branch}
-use Rattle.ov_txn.proofs.select.trees_once.Goals as goal
+use Rattle.ov_ops.proofs.select.trees_once.Goals.{then-branch+in_ok-tree+in_ok-push, else-branch}
+use Rattle.ov_ops.proofs.select.trees_once.Goals as goal
 
 pub loop-row-preserved : goal.loop-row-preserved
 loop-row-preserved c =

@@ -4,7 +4,7 @@ use Rattle.ov_specs.specs.operations.Operation.{written_row}
 use Rattle.ov_specs.specs.wire.Tree.{items_have_real}
 use Rattle.ov_atoms.proofs.Plain.{plain-push}
 use Rattle.ov_stage.proofs.Equal.{map-take}
-use Rattle.ov_txn.proofs.select.trees_of.Goals as goal
+use Rattle.ov_ops.proofs.select.trees_of.Goals as goal
 
 pub loop-row-preserved : goal.loop-row-preserved
 loop-row-preserved c =

@@ -1,0 +1,87 @@
+ghost use Rattle.std.specs.Prelude.{◌≡◌, IfOk};
+ghost use Rattle.serde_json.specs.View.{view};
+ghost use Rattle.ov_specs.specs.operations.Insert as spec;
+ghost use Rattle.ov_specs.specs.operations.Operation as operation;
+ghost use Rattle.ov_specs.specs.values.Value as value;
+ghost use Rattle.ov_specs.specs.values.Writing.{atom_tree};
+ghost use Rattle.ov_ops.specs.Outcomes.{context_of, IsDone};
+
+use crate::context::OpCtx;
+use crate::members::table_at;
+use ov_base::Tree;
+use ov_given::{name_fault, new_row};
+use ov_rows::{Columns, RowKey};
+use ov_stage::{OpError, OpFault, Stage};
+use serde_json::{Value, json};
+use std::alloc::{AllocError, Global};
+use uuid::Uuid;
+
+fn uuid_value(alloc: Global, id: Uuid) -> Result<Value, AllocError>
+    ensures { IfOk result (λ v. view v ≡ atom_tree (value.Uuid id)) }
+{
+    let mut buffer = Uuid::encode_buffer();
+    let text: &str = id.hyphenated().encode_lower(&mut buffer);
+    json!(in alloc; ["uuid", text])
+}
+
+fn result_value(alloc: Global, id: Uuid) -> Result<Value, AllocError>
+    ensures { IfOk result (λ v. view v ≡ operation.insert_result id) }
+{
+    let uuid = uuid_value(alloc, id)?;
+    json!(in alloc; {"uuid": uuid})
+}
+
+/// The result of an insert: the identifier of its row (RFC 7047, 5.2.1).
+pub fn insert_result(alloc: Global, id: Uuid) -> Result<Tree, AllocError>
+    ensures { IfOk result (λ t. t ≡ operation.insert_result id) }
+{
+    Ok(Tree::new(result_value(alloc, id)?))
+}
+
+/// The row under its identifier, which no row of the table may have.
+fn put_new(
+    alloc: Global,
+    stage: &mut Stage<'_>,
+    ctx: &OpCtx<'_>,
+    table: &str,
+    columns: Columns,
+    id: Option<Uuid>,
+) -> Result<Tree, OpFault>
+    ensures done { IsDone (spec.put_new (context_of ctx.now stage.old.before) stage.old.now table.now columns id) result stage.new.now }
+{
+    let Some(id) = id else {
+        return Err(OpFault::Refused(OpError::ResourcesExhausted));
+    };
+    let key = RowKey::new(alloc, table, id)?;
+    if stage.contains(&key) {
+        return Err(OpFault::Refused(OpError::DuplicateUuid));
+    }
+    let tree = insert_result(alloc, id)?;
+    stage.put(key, ctx.version, columns)?;
+    Ok(tree)
+}
+
+/// The insert at this place of the transaction: a row is made of `row` and put under the identifier that was drawn for it. Its
+/// identifier can't be chosen (RFC 7047, 5.2.1).
+pub(crate) fn insert(
+    alloc: Global,
+    stage: &mut Stage<'_>,
+    ctx: &OpCtx<'_>,
+    place: usize,
+    operation: &Value,
+) -> Result<Tree, OpFault>
+    ensures done { IsDone (spec.insert_outcome (context_of ctx.now stage.old.before) place stage.old.now (view operation.now)) result stage.new.now }
+{
+    let (name, table) = table_at(ctx, operation)?;
+    if operation.get("uuid").is_some() {
+        return Err(OpFault::Refused(OpError::Syntax));
+    }
+    if let Some(error) = name_fault(ctx.inserts, place, operation.get("uuid-name")) {
+        return Err(OpFault::Refused(error));
+    }
+    let Some(members) = operation.get("row").and_then(Value::as_object) else {
+        return Err(OpFault::Refused(OpError::Syntax));
+    };
+    let columns = new_row(alloc, table, members, ctx.inserts)?;
+    put_new(alloc, stage, ctx, name, columns, ctx.inserts.id_at(place))
+}

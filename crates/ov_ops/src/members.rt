@@ -1,0 +1,48 @@
+ghost use Rattle.std.specs.Prelude.{◌≡◌, ℕ, List};
+ghost use Rattle.serde_json.specs.View.{view};
+ghost use Rattle.ov_specs.specs.operations.Conditions.{Condition as condition};
+ghost use Rattle.ov_specs.specs.operations.MatchingRows.{on_conditions};
+ghost use Rattle.ov_specs.specs.operations.OpOutcome as spec;
+ghost use Rattle.ov_specs.specs.rows.Database.{Database};
+ghost use Rattle.ov_specs.specs.schema.SchemaTypes.{Table as table};
+ghost use Rattle.ov_ops.specs.Outcomes.{context_of, GoesOn};
+
+use crate::context::OpCtx;
+use ov_conds::Condition;
+use ov_schema::Table;
+use ov_stage::{OpError, OpFault, conditions_of, text_at};
+use serde_json::Value;
+use std::alloc::Global;
+
+/// The table that the operation names, with its name (RFC 7047, 5.2).
+pub(crate) fn table_at<'a>(
+    ctx: &OpCtx<'a>,
+    operation: &'a Value,
+) -> Result<(&'a str, &'a Table), OpFault>
+    ensures { (before : Database) (next : List ℕ → table → spec.OpOutcome)
+        → GoesOn (spec.on_table (context_of ctx.now before) (view operation.now) next) (λ t. next t.0.now t.1.now) result }
+{
+    let Some(name) = text_at(operation, "table") else {
+        return Err(OpFault::Refused(OpError::Syntax));
+    };
+    let Some(table) = ctx.schema.table(name) else {
+        return Err(OpFault::Refused(OpError::UnknownTable));
+    };
+    Ok((name, table))
+}
+
+/// The conditions of `where` on rows of the table (RFC 7047, 5.2.2).
+pub(crate) fn conditions_at(
+    alloc: Global,
+    ctx: &OpCtx<'_>,
+    table: &Table,
+    operation: &Value,
+) -> Result<Vec<Condition>, OpFault>
+    ensures { (before : Database) (next : List condition → spec.OpOutcome)
+        → GoesOn (on_conditions (context_of ctx.now before) table.now (view operation.now) next) (λ v. next v.items) result }
+{
+    let Some(items) = operation.get("where").and_then(Value::as_array) else {
+        return Err(OpFault::Refused(OpError::Syntax));
+    };
+    conditions_of(alloc, table, items.as_slice(), ctx.inserts)
+}

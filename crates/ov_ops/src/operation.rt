@@ -1,0 +1,47 @@
+ghost use Rattle.std.specs.Prelude.{◌≡◌};
+ghost use Rattle.serde_json.specs.View.{view};
+ghost use Rattle.ov_specs.specs.operations.AnyOperation as spec;
+ghost use Rattle.ov_ops.specs.Outcomes.{context_of, IsOutcome};
+
+use crate::abort::abort;
+use crate::comment::comment;
+use crate::commit::commit;
+use crate::context::OpCtx;
+use crate::delete::delete;
+use crate::insert::insert;
+use crate::mutate::mutate;
+use crate::outcome::OpOutcome;
+use crate::select::select;
+use crate::update::update;
+use crate::wait::wait;
+use ov_stage::{OpError, Stage, text_at};
+use serde_json::Value;
+use std::alloc::Global;
+
+/// The operation at this place of the transaction, on the rows that those before it left (RFC 7047, 5.2). Its members are looked
+/// at in the order in which the section of the operation names them. `assert`, as every other word, is an unknown operation. After
+/// another outcome than `Done` the stage is to be dropped.
+pub fn run_op(
+    alloc: Global,
+    stage: &mut Stage<'_>,
+    ctx: &OpCtx<'_>,
+    place: usize,
+    operation: &Value,
+) -> OpOutcome
+    ensures done { IsOutcome (spec.outcome_of (context_of ctx.now stage.old.before) place stage.old.now (view operation.now)) result stage.new.now }
+    ensures frame { stage.new ≡ record stage.old { now = stage.new.now } }
+{
+    match text_at(operation, "op") {
+        None => OpOutcome::Fault(OpError::Syntax),
+        Some(op) if op == "insert" => insert(alloc, stage, ctx, place, operation).into(),
+        Some(op) if op == "select" => select(alloc, stage, ctx, operation).into(),
+        Some(op) if op == "update" => update(alloc, stage, ctx, operation).into(),
+        Some(op) if op == "mutate" => mutate(alloc, stage, ctx, operation).into(),
+        Some(op) if op == "delete" => delete(alloc, stage, ctx, operation).into(),
+        Some(op) if op == "wait" => wait(alloc, stage, ctx, operation),
+        Some(op) if op == "commit" => commit(alloc, operation).into(),
+        Some(op) if op == "abort" => abort().into(),
+        Some(op) if op == "comment" => comment(alloc, operation).into(),
+        Some(_) => OpOutcome::Fault(OpError::UnknownOperation),
+    }
+}

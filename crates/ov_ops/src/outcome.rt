@@ -1,0 +1,30 @@
+use ov_base::Tree;
+use ov_stage::{OpError, OpFault};
+
+/// What an operation comes to (RFC 7047, 4.1.3 and 5.2.6).
+#[derive(Drop)]
+pub enum OpOutcome {
+    /// It has this result.
+    Done(Tree),
+    /// It fails, and so does the transaction.
+    Fault(OpError),
+    /// It waits, and is given up after this many milliseconds, if ever.
+    Blocked(Option<u64>),
+    /// A growth was refused.
+    NoMemory,
+}
+
+impl From<Result<Tree, OpFault>> for OpOutcome {
+    ghost use Rattle.ov_ops.specs.Outcomes.{outcome_of_result};
+    ghost use Rattle.std.specs.Prelude.{◌≡◌};
+
+    ghost from_gives = { λ result o. o ≡ outcome_of_result result };
+
+    fn from(result: Result<Tree, OpFault>) -> OpOutcome {
+        match result {
+            Ok(tree) => OpOutcome::Done(tree),
+            Err(OpFault::Refused(error)) => OpOutcome::Fault(error),
+            Err(OpFault::Memory) => OpOutcome::NoMemory,
+        }
+    }
+}

@@ -1,0 +1,106 @@
+ghost use Rattle.std.specs.Prelude.{◌≡◌, IfOk, map};
+ghost use Rattle.serde_json.specs.View.{view};
+ghost use Rattle.ov_specs.specs.operations.Operation.{matching, projection};
+ghost use Rattle.ov_specs.specs.operations.OpOutcome.{OpContext};
+ghost use Rattle.ov_specs.specs.operations.Wait as spec;
+ghost use Rattle.ov_specs.specs.rows.Database.{Database};
+ghost use Rattle.ov_ops.specs.Outcomes.{context_of, GoesOn, IsOutcome};
+ghost use Rattle.ov_ops.specs.Waiting.{until_view};
+
+use crate::context::OpCtx;
+use crate::empty::empty_result;
+use crate::members::{conditions_at, table_at};
+use crate::outcome::OpOutcome;
+use crate::select::shown_rows;
+use crate::told::told_rows;
+use crate::until::{Until, timeout_of};
+use ov_base::Text;
+use ov_conds::Condition;
+use ov_stage::{OpError, OpFault, ShownRow, Stage, compared_columns, text_at};
+use serde_json::Value;
+use std::alloc::{AllocError, Global};
+
+/// What is waited for, and for how long.
+#[derive(Drop)]
+struct Waited<'a> {
+    table: &'a str,
+    timeout: Option<u64>,
+    conditions: Vec<Condition>,
+    compared: Vec<Text>,
+    until: Until,
+    told: Vec<ShownRow>,
+}
+
+impl<'a> Waited<'a> {
+    /// The members in their order (RFC 7047, 5.2.6).
+    fn read(
+        alloc: Global,
+        ctx: &OpCtx<'a>,
+        operation: &'a Value,
+    ) -> Result<Waited<'a>, OpFault>
+        ensures { (before rows : Database) → GoesOn (spec.wait_outcome (context_of ctx.now before) rows (view operation.now))
+            (λ w. spec.waits (context_of ctx.now before) w.timeout (spec.is_met (until_view w.until) (map (projection w.compared.items) (matching rows w.table.now w.conditions.items)) w.told.items) rows) result }
+    {
+        let (name, table) = table_at(ctx, operation)?;
+        let timeout = timeout_of(operation.get("timeout"))?;
+        let conditions = conditions_at(alloc, ctx, table, operation)?;
+        let compared = compared_columns(alloc, table, operation.get("columns"))?;
+        let Some(until) = text_at(operation, "until").and_then(Until::of) else {
+            return Err(OpFault::Refused(OpError::Syntax));
+        };
+        let Some(items) = operation.get("rows").and_then(Value::as_array) else {
+            return Err(OpFault::Refused(OpError::Syntax));
+        };
+        let told = told_rows(alloc, table, compared.as_slice(), items.as_slice(), ctx.inserts)?;
+        Ok(Waited {
+            table: name,
+            timeout,
+            conditions,
+            compared,
+            until,
+            told,
+        })
+    }
+}
+
+/// Whether what is waited for has come.
+fn is_met(alloc: Global, stage: &Stage<'_>, waited: &Waited<'_>) -> Result<bool, AllocError>
+    ensures { IfOk result (λ b. b ≡ spec.is_met (until_view waited.now.until) (map (projection waited.now.compared.items) (matching stage.now.now waited.now.table.now waited.now.conditions.items)) waited.now.told.items) }
+{
+    let (conditions, compared) = (waited.conditions.as_slice(), waited.compared.as_slice());
+    let seen = shown_rows(alloc, stage, waited.table, conditions, compared)?;
+    waited.until.is_met(alloc, seen.as_slice(), waited.told.as_slice())
+}
+
+/// What is waited for has come, or the transaction waits on, until it is as old as the timeout.
+fn come(alloc: Global, timeout: Option<u64>, age: u64, is_met: bool) -> OpOutcome
+    ensures { (c : OpContext) (rows : Database) → c.age ≡ age → IsOutcome (spec.waits c timeout is_met rows) result rows }
+{
+    if is_met {
+        return OpOutcome::Done(empty_result(alloc));
+    }
+    match timeout {
+        Some(timeout) if timeout <= age => OpOutcome::Fault(OpError::TimedOut),
+        _ => OpOutcome::Blocked(timeout),
+    }
+}
+
+/// Waits until the rows that match are, or are not, those that are told (RFC 7047, 5.2.6).
+pub(crate) fn wait(
+    alloc: Global,
+    stage: &Stage<'_>,
+    ctx: &OpCtx<'_>,
+    operation: &Value,
+) -> OpOutcome
+    ensures { IsOutcome (spec.wait_outcome (context_of ctx.now stage.now.before) stage.now.now (view operation.now)) result stage.now.now }
+{
+    let waited = match Waited::read(alloc, ctx, operation) {
+        Ok(waited) => waited,
+        Err(OpFault::Refused(error)) => return OpOutcome::Fault(error),
+        Err(OpFault::Memory) => return OpOutcome::NoMemory,
+    };
+    match is_met(alloc, stage, &waited) {
+        Ok(is_met) => come(alloc, waited.timeout, ctx.age, is_met),
+        Err(AllocError) => OpOutcome::NoMemory,
+    }
+}
