@@ -1,3 +1,4 @@
 pub mod Seen
 pub mod WalkLemmas
 pub mod CompareLemmas
+pub mod OnlyIds

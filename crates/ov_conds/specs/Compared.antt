@@ -1,9 +1,10 @@
 -- How values are compared, by the ascending lists of what they have.
-use Rattle.std.specs.Prelude.{ℤ, int_lt, int_le, not, List, Bool, true, false, Option, None}
+use Rattle.std.specs.Prelude.{ℤ, int_lt, int_le, not, List, [], ◌∷◌, Bool, true, false, Option, Some, None}
 use Rattle.std.specs.Cmp.Lexicographic.{pointwise}
 use Rattle.std.specs.FinMap.{keys, entries}
 use Rattle.ov_specs.specs.operations.Conditions.{Function, Less, LessOrEqual, Greater, GreaterOrEqual, Equal, NotEqual, Includes, Excludes, lone_integer, are_numbers_so}
 use Rattle.ov_specs.specs.rows.Database.{same_atom, same_pair}
+use Rattle.ov_specs.specs.values.Uuid.{Uuid}
 use Rattle.ov_specs.specs.values.Value as value
 use Rattle.ov_specs.specs.values.Value.{Datum}
 use Rattle.ov_conds.specs.Walks.{includes_atoms, includes_pairs, excludes_atoms, excludes_pairs}
@@ -22,6 +23,16 @@ elements_of (value.Pairs pairs) = Pairs (entries pairs)
 abbrev pub number_of : Elements → Option ℤ
 number_of (Atoms atoms) = lone_integer atoms
 number_of (Pairs pairs) = None
+
+-- the identifier of a set of one (RFC 7047, 5.1, <uuid>)
+abbrev pub lone_uuid : List value.Atom → Option Uuid
+lone_uuid (value.Uuid id ∷ []) = Some id
+lone_uuid atoms = None
+
+-- the identifier, where there is one and nothing else
+abbrev pub uuid_of : Elements → Option Uuid
+uuid_of (Atoms atoms) = lone_uuid atoms
+uuid_of (Pairs pairs) = None
 
 -- the same set or map
 abbrev pub are_same : Elements → Elements → Bool

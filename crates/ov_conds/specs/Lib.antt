@@ -1,4 +1,5 @@
 pub mod Walks
 pub mod Compared
 pub mod ElementViews
+pub mod OnlyId
 pub mod Views

@@ -1,10 +1,11 @@
-ghost use Rattle.std.specs.Prelude.{◌≡◌, true, IfOk};
+ghost use Rattle.std.specs.Prelude.{◌≡◌, true, IfOk, IfSome};
 ghost use Rattle.serde_json.specs.View.{view};
 ghost use Rattle.ov_specs.specs.operations.Conditions.{column_value, holds, compares, value_read, condition_read, suits_condition};
 ghost use Rattle.ov_specs.specs.rows.Database.{one_uuid};
 ghost use Rattle.ov_specs.specs.values.Reading.{reads};
 ghost use Rattle.ov_specs.specs.values.Uuid.{AreUuids};
 ghost use Rattle.ov_specs.specs.schema.SchemaTypes.{kinds_of};
+ghost use Rattle.ov_conds.specs.OnlyId.{IsOnlyOf, equal_uuid, only_id};
 ghost use Rattle.ov_conds.specs.Views.{function_view, IsConditionRead};
 
 use crate::elements::Elements;
@@ -86,6 +87,27 @@ impl Condition {
         match stored.columns.get(name) {
             Some(datum) => self.holds_of(datum),
             None => false,
+        }
+    }
+
+    /// The identifier that each row that meets the condition has, where `_uuid` is to be equal to one.
+    pub fn only_id(&self) -> Option<Uuid>
+        ensures value { result ≡ only_id self.now }
+        ensures only { IfSome result (λ id. IsOnlyOf id self.now) }
+    {
+        if self.column.as_str() == "_uuid" {
+            self.equal_uuid()
+        } else {
+            None
+        }
+    }
+
+    fn equal_uuid(&self) -> Option<Uuid>
+        ensures { result ≡ equal_uuid self.now.function self.now.value }
+    {
+        match self.function {
+            Function::Equal => Elements::of(&self.value).uuid(),
+            _ => None,
         }
     }
 

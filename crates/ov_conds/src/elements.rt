@@ -3,6 +3,7 @@ ghost use Rattle.ov_conds.specs.Compared as compared;
 ghost use Rattle.ov_conds.specs.ElementViews.{elements_view};
 
 use ov_atoms::{Atom, Datum};
+use uuid::Uuid;
 
 /// What a value has, lent (RFC 7047, 5.1, `<value>`). Without a value of its own an identifier can be compared too, so
 /// that no comparison takes memory.
@@ -32,6 +33,16 @@ impl<'a> Elements<'a> {
     {
         match self {
             Elements::Atoms([Atom::Integer(number)]) => Some(*number),
+            _ => None,
+        }
+    }
+
+    /// The identifier, where there is one and nothing else.
+    pub(crate) fn uuid(self) -> Option<Uuid>
+        ensures { result ≡ compared.uuid_of (elements_view self.entry) }
+    {
+        match self {
+            Elements::Atoms([Atom::Uuid(id)]) => Some(*id),
             _ => None,
         }
     }
