@@ -6,6 +6,8 @@ mod databases;
 #[cfg(test)]
 mod machine;
 #[cfg(test)]
+mod operations;
+#[cfg(test)]
 mod rows;
 #[cfg(test)]
 mod serve;
