@@ -43,11 +43,11 @@ fn remove_rows(stage: &mut Stage<'_>, keys: Vec<RowKey>) -> Result<(), AllocErro
 }
 
 /// The rows that match go, and are counted (RFC 7047, 5.2.5).
-pub(crate) fn delete(
+pub(crate) fn delete<'a>(
     alloc: Global,
     stage: &mut Stage<'_>,
-    ctx: &OpCtx<'_>,
-    operation: &Value,
+    ctx: &OpCtx<'a>,
+    operation: &'a Value,
 ) -> Result<Tree, OpFault>
     ensures done { IsDone (spec.delete_outcome (context_of ctx.now stage.old.before) stage.old.now (view operation.now)) result stage.new.now }
 {

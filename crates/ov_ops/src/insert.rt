@@ -63,12 +63,12 @@ fn put_new(
 
 /// The insert at this place of the transaction: a row is made of `row` and put under the identifier that was drawn for it. Its
 /// identifier can't be chosen (RFC 7047, 5.2.1).
-pub(crate) fn insert(
+pub(crate) fn insert<'a>(
     alloc: Global,
     stage: &mut Stage<'_>,
-    ctx: &OpCtx<'_>,
+    ctx: &OpCtx<'a>,
     place: usize,
-    operation: &Value,
+    operation: &'a Value,
 ) -> Result<Tree, OpFault>
     ensures done { IsDone (spec.insert_outcome (context_of ctx.now stage.old.before) place stage.old.now (view operation.now)) result stage.new.now }
 {

@@ -16,7 +16,7 @@ use ov_mutate::Mutation;
 use ov_rows::{Columns, RowKey};
 use ov_stage::{OpError, OpFault, Stage};
 use serde_json::Value;
-use std::alloc::Global;
+use std::alloc::{AllocError, Global};
 
 /// The table's rows that meet all conditions, mutated one after another, or the error of the first that has one.
 fn mutated_rows(
@@ -31,18 +31,22 @@ fn mutated_rows(
     let mut changed = Vec::new(alloc);
     let rows = stage.matching(alloc, table, conditions)?;
     for row in &rows {
-        let columns = mutated_columns(alloc, mutations, &row.row.columns)?;
-        changed.push((RowKey::new(alloc, table, *row.id)?, columns))?;
+        let stored = row.row;
+        let columns = mutated_columns(alloc, mutations, &stored.columns)?;
+        let key = RowKey::new(alloc, table, *row.id)?;
+        if let Err(refused) = changed.push((key, columns)) {
+            return Err(AllocError::from(refused).into());
+        }
     }
     Ok(changed)
 }
 
 /// The mutations are applied to the rows that match, which are counted (RFC 7047, 5.2.4).
-pub(crate) fn mutate(
+pub(crate) fn mutate<'a>(
     alloc: Global,
     stage: &mut Stage<'_>,
-    ctx: &OpCtx<'_>,
-    operation: &Value,
+    ctx: &OpCtx<'a>,
+    operation: &'a Value,
 ) -> Result<Tree, OpFault>
     ensures done { IsDone (spec.mutate_outcome (context_of ctx.now stage.old.before) stage.old.now (view operation.now)) result stage.new.now }
 {

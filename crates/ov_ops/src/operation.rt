@@ -21,12 +21,12 @@ use std::alloc::Global;
 /// The operation at this place of the transaction, on the rows that those before it left (RFC 7047, 5.2). Its members are looked
 /// at in the order in which the section of the operation names them. `assert`, as every other word, is an unknown operation. After
 /// another outcome than `Done` the stage is to be dropped.
-pub fn run_op(
+pub fn run_op<'a>(
     alloc: Global,
     stage: &mut Stage<'_>,
-    ctx: &OpCtx<'_>,
+    ctx: &OpCtx<'a>,
     place: usize,
-    operation: &Value,
+    operation: &'a Value,
 ) -> OpOutcome
     ensures done { IsOutcome (spec.outcome_of (context_of ctx.now stage.old.before) place stage.old.now (view operation.now)) result stage.new.now }
     ensures frame { stage.new ≡ record stage.old { now = stage.new.now } }

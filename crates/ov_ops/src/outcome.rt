@@ -18,10 +18,10 @@ impl From<Result<Tree, OpFault>> for OpOutcome {
     ghost use Rattle.ov_ops.specs.Outcomes.{outcome_of_result};
     ghost use Rattle.std.specs.Prelude.{◌≡◌};
 
-    ghost from_gives = { λ result o. o ≡ outcome_of_result result };
+    ghost from_gives = { λ done o. o ≡ outcome_of_result done };
 
-    fn from(result: Result<Tree, OpFault>) -> OpOutcome {
-        match result {
+    fn from(done: Result<Tree, OpFault>) -> OpOutcome {
+        match done {
             Ok(tree) => OpOutcome::Done(tree),
             Err(OpFault::Refused(error)) => OpOutcome::Fault(error),
             Err(OpFault::Memory) => OpOutcome::NoMemory,

@@ -101,11 +101,11 @@ pub fn select_result(
 }
 
 /// The chosen columns of the rows that match (RFC 7047, 5.2.2).
-pub(crate) fn select(
+pub(crate) fn select<'a>(
     alloc: Global,
     stage: &Stage<'_>,
-    ctx: &OpCtx<'_>,
-    operation: &Value,
+    ctx: &OpCtx<'a>,
+    operation: &'a Value,
 ) -> Result<Tree, OpFault>
     ensures { IsDone (select_outcome (context_of ctx.now stage.now.before) stage.now.now (view operation.now)) result stage.now.now }
 {

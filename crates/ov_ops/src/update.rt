@@ -29,18 +29,19 @@ fn updated_rows(
     let mut changed = Vec::new(alloc);
     let rows = stage.matching(alloc, table, conditions)?;
     for row in &rows {
+        let stored = row.row;
         let key = RowKey::new(alloc, table, *row.id)?;
-        changed.push((key, given_over(alloc, given, &row.row.columns)?))?;
+        changed.push((key, given_over(alloc, given, &stored.columns)?))?;
     }
     Ok(changed)
 }
 
 /// The rows that match are given these values, and are counted, changed or not (RFC 7047, 5.2.3).
-pub(crate) fn update(
+pub(crate) fn update<'a>(
     alloc: Global,
     stage: &mut Stage<'_>,
-    ctx: &OpCtx<'_>,
-    operation: &Value,
+    ctx: &OpCtx<'a>,
+    operation: &'a Value,
 ) -> Result<Tree, OpFault>
     ensures done { IsDone (spec.update_outcome (context_of ctx.now stage.old.before) stage.old.now (view operation.now)) result stage.new.now }
 {

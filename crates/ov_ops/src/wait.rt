@@ -86,11 +86,11 @@ fn come(alloc: Global, timeout: Option<u64>, age: u64, is_met: bool) -> OpOutcom
 }
 
 /// Waits until the rows that match are, or are not, those that are told (RFC 7047, 5.2.6).
-pub(crate) fn wait(
+pub(crate) fn wait<'a>(
     alloc: Global,
     stage: &Stage<'_>,
-    ctx: &OpCtx<'_>,
-    operation: &Value,
+    ctx: &OpCtx<'a>,
+    operation: &'a Value,
 ) -> OpOutcome
     ensures { IsOutcome (spec.wait_outcome (context_of ctx.now stage.now.before) stage.now.now (view operation.now)) result stage.now.now }
 {

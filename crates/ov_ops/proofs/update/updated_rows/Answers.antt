@@ -1,0 +1,13 @@
+use Rattle.std.proofs.Common.{◌++◌, map, sym, ap, ◌∙◌, append-nil, arith}
+use Rattle.std.proofs.lemmas.List.{drop_all}
+use Rattle.ov_rows.specs.Lending.{lent_row_of}
+use Rattle.ov_specs.specs.operations.Update.{updated_row}
+use Rattle.ov_ops.proofs.update.updated_rows.Goals as goal
+
+pub returns : goal.returns
+returns c =
+    let table = c.args.table.now in
+    sym (ap (map (updated_row c.args.given.now)) (sym (ap (map (lent_row_of table)) c.deref-row-items.ensures.value ∙ c.in_ok-rows.ensures))
+    ∙ c.loop-row.invariant
+    ∙ ap (λ rs. c.loop-row.changed.items ++ map (updated_row c.args.given.now) (map (lent_row_of table) rs)) (drop_all c.loop-row.row-index c.deref-row-items.result.now (omega arith))
+    ∙ append-nil c.loop-row.changed.items)
