@@ -1,17 +1,16 @@
 -- The tokens and the text of a row's columns, and that the text reads back as the object of the columns.
-use Rattle.std.proofs.Common.{◌≡◌, ℕ, List, [], ◌∷◌, ◌++◌, map, flat_map, T, true, Some, refl, sym, ap, ◌∙◌, subst}
+use Rattle.std.proofs.Common.{◌≡◌, ℕ, List, [], ◌∷◌, ◌++◌, map, flat_map, true, Some, refl, sym, ap, ◌∙◌}
 use Rattle.std.proofs.lemmas.List.{append_assoc}
-use Rattle.std.specs.FinMap.{is_sorted, get, entries, entries_sorted}
+use Rattle.std.specs.FinMap.{get, entries, entries_sorted}
 use Rattle.json.specs.Token.{Token, begin_object, end_object, key}
 use Rattle.json.specs.Lex.{tokens}
 use Rattle.json.specs.Print.{print}
-use Rattle.json.specs.Tree.{json_tokens, members_tokens}
-use Rattle.serde_json.specs.Data.{Data, object}
+use Rattle.json.specs.Tree.{members_tokens}
+use Rattle.serde_json.specs.Data.{object}
 use Rattle.serde_json.specs.Read.{read}
-use Rattle.serde_json.specs.Written.{compact_text, outline, members_outline}
+use Rattle.serde_json.specs.Written.{compact_text, members_outline}
 use Rattle.serde_json.proofs.Texts.{print-outline}
-use Rattle.ov_specs.specs.rows.Database.{Columns, object_of, written_column}
-use Rattle.ov_specs.specs.schema.SchemaTypes.{name_cmp}
+use Rattle.ov_specs.specs.rows.Database.{Columns, written_column}
 use Rattle.ov_specs.specs.values.Value.{Datum, Kinds, is_of}
 use Rattle.ov_specs.specs.values.Writing.{tree}
 use Rattle.ov_specs.proofs.laws.Names.{EachEntry, each_entry}

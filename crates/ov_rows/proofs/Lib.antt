@@ -1,5 +1,6 @@
 pub mod Maps
 pub mod Names
+pub mod Values
 pub mod Nesting
 pub mod Nested
 pub mod BodyText

@@ -1,5 +1,6 @@
 -- The columns of the code as those of the definitions.
-use Rattle.std.specs.Prelude.{ℕ, List, map, zip, String, string_bytes}
+use Rattle.std.specs.Prelude.{ℕ, ◌+◌, List, [], ◌∷◌, map, zip, Option, Some, None, if◌then◌else◌, String, string_bytes}
+use Rattle.std.specs.Str.{bytes_eq}
 use Rattle.std.specs.declared.alloc.Global.{Global}
 use Rattle.std.specs.FinMap.{from_sorted}
 use Rattle.ov_specs.specs.rows.Database.{Columns}
@@ -17,3 +18,8 @@ columns_of es = from_sorted {R = name_cmp} (named es)
 -- the columns of these names, which ascend, each with the value that stands at its place
 abbrev pub columns_at : List (List ℕ) → List Datum → Columns
 columns_at names values = from_sorted {R = name_cmp} (zip names values)
+
+-- the place of the name, the first of those that are equal, where the first name of all stands at this one
+abbrev pub place_from : ℕ → List ℕ → List (List ℕ) → Option ℕ
+place_from place name [] = None
+place_from place name (known ∷ names) = if bytes_eq name known then Some place else place_from (place + 1) name names

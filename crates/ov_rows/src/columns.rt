@@ -1,6 +1,7 @@
-ghost use Rattle.std.specs.Prelude.{◌≡◌, IfOk, option_copied};
-ghost use Rattle.std.specs.FinMap.{get, keys, entries};
+ghost use Rattle.std.specs.Prelude.{◌≡◌, IfOk, map, option_copied, string_bytes};
+ghost use Rattle.std.specs.FinMap.{get, insert, keys, entries};
 ghost use Rattle.ov_specs.specs.rows.Database.{same_columns};
+ghost use Rattle.ov_rows.specs.Named.{place_from};
 
 use crate::column_names::ColumnNames;
 use crate::named_values::NamedValues;
@@ -52,6 +53,62 @@ impl Columns {
         Columns::of(alloc, &names, named)
     }
 
+    /// These values. Where they are of columns of just these names, the names are not copied.
+    pub fn sharing(
+        alloc: Global,
+        names: &ColumnNames,
+        named: NamedValues,
+    ) -> Result<Columns, AllocError>
+        ensures { IfOk result (λ columns. columns ≡ named) }
+    {
+        if named.has_names(names) {
+            Columns::of(alloc, names, named)
+        } else {
+            Columns::with_own_names(alloc, named)
+        }
+    }
+
+    /// The same values, copied, under the same names, which are not.
+    pub fn copy(&self, alloc: Global) -> Result<Columns, AllocError>
+        ensures { IfOk result (λ columns. columns ≡ self.now) }
+    {
+        Ok(Columns {
+            names: self.names.share()?,
+            values: copied(alloc, self.values.as_slice())?,
+        })
+    }
+
+    /// The same values, copied, by the names of their columns.
+    fn to_named(&self, alloc: Global) -> Result<NamedValues, AllocError>
+        ensures { IfOk result (λ named. named ≡ self.now) }
+    {
+        let mut named = NamedValues::new(alloc);
+        for (name, datum) in self.names.as_slice().iter().zip(&self.values) {
+            named.insert(String::from_str(alloc, name.as_str())?, datum.copy(alloc)?)?;
+        }
+        Ok(named)
+    }
+
+    /// These values with this one in the column of this name (RFC 7047, 5.2.3). Where there is such a column nothing is
+    /// allocated, and the names stay shared.
+    pub fn with_value(self, alloc: Global, name: &str, datum: Datum) -> Result<Columns, AllocError>
+        ensures { IfOk result (λ columns. columns ≡ insert self name.now datum) }
+    {
+        match place_of(self.names.as_slice(), name) {
+            Some(place) => {
+                let Columns { names, values } = self;
+                let mut values = values;
+                values[place] = datum;
+                Ok(Columns { names, values })
+            }
+            None => {
+                let mut named = self.to_named(alloc)?;
+                named.insert(String::from_str(alloc, name)?, datum)?;
+                Columns::with_own_names(alloc, named)
+            }
+        }
+    }
+
     /// The value of the column of this name.
     pub fn get(&self, name: &str) -> Option<&Datum>
         ensures { option_copied result ≡ get self.now name.now }
@@ -70,4 +127,27 @@ impl Columns {
     {
         self.names.as_slice() == other.names.as_slice() && self.values == other.values
     }
+}
+
+/// Copies of these values.
+fn copied(alloc: Global, values: &[Datum]) -> Result<Vec<Datum>, AllocError>
+    ensures { IfOk result (λ copies. copies.items ≡ values.now) }
+{
+    let mut copies = Vec::with_capacity(alloc, values.len())?;
+    for datum in values {
+        copies.push(datum.copy(alloc)?)?;
+    }
+    Ok(copies)
+}
+
+/// The place of this name, the first of those that are equal.
+fn place_of(names: &[String], name: &str) -> Option<usize>
+    ensures { result ≡ place_from 0 name.now (map string_bytes names.now) }
+{
+    for place in 0..names.len() {
+        if name == names[place].as_str() {
+            return Some(place);
+        }
+    }
+    None
 }

@@ -1,5 +1,6 @@
-ghost use Rattle.std.specs.Prelude.{◌≡◌, IfOk, OnOk, OnErr, string_bytes};
-ghost use Rattle.std.specs.FinMap.{empty, contains_key, insert, keys, values};
+ghost use Rattle.std.specs.Prelude.{◌≡◌, IfOk, OnOk, OnErr, true, string_bytes};
+ghost use Rattle.std.specs.FinMap.{empty, contains_key, insert, keys, values, entries};
+ghost use Rattle.ov_rows.specs.Named.{named};
 
 use crate::column_names::ColumnNames;
 use ov_atoms::Datum;
@@ -54,6 +55,28 @@ impl NamedValues {
     {
         self.values.insert(name, datum)?;
         Ok(())
+    }
+
+    /// The values by the names of their columns, in ascending order of these.
+    pub fn map(&self) -> &BTreeMap<String, Datum>
+        ensures { named result.now.entries ≡ entries self.now }
+    {
+        &self.values
+    }
+
+    /// Whether the columns that have a value are just those of these names.
+    pub(crate) fn has_names(&self, names: &ColumnNames) -> bool
+        ensures { result ≡ true → keys self.now ≡ names.now }
+    {
+        let listed = names.as_slice();
+        let mut place: usize = 0;
+        for (name, _datum) in &self.values {
+            if place >= listed.len() || name.as_str() != listed[place].as_str() {
+                return false;
+            }
+            place += 1;
+        }
+        place == listed.len()
     }
 
     /// The names of the columns that have a value, ascending.

@@ -1,8 +1,6 @@
-use Rattle.std.proofs.Common.{◌≡◌, ◌&&◌, zip, ◌∙◌, sym, ap}
+use Rattle.std.proofs.Common.{◌&&◌, ◌∙◌, sym, ap}
 use Rattle.std.specs.Cmp.Lexicographic.{pointwise}
-use Rattle.std.specs.FinMap.{entries}
 use Rattle.std.specs.Ordering.{eq_by_cmp}
-use Rattle.ov_specs.specs.rows.Database.{Columns, same_columns}
 use Rattle.ov_specs.specs.values.Value.{datum_cmp}
 use Rattle.ov_rows.proofs.Names.{same-listed}
 use Rattle.ov_rows.proofs.columns.Columns.is_same.Goals as goal

@@ -1,4 +1,4 @@
-use Rattle.std.proofs.Common.{rules, ◌≡◌, ◌++◌, ◌∷◌, [], flat_map, map, sym, true, None, if◌then◌else◌, ap, ◌∙◌, append_assoc, append-nil}
+use Rattle.std.proofs.Common.{rules, ◌≡◌, ◌++◌, ◌∷◌, [], flat_map, sym, true, None, if◌then◌else◌, ap, ◌∙◌, append_assoc, append-nil}
 use Rattle.std.proofs.lemmas.Slice.Zip.{Zip-more, either_empty_from_Zip}
 use Rattle.std.specs.FinMap.{entries}
 use Rattle.json.specs.Token.{begin_object, end_object}

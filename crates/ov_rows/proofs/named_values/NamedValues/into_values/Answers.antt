@@ -1,4 +1,4 @@
-use Rattle.std.proofs.Common.{◌++◌, [], map, sym, ap, ◌∙◌, append-nil}
+use Rattle.std.proofs.Common.{◌++◌, map, sym, ap, ◌∙◌, append-nil}
 use Rattle.std.specs.FinMap.{values}
 use Rattle.ov_specs.specs.rows.Database.{Columns}
 use Rattle.ov_rows.proofs.Names.{entries-columns_of, values-named}

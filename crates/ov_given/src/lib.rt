@@ -1,0 +1,15 @@
+//! What a client's message says of rows: the names of those that a transaction inserts, the values that a row is given, mutations,
+//! and the rows that are waited for (RFC 7047, 5.1 and 5.2). What names no source is our own.
+#![tactic(auto)]
+
+mod mutated;
+mod names;
+mod row_values;
+mod told;
+mod until;
+
+pub use mutated::{mutated_columns, mutations_of};
+pub use names::{NamedRows, is_insert, name_fault};
+pub use row_values::{GivenRow, given_over, given_values, new_row};
+pub use told::{timeout_of, told_rows};
+pub use until::{Until, is_met, until_of};

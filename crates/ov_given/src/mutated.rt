@@ -1,0 +1,91 @@
+ghost use Rattle.std.specs.Prelude.{◌≡◌};
+ghost use Rattle.std.specs.Option.{option_copied};
+ghost use Rattle.serde_json.specs.View.{view, items_view};
+ghost use Rattle.ov_specs.specs.operations.Mutate as mutate;
+ghost use Rattle.ov_specs.specs.operations.Mutators.{mutation_read};
+ghost use Rattle.ov_stage.specs.Errors.{IsOpResult};
+ghost use Rattle.ov_given.specs.Mutations.{mutation_result};
+
+use ov_atoms::{Datum, Names};
+use ov_mutate::{MutateFault, Mutation, MutationFault};
+use ov_rows::Columns;
+use ov_schema::Table;
+use ov_stage::{OpError, OpFault};
+use serde_json::Value;
+use std::alloc::{AllocError, Global};
+
+/// The mutation that a tree is.
+fn mutation_of<'a, N: Names>(
+    alloc: Global,
+    table: &'a Table,
+    tree: &Value,
+    names: &N,
+) -> Result<Mutation<'a>, OpFault>
+    ensures { IsOpResult (λ m. m) (mutation_result (mutation_read (N.names names.now) table.now (view tree.now))) result }
+{
+    match Mutation::read(alloc, table, tree, names) {
+        Ok(mutation) => Ok(mutation),
+        Err(MutationFault::Syntax) => Err(OpFault::Refused(OpError::Syntax)),
+        Err(MutationFault::UnknownColumn) => Err(OpFault::Refused(OpError::UnknownColumn)),
+        Err(MutationFault::Clash) => Err(OpFault::Refused(OpError::Constraint)),
+        Err(MutationFault::NotMutable) => Err(OpFault::Refused(OpError::Constraint)),
+        Err(MutationFault::Memory) => Err(OpFault::Memory),
+    }
+}
+
+/// The mutations of a `mutate`, each read wholly before the next one, or the fault of the first that does not read (RFC 7047,
+/// 5.2.4; the order is our own).
+pub fn mutations_of<'a, N: Names>(
+    alloc: Global,
+    table: &'a Table,
+    items: &[Value],
+    names: &N,
+) -> Result<Vec<Mutation<'a>>, OpFault>
+    ensures { IsOpResult (λ v. v.items) (mutate.mutations_read (N.names names.now) table.now (items_view items.now)) result }
+{
+    let mut mutations = Vec::new(alloc);
+    for item in items {
+        let mutation = mutation_of(alloc, table, item, names)?;
+        if let Err(refused) = mutations.push(mutation) {
+            return Err(AllocError::from(refused).into());
+        }
+    }
+    Ok(mutations)
+}
+
+/// What a mutation makes of the value of its column. A row has one for each column that can be mutated.
+fn mutated_value(
+    alloc: Global,
+    mutation: &Mutation<'_>,
+    datum: Option<&Datum>,
+) -> Result<Datum, OpFault>
+    ensures { IsOpResult (λ d. d) (mutate.mutated_value mutation.now (option_copied datum.entry)) result }
+{
+    let Some(datum) = datum else {
+        return Err(OpFault::Refused(OpError::Constraint));
+    };
+    match mutation.mutate(alloc, datum) {
+        Ok(mutated) => Ok(mutated),
+        Err(MutateFault::Domain) => Err(OpFault::Refused(OpError::Domain)),
+        Err(MutateFault::Range) => Err(OpFault::Refused(OpError::Range)),
+        Err(MutateFault::Constraint) => Err(OpFault::Refused(OpError::Constraint)),
+        Err(MutateFault::Memory) => Err(OpFault::Memory),
+    }
+}
+
+/// What the mutations, one after another, make of the columns of a row, or the fault of the first that has one. Each value is
+/// tested before the next mutation (RFC 7047, 5.2.4). The names of the columns stay shared.
+pub fn mutated_columns(
+    alloc: Global,
+    mutations: &[Mutation<'_>],
+    columns: &Columns,
+) -> Result<Columns, OpFault>
+    ensures { IsOpResult (λ c. c) (mutate.mutated_columns mutations.now columns.now) result }
+{
+    let mut mutated = columns.copy(alloc)?;
+    for mutation in mutations {
+        let datum = mutated_value(alloc, mutation, mutated.get(mutation.column()))?;
+        mutated = mutated.with_value(alloc, mutation.column(), datum)?;
+    }
+    Ok(mutated)
+}

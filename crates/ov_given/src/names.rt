@@ -1,0 +1,209 @@
+ghost use Rattle.std.specs.Prelude.{◌≡◌, ℕ, List, IfOk, OnOk, Option, Some, None, unwrap_or, if◌then◌else◌, option_map};
+ghost use Rattle.std.specs.List.{slice_get};
+ghost use Rattle.std.specs.Option.{option_copied};
+ghost use Rattle.std.specs.Str.{bytes_eq};
+ghost use Rattle.serde_json.specs.View.{view, items_view};
+ghost use Rattle.ov_specs.specs.operations.Errors.{DuplicateName};
+ghost use Rattle.ov_specs.specs.operations.Insert.{name_fault};
+ghost use Rattle.ov_specs.specs.operations.NamedUuids.{declares, place_declared, is_declared_before, inserts_before, id_at};
+ghost use Rattle.ov_specs.specs.operations.OpOutcome.{OpContext};
+ghost use Rattle.ov_specs.specs.operations.Transaction.{is_insert};
+ghost use Rattle.ov_specs.specs.schema.Schema.{is_some_and};
+ghost use Rattle.ov_given.specs.Naming.{ArePlaces, first_of, place_at};
+ghost use Rattle.ov_stage.specs.Errors.{error_view};
+
+use ov_atoms::{Names, is_id};
+use ov_base::Trees;
+use ov_stage::{OpError, text_at};
+use serde_json::Value;
+use std::alloc::{AllocError, Global};
+use std::collections::BTreeMap;
+use std::marker::Model;
+use uuid::Uuid;
+
+/// The rows that the inserts of a transaction make, and the names that stand for them in all of it, also before the insert that
+/// declares one (RFC 7047, 5.1, `<named-uuid>`, and 5.2.1). It is made once for a transaction.
+#[derive(Drop)]
+pub struct NamedRows<'a> {
+    ids: &'a [Uuid],
+    operations: &'a Trees,
+    /// At each name the place of the first operation that declares it.
+    places: BTreeMap<&'a str, usize>,
+    /// How many inserts stand before each operation.
+    counts: Vec<usize>,
+    /// How many inserts there are.
+    inserts: usize,
+}
+
+impl<'a> Model for NamedRows<'a> {
+    ghost use Rattle.std.specs.Prelude.{◌≡◌, ℕ, unwrap_or};
+    ghost use Rattle.std.specs.List.{slice_get};
+    ghost use Rattle.ov_specs.specs.operations.NamedUuids.{inserts_before};
+    ghost use Rattle.ov_given.specs.Naming as naming;
+    ghost use Rattle.ov_given.specs.Naming.{naming_code, ArePlaces};
+
+    ghost Value = { naming.Naming };
+
+    ghost coded = { naming_code };
+
+    ghost view = { λ n. record { ids = n.ids.now; operations = n.operations.now } };
+
+    ghost invariant = { λ n. ArePlaces n.places n.operations.now × ((place : ℕ) → unwrap_or (slice_get n.counts.items place) n.inserts ≡ inserts_before place n.operations.now) };
+}
+
+impl<'a> NamedRows<'a> {
+    /// The rows that these operations insert, where one of these identifiers was drawn for each insert, in order.
+    pub fn new(
+        alloc: Global,
+        ids: &'a [Uuid],
+        operations: &'a Trees,
+    ) -> Result<NamedRows<'a>, AllocError>
+        ensures { IfOk result (λ rows. rows ≡ record { ids = ids.now; operations = operations.now }) }
+    {
+        let items = operations.as_slice();
+        let (counts, inserts) = count_inserts(alloc, items)?;
+        Ok(NamedRows {
+            ids,
+            operations,
+            places: places_of(alloc, items)?,
+            counts,
+            inserts,
+        })
+    }
+
+    /// The identifier of the insert that stands at this place, the first operation at 0.
+    pub fn id_at(&self, place: usize) -> Option<Uuid>
+        ensures { result ≡ id_at self.now.ids self.now.operations place }
+    {
+        let before = match self.counts.get(place) {
+            Some(before) => *before,
+            None => self.inserts,
+        };
+        self.ids.get(before).copied()
+    }
+
+    /// Whether an operation before this place declares the name (RFC 7047, 5.2.1).
+    pub fn is_declared_before(&self, name: &str, place: usize) -> bool
+        ensures { result ≡ is_declared_before name.now place self.now.operations }
+    {
+        match self.place_of(name) {
+            Some(first) => first < place,
+            None => false,
+        }
+    }
+
+    /// The place of the first operation that declares the name.
+    fn place_of(&self, name: &str) -> Option<usize>
+        ensures { result ≡ place_declared name.now self.now.operations }
+    {
+        self.places.get(name).copied()
+    }
+}
+
+impl<'a> Names for NamedRows<'a> {
+    ghost use Rattle.ov_specs.specs.operations.NamedUuids.{names_of};
+
+    ghost names = { λ rows name. names_of rows.ids rows.operations name };
+
+    fn uuid_of(&self, name: &str) -> Option<Uuid> {
+        match self.place_of(name) {
+            Some(place) => self.id_at(place),
+            None => None,
+        }
+    }
+}
+
+/// Whether an operation is an object whose `op` is `insert`, whatever else it has (RFC 7047, 5.2.1).
+pub fn is_insert(operation: &Value) -> bool
+    ensures { result ≡ is_insert (view operation.now) }
+{
+    match text_at(operation, "op") {
+        Some(op) => op == "insert",
+        None => false,
+    }
+}
+
+/// What is wrong with the `uuid-name` of the insert at this place, which may be left out: it is no `<id>`, or an operation before
+/// it declares the name (RFC 7047, 5.2.1).
+pub fn name_fault(rows: &NamedRows<'_>, place: usize, tree: Option<&Value>) -> Option<OpError>
+    ensures { (c : OpContext) → c.operations ≡ rows.now.operations → option_map error_view result ≡ name_fault c place (option_map view (option_copied tree.entry)) }
+{
+    let name = match tree {
+        Some(tree) => tree.as_str(),
+        None => return None,
+    };
+    match name {
+        Some(name) if is_id(name) => name_twice(rows, place, name),
+        _ => Some(OpError::Syntax),
+    }
+}
+
+/// The error where an operation before this place declares the name.
+fn name_twice(rows: &NamedRows<'_>, place: usize, name: &str) -> Option<OpError>
+    ensures { option_map error_view result ≡ (if is_declared_before name.now place rows.now.operations then Some DuplicateName else None) }
+{
+    if rows.is_declared_before(name, place) {
+        Some(OpError::DuplicateName)
+    } else {
+        None
+    }
+}
+
+/// The name that an operation declares.
+fn name_declared(operation: &Value) -> Option<&str>
+    ensures { (name : List ℕ) → declares name (view operation.now) ≡ is_some_and (bytes_eq name) (option_copied result) }
+{
+    if !is_insert(operation) {
+        return None;
+    }
+    match text_at(operation, "uuid-name") {
+        Some(name) if is_id(name) => Some(name),
+        _ => None,
+    }
+}
+
+/// Keeps the place of an operation at the name that it declares, where there is none yet.
+fn keep_place<'a>(
+    places: &mut BTreeMap<&'a str, usize>,
+    operation: &'a Value,
+    place: usize,
+) -> Result<(), AllocError>
+    ensures { OnOk result ((name : List ℕ) → place_at places.new name ≡ first_of (place_at places.old name) (if declares name (view operation.now) then Some place else None)) }
+{
+    let Some(name) = name_declared(operation) else {
+        return Ok(());
+    };
+    if !places.contains_key(name) {
+        places.insert(name, place)?;
+    }
+    Ok(())
+}
+
+/// At each name the place of the first operation that declares it.
+fn places_of<'a>(
+    alloc: Global,
+    operations: &'a [Value],
+) -> Result<BTreeMap<&'a str, usize>, AllocError>
+    ensures { IfOk result (λ places. ArePlaces places (items_view operations.now)) }
+{
+    let mut places = BTreeMap::new(alloc);
+    for place in 0..operations.len() {
+        keep_place(&mut places, &operations[place], place)?;
+    }
+    Ok(places)
+}
+
+/// How many inserts stand before each operation, and how many there are.
+fn count_inserts(alloc: Global, operations: &[Value]) -> Result<(Vec<usize>, usize), AllocError>
+    ensures { IfOk result (λ c. (place : ℕ) → unwrap_or (slice_get c.0.items place) c.1 ≡ inserts_before place (items_view operations.now)) }
+{
+    let mut counts = Vec::with_capacity(alloc, operations.len())?;
+    let mut inserts: usize = 0;
+    for operation in operations {
+        counts.push(inserts)?;
+        if is_insert(operation) {
+            inserts += 1;
+        }
+    }
+    Ok((counts, inserts))
+}
