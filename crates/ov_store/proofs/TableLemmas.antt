@@ -27,7 +27,7 @@ pub record Stands (schema : Schema) (table : Table) (at : ℕ) : Type 0 where
 
 module _ {X : Type 0} (p : X → Bool) where
   -- what is found stands at a place
-  found_place : (from : ℕ) (xs : List X) (x : X) → find p xs ≡ Some x → (at : ℕ) × (position_from p from xs ≡ Some (from + at)) × (slice_get xs at ≡ Some x)
+  pub found_place : (from : ℕ) (xs : List X) (x : X) → find p xs ≡ Some x → (at : ℕ) × (position_from p from xs ≡ Some (from + at)) × (slice_get xs at ≡ Some x)
   found_place from [] x h = absurd cc
   found_place from (y ∷ xs) x h = go (p y) (found_place (from + 1) xs x) h
     where
