@@ -15,7 +15,7 @@ use Rattle.sqlite_rules.proofs.ListLemmas.{all_has, has_right}
 use Rattle.ov_store.specs.Tables.{meta_table, line_table, tree_of, with_meta, with_ours, HasRoom, HasOurTables, create_meta, create_line}
 use Rattle.ov_store.proofs.ListingLemmas.{line_rows_are, meta_rows_are}
 use Rattle.std.specs.List.{AllByRecursion}
-use Rattle.ov_store.specs.Format.{IsLine, rows_of_meta, rows_of_line}
+use Rattle.ov_store.specs.Format.{IsLine, rows_of_meta}
 use Rattle.ov_store.specs.Changing.{IsNumbered}
 use Rattle.ov_store.specs.Making.{MayMake, HasMeta, HasTables, IsFilled, IsNewDatabase, IsNewBeside}
 use Rattle.ov_store.proofs.Texts.{meta_understood, line_understood, meta_defined, line_defined}

@@ -1,5 +1,5 @@
 -- What the INSERT into `meta` does, and what the rows of `meta` give.
-use Rattle.std.proofs.Common.{◌≡◌, ◌≢◌, inl, inr, ℕ, ℤ, List, [], ◌∷◌, true, false, not, ◌&&◌, ◌||◌, None, Ok, refl, sym, ap, subst, ◌∙◌, codes, IsUtf8}
+use Rattle.std.proofs.Common.{◌≡◌, ◌≢◌, inl, inr, ℕ, ℤ, List, [], ◌∷◌, true, false, not, ◌&&◌, ◌||◌, Ok, refl, sym, ap, subst, ◌∙◌, codes, IsUtf8}
 use Rattle.std.specs.declared.cmp.Ordering.{Ordering}
 use Rattle.std.specs.declared.cmp.Ordering.TheVariants.{Less, Equal, Greater}
 use Rattle.std.specs.Ordering.{is_eq, match_ordering}

@@ -1,5 +1,5 @@
 -- A schema with our two tables behind all that it had.
-use Rattle.std.proofs.Common.{◌≡◌, ◌≢◌, ◌⊎◌, ◌<◌, ◌≤◌, ◌+◌, ℕ, max, fold, List, [], ◌∷◌, ◌++◌, filter, find, slice_get, Bool, true, false, not, ◌&&◌, ◌||◌, ◌==◌, cond, Option, Some, None, is_some, unwrap_or, option_map, option_and_then, refl, sym, ap, ap₂, subst, ◌∙◌, arith, codes, inl, inr, ne_eqb}
+use Rattle.std.proofs.Common.{◌≡◌, ◌≢◌, ◌⊎◌, ◌<◌, ◌≤◌, ◌+◌, ℕ, max, fold, List, [], ◌∷◌, ◌++◌, find, slice_get, Bool, true, false, not, ◌&&◌, ◌||◌, ◌==◌, cond, Option, Some, None, is_some, unwrap_or, option_map, option_and_then, refl, sym, ap, ap₂, subst, ◌∙◌, arith, codes, inl, inr, ne_eqb}
 use Rattle.std.specs.Option.{option_or}
 use Rattle.std.specs.Fmt.{digits}
 use Rattle.std.specs.List.{list_any, list_all, position_from, AllByRecursion, AllZip}
@@ -16,7 +16,7 @@ use Rattle.sqlite_schema.specs.declared.schema.Index.{Index}
 use Rattle.sqlite_schema.specs.declared.schema.Reference.{Reference}
 use Rattle.sqlite_schema.specs.Names.{same_name, table_named, index_named, view_named}
 use Rattle.sqlite_rules.specs.Lists.{Has}
-use Rattle.sqlite_rules.proofs.ListLemmas.{all_has, all_from, test_from, some_from, has_left, has_right, has_either, has_found}
+use Rattle.sqlite_rules.proofs.ListLemmas.{all_has, all_from, test_from, has_left, has_right, has_either, has_found}
 use Rattle.sqlite_catalog.specs.Listing.{IsIndexRow, automatic}
 use Rattle.sqlite_catalog.proofs.LayoutLemmas.{index_owner}
 use Rattle.sqlite_trees.specs.Tree.{Trees}

@@ -1,4 +1,4 @@
-use Rattle.std.proofs.Common.{◌≡◌, subst}
+use Rattle.std.proofs.Common.{subst}
 use Rattle.sqlite.specs.Held.{state}
 use Rattle.ov_store.specs.Tables.{HasRoom}
 use Rattle.ov_store.specs.Making.{MayMake}
