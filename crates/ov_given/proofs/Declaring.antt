@@ -1,10 +1,9 @@
 -- Where names are declared.
-use Rattle.std.proofs.Common.{◌≡◌, ◌+◌, ◌<◌, ℕ, zero, suc, List, [], ◌∷◌, length, get_or, drop, Bool, true, false, ◌&&◌, cond, if◌then◌else◌, Option, Some, None, ap, sym, refl, ◌∙◌, arith}
-use Rattle.std.specs.Prelude.{option_map, codes, is_some}
+use Rattle.std.proofs.Common.{◌≡◌, ◌+◌, ◌<◌, ℕ, suc, List, ◌∷◌, length, get_or, drop, Bool, true, false, ◌&&◌, cond, if◌then◌else◌, Option, Some, None, ap, sym, refl, ◌∙◌, arith}
+use Rattle.std.specs.Prelude.{option_map, is_some}
 use Rattle.std.specs.Cmp.Lexicographic.{same_text}
 use Rattle.std.specs.Str.{bytes_eq}
 use Rattle.std.proofs.lemmas.List.{drop_more}
-use Rattle.serde_json.specs.Data.{Data, Items, no_items, item}
 use Rattle.serde_json.specs.View.{view, items_view}
 use Rattle.serde_json.specs.declared.value.Value.{Value}
 use Rattle.ov_specs.specs.operations.NamedUuids.{declares, place_declared}

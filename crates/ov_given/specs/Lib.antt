@@ -1,3 +1,4 @@
 pub mod Naming
 pub mod Rows
 pub mod Mutations
+pub mod Waiting

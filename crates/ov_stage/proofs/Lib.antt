@@ -2,6 +2,7 @@ pub mod Equal
 pub mod Placing
 pub mod Plain
 pub mod Matching
+pub mod Lookups
 pub mod Meeting
 pub mod Repeats
 pub mod SameRows

@@ -1,18 +1,13 @@
 -- The rows of a table that meet conditions, and the same rows lent.
-use Rattle.std.proofs.Common.{◌≡◌, ℕ, List, [], ◌∷◌, Bool, true, false, ◌&&◌, cond, filter, map, refl, ap}
-use Rattle.std.specs.List.{list_all}
+use Rattle.std.proofs.Common.{◌≡◌, ℕ, List, [], ◌∷◌, true, false, ◌&&◌, cond, filter, map, refl, ap}
 use Rattle.std.specs.Str.{bytes_eq}
 use Rattle.ov_rows.specs.Lending.{lent_row_of}
 use Rattle.ov_rows.specs.declared.row_view.RowView.{RowView}
-use Rattle.ov_specs.specs.operations.Conditions.{Condition, holds}
-use Rattle.ov_specs.specs.operations.Operation.{entry_value, is_matching}
+use Rattle.ov_specs.specs.operations.Conditions.{Condition}
+use Rattle.ov_specs.specs.operations.Operation.{is_matching}
 use Rattle.ov_specs.specs.rows.Database.{Row}
 use Rattle.ov_specs.specs.rows.Lines.{LineKey}
-use Rattle.ov_stage.specs.Staging.{meets}
-
--- a row that meets all conditions
-abbrev pub is_met : List Condition → LineKey × Row → Bool
-is_met conditions r = list_all (holds (entry_value r)) conditions
+use Rattle.ov_stage.specs.Staging.{is_met, meets}
 
 -- the table's rows that meet all conditions
 pub matching-of_table : (table : List ℕ) (conditions : List Condition) (rows : List (LineKey × Row)) → filter (is_matching table conditions) rows ≡ filter (is_met conditions) (filter (λ r. bytes_eq r.0.0 table) rows)

@@ -22,7 +22,7 @@ use Rattle.ov_specs.proofs.laws.ReadingBack.{entries-from_entries}
 use Rattle.ov_specs.proofs.laws.Sameness.{column_cmp, columns-tied}
 use Rattle.ov_specs.proofs.laws.Truths.{left_holds, right_holds, or_nothing, or_truth}
 use Rattle.ov_rows.specs.Named.{named}
-use Rattle.ov_stage.proofs.Meeting.{is_met}
+use Rattle.ov_stage.specs.Staging.{is_met}
 use Rattle.ov_stage.proofs.Repeats.{Shown, among, kept_with, kept_with-push}
 use Rattle.ov_stage.proofs.SameRows.{same-is}
 

@@ -1,5 +1,5 @@
 -- The rows of a transaction, and changes made in a list of rows. What names no source is our own.
-use Rattle.std.specs.Prelude.{◌≡◌, ◌≢◌, not, List, [], ◌∷◌, refl, Bool, false, Option, Some, None, option_map, option_to_list}
+use Rattle.std.specs.Prelude.{◌≡◌, ◌≢◌, not, List, [], ◌∷◌, refl, Bool, true, false, Option, Some, None, option_map, option_to_list}
 use Rattle.std.specs.declared.cmp.Ordering.{Ordering}
 use Rattle.std.specs.Ordering.{eq_by_cmp}
 use Rattle.std.specs.Coded.{Coded, code_by, coded×}
@@ -10,8 +10,10 @@ use Rattle.ov_db.specs.Changing.{Delta}
 use Rattle.ov_rows.specs.Resident.{database_code}
 use Rattle.ov_rows.specs.declared.row_view.RowView.{RowView}
 use Rattle.ov_specs.specs.operations.Conditions.{Condition, column_value, holds}
+use Rattle.ov_specs.specs.operations.Operation.{entry_value}
 use Rattle.ov_specs.specs.rows.Database.{Columns, Database, Row, same_columns}
 use Rattle.ov_specs.specs.rows.Lines.{LineKey}
+use Rattle.ov_specs.specs.values.Uuid.{Uuid}
 
 -- ---- the rows of a transaction
 
@@ -33,7 +35,19 @@ abbrev pub has_columns : Columns → Option Row → Bool
 has_columns columns None = false
 has_columns columns (Some row) = same_columns (entries row.columns) (entries columns)
 
+-- what stands at a key, with the key
+abbrev pub with_key : {K X : Type 0} → K → Option X → Option (K × X)
+with_key key found = option_map (λ x. (key, x)) found
+
 -- ---- the rows that meet conditions
+
+-- a row that meets all conditions
+abbrev pub is_met : List Condition → LineKey × Row → Bool
+is_met conditions r = list_all (holds (entry_value r)) conditions
+
+-- each row that meets all conditions has this identifier
+abbrev pub AreOnlyOf : Uuid → List Condition → Type 0
+AreOnlyOf id conditions = (row : LineKey × Row) → is_met conditions row ≡ true → row.0.1 ≡ id
 
 -- a row, lent, that meets all conditions
 abbrev pub meets : List Condition → RowView → Bool

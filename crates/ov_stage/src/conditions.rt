@@ -1,9 +1,9 @@
-ghost use Rattle.std.specs.Prelude.{◌≡◌, IfOk};
+ghost use Rattle.std.specs.Prelude.{◌≡◌, IfOk, IfSome};
 ghost use Rattle.std.specs.List.{filter};
 ghost use Rattle.serde_json.specs.View.{items_view};
 ghost use Rattle.ov_specs.specs.operations.Operation as spec;
 ghost use Rattle.ov_stage.specs.Errors.{IsOpResult};
-ghost use Rattle.ov_stage.specs.Staging.{meets};
+ghost use Rattle.ov_stage.specs.Staging.{AreOnlyOf, meets};
 
 use crate::fault::OpFault;
 use ov_atoms::Names;
@@ -12,6 +12,7 @@ use ov_rows::RowView;
 use ov_schema::Table;
 use serde_json::Value;
 use std::alloc::{AllocError, Global};
+use uuid::Uuid;
 
 /// The conditions of a `where`, or the fault of the first that does not read (RFC 7047, 5.2.2).
 pub fn conditions_of<N: Names>(
@@ -42,6 +43,18 @@ fn meets(conditions: &[Condition], row: &RowView<'_>) -> bool
         }
     }
     true
+}
+
+/// The identifier that each row that meets all conditions has, where one of them asks for it.
+pub(crate) fn only_id(conditions: &[Condition]) -> Option<Uuid>
+    ensures { IfSome result (λ id. AreOnlyOf id conditions.now) }
+{
+    for condition in conditions {
+        if let Some(id) = condition.only_id() {
+            return Some(id);
+        }
+    }
+    None
 }
 
 /// Those of the rows that meet all conditions.

@@ -5,6 +5,7 @@
 mod conditions;
 mod fault;
 mod former;
+mod lookup;
 mod member;
 mod merge;
 mod projection;

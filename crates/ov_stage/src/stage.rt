@@ -1,15 +1,17 @@
-ghost use Rattle.std.specs.Prelude.{◌≡◌, ◌==◌, map, IfOk, OnOk, OnErr};
+ghost use Rattle.std.specs.Prelude.{◌≡◌, ◌==◌, map, option_to_list, IfOk, OnOk, OnErr};
 ghost use Rattle.std.specs.List.{filter};
-ghost use Rattle.std.specs.FinMap.{contains_key, insert, remove, entries, len};
+ghost use Rattle.std.specs.FinMap.{contains_key, get, insert, remove, entries, len};
 ghost use Rattle.ov_db.specs.Changing.{applied};
 ghost use Rattle.ov_rows.specs.Lending.{lent_row_of};
 ghost use Rattle.ov_specs.specs.operations.Operation.{matching};
 ghost use Rattle.ov_specs.specs.rows.Database.{same_database};
 ghost use Rattle.ov_specs.specs.rows.Version.{row_now};
 ghost use Rattle.std.specs.Str.{bytes_eq};
+ghost use Rattle.ov_stage.specs.Staging.{is_met, with_key};
 
-use crate::conditions::meeting;
+use crate::conditions::{meeting, only_id};
 use crate::former::is_former;
+use crate::lookup::row_after;
 use crate::merge::{changes_of, merged, rows_of};
 use ov_conds::Condition;
 use ov_db::Delta;
@@ -98,7 +100,35 @@ impl<'a> Stage<'a> {
         merged(alloc, rows.as_slice(), changes.as_slice())
     }
 
+    /// The row of this identifier in the table of this name as it is now, if there is one.
+    fn rows_at(&self, alloc: Global, table: &str, id: Uuid) -> Result<Vec<RowView<'_>>, AllocError>
+        ensures { IfOk result (λ rows. map (lent_row_of table.now) rows.items ≡ option_to_list (with_key (table.now, id) (get self.now.now (table.now, id)))) }
+    {
+        let key = RowKey::new(alloc, table, id)?;
+        let mut rows = Vec::new(alloc);
+        if let Some(row) = row_after(self.rows, &self.delta, &key) {
+            rows.push(row)?;
+        }
+        Ok(rows)
+    }
+
+    /// Rows of the table of this name: those that meet all conditions, and maybe others.
+    fn candidates(
+        &self,
+        alloc: Global,
+        table: &str,
+        conditions: &[Condition],
+    ) -> Result<Vec<RowView<'_>>, AllocError>
+        ensures { IfOk result (λ rows. filter (is_met conditions.now) (map (lent_row_of table.now) rows.items) ≡ matching self.now.now table.now conditions.now) }
+    {
+        match only_id(conditions) {
+            Some(id) => self.rows_at(alloc, table, id),
+            None => self.rows_of(alloc, table),
+        }
+    }
+
     /// The rows of the table of this name that meet all conditions, in ascending order of their identifiers (RFC 7047, 5.2.2).
+    /// Where a condition asks for one identifier, no other row is looked at.
     pub fn matching(
         &self,
         alloc: Global,
@@ -107,7 +137,7 @@ impl<'a> Stage<'a> {
     ) -> Result<Vec<RowView<'_>>, AllocError>
         ensures { IfOk result (λ rows. map (lent_row_of table.now) rows.items ≡ matching self.now.now table.now conditions.now) }
     {
-        let rows = self.rows_of(alloc, table)?;
+        let rows = self.candidates(alloc, table, conditions)?;
         meeting(alloc, rows.as_slice(), conditions)
     }
 

@@ -1,35 +1,26 @@
 -- What a CREATE TABLE does.
-use Rattle.std.proofs.Common.{◌≡◌, ℕ, List, [], false, None, Ok, codes, refl, sym, ap, subst, ◌∙◌, arith}
-use Rattle.std.specs.Fmt.{digits}
+use Rattle.std.proofs.Common.{◌≡◌, ℕ, List, [], false, None, Ok, codes, refl, sym, ap, subst, ◌∙◌, arith, inl, IsTrue}
 use Rattle.sqlite.specs.Table.{Table}
 use Rattle.sqlite.specs.Schema.{Schema}
 use Rattle.sqlite.specs.Command.TheVariants.{CreateTable}
 use Rattle.sqlite.specs.Compile.{table_defined_by}
 use Rattle.sqlite.specs.Change.{created, next_tree, KeepsRows}
 use Rattle.sqlite.specs.Does.{Tally, lacks_sequence}
-use Rattle.sqlite_tied.specs.Compute.{everything}
 use Rattle.sqlite.specs.Listing.{understood}
 use Rattle.sqlite.specs.Effect.{Database, IsDatabase}
 use Rattle.sqlite.specs.State.{State, HasCleanDisk, Survives, Writes, Executes}
 use Rattle.sqlite.proofs.StateLemmas.{survives_then}
 use Rattle.sqlite.proofs.Callers.{IsPlain, command_of, statement_of, runs_as}
-use Rattle.ov_store.specs.Tables.{meta_table, line_table, tree_of, HasOurTables, no_schema, meta_schema, create_meta, create_line}
+use Rattle.sqlite_rules.proofs.ListLemmas.{all_has, has_right}
+use Rattle.ov_store.specs.Tables.{meta_table, line_table, tree_of, with_meta, with_ours, HasRoom, HasOurTables, create_meta, create_line}
 use Rattle.ov_store.proofs.ListingLemmas.{line_rows_are, meta_rows_are}
-use Rattle.sqlite_schema.specs.Names.{same_name}
 use Rattle.std.specs.List.{AllByRecursion}
-use Rattle.ov_store.specs.Format.{IsLine, rows_of_meta, rows_of_line}
+use Rattle.ov_store.specs.Format.{IsLine, rows_of_meta}
 use Rattle.ov_store.specs.Changing.{IsNumbered}
-use Rattle.ov_store.specs.Making.{HasSchema, IsFilled, IsNewDatabase, IsNewFile}
-use Rattle.ov_store.proofs.Texts.{meta_is, line_is}
+use Rattle.ov_store.specs.Making.{MayMake, HasMeta, HasTables, IsFilled, IsNewDatabase, IsNewBeside}
+use Rattle.ov_store.proofs.Texts.{meta_understood, line_understood, meta_defined, line_defined}
+use Rattle.ov_store.proofs.RoomLemmas.{is_free, line_free, counts_kept, meta_tree, line_tree, ours_behind, kept_then}
 use Rattle.ov_store.proofs.DeleteLemmas.{went, same_value}
-
-pub meta_plain : IsPlain (understood no_schema create_meta)
-unfolding understood everything
-meta_plain = (refl, refl)
-
-pub line_plain : IsPlain (understood meta_schema create_line)
-unfolding understood everything
-line_plain = (refl, refl)
 
 pub record Creates (before after : Schema) (tree : ℕ) (old new : State) : Type 0 where
   pub schema : new.now.schema ≡ after
@@ -57,34 +48,51 @@ module _ (text : List ℕ) (before : Schema) (table : Table) (command : command_
         sound = w.sound;
       }
 
-pub creates_meta : (old new : State) (count : ℕ) → old.now.schema ≡ no_schema → Executes create_meta [] old new (Ok count) → Creates no_schema meta_schema 0 old new
-creates_meta = creates create_meta no_schema (meta_table 0) meta_is.0 meta_is.1 meta_is.2 meta_plain refl
+pub creates_meta : (old new : State) (count : ℕ) → HasRoom old.now.schema → Executes create_meta [] old new (Ok count) → Creates old.now.schema (with_meta old.now.schema) (next_tree old.now.schema) old new
+creates_meta old new count room h =
+    let schema = old.now.schema in
+    let free = is_free schema (codes "meta") room.meta in
+    let known = meta_understood schema free.table free.index free.view in
+    creates create_meta schema (meta_table 0) (ap command_of known) (ap (statement_of create_meta) known) meta_defined (subst IsPlain (sym known) (refl, refl))
+    (counts_kept schema (meta_table 0) refl room.counts) old new count refl h
 
--- the schema with both
-abbrev pub both_schema : Schema
-both_schema = created meta_schema (line_table 0)
+pub creates_line : (schema : Schema) (old new : State) (count : ℕ) → HasRoom schema → old.now.schema ≡ with_meta schema → Executes create_line [] old new (Ok count)
+    → Creates (with_meta schema) (with_ours schema) (next_tree (with_meta schema)) old new
+creates_line schema old new count room has h =
+    let free = line_free schema (is_free schema (codes "line") room.line) in
+    let known = line_understood (with_meta schema) free.table free.index free.view in
+    let counts = counts_kept schema (meta_table 0) refl room.counts in
+    creates create_line (with_meta schema) (line_table 0) (ap command_of known) (ap (statement_of create_line) known) line_defined (subst IsPlain (sym known) (refl, refl))
+    (counts_kept (with_meta schema) (line_table 0) refl counts) old new count has h
 
-pub ours_alone : HasOurTables both_schema
-unfolding digits same_name
-ours_alone = record { meta = record { named = refl; alone = refl }; line = record { named = refl; alone = refl }; other_tables = refl; other_indexes = refl }
-
-pub creates_line : (old new : State) (count : ℕ) → old.now.schema ≡ meta_schema → Executes create_line [] old new (Ok count) → Creates meta_schema both_schema 2 old new
-creates_line = creates create_line meta_schema (line_table 0) line_is.0 line_is.1 line_is.2 line_plain refl
-
--- the two are empty
-pub made_empty : (old new : State) → Creates meta_schema both_schema 2 old new → old.now.trees 0 ≡ [] → (rows_of_line new.now.trees ≡ []) × (rows_of_meta new.now.trees ≡ [])
-unfolding digits same_name
-made_empty old new made empty =
-    let has = subst HasOurTables (sym made.schema) ours_alone in
-    let line : tree_of new.now.schema (codes "line") ≡ 2 = ap (λ s. tree_of s (codes "line")) made.schema in
-    let meta : tree_of new.now.schema (codes "meta") ≡ 0 = ap (λ s. tree_of s (codes "meta")) made.schema in
-    (line_rows_are new.now has made.sound ∙ ap new.now.trees line ∙ made.empty, meta_rows_are new.now has made.sound ∙ ap new.now.trees meta ∙ made.others.0 ∙ empty)
+-- both tables are made, and are empty
+pub makes_both : (before : Database) (old new : State) → HasMeta before old → IsTrue new.in_transaction → IsTrue new.is_open → Creates (with_meta before.schema) (with_ours before.schema) (next_tree (with_meta before.schema)) old new
+    → HasTables before new × (rows_of_meta new.now.trees ≡ [])
+makes_both before old new was mode up made =
+    let schema = before.schema in
+    let has = subst HasOurTables (sym made.schema) (ours_behind before was.room was.was_sound) in
+    let line : tree_of new.now.schema (codes "line") ≡ next_tree (with_meta schema) = ap (λ s. tree_of s (codes "line")) made.schema ∙ line_tree schema was.room in
+    let meta : tree_of new.now.schema (codes "meta") ≡ next_tree schema = ap (λ s. tree_of s (codes "meta")) made.schema ∙ meta_tree schema was.room in
+    let kept : new.now.trees (next_tree schema) ≡ old.now.trees (next_tree schema) =
+    all_has _ (with_meta schema).tables (meta_table (next_tree schema)) made.others (has_right schema.tables _ (meta_table (next_tree schema)) (inl refl)) in (
+      record {
+        mode = mode;
+        is_open = up;
+        room = was.room;
+        ours = has;
+        schema = made.schema;
+        others = kept_then schema.tables _ before.trees old.now.trees new.now.trees was.others made.others;
+        lines = line_rows_are new.now has made.sound ∙ ap new.now.trees line ∙ made.empty;
+        sound = made.sound;
+      },
+      meta_rows_are new.now has made.sound ∙ ap new.now.trees meta ∙ kept ∙ was.meta,
+    )
 
 -- what is filled is a new database
-pub filled_new : (text : List ℕ) (s : State) → IsFilled text s → IsNewDatabase text s.now
-filled_new text s f = record {
+pub filled_new : (before : Database) (text : List ℕ) (s : State) → IsFilled before text s → IsNewDatabase text s.now
+filled_new before text s f = record {
   stored = record {
-    format = record { schema = f.tables.schema; meta = f.meta; lines = subst (AllByRecursion IsLine) (sym f.tables.lines) tt };
+    format = record { schema = f.tables.ours; meta = f.meta; lines = subst (AllByRecursion IsLine) (sym f.tables.lines) tt };
     numbered = subst IsNumbered (sym f.tables.lines) tt;
     sound = f.tables.sound;
   };
@@ -92,8 +100,19 @@ filled_new text s f = record {
 }
 
 -- its commit writes the whole of it, if it gets that far
-pub filled_crash : (text : List ℕ) (old last end : State) → Survives old last (λ _. ⊥) → Survives last end (λ db. db ≡ last.now.trees) → (HasCleanDisk last → HasSchema no_schema old → IsFilled text last)
-    → Survives old end (λ trees. HasSchema no_schema old → IsNewFile text trees)
-filled_crash text old last end one two filled =
-    survives_then old last end (λ _. ⊥) (λ db. db ≡ last.now.trees) (λ trees. HasSchema no_schema old → IsNewFile text trees) (λ _ db none. absurd none)
-    (λ clean db is has. record { db = last.now; trees_are = is; new = filled_new text last (filled (omega (arith, two.clean)) has) }) one two
+pub filled_crash : (text : List ℕ) (old last end : State) → Survives old last (λ _. ⊥) → Survives last end (λ db. db ≡ last.now.trees) → (IsTrue old.is_open → old.now ≡ old.committed)
+    → (HasCleanDisk last → IsTrue last.is_open → IsTrue old.is_open) → (HasCleanDisk last → MayMake old → IsFilled old.now text last) → Survives old end (λ trees. MayMake old → IsNewBeside text old trees)
+filled_crash text old last end one two settled opens filled =
+    survives_then old last end (λ _. ⊥) (λ db. db ≡ last.now.trees) (λ trees. MayMake old → IsNewBeside text old trees) (λ _ db none. absurd none)
+    (λ clean db is may.
+    let early : HasCleanDisk last = omega (arith, two.clean) in
+    let f = filled early may in
+    let up = opens early f.tables.is_open in
+    record {
+      was_open = up;
+      was_settled = settled up;
+      file = record { db = last.now; trees_are = is; new = filled_new old.now text last f };
+      schema = f.tables.schema;
+      others = subst (KeepsRows old.now.schema.tables old.now.trees) (sym is) f.tables.others;
+    })
+    one two

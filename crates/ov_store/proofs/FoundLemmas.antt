@@ -4,7 +4,8 @@ use Rattle.std.proofs.lemmas.Bool.Decides.{nat_tests}
 use Rattle.sqlite.specs.Store.{Ghosts}
 use Rattle.sqlite.specs.Tree.{Trees}
 use Rattle.sqlite.specs.Effect.{Database}
-use Rattle.sqlite.specs.State.{HasCleanDisk, Survives, KeepsCommit, IsUnchanged}
+use Rattle.sqlite.specs.Change.{KeepsRows}
+use Rattle.sqlite.specs.State.{State, HasCleanDisk, Survives, KeepsCommit, IsUnchanged}
 use Rattle.sqlite.specs.Held.{Held as Connected, state}
 use Rattle.ov_specs.specs.rows.Lines.{Contents, LineChange, Lines, after_changes}
 use Rattle.ov_keeper.specs.Keeping.{LeavesNoMore, LeavesChanged, MayLeaveChanged, LeavesRefused, IsCommitFault, changed}
@@ -12,7 +13,7 @@ use Rattle.ov_keeper.specs.declared.fault.KeepFault.{KeepFault}
 use Rattle.ov_keeper.specs.declared.fault.KeepFault.TheVariants.{Memory, Device, NotOurs, Format, TooLarge}
 use Rattle.ov_store.specs.Format.{held, stored_schema, stored_lines, IsMeta, rows_of_meta, rows_of_line}
 use Rattle.ov_store.specs.Changing.{MayBeStored, KeepsOthers, Stores, IsCommitImage}
-use Rattle.ov_store.specs.StoreState.{MayFind, LeavesOthers}
+use Rattle.ov_store.specs.StoreState.{MayFind, LeavesOthers, LeavesTables}
 use Rattle.ov_store.specs.Making.{IsNew}
 use Rattle.ov_store.proofs.OpenLemmas.{schema_is}
 use Rattle.std.specs.FinMap.{empty}
@@ -124,6 +125,15 @@ module _ {S : Type 0} (g : Ghosts S) (settled : (s : S) (db : Trees) → IsTrue 
   pub found_is : (c : Connected S) → IsTrue (state g c).is_open → (state g c).now ≡ (state g c).committed → (contents : Contents) → MayFind g c contents → contents ≡ held (state g c).now.trees
   found_is c up same contents found = found.2 ∙ ap held (settled c.store found.0 up found.1) ∙ sym (ap (λ (d : Database). held d.trees) same)
 
-  pub new_found : (text : List ℕ) (c : Connected S) → IsNew text (state g c) → (contents : Contents) → MayFind g c contents → contents ≡ record { schema = text; lines = empty }
-  new_found text c new contents found =
+  pub new_found : (text : List ℕ) (old : State) (c : Connected S) → IsNew text old (state g c) → (contents : Contents) → MayFind g c contents → contents ≡ record { schema = text; lines = empty }
+  new_found text old c new contents found =
       found_is c new.is_open new.settled contents found ∙ held_is text (state g c).now.trees empty new.stored.format.meta (ap stored_lines new.no_line)
+
+  -- new tables beside others
+  pub new_beside : (text : List ℕ) (old new : Connected S) → IsNew text (state g old) (state g new) → LeavesTables g old new
+  new_beside text old new made trees here =
+      let is : (state g new).now.trees ≡ trees = ap (λ (d : Database). d.trees) made.settled ∙ sym (settled new.store trees made.is_open here) in (
+        (g.view old.store).committed,
+        stays old.store made.was_open,
+        subst (λ (before : Database). KeepsRows old.schema.tables before.trees trees) made.was_settled (subst (KeepsRows old.schema.tables (state g old).now.trees) is made.others),
+      )

@@ -17,6 +17,7 @@ pub mod ChangeLemmas
 pub mod RunLemmas
 pub mod FoundLemmas
 pub mod ReadLemmas
+pub mod RoomLemmas
 pub mod CreateLemmas
 pub mod MetaLemmas
 pub mod OpenLemmas

@@ -1,47 +1,23 @@
 -- What `sqlite` understands each text over `line` as, wherever the table stands.
-use Rattle.std.proofs.Common.{◌≡◌, ℕ, zero, suc, Bool, List, [], ◌∷◌, codes, false, true, Option, None, Some, Result, Ok, Err, refl, slice_get, find, nat_lt, nat_le, ◌==◌, ◌^◌, pos, negsuc}
+use Rattle.std.proofs.Common.{◌≡◌, ℕ, Bool, List, [], ◌∷◌, codes, false, true, Option, None, Some, Ok, refl, pos, negsuc}
 use Rattle.sqlite.specs.Collation.TheVariants.{Binary}
-use Rattle.sqlite.specs.declared.types.Value.TheVariants.{Null, Int}
-use Rattle.sqlite.specs.Kind.{Kind}
-use Rattle.sqlite.specs.Kind.TheVariants.{Text, Any}
-use Rattle.sqlite.specs.Term.{Term, lit, col, op2}
-use Rattle.sqlite.specs.Query.{inner, end}
-use Rattle.sqlite_sql.specs.declared.ops.BinaryOp.TheVariants.{Compare}
-use Rattle.sqlite_sql.specs.declared.ops.CompareOp.TheVariants.{Eq}
+use Rattle.sqlite.specs.declared.types.Value.TheVariants.{Int}
+use Rattle.sqlite.specs.Term.{Term, lit, col}
 use Rattle.sqlite_tied.specs.Compute.{everything}
-use Rattle.sqlite.specs.Table.{Table}
 use Rattle.sqlite.specs.Schema.{Schema}
-use Rattle.sqlite_schema.specs.declared.schema.Column.{Column}
-use Rattle.sqlite_schema.specs.Names.{same_name, table_named, view_named, index_named}
-use Rattle.sqlite_ast.specs.declared.TableBody.{TableBody}
-use Rattle.sqlite_ast.specs.declared.CreateTable.{CreateTable}
-use Rattle.sqlite_resolve.specs.Define as define
-use Rattle.sqlite_schema.specs.declared.command.Command.TheVariants.{CreateTable as MakeTable}
-use Rattle.sqlite_schema.specs.declared.command.Command.{Command}
 use Rattle.sqlite_schema.specs.declared.command.Command.TheVariants.{Insert, Update, Delete, Select}
 use Rattle.sqlite_schema.specs.declared.command.Source.TheVariants.{Values}
-use Rattle.sqlite_schema.specs.declared.program.Program.{Program}
-use Rattle.sqlite_resolve.specs.declared.write.NewRows.TheVariants as rows_given
 use Rattle.sqlite_resolve.specs.declared.scope.Output.{Output}
 use Rattle.sqlite_resolve.specs.declared.state.Carried.{Carried}
-use Rattle.sqlite_resolve.specs.declared.compiled.Compiled.{Compiled}
 use Rattle.sqlite.specs.Listing.{understood, reads_listing}
-use Rattle.sqlite_draft.specs.Query.{query_of}
-use Rattle.sqlite_syntax.specs.declared.statement.Parsed.{Parsed}
 use Rattle.sqlite_ast.specs.declared.Expr.{Expr}
 use Rattle.sqlite_ast.specs.declared.Expr.TheVariants as expr
-use Rattle.sqlite_ast.specs.declared.Binary.TheVariants as binary
 use Rattle.sqlite_ast.specs.declared.Rows.TheVariants as rows
-use Rattle.sqlite_ast.specs.declared.Conflict.TheVariants as conflict
 use Rattle.sqlite_ast.specs.declared.Shown.{Shown}
-use Rattle.sqlite_ast.specs.declared.Shown.TheVariants as shown
 use Rattle.sqlite_ast.specs.declared.Origin.TheVariants as origin
 use Rattle.sqlite_ast.specs.declared.Select as ast_select
 use Rattle.sqlite_ast.specs.declared.Core as ast_core
 use Rattle.sqlite_ast.specs.declared.Source as ast_source
-use Rattle.sqlite_ast.specs.declared.Statement.TheVariants as written
-use Rattle.sqlite_ast.specs.declared.Statement.{Statement}
-use Rattle.sqlite_ast.specs.declared.Statement.{Statement}
 use Rattle.sqlite_resolve.specs.declared.state.State.{State}
 use Rattle.ov_store.proofs.Compiling.{lowering, written_parts}
 use Rattle.sqlite_resolve.specs.Compile.{first, new_rows}
@@ -59,15 +35,13 @@ use Rattle.sqlite_draft.specs.declared.join.Step.TheVariants.{Inner}
 use Rattle.sqlite.specs.Collation.{Collation}
 use Rattle.std.proofs.Common.{◌-◌, subst, sym}
 use Rattle.sqlite_resolve.specs.Program.{program, query}
-use Rattle.sqlite_resolve.specs.Lowering.{Checked}
-use Rattle.sqlite_resolve.specs.Scope.{Context, column, Name}
+use Rattle.sqlite_resolve.specs.Scope.{Context, column}
 use Rattle.sqlite_resolve.specs.Compare.{affinity_of}
 use Rattle.sqlite_resolve.specs.declared.compare.Affinity.TheVariants as affinity
 use Rattle.sqlite_resolve.specs.Write.{deleted, updated, over}
-use Rattle.sqlite_draft.specs.declared.query.Draft.{Draft}
 use Rattle.ov_store.specs.Tables.{line_table, insert_text, delete_text, update_text, select_text}
 use Rattle.ov_store.proofs.TableLemmas.{Stands}
-use Rattle.ov_store.proofs.Statements.{named, shows, key_test, source_of, core_of, selection, does, drafts, plain_carried, free_carried, within, insert_terms, deletes, changes, selects, runs, insert_parsed, insert_first, delete_parsed, delete_first, update_parsed, update_first, select_parsed, select_first}
+use Rattle.ov_store.proofs.Statements.{named, shows, key_test, source_of, core_of, selection, does, plain_carried, free_carried, within, insert_terms, deletes, changes, selects, runs, insert_parsed, insert_first, delete_parsed, delete_first, update_parsed, update_first, select_parsed, select_first}
 
 module _ (schema : Schema) (at l : ℕ) (it : Stands schema (line_table l) at) where
   abbrev line_cx : List Output → Bool → Bool → Context

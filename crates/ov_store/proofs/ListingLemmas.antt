@@ -7,12 +7,11 @@ use Rattle.sqlite_trees.specs.Tree.{Trees, rowid}
 use Rattle.sqlite_trees.specs.Objects.{catalog_tree, number_in}
 use Rattle.sqlite_schema.specs.Names.{same_name}
 use Rattle.sqlite.specs.Table.{Table}
-use Rattle.sqlite.specs.Schema.{Schema}
 use Rattle.sqlite_schema.specs.declared.schema.Index.{Index}
 use Rattle.sqlite_schema.specs.declared.schema.Keys.{Keys}
 use Rattle.sqlite_rules.specs.Edit.{Edit, Applies, IsNoIndex}
 use Rattle.sqlite_rules.proofs.ListLemmas.{all_has}
-use Rattle.sqlite_catalog.specs.Listing.{IsTableRow, IsIndexRow, is_table_row, is_index_row}
+use Rattle.sqlite_catalog.specs.Listing.{IsTableRow, IsIndexRow, is_table_row}
 use Rattle.sqlite.specs.Effect.{Database, IsDatabase}
 use Rattle.ov_store.specs.Tables.{meta_table, line_table, tree_of, HasTable, HasOurTables}
 use Rattle.ov_store.specs.Format.{lists_table, tree_listed, rows_of, rows_of_meta, rows_of_line}

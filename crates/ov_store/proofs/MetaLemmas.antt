@@ -1,8 +1,9 @@
 -- What the INSERT into `meta` does, and what the rows of `meta` give.
-use Rattle.std.proofs.Common.{◌≡◌, inl, inr, ℕ, ℤ, List, [], ◌∷◌, true, false, not, ◌&&◌, ◌||◌, None, Ok, refl, sym, ap, subst, ◌∙◌, codes, IsUtf8}
+use Rattle.std.proofs.Common.{◌≡◌, ◌≢◌, inl, inr, ℕ, ℤ, List, [], ◌∷◌, true, false, not, ◌&&◌, ◌||◌, Ok, refl, sym, ap, subst, ◌∙◌, codes, IsUtf8}
 use Rattle.std.specs.declared.cmp.Ordering.{Ordering}
 use Rattle.std.specs.declared.cmp.Ordering.TheVariants.{Less, Equal, Greater}
 use Rattle.std.specs.Ordering.{is_eq, match_ordering}
+use Rattle.std.specs.List.{AllByRecursion}
 use Rattle.sqlite.specs.declared.types.Value.TheVariants.{Int, Text, Blob}
 use Rattle.sqlite.specs.Order.{Row, value_cmp}
 use Rattle.sqlite.specs.Source.TheVariants.{Values}
@@ -32,6 +33,7 @@ pub record InsertsMeta (k v : List ℕ) (old new : State) : Type 0 where
   pub number : ℤ
   pub rows : rows_of_meta new.now.trees ≡ put_row (meta_row number k v) (rows_of_meta old.now.trees)
   pub fresh : are_fresh (rows_of_meta old.now.trees) (meta_row number k v ∷ []) ≡ true
+  pub others : AllByRecursion (λ t. t.tree ≢ tree_of old.now.schema (codes "meta") → new.now.trees t.tree ≡ old.now.trees t.tree) old.now.schema.tables
   pub sound : IsDatabase new.now
 
 pub inserts_meta : (old new : State) (k v : List ℕ) (count : ℕ) → HasOurTables old.now.schema → IsDatabase old.now → Executes meta_insert_text (Text k ∷ Blob v ∷ []) old new (Ok count) → InsertsMeta k v old new
@@ -64,6 +66,7 @@ inserts_meta old new k v count has sound h =
       number = n;
       rows = ap rows_of_meta path ∙ meta_after old.now has sound _ edit written.0 step refl ∙ step.rows ∙ ap (λ all. Rattle.sqlite_rules.specs.Edit.put_all (db m) all) news ∙ ap (put_row (meta_row n k v)) was;
       fresh = ap (λ rows. are_fresh rows (meta_row n k v ∷ [])) (sym was) ∙ ap (are_fresh (db m)) (sym news) ∙ step.fresh;
+      others = subst (λ (trees : Trees). AllByRecursion (λ t. t.tree ≢ m → trees t.tree ≡ db t.tree) schema.tables) (sym path) step.tables;
       sound = w.sound;
     }
 

@@ -1,31 +1,18 @@
 -- The statements as they are parsed. Their terms are written out, so that what they ask for needs no text.
-use Rattle.std.proofs.Common.{◌≡◌, ℕ, zero, suc, Bool, List, [], ◌∷◌, codes, false, true, Option, None, Some, Result, Ok, Err, refl, slice_get, find, nat_lt, nat_le, ◌==◌, ◌^◌, pos, negsuc}
+use Rattle.std.proofs.Common.{◌≡◌, ℕ, Bool, List, [], ◌∷◌, codes, false, None, Some, Ok, refl, pos, negsuc}
 use Rattle.sqlite.specs.Collation.TheVariants.{Binary}
 use Rattle.sqlite.specs.declared.types.Value.TheVariants.{Null, Int}
-use Rattle.sqlite.specs.Kind.{Kind}
-use Rattle.sqlite.specs.Kind.TheVariants.{Text, Any}
 use Rattle.sqlite.specs.Term.{Term, lit, col, op2}
 use Rattle.sqlite.specs.Query.{inner, end}
 use Rattle.sqlite_sql.specs.declared.ops.BinaryOp.TheVariants.{Compare}
 use Rattle.sqlite_sql.specs.declared.ops.CompareOp.TheVariants.{Eq}
 use Rattle.sqlite_tied.specs.Compute.{everything}
-use Rattle.sqlite.specs.Table.{Table}
 use Rattle.sqlite.specs.Schema.{Schema}
-use Rattle.sqlite_schema.specs.declared.schema.Column.{Column}
-use Rattle.sqlite_schema.specs.Names.{same_name, table_named, view_named, index_named}
-use Rattle.sqlite_ast.specs.declared.TableBody.{TableBody}
-use Rattle.sqlite_ast.specs.declared.CreateTable.{CreateTable}
-use Rattle.sqlite_resolve.specs.Define as define
-use Rattle.sqlite_schema.specs.declared.command.Command.TheVariants.{CreateTable as MakeTable}
 use Rattle.sqlite_schema.specs.declared.command.Command.{Command}
-use Rattle.sqlite_schema.specs.declared.command.Command.TheVariants.{Insert, Update, Delete, Select}
-use Rattle.sqlite_schema.specs.declared.command.Source.TheVariants.{Values}
 use Rattle.sqlite_schema.specs.declared.program.Program.{Program}
-use Rattle.sqlite_resolve.specs.declared.write.NewRows.TheVariants as rows_given
 use Rattle.sqlite_resolve.specs.declared.scope.Output.{Output}
 use Rattle.sqlite_resolve.specs.declared.state.Carried.{Carried}
 use Rattle.sqlite_resolve.specs.declared.compiled.Compiled.{Compiled}
-use Rattle.sqlite.specs.Listing.{understood, reads_listing}
 use Rattle.sqlite_draft.specs.Query.{query_of}
 use Rattle.sqlite_syntax.specs.declared.statement.Parsed.{Parsed}
 use Rattle.sqlite_ast.specs.declared.Expr.{Expr}
@@ -40,30 +27,8 @@ use Rattle.sqlite_ast.specs.declared.Select as ast_select
 use Rattle.sqlite_ast.specs.declared.Core as ast_core
 use Rattle.sqlite_ast.specs.declared.Source as ast_source
 use Rattle.sqlite_ast.specs.declared.Statement.TheVariants as written
-use Rattle.sqlite_ast.specs.declared.Statement.{Statement}
-use Rattle.sqlite_ast.specs.declared.Statement.{Statement}
-use Rattle.sqlite_resolve.specs.declared.state.State.{State}
-use Rattle.ov_store.proofs.Compiling.{lowering, written_parts}
-use Rattle.sqlite_resolve.specs.Compile.{first, new_rows}
-use Rattle.sqlite_resolve.specs.Body.{heading, table_in, bounds, result, matching, body}
-use Rattle.sqlite_resolve.specs.Select.{outermost, parts, paging}
-use Rattle.sqlite_resolve.specs.Select as resolved
-use Rattle.sqlite_resolve.specs.Expr.{lower}
-use Rattle.sqlite_resolve.specs.Program.{Building, Shown as Query, viewing, or_view, alone, query_to, level as program_level}
-use Rattle.sqlite_resolve.specs.Lowering.{fresh, max_budget}
-use Rattle.sqlite_resolve.specs.declared.scope.Bound.{Bound}
-use Rattle.sqlite_resolve.specs.declared.scope.Level.{Level}
-use Rattle.sqlite_resolve.specs.declared.body.Body.{Body}
-use Rattle.sqlite_resolve.specs.declared.select.Clauses.{Clauses}
-use Rattle.sqlite_draft.specs.declared.join.Step.TheVariants.{Inner}
-use Rattle.sqlite.specs.Collation.{Collation}
-use Rattle.std.proofs.Common.{◌-◌, subst, sym}
-use Rattle.sqlite_resolve.specs.Program.{program, query}
-use Rattle.sqlite_resolve.specs.Lowering.{Checked}
-use Rattle.sqlite_resolve.specs.Scope.{Context, column, Name}
-use Rattle.sqlite_resolve.specs.Compare.{affinity_of}
-use Rattle.sqlite_resolve.specs.declared.compare.Affinity.TheVariants as affinity
-use Rattle.sqlite_resolve.specs.Write.{deleted, updated, over}
+use Rattle.sqlite_resolve.specs.Compile.{first}
+use Rattle.sqlite_resolve.specs.Scope.{Context}
 use Rattle.sqlite_draft.specs.declared.query.Draft.{Draft}
 use Rattle.ov_store.specs.Tables.{insert_text, meta_insert_text, delete_text, update_text, select_text, meta_select_text}
 

@@ -10,7 +10,7 @@ use Rattle.sqlite_schema.specs.declared.schema.Reference.{Reference}
 use Rattle.sqlite_schema.specs.Names.{same_name, table_named}
 use Rattle.sqlite_schema.specs.Rules.{key_in, key_places, declared_order}
 use Rattle.sqlite_rules.specs.Lists.{Has}
-use Rattle.sqlite_rules.specs.Action.{works, work_for, work_by, deed_for, pairs, Writes}
+use Rattle.sqlite_rules.specs.Action.{work_for, work_by, deed_for, pairs, Writes}
 use Rattle.sqlite_rules.specs.Edit.{Edit, taken_by, Applies}
 use Rattle.sqlite_trees.specs.Tree.{Trees}
 use Rattle.sqlite.proofs.Callers.{one_step}
@@ -27,7 +27,7 @@ pub record Stands (schema : Schema) (table : Table) (at : ℕ) : Type 0 where
 
 module _ {X : Type 0} (p : X → Bool) where
   -- what is found stands at a place
-  found_place : (from : ℕ) (xs : List X) (x : X) → find p xs ≡ Some x → (at : ℕ) × (position_from p from xs ≡ Some (from + at)) × (slice_get xs at ≡ Some x)
+  pub found_place : (from : ℕ) (xs : List X) (x : X) → find p xs ≡ Some x → (at : ℕ) × (position_from p from xs ≡ Some (from + at)) × (slice_get xs at ≡ Some x)
   found_place from [] x h = absurd cc
   found_place from (y ∷ xs) x h = go (p y) (found_place (from + 1) xs x) h
     where

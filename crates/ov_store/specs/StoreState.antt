@@ -4,6 +4,7 @@ use Rattle.std.specs.Coded.{Coded, code_by, coded×, coded_ℕ, coded_list}
 use Rattle.sqlite.specs.Store.{Ghosts}
 use Rattle.sqlite.specs.Tree.{Trees}
 use Rattle.sqlite.specs.State.{HasCleanDisk}
+use Rattle.sqlite.specs.Change.{KeepsRows}
 use Rattle.sqlite.specs.Held.{Held as Connected, held_code, state}
 use Rattle.ov_specs.specs.rows.Lines.{Contents}
 use Rattle.ov_store.specs.Format.{held}
@@ -32,3 +33,7 @@ module _ {S : Type 0} (g : Ghosts S) where
   -- whatever an open may find now, beside the lines it is what one might have found before
   abbrev pub LeavesOthers : Connected S → Connected S → Type 0
   LeavesOthers old new = (trees : Trees) → (state g new).may_leave trees → (before : Trees) × (state g old).may_leave before × KeepsOthers old.schema before trees
+
+  -- whatever an open may find now has the rows of each table that there was, as one might have found them before
+  abbrev pub LeavesTables : Connected S → Connected S → Type 0
+  LeavesTables old new = (trees : Trees) → (state g new).may_leave trees → (before : Trees) × (state g old).may_leave before × KeepsRows old.schema.tables before trees

@@ -11,7 +11,8 @@ use Rattle.sqlite_schema.specs.declared.schema.Column.{Column}
 use Rattle.sqlite_schema.specs.declared.schema.Index.{Index}
 use Rattle.sqlite_schema.specs.declared.schema.Reference.{Reference}
 use Rattle.sqlite_schema.specs.Names.{same_name}
-use Rattle.sqlite.specs.Change.{created}
+use Rattle.sqlite.specs.Change.{created, is_used}
+use Rattle.sqlite.specs.Does.{lacks_sequence}
 
 -- a column without rules (SQLite: CREATE TABLE)
 abbrev pub loose : List ℕ → Kind → Column
@@ -50,9 +51,25 @@ line_table tree = plain_table (codes "line") tree (loose (codes "tbl") Text ∷ 
 abbrev pub no_schema : Schema
 no_schema = record { tables = []; indexes = []; views = [] }
 
--- the schema with the first table alone
-abbrev pub meta_schema : Schema
-meta_schema = created no_schema (meta_table 0)
+-- the schema with `meta` behind all that there is, as CREATE TABLE makes it
+abbrev pub with_meta : Schema → Schema
+with_meta schema = created schema (meta_table 0)
+
+-- the schema with both tables behind all that there is
+abbrev pub with_ours : Schema → Schema
+with_ours schema = created (with_meta schema) (line_table 0)
+
+-- a foreign key that names one of the two, which need not be there
+abbrev pub names_ours : Reference → Bool
+names_ours ref = same_name (codes "meta") ref.parent || same_name (codes "line") ref.parent
+
+-- there is room for the two: no table, index or view has one of their names, and no foreign key names one. Where rows are
+-- counted, the table of the counts is there, so that none is made besides (SQLite: AUTOINCREMENT, sqlite_sequence)
+pub record HasRoom (schema : Schema) : Type 0 where
+  pub meta : is_used schema (codes "meta") ≡ false
+  pub line : is_used schema (codes "line") ≡ false
+  pub keys : list_any (λ t. list_any names_ours t.references) schema.tables ≡ false
+  pub counts : lacks_sequence schema ≡ false
 
 -- the table of this name, as SQLite looks for it
 abbrev pub table_of : Schema → List ℕ → Option Table

@@ -18,6 +18,7 @@ mod meta;
 mod open;
 mod over;
 mod query;
+mod room;
 mod rows;
 mod schema;
 mod store;

@@ -3,9 +3,8 @@
 ghost use Rattle.std.specs.Prelude.{◌≡◌, false, [], IsTrue, IfErr, OnOk, OnErr};
 ghost use Rattle.sqlite.specs.State.{HasCleanDisk, Survives, KeepsCommit};
 ghost use Rattle.sqlite.specs.Held.{state};
-ghost use Rattle.ov_store.specs.Tables.{no_schema};
 ghost use Rattle.ov_store.specs.Format.{rows_of_meta};
-ghost use Rattle.ov_store.specs.Making.{HasSchema, HasMeta, HasTables, AddsMeta, IsFilled, IsNew, IsNewFile};
+ghost use Rattle.ov_store.specs.Making.{MayMake, HasMeta, HasTables, AddsMeta, IsFilled, IsNew, IsNewBeside};
 ghost use Rattle.ov_store.specs.WriteError.{IsBefore};
 
 use crate::write::WriteError;
@@ -21,8 +20,8 @@ pub(crate) const CREATE_LINE: &str =
 
 fn make_meta<S: Alter>(tx: &mut Transaction<'_, S>) -> Result<(), Error>
     ensures same_reference { tx.new.conn.ghost_name ≡ tx.old.conn.ghost_name }
-    ensures ok { HasCleanDisk (state S.Store tx.new.conn.now) → IsTrue (state S.Store tx.old.conn.now).in_transaction → HasSchema no_schema (state S.Store tx.old.conn.now)
-        → OnOk result (HasMeta (state S.Store tx.new.conn.now)) }
+    ensures ok { HasCleanDisk (state S.Store tx.new.conn.now) → IsTrue (state S.Store tx.old.conn.now).in_transaction → MayMake (state S.Store tx.old.conn.now)
+        → OnOk result (HasMeta (state S.Store tx.old.conn.now).now (state S.Store tx.new.conn.now)) }
     ensures kept { HasCleanDisk (state S.Store tx.new.conn.now) → KeepsCommit (state S.Store tx.old.conn.now) (state S.Store tx.new.conn.now) }
     ensures survives { Survives (state S.Store tx.old.conn.now) (state S.Store tx.new.conn.now) (λ _. ⊥) }
 {
@@ -32,8 +31,8 @@ fn make_meta<S: Alter>(tx: &mut Transaction<'_, S>) -> Result<(), Error>
 
 fn make_line<S: Alter>(tx: &mut Transaction<'_, S>) -> Result<(), Error>
     ensures same_reference { tx.new.conn.ghost_name ≡ tx.old.conn.ghost_name }
-    ensures ok { HasCleanDisk (state S.Store tx.new.conn.now) → IsTrue (state S.Store tx.old.conn.now).in_transaction → HasMeta (state S.Store tx.old.conn.now)
-        → OnOk result (HasTables (state S.Store tx.new.conn.now) × (rows_of_meta (state S.Store tx.new.conn.now).now.trees ≡ [])) }
+    ensures ok { HasCleanDisk (state S.Store tx.new.conn.now) → IsTrue (state S.Store tx.old.conn.now).in_transaction → (before : _) → HasMeta before (state S.Store tx.old.conn.now)
+        → OnOk result (HasTables before (state S.Store tx.new.conn.now) × (rows_of_meta (state S.Store tx.new.conn.now).now.trees ≡ [])) }
     ensures kept { HasCleanDisk (state S.Store tx.new.conn.now) → KeepsCommit (state S.Store tx.old.conn.now) (state S.Store tx.new.conn.now) }
     ensures survives { Survives (state S.Store tx.old.conn.now) (state S.Store tx.new.conn.now) (λ _. ⊥) }
 {
@@ -43,8 +42,8 @@ fn make_line<S: Alter>(tx: &mut Transaction<'_, S>) -> Result<(), Error>
 
 fn insert_meta<S: Alter>(tx: &mut Transaction<'_, S>, key: &str, value: &[u8]) -> Result<(), Error>
     ensures same_reference { tx.new.conn.ghost_name ≡ tx.old.conn.ghost_name }
-    ensures ok { HasCleanDisk (state S.Store tx.new.conn.now) → IsTrue (state S.Store tx.old.conn.now).in_transaction → HasTables (state S.Store tx.old.conn.now)
-        → OnOk result (AddsMeta key.now value.now (state S.Store tx.old.conn.now) (state S.Store tx.new.conn.now)) }
+    ensures ok { HasCleanDisk (state S.Store tx.new.conn.now) → IsTrue (state S.Store tx.old.conn.now).in_transaction → (before : _) → HasTables before (state S.Store tx.old.conn.now)
+        → OnOk result (AddsMeta before key.now value.now (state S.Store tx.old.conn.now) (state S.Store tx.new.conn.now)) }
     ensures kept { HasCleanDisk (state S.Store tx.new.conn.now) → KeepsCommit (state S.Store tx.old.conn.now) (state S.Store tx.new.conn.now) }
     ensures survives { Survives (state S.Store tx.old.conn.now) (state S.Store tx.new.conn.now) (λ _. ⊥) }
 {
@@ -58,8 +57,8 @@ fn insert_meta<S: Alter>(tx: &mut Transaction<'_, S>, key: &str, value: &[u8]) -
 /// Writes the two rows of `meta`.
 fn fill_meta<S: Alter>(tx: &mut Transaction<'_, S>, schema: &Text) -> Result<(), Error>
     ensures same_reference { tx.new.conn.ghost_name ≡ tx.old.conn.ghost_name }
-    ensures ok { HasCleanDisk (state S.Store tx.new.conn.now) → IsTrue (state S.Store tx.old.conn.now).in_transaction → HasTables (state S.Store tx.old.conn.now) → rows_of_meta (state S.Store tx.old.conn.now).now.trees ≡ []
-        → OnOk result (IsFilled schema.now (state S.Store tx.new.conn.now)) }
+    ensures ok { HasCleanDisk (state S.Store tx.new.conn.now) → IsTrue (state S.Store tx.old.conn.now).in_transaction → (before : _) → HasTables before (state S.Store tx.old.conn.now) → rows_of_meta (state S.Store tx.old.conn.now).now.trees ≡ []
+        → OnOk result (IsFilled before schema.now (state S.Store tx.new.conn.now)) }
     ensures kept { HasCleanDisk (state S.Store tx.new.conn.now) → KeepsCommit (state S.Store tx.old.conn.now) (state S.Store tx.new.conn.now) }
     ensures survives { Survives (state S.Store tx.old.conn.now) (state S.Store tx.new.conn.now) (λ _. ⊥) }
 {
@@ -71,8 +70,8 @@ fn fill_meta<S: Alter>(tx: &mut Transaction<'_, S>, schema: &Text) -> Result<(),
 /// Makes both tables and fills `meta`.
 fn make_all<S: Alter>(tx: &mut Transaction<'_, S>, schema: &Text) -> Result<(), Error>
     ensures same_reference { tx.new.conn.ghost_name ≡ tx.old.conn.ghost_name }
-    ensures ok { HasCleanDisk (state S.Store tx.new.conn.now) → IsTrue (state S.Store tx.old.conn.now).in_transaction → HasSchema no_schema (state S.Store tx.old.conn.now)
-        → OnOk result (IsFilled schema.now (state S.Store tx.new.conn.now)) }
+    ensures ok { HasCleanDisk (state S.Store tx.new.conn.now) → IsTrue (state S.Store tx.old.conn.now).in_transaction → MayMake (state S.Store tx.old.conn.now)
+        → OnOk result (IsFilled (state S.Store tx.old.conn.now).now schema.now (state S.Store tx.new.conn.now)) }
     ensures kept { HasCleanDisk (state S.Store tx.new.conn.now) → KeepsCommit (state S.Store tx.old.conn.now) (state S.Store tx.new.conn.now) }
     ensures survives { Survives (state S.Store tx.old.conn.now) (state S.Store tx.new.conn.now) (λ _. ⊥) }
 {
@@ -81,15 +80,18 @@ fn make_all<S: Alter>(tx: &mut Transaction<'_, S>, schema: &Text) -> Result<(), 
     fill_meta(tx, schema)
 }
 
-/// Makes the database of a schema's text and no line, in one transaction.
+/// Makes the two tables behind all that there is, of a schema's text and no line, in one transaction.
 pub(crate) fn make<S: Alter>(conn: &mut Connection<S>, schema: &Text) -> Result<(), WriteError>
     requires { conn.old.in_transaction ≡ false }
     ensures mode { conn.new.in_transaction ≡ false }
-    ensures ok { HasCleanDisk (state S.Store conn.new) → HasSchema no_schema (state S.Store conn.old) → OnOk result (IsNew schema.now (state S.Store conn.new)) }
+    ensures settled { IsTrue (state S.Store conn.old).is_open → (state S.Store conn.old).now ≡ (state S.Store conn.old).committed }
+    ensures ok { HasCleanDisk (state S.Store conn.new) → MayMake (state S.Store conn.old) → OnOk result (IsNew schema.now (state S.Store conn.old) (state S.Store conn.new)) }
     ensures before { IfErr result (λ s. IsBefore s → Survives (state S.Store conn.old) (state S.Store conn.new) (λ _. ⊥)) }
-    ensures crash { Survives (state S.Store conn.old) (state S.Store conn.new) (λ trees. HasSchema no_schema (state S.Store conn.old) → IsNewFile schema.now trees) }
+    ensures crash { Survives (state S.Store conn.old) (state S.Store conn.new) (λ trees. MayMake (state S.Store conn.old) → IsNewBeside schema.now (state S.Store conn.old) trees) }
     ensures unmoved { HasCleanDisk (state S.Store conn.new) → OnErr result (KeepsCommit (state S.Store conn.old) (state S.Store conn.new)) }
 {
+    // Its clause says that all is committed.
+    let _before = conn.is_autocommit();
     let mut tx = conn.transaction();
     match make_all(&mut tx, schema) {
         Ok(()) => {}

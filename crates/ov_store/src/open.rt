@@ -4,19 +4,20 @@ ghost use Rattle.std.specs.FinMap.{empty};
 ghost use Rattle.sqlite.specs.State.{HasCleanDisk, Survives};
 ghost use Rattle.sqlite.specs.Held.{state};
 ghost use Rattle.ov_keeper.specs.Keeping.{IsCommitFault};
-ghost use Rattle.ov_store.specs.Tables.{no_schema, HasOurTables};
+ghost use Rattle.ov_store.specs.Tables.{with_ours, HasRoom, HasOurTables};
 ghost use Rattle.ov_store.specs.Format.{IsLine, IsMeta, IsFormat, rows_of_meta, rows_of_line};
 ghost use Rattle.ov_store.specs.Changing.{IsNumbered, IsStored};
-ghost use Rattle.ov_store.specs.Making.{HasSchema, IsNew, IsNewFile};
+ghost use Rattle.ov_store.specs.Making.{MayMake, IsNew, IsNewBeside};
 ghost use Rattle.ov_store.specs.Querying.{IsAsBefore};
-ghost use Rattle.ov_store.specs.StoreState.{MayFind};
+ghost use Rattle.ov_store.specs.StoreState.{MayFind, LeavesTables};
 
 use crate::commit::{fault_at, fault_of};
 use crate::make::make;
 use crate::meta::schema_text_of;
 use crate::query::{line_rows, meta_rows};
+use crate::room::has_room;
 use crate::rows::test_rows;
-use crate::schema::{is_blank, is_ours};
+use crate::schema::is_ours;
 use crate::store::Store;
 use crate::unopened::Unopened;
 use ov_base::Text;
@@ -49,22 +50,22 @@ fn read_meta<S: Alter>(alloc: Global, conn: &mut Connection<S>) -> Result<Text, 
     }
 }
 
-/// Makes the database, or tells why there is none.
+/// Makes the tables, or tells why there are none.
 fn make_new<S: Alter>(conn: &mut Connection<S>, schema: &Text) -> Result<(), KeepFault>
     requires { conn.old.in_transaction ≡ false }
     ensures mode { conn.new.in_transaction ≡ false }
-    ensures ok { HasCleanDisk (state S.Store conn.new) → HasSchema no_schema (state S.Store conn.old) → OnOk result (IsNew schema.now (state S.Store conn.new)) }
+    ensures ok { HasCleanDisk (state S.Store conn.new) → MayMake (state S.Store conn.old) → OnOk result (IsNew schema.now (state S.Store conn.old) (state S.Store conn.new)) }
     ensures honest { HasCleanDisk (state S.Store conn.new) → HasCleanDisk (state S.Store conn.old) }
     ensures kinds { IfErr result IsCommitFault }
     ensures same { HasCleanDisk (state S.Store conn.new) → OnErr result (IsAsBefore (state S.Store conn.old) (state S.Store conn.new)) }
-    ensures left { HasSchema no_schema (state S.Store conn.old) → IfErr result (λ fault. Survives (state S.Store conn.old) (state S.Store conn.new) (λ trees. (fault ≡ KeepFault.Device) × IsNewFile schema.now trees)) }
+    ensures left { MayMake (state S.Store conn.old)
+        → IfErr result (λ fault. Survives (state S.Store conn.old) (state S.Store conn.new) (λ trees. (fault ≡ KeepFault.Device) × IsNewBeside schema.now (state S.Store conn.old) trees)) }
 {
-    // Its clause says that all is committed, here and below.
-    let _before = conn.is_autocommit();
     let Err(failure) = make(conn, schema) else {
         return Ok(());
     };
     let fault = fault_at(conn, &failure);
+    // Its clause says that all is committed.
     let _after = conn.is_autocommit();
     Err(fault)
 }
@@ -112,21 +113,24 @@ fn test_format<S: Alter>(alloc: Global, conn: &mut Connection<S>) -> Result<Text
 }
 
 impl<S: Alter + Drop> Store<S> {
-    /// Makes the tables of stored format 1 with this text of a schema and no line, in a database that has nothing:
-    /// `NotOurs` where it has a table, an index or a view. A refusal leaves the connection with what it held. After
-    /// `Device` a crash may leave the new database, and never a part of it; after the others what it left before.
+    /// Makes the tables of stored format 1 with this text of a schema and no line, behind whatever else there is, which
+    /// stays as it is. `NotOurs` where a table, an index or a view has the name of one of the two, where a foreign key names
+    /// one, or where rows are counted and SQLite's table of the counts is missing. A refusal leaves the connection with what
+    /// it held. After `Device` a crash may leave both tables, and never a part of them; after the others what it left before.
     pub fn create(mut connection: Connection<S>, schema: Text) -> Result<Store<S>, Unopened<S>>
         requires { connection.in_transaction ≡ false }
         ensures ok { IfOk result (λ s. HasCleanDisk (state S.Store s.connection) → (contents : _) → MayFind S.Store s.connection contents → contents ≡ record { schema = schema; lines = empty }) }
         ensures honest { IfOk result (λ s. HasCleanDisk (state S.Store s.connection) → HasCleanDisk (state S.Store connection)) }
         ensures fresh { IfOk result (λ s. (s.schema ≡ schema) × (s.failures ≡ 0)) }
-        ensures blank { IfOk result (λ s. connection.schema ≡ no_schema) }
-        ensures ours { IfErr result (λ e. (e.fault ≡ KeepFault.NotOurs) ↔ (connection.schema ≢ no_schema)) }
+        ensures room { IfOk result (λ s. HasRoom connection.schema) }
+        ensures beside { IfOk result (λ s. HasCleanDisk (state S.Store s.connection) → s.connection.schema ≡ with_ours connection.schema) }
+        ensures others { IfOk result (λ s. HasCleanDisk (state S.Store s.connection) → LeavesTables S.Store connection s.connection) }
+        ensures ours { IfErr result (λ e. (e.fault ≡ KeepFault.NotOurs) ↔ (¬ HasRoom connection.schema)) }
         ensures format { IfErr result (λ e. e.fault ≢ KeepFault.Format) }
         ensures same { IfErr result (λ e. HasCleanDisk (state S.Store e.connection) → IsAsBefore (state S.Store connection) (state S.Store e.connection)) }
-        ensures left { IfErr result (λ e. Survives (state S.Store connection) (state S.Store e.connection) (λ trees. (e.fault ≡ KeepFault.Device) × IsNewFile schema trees)) }
+        ensures left { IfErr result (λ e. Survives (state S.Store connection) (state S.Store e.connection) (λ trees. (e.fault ≡ KeepFault.Device) × IsNewBeside schema (state S.Store connection) trees)) }
     {
-        if !is_blank(connection.schema()) {
+        if !has_room(connection.schema()) {
             return Err(Unopened {
                 fault: KeepFault::NotOurs,
                 connection,

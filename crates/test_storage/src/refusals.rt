@@ -1,4 +1,4 @@
-use crate::stores::{created, kept};
+use crate::stores::{created, kept, opened};
 use ov_base::Text;
 use ov_keeper::KeepFault;
 use ov_store::{Store, store_over};
@@ -25,6 +25,10 @@ fn statement(word: &str) -> &'static str {
         "index" => "CREATE INDEX other ON line(ver);",
         "unique" => "CREATE UNIQUE INDEX other ON line(ver);",
         "key" => "CREATE TABLE other(a REFERENCES meta(k));",
+        "upper" => "CREATE TABLE META(a);",
+        "line_view" => "CREATE VIEW Line AS SELECT 1;",
+        "line_index" => "CREATE INDEX line ON other(a);",
+        "counted" => "CREATE TABLE counted(id INTEGER PRIMARY KEY AUTOINCREMENT);",
         "seven_there" => "INSERT INTO other VALUES(7);",
         "text_id" =>
             "CREATE TABLE line(tbl TEXT, id TEXT, ver BLOB, body BLOB, PRIMARY KEY(tbl,id));",
@@ -68,6 +72,17 @@ foreign line meta schema format row -> old 1
 foreign -> not a database of this program
 view -> not a database of this program";
 
+/// What is made beside it.
+const MADE: &str = " -> new 0
+foreign -> new 0
+foreign seven_there view -> new 0
+counted -> new 0
+meta line schema format -> not a database of this program
+upper -> not a database of this program
+foreign line_view -> not a database of this program
+foreign line_index -> not a database of this program
+key -> not a database of this program";
+
 /// The schema's text that a store has, and how many lines.
 fn told<S: Alter + Drop>(alloc: Global, store: Store<S>) -> Result<String, Fail> {
     let mut store = store;
@@ -80,22 +95,30 @@ fn refused(alloc: Global, fault: KeepFault) -> Result<String, Fail> {
     Ok(format!(in alloc; "{fault}")?)
 }
 
-/// What comes of the database of a connection, which may be a new one's, too.
-fn made_or_opened<S: Alter + Drop>(
+/// How a store comes of a database.
+#[derive(Clone, Copy)]
+enum Way {
+    Open,
+    MakeOrOpen,
+    Make,
+}
+
+/// What comes of the database of a connection.
+fn store_by<S: Alter + Drop>(
     alloc: Global,
     connection: Connection<S>,
-    may_be_new: bool,
+    way: Way,
 ) -> Result<String, Fail> {
     if !connection.is_autocommit() {
         return Err(Fail::new("in a transaction"));
     }
-    if may_be_new {
-        return match store_over(alloc, connection, Text::from_str(alloc, "new")?) {
-            Ok(store) => told(alloc, store),
-            Err(refusal) => refused(alloc, refusal.fault),
-        };
-    }
-    match Store::open(alloc, connection) {
+    let schema = Text::from_str(alloc, "new")?;
+    let store = match way {
+        Way::Open => Store::open(alloc, connection),
+        Way::MakeOrOpen => store_over(alloc, connection, schema),
+        Way::Make => Store::create(connection, schema),
+    };
+    match store {
         Ok(store) => told(alloc, store),
         Err(refusal) => refused(alloc, refusal.fault),
     }
@@ -105,37 +128,48 @@ fn made_or_opened<S: Alter + Drop>(
 fn found<S: Alter + Drop>(
     alloc: Global,
     connection: Connection<S>,
-    may_be_new: bool,
+    way: Way,
     words: &str,
 ) -> Result<String, Fail> {
     let mut connection = connection;
     for word in words.split_whitespace() {
         connection.execute_batch(statement(word))?;
     }
-    made_or_opened(alloc, connection, may_be_new)
+    store_by(alloc, connection, way)
 }
 
 /// The commands are the words of statements.
 #[derive(Drop)]
 struct Databases {
-    may_be_new: bool,
+    way: Way,
 }
 
 impl Scripted for Databases {
     fn answer(&mut self, alloc: Global, command: &str) -> Result<String, Fail> {
         let connection = Connection::open_in_memory(alloc)?;
-        found(alloc, connection, self.may_be_new, command)
+        found(alloc, connection, self.way, command)
     }
 }
 
 #[test]
 fn an_open_tells_what_is_no_store(rt: HostRuntime) -> Result<(), Fail> {
-    agrees(rt.alloc(), Databases { may_be_new: false }, OPENED)
+    agrees(rt.alloc(), Databases { way: Way::Open }, OPENED)
 }
 
 #[test]
 fn a_database_is_new_or_ours_or_foreign(rt: HostRuntime) -> Result<(), Fail> {
-    agrees(rt.alloc(), Databases { may_be_new: true }, MADE_OR_OPENED)
+    agrees(
+        rt.alloc(),
+        Databases {
+            way: Way::MakeOrOpen,
+        },
+        MADE_OR_OPENED,
+    )
+}
+
+#[test]
+fn tables_are_made_beside_others(rt: HostRuntime) -> Result<(), Fail> {
+    agrees(rt.alloc(), Databases { way: Way::Make }, MADE)
 }
 
 /// Why a second store is not made of a database.
@@ -158,20 +192,31 @@ fn tables_are_made_once(rt: HostRuntime) -> Result<(), Fail> {
     Ok(())
 }
 
+/// The store of a connection after these statements, which is new where they make none.
+fn store_after<S: Alter + Drop>(
+    alloc: Global,
+    connection: Connection<S>,
+    words: &str,
+    is_new: bool,
+) -> Result<Store<S>, Fail> {
+    let mut connection = connection;
+    for word in words.split_whitespace() {
+        connection.execute_batch(statement(word))?;
+    }
+    if is_new {
+        return created(alloc, connection);
+    }
+    opened(alloc, connection)
+}
+
 /// Whether the other table of these statements has its row after a commit beside it.
 fn keeps_other_rows<S: Alter + Drop>(
     alloc: Global,
     connection: Connection<S>,
     words: &str,
+    is_new: bool,
 ) -> Result<bool, Fail> {
-    let mut connection = connection;
-    for word in words.split_whitespace() {
-        connection.execute_batch(statement(word))?;
-    }
-    if !connection.is_autocommit() {
-        return Err(Fail::new("in a transaction"));
-    }
-    let store = Store::open(alloc, connection)?;
+    let store = store_after(alloc, connection, words, is_new)?;
     let script = "put Switch 1 0 one
 commit -> made
 lines -> Switch 1 0 one;";
@@ -189,7 +234,7 @@ lines -> Switch 1 0 one;";
 fn a_commit_keeps_the_tables_behind(rt: HostRuntime) -> Result<(), Fail> {
     let connection = Connection::open_in_memory(rt.alloc())?;
     let words = "meta line schema format foreign seven_there";
-    assert!(rt; keeps_other_rows(rt.alloc(), connection, words)?);
+    assert!(rt; keeps_other_rows(rt.alloc(), connection, words, false)?);
     Ok(())
 }
 
@@ -197,6 +242,14 @@ fn a_commit_keeps_the_tables_behind(rt: HostRuntime) -> Result<(), Fail> {
 fn a_commit_keeps_the_tables_before(rt: HostRuntime) -> Result<(), Fail> {
     let connection = Connection::open_in_memory(rt.alloc())?;
     let words = "foreign seven_there line meta format schema";
-    assert!(rt; keeps_other_rows(rt.alloc(), connection, words)?);
+    assert!(rt; keeps_other_rows(rt.alloc(), connection, words, false)?);
+    Ok(())
+}
+
+#[test]
+fn a_new_store_keeps_the_tables_before(rt: HostRuntime) -> Result<(), Fail> {
+    let connection = Connection::open_in_memory(rt.alloc())?;
+    let words = "foreign seven_there view";
+    assert!(rt; keeps_other_rows(rt.alloc(), connection, words, true)?);
     Ok(())
 }

@@ -5,7 +5,7 @@ use std::alloc::Global;
 use std::test::Fail;
 use test_support::{Faults, Keeping, NET, agrees, failing, follows};
 
-/// A new store over a database that has nothing.
+/// A new store over a database that has none.
 pub(crate) fn created<S: Alter + Drop>(
     alloc: Global,
     connection: Connection<S>,
@@ -18,7 +18,10 @@ pub(crate) fn created<S: Alter + Drop>(
 }
 
 /// The store of a database that has one.
-fn opened<S: Alter + Drop>(alloc: Global, connection: Connection<S>) -> Result<Store<S>, Fail> {
+pub(crate) fn opened<S: Alter + Drop>(
+    alloc: Global,
+    connection: Connection<S>,
+) -> Result<Store<S>, Fail> {
     if !connection.is_autocommit() {
         return Err(Fail::new("in a transaction"));
     }

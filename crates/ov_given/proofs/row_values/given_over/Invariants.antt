@@ -1,5 +1,4 @@
 use Rattle.std.proofs.Common.{◌≡◌}
-use Rattle.std.specs.FinMap.{entries}
 use Rattle.ov_specs.specs.operations.GivenRow.{with_values}
 use Rattle.ov_rows.specs.Named.{named}
 use Rattle.ov_given.proofs.row_values.given_over.Given as goal

@@ -2,6 +2,7 @@ use Rattle.std.proofs.Common.{inl, inr}
 use Rattle.std.proofs.lemmas.Result.{IfOk-weaker, IfErr-weaker}
 use Rattle.sqlite.specs.Held.{state}
 use Rattle.ov_store.proofs.ResultLemmas.{ok_pair, err_pair}
+use Rattle.ov_store.proofs.RoomLemmas.{room_of_blank}
 use Rattle.ov_store.proofs.RunLemmas.{survives_as}
 use Rattle.ov_store.proofs.over.create.Goals as goal
 
@@ -18,9 +19,9 @@ returns-clause-refused g c =
     let blank = c.requires.blank in
     let old = state g.S.Store c.args.connection in
     IfErr-weaker r _ _ (λ e h. record {
-      ours = (λ is. absurd (h.0.0.0 is blank), λ p. absurd (p.0 blank));
+      ours = (λ is. absurd (h.0.0.0 is (room_of_blank c.args.connection.schema blank)), λ p. absurd (p.0 blank));
       tables = λ is. absurd (h.0.1 is);
       format = λ is. absurd (h.0.1 is);
       same = h.1.0;
-      crash = survives_as old (state g.S.Store e.connection) _ _ h.1.1 (λ clean db found. elim (h.1.1.crash clean db found) [ inl was ↦ inl was | inr made ↦ inr (made.0, blank, made.1) ]);
+      crash = survives_as old (state g.S.Store e.connection) _ _ h.1.1 (λ clean db found. elim (h.1.1.crash clean db found) [ inl was ↦ inl was | inr made ↦ inr (made.0, blank, made.1.file) ]);
     }) (err_pair r _ _ (err_pair r _ _ it.ours it.format) (err_pair r _ _ it.same it.left))
