@@ -1,3 +1,3 @@
-pub mod Telling
-pub mod Among
 pub mod Going
+pub mod Mutating
+pub mod Awaiting

@@ -1,10 +1,15 @@
 -- What an operation comes to in the code, as it does in the definitions. What names no source is our own.
-use Rattle.std.specs.Prelude.{◌≡◌, ℕ, List, Option, Result, Ok, Err}
+use Rattle.std.specs.Prelude.{◌≡◌, ℕ, List, if◌then◌else◌, codes, Result, Ok, Err}
+use Rattle.std.specs.Str.{bytes_eq}
+use Rattle.ov_specs.specs.operations.Abort.{abort_outcome}
+use Rattle.ov_specs.specs.operations.Comment.{comment_outcome}
+use Rattle.ov_specs.specs.operations.Commit.{commit_outcome}
+use Rattle.ov_specs.specs.operations.Errors.{UnknownOperation}
+use Rattle.ov_specs.specs.operations.Wait.{wait_outcome}
 use Rattle.serde_json.specs.Data.{Data}
 use Rattle.ov_specs.specs.operations.OpOutcome as spec
 use Rattle.ov_specs.specs.operations.OpOutcome.{OpContext}
 use Rattle.ov_specs.specs.rows.Database.{Database}
-use Rattle.ov_specs.specs.values.Uuid.{Uuid}
 use Rattle.ov_ops.specs.declared.context.OpCtx.{OpCtx}
 use Rattle.ov_ops.specs.declared.outcome.OpOutcome.{OpOutcome}
 use Rattle.ov_ops.specs.declared.outcome.OpOutcome.TheVariants.{Done, Fault, Blocked, NoMemory}
@@ -36,14 +41,27 @@ IsOutcome outcome (Fault error) rows = outcome ≡ spec.Fault (error_view error)
 IsOutcome outcome (Blocked timeout) rows = outcome ≡ spec.Blocked timeout
 IsOutcome outcome NoMemory rows = Unit {0}
 
+-- an operation has the error of a fault; "out of memory" may be answered to anything
+abbrev pub IsRefused : spec.OpOutcome → OpFault → Type 0
+IsRefused outcome (Refused error) = outcome ≡ spec.Fault (error_view error)
+IsRefused outcome Memory = Unit {0}
+
 -- an operation goes on with what was read of its members, or has the error of that
 abbrev pub GoesOn : {A : Type 0} → spec.OpOutcome → (A → spec.OpOutcome) → Result A OpFault → Type 0
 GoesOn outcome next (Ok a) = outcome ≡ next a
-GoesOn outcome next (Err (Refused error)) = outcome ≡ spec.Fault (error_view error)
-GoesOn outcome next (Err Memory) = Unit {0}
+GoesOn outcome next (Err fault) = IsRefused outcome fault
 
 -- the result of an operation, as its outcome
 abbrev pub outcome_of_result : Result Data OpFault → OpOutcome
 outcome_of_result (Ok result) = Done result
 outcome_of_result (Err (Refused error)) = Fault error
 outcome_of_result (Err Memory) = NoMemory
+
+-- an operation of this name that changes no row (RFC 7047, 5.2.6 to 5.2.9)
+abbrev pub reader_outcome : OpContext → Database → Data → List ℕ → spec.OpOutcome
+reader_outcome c rows d op =
+    if bytes_eq op (codes "wait") then wait_outcome c rows d
+    else (if bytes_eq op (codes "commit") then commit_outcome rows d
+    else (if bytes_eq op (codes "abort") then abort_outcome
+    else (if bytes_eq op (codes "comment") then comment_outcome rows d
+    else spec.Fault UnknownOperation)))

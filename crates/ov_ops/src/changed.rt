@@ -13,7 +13,8 @@ pub(crate) fn put_rows(
     ctx: &OpCtx<'_>,
     changed: Vec<(RowKey, Columns)>,
 ) -> Result<(), AllocError>
-    ensures { OnOk result (stage.new ≡ record stage.old { now = spec.put_rows (context_of ctx.now stage.old.before) changed.items stage.old.now }) }
+    ensures rows { OnOk result (stage.new ≡ record stage.old { now = spec.put_rows (context_of ctx.now stage.old.before) changed.items stage.old.now }) }
+    ensures frame { stage.new.before ≡ stage.old.before }
 {
     for (key, columns) in changed {
         stage.put(key, ctx.version, columns)?;

@@ -1,20 +1,20 @@
 ghost use Rattle.serde_json.specs.View.{view};
 ghost use Rattle.ov_specs.specs.operations.Commit as spec;
 ghost use Rattle.ov_specs.specs.rows.Database.{Database};
-ghost use Rattle.ov_ops.specs.Outcomes.{IsDone};
+ghost use Rattle.ov_ops.specs.Outcomes.{IsOutcome};
 
 use crate::empty::empty_result;
-use ov_base::Tree;
-use ov_stage::{OpError, OpFault};
+use crate::outcome::OpOutcome;
+use ov_stage::OpError;
 use serde_json::Value;
 use std::alloc::Global;
 
 /// `durable` asks for what every commit is here (RFC 7047, 5.2.7).
-pub(crate) fn commit(alloc: Global, operation: &Value) -> Result<Tree, OpFault>
-    ensures { (rows : Database) → IsDone (spec.commit_outcome rows (view operation.now)) result rows }
+pub(crate) fn commit(alloc: Global, operation: &Value) -> OpOutcome
+    ensures { (rows : Database) → IsOutcome (spec.commit_outcome rows (view operation.now)) result rows }
 {
     match operation.get("durable").and_then(Value::as_bool) {
-        Some(_durable) => Ok(empty_result(alloc)),
-        None => Err(OpFault::Refused(OpError::Syntax)),
+        Some(_durable) => OpOutcome::Done(empty_result(alloc)),
+        None => OpOutcome::Fault(OpError::Syntax),
     }
 }

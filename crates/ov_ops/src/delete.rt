@@ -34,7 +34,8 @@ fn keys_of(
 
 /// Removes the rows of these keys.
 fn remove_rows(stage: &mut Stage<'_>, keys: Vec<RowKey>) -> Result<(), AllocError>
-    ensures { OnOk result (stage.new ≡ record stage.old { now = without_rows keys.items stage.old.now }) }
+    ensures rows { OnOk result (stage.new ≡ record stage.old { now = without_rows keys.items stage.old.now }) }
+    ensures frame { stage.new.before ≡ stage.old.before }
 {
     for key in keys {
         stage.remove(key)?;
@@ -50,6 +51,7 @@ pub(crate) fn delete<'a>(
     operation: &'a Value,
 ) -> Result<Tree, OpFault>
     ensures done { IsDone (spec.delete_outcome (context_of ctx.now stage.old.before) stage.old.now (view operation.now)) result stage.new.now }
+    ensures frame { stage.new.before ≡ stage.old.before }
 {
     let (name, table) = table_at(ctx, operation)?;
     let conditions = conditions_at(alloc, ctx, table, operation)?;

@@ -48,6 +48,7 @@ fn put_new(
     id: Option<Uuid>,
 ) -> Result<Tree, OpFault>
     ensures done { IsDone (spec.put_new (context_of ctx.now stage.old.before) stage.old.now table.now columns id) result stage.new.now }
+    ensures frame { stage.new.before ≡ stage.old.before }
 {
     let Some(id) = id else {
         return Err(OpFault::Refused(OpError::ResourcesExhausted));
@@ -71,6 +72,7 @@ pub(crate) fn insert<'a>(
     operation: &'a Value,
 ) -> Result<Tree, OpFault>
     ensures done { IsDone (spec.insert_outcome (context_of ctx.now stage.old.before) place stage.old.now (view operation.now)) result stage.new.now }
+    ensures frame { stage.new.before ≡ stage.old.before }
 {
     let (name, table) = table_at(ctx, operation)?;
     if operation.get("uuid").is_some() {

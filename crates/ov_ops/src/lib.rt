@@ -16,8 +16,6 @@ mod mutate;
 mod operation;
 mod outcome;
 mod select;
-mod told;
-mod until;
 mod update;
 mod wait;
 

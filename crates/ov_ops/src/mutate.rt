@@ -49,6 +49,7 @@ pub(crate) fn mutate<'a>(
     operation: &'a Value,
 ) -> Result<Tree, OpFault>
     ensures done { IsDone (spec.mutate_outcome (context_of ctx.now stage.old.before) stage.old.now (view operation.now)) result stage.new.now }
+    ensures frame { stage.new.before ≡ stage.old.before }
 {
     let (name, table) = table_at(ctx, operation)?;
     let conditions = conditions_at(alloc, ctx, table, operation)?;
@@ -56,7 +57,13 @@ pub(crate) fn mutate<'a>(
         return Err(OpFault::Refused(OpError::Syntax));
     };
     let mutations = mutations_of(alloc, table, items.as_slice(), ctx.inserts)?;
-    let changed = mutated_rows(alloc, stage, name, conditions.as_slice(), mutations.as_slice())?;
+    let changed = mutated_rows(
+        alloc,
+        stage,
+        name,
+        conditions.as_slice(),
+        mutations.as_slice(),
+    )?;
     let result = count_result(alloc, changed.len())?;
     put_rows(stage, ctx, changed)?;
     Ok(result)

@@ -1,7 +1,7 @@
 ghost use Rattle.std.specs.Prelude.{◌≡◌};
 ghost use Rattle.serde_json.specs.View.{view};
 ghost use Rattle.ov_specs.specs.operations.AnyOperation as spec;
-ghost use Rattle.ov_ops.specs.Outcomes.{context_of, IsOutcome};
+ghost use Rattle.ov_ops.specs.Outcomes.{context_of, reader_outcome, IsOutcome};
 
 use crate::abort::abort;
 use crate::comment::comment;
@@ -18,6 +18,25 @@ use ov_stage::{OpError, Stage, text_at};
 use serde_json::Value;
 use std::alloc::Global;
 
+/// An operation that changes no row (RFC 7047, 5.2.6 to 5.2.9).
+fn run_reader<'a>(
+    alloc: Global,
+    stage: &Stage<'_>,
+    ctx: &OpCtx<'a>,
+    op: &str,
+    operation: &'a Value,
+) -> OpOutcome
+    ensures { IsOutcome (reader_outcome (context_of ctx.now stage.now.before) stage.now.now (view operation.now) op.now) result stage.now.now }
+{
+    match op {
+        "wait" => wait(alloc, stage, ctx, operation),
+        "commit" => commit(alloc, operation),
+        "abort" => abort(),
+        "comment" => comment(alloc, operation),
+        _ => OpOutcome::Fault(OpError::UnknownOperation),
+    }
+}
+
 /// The operation at this place of the transaction, on the rows that those before it left (RFC 7047, 5.2). Its members are looked
 /// at in the order in which the section of the operation names them. `assert`, as every other word, is an unknown operation. After
 /// another outcome than `Done` the stage is to be dropped.
@@ -29,7 +48,7 @@ pub fn run_op<'a>(
     operation: &'a Value,
 ) -> OpOutcome
     ensures done { IsOutcome (spec.outcome_of (context_of ctx.now stage.old.before) place stage.old.now (view operation.now)) result stage.new.now }
-    ensures frame { stage.new ≡ record stage.old { now = stage.new.now } }
+    ensures frame { stage.new.before ≡ stage.old.before }
 {
     match text_at(operation, "op") {
         None => OpOutcome::Fault(OpError::Syntax),
@@ -38,10 +57,6 @@ pub fn run_op<'a>(
         Some(op) if op == "update" => update(alloc, stage, ctx, operation).into(),
         Some(op) if op == "mutate" => mutate(alloc, stage, ctx, operation).into(),
         Some(op) if op == "delete" => delete(alloc, stage, ctx, operation).into(),
-        Some(op) if op == "wait" => wait(alloc, stage, ctx, operation),
-        Some(op) if op == "commit" => commit(alloc, operation).into(),
-        Some(op) if op == "abort" => abort().into(),
-        Some(op) if op == "comment" => comment(alloc, operation).into(),
-        Some(_) => OpOutcome::Fault(OpError::UnknownOperation),
+        Some(op) => run_reader(alloc, stage, ctx, op, operation),
     }
 }

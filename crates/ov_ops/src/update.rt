@@ -44,6 +44,7 @@ pub(crate) fn update<'a>(
     operation: &'a Value,
 ) -> Result<Tree, OpFault>
     ensures done { IsDone (spec.update_outcome (context_of ctx.now stage.old.before) stage.old.now (view operation.now)) result stage.new.now }
+    ensures frame { stage.new.before ≡ stage.old.before }
 {
     let (name, table) = table_at(ctx, operation)?;
     let conditions = conditions_at(alloc, ctx, table, operation)?;

@@ -5,17 +5,16 @@ ghost use Rattle.ov_specs.specs.operations.OpOutcome.{OpContext};
 ghost use Rattle.ov_specs.specs.operations.Wait as spec;
 ghost use Rattle.ov_specs.specs.rows.Database.{Database};
 ghost use Rattle.ov_ops.specs.Outcomes.{context_of, GoesOn, IsOutcome};
-ghost use Rattle.ov_ops.specs.Waiting.{until_view};
+ghost use Rattle.ov_given.specs.Waiting.{until_view};
 
 use crate::context::OpCtx;
 use crate::empty::empty_result;
 use crate::members::{conditions_at, table_at};
 use crate::outcome::OpOutcome;
 use crate::select::shown_rows;
-use crate::told::told_rows;
-use crate::until::{Until, timeout_of};
 use ov_base::Text;
 use ov_conds::Condition;
+use ov_given::{Until, is_met, timeout_of, told_rows, until_of};
 use ov_stage::{OpError, OpFault, ShownRow, Stage, compared_columns, text_at};
 use serde_json::Value;
 use std::alloc::{AllocError, Global};
@@ -33,11 +32,7 @@ struct Waited<'a> {
 
 impl<'a> Waited<'a> {
     /// The members in their order (RFC 7047, 5.2.6).
-    fn read(
-        alloc: Global,
-        ctx: &OpCtx<'a>,
-        operation: &'a Value,
-    ) -> Result<Waited<'a>, OpFault>
+    fn read(alloc: Global, ctx: &OpCtx<'a>, operation: &'a Value) -> Result<Waited<'a>, OpFault>
         ensures { (before rows : Database) → GoesOn (spec.wait_outcome (context_of ctx.now before) rows (view operation.now))
             (λ w. spec.waits (context_of ctx.now before) w.timeout (spec.is_met (until_view w.until) (map (projection w.compared.items) (matching rows w.table.now w.conditions.items)) w.told.items) rows) result }
     {
@@ -45,13 +40,22 @@ impl<'a> Waited<'a> {
         let timeout = timeout_of(operation.get("timeout"))?;
         let conditions = conditions_at(alloc, ctx, table, operation)?;
         let compared = compared_columns(alloc, table, operation.get("columns"))?;
-        let Some(until) = text_at(operation, "until").and_then(Until::of) else {
+        let Some(word) = text_at(operation, "until") else {
+            return Err(OpFault::Refused(OpError::Syntax));
+        };
+        let Some(until) = until_of(word) else {
             return Err(OpFault::Refused(OpError::Syntax));
         };
         let Some(items) = operation.get("rows").and_then(Value::as_array) else {
             return Err(OpFault::Refused(OpError::Syntax));
         };
-        let told = told_rows(alloc, table, compared.as_slice(), items.as_slice(), ctx.inserts)?;
+        let told = told_rows(
+            alloc,
+            table,
+            compared.as_slice(),
+            items.as_slice(),
+            ctx.inserts,
+        )?;
         Ok(Waited {
             table: name,
             timeout,
@@ -64,19 +68,19 @@ impl<'a> Waited<'a> {
 }
 
 /// Whether what is waited for has come.
-fn is_met(alloc: Global, stage: &Stage<'_>, waited: &Waited<'_>) -> Result<bool, AllocError>
+fn has_come(alloc: Global, stage: &Stage<'_>, waited: &Waited<'_>) -> Result<bool, AllocError>
     ensures { IfOk result (λ b. b ≡ spec.is_met (until_view waited.now.until) (map (projection waited.now.compared.items) (matching stage.now.now waited.now.table.now waited.now.conditions.items)) waited.now.told.items) }
 {
     let (conditions, compared) = (waited.conditions.as_slice(), waited.compared.as_slice());
     let seen = shown_rows(alloc, stage, waited.table, conditions, compared)?;
-    waited.until.is_met(alloc, seen.as_slice(), waited.told.as_slice())
+    is_met(alloc, waited.until, seen.as_slice(), waited.told.as_slice())
 }
 
 /// What is waited for has come, or the transaction waits on, until it is as old as the timeout.
-fn come(alloc: Global, timeout: Option<u64>, age: u64, is_met: bool) -> OpOutcome
-    ensures { (c : OpContext) (rows : Database) → c.age ≡ age → IsOutcome (spec.waits c timeout is_met rows) result rows }
+fn come(alloc: Global, timeout: Option<u64>, age: u64, has_come: bool) -> OpOutcome
+    ensures { (c : OpContext) (rows : Database) → c.age ≡ age → IsOutcome (spec.waits c timeout has_come rows) result rows }
 {
-    if is_met {
+    if has_come {
         return OpOutcome::Done(empty_result(alloc));
     }
     match timeout {
@@ -99,8 +103,8 @@ pub(crate) fn wait<'a>(
         Err(OpFault::Refused(error)) => return OpOutcome::Fault(error),
         Err(OpFault::Memory) => return OpOutcome::NoMemory,
     };
-    match is_met(alloc, stage, &waited) {
-        Ok(is_met) => come(alloc, waited.timeout, ctx.age, is_met),
+    match has_come(alloc, stage, &waited) {
+        Ok(has_come) => come(alloc, waited.timeout, ctx.age, has_come),
         Err(AllocError) => OpOutcome::NoMemory,
     }
 }

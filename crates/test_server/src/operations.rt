@@ -39,12 +39,7 @@ fn told(alloc: Global, results: String, outcome: OpOutcome) -> Result<(String, b
 }
 
 impl Operations {
-    fn run(
-        &self,
-        alloc: Global,
-        ctx: &OpCtx<'_>,
-        operations: &Trees,
-    ) -> Result<String, Fail> {
+    fn run(&self, alloc: Global, ctx: &OpCtx<'_>, operations: &Trees) -> Result<String, Fail> {
         let mut stage = Stage::new(alloc, &self.rows);
         let mut results = String::new(alloc);
         let trees = operations.as_slice();
@@ -89,7 +84,8 @@ fn run_over(alloc: Global, rows: &str, age: u64, script: &str) -> Result<(), Fai
 }
 
 /// A name stands for its row before the insert that declares it, and in conditions.
-const NAMED: &str = r#"[{"op":"insert","table":"Switch","row":{"name":"s1","ports":["named-uuid","p"]}},{"op":"insert","table":"Port","uuid-name":"p","row":{"name":"p1"}},{"op":"select","table":"Switch","where":[["ports","includes",["named-uuid","p"]]],"columns":["ports"]}] -> {"uuid":["uuid","00000000-0000-4000-8000-000000000002"]} {"uuid":["uuid","00000000-0000-4000-8000-000000000003"]} {"rows":[{"ports":["uuid","00000000-0000-4000-8000-000000000003"]}]} 2
+const NAMED: &str =
+    r#"[{"op":"insert","table":"Switch","row":{"name":"s1","ports":["named-uuid","p"]}},{"op":"insert","table":"Port","uuid-name":"p","row":{"name":"p1"}},{"op":"select","table":"Switch","where":[["ports","includes",["named-uuid","p"]]],"columns":["ports"]}] -> {"uuid":["uuid","00000000-0000-4000-8000-000000000002"]} {"uuid":["uuid","00000000-0000-4000-8000-000000000003"]} {"rows":[{"ports":["uuid","00000000-0000-4000-8000-000000000003"]}]} 2
 [{"op":"insert","table":"Port","uuid-name":"p","row":{}},{"op":"delete","table":"Port","where":[["_uuid","==",["named-uuid","p"]]]}] -> {"uuid":["uuid","00000000-0000-4000-8000-000000000002"]} {"count":1} 0
 [{"op":"insert","table":"Port","uuid-name":"p","row":{}},{"op":"insert","table":"Port","uuid-name":"p","row":{}}] -> {"uuid":["uuid","00000000-0000-4000-8000-000000000002"]} duplicate uuid-name
 [{"op":"comment","comment":"c","uuid-name":"p"},{"op":"insert","table":"Port","uuid-name":"p","row":{}}] -> {} {"uuid":["uuid","00000000-0000-4000-8000-000000000002"]} 1
@@ -108,7 +104,8 @@ put Port 4
 put Switch 3";
 
 /// No row, one, and all of them; a row that is as it was before is no change.
-const CHANGED: &str = r#"[{"op":"update","table":"Switch","where":[["name","==","s9"]],"row":{"load":5}}] -> {"count":0} 0
+const CHANGED: &str =
+    r#"[{"op":"update","table":"Switch","where":[["name","==","s9"]],"row":{"load":5}}] -> {"count":0} 0
 [{"op":"update","table":"Switch","where":[["_uuid","==",["uuid","00000000-0000-0000-0000-000000000003"]]],"row":{"load":5}},{"op":"select","table":"Switch","where":[["load","==",5]],"columns":["_uuid","_version"]}] -> {"count":1} {"rows":[{"_uuid":["uuid","00000000-0000-0000-0000-000000000003"],"_version":["uuid","00000000-0000-4000-8000-000000000001"]}]} 1
 [{"op":"update","table":"Switch","where":[],"row":{"load":5,"name":"n"}},{"op":"select","table":"Switch","where":[],"columns":["load","name"]}] -> {"count":2} {"rows":[{"load":5,"name":"n"}]} 2
 [{"op":"update","table":"Switch","where":[],"row":{"load":5}},{"op":"update","table":"Switch","where":[],"row":{"load":4}},{"op":"select","table":"Switch","where":[],"columns":["_version"]}] -> {"count":2} {"count":2} {"rows":[{"_version":["uuid","00000000-0000-0000-0000-000000000001"]}]} 0
@@ -130,7 +127,8 @@ fn rows_are_updated(rt: HostRuntime) -> Result<(), Fail> {
 }
 
 /// Arithmetic over 64 bits, rounded to zero; sets grow and shrink; the first fault of the first row is told.
-const MUTATED: &str = r#"[{"op":"update","table":"Switch","where":[],"row":{"load":9223372036854775807}},{"op":"mutate","table":"Switch","where":[],"mutations":[["load","+=",1]]}] -> {"count":2} range error
+const MUTATED: &str =
+    r#"[{"op":"update","table":"Switch","where":[],"row":{"load":9223372036854775807}},{"op":"mutate","table":"Switch","where":[],"mutations":[["load","+=",1]]}] -> {"count":2} range error
 [{"op":"mutate","table":"Switch","where":[],"mutations":[["load","/=",0]]}] -> domain error
 [{"op":"mutate","table":"Switch","where":[["load","==",7]],"mutations":[["load","/=",0]]}] -> {"count":0} 0
 [{"op":"update","table":"Switch","where":[],"row":{"load":-7}},{"op":"mutate","table":"Switch","where":[],"mutations":[["load","%=",2]]},{"op":"select","table":"Switch","where":[],"columns":["load"]}] -> {"count":2} {"count":2} {"rows":[{"load":-1}]} 2
@@ -153,7 +151,8 @@ fn arithmetic_edges(rt: HostRuntime) -> Result<(), Fail> {
 }
 
 /// Rows go, are counted, and may come again in the same transaction.
-const DELETED: &str = r#"[{"op":"delete","table":"Switch","where":[["load","==",7]]}] -> {"count":0} 0
+const DELETED: &str =
+    r#"[{"op":"delete","table":"Switch","where":[["load","==",7]]}] -> {"count":0} 0
 [{"op":"delete","table":"Switch","where":[["_uuid","==",["uuid","00000000-0000-0000-0000-000000000009"]]]},{"op":"select","table":"Switch","where":[],"columns":["_uuid"]}] -> {"count":1} {"rows":[{"_uuid":["uuid","00000000-0000-0000-0000-000000000003"]}]} 1
 [{"op":"delete","table":"Switch","where":[]},{"op":"insert","table":"Switch","row":{"name":"s1"}},{"op":"select","table":"Switch","where":[],"columns":["_uuid","name"]}] -> {"count":2} {"uuid":["uuid","00000000-0000-4000-8000-000000000002"]} {"rows":[{"_uuid":["uuid","00000000-0000-4000-8000-000000000002"],"name":"s1"}]} 3
 [{"op":"insert","table":"Port","row":{}},{"op":"delete","table":"Port","where":[["name","==",""]]},{"op":"delete","table":"Port","where":[]}] -> {"uuid":["uuid","00000000-0000-4000-8000-000000000002"]} {"count":1} {"count":1} 1
@@ -168,7 +167,8 @@ fn rows_are_deleted(rt: HostRuntime) -> Result<(), Fail> {
 }
 
 /// A wait whose rows are, or are not, those that match, in any order and with repeats.
-const WAITED: &str = r#"[{"op":"wait","table":"Switch","where":[],"columns":["load"],"until":"==","rows":[{"load":4}]}] -> {} 0
+const WAITED: &str =
+    r#"[{"op":"wait","table":"Switch","where":[],"columns":["load"],"until":"==","rows":[{"load":4}]}] -> {} 0
 [{"op":"wait","table":"Switch","where":[],"columns":["load"],"until":"==","rows":[{"load":4},{"load":4},{"load":4}]}] -> {} 0
 [{"op":"wait","table":"Switch","where":[],"columns":["load"],"until":"!=","rows":[{"load":4}]}] -> waits
 [{"op":"wait","table":"Switch","timeout":50,"where":[],"columns":["load"],"until":"!=","rows":[{"load":4}]}] -> waits 50
@@ -197,7 +197,8 @@ fn wait_is_met_or_times_out(rt: HostRuntime) -> Result<(), Fail> {
 }
 
 /// The operations that change no row, and those that are none.
-const OTHERS: &str = r#"[{"op":"commit","durable":false},{"op":"commit","durable":true},{"op":"comment","comment":""}] -> {} {} {} 0
+const OTHERS: &str =
+    r#"[{"op":"commit","durable":false},{"op":"commit","durable":true},{"op":"comment","comment":""}] -> {} {} {} 0
 [{"op":"commit"}] -> syntax error
 [{"op":"commit","durable":1}] -> syntax error
 [{"op":"comment"}] -> syntax error
