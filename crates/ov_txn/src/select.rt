@@ -13,7 +13,9 @@ use ov_atoms::NoNames;
 use ov_base::{Text, Tree};
 use ov_conds::Condition;
 use ov_schema::Schema;
-use ov_stage::{OpError, OpFault, ShownRow, Stage, chosen_columns, conditions_of, is_among, text_at};
+use ov_stage::{
+    OpError, OpFault, ShownRow, Stage, chosen_columns, conditions_of, is_among, text_at,
+};
 use serde_json::{Value, json};
 use std::alloc::{AllocError, Global};
 use std::collections::BTreeSet;
