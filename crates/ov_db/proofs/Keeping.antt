@@ -1,16 +1,13 @@
 -- Rows of the schema that read back stay so, row by row and commit by commit.
 use Rattle.std.proofs.Common.{◌≡◌, List, [], ◌∷◌, Bool, true, false, cond, Option, Some, None, refl, sym, ap, subst, ◌∙◌}
 use mathlib.Core.Logic.{◌⊎◌, inl, inr}
-use Rattle.std.proofs.Common.{ℕ, ◌≤◌, map}
+use Rattle.std.proofs.Common.{ℕ}
 use Rattle.std.specs.Prelude.{Result, Ok, Err, IfOk}
-use Rattle.serde_json.specs.Data.{Data, depth}
-use Rattle.serde_json.specs.Read.{max_depth}
 use Rattle.ov_specs.specs.wire.Message.{tree_of}
-use Rattle.ov_specs.proofs.laws.Nesting.{body_depth}
 use Rattle.std.proofs.lemmas.Option.{same_Some}
 use Rattle.std.specs.FinMap.{empty, get, insert, get-empty, get-insert, get-entries, entries, find}
 use Rattle.serde_json.specs.Written.{compact_text}
-use Rattle.ov_specs.specs.rows.Database.{Database, Row, line_of, object_of, written_column}
+use Rattle.ov_specs.specs.rows.Database.{Database, Row, line_of}
 use Rattle.ov_specs.specs.rows.Lines.{LineKey, LineBody, Contents, line_cmp}
 use Rattle.ov_specs.specs.rows.Suits.{SuitsRow}
 use Rattle.ov_specs.specs.schema.SchemaTypes.{Schema}

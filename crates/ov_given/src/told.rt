@@ -26,7 +26,8 @@ fn natural_of(tree: &Value) -> Option<u64>
     }
 }
 
-/// The `timeout` of a `wait` in milliseconds, an integer that is at least 0. Where it is left out there is none (RFC 7047, 5.2.6).
+/// The `timeout` of a `wait` in milliseconds, an integer that is at least 0. Where it is left out, there is none (RFC 7047,
+/// 5.2.6).
 pub fn timeout_of(tree: Option<&Value>) -> Result<Option<u64>, OpFault>
     ensures { IsOpResult (λ o. o) (wait.timeout_read (option_map view (option_copied tree.entry))) result }
 {
@@ -142,8 +143,8 @@ fn told_row<N: Names>(
     }
 }
 
-/// The `rows` of a `wait`, each read wholly before the next one, or the fault of the first that has one. A row tells values of the
-/// compared columns, and is seen with the defaults of those that it leaves out (RFC 7047, 5.2.6; the order is our own).
+/// The `rows` of a `wait`, each read wholly before the next one, or the fault of the first that has one. A row tells values of
+/// the compared columns, and is seen with the defaults of those that it leaves out (RFC 7047, 5.2.6; the order is our own).
 pub fn told_rows<N: Names>(
     alloc: Global,
     table: &Table,

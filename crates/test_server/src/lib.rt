@@ -1,4 +1,4 @@
-//! Tests of what serves: rows and their changes, transactions, the machine, streams, and one session over a reader and a writer.
+//! Tests of what serves: rows, changes, stages, transactions, the machine, streams, and one session over a reader and a writer.
 #![tactic(auto)]
 
 #[cfg(test)]
@@ -11,6 +11,8 @@ mod operations;
 mod rows;
 #[cfg(test)]
 mod serve;
+#[cfg(test)]
+mod stages;
 #[cfg(test)]
 mod streams;
 #[cfg(test)]

@@ -13,6 +13,8 @@ mod cuts;
 #[cfg(test)]
 mod frames;
 #[cfg(test)]
+mod given;
+#[cfg(test)]
 mod messages;
 #[cfg(test)]
 mod mutations;

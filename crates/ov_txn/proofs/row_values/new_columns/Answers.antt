@@ -1,5 +1,4 @@
-use Rattle.std.proofs.Common.{sym, ap, subst, ◌∙◌}
-use Rattle.std.specs.Prelude.{Ok}
+use Rattle.std.proofs.Common.{sym, subst, ◌∙◌}
 use Rattle.serde_json.specs.View.{members_view}
 use Rattle.ov_specs.proofs.laws.RowNames.{names_of_suiting}
 use Rattle.ov_specs.proofs.laws.SuitingColumns.{MakesRow, new_columns_suit}

@@ -1,0 +1,286 @@
+use ov_atoms::Names;
+use ov_base::{Text, Trees};
+use ov_given::{
+    GivenRow, NamedRows, given_over, given_values, is_met, mutated_columns, mutations_of,
+    name_fault, new_row, timeout_of, told_rows, until_of,
+};
+use ov_rows::Columns;
+use ov_schema::{Schema, Table};
+use ov_stage::OpFault;
+use serde_json::Value;
+use std::alloc::Global;
+use std::test::Fail;
+use test_support::{Scripted, agrees, schema_of_text, trees};
+use uuid::Uuid;
+
+/// A table whose rows have a number up to 9, may name another row, and keep a number for good.
+const SCHEMA: &str = r#"{"name":"A","version":"1.0.0","tables":{"T":{"columns":{
+"fixed":{"type":"integer","mutable":false},
+"n":{"type":{"key":{"type":"integer","maxInteger":9}}},
+"p":{"type":{"key":"uuid","min":0,"max":1}}}}}}"#;
+
+/// Operations that give names. The identifiers of their inserts are 1, 2, 3 and 4.
+const OPERATIONS: &str = r#"[{"op":"insert","uuid-name":"a"},{"op":"select","uuid-name":"b"},
+{"op":"insert","uuid-name":"c"},{"op":"insert","uuid-name":"a"},{"op":"insert","uuid-name":"1"}]"#;
+
+/// The first insert with a name gives it, in the whole transaction.
+const NAMES: &str = r#"named a -> 1
+named b -> none
+named c -> 2
+named 1 -> none
+at 0 -> 1
+at 1 -> 2
+at 2 -> 2
+at 3 -> 3
+at 4 -> 4
+at 5 -> none
+fault 0 "a" -> none
+fault 3 "a" -> duplicate uuid-name
+fault 2 "c" -> none
+fault 3 "c" -> duplicate uuid-name
+fault 4 "1" -> syntax error
+fault 4 1 -> syntax error
+fault 1 "b" -> none
+fault 2 "b" -> none"#;
+
+/// A new row has its values and the defaults of the others.
+const NEW_ROWS: &str = r#"insert {} -> {"fixed":0,"n":0,"p":["set",[]]}
+insert {"n":5,"fixed":7} -> {"fixed":7,"n":5,"p":["set",[]]}
+insert {"p":["named-uuid","a"]} -> {"fixed":0,"n":0,"p":["uuid","00000000-0000-0000-0000-000000000001"]}
+insert {"p":["named-uuid","b"]} -> syntax error
+insert {"n":10} -> constraint violation
+insert {"n":"a"} -> syntax error
+insert {"q":1} -> unknown column
+insert {"_version":["uuid","00000000-0000-0000-0000-000000000001"]} -> constraint violation"#;
+
+/// A row that is there keeps what is not given, and what clients may not change.
+const CHANGED_ROWS: &str = r#"update {} -> {"fixed":0,"n":1,"p":["set",[]]}
+update {"n":5} -> {"fixed":0,"n":5,"p":["set",[]]}
+update {"n":5,"p":["named-uuid","c"]} -> {"fixed":0,"n":5,"p":["uuid","00000000-0000-0000-0000-000000000002"]}
+update {"fixed":1} -> constraint violation
+update {"n":10} -> constraint violation
+update {"q":1} -> unknown column
+update {"_uuid":["uuid","00000000-0000-0000-0000-000000000001"]} -> constraint violation"#;
+
+/// Mutations go one after another, each value tested before the next.
+const MUTATED_ROWS: &str = r#"mutate [] -> {"fixed":0,"n":1,"p":["set",[]]}
+mutate [["n","+=",1],["n","*=",4]] -> {"fixed":0,"n":8,"p":["set",[]]}
+mutate [["n","+=",9],["n","-=",9]] -> constraint violation
+mutate [["n","*=",9223372036854775807],["n","+=",1]] -> constraint violation
+mutate [["n","+=",1],["n","*=",9223372036854775807]] -> range error
+mutate [["n","/=",0]] -> domain error
+mutate [["p","insert",["named-uuid","a"]]] -> {"fixed":0,"n":1,"p":["uuid","00000000-0000-0000-0000-000000000001"]}
+mutate [["n","+="]] -> syntax error
+mutate [["q","+=",1]] -> unknown column
+mutate [["fixed","+=",1]] -> constraint violation"#;
+
+/// Rows are the same in whatever order, and however often one stands there.
+const WAITS: &str = r#"wait == [{"n":1},{"n":2}] [{"n":2},{"n":1},{"n":1}] -> true
+wait != [{"n":1},{"n":2}] [{"n":2},{"n":1},{"n":1}] -> false
+wait == [{"n":1}] [{"n":1},{"n":2}] -> false
+wait == [{"n":1},{"n":2}] [{"n":1}] -> false
+wait != [{"n":1},{"n":2}] [{"n":1}] -> true
+wait == [] [] -> true
+wait == [{}] [{"n":0}] -> true
+wait == [{"n":10}] [{"n":10}] -> true
+wait == [{"p":["set",[]]}] [] -> syntax error
+wait == [1] [] -> syntax error
+wait = [] [] -> none
+timeout 5 -> 5
+timeout 0 -> 0
+timeout -1 -> syntax error
+timeout "5" -> syntax error"#;
+
+/// The operations that give names, and the table.
+#[derive(Drop)]
+struct Given {
+    schema: Schema,
+    ids: Vec<Uuid>,
+    operations: Trees,
+}
+
+/// What the client is told of a fault.
+fn told(fault: OpFault) -> &'static str {
+    match fault {
+        OpFault::Refused(error) => error.text(),
+        OpFault::Memory => "out of memory",
+    }
+}
+
+/// The text of a row's columns, or of their fault.
+fn shown(alloc: Global, columns: Result<Columns, OpFault>) -> Result<String, Fail> {
+    match columns {
+        Ok(columns) => Ok(String::from_utf8(columns.text(alloc)?.into_vec())?),
+        Err(fault) => Ok(String::from_str(alloc, told(fault))?),
+    }
+}
+
+/// The number of an identifier.
+fn number(alloc: Global, id: Option<Uuid>) -> Result<String, Fail> {
+    match id {
+        Some(id) => {
+            let number = id.as_u128();
+            Ok(format!(in alloc; "{number}")?)
+        }
+        None => Ok(String::from_str(alloc, "none")?),
+    }
+}
+
+/// What is wrong with the name behind a place.
+fn named(alloc: Global, rows: &NamedRows<'_>, text: &str) -> Result<String, Fail> {
+    let (place, name) = text.split_once(" ").ok_or("no name")?;
+    let name = Value::from_str(alloc, name)?;
+    let word = match name_fault(rows, place.parse::<usize>()?, Some(&name)) {
+        Some(error) => error.text(),
+        None => "none",
+    };
+    Ok(String::from_str(alloc, word)?)
+}
+
+/// The columns of a new row.
+fn inserted(
+    alloc: Global,
+    table: &Table,
+    rows: &NamedRows<'_>,
+    text: &str,
+) -> Result<Result<Columns, OpFault>, Fail> {
+    let tree = Value::from_str(alloc, text)?;
+    let members = tree.as_object().ok_or("no object")?;
+    Ok(new_row(alloc, table, members, rows))
+}
+
+/// The columns of a row whose number is 1.
+fn row_of_one(alloc: Global, table: &Table, rows: &NamedRows<'_>) -> Result<Columns, Fail> {
+    match inserted(alloc, table, rows, r#"{"n":1}"#)? {
+        Ok(columns) => Ok(columns),
+        Err(_) => Err(Fail::new("no row")),
+    }
+}
+
+/// The columns of that row with the given ones in their places.
+fn updated(
+    alloc: Global,
+    table: &Table,
+    rows: &NamedRows<'_>,
+    text: &str,
+) -> Result<Result<Columns, OpFault>, Fail> {
+    let columns = row_of_one(alloc, table, rows)?;
+    let tree = Value::from_str(alloc, text)?;
+    let members = tree.as_object().ok_or("no object")?;
+    match given_values(alloc, GivenRow::Changed, table, members, rows) {
+        Ok(given) => Ok(Ok(given_over(alloc, &given, &columns)?)),
+        Err(fault) => Ok(Err(fault)),
+    }
+}
+
+/// What mutations make of the columns of that row.
+fn mutated(
+    alloc: Global,
+    table: &Table,
+    rows: &NamedRows<'_>,
+    text: &str,
+) -> Result<Result<Columns, OpFault>, Fail> {
+    let columns = row_of_one(alloc, table, rows)?;
+    let tree = Value::from_str(alloc, text)?;
+    let items = tree.as_array().ok_or("no array")?;
+    match mutations_of(alloc, table, items.as_slice(), rows) {
+        Ok(mutations) => Ok(mutated_columns(alloc, mutations.as_slice(), &columns)),
+        Err(fault) => Ok(Err(fault)),
+    }
+}
+
+/// Whether what a word says of two arrays of rows, by their numbers alone, has come.
+fn waited(alloc: Global, table: &Table, rows: &NamedRows<'_>, text: &str) -> Result<String, Fail> {
+    let (word, arrays) = text.split_once(" ").ok_or("no rows")?;
+    let (seen, told_text) = arrays.split_once(" ").ok_or("no other rows")?;
+    let Some(until) = until_of(word) else {
+        return Ok(String::from_str(alloc, "none")?);
+    };
+    let compared = vec![in alloc; Text::from_str(alloc, "n")?]?;
+    let seen = Value::from_str(alloc, seen)?;
+    let seen = seen.as_array().ok_or("no array")?;
+    let known = Value::from_str(alloc, told_text)?;
+    let known = known.as_array().ok_or("no array")?;
+    match told_rows(alloc, table, compared.as_slice(), seen.as_slice(), rows) {
+        Ok(seen) => match told_rows(alloc, table, compared.as_slice(), known.as_slice(), rows) {
+            Ok(known) => {
+                let met = is_met(alloc, until, seen.as_slice(), known.as_slice())?;
+                Ok(format!(in alloc; "{met}")?)
+            }
+            Err(fault) => Ok(String::from_str(alloc, told(fault))?),
+        },
+        Err(fault) => Ok(String::from_str(alloc, told(fault))?),
+    }
+}
+
+/// The milliseconds of a timeout.
+fn timed(alloc: Global, text: &str) -> Result<String, Fail> {
+    let tree = Value::from_str(alloc, text)?;
+    match timeout_of(Some(&tree)) {
+        Ok(Some(milliseconds)) => Ok(format!(in alloc; "{milliseconds}")?),
+        Ok(None) => Ok(String::from_str(alloc, "none")?),
+        Err(fault) => Ok(String::from_str(alloc, told(fault))?),
+    }
+}
+
+impl Scripted for Given {
+    fn answer(&mut self, alloc: Global, command: &str) -> Result<String, Fail> {
+        let (word, text) = command.split_once(" ").ok_or("no text")?;
+        let table = self.schema.table("T").ok_or("no table")?;
+        let rows = NamedRows::new(alloc, self.ids.as_slice(), &self.operations)?;
+        match word {
+            "named" => number(alloc, rows.uuid_of(text)),
+            "at" => number(alloc, rows.id_at(text.parse::<usize>()?)),
+            "fault" => named(alloc, &rows, text),
+            "insert" => shown(alloc, inserted(alloc, table, &rows, text)?),
+            "update" => shown(alloc, updated(alloc, table, &rows, text)?),
+            "mutate" => shown(alloc, mutated(alloc, table, &rows, text)?),
+            "wait" => waited(alloc, table, &rows, text),
+            "timeout" => timed(alloc, text),
+            _ => Err(Fail::new("no such command")),
+        }
+    }
+}
+
+/// The commands come to what they say.
+fn are_given(alloc: Global, script: &str) -> Result<(), Fail> {
+    let schema = schema_of_text(alloc, SCHEMA)?;
+    let operations = trees(alloc, OPERATIONS)?;
+    let ids = vec![in alloc;
+        Uuid::from_u128(1),
+        Uuid::from_u128(2),
+        Uuid::from_u128(3),
+        Uuid::from_u128(4),
+    ]?;
+    let given = Given {
+        schema,
+        ids,
+        operations,
+    };
+    agrees(alloc, given, script)
+}
+
+#[test]
+fn the_first_insert_gives_a_name(rt: HostRuntime) -> Result<(), Fail> {
+    are_given(rt.alloc(), NAMES)
+}
+
+#[test]
+fn a_new_row_has_defaults(rt: HostRuntime) -> Result<(), Fail> {
+    are_given(rt.alloc(), NEW_ROWS)
+}
+
+#[test]
+fn a_changed_row_keeps_the_others(rt: HostRuntime) -> Result<(), Fail> {
+    are_given(rt.alloc(), CHANGED_ROWS)
+}
+
+#[test]
+fn mutations_go_one_after_another(rt: HostRuntime) -> Result<(), Fail> {
+    are_given(rt.alloc(), MUTATED_ROWS)
+}
+
+#[test]
+fn rows_are_compared_as_sets(rt: HostRuntime) -> Result<(), Fail> {
+    are_given(rt.alloc(), WAITS)
+}
