@@ -3,6 +3,7 @@ use ov_schema::Schema;
 use uuid::Uuid;
 
 /// The transaction that an operation is one of. What it is performed on is the stage's.
+#[derive(Clone, Copy)]
 pub struct OpCtx<'a> {
     /// The schema of the database.
     pub schema: &'a Schema,

@@ -135,8 +135,8 @@ const MUTATED: &str =
 [{"op":"mutate","table":"Switch","where":[],"mutations":[["load","*=",3],["load","-=",2],["load","/=",4]]},{"op":"select","table":"Switch","where":[],"columns":["load"]}] -> {"count":2} {"rows":[{"load":2}]} 2
 [{"op":"mutate","table":"Switch","where":[],"mutations":[]}] -> {"count":2} 0
 [{"op":"mutate","table":"Switch","where":[],"mutations":[["ports","insert",["uuid","00000000-0000-0000-0000-000000000004"]],["ports","delete",["uuid","00000000-0000-0000-0000-000000000004"]]]}] -> {"count":2} 0
-[{"op":"mutate","table":"Port","where":[],"mutations":[["tag","insert",4095]]},{"op":"select","table":"Port","where":[],"columns":["tag"]}] -> {"count":1} {"rows":[{"tag":4095}]} 1
-[{"op":"mutate","table":"Port","where":[],"mutations":[["tag","insert",4096]]}] -> constraint violation
+[{"op":"insert","table":"Port","row":{}},{"op":"mutate","table":"Port","where":[["name","==",""]],"mutations":[["tag","insert",4095]]},{"op":"select","table":"Port","where":[["name","==",""]],"columns":["tag"]}] -> {"uuid":["uuid","00000000-0000-4000-8000-000000000002"]} {"count":1} {"rows":[{"tag":4095}]} 1
+[{"op":"insert","table":"Port","row":{}},{"op":"mutate","table":"Port","where":[["name","==",""]],"mutations":[["tag","insert",4096]]}] -> {"uuid":["uuid","00000000-0000-4000-8000-000000000002"]} constraint violation
 [{"op":"mutate","table":"Switch","where":[],"mutations":[["load","+=",1],["name","+=",1]]}] -> syntax error
 [{"op":"mutate","table":"Switch","where":[],"mutations":[["_uuid","insert",1]]}] -> constraint violation
 [{"op":"mutate","table":"Switch","where":[],"mutations":[["colour","+=",1]]}] -> unknown column
