@@ -10,7 +10,7 @@ use std::alloc::AllocError;
 /// Puts rows of these columns at these keys. The version of each follows from the rows before the transaction (RFC 7047, 3.2).
 pub(crate) fn put_rows(
     stage: &mut Stage<'_>,
-    ctx: &OpCtx<'_>,
+    ctx: &OpCtx<'_, '_, '_>,
     changed: Vec<(RowKey, Columns)>,
 ) -> Result<(), AllocError>
     ensures rows { OnOk result (stage.new ≡ record stage.old { now = spec.put_rows (context_of ctx.now stage.old.before) changed.items stage.old.now }) }

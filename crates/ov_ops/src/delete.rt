@@ -47,7 +47,7 @@ fn remove_rows(stage: &mut Stage<'_>, keys: Vec<RowKey>) -> Result<(), AllocErro
 pub(crate) fn delete<'a>(
     alloc: Global,
     stage: &mut Stage<'_>,
-    ctx: &OpCtx<'a>,
+    ctx: &OpCtx<'a, '_, '_>,
     operation: &'a Value,
 ) -> Result<Tree, OpFault>
     ensures done { IsDone (spec.delete_outcome (context_of ctx.now stage.old.before) stage.old.now (view operation.now)) result stage.new.now }

@@ -42,7 +42,7 @@ pub fn insert_result(alloc: Global, id: Uuid) -> Result<Tree, AllocError>
 fn put_new(
     alloc: Global,
     stage: &mut Stage<'_>,
-    ctx: &OpCtx<'_>,
+    ctx: &OpCtx<'_, '_, '_>,
     table: &str,
     columns: Columns,
     id: Option<Uuid>,
@@ -67,7 +67,7 @@ fn put_new(
 pub(crate) fn insert<'a>(
     alloc: Global,
     stage: &mut Stage<'_>,
-    ctx: &OpCtx<'a>,
+    ctx: &OpCtx<'a, '_, '_>,
     place: usize,
     operation: &'a Value,
 ) -> Result<Tree, OpFault>

@@ -16,7 +16,7 @@ use std::alloc::Global;
 
 /// The table that the operation names, with its name (RFC 7047, 5.2).
 pub(crate) fn table_at<'a>(
-    ctx: &OpCtx<'a>,
+    ctx: &OpCtx<'a, '_, '_>,
     operation: &'a Value,
 ) -> Result<(&'a str, &'a Table), OpFault>
     ensures { (before : Database) (next : List ℕ → table → spec.OpOutcome)
@@ -34,7 +34,7 @@ pub(crate) fn table_at<'a>(
 /// The conditions of `where` on rows of the table (RFC 7047, 5.2.2).
 pub(crate) fn conditions_at(
     alloc: Global,
-    ctx: &OpCtx<'_>,
+    ctx: &OpCtx<'_, '_, '_>,
     table: &Table,
     operation: &Value,
 ) -> Result<Vec<Condition>, OpFault>

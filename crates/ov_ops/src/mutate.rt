@@ -45,7 +45,7 @@ fn mutated_rows(
 pub(crate) fn mutate<'a>(
     alloc: Global,
     stage: &mut Stage<'_>,
-    ctx: &OpCtx<'a>,
+    ctx: &OpCtx<'a, '_, '_>,
     operation: &'a Value,
 ) -> Result<Tree, OpFault>
     ensures done { IsDone (spec.mutate_outcome (context_of ctx.now stage.old.before) stage.old.now (view operation.now)) result stage.new.now }

@@ -22,7 +22,7 @@ use std::alloc::Global;
 fn run_reader<'a>(
     alloc: Global,
     stage: &Stage<'_>,
-    ctx: &OpCtx<'a>,
+    ctx: &OpCtx<'a, '_, '_>,
     op: &str,
     operation: &'a Value,
 ) -> OpOutcome
@@ -43,7 +43,7 @@ fn run_reader<'a>(
 pub fn run_op<'a>(
     alloc: Global,
     stage: &mut Stage<'_>,
-    ctx: &OpCtx<'a>,
+    ctx: &OpCtx<'a, '_, '_>,
     place: usize,
     operation: &'a Value,
 ) -> OpOutcome

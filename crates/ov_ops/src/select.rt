@@ -104,7 +104,7 @@ pub fn select_result(
 pub(crate) fn select<'a>(
     alloc: Global,
     stage: &Stage<'_>,
-    ctx: &OpCtx<'a>,
+    ctx: &OpCtx<'a, '_, '_>,
     operation: &'a Value,
 ) -> Result<Tree, OpFault>
     ensures { IsDone (select_outcome (context_of ctx.now stage.now.before) stage.now.now (view operation.now)) result stage.now.now }

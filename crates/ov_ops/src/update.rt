@@ -40,7 +40,7 @@ fn updated_rows(
 pub(crate) fn update<'a>(
     alloc: Global,
     stage: &mut Stage<'_>,
-    ctx: &OpCtx<'a>,
+    ctx: &OpCtx<'a, '_, '_>,
     operation: &'a Value,
 ) -> Result<Tree, OpFault>
     ensures done { IsDone (spec.update_outcome (context_of ctx.now stage.old.before) stage.old.now (view operation.now)) result stage.new.now }

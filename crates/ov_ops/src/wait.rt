@@ -32,7 +32,7 @@ struct Waited<'a> {
 
 impl<'a> Waited<'a> {
     /// The members in their order (RFC 7047, 5.2.6).
-    fn read(alloc: Global, ctx: &OpCtx<'a>, operation: &'a Value) -> Result<Waited<'a>, OpFault>
+    fn read(alloc: Global, ctx: &OpCtx<'a, '_, '_>, operation: &'a Value) -> Result<Waited<'a>, OpFault>
         ensures { (before rows : Database) → GoesOn (spec.wait_outcome (context_of ctx.now before) rows (view operation.now))
             (λ w. spec.waits (context_of ctx.now before) w.timeout (spec.is_met (until_view w.until) (map (projection w.compared.items) (matching rows w.table.now w.conditions.items)) w.told.items) rows) result }
     {
@@ -93,7 +93,7 @@ fn come(alloc: Global, timeout: Option<u64>, age: u64, has_come: bool) -> OpOutc
 pub(crate) fn wait<'a>(
     alloc: Global,
     stage: &Stage<'_>,
-    ctx: &OpCtx<'a>,
+    ctx: &OpCtx<'a, '_, '_>,
     operation: &'a Value,
 ) -> OpOutcome
     ensures { IsOutcome (spec.wait_outcome (context_of ctx.now stage.now.before) stage.now.now (view operation.now)) result stage.now.now }

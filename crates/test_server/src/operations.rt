@@ -39,7 +39,12 @@ fn told(alloc: Global, results: String, outcome: OpOutcome) -> Result<(String, b
 }
 
 impl Operations {
-    fn run(&self, alloc: Global, ctx: &OpCtx<'_>, operations: &Trees) -> Result<String, Fail> {
+    fn run<'a>(
+        &self,
+        alloc: Global,
+        ctx: &OpCtx<'a, '_, '_>,
+        operations: &'a Trees,
+    ) -> Result<String, Fail> {
         let mut stage = Stage::new(alloc, &self.rows);
         let mut results = String::new(alloc);
         let trees = operations.as_slice();

@@ -73,7 +73,8 @@ fn text_of(alloc: Global, rows: &[RowView<'_>]) -> Result<String, Fail> {
     let mut text = String::new(alloc);
     for row in rows {
         let id = row.id.as_u128();
-        let version = row.row.version.as_u128();
+        let stored = row.row;
+        let version = stored.version.as_u128();
         text.push_str(format!(in alloc; "{id}/{version};")?.as_str())?;
     }
     Ok(text)
