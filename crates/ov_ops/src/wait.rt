@@ -32,7 +32,11 @@ struct Waited<'a> {
 
 impl<'a> Waited<'a> {
     /// The members in their order (RFC 7047, 5.2.6).
-    fn read(alloc: Global, ctx: &OpCtx<'a, '_, '_>, operation: &'a Value) -> Result<Waited<'a>, OpFault>
+    fn read(
+        alloc: Global,
+        ctx: &OpCtx<'a, '_, '_>,
+        operation: &'a Value,
+    ) -> Result<Waited<'a>, OpFault>
         ensures { (before rows : Database) → GoesOn (spec.wait_outcome (context_of ctx.now before) rows (view operation.now))
             (λ w. spec.waits (context_of ctx.now before) w.timeout (spec.is_met (until_view w.until) (map (projection w.compared.items) (matching rows w.table.now w.conditions.items)) w.told.items) rows) result }
     {
