@@ -1,8 +1,7 @@
 -- The identifier that a condition asks for: the rows that meet it are one at most. What names no source is our own.
 use Rattle.std.specs.Prelude.{◌≡◌, true, if◌then◌else◌, Option, None, codes}
 use Rattle.std.specs.Str.{bytes_eq}
-use Rattle.ov_specs.specs.operations.Conditions.{Condition, Function, Equal, holds}
-use Rattle.ov_specs.specs.operations.Operation.{entry_value}
+use Rattle.ov_specs.specs.operations.Conditions.{Condition, Function, Equal, holds, entry_value}
 use Rattle.ov_specs.specs.rows.Database.{Row}
 use Rattle.ov_specs.specs.rows.Lines.{LineKey}
 use Rattle.ov_specs.specs.values.Uuid.{Uuid}

@@ -10,7 +10,8 @@ use Rattle.ov_specs.specs.wire.Frame.{frame}
 use Rattle.ov_specs.specs.rows.Lines.{Contents}
 use Rattle.ov_specs.specs.machine.Machine as machine
 use Rattle.ov_specs.specs.machine.Machine.{State, Sent, Stepped, Work, Answers, Transact, works, draws_for, attempt, sends_at_once, closed, without_session, to_session, results_to}
-use Rattle.ov_specs.specs.operations.Transaction.{transaction, draws_wanted, exhausted_results, failed_results}
+use Rattle.ov_specs.specs.operations.Draws.{draws_wanted}
+use Rattle.ov_specs.specs.operations.Transaction.{transaction, exhausted_results, failed_results}
 use Rattle.ov_specs.specs.values.Uuid.{Uuid}
 use Rattle.ov_db.specs.Committing.{IsHeld}
 use Rattle.ov_db.specs.Changing.{Delta, applied}

@@ -5,7 +5,8 @@ use Rattle.std.proofs.lemmas.Bool.{and_parts}
 use Rattle.std.specs.FinMap.{empty, get, insert, entries, find, same_map, get-empty, get-insert, get-entries}
 use Rattle.serde_json.specs.Data.{Data}
 use Rattle.serde_json.specs.Find as find
-use Rattle.ov_specs.specs.operations.Operation.{is_own_column, no_names}
+use Rattle.ov_specs.specs.rows.RowNames.{is_own_column}
+use Rattle.ov_specs.specs.values.Uuid.{no_names}
 use Rattle.ov_specs.specs.rows.Database.{Columns, Row, Database, line_of, object_of, written_column, AreLinesOf}
 use Rattle.ov_specs.specs.rows.Lines.{LineKey, Lines}
 use Rattle.ov_specs.specs.rows.Suits.{is_value_for, column_of_row, suits_column, SuitsTable, SuitsRow}

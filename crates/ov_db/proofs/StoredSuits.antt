@@ -7,14 +7,14 @@ use Rattle.std.specs.FinMap.{empty, get, insert, entries, contains_key}
 use Rattle.std.specs.Str.{bytes_eq}
 use Rattle.serde_json.specs.Data.{Data}
 use Rattle.serde_json.specs.Find as find
-use Rattle.ov_specs.specs.operations.Operation.{is_own_column, no_names}
+use Rattle.ov_specs.specs.rows.RowNames.{is_own_column}
 use Rattle.ov_specs.specs.rows.Database.{Columns, Row, line_of}
 use Rattle.ov_specs.specs.rows.Lines.{LineKey, LineBody}
 use Rattle.ov_specs.specs.rows.Suits.{is_value_for, SuitsTable, SuitsRow}
 use Rattle.ov_specs.specs.schema.Fitting.{fits}
 use Rattle.ov_specs.specs.schema.SchemaTypes.{Column, Table, Schema, kinds_of}
 use Rattle.ov_specs.specs.values.Reading.{Reading, Reads, Unreadable, Clashing, reads}
-use Rattle.ov_specs.specs.values.Uuid.{is_uuid}
+use Rattle.ov_specs.specs.values.Uuid.{is_uuid, no_names}
 use Rattle.ov_specs.specs.values.Value.{Datum, is_of}
 use Rattle.ov_specs.specs.wire.Message.{tree_of}
 use Rattle.ov_specs.proofs.laws.Names.{each_entry}

@@ -10,7 +10,8 @@ use Rattle.ov_specs.specs.schema.Fitting.{fits}
 use Rattle.ov_specs.specs.rows.Lines.{LineKey, LineBody, Lines}
 use Rattle.ov_specs.specs.wire.Message.{tree_of}
 use Rattle.std.specs.Str.{bytes_eq}
-use Rattle.ov_specs.specs.operations.Operation.{is_own_column, no_names}
+use Rattle.ov_specs.specs.rows.RowNames.{is_own_column}
+use Rattle.ov_specs.specs.values.Uuid.{no_names}
 use Rattle.ov_specs.specs.values.Reading.{Reading, Reads, Unreadable, Clashing, reads}
 use Rattle.ov_specs.specs.schema.SchemaTypes.{Column, Table, Schema, kinds_of}
 use Rattle.ov_specs.specs.values.Value.{Datum}

@@ -4,7 +4,7 @@ use Rattle.std.specs.Prelude.{unwrap_or}
 use Rattle.std.specs.List.{slice_get}
 use Rattle.serde_json.specs.Data.{Items, no_items, item}
 use Rattle.ov_specs.specs.operations.NamedUuids.{inserts_before}
-use Rattle.ov_specs.specs.operations.Transaction.{is_insert, insert_count}
+use Rattle.ov_specs.specs.operations.Draws.{is_insert, insert_count}
 
 -- the counts before each of the operations, with this one before the first
 abbrev pub counts_from : ℕ → Items → List ℕ

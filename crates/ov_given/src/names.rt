@@ -7,7 +7,7 @@ ghost use Rattle.ov_specs.specs.operations.Errors.{DuplicateName};
 ghost use Rattle.ov_specs.specs.operations.Insert.{name_fault};
 ghost use Rattle.ov_specs.specs.operations.NamedUuids.{declares, place_declared, is_declared_before, inserts_before, id_at};
 ghost use Rattle.ov_specs.specs.operations.OpOutcome.{OpContext};
-ghost use Rattle.ov_specs.specs.operations.Transaction.{is_insert};
+ghost use Rattle.ov_specs.specs.operations.Draws.{is_insert};
 ghost use Rattle.ov_specs.specs.schema.Schema.{is_some_and};
 ghost use Rattle.ov_given.specs.Naming.{ArePlaces, first_of, place_at};
 ghost use Rattle.ov_stage.specs.Errors.{error_view};

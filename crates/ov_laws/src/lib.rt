@@ -7,6 +7,7 @@ ghost use Rattle.serde_json.specs.Data.{Data, Items};
 ghost use Rattle.ov_specs.specs.wire.Cut.{Cut, cut, cut_from, IsCut, continue_cut, with_messages, max_message};
 ghost use Rattle.ov_specs.specs.wire.Message.{asked};
 ghost use Rattle.ov_specs.specs.machine.Machine.{State, is_open, Entry, Stepped, Outcome, Transact, step, works, to_session, results_of, opening};
+ghost use Rattle.ov_specs.specs.operations.Transaction.{has_error};
 ghost use Rattle.ov_specs.specs.machine.Suiting.{SuitsState, draws_uuids};
 ghost use Rattle.ov_specs.specs.rows.Suits.{Suits};
 ghost use Rattle.ov_specs.specs.schema.SchemaTypes.{Schema};
@@ -14,7 +15,6 @@ ghost use Rattle.ov_specs.specs.rows.Database.{Database};
 ghost use Rattle.ov_specs.specs.machine.History.{run, requests, closed_by};
 ghost use Rattle.ov_specs.specs.machine.Streams.{StreamEvent, Streams, ExpandsTimed};
 ghost use Rattle.ov_specs.specs.values.Uuid.{Uuid};
-ghost use Rattle.ov_laws.specs.Refused.{has_error};
 ghost use Rattle.ov_laws.specs.Requests.{AreAskedFor};
 
 /// The relation and the program tell of the same cuts, of every stream.

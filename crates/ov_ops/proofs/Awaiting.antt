@@ -5,8 +5,9 @@ use Rattle.serde_json.specs.Data.{Data, Items}
 use Rattle.serde_json.specs.Find as find
 use Rattle.ov_specs.specs.operations.Conditions.{Condition}
 use Rattle.ov_specs.specs.operations.Errors.{OpError, SyntaxError}
-use Rattle.ov_specs.specs.operations.MatchingRows.{on_conditions}
-use Rattle.ov_specs.specs.operations.Operation.{matching, projection, text_at, array_at}
+use Rattle.ov_specs.specs.operations.MatchingRows.{on_conditions, matching}
+use Rattle.ov_specs.specs.operations.Select.{projection}
+use Rattle.ov_specs.specs.operations.Members.{text_at, array_at}
 use Rattle.ov_specs.specs.operations.OpOutcome.{OpContext, OpOutcome, Fault, names_in, some_or_fault, ok_or_fault}
 use Rattle.ov_specs.specs.operations.Wait.{Until, timeout_read, compared_columns, until_of, told_rows, is_met, waits}
 use Rattle.ov_specs.specs.rows.Database.{Database}

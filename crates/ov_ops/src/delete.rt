@@ -1,8 +1,7 @@
 ghost use Rattle.std.specs.Prelude.{◌≡◌, IfOk, OnOk, map};
 ghost use Rattle.serde_json.specs.View.{view};
 ghost use Rattle.ov_specs.specs.operations.Delete as spec;
-ghost use Rattle.ov_specs.specs.operations.MatchingRows.{without_rows};
-ghost use Rattle.ov_specs.specs.operations.Operation.{matching};
+ghost use Rattle.ov_specs.specs.operations.MatchingRows.{without_rows, matching};
 ghost use Rattle.ov_ops.specs.Outcomes.{context_of, IsDone};
 
 use crate::context::OpCtx;

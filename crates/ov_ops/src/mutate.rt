@@ -1,7 +1,7 @@
 ghost use Rattle.std.specs.Prelude.{◌≡◌};
 ghost use Rattle.serde_json.specs.View.{view};
 ghost use Rattle.ov_specs.specs.operations.Mutate as spec;
-ghost use Rattle.ov_specs.specs.operations.Operation.{matching};
+ghost use Rattle.ov_specs.specs.operations.MatchingRows.{matching};
 ghost use Rattle.ov_ops.specs.Outcomes.{context_of, IsDone};
 ghost use Rattle.ov_stage.specs.Errors.{IsOpResult};
 

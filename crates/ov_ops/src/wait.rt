@@ -1,6 +1,7 @@
 ghost use Rattle.std.specs.Prelude.{◌≡◌, IfOk, map};
 ghost use Rattle.serde_json.specs.View.{view};
-ghost use Rattle.ov_specs.specs.operations.Operation.{matching, projection};
+ghost use Rattle.ov_specs.specs.operations.MatchingRows.{matching};
+ghost use Rattle.ov_specs.specs.operations.Select.{projection};
 ghost use Rattle.ov_specs.specs.operations.OpOutcome.{OpContext};
 ghost use Rattle.ov_specs.specs.operations.Wait as spec;
 ghost use Rattle.ov_specs.specs.rows.Database.{Database};

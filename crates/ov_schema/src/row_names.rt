@@ -1,6 +1,5 @@
 ghost use Rattle.std.specs.Prelude.{◌≡◌, IfOk, map};
-ghost use Rattle.ov_specs.specs.operations.Operation.{is_own_column};
-ghost use Rattle.ov_specs.specs.rows.RowNames.{without_own};
+ghost use Rattle.ov_specs.specs.rows.RowNames.{without_own, is_own_column};
 
 use crate::column::Column;
 use ov_base::Text;

@@ -4,14 +4,15 @@ use Rattle.std.specs.Prelude.{◌&&◌, is_some}
 use Rattle.std.proofs.lemmas.Bool.{cases_eq, and_parts, ne_eqb, false≢true}
 use Rattle.serde_json.specs.Data.{Data}
 use Rattle.ov_specs.specs.wire.Message.{Message}
-use Rattle.ov_specs.specs.machine.Machine.{State, Entry, Event, Open, Take, Close, Tick, Cause, Outcome, NoMemory, Committed, Exhausted, Failed, Listed, listed, ends, Stepped, step, takes, sends_at_once, closed, when, is_open, is_without_choice, with_next_session, to_session, none_listed, opening, Work, Answers, Transact, work_of, works, draws_for, does, commits, results_of, results_to}
-use Rattle.ov_specs.specs.rows.Database.{Database, same_database}
+use Rattle.ov_specs.specs.machine.Machine.{State, Entry, Event, Open, Take, Close, Tick, Cause, Outcome, Listed, listed, ends, Stepped, step, takes, closed, when, is_open, is_without_choice, with_next_session, to_session, none_listed, opening, Work, work_of, works, results_of}
+use Rattle.ov_specs.specs.rows.Database.{Database}
 use Rattle.ov_specs.specs.schema.SchemaTypes.{Schema}
-use Rattle.ov_specs.specs.operations.Transaction.{Transacted, transaction, exhausted_results, failed_results}
+use Rattle.ov_specs.specs.operations.Transaction.{failed_results}
 use Rattle.ov_specs.specs.values.Uuid.{Uuid}
 use Rattle.ov_specs.specs.machine.History.{run, frames_to, closing_cause, closed_by}
 use Rattle.std.specs.Option.{option_or}
 use Rattle.ov_specs.proofs.laws.Histories.{run_parts, closed_by_first}
+use Rattle.ov_specs.proofs.laws.Works.{work_has}
 use Rattle.ov_specs.proofs.laws.Turns.{ends_tries, turn_open, turn_tick, turn_close, turn_close_other, turn_take, turn_take_other, stepped}
 use Rattle.ov_core.proofs.Answered.{frames_to-to_session}
 use Rattle.ov_core.proofs.Steps.{frames_to-append}
@@ -28,44 +29,19 @@ suits false o x h = cc
 abbrev now : State → Entry → State
 now s e = record s { moment = e.choice.moment }
 
+-- another session is sent nothing
+abbrev IsAside : ℕ → Stepped → Type 0
+IsAside m x = (n : ℕ) → n ≢ m → frames_to n x.sent ≡ []
+
 -- what is sent to one session is nothing to another
-sends_aside : (x t : Stepped) (m : ℕ) (trees : List Data) → x.sent ≡ to_session m trees → Some x ≡ Some t → (n : ℕ) → n ≢ m → frames_to n t.sent ≡ []
-sends_aside x t m trees sent h n other =
-    ap (λ (v : Stepped). frames_to n v.sent) (sym (same_Some x t h)) ∙ (ap (frames_to n) sent ∙ (frames_to-to_session m n trees ∙ rw (ne_eqb n m other) refl))
+sends_aside : (m : ℕ) (trees : List Data) (n : ℕ) → n ≢ m → frames_to n (to_session m trees) ≡ []
+sends_aside m trees n other = frames_to-to_session m n trees ∙ rw (ne_eqb n m other) refl
 
--- what is sent at once is nothing to another session
-at_once_aside : (s : State) (m : ℕ) (trees : List Data) (o : Option Outcome) (t : Stepped) → sends_at_once s (to_session m trees) o ≡ Some t → (n : ℕ) → n ≢ m → frames_to n t.sent ≡ []
-at_once_aside s m trees None t h n other = sends_aside (record { state = s; sent = to_session m trees }) t m trees refl h n other
-at_once_aside s m trees (Some outcome) t h n other = cc
-
--- nor is what a commit sends
-commit_aside : (s : State) (m : ℕ) (id : Data) (r : Transacted) (o : Option Outcome) (t : Stepped) → commits s m id r o ≡ Some t → (n : ℕ) → n ≢ m → frames_to n t.sent ≡ []
-commit_aside s m id r (Some Committed) t h n other = sends_aside (record { state = record s { database = r.database }; sent = results_to m id r.results }) t m (results_of id r.results) refl h n other
-commit_aside s m id r (Some Exhausted) t h n other = sends_aside (record { state = s; sent = results_to m id (exhausted_results r.results) }) t m (results_of id (exhausted_results r.results)) refl h n other
-commit_aside s m id r (Some Failed) t h n other = sends_aside (record { state = record s { sealed = Some r.database }; sent = results_to m id (failed_results r.results) }) t m (results_of id (failed_results r.results)) refl h n other
-commit_aside s m id r (Some NoMemory) t h n other = cc
-commit_aside s m id r None t h n other = cc
-
--- nor what any transaction sends
-attempt_aside : (s : State) (m : ℕ) (id : Data) (r : Transacted) (o : Option Outcome) (t : Stepped) (same sealed : Bool)
-    → cond same (sends_at_once s (results_to m id r.results) o) (cond sealed (sends_at_once s (results_to m id (failed_results r.results)) o) (commits s m id r o)) ≡ Some t
-    → (n : ℕ) → n ≢ m → frames_to n t.sent ≡ []
-attempt_aside s m id r o t true sealed h n other = at_once_aside s m (results_of id r.results) o t h n other
-attempt_aside s m id r o t false true h n other = at_once_aside s m (results_of id (failed_results r.results)) o t h n other
-attempt_aside s m id r o t false false h n other = commit_aside s m id r o t h n other
-
--- nor what any work sends
-done_aside : (s : State) (m : ℕ) (draws : List Uuid) (o : Option Outcome) (w : Work) (t : Stepped) → does s m draws o w ≡ Some t → (n : ℕ) → n ≢ m → frames_to n t.sent ≡ []
-done_aside s m draws o (Answers trees) t h n other = at_once_aside s m trees o t h n other
-done_aside s m draws o (Transact id operations) t h n other =
-    let r : Transacted = transaction s.schema s.database draws operations in
-    attempt_aside s m id r o t (same_database s.database r.database) (is_some s.sealed) h n other
-
--- and a session that is closed is sent nothing
-work_aside : (s : State) (m : ℕ) (draws : List Uuid) (o : Option Outcome) (w : Work) (t : Stepped) → works s m draws o w ≡ Some t → (n : ℕ) → n ≢ m → frames_to n t.sent ≡ []
-work_aside s m draws (Some NoMemory) w t h n other =
-    ap (λ (v : Stepped). frames_to n v.sent) (sym (same_Some (closed s m) t (suits (leb (length draws) (draws_for w)) (Some (closed s m)) t h).1))
-work_aside s m draws o w t h n other = done_aside s m draws o w t (suits (eqb (length draws) (draws_for w)) (does s m draws o w) t h).1 n other
+-- nor is what any work sends
+work_aside : (s : State) (m : ℕ) (draws : List Uuid) (o : Option Outcome) (w : Work) (t : Stepped) → works s m draws o w ≡ Some t → IsAside m t
+work_aside s m draws o w t h =
+    work_has (IsAside m) s m (λ trees. sends_aside m trees) draws o w t (λ n other. refl)
+    (λ id operations results database is completes. (sends_aside m (results_of id results), sends_aside m (results_of id (failed_results results)))) h
 
 module _ (s : State) (e : Entry) (t : Stepped) (h : step s e ≡ Some t) where
   -- an opening sends nothing

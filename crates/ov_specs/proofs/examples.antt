@@ -4,7 +4,7 @@ mod ValueRows
 mod SchemaRows
 mod ConditionRows
 mod MutatorRows
-mod TransactionRows
+mod InsertRows
 mod MachineRows
 mod SuitsRows
 mod NetRows
@@ -13,4 +13,4 @@ mod NamedUuidRows
 mod TwoSwitches
 mod StagedRows
 mod WaitRows
-mod AnyTransactionRows
+mod TransactionRows

@@ -13,6 +13,7 @@ pub mod Sameness
 pub mod SchemaLaws
 pub mod Expanding
 pub mod Histories
+pub mod Works
 pub mod Turns
 pub mod LineKeys
 pub mod Truths
@@ -22,8 +23,8 @@ pub mod Suiting
 pub mod FoundRows
 pub mod MadeRows
 pub mod OutcomeSuiting
+pub mod StepSuiting
 pub mod RefusedOutcome
-pub mod AsToday
 pub mod Nesting
 pub mod Bodies
 pub mod Printing

@@ -1,8 +1,8 @@
 pub mod Errors
 pub mod Conditions
 pub mod Mutators
-pub mod Operation
-pub mod Transaction
+pub mod Members
+pub mod Draws
 pub mod NamedUuids
 pub mod OpOutcome
 pub mod GivenRow
@@ -16,5 +16,5 @@ pub mod Wait
 pub mod Commit
 pub mod Abort
 pub mod Comment
-pub mod AnyOperation
-pub mod AnyTransaction
+pub mod Operation
+pub mod Transaction

@@ -5,7 +5,7 @@ use Rattle.serde_json.specs.View.{view, items_view}
 use Rattle.serde_json.specs.declared.value.Value.{Value}
 use Rattle.ov_specs.specs.operations.Conditions.{Condition, condition_read}
 use Rattle.ov_specs.specs.operations.Errors.{OpError}
-use Rattle.ov_specs.specs.operations.Operation.{and_others, conditions_read}
+use Rattle.ov_specs.specs.operations.MatchingRows.{and_others, conditions_read}
 use Rattle.ov_specs.specs.schema.SchemaTypes.{Table}
 use Rattle.ov_specs.specs.values.Uuid.{Names}
 

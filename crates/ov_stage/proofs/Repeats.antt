@@ -6,7 +6,7 @@ use Rattle.std.specs.List.{list_any}
 use Rattle.std.specs.Cmp.{eq_by_cmp_equiv, partial_equiv_from_equiv}
 use Rattle.std.specs.Cmp.Lexicographic.{lists_total}
 use Rattle.ov_specs.specs.rows.Database.{same_columns}
-use Rattle.ov_specs.specs.operations.Operation.{without_repeats}
+use Rattle.ov_specs.specs.operations.Select.{without_repeats}
 use Rattle.ov_specs.specs.values.Value.{Datum}
 use Rattle.ov_specs.proofs.laws.Sameness.{column_cmp_total, columns-tied}
 use Rattle.ov_specs.proofs.laws.Truths.{or_nothing, or_truth}

@@ -13,8 +13,9 @@ use Rattle.std.specs.Ordering.{nat_cmp, eq_by_cmp, is_lt, is_eq, ordering_then}
 use Rattle.std.specs.Str.{bytes_eq}
 use Rattle.ov_specs.specs.rows.Database.{Row, Database, one_uuid, same_columns}
 use Rattle.ov_specs.specs.rows.Lines.{LineKey, line_cmp}
-use Rattle.ov_specs.specs.operations.Conditions.{Condition}
-use Rattle.ov_specs.specs.operations.Operation.{entry_value, projection, is_matching, matching, without_repeats}
+use Rattle.ov_specs.specs.operations.Conditions.{Condition, entry_value}
+use Rattle.ov_specs.specs.operations.Select.{projection, without_repeats}
+use Rattle.ov_specs.specs.operations.MatchingRows.{is_matching, matching}
 use Rattle.ov_specs.specs.values.Uuid.{Uuid as Identifier}
 use Rattle.ov_specs.specs.values.Value.{Atom, Uuid, Datum, datum_cmp, Atoms, Pairs}
 use Rattle.ov_specs.proofs.laws.LineKeys.{same_tied}

@@ -9,8 +9,7 @@ use Rattle.std.specs.List.{list_all}
 use Rattle.ov_db.specs.Changing.{Delta}
 use Rattle.ov_rows.specs.Resident.{database_code}
 use Rattle.ov_rows.specs.declared.row_view.RowView.{RowView}
-use Rattle.ov_specs.specs.operations.Conditions.{Condition, column_value, holds}
-use Rattle.ov_specs.specs.operations.Operation.{entry_value}
+use Rattle.ov_specs.specs.operations.Conditions.{Condition, column_value, holds, entry_value}
 use Rattle.ov_specs.specs.rows.Database.{Columns, Database, Row, same_columns}
 use Rattle.ov_specs.specs.rows.Lines.{LineKey}
 use Rattle.ov_specs.specs.values.Uuid.{Uuid}

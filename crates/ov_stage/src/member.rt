@@ -1,6 +1,6 @@
 ghost use Rattle.std.specs.Prelude.{◌≡◌, option_copied};
 ghost use Rattle.serde_json.specs.View.{view};
-ghost use Rattle.ov_specs.specs.operations.Operation.{text_at};
+ghost use Rattle.ov_specs.specs.operations.Members.{text_at};
 
 use serde_json::Value;
 

@@ -3,7 +3,7 @@ ghost use Rattle.std.specs.List.{filter};
 ghost use Rattle.std.specs.FinMap.{contains_key, get, insert, remove, entries, len};
 ghost use Rattle.ov_db.specs.Changing.{applied};
 ghost use Rattle.ov_rows.specs.Lending.{lent_row_of};
-ghost use Rattle.ov_specs.specs.operations.Operation.{matching};
+ghost use Rattle.ov_specs.specs.operations.MatchingRows.{matching};
 ghost use Rattle.ov_specs.specs.rows.Database.{same_database};
 ghost use Rattle.ov_specs.specs.rows.Version.{row_now};
 ghost use Rattle.std.specs.Str.{bytes_eq};

@@ -1,7 +1,7 @@
 ghost use Rattle.std.specs.Prelude.{◌≡◌, length, true, IfOk, OnErr};
 ghost use Rattle.std.specs.List.{list_all};
 ghost use Rattle.serde_json.specs.View.{view, items_view};
-ghost use Rattle.ov_specs.specs.operations.Transaction.{is_insert, insert_count, draws_wanted};
+ghost use Rattle.ov_specs.specs.operations.Draws.{is_insert, insert_count, draws_wanted};
 ghost use Rattle.ov_specs.specs.values.Uuid.{Uuid as Bytes16, is_uuid};
 ghost use Rattle.ov_txn.specs.Drawing.{DrawsFrom};
 

@@ -1,5 +1,5 @@
 use Rattle.ov_specs.specs.machine.Machine.{opening}
-use Rattle.ov_specs.proofs.laws.Suiting.{step_suits, run_suits, opening_suits}
+use Rattle.ov_specs.proofs.laws.StepSuiting.{step_suits, run_suits, opening_suits}
 use Rattle.ov_laws.proofs.rows_stay_those_of_the_schema.Goals as goal
 
 pub returns-clause-step : goal.returns-clause-step

@@ -8,7 +8,7 @@ use Rattle.serde_json.specs.Read.{read}
 use Rattle.serde_json.proofs.OnLiterals.{serde_json_on_literals}
 use Rattle.ov_specs.specs.operations.Conditions.{Less, LessOrEqual, Equal, Includes, Excludes, Condition, ConditionFault, BadCondition, NoColumn, condition_read, compares, column_value, holds}
 use Rattle.ov_specs.specs.rows.Database.{Columns, one_uuid}
-use Rattle.ov_specs.specs.operations.Operation.{no_names}
+use Rattle.ov_specs.specs.values.Uuid.{no_names}
 use Rattle.ov_specs.specs.schema.SchemaTypes.{BaseType, Column, Table, name_cmp}
 use Rattle.ov_specs.specs.values.Value.{AtomKind, Integers, Texts, Atom, Integer, Text, atom_cmp, marked, Datum, Atoms, Pairs, set_of, map_of}
 use Rattle.ov_specs.proofs.laws.Order.{atom_cmp_total}

@@ -9,7 +9,7 @@ use Rattle.serde_json.specs.Read.{read}
 use Rattle.serde_json.proofs.OnLiterals.{serde_json_on_literals}
 use Rattle.ov_specs.specs.operations.Mutators.{Plus, Times, Over, Modulo, Change, Compute, Insert, Delete, Mutation, MutationFault, Clash, NotMutable, mutation_read, Domain, Range, Constraint, mutated}
 use Rattle.ov_specs.specs.schema.Fitting.{fits}
-use Rattle.ov_specs.specs.operations.Operation.{no_names}
+use Rattle.ov_specs.specs.values.Uuid.{no_names}
 use Rattle.ov_specs.specs.schema.SchemaTypes.{BaseType, ColumnType, Column, Table, name_cmp}
 use Rattle.ov_specs.specs.values.Value.{AtomKind, Integers, Texts, Atom, Integer, Text, atom_cmp, marked, Datum, Atoms, Pairs, set_of, map_of}
 use Rattle.ov_specs.proofs.laws.Order.{atom_cmp_total, atom_cmp-IsAntisymmetric}

@@ -4,7 +4,7 @@ use Rattle.std.proofs.Common.{◌≡◌, ℕ, pos, List, [], ◌∷◌, Bool, tr
 use Rattle.std.specs.FinMap.{FinMap, entries, is_sorted, find, get, same_map, from_entries, from_sorted, entries-from_sorted, get-from_entries, get-from_sorted}
 use Rattle.serde_json.specs.Data.{null, no_items}
 use Rattle.serde_json.specs.Read.{read}
-use Rattle.ov_specs.specs.operations.AnyOperation.{outcome_of}
+use Rattle.ov_specs.specs.operations.Operation.{outcome_of}
 use Rattle.ov_specs.specs.operations.OpOutcome.{OpContext, OpOutcome}
 use Rattle.ov_specs.specs.rows.Database.{Database}
 use Rattle.ov_specs.specs.schema.SchemaTypes.{BaseType, Column, Table, Schema, name_cmp}

@@ -5,7 +5,7 @@ use Rattle.serde_json.specs.Data.{number, unsigned, array, object, no_members, m
 use Rattle.serde_json.proofs.OnLiterals.{serde_json_on_literals}
 use Rattle.ov_specs.specs.operations.Errors.{ConstraintViolation, DomainError, RangeError, DuplicateUuid}
 use Rattle.ov_specs.specs.operations.MatchingRows.{count_result}
-use Rattle.ov_specs.specs.operations.Operation.{insert_result}
+use Rattle.ov_specs.specs.operations.Insert.{insert_result}
 use Rattle.ov_specs.specs.operations.OpOutcome.{Done, Fault}
 use Rattle.ov_specs.specs.rows.Database.{object_of}
 use Rattle.ov_specs.specs.schema.SchemaTypes.{name_cmp}

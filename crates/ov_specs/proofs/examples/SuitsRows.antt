@@ -5,7 +5,7 @@ use Rattle.std.specs.Str.{is_utf8, chars}
 use Rattle.std.specs.FinMap.{empty, get, entries, insert, from_entries, get-empty, get-insert, get-from_entries}
 use Rattle.serde_json.specs.Data.{null}
 use Rattle.serde_json.proofs.OnLiterals.{serde_json_on_literals}
-use Rattle.ov_specs.specs.operations.Operation.{is_own_column}
+use Rattle.ov_specs.specs.rows.RowNames.{is_own_column}
 use Rattle.ov_specs.specs.rows.Database.{Columns, Row}
 use Rattle.ov_specs.specs.rows.Suits.{is_value_for, suits_column, SuitsTable, SuitsRow, Suits}
 use Rattle.ov_specs.specs.schema.SchemaTypes.{Column, Table, Schema, name_cmp}

@@ -1,204 +1,287 @@
--- Worked transactions: an insert, a select after it, and one that is refused. Maps do not compute, so what is looked up in
--- them and what they list is rewritten by their laws.
-use Rattle.std.proofs.Common.{◌≡◌, ℕ, pos, List, [], ◌∷◌, map, true, false, T, Some, None, Ok, refl, sym, ap, ◌∙◌, codes}
-use Rattle.std.specs.Str.{is_utf8, chars}
-use Rattle.std.specs.declared.cmp.Ordering.{Ordering}
-use Rattle.std.specs.Cmp.{IsTotalOrder, on_total, then_total}
-use Rattle.std.specs.Cmp.Lexicographic.{nat_list_cmp_total}
-use Rattle.std.specs.FinMap.{FinMap, empty, get, insert, entries, is_sorted, put, IsAntisymmetric, nat_cmp-IsAntisymmetric, slice_cmp-IsAntisymmetric, same_map, from_entries, from_sorted, entries-from_sorted, entries-insert, len-entries, len-empty, get-empty, get-insert, get-from_entries, get-from_sorted}
-use Rattle.serde_json.specs.Data.{Data, number, unsigned, string, array, object, no_members, member, no_items, item, null}
+-- Worked transactions: their results, and what they leave.
+use Rattle.std.proofs.Common.{◌≡◌, ℕ, pos, negsuc, List, [], ◌∷◌, Option, Some, None, Ok, option_map, option_and_then, refl, ap, ◌∙◌, codes}
+use Rattle.std.specs.FinMap.{empty, get, insert, entries, put, entries-insert, get-empty, get-insert}
+use Rattle.serde_json.specs.Data.{Data, null, number, unsigned, negative, string, array, object, Members, no_members, member, Items, no_items, item}
+use Rattle.serde_json.specs.Find.{as_array}
 use Rattle.serde_json.specs.Read.{read}
 use Rattle.serde_json.proofs.OnLiterals.{serde_json_on_literals}
 use Rattle.uuid.specs.Text.{by_index}
+use Rattle.ov_specs.specs.operations.Operation.{outcome_of}
+use Rattle.ov_specs.specs.operations.Transaction.{TransactionOutcome, Completes, Waits, transaction}
+use Rattle.ov_specs.specs.operations.Errors.{DuplicateName, error_tree}
+use Rattle.ov_specs.specs.operations.GivenRow.{may_be_new, given_values}
+use Rattle.ov_specs.specs.operations.Insert.{new_row, with_defaults, insert_result}
+use Rattle.ov_specs.specs.operations.MatchingRows.{count_result}
+use Rattle.ov_specs.specs.operations.OpOutcome.{OpContext, Done, names_in}
 use Rattle.ov_specs.specs.rows.Database.{Columns, Row, Database}
-use Rattle.ov_specs.specs.schema.Fitting.{fits}
-use Rattle.ov_specs.specs.rows.Lines.{LineKey, line_cmp}
-use Rattle.ov_specs.specs.operations.Errors.{UnknownTable, error_tree}
-use Rattle.ov_specs.specs.operations.Operation.{Succeeds, row_values, with_defaults, new_columns, insert_result, projection, written_row, operation}
-use Rattle.ov_specs.specs.schema.SchemaTypes.{Column, Table, Schema, name_cmp}
-use Rattle.ov_specs.specs.operations.Transaction.{transaction}
-use Rattle.ov_specs.specs.values.Uuid as uuid
-use Rattle.ov_specs.specs.values.Value.{AtomKind, Integers, Texts, Uuids, Atom, Integer, Text, Uuid, Datum, Atoms, set_of}
-use Rattle.ov_specs.specs.values.Writing.{atom_tree}
-use Rattle.ov_specs.proofs.laws.Order.{atom_cmp_total, atom_cmp-IsAntisymmetric}
+use Rattle.ov_specs.specs.rows.Lines.{line_cmp}
+use Rattle.ov_specs.specs.values.Uuid.{Names}
+use Rattle.ov_specs.specs.values.Value.{Atom, Integer, Text, Uuid, Datum}
+use Rattle.ov_specs.specs.values.Writing.{two, atom_tree}
+use Rattle.ov_specs.proofs.laws.LineKeys.{key_total}
+use Rattle.ov_specs.proofs.laws.Names.{name_cmp_total}
 use Rattle.ov_specs.proofs.examples.ConditionRows.{len-one}
-use Rattle.std.proofs.lemmas.List.{nil_from_length}
+use Rattle.ov_specs.proofs.examples.NetRows as net_rows
+use Rattle.ov_specs.proofs.examples.NetRows.{numbered, net, table_of, table_is, switch_columns, on_switch, on_port, entries-switch, entries-port}
+use Rattle.ov_specs.proofs.examples.TwoSwitches.{one, entries-one, key, row, columns_1, entries-columns_1, entries-1, entries-again, entries-given, rows, entries-rows, entries-put, entries-deleted, given, given_load, given_name, given_ports, text_s1}
 
--- ---- maps made of a list
+-- what the transaction of a text comes to, with draws from 1 on
+abbrev transacted : Database → ℕ → List ℕ → Option TransactionOutcome
+transacted before age text = option_map (transaction net before (numbered 1 ∷ numbered 2 ∷ numbered 3 ∷ []) age) (option_and_then as_array (read text))
 
-name_cmp_total : IsTotalOrder name_cmp
-name_cmp_total = nat_list_cmp_total
+-- the results, as they are sent, and the database
+abbrev completes : List ℕ → Database → Option TransactionOutcome
+completes text database = option_map (λ results. Completes results database) (option_and_then as_array (read text))
 
-name_cmp-IsAntisymmetric : IsAntisymmetric name_cmp
-name_cmp-IsAntisymmetric = slice_cmp-IsAntisymmetric nat_cmp-IsAntisymmetric
+-- ---- whatever rows there are
 
-line_cmp_total : IsTotalOrder line_cmp
-line_cmp_total = then_total (on_total (λ (k : LineKey). k.0) nat_list_cmp_total) (on_total (λ (k : LineKey). k.1) nat_list_cmp_total)
+pub transaction_of_nothing : (before : Database) → transacted before 0 (codes "[]") ≡ completes (codes "[]") before
+unfolding serde_json_on_literals
+transaction_of_nothing before = refl
 
-module _ {K X : Type 0} {R : K → K → Ordering} (o : IsTotalOrder R) (same : IsAntisymmetric R) where
-  entries-from_entries : (es : List (K × X)) → T (is_sorted R es) → entries (from_entries {R = R} es) ≡ es
-  entries-from_entries es h =
-      ap entries (same_map o same (from_entries es) (from_sorted es) (λ q. get-from_entries o es q ∙ sym (get-from_sorted R es q h)))
-      ∙ entries-from_sorted R es h
+-- every commit is durable
+pub commit_without_durability : (before : Database) → transacted before 0 (codes "[{\"durable\":false,\"op\":\"commit\"},{\"comment\":\"x\",\"op\":\"comment\"},{\"durable\":true,\"op\":\"commit\"}]") ≡ completes (codes "[{},{},{}]") before
+unfolding serde_json_on_literals
+commit_without_durability before = refl
 
--- ---- the schema Net with one table, Switch, of the columns load and name
+pub unknown_operation_ends_it : (before : Database) → transacted before 0 (codes "[{\"op\":\"erase\"},{\"op\":\"insert\",\"row\":{\"name\":\"s1\"},\"table\":\"Switch\"}]") ≡ completes (codes "[{\"error\":\"unknown operation\"},null]") before
+unfolding serde_json_on_literals
+unknown_operation_ends_it before = refl
 
-abbrev scalar : AtomKind → Column
-scalar kind = record {
-  type_of = record {
-    key = record { kind = kind; choices = None; least = None; greatest = None; shortest = None; longest = None; refers = None };
-    value = None;
-    min = pos 1;
-    max = Some (pos 1);
-  };
-  is_ephemeral = false;
-  is_mutable = true;
-}
+pub unknown_table_ends_it : (before : Database) → transacted before 0 (codes "[{\"columns\":[\"name\"],\"op\":\"select\",\"table\":\"Swich\",\"where\":[]}]") ≡ completes (codes "[{\"error\":\"unknown table\"}]") before
+unfolding serde_json_on_literals
+unknown_table_ends_it before = rw (table_is (codes "Swich")) refl
 
-abbrev listed : List (List ℕ × Column)
-listed = (codes "_uuid", scalar Uuids) ∷ (codes "_version", scalar Uuids) ∷ (codes "load", scalar Integers) ∷ (codes "name", scalar Texts) ∷ []
+pub unknown_column_ends_it : (before : Database) → transacted before 0 (codes "[{\"columns\":[\"nam\"],\"op\":\"select\",\"table\":\"Switch\",\"where\":[]}]") ≡ completes (codes "[{\"error\":\"unknown column\"}]") before
+unfolding serde_json_on_literals
+unknown_column_ends_it before = rw (table_is (codes "Switch")) (rw (on_switch (codes "nam")) refl)
 
-pub columns : FinMap name_cmp Column
-columns = from_entries listed
+pub abort_ends_it : (before : Database) → transacted before 0 (codes "[{\"comment\":\"x\",\"op\":\"comment\"},{\"op\":\"abort\"},{\"op\":\"erase\"}]") ≡ completes (codes "[{},{\"error\":\"aborted\"},null]") before
+unfolding serde_json_on_literals
+abort_ends_it before = refl
 
-entries-columns : entries columns ≡ listed
-unfolding columns
-entries-columns = entries-from_entries name_cmp_total name_cmp-IsAntisymmetric listed tt
+-- ---- what is undone
 
-load_column : get columns (codes "load") ≡ Some (scalar Integers)
-unfolding columns
-load_column = get-from_entries name_cmp_total listed (codes "load")
+pub abort_after_delete : transacted rows 0 (codes "[{\"op\":\"delete\",\"table\":\"Switch\",\"where\":[]},{\"op\":\"abort\"},{\"op\":\"abort\"}]") ≡ completes (codes "[{\"count\":2},{\"error\":\"aborted\"},null]") rows
+unfolding serde_json_on_literals
+abort_after_delete = rw (table_is (codes "Switch")) (rw entries-rows refl)
 
-name_column : get columns (codes "name") ≡ Some (scalar Texts)
-unfolding columns
-name_column = get-from_entries name_cmp_total listed (codes "name")
+-- the deletion is not kept, and the operation behind the wait is not tried
+pub blocked_after_delete : transacted rows 49 (codes "[{\"op\":\"delete\",\"table\":\"Switch\",\"where\":[]},{\"op\":\"wait\",\"rows\":[],\"table\":\"Port\",\"timeout\":50,\"until\":\"!=\",\"where\":[]},{\"op\":\"abort\"}]") ≡ Some (Waits (Some 50))
+unfolding serde_json_on_literals
+blocked_after_delete = rw (table_is (codes "Switch")) (rw entries-rows (rw (table_is (codes "Port")) (rw entries-deleted refl)))
 
-abbrev switch : Table
-switch = record { columns = columns; max_rows = None; is_root = true; indexes = [] }
+pub timed_out_after_delete : transacted rows 50 (codes "[{\"op\":\"delete\",\"table\":\"Switch\",\"where\":[]},{\"op\":\"wait\",\"rows\":[],\"table\":\"Port\",\"timeout\":50,\"until\":\"!=\",\"where\":[]},{\"op\":\"abort\"}]") ≡ completes (codes "[{\"count\":2},{\"error\":\"timed out\"},null]") rows
+unfolding serde_json_on_literals
+timed_out_after_delete = rw (table_is (codes "Switch")) (rw entries-rows (rw (table_is (codes "Port")) (rw entries-deleted refl)))
 
-pub tables : FinMap name_cmp Table
-tables = from_entries ((codes "Switch", switch) ∷ [])
+-- ---- a switch with ports, and a port
 
-switch_table : get tables (codes "Switch") ≡ Some switch
-unfolding tables
-switch_table = get-from_entries name_cmp_total ((codes "Switch", switch) ∷ []) (codes "Switch")
+abbrev table_members : List ℕ → Members → Members
+table_members table members = member (codes "table") (string table) members
 
-no_other_table : get tables (codes "Swich") ≡ None
-unfolding tables
-no_other_table = get-from_entries name_cmp_total ((codes "Switch", switch) ∷ []) (codes "Swich")
+abbrev named : List ℕ → Members
+named name = member (codes "uuid-name") (string name) no_members
 
-abbrev net0 : Schema
-net0 = record { name = codes "Net"; version = None; tables = tables; tree = null }
+abbrev insert_of : Data → Members → Data
+insert_of row members = object (member (codes "op") (string (codes "insert")) (member (codes "row") row members))
 
--- ---- one row
+abbrev switch_with : Data → Members
+switch_with ports = member (codes "load") (number (unsigned 5)) (member (codes "name") (string (codes "s1")) (member (codes "ports") ports no_members))
 
-abbrev numbered : ℕ → uuid.Uuid
-numbered n = 0 ∷ 0 ∷ 0 ∷ 0 ∷ 0 ∷ 0 ∷ 0 ∷ 0 ∷ 0 ∷ 0 ∷ 0 ∷ 0 ∷ 0 ∷ 0 ∷ 0 ∷ n ∷ []
+-- its columns, where the ports are one that a name stands for
+module _ (names : Names) (port : List ℕ) (is : names (codes "p") ≡ Some port) where
+  abbrev ports : Datum
+  ports = one (Uuid port)
 
-abbrev one : Atom → Datum
-one a = Atoms (set_of (a ∷ []))
+  ports-given : given_values may_be_new names (table_of switch_columns) (switch_with (two (string (codes "named-uuid")) (string (codes "p")))) empty ≡ Ok (given ports)
+  ports-given =
+      rw (on_switch (codes "load"), on_switch (codes "name"), on_switch (codes "ports")) (rw (len-one (Integer (pos 5)), entries-one (Integer (pos 5)))
+      (rw (text_s1, len-one (Text (codes "s1")), entries-one (Text (codes "s1"))) (rw (is, len-one (Uuid port), entries-one (Uuid port)) refl)))
 
-entries-one : (a : Atom) → entries (set_of (a ∷ [])) ≡ (a, tt) ∷ []
-entries-one a = entries-from_entries atom_cmp_total atom_cmp-IsAntisymmetric ((a, tt) ∷ []) tt
+  ports-complete : with_defaults (entries switch_columns) (given ports) ≡ Ok (given ports)
+  ports-complete = rw entries-switch (rw (given_load ports, given_name ports, given_ports ports) refl)
 
-fits-integer : fits (scalar Integers).type_of (one (Integer (pos 4))) ≡ true
-fits-integer = rw (len-one (Integer (pos 4)), entries-one (Integer (pos 4))) refl
+  new_ports : new_row names (table_of switch_columns) (switch_with (two (string (codes "named-uuid")) (string (codes "p")))) ≡ Ok (given ports)
+  new_ports = rw ports-given ports-complete
 
-fits-text : fits (scalar Texts).type_of (one (Text (codes "s1"))) ≡ true
-fits-text = rw (len-one (Text (codes "s1")), entries-one (Text (codes "s1"))) refl
+-- ---- two inserts with one name
 
--- ---- the insert
+abbrev insert_named : Data
+insert_named = insert_of (object (switch_with (two (string (codes "named-uuid")) (string (codes "p"))))) (table_members (codes "Switch") (named (codes "p")))
 
-abbrev insert_members : Data → Data
-insert_members row = object (member (codes "op") (string (codes "insert")) (member (codes "row") row (member (codes "table") (string (codes "Switch")) no_members)))
+abbrev twice : Items
+twice = item insert_named (item (insert_of null (table_members (codes "Switch") (named (codes "p")))) no_items)
 
-abbrev insert_s1 : Data
-insert_s1 = insert_members (object (member (codes "load") (number (unsigned 4)) (member (codes "name") (string (codes "s1")) no_members)))
+abbrev in_twice : OpContext
+in_twice = record { schema = net; before = empty; version = numbered 1; ids = numbered 2 ∷ numbered 3 ∷ []; operations = twice; age = 0 }
 
-abbrev insert_s2 : Data
-insert_s2 = insert_members (object (member (codes "load") (number (unsigned 4)) (member (codes "name") (string (codes "s2")) no_members)))
+-- a switch that is a port of its own, by its name
+named_does : outcome_of in_twice 0 empty insert_named ≡ Done (insert_result (numbered 2)) (insert empty (codes "Switch", numbered 2) (record { version = numbered 1; columns = given (one (Uuid (numbered 2))) }))
+named_does = rw (table_is (codes "Switch")) (rw (new_ports (names_in in_twice) (numbered 2) refl) (rw (get-empty line_cmp (codes "Switch", numbered 2)) refl))
 
-abbrev s1_columns : Columns
-s1_columns = insert (insert empty (codes "load") (one (Integer (pos 4)))) (codes "name") (one (Text (codes "s1")))
+-- the second is refused, before its row is looked at, and the first is undone
+pub two_inserts_with_one_name : transaction net empty (numbered 1 ∷ numbered 2 ∷ numbered 3 ∷ []) 0 twice ≡ Completes (item (insert_result (numbered 2)) (item (error_tree DuplicateName) no_items)) empty
+two_inserts_with_one_name = rw named_does (rw (table_is (codes "Switch")) refl)
 
-abbrev s1 : Row
-s1 = record { version = numbered 1; columns = s1_columns }
+-- ---- a name that is used before the insert that declares it
 
-abbrev with_s1 : Database
-with_s1 = insert empty (codes "Switch", numbered 2) s1
+abbrev insert_switch : Data
+insert_switch = insert_of (object (switch_with (two (string (codes "named-uuid")) (string (codes "p"))))) (table_members (codes "Switch") no_members)
 
-text-s1 : is_utf8 (codes "s1") ≡ true
-unfolding is_utf8 chars serde_json_on_literals
-text-s1 = refl
+abbrev port_members : Members
+port_members = member (codes "name") (string (codes "s1")) (member (codes "tag") (number (unsigned 5)) no_members)
 
-s1-given : row_values switch (member (codes "load") (number (unsigned 4)) (member (codes "name") (string (codes "s1")) no_members)) empty ≡ Ok s1_columns
-s1-given =
-    rw (load_column, len-one (Integer (pos 4)), entries-one (Integer (pos 4)))
-    (rw (name_column, text-s1, len-one (Text (codes "s1")), entries-one (Text (codes "s1"))) refl)
+abbrev insert_port : Data
+insert_port = insert_of (object port_members) (table_members (codes "Port") (named (codes "p")))
 
-load-given : get s1_columns (codes "load") ≡ Some (one (Integer (pos 4)))
-load-given =
-    get-insert name_cmp_total (insert empty (codes "load") (one (Integer (pos 4)))) (codes "name") (one (Text (codes "s1"))) (codes "load")
-    ∙ get-insert name_cmp_total empty (codes "load") (one (Integer (pos 4))) (codes "load")
+abbrev select_ports : Data
+select_ports =
+    object (member (codes "columns") (array (item (string (codes "ports")) no_items)) (member (codes "op") (string (codes "select"))
+    (table_members (codes "Switch") (member (codes "where") (array no_items) no_members))))
 
-name-given : get s1_columns (codes "name") ≡ Some (one (Text (codes "s1")))
-name-given = get-insert name_cmp_total (insert empty (codes "load") (one (Integer (pos 4)))) (codes "name") (one (Text (codes "s1"))) (codes "name")
+abbrev before_declared : Items
+before_declared = item insert_switch (item insert_port (item select_ports no_items))
 
-s1-complete : with_defaults (entries columns) s1_columns ≡ Ok s1_columns
-s1-complete = rw entries-columns (rw (load-given, name-given) refl)
+abbrev in_before : OpContext
+in_before = record { schema = net; before = empty; version = numbered 1; ids = numbered 2 ∷ numbered 3 ∷ []; operations = before_declared; age = 0 }
 
-s1-new : new_columns switch (member (codes "load") (number (unsigned 4)) (member (codes "name") (string (codes "s1")) no_members)) ≡ Ok s1_columns
-s1-new = rw s1-given s1-complete
+abbrev new_switch : Row
+new_switch = record { version = numbered 1; columns = given (one (Uuid (numbered 3))) }
 
--- the row is put, and its identifier is the next draw
-insert-does : (draws : List uuid.Uuid) → operation net0 empty (numbered 1) (record { rows = empty; draws = numbered 2 ∷ draws }) insert_s1 ≡ Succeeds (insert_result (numbered 2)) (record { rows = with_s1; draws = draws })
-insert-does draws = rw switch_table (rw s1-new (rw (get-empty line_cmp (codes "Switch", numbered 2)) refl))
+abbrev switch_rows : Database
+switch_rows = insert empty (codes "Switch", numbered 2) new_switch
 
-pub insert_one : transaction net0 empty (numbered 1 ∷ numbered 2 ∷ []) (item insert_s1 no_items) ≡ record { results = item (insert_result (numbered 2)) no_items; database = with_s1 }
-insert_one = rw (insert-does []) refl
+switch_does : outcome_of in_before 0 empty insert_switch ≡ Done (insert_result (numbered 2)) switch_rows
+switch_does = rw (table_is (codes "Switch")) (rw (new_ports (names_in in_before) (numbered 3) refl) (rw (get-empty line_cmp (codes "Switch", numbered 2)) refl))
 
-pub insert_is_answered : Some (array (transaction net0 empty (numbered 1 ∷ numbered 2 ∷ []) (item insert_s1 no_items)).results) ≡ read (codes "[{\"uuid\":[\"uuid\",\"00000000-0000-0000-0000-000000000002\"]}]")
+abbrev port_columns : Columns
+port_columns = insert (insert empty (codes "name") (one (Text (codes "s1")))) (codes "tag") (one (Integer (pos 5)))
+
+port_name : get port_columns (codes "name") ≡ Some (one (Text (codes "s1")))
+port_name = get-insert name_cmp_total _ (codes "tag") (one (Integer (pos 5))) (codes "name") ∙ get-insert name_cmp_total empty (codes "name") (one (Text (codes "s1"))) (codes "name")
+
+port_tag : get port_columns (codes "tag") ≡ Some (one (Integer (pos 5)))
+port_tag = get-insert name_cmp_total _ (codes "tag") (one (Integer (pos 5))) (codes "tag")
+
+port-given : (names : Names) → given_values may_be_new names (table_of net_rows.port_columns) port_members empty ≡ Ok port_columns
+port-given names =
+    rw (on_port (codes "name"), on_port (codes "tag")) (rw (text_s1, len-one (Text (codes "s1")), entries-one (Text (codes "s1"))) (rw (len-one (Integer (pos 5)), entries-one (Integer (pos 5))) refl))
+
+port-complete : with_defaults (entries net_rows.port_columns) port_columns ≡ Ok port_columns
+port-complete = rw entries-port (rw (port_name, port_tag) refl)
+
+new_port : (names : Names) → new_row names (table_of net_rows.port_columns) port_members ≡ Ok port_columns
+new_port names = rw (port-given names) port-complete
+
+no_port_3 : get switch_rows (codes "Port", numbered 3) ≡ None
+no_port_3 = get-insert key_total empty _ _ (codes "Port", numbered 3) ∙ get-empty line_cmp (codes "Port", numbered 3)
+
+abbrev port_row : Row
+port_row = record { version = numbered 1; columns = port_columns }
+
+abbrev both_rows : Database
+both_rows = insert switch_rows (codes "Port", numbered 3) port_row
+
+port_does : outcome_of in_before 1 switch_rows insert_port ≡ Done (insert_result (numbered 3)) both_rows
+port_does = rw (table_is (codes "Port")) (rw (new_port (names_in in_before)) (rw no_port_3 (rw (get-empty line_cmp (codes "Port", numbered 3)) refl)))
+
+entries-both_rows : entries both_rows ≡ ((codes "Port", numbered 3), port_row) ∷ ((codes "Switch", numbered 2), new_switch) ∷ []
+entries-both_rows = entries-insert key_total switch_rows _ _ ∙ ap (put line_cmp (codes "Port", numbered 3) port_row) (entries-put (codes "Switch", numbered 2) new_switch)
+
+abbrev ports_shown : Data
+ports_shown = object (member (codes "rows") (array (item (object (member (codes "ports") (atom_tree (Uuid (numbered 3))) no_members)) no_items)) no_members)
+
+select_does : outcome_of in_before 2 both_rows select_ports ≡ Done ports_shown both_rows
+select_does = rw (table_is (codes "Switch")) (rw (on_switch (codes "ports"), entries-switch) (rw entries-both_rows (rw (given_ports (one (Uuid (numbered 3)))) (rw (entries-one (Uuid (numbered 3))) refl))))
+
+pub named_uuid_used_before : transaction net empty (numbered 1 ∷ numbered 2 ∷ numbered 3 ∷ []) 0 before_declared
+    ≡ Completes (item (insert_result (numbered 2)) (item (insert_result (numbered 3)) (item ports_shown no_items))) both_rows
+named_uuid_used_before = rw switch_does (rw port_does (rw select_does refl))
+
+pub used_before_is_answered : Some (array (item (insert_result (numbered 2)) (item (insert_result (numbered 3)) (item ports_shown no_items))))
+    ≡ read (codes "[{\"uuid\":[\"uuid\",\"00000000-0000-0000-0000-000000000002\"]},{\"uuid\":[\"uuid\",\"00000000-0000-0000-0000-000000000003\"]},{\"rows\":[{\"ports\":[\"uuid\",\"00000000-0000-0000-0000-000000000003\"]}]}]")
 unfolding serde_json_on_literals by_index
-insert_is_answered = rw insert_one refl
+used_before_is_answered = refl
 
--- ---- the select
+-- ---- the edges of arithmetic: a load of -7, and what is left of it by 2
 
-entries-with_s1 : entries with_s1 ≡ ((codes "Switch", numbered 2), s1) ∷ []
-entries-with_s1 = entries-insert line_cmp_total empty (codes "Switch", numbered 2) s1 ∙ ap (put line_cmp (codes "Switch", numbered 2) s1) (nil_from_length _ (sym (len-entries empty) ∙ len-empty line_cmp Row))
+abbrev seven : Atom
+seven = Integer (negsuc 6)
 
-abbrev select_of : List ℕ → Data
-select_of table = object (member (codes "op") (string (codes "select")) (member (codes "table") (string table) (member (codes "where") (array no_items) no_members)))
+abbrev left : Atom
+left = Integer (negsuc 0)
 
-abbrev uuid_tree : uuid.Uuid → Data
-uuid_tree id = atom_tree (Uuid id)
+abbrev on_all : Members
+on_all = table_members (codes "Switch") (member (codes "where") (array no_items) no_members)
 
-abbrev row_tree : Data
-row_tree = object (member (codes "_uuid") (uuid_tree (numbered 2)) (member (codes "_version") (uuid_tree (numbered 1)) (member (codes "load") (number (unsigned 4)) (member (codes "name") (string (codes "s1")) no_members))))
+abbrev update_load : Data
+update_load = object (member (codes "op") (string (codes "update")) (member (codes "row") (object (member (codes "load") (number (negative (negsuc 6))) no_members)) on_all))
 
-abbrev rows_tree : Data
-rows_tree = object (member (codes "rows") (array (item row_tree no_items)) no_members)
+abbrev by_two : Data
+by_two = array (item (string (codes "load")) (item (string (codes "%=")) (item (number (unsigned 2)) no_items)))
 
-shown-s1 : written_row (projection (map (λ c. c.0) listed) ((codes "Switch", numbered 2), s1)) ≡ row_tree
-shown-s1 = rw (load-given, name-given) (rw (entries-one (Uuid (numbered 2)), entries-one (Uuid (numbered 1))) (rw (entries-one (Integer (pos 4)), entries-one (Text (codes "s1"))) refl))
+abbrev mutate_load : Data
+mutate_load = object (member (codes "mutations") (array (item by_two no_items)) (member (codes "op") (string (codes "mutate")) on_all))
 
-select-does : operation net0 empty (numbered 1) (record { rows = with_s1; draws = [] }) (select_of (codes "Switch")) ≡ Succeeds rows_tree (record { rows = with_s1; draws = [] })
-select-does = rw switch_table (rw (entries-columns, entries-with_s1) (ap (λ d. Succeeds (object (member (codes "rows") (array (item d no_items)) no_members)) (record { rows = with_s1; draws = [] })) shown-s1))
+abbrev select_load : Data
+select_load = object (member (codes "columns") (array (item (string (codes "load")) no_items)) (member (codes "op") (string (codes "select")) on_all))
 
-pub insert_then_select : transaction net0 empty (numbered 1 ∷ numbered 2 ∷ []) (item insert_s1 (item (select_of (codes "Switch")) no_items)) ≡ record { results = item (insert_result (numbered 2)) (item rows_tree no_items); database = with_s1 }
-insert_then_select = rw (insert-does []) (rw select-does refl)
+abbrev edges : Items
+edges = item update_load (item mutate_load (item select_load no_items))
 
-pub select_is_answered : Some rows_tree ≡ read (codes "{\"rows\":[{\"_uuid\":[\"uuid\",\"00000000-0000-0000-0000-000000000002\"],\"_version\":[\"uuid\",\"00000000-0000-0000-0000-000000000001\"],\"load\":4,\"name\":\"s1\"}]}")
-unfolding serde_json_on_literals by_index
-select_is_answered = refl
+abbrev lone : Database
+lone = insert empty (key 7) (row columns_1)
 
--- ---- a transaction that is refused
+abbrev in_edges : OpContext
+in_edges = record { schema = net; before = lone; version = numbered 1; ids = []; operations = edges; age = 0 }
 
--- the insert before it is undone, and the one behind it is not tried
-pub refused_changes_nothing : transaction net0 empty (numbered 1 ∷ numbered 2 ∷ numbered 3 ∷ []) (item insert_s1 (item (select_of (codes "Swich")) (item insert_s2 no_items)))
-    ≡ record { results = item (insert_result (numbered 2)) (item (error_tree UnknownTable) (item null no_items)); database = empty }
-refused_changes_nothing = rw (insert-does (numbered 3 ∷ [])) (rw no_other_table refl)
+abbrev seven_row : Row
+seven_row = record { version = numbered 1; columns = insert columns_1 (codes "load") (one seven) }
 
-pub refusal_is_answered : Some (array (transaction net0 empty (numbered 1 ∷ numbered 2 ∷ numbered 3 ∷ []) (item insert_s1 (item (select_of (codes "Swich")) (item insert_s2 no_items)))).results)
-    ≡ read (codes "[{\"uuid\":[\"uuid\",\"00000000-0000-0000-0000-000000000002\"]},{\"error\":\"unknown table\"},null]")
-unfolding serde_json_on_literals by_index
-refusal_is_answered = rw refused_changes_nothing refl
+abbrev left_row : Row
+left_row = record { version = numbered 1; columns = insert (insert columns_1 (codes "load") (one seven)) (codes "load") (one left) }
+
+abbrev seven_rows : Database
+seven_rows = insert lone (key 7) seven_row
+
+abbrev left_rows : Database
+left_rows = insert seven_rows (key 7) left_row
+
+in_lone : get lone (key 7) ≡ Some (row columns_1)
+in_lone = get-insert key_total empty (key 7) (row columns_1) (key 7)
+
+entries-seven : entries seven_rows ≡ (key 7, seven_row) ∷ []
+entries-seven = entries-insert key_total lone (key 7) seven_row ∙ ap (put line_cmp (key 7) seven_row) (entries-put (key 7) (row columns_1))
+
+entries-left : entries left_rows ≡ (key 7, left_row) ∷ []
+entries-left = entries-insert key_total seven_rows (key 7) left_row ∙ ap (put line_cmp (key 7) left_row) entries-seven
+
+seven_load : get seven_row.columns (codes "load") ≡ Some (one seven)
+seven_load = get-insert name_cmp_total columns_1 (codes "load") (one seven) (codes "load")
+
+left_load : get left_row.columns (codes "load") ≡ Some (one left)
+left_load = get-insert name_cmp_total seven_row.columns (codes "load") (one left) (codes "load")
+
+update_does : outcome_of in_edges 0 lone update_load ≡ Done (count_result 1) seven_rows
+update_does =
+    rw (table_is (codes "Switch")) (rw (on_switch (codes "load")) (rw (len-one seven, entries-one seven) (rw (entries-put (key 7) (row columns_1)) (rw (entries-given (codes "load") (one seven))
+    (rw in_lone (rw (entries-columns_1, entries-1 (codes "load") (one seven)) (rw (entries-one (Integer (pos 4)), entries-one seven) refl)))))))
+
+mutate_does : outcome_of in_edges 1 seven_rows mutate_load ≡ Done (count_result 1) left_rows
+mutate_does =
+    rw (table_is (codes "Switch")) (rw (on_switch (codes "load")) (rw (entries-one (Integer (pos 2))) (rw entries-seven (rw seven_load (rw (entries-one seven) (rw (len-one left, entries-one left)
+    (rw in_lone (rw (entries-columns_1, entries-again (codes "load") (one seven) (one left)) (rw (entries-one (Integer (pos 4)), entries-one left) refl)))))))))
+
+abbrev load_shown : Data
+load_shown = object (member (codes "rows") (array (item (object (member (codes "load") (number (negative (negsuc 0))) no_members)) no_items)) no_members)
+
+load_does : outcome_of in_edges 2 left_rows select_load ≡ Done load_shown left_rows
+load_does = rw (table_is (codes "Switch")) (rw (on_switch (codes "load"), entries-switch) (rw entries-left (rw left_load (rw (entries-one left) refl))))
+
+pub arithmetic_edges : transaction net lone (numbered 1 ∷ []) 0 edges ≡ Completes (item (count_result 1) (item (count_result 1) (item load_shown no_items))) left_rows
+arithmetic_edges = rw update_does (rw mutate_does (rw load_does refl))
+
+pub edges_are_answered : Some (array (item (count_result 1) (item (count_result 1) (item load_shown no_items)))) ≡ read (codes "[{\"count\":1},{\"count\":1},{\"rows\":[{\"load\":-1}]}]")
+unfolding serde_json_on_literals
+edges_are_answered = refl

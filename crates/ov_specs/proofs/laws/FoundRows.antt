@@ -13,9 +13,8 @@ use Rattle.std.proofs.lemmas.Option.{same_Some}
 use Rattle.std.proofs.lemmas.Slice.Eq.{bytes_eq-Decides}
 use Rattle.serde_json.specs.Data.{Items}
 use Rattle.ov_specs.specs.operations.Conditions.{Condition}
-use Rattle.ov_specs.specs.operations.MatchingRows.{put_rows, without_rows}
+use Rattle.ov_specs.specs.operations.MatchingRows.{put_rows, without_rows, matching, is_matching}
 use Rattle.ov_specs.specs.operations.NamedUuids.{place_declared, id_at, names_of, inserts_before}
-use Rattle.ov_specs.specs.operations.Operation.{matching, is_matching}
 use Rattle.ov_specs.specs.operations.OpOutcome.{OpContext}
 use Rattle.ov_specs.specs.rows.Database.{Columns, Row, Database}
 use Rattle.ov_specs.specs.rows.Lines.{LineKey, line_cmp}

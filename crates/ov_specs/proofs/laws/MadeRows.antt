@@ -6,14 +6,13 @@ use Rattle.std.specs.FinMap.{empty, get, insert, keys, entries, get-insert}
 use Rattle.std.proofs.lemmas.Bool.{and_parts, and_from}
 use Rattle.std.proofs.lemmas.Option.{same_Some}
 use Rattle.serde_json.specs.Data.{Data, Items, no_items, item, Members, no_members, member}
-use Rattle.ov_specs.specs.operations.AnyTransaction.{after}
 use Rattle.ov_specs.specs.operations.Conditions.{Triple, triple_read}
 use Rattle.ov_specs.specs.operations.Errors.{OpError, ConstraintViolation}
-use Rattle.ov_specs.specs.operations.GivenRow.{may_be_new, may_be_changed, given_value, given_values, with_values}
-use Rattle.ov_specs.specs.operations.Insert.{new_row}
+use Rattle.ov_specs.specs.operations.GivenRow.{may_be_new, may_be_changed, given_value, given_values, with_values, with_column, and_then_columns, fitting_reading}
+use Rattle.ov_specs.specs.operations.Insert.{new_row, with_defaults}
 use Rattle.ov_specs.specs.operations.Mutate.{and_mutation, mutations_read, mutated_or_error, mutated_value, mutated_columns, and_row, mutated_rows}
 use Rattle.ov_specs.specs.operations.Mutators.{Change, Compute, Insert, Delete, Mutation, MutationFault, NotMutable, Mutator, mutator_on, change_read, with_change, with_mutator, mutation_on, mutation_of, mutation_read, suits_mutation, MutateError, Domain, Range, Constraint, divides_by_zero, computed_atom, has_equal_two, fitting, of_results, inserted, deleted, mutated}
-use Rattle.ov_specs.specs.operations.Operation.{is_own_column, with_column, with_defaults, and_then_columns, fitting_reading}
+use Rattle.ov_specs.specs.rows.RowNames.{is_own_column}
 use Rattle.ov_specs.specs.operations.Update.{updated_row}
 use Rattle.ov_specs.specs.rows.Database.{Columns, Row}
 use Rattle.ov_specs.specs.rows.Lines.{LineKey}

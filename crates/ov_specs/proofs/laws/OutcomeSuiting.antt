@@ -1,4 +1,4 @@
--- A transaction of any operations keeps the rows those of the schema.
+-- A transaction keeps the rows those of the schema.
 use Rattle.std.proofs.Common.{◌≡◌, ℕ, List, [], ◌∷◌, map, Bool, true, false, cond, Option, Some, None, refl, subst}
 use Rattle.std.specs.Prelude.{codes, nat_le, ◌+◌, option_and_then, Result, Ok, Err}
 use Rattle.std.specs.List.{list_all}
@@ -9,19 +9,19 @@ use Rattle.serde_json.specs.Data.{Data, Items, no_items, item}
 use Rattle.serde_json.specs.Find as find
 use Rattle.serde_json.specs.Find.{as_bool}
 use Rattle.ov_specs.specs.wire.Message.{has_member}
-use Rattle.ov_specs.specs.operations.AnyOperation.{outcome_of}
-use Rattle.ov_specs.specs.operations.AnyTransaction.{TransactionOutcome, Completes, Waits, and_result, after, performed, transaction}
+use Rattle.ov_specs.specs.operations.Operation.{outcome_of}
+use Rattle.ov_specs.specs.operations.Transaction.{TransactionOutcome, Completes, Waits, and_result, after, performed, transaction}
 use Rattle.ov_specs.specs.operations.Delete.{delete_outcome}
 use Rattle.ov_specs.specs.operations.Conditions.{Condition}
 use Rattle.ov_specs.specs.operations.Errors.{OpError, SyntaxError, UnknownTable}
 use Rattle.ov_specs.specs.operations.GivenRow.{may_be_changed, given_values}
 use Rattle.ov_specs.specs.operations.Insert.{new_row, put_new, name_fault, insert_outcome}
-use Rattle.ov_specs.specs.operations.MatchingRows.{on_conditions}
+use Rattle.ov_specs.specs.operations.MatchingRows.{on_conditions, matching, conditions_read}
 use Rattle.ov_specs.specs.operations.Mutate.{mutations_read, mutated_rows, mutate_outcome}
 use Rattle.ov_specs.specs.operations.NamedUuids.{id_at, inserts_before}
-use Rattle.ov_specs.specs.operations.Operation.{matching, projection, conditions_read, selected_columns, text_at, array_at}
-use Rattle.ov_specs.specs.operations.OpOutcome.{OpContext, OpOutcome, Done, Fault, Blocked, some_or_fault, ok_or_fault, unless_fault, names_in, object_at, on_table}
-use Rattle.ov_specs.specs.operations.Select.{select_outcome}
+use Rattle.ov_specs.specs.operations.Members.{text_at, array_at, object_at}
+use Rattle.ov_specs.specs.operations.OpOutcome.{OpContext, OpOutcome, Done, Fault, Blocked, some_or_fault, ok_or_fault, unless_fault, names_in, on_table}
+use Rattle.ov_specs.specs.operations.Select.{select_outcome, projection, selected_columns}
 use Rattle.ov_specs.specs.operations.Update.{updated_row, update_outcome}
 use Rattle.ov_specs.specs.operations.Wait.{timeout_read, compared_columns, until_of, told_rows, is_met, unmet, wait_outcome}
 use Rattle.ov_specs.specs.rows.Database.{Columns, Database}
@@ -163,10 +163,10 @@ module _ (c : OpContext) (all : Suits c.schema c.before) (is_version : is_uuid c
   performed_suits place (item d operations) rows suits =
       after_suits c.schema c.before all (outcome_of c place rows d) operations (performed c (place + 1) operations) (outcome_suits rows suits place d) (λ left left_suits. performed_suits (place + 1) operations left left_suits)
 
--- a transaction of any operations keeps the rows those of the schema
-pub any_transaction_suits : (schema : Schema) (before : Database) (draws : List Uuid) (age : ℕ) (operations : Items) → list_all is_uuid draws ≡ true → Suits schema before
+-- a transaction keeps the rows those of the schema
+pub transaction_suits : (schema : Schema) (before : Database) (draws : List Uuid) (age : ℕ) (operations : Items) → list_all is_uuid draws ≡ true → Suits schema before
     → SuitsTransaction schema (transaction schema before draws age operations)
-any_transaction_suits schema before [] age operations drawn suits = suits
-any_transaction_suits schema before (version ∷ ids) age operations drawn suits =
+transaction_suits schema before [] age operations drawn suits = suits
+transaction_suits schema before (version ∷ ids) age operations drawn suits =
     let parts = and_parts (is_uuid version) (list_all is_uuid ids) drawn in
     performed_suits (record { schema = schema; before = before; version = version; ids = ids; operations = operations; age = age }) suits parts.0 parts.1 0 operations before suits

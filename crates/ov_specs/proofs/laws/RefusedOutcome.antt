@@ -1,4 +1,4 @@
--- A transaction of any operations with an error among its results leaves the database as it was.
+-- A transaction with an error among its results leaves the database as it was.
 use Rattle.std.proofs.Common.{◌≡◌, ℕ, ◌+◌, List, [], ◌∷◌, map, Bool, true, false, cond, Option, Some, None, refl}
 use Rattle.std.specs.Prelude.{codes, nat_le, ◌||◌, not, option_and_then, Result, Ok, Err}
 use Rattle.std.specs.Str.{bytes_eq}
@@ -6,19 +6,19 @@ use Rattle.std.specs.FinMap.{empty, get, contains_key}
 use Rattle.serde_json.specs.Data.{Data, Items, no_items, item}
 use Rattle.serde_json.specs.Find as find
 use Rattle.serde_json.specs.Find.{as_bool}
-use Rattle.ov_specs.specs.operations.AnyOperation.{outcome_of}
-use Rattle.ov_specs.specs.operations.AnyTransaction.{TransactionOutcome, Completes, Waits, and_result, after, performed, transaction}
+use Rattle.ov_specs.specs.operations.Operation.{outcome_of}
+use Rattle.ov_specs.specs.operations.Transaction.{TransactionOutcome, Completes, Waits, and_result, after, performed, transaction, has_error}
 use Rattle.ov_specs.specs.operations.Conditions.{Condition}
 use Rattle.ov_specs.specs.operations.Delete.{delete_outcome}
 use Rattle.ov_specs.specs.operations.Errors.{OpError, SyntaxError, UnknownTable}
 use Rattle.ov_specs.specs.operations.GivenRow.{may_be_changed, given_values}
 use Rattle.ov_specs.specs.operations.Insert.{new_row, put_new, name_fault, insert_outcome}
-use Rattle.ov_specs.specs.operations.MatchingRows.{on_conditions}
+use Rattle.ov_specs.specs.operations.MatchingRows.{on_conditions, matching, conditions_read}
 use Rattle.ov_specs.specs.operations.Mutate.{mutations_read, mutated_rows, mutate_outcome}
 use Rattle.ov_specs.specs.operations.NamedUuids.{id_at}
-use Rattle.ov_specs.specs.operations.Operation.{matching, projection, conditions_read, selected_columns, text_at, array_at}
-use Rattle.ov_specs.specs.operations.OpOutcome.{OpContext, OpOutcome, Done, Fault, Blocked, some_or_fault, ok_or_fault, unless_fault, names_in, object_at, on_table}
-use Rattle.ov_specs.specs.operations.Select.{select_outcome}
+use Rattle.ov_specs.specs.operations.Members.{text_at, array_at, object_at}
+use Rattle.ov_specs.specs.operations.OpOutcome.{OpContext, OpOutcome, Done, Fault, Blocked, some_or_fault, ok_or_fault, unless_fault, names_in, on_table}
+use Rattle.ov_specs.specs.operations.Select.{select_outcome, projection, selected_columns}
 use Rattle.ov_specs.specs.operations.Update.{update_outcome}
 use Rattle.ov_specs.specs.operations.Wait.{timeout_read, compared_columns, until_of, told_rows, is_met, unmet, wait_outcome}
 use Rattle.ov_specs.specs.rows.Database.{Columns, Database}
@@ -111,14 +111,9 @@ module _ (c : OpContext) where
 
 -- ---- a transaction with an error among its results
 
--- one of the results tells of an error (RFC 7047, 4.1.3)
-abbrev pub tells_error : Items → Bool
-tells_error no_items = false
-tells_error (item result results) = has_member (codes "error") result || tells_error results
-
 -- where its results tell of an error, the database is this one
 abbrev pub LeavesIfError : Database → TransactionOutcome → Type 0
-LeavesIfError before (Completes results database) = tells_error results ≡ true → database ≡ before
+LeavesIfError before (Completes results database) = has_error results ≡ true → database ≡ before
 LeavesIfError before (Waits timeout) = Unit {0}
 
 -- the first is none, so the second is one
@@ -127,7 +122,7 @@ second false b none h = h
 second true b none h = cc
 
 leaves_result : (before : Database) (result : Data) (t : TransactionOutcome) → not (has_member (codes "error") result) ≡ true → LeavesIfError before t → LeavesIfError before (and_result result t)
-leaves_result before result (Completes results database) plain leaves = λ h. leaves (second (has_member (codes "error") result) (tells_error results) plain h)
+leaves_result before result (Completes results database) plain leaves = λ h. leaves (second (has_member (codes "error") result) (has_error results) plain h)
 leaves_result before result (Waits timeout) plain leaves = tt
 
 leaves_after : (before : Database) (outcome : OpOutcome) (operations : Items) (go : Database → TransactionOutcome) → is_plain outcome ≡ true → ((rows : Database) → LeavesIfError before (go rows))
@@ -142,7 +137,7 @@ performed_leaves c place (item d operations) rows =
     leaves_after c.before (outcome_of c place rows d) operations (performed c (place + 1) operations) (plain_outcome c place rows d) (λ left. performed_leaves c (place + 1) operations left)
 
 -- a transaction with an error among its results leaves the database as it was
-pub any_refused_leaves : (schema : Schema) (before : Database) (draws : List Uuid) (age : ℕ) (operations : Items) → LeavesIfError before (transaction schema before draws age operations)
-any_refused_leaves schema before [] age operations = λ h. refl
-any_refused_leaves schema before (version ∷ ids) age operations =
+pub refused_leaves : (schema : Schema) (before : Database) (draws : List Uuid) (age : ℕ) (operations : Items) → LeavesIfError before (transaction schema before draws age operations)
+refused_leaves schema before [] age operations = λ h. refl
+refused_leaves schema before (version ∷ ids) age operations =
     performed_leaves (record { schema = schema; before = before; version = version; ids = ids; operations = operations; age = age }) 0 operations before

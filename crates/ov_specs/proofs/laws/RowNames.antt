@@ -1,12 +1,11 @@
 -- The names of a row that suits its table are those that the table gives its rows.
-use Rattle.std.proofs.Common.{◌≡◌, ℕ, List, [], ◌∷◌, map, Bool, true, false, cond, T, Option, Some, None, is_some, option_map, refl, sym, ap, subst, ◌∙◌, Ordering}
+use Rattle.std.proofs.Common.{◌≡◌, ℕ, List, [], ◌∷◌, map, Bool, true, false, cond, T, Option, Some, None, is_some, refl, sym, ap, ◌∙◌}
 use Rattle.std.specs.Prelude.{not}
 use Rattle.std.specs.List.{filter}
 use Rattle.std.specs.FinMap.{find, is_sorted, get, keys, entries, entries_sorted, same_map, from_sorted, get-from_sorted, entries-from_sorted, get-entries}
 use Rattle.std.specs.FinMap.Entries.{below_all}
-use Rattle.ov_specs.specs.operations.Operation.{is_own_column}
 use Rattle.ov_specs.specs.rows.Database.{Columns}
-use Rattle.ov_specs.specs.rows.RowNames.{row_names}
+use Rattle.ov_specs.specs.rows.RowNames.{row_names, is_own_column}
 use Rattle.ov_specs.specs.rows.Suits.{column_of_row, suits_column, SuitsTable}
 use Rattle.ov_specs.specs.schema.SchemaTypes.{Column, Table, name_cmp}
 use Rattle.ov_specs.specs.values.Value.{Datum}

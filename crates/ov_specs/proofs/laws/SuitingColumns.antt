@@ -3,18 +3,17 @@ use Rattle.std.proofs.Common.{◌≡◌, ℕ, List, [], ◌∷◌, Bool, true, f
 use Rattle.std.specs.Prelude.{Result, Ok, Err}
 use Rattle.std.proofs.lemmas.Bool.{and_from}
 use Rattle.std.specs.FinMap.{empty, get, insert, contains_key, entries, find, get-empty, get-insert, get-entries}
-use Rattle.serde_json.specs.Data.{Data, Members, no_members, member}
 use Rattle.ov_specs.specs.operations.Errors.{OpError, ConstraintViolation}
-use Rattle.ov_specs.specs.operations.Operation.{is_own_column, no_names, fitting_reading, value_for_column, member_value, with_column, row_values, fitting_default, with_defaults, and_then_columns, new_columns}
+use Rattle.ov_specs.specs.rows.RowNames.{is_own_column}
+use Rattle.ov_specs.specs.operations.GivenRow.{with_column}
+use Rattle.ov_specs.specs.operations.Insert.{fitting_default, with_defaults}
 use Rattle.ov_specs.specs.rows.Database.{Columns}
 use Rattle.ov_specs.specs.rows.Suits.{is_value_for, column_of_row, suits_column, SuitsTable}
 use Rattle.ov_specs.specs.schema.Fitting.{fits, default_of}
 use Rattle.ov_specs.specs.schema.SchemaTypes.{Column, Table, kinds_of, name_cmp}
-use Rattle.ov_specs.specs.values.Reading.{Reading, Reads, Unreadable, Clashing, reads}
-use Rattle.ov_specs.specs.values.Uuid.{AreUuids}
+use Rattle.ov_specs.specs.values.Uuid.{AreUuids, no_names}
 use Rattle.ov_specs.specs.values.Value.{Datum, is_of}
-use Rattle.ov_specs.proofs.laws.Names.{name_cmp_total, same_name, same_name-is, EachEntry, each_entry}
-use Rattle.ov_specs.proofs.laws.OfKinds.{reads_is_of}
+use Rattle.ov_specs.proofs.laws.Names.{name_cmp_total, same_name, same_name-is, EachEntry}
 use Rattle.ov_specs.proofs.laws.SchemaLaws.{default_is_of}
 
 -- ---- one value
@@ -32,32 +31,12 @@ fitted column v datum of = by (fits column.type_of v) refl
         subst (λ (d : Datum). is_value_for column d ≡ true) same (and_from (is_of (kinds_of column.type_of) v) (fits column.type_of v) of is)
     by false is h = cc
 
-value_suits : (column : Column) (d : Data) (datum : Datum) → value_for_column column d ≡ Ok datum → is_value_for column datum ≡ true
-value_suits column d datum = by (reads no_names (kinds_of column.type_of) d) refl
-  where
-    by : (r : Reading Datum) → reads no_names (kinds_of column.type_of) d ≡ r → fitting_reading column r ≡ Ok datum → is_value_for column datum ≡ true
-    by Unreadable is h = cc
-    by Clashing is h = cc
-    by (Reads v) is h = fitted column v datum (reads_is_of no_names no_uuids (kinds_of column.type_of) d v is) h
-
 -- the value is one for the column of this name
 abbrev pub IsGiven : Table → List ℕ → Datum → Type 0
 IsGiven table name datum = (column : Column) × (column_of_row table name ≡ Some column) × (is_value_for column datum ≡ true)
 
 pub column_is : (table : Table) (name : List ℕ) (column : Column) → is_own_column name ≡ false → get table.columns name ≡ Some column → column_of_row table name ≡ Some column
 column_is table name column own is = ap (λ b. cond b None (get table.columns name)) own ∙ is
-
-member_suits : (table : Table) (name : List ℕ) (d : Data) (datum : Datum) → member_value name (get table.columns name) d ≡ Ok datum → IsGiven table name datum
-member_suits table name d datum = by (get table.columns name) refl
-  where
-    by_own : (column : Column) (b : Bool) → get table.columns name ≡ Some column → is_own_column name ≡ b
-        → ◌≡◌ {A = Result Datum OpError} (if b then Err ConstraintViolation else value_for_column column d) (Ok datum) → IsGiven table name datum
-    by_own column true is own h = cc
-    by_own column false is own h = (column, column_is table name column own is, value_suits column d datum h)
-
-    by : (o : Option Column) → get table.columns name ≡ o → member_value name o d ≡ Ok datum → IsGiven table name datum
-    by None is h = cc
-    by (Some column) is h = by_own column (is_own_column name) is refl h
 
 -- ---- columns to which some are still to come
 
@@ -79,21 +58,6 @@ one_more_suits table columns name datum (column, kept, value) suits q =
     by : (b : Bool) → same_name q name ≡ b → suits_so_far (column_of_row table q) (cond b (Some datum) (get columns q)) ≡ true
     by true is = ap (λ n. suits_column (column_of_row table n) (Some datum)) (same_name-is q name is) ∙ ap (λ c. suits_column c (Some datum)) kept ∙ value
     by false is = suits q
-
--- what columns come to suits so far
-abbrev MakesSuiting : Table → Result Columns OpError → Type 0
-MakesSuiting table (Ok columns) = SuitsSoFar table columns
-MakesSuiting table (Err error) = Unit {0}
-
-rows_suit : (table : Table) (members : Members) (columns : Columns) → SuitsSoFar table columns → MakesSuiting table (row_values table members columns)
-rows_suit table no_members columns suits = suits
-rows_suit table (member name d members) columns suits =
-    by (member_value name (get table.columns name) d) refl (λ datum given. rows_suit table members (insert columns name datum) (one_more_suits table columns name datum given suits))
-  where
-    by : (r : Result Datum OpError) → member_value name (get table.columns name) d ≡ r → ((datum : Datum) → IsGiven table name datum → MakesSuiting table (row_values table members (insert columns name datum)))
-        → MakesSuiting table (with_column r (λ datum. row_values table members (insert columns name datum)))
-    by (Err error) is next = tt
-    by (Ok datum) is next = next datum (member_suits table name d datum is)
 
 -- ---- the defaults
 
@@ -204,14 +168,3 @@ complete_suits table before after made name = by (get after name) (column_of_row
 abbrev pub MakesRow : Table → Result Columns OpError → Type 0
 MakesRow table (Ok columns) = SuitsTable table columns
 MakesRow table (Err error) = Unit {0}
-
-pub new_columns_suit : (table : Table) (members : Members) → MakesRow table (new_columns table members)
-new_columns_suit table members = by (row_values table members empty) (rows_suit table members empty (none_suits table))
-  where
-    by_defaults : (before : Columns) (r : Result Columns OpError) → MakesComplete table (entries table.columns) before r → MakesRow table r
-    by_defaults before (Err error) made = tt
-    by_defaults before (Ok after) made = complete_suits table before after made
-
-    by : (r : Result Columns OpError) → MakesSuiting table r → MakesRow table (and_then_columns r (λ columns. with_defaults (entries table.columns) columns))
-    by (Err error) made = tt
-    by (Ok columns) made = by_defaults columns (with_defaults (entries table.columns) columns) (defaults_complete table (entries table.columns) columns (each_entry table.columns) made)

@@ -1,18 +1,16 @@
 -- What one entry makes of one session.
-use Rattle.std.proofs.Common.{◌≡◌, ◌≢◌, ℕ, ◌+◌, List, [], ◌∷◌, ◌++◌, length, refl, sym, ap, ◌∙◌, cond, eqb, leb, Bool, true, false, Option, Some, None, ◌⊎◌, inl, inr}
-use Rattle.std.specs.Prelude.{not, ◌||◌, ◌&&◌, filter, is_some, option_map}
+use Rattle.std.proofs.Common.{◌≡◌, ◌≢◌, ℕ, ◌+◌, List, [], ◌∷◌, ◌++◌, refl, sym, ap, ◌∙◌, cond, eqb, leb, Bool, true, false, Option, Some, None, ◌⊎◌, inl, inr}
+use Rattle.std.specs.Prelude.{not, ◌||◌, ◌&&◌, filter, option_map}
 use Rattle.std.specs.List.{list_any}
 use Rattle.std.proofs.lemmas.List.Folds.{list_any-append}
 use Rattle.std.proofs.lemmas.Map.Views.{any-filter_same}
 use Rattle.std.proofs.lemmas.Bool.{eq-eqb, eqb-true, ne_eqb, not_from_true, not_from_false, and_parts}
 use Rattle.ov_specs.specs.wire.Message.{Message}
-use Rattle.ov_specs.specs.rows.Database.{same_database}
-use Rattle.ov_specs.specs.operations.Transaction.{Transacted, transaction, exhausted_results, failed_results}
 use Rattle.ov_specs.specs.values.Uuid.{Uuid}
-use Rattle.ov_specs.specs.machine.Machine.{State, Entry, Event, Open, Take, Close, Tick, Cause, Memory, Outcome, NoMemory, Committed, Exhausted, Failed, Attempt, Listed, listed, tries, ends, Session, Sent, Stepped, step, happens, takes, sends_at_once, closed, when, is_open, is_without_choice, with_next_session, without_session, to_session, none_listed, Work, Answers, Transact, work_of, works, draws_for, does, commits, results_to}
+use Rattle.ov_specs.specs.machine.Machine.{State, Entry, Event, Open, Take, Close, Tick, Cause, Memory, Outcome, Attempt, Listed, listed, tries, ends, Session, Stepped, step, happens, takes, closed, when, is_open, is_without_choice, with_next_session, without_session, none_listed, Work, work_of, works}
 use Rattle.ov_specs.specs.machine.History.{taken_by, cause_in, closing_cause}
-use Rattle.serde_json.specs.Data.{Data}
 use Rattle.ov_specs.proofs.laws.Truths.{or_nothing}
+use Rattle.ov_specs.proofs.laws.Works.{when_is, when_suits, work_has}
 use Rattle.std.proofs.lemmas.Option.{same_Some}
 
 -- ---- the open sessions
@@ -53,15 +51,6 @@ pub cause_shut : (n : ℕ) (s t : State) (what : Event) → is_open s n ≡ true
 cause_shut n s t what there away = ap (λ b. cond (b && not (is_open t n)) (Some (cause_in n what)) None) there ∙ ap (λ b. cond (not b) (Some (cause_in n what)) None) away
 
 -- ---- one step
-
--- a choice that suits
-when_is : {A : Type 0} (b : Bool) (o : Option A) (x : A) → when b o ≡ Some x → o ≡ Some x
-when_is true o x h = h
-when_is false o x h = cc
-
-when_suits : {A : Type 0} (b : Bool) (o : Option A) (x : A) → when b o ≡ Some x → b ≡ true
-when_suits true o x h = refl
-when_suits false o x h = cc
 
 -- an attempt behind which nothing is tried
 pub ends_tries : (attempt : Option Outcome → Option Stepped) (number : ℕ) (attempts : List Attempt) → ends (tries attempt number attempts) ≡ when (none_listed (listed number attempts).others) (attempt (listed number attempts).outcome)
@@ -157,44 +146,10 @@ module _ (n : ℕ) (s : State) (e : Entry) (t : Stepped) (h : step s e ≡ Some 
 abbrev Worked : State → ℕ → State → Type 0
 Worked s m t = ((t.sessions ≡ s.sessions) × (t.next ≡ s.next)) ⊎ (t ≡ without_session m s)
 
--- an answer at once
-stays : (s : State) (m : ℕ) (x t : Stepped) → x.state.sessions ≡ s.sessions → x.state.next ≡ s.next → Some x ≡ Some t → Worked s m t.state
-stays s m x t sessions next h =
-    let same : x ≡ t = same_Some x t h in
-    inl (ap (λ (v : Stepped). v.state.sessions) (sym same) ∙ sessions, ap (λ (v : Stepped). v.state.next) (sym same) ∙ next)
-
--- what is sent at once leaves so much
-sent_at_once : (s : State) (m : ℕ) (sent : List Sent) (o : Option Outcome) (t : Stepped) → sends_at_once s sent o ≡ Some t → Worked s m t.state
-sent_at_once s m sent None t h = stays s m (record { state = s; sent = sent }) t refl refl h
-sent_at_once s m sent (Some outcome) t h = cc
-
--- a commit leaves so much
-committed : (s : State) (m : ℕ) (id : Data) (r : Transacted) (o : Option Outcome) (t : Stepped) → commits s m id r o ≡ Some t → Worked s m t.state
-committed s m id r (Some Committed) t h = stays s m (record { state = record s { database = r.database }; sent = results_to m id r.results }) t refl refl h
-committed s m id r (Some Exhausted) t h = stays s m (record { state = s; sent = results_to m id (exhausted_results r.results) }) t refl refl h
-committed s m id r (Some Failed) t h = stays s m (record { state = record s { sealed = Some r.database }; sent = results_to m id (failed_results r.results) }) t refl refl h
-committed s m id r (Some NoMemory) t h = cc
-committed s m id r None t h = cc
-
--- a transaction leaves so much
-attempted : (s : State) (m : ℕ) (id : Data) (r : Transacted) (o : Option Outcome) (t : Stepped) (same sealed : Bool)
-    → cond same (sends_at_once s (results_to m id r.results) o) (cond sealed (sends_at_once s (results_to m id (failed_results r.results)) o) (commits s m id r o)) ≡ Some t → Worked s m t.state
-attempted s m id r o t true sealed h = sent_at_once s m (results_to m id r.results) o t h
-attempted s m id r o t false true h = sent_at_once s m (results_to m id (failed_results r.results)) o t h
-attempted s m id r o t false false h = committed s m id r o t h
-
--- work that is done leaves so much
-done : (s : State) (m : ℕ) (draws : List Uuid) (o : Option Outcome) (w : Work) (t : Stepped) → does s m draws o w ≡ Some t → Worked s m t.state
-done s m draws o (Answers trees) t h = sent_at_once s m (to_session m trees) o t h
-done s m draws o (Transact id operations) t h =
-    let r : Transacted = transaction s.schema s.database draws operations in
-    attempted s m id r o t (same_database s.database r.database) (is_some s.sealed) h
-
 -- the work on a message leaves so much
 any_work : (s : State) (m : ℕ) (draws : List Uuid) (o : Option Outcome) (w : Work) (t : Stepped) → works s m draws o w ≡ Some t → Worked s m t.state
-any_work s m draws (Some NoMemory) w t h =
-    inr (ap (λ (v : Stepped). v.state) (sym (same_Some (closed s m) t (when_is (leb (length draws) (draws_for w)) (Some (closed s m)) t h))))
-any_work s m draws o w t h = done s m draws o w t (when_is (eqb (length draws) (draws_for w)) (does s m draws o w) t h)
+any_work s m draws o w t h =
+    work_has (λ x. Worked s m x.state) s m (λ trees. inl (refl, refl)) draws o w t (inr refl) (λ id operations results database is completes. (inl (refl, refl), inl (refl, refl))) h
 
 module _ (n : ℕ) (s : State) (e : Entry) (t : Stepped) (h : step s e ≡ Some t) where
   -- the state after the work on a message

@@ -10,7 +10,8 @@ use Rattle.ov_specs.specs.wire.Frame.{reply_tree, failure_tree}
 use Rattle.ov_specs.specs.wire.Method.{database_names, bad_text}
 use Rattle.std.specs.Str.{bytes_eq}
 use Rattle.ov_specs.specs.schema.SchemaTypes.{Schema}
-use Rattle.ov_specs.specs.operations.Transaction.{draws_wanted, Transacted, transaction, exhausted_results, failed_results}
+use Rattle.ov_specs.specs.operations.Draws.{draws_wanted}
+use Rattle.ov_specs.specs.operations.Transaction.{TransactionOutcome, Completes, Waits, transaction, exhausted_results, failed_results}
 use Rattle.ov_specs.specs.values.Uuid.{Uuid}
 
 -- ---- what happens, and what the outside chose
@@ -177,19 +178,25 @@ results_to session id results = to_session session (results_of id results)
 
 -- What comes of the store's answer: where it keeps the change, the database is the new one; where it has no room, nothing is
 -- changed; where it fails, the database stays and is sealed.
-abbrev pub commits : State → ℕ → Data → Transacted → Option Outcome → Option Stepped
-commits s session id t (Some Committed) = Some (record { state = record s { database = t.database }; sent = results_to session id t.results })
-commits s session id t (Some Exhausted) = Some (record { state = s; sent = results_to session id (exhausted_results t.results) })
-commits s session id t (Some Failed) = Some (record { state = record s { sealed = Some t.database }; sent = results_to session id (failed_results t.results) })
-commits s session id t outcome = None
+abbrev pub commits : State → ℕ → Data → Items → Database → Option Outcome → Option Stepped
+commits s session id results database (Some Committed) = Some (record { state = record s { database = database }; sent = results_to session id results })
+commits s session id results database (Some Exhausted) = Some (record { state = s; sent = results_to session id (exhausted_results results) })
+commits s session id results database (Some Failed) = Some (record { state = record s { sealed = Some database }; sent = results_to session id (failed_results results) })
+commits s session id results database outcome = None
 
--- What comes of a transaction. Where it leaves the database as it was, the store is not asked; a sealed database asks the store
--- no more, and answers as where it fails; else the store is asked to keep the change (RFC 7047, 4.1.3).
-abbrev pub attempt : State → ℕ → Data → Transacted → Option Outcome → Option Stepped
-attempt s session id t outcome =
-    if same_database s.database t.database then sends_at_once s (results_to session id t.results) outcome
-    else (if is_some s.sealed then sends_at_once s (results_to session id (failed_results t.results)) outcome
-    else commits s session id t outcome)
+-- What comes of a transaction with these results and this database after it. Where that is the database as it was, the store is
+-- not asked; a sealed database asks the store no more, and answers as where it fails; else the store is asked to keep the change
+-- (RFC 7047, 4.1.3).
+abbrev pub completes : State → ℕ → Data → Items → Database → Option Outcome → Option Stepped
+completes s session id results database outcome =
+    if same_database s.database database then sends_at_once s (results_to session id results) outcome
+    else (if is_some s.sealed then sends_at_once s (results_to session id (failed_results results)) outcome
+    else commits s session id results database outcome)
+
+-- What comes of a transaction. No transaction is kept outstanding yet, so one that waits is refused (our own).
+abbrev pub attempt : State → ℕ → Data → TransactionOutcome → Option Outcome → Option Stepped
+attempt s session id (Completes results database) outcome = completes s session id results database outcome
+attempt s session id (Waits timeout) outcome = sends_at_once s (to_session session (failure_tree id (codes "resources exhausted") ∷ [])) outcome
 
 -- ---- the attempts of an event
 
@@ -243,7 +250,7 @@ draws_for (Transact id operations) = draws_wanted operations
 -- the work, done with the identifiers that were drawn for it, and with the store's answer where it was asked
 abbrev pub does : State → ℕ → List Uuid → Option Outcome → Work → Option Stepped
 does s session draws outcome (Answers trees) = sends_at_once s (to_session session trees) outcome
-does s session draws outcome (Transact id operations) = attempt s session id (transaction s.schema s.database draws operations) outcome
+does s session draws outcome (Transact id operations) = attempt s session id (transaction s.schema s.database draws 0 operations) outcome
 
 -- The work, with the identifiers that were drawn for it and what is listed of it. Where memory was refused, at most as many
 -- were drawn as are wanted, and the session is closed; else just so many were drawn, and the work is done.

@@ -1,4 +1,4 @@
--- abort: the transaction fails (RFC 7047, 5.2.8). The machine does not use this yet.
+-- abort: the transaction fails (RFC 7047, 5.2.8).
 use Rattle.ov_specs.specs.operations.Errors.{Aborted}
 use Rattle.ov_specs.specs.operations.OpOutcome.{OpOutcome, Fault}
 

@@ -1,8 +1,8 @@
--- comment: a text for a log, of which this server has none (RFC 7047, 5.2.9). The machine does not use this yet.
+-- comment: a text for a log, of which this server has none (RFC 7047, 5.2.9).
 use Rattle.std.specs.Prelude.{codes}
 use Rattle.serde_json.specs.Data.{Data}
 use Rattle.ov_specs.specs.operations.Errors.{SyntaxError}
-use Rattle.ov_specs.specs.operations.Operation.{text_at}
+use Rattle.ov_specs.specs.operations.Members.{text_at}
 use Rattle.ov_specs.specs.operations.OpOutcome.{OpOutcome, Done, empty_result, some_or_fault}
 use Rattle.ov_specs.specs.rows.Database.{Database}
 

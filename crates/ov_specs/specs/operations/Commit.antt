@@ -1,5 +1,4 @@
--- commit: "durable" asks for what every commit is here (RFC 7047, 5.2.7; that each is durable is our own). The machine does not use
--- this yet.
+-- commit: "durable" asks for what every commit is here (RFC 7047, 5.2.7; that each is durable is our own).
 use Rattle.std.specs.Prelude.{option_and_then, codes}
 use Rattle.serde_json.specs.Data.{Data}
 use Rattle.serde_json.specs.Find as find

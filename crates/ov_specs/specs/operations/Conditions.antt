@@ -4,7 +4,8 @@ use Rattle.std.specs.List.{list_all}
 use Rattle.std.specs.FinMap.{get, contains_key, keys, entries}
 use Rattle.serde_json.specs.Data.{Data, Items, no_items, item}
 use Rattle.serde_json.specs.Find.{as_str, as_array}
-use Rattle.ov_specs.specs.rows.Database.{Columns, same_atom, same_datum, one_uuid}
+use Rattle.ov_specs.specs.rows.Database.{Columns, Row, same_atom, same_datum, one_uuid}
+use Rattle.ov_specs.specs.rows.Lines.{LineKey}
 use Rattle.std.specs.Str.{bytes_eq}
 use Rattle.ov_specs.specs.operations.Errors.{OpError, SyntaxError, UnknownColumn, ConstraintViolation}
 use Rattle.ov_specs.specs.values.Reading as reading
@@ -204,6 +205,10 @@ column_value id version columns name =
     if bytes_eq name (codes "_uuid") then Some (one_uuid id)
     else (if bytes_eq name (codes "_version") then Some (one_uuid version)
     else get columns name)
+
+-- the value of a row's column, `_uuid` and `_version` too (RFC 7047, 3.2)
+abbrev pub entry_value : LineKey × Row → List ℕ → Option Datum
+entry_value r = column_value r.0.1 r.1.version r.1.columns
 
 -- the row, seen by what each of its columns holds, meets the condition (RFC 7047, 5.1, <condition>)
 abbrev pub holds : (List ℕ → Option Datum) → Condition → Bool

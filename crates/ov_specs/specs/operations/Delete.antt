@@ -1,8 +1,7 @@
--- delete: the rows that match go (RFC 7047, 5.2.5). The machine does not use this yet.
+-- delete: the rows that match go (RFC 7047, 5.2.5).
 use Rattle.std.specs.Prelude.{List, map, length}
 use Rattle.serde_json.specs.Data.{Data}
-use Rattle.ov_specs.specs.operations.MatchingRows.{on_conditions, count_result, without_rows}
-use Rattle.ov_specs.specs.operations.Operation.{matching}
+use Rattle.ov_specs.specs.operations.MatchingRows.{on_conditions, count_result, without_rows, matching}
 use Rattle.ov_specs.specs.operations.OpOutcome.{OpContext, OpOutcome, Done, on_table}
 use Rattle.ov_specs.specs.rows.Database.{Row, Database}
 use Rattle.ov_specs.specs.rows.Lines.{LineKey}

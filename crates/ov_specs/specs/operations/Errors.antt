@@ -3,8 +3,7 @@ use Rattle.std.specs.Prelude.{ℕ, List, [], ◌∷◌, codes}
 use Rattle.serde_json.specs.Data.{Data, string}
 use Rattle.ov_specs.specs.rows.Database.{object_of}
 
--- Why an operation, or the commit, fails (RFC 7047, 3.1, <error>, and 5.2). The machine answers none of DuplicateName, DomainError,
--- RangeError, TimedOut and Aborted yet.
+-- why an operation, or the commit, fails (RFC 7047, 3.1, <error>, and 5.2)
 pub data OpError : Type 0 where
   SyntaxError : OpError
   UnknownTable : OpError

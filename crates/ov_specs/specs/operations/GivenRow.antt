@@ -1,12 +1,13 @@
--- The "row" of an insert and of an update (RFC 7047, 5.1, <row>, 5.2.1 and 5.2.3). The machine does not use this yet.
+-- The "row" of an insert and of an update (RFC 7047, 5.1, <row>, 5.2.1 and 5.2.3).
 use Rattle.std.specs.Prelude.{ℕ, ◌&&◌, not, List, [], ◌∷◌, Bool, if◌then◌else◌, Option, Some, None, Result, Ok, Err}
 use Rattle.std.specs.FinMap.{get, insert, entries}
 use Rattle.serde_json.specs.Data.{Data, Members, no_members, member}
-use Rattle.ov_specs.specs.operations.Errors.{OpError, UnknownColumn, ConstraintViolation}
-use Rattle.ov_specs.specs.operations.Operation.{is_own_column, fitting_reading, with_column}
+use Rattle.ov_specs.specs.operations.Errors.{OpError, SyntaxError, UnknownColumn, ConstraintViolation}
+use Rattle.ov_specs.specs.rows.RowNames.{is_own_column}
 use Rattle.ov_specs.specs.rows.Database.{Columns}
+use Rattle.ov_specs.specs.schema.Fitting.{fits}
 use Rattle.ov_specs.specs.schema.SchemaTypes.{Column, Table, kinds_of}
-use Rattle.ov_specs.specs.values.Reading.{reads}
+use Rattle.ov_specs.specs.values.Reading.{Reading, Reads, Unreadable, Clashing, reads}
 use Rattle.ov_specs.specs.values.Uuid.{Names}
 use Rattle.ov_specs.specs.values.Value.{Datum}
 
@@ -18,6 +19,12 @@ may_be_new name column = not (is_own_column name)
 abbrev pub may_be_changed : List ℕ → Column → Bool
 may_be_changed name column = not (is_own_column name) && column.is_mutable
 
+-- The value fits its column; a key with two values is a value that fits none (RFC 7047, 5.1).
+abbrev pub fitting_reading : Column → Reading Datum → Result Datum OpError
+fitting_reading column Unreadable = Err SyntaxError
+fitting_reading column Clashing = Err ConstraintViolation
+fitting_reading column (Reads datum) = if fits column.type_of datum then Ok datum else Err ConstraintViolation
+
 -- The value that a column is given. In this order: the table has the column (an unknown column), the column may be given one (a
 -- constraint violation), the tree reads (a syntax error; a constraint violation where one key has two values), and its value fits
 -- (a constraint violation).
@@ -25,6 +32,16 @@ abbrev pub given_value : (List ℕ → Column → Bool) → Names → List ℕ �
 given_value may_be names name None d = Err UnknownColumn
 given_value may_be names name (Some column) d =
     if may_be name column then fitting_reading column (reads names (kinds_of column.type_of) d) else Err ConstraintViolation
+
+-- one column more, and then the rest; or the fault of this one
+abbrev pub with_column : Result Datum OpError → (Datum → Result Columns OpError) → Result Columns OpError
+with_column (Err error) next = Err error
+with_column (Ok datum) next = next datum
+
+-- the columns, where there is no fault, and then the rest
+abbrev pub and_then_columns : Result Columns OpError → (Columns → Result Columns OpError) → Result Columns OpError
+and_then_columns (Err error) next = Err error
+and_then_columns (Ok columns) next = next columns
 
 -- The columns given beside those there are, in ascending order of their names, as a tree has its members; or the fault of
 -- the first that has one (RFC 7047, 5.1, <row>).

@@ -1,20 +1,26 @@
--- insert: a row is made of "row" and put under the identifier that was drawn for it (RFC 7047, 5.2.1). The machine does not use
--- this yet.
-use Rattle.std.specs.Prelude.{ℕ, not, List, if◌then◌else◌, Option, Some, None, codes, Result}
+-- insert: a row is made of "row" and put under the identifier that was drawn for it (RFC 7047, 5.2.1).
+use Rattle.std.specs.Prelude.{ℕ, ◌||◌, not, List, [], ◌∷◌, if◌then◌else◌, Option, Some, None, codes, Result, Ok, Err}
 use Rattle.std.specs.FinMap.{empty, contains_key, insert, entries}
 use Rattle.serde_json.specs.Data.{Data, Members}
 use Rattle.serde_json.specs.Find as find
 use Rattle.serde_json.specs.Find.{as_str}
-use Rattle.ov_specs.specs.operations.Errors.{OpError, SyntaxError, DuplicateName, DuplicateUuid, ResourcesExhausted}
-use Rattle.ov_specs.specs.operations.GivenRow.{may_be_new, given_values}
+use Rattle.ov_specs.specs.operations.Errors.{OpError, SyntaxError, DuplicateName, DuplicateUuid, ConstraintViolation, ResourcesExhausted}
+use Rattle.ov_specs.specs.operations.GivenRow.{may_be_new, given_values, with_column, and_then_columns}
 use Rattle.ov_specs.specs.operations.NamedUuids.{is_declared_before, id_at}
-use Rattle.ov_specs.specs.operations.Operation.{and_then_columns, with_defaults, insert_result}
-use Rattle.ov_specs.specs.operations.OpOutcome.{OpContext, OpOutcome, Done, Fault, names_in, object_at, some_or_fault, ok_or_fault, unless_fault, on_table}
-use Rattle.ov_specs.specs.rows.Database.{Columns, Database}
+use Rattle.ov_specs.specs.operations.Members.{object_at}
+use Rattle.ov_specs.specs.operations.OpOutcome.{OpContext, OpOutcome, Done, Fault, names_in, some_or_fault, ok_or_fault, unless_fault, on_table}
+use Rattle.ov_specs.specs.rows.Database.{Columns, Database, object_of}
+use Rattle.ov_specs.specs.rows.RowNames.{is_own_column}
 use Rattle.ov_specs.specs.rows.Version.{row_now}
-use Rattle.ov_specs.specs.schema.SchemaTypes.{Table}
+use Rattle.ov_specs.specs.schema.Fitting.{fits, default_of}
+use Rattle.ov_specs.specs.schema.SchemaTypes.{Column, Table}
 use Rattle.ov_specs.specs.values.Uuid.{Uuid, is_id, Names}
+use Rattle.ov_specs.specs.values.Value as value
+use Rattle.ov_specs.specs.values.Value.{Datum}
+use Rattle.ov_specs.specs.values.Writing.{atom_tree}
 use Rattle.ov_specs.specs.wire.Message.{has_member}
+
+-- ---- its name
 
 -- what is wrong with a text as the name of a new row: it is no <id>, or an earlier operation has declared it
 abbrev pub name_text_fault : OpContext → ℕ → Option (List ℕ) → Option OpError
@@ -27,9 +33,28 @@ abbrev pub name_fault : OpContext → ℕ → Option Data → Option OpError
 name_fault c place None = None
 name_fault c place (Some d) = name_text_fault c place (as_str d)
 
+-- ---- its columns
+
+-- the default of a column, where it fits (RFC 7047, 5.2.1; that a default may not fit is our own)
+abbrev pub fitting_default : Column → Result Datum OpError
+fitting_default column = if fits column.type_of (default_of column.type_of) then Ok (default_of column.type_of) else Err ConstraintViolation
+
+-- the columns with the defaults of those that were not given (RFC 7047, 5.2.1)
+abbrev pub with_defaults : List (List ℕ × Column) → Columns → Result Columns OpError
+with_defaults [] columns = Ok columns
+with_defaults (c ∷ cs) columns =
+    if is_own_column c.0 || contains_key columns c.0 then with_defaults cs columns
+    else with_column (fitting_default c.1) (λ datum. with_defaults cs (insert columns c.0 datum))
+
 -- all columns of a new row: those that are given, and then the defaults of the others (RFC 7047, 5.2.1)
 abbrev pub new_row : Names → Table → Members → Result Columns OpError
 new_row names table members = and_then_columns (given_values may_be_new names table members empty) (λ columns. with_defaults (entries table.columns) columns)
+
+-- ---- the operation
+
+-- the result of an insert: the identifier of its row (RFC 7047, 5.2.1)
+abbrev pub insert_result : Uuid → Data
+insert_result id = object_of ((codes "uuid", atom_tree (value.Uuid id)) ∷ [])
 
 -- The row under its identifier, which no row of the table may have. Each insert has one drawn, so there always is one.
 abbrev pub put_new : OpContext → Database → List ℕ → Columns → Option Uuid → OpOutcome

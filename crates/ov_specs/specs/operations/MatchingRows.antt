@@ -1,20 +1,51 @@
--- The rows that an operation is about, and what it leaves of them (RFC 7047, 5.2.2 to 5.2.5). The machine does not use this yet.
-use Rattle.std.specs.Prelude.{ℕ, List, [], ◌∷◌, codes}
-use Rattle.std.specs.FinMap.{insert, remove}
-use Rattle.serde_json.specs.Data.{Data, number, unsigned}
-use Rattle.ov_specs.specs.operations.Conditions.{Condition}
-use Rattle.ov_specs.specs.operations.Errors.{SyntaxError}
-use Rattle.ov_specs.specs.operations.Operation.{array_at, conditions_read}
+-- The rows that an operation is about, and what it leaves of them (RFC 7047, 5.2.2 to 5.2.5).
+use Rattle.std.specs.Prelude.{ℕ, ◌&&◌, List, [], ◌∷◌, ◌++◌, filter, Bool, codes, Result, Ok, Err}
+use Rattle.std.specs.List.{list_all}
+use Rattle.std.specs.FinMap.{insert, remove, entries}
+use Rattle.std.specs.Str.{bytes_eq}
+use Rattle.serde_json.specs.Data.{Data, number, unsigned, Items, no_items, item}
+use Rattle.ov_specs.specs.operations.Conditions.{Condition, ConditionFault, condition_error, condition_read, entry_value, holds}
+use Rattle.ov_specs.specs.operations.Errors.{OpError, SyntaxError}
+use Rattle.ov_specs.specs.operations.Members.{array_at}
 use Rattle.ov_specs.specs.operations.OpOutcome.{OpContext, OpOutcome, names_in, some_or_fault, ok_or_fault}
-use Rattle.ov_specs.specs.rows.Database.{Columns, Database, object_of}
+use Rattle.ov_specs.specs.rows.Database.{Columns, Row, Database, object_of}
 use Rattle.ov_specs.specs.rows.Lines.{LineKey}
 use Rattle.ov_specs.specs.rows.Version.{row_now}
 use Rattle.ov_specs.specs.schema.SchemaTypes.{Table}
+use Rattle.ov_specs.specs.values.Uuid.{Names}
+
+-- ---- the conditions
+
+-- these conditions in front of the others, or the error of the others
+abbrev pub and_others : List Condition → Result (List Condition) OpError → Result (List Condition) OpError
+and_others conditions (Err error) = Err error
+and_others conditions (Ok others) = Ok (conditions ++ others)
+
+-- a condition in front of the others, or its fault
+abbrev pub and_condition : Result Condition ConditionFault → Result (List Condition) OpError → Result (List Condition) OpError
+and_condition (Err fault) others = Err (condition_error fault)
+and_condition (Ok condition) others = and_others (condition ∷ []) others
+
+-- The conditions of a "where", each read wholly before the next one, or the error of the first that does not read (RFC
+-- 7047, 5.2.2; the order is our own).
+abbrev pub conditions_read : Names → Table → Items → Result (List Condition) OpError
+conditions_read names table no_items = Ok []
+conditions_read names table (item d ds) = and_condition (condition_read names table d) (conditions_read names table ds)
 
 -- The conditions of "where", which is an array of them; each is read wholly before the next one (RFC 7047, 5.2.2).
 abbrev pub on_conditions : OpContext → Table → Data → (List Condition → OpOutcome) → OpOutcome
 on_conditions c table d next =
     some_or_fault (array_at (codes "where") d) SyntaxError (λ items. ok_or_fault (conditions_read (names_in c) table items) next)
+
+-- ---- the rows
+
+-- a row of the table that meets all conditions; without a condition each row of it does (RFC 7047, 5.2.2)
+abbrev pub is_matching : List ℕ → List Condition → LineKey × Row → Bool
+is_matching table conditions r = bytes_eq r.0.0 table && list_all (holds (entry_value r)) conditions
+
+-- these rows, in ascending order of their identifiers
+abbrev pub matching : Database → List ℕ → List Condition → List (LineKey × Row)
+matching rows table conditions = filter (is_matching table conditions) (entries rows)
 
 -- the result of an operation that counts the rows that match, changed or not (RFC 7047, 5.2.3 to 5.2.5)
 abbrev pub count_result : ℕ → Data

@@ -1,11 +1,12 @@
--- mutate: the mutations are applied to the rows that match (RFC 7047, 5.2.4). The machine does not use this yet.
+-- mutate: the mutations are applied to the rows that match (RFC 7047, 5.2.4).
 use Rattle.std.specs.Prelude.{List, [], ◌∷◌, length, Option, Some, None, codes, Result, Ok, Err}
 use Rattle.std.specs.FinMap.{get, insert}
 use Rattle.serde_json.specs.Data.{Data, Items, no_items, item}
 use Rattle.ov_specs.specs.operations.Errors.{OpError, SyntaxError, ConstraintViolation, DomainError, RangeError}
-use Rattle.ov_specs.specs.operations.MatchingRows.{on_conditions, count_result, put_rows}
+use Rattle.ov_specs.specs.operations.MatchingRows.{on_conditions, count_result, put_rows, matching}
 use Rattle.ov_specs.specs.operations.Mutators.{Mutation, MutationFault, mutation_error, mutation_read, MutateError, Domain, Range, Constraint, mutated}
-use Rattle.ov_specs.specs.operations.Operation.{with_column, matching, array_at}
+use Rattle.ov_specs.specs.operations.GivenRow.{with_column}
+use Rattle.ov_specs.specs.operations.Members.{array_at}
 use Rattle.ov_specs.specs.operations.OpOutcome.{OpContext, OpOutcome, Done, names_in, some_or_fault, ok_or_fault, on_table}
 use Rattle.ov_specs.specs.rows.Database.{Columns, Row, Database}
 use Rattle.ov_specs.specs.rows.Lines.{LineKey}

@@ -1,9 +1,9 @@
--- Names for the rows that a transaction inserts (RFC 7047, 5.1, <named-uuid>, and 5.2.1). The machine does not use this yet.
+-- Names for the rows that a transaction inserts (RFC 7047, 5.1, <named-uuid>, and 5.2.1).
 use Rattle.std.specs.Prelude.{ℕ, zero, suc, ◌+◌, nat_lt, ◌&&◌, Bool, List, if◌then◌else◌, slice_get, Option, Some, None, option_map, option_and_then, codes}
 use Rattle.std.specs.Str.{bytes_eq}
 use Rattle.serde_json.specs.Data.{Data, Items, no_items, item}
-use Rattle.ov_specs.specs.operations.Operation.{text_at}
-use Rattle.ov_specs.specs.operations.Transaction.{is_insert}
+use Rattle.ov_specs.specs.operations.Members.{text_at}
+use Rattle.ov_specs.specs.operations.Draws.{is_insert}
 use Rattle.ov_specs.specs.schema.Schema.{is_some_and}
 use Rattle.ov_specs.specs.values.Uuid.{Uuid, is_id, Names}
 

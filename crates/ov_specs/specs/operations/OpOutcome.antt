@@ -1,13 +1,10 @@
--- What an operation is done in, and what it comes to (RFC 7047, 4.1.3 and 5.2). The machine does not use this yet: it knows two
--- operations, by Operation and Transaction, and goes over to these files once the program does.
-use Rattle.std.specs.Prelude.{ℕ, List, Option, Some, None, option_and_then, codes, Result, Ok, Err}
+-- What an operation is done in, and what it comes to (RFC 7047, 4.1.3 and 5.2).
+use Rattle.std.specs.Prelude.{ℕ, List, Option, Some, None, codes, Result, Ok, Err}
 use Rattle.std.specs.FinMap.{get}
-use Rattle.serde_json.specs.Data.{Data, object, Items, Members, no_members}
-use Rattle.serde_json.specs.Find.{as_object}
-use Rattle.serde_json.specs.Find as find
+use Rattle.serde_json.specs.Data.{Data, object, Items, no_members}
 use Rattle.ov_specs.specs.operations.Errors.{OpError, SyntaxError, UnknownTable}
 use Rattle.ov_specs.specs.operations.NamedUuids.{names_of}
-use Rattle.ov_specs.specs.operations.Operation.{text_at}
+use Rattle.ov_specs.specs.operations.Members.{text_at}
 use Rattle.ov_specs.specs.rows.Database.{Database}
 use Rattle.ov_specs.specs.schema.SchemaTypes.{Table, Schema}
 use Rattle.ov_specs.specs.values.Uuid.{Uuid, Names}
@@ -35,10 +32,6 @@ names_in c = names_of c.ids c.operations
 -- the result {} (RFC 7047, 5.2.6, 5.2.7 and 5.2.9)
 abbrev pub empty_result : Data
 empty_result = object no_members
-
--- the object at a member
-abbrev pub object_at : List ℕ → Data → Option Members
-object_at name d = option_and_then as_object (find.get name d)
 
 -- with what was found, or else this error
 abbrev pub some_or_fault : {A : Type 0} → Option A → OpError → (A → OpOutcome) → OpOutcome

@@ -1,61 +1,56 @@
--- One transaction: operations in order, each on the rows that those before it left (RFC 7047, 4.1.3 and 5.2). What names no
--- source is our own.
-use Rattle.std.specs.Prelude.{ℕ, ◌+◌, List, [], ◌∷◌, Bool, if◌then◌else◌, codes}
+-- One transaction: its operations in order, each on the rows that those before it left; a wait may block it (RFC 7047, 4.1.3 and
+-- 5.2). What names no source is our own.
+use Rattle.std.specs.Prelude.{ℕ, ◌+◌, ◌||◌, Bool, false, List, [], ◌∷◌, Option, codes}
 use Rattle.serde_json.specs.Data.{Data, null, Items, no_items, item}
-use Rattle.ov_specs.specs.rows.Database.{Database}
-use Rattle.ov_specs.specs.values.Reading.{is_word}
 use Rattle.ov_specs.specs.operations.Errors.{OpError, ResourcesExhausted, InputOutput, error_tree}
-use Rattle.ov_specs.specs.operations.Operation.{Staged, OperationResult, Succeeds, Fails, text_at, operation}
+use Rattle.ov_specs.specs.operations.Operation.{outcome_of}
+use Rattle.ov_specs.specs.operations.OpOutcome.{OpContext, OpOutcome, Done, Fault, Blocked}
+use Rattle.ov_specs.specs.rows.Database.{Database}
 use Rattle.ov_specs.specs.schema.SchemaTypes.{Schema}
 use Rattle.ov_specs.specs.values.Uuid.{Uuid}
-
--- ---- what is drawn
-
--- an object whose "op" is "insert", whatever else it has (RFC 7047, 5.2.1)
-abbrev pub is_insert : Data → Bool
-is_insert d = is_word (codes "insert") (text_at (codes "op") d)
-
--- how many of them
-abbrev pub insert_count : Items → ℕ
-insert_count no_items = 0
-insert_count (item d operations) = (if is_insert d then 1 else 0) + insert_count operations
-
--- how many identifiers are drawn: the version, and one for each insert, also for one that will be refused
-abbrev pub draws_wanted : Items → ℕ
-draws_wanted operations = 1 + insert_count operations
+use Rattle.ov_specs.specs.wire.Message.{has_member}
 
 -- ---- what it does
 
--- the results, one for each operation, and the database after it (RFC 7047, 4.1.3)
-pub record Transacted : Type 0 where
-  pub results : Items
-  pub database : Database
+-- A transaction has the results of its operations, and the database after it; or it waits, with the timeout of the wait that is not
+-- met (RFC 7047, 4.1.3 and 5.2.6).
+pub data TransactionOutcome : Type 0 where
+  Completes : (results : Items) (database : Database) → TransactionOutcome
+  Waits : (timeout : Option ℕ) → TransactionOutcome
 
 -- a result in front
-abbrev pub with_result : Data → Transacted → Transacted
-with_result result t = record t { results = item result t.results }
+abbrev pub and_result : Data → TransactionOutcome → TransactionOutcome
+and_result result (Completes results database) = Completes (item result results) database
+and_result result (Waits timeout) = Waits timeout
 
 -- null for each of them (RFC 7047, 4.1.3)
 abbrev pub nulls : Items → Items
 nulls no_items = no_items
 nulls (item d operations) = item null (nulls operations)
 
--- After an operation that failed the results are null, and the database is as before the transaction (RFC 7047, 4.1.3).
-abbrev pub after_operation : Database → OperationResult → Items → (Staged → Transacted) → Transacted
-after_operation before (Succeeds result g) operations go = with_result result (go g)
-after_operation before (Fails error) operations go = record { results = item (error_tree error) (nulls operations); database = before }
+-- After an operation that fails the results are null, and the database is as before the transaction; where one waits, the whole
+-- transaction does, and changes nothing (RFC 7047, 4.1.3 and 5.2.6).
+abbrev pub after : Database → OpOutcome → Items → (Database → TransactionOutcome) → TransactionOutcome
+after before (Done result rows) operations go = and_result result (go rows)
+after before (Fault error) operations go = Completes (item (error_tree error) (nulls operations)) before
+after before (Blocked timeout) operations go = Waits timeout
 
--- the operations in order (RFC 7047, 4.1.3)
-abbrev pub perform : Schema → Database → Uuid → Staged → Items → Transacted
-perform schema before version g no_items = record { results = no_items; database = g.rows }
-perform schema before version g (item d operations) =
-    after_operation before (operation schema before version g d) operations (λ g'. perform schema before version g' operations)
+-- the operations from this place on, in order (RFC 7047, 4.1.3)
+abbrev pub performed : OpContext → ℕ → Items → Database → TransactionOutcome
+performed c place no_items rows = Completes no_items rows
+performed c place (item d operations) rows = after c.before (outcome_of c place rows d) operations (performed c (place + 1) operations)
 
--- The whole transaction: the first draw is the version of the rows that it changes, the others are the identifiers of those
--- that it inserts (RFC 7047, 4.1.3). Without a draw it does nothing; there always is one.
-abbrev pub transaction : Schema → Database → List Uuid → Items → Transacted
-transaction schema before [] operations = record { results = no_items; database = before }
-transaction schema before (version ∷ draws) operations = perform schema before version (record { rows = before; draws = draws }) operations
+-- A transaction of this age on the database. The first draw is the version of the rows that it changes, the others are the
+-- identifiers of those that it inserts (RFC 7047, 4.1.3). Without a draw it does nothing; there always is one.
+abbrev pub transaction : Schema → Database → List Uuid → ℕ → Items → TransactionOutcome
+transaction schema before [] age operations = Completes no_items before
+transaction schema before (version ∷ ids) age operations =
+    performed (record { schema = schema; before = before; version = version; ids = ids; operations = operations; age = age }) 0 operations before
+
+-- one of the results tells of an error (RFC 7047, 4.1.3)
+abbrev pub has_error : Items → Bool
+has_error no_items = false
+has_error (item result results) = has_member (codes "error") result || has_error results
 
 -- ---- where the commit fails
 

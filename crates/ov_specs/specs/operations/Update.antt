@@ -1,12 +1,12 @@
--- update: the rows that match are given these values (RFC 7047, 5.2.3). The machine does not use this yet.
+-- update: the rows that match are given these values (RFC 7047, 5.2.3).
 use Rattle.std.specs.Prelude.{List, map, length, codes}
 use Rattle.std.specs.FinMap.{empty}
 use Rattle.serde_json.specs.Data.{Data}
 use Rattle.ov_specs.specs.operations.Errors.{SyntaxError}
 use Rattle.ov_specs.specs.operations.GivenRow.{may_be_changed, given_values, given_over}
-use Rattle.ov_specs.specs.operations.MatchingRows.{on_conditions, count_result, put_rows}
-use Rattle.ov_specs.specs.operations.Operation.{matching}
-use Rattle.ov_specs.specs.operations.OpOutcome.{OpContext, OpOutcome, Done, names_in, object_at, some_or_fault, ok_or_fault, on_table}
+use Rattle.ov_specs.specs.operations.MatchingRows.{on_conditions, count_result, put_rows, matching}
+use Rattle.ov_specs.specs.operations.Members.{object_at}
+use Rattle.ov_specs.specs.operations.OpOutcome.{OpContext, OpOutcome, Done, names_in, some_or_fault, ok_or_fault, on_table}
 use Rattle.ov_specs.specs.rows.Database.{Columns, Row, Database}
 use Rattle.ov_specs.specs.rows.Lines.{LineKey}
 

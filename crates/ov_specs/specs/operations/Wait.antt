@@ -1,4 +1,4 @@
--- wait: until the rows that match are, or are not, those that are told (RFC 7047, 5.2.6). The machine does not use this yet.
+-- wait: until the rows that match are, or are not, those that are told (RFC 7047, 5.2.6).
 use Rattle.std.specs.Prelude.{ℕ, ℤ, pos, negsuc, ◌&&◌, not, nat_le, List, [], ◌∷◌, map, Bool, if◌then◌else◌, Option, Some, None, option_map, option_and_then, option_to_list, unwrap_or, codes, Result, Ok, Err}
 use Rattle.std.specs.List.{filter, flat_map, list_all, list_any}
 use Rattle.std.specs.FinMap.{empty, get, insert, keys}
@@ -7,8 +7,11 @@ use Rattle.serde_json.specs.Data.{Data, Items, no_items, item, Members, no_membe
 use Rattle.serde_json.specs.Find as find
 use Rattle.serde_json.specs.Find.{as_number, as_object, as_str}
 use Rattle.ov_specs.specs.operations.Errors.{OpError, SyntaxError, ConstraintViolation, TimedOut}
-use Rattle.ov_specs.specs.operations.MatchingRows.{on_conditions}
-use Rattle.ov_specs.specs.operations.Operation.{is_own_column, with_column, matching, projection, text_at, array_at, listed_columns}
+use Rattle.ov_specs.specs.operations.MatchingRows.{on_conditions, matching}
+use Rattle.ov_specs.specs.rows.RowNames.{is_own_column}
+use Rattle.ov_specs.specs.operations.GivenRow.{with_column}
+use Rattle.ov_specs.specs.operations.Select.{projection, listed_columns}
+use Rattle.ov_specs.specs.operations.Members.{text_at, array_at}
 use Rattle.ov_specs.specs.operations.OpOutcome.{OpContext, OpOutcome, Done, Fault, Blocked, names_in, empty_result, some_or_fault, ok_or_fault, on_table}
 use Rattle.ov_specs.specs.rows.Database.{Columns, Database, same_columns}
 use Rattle.ov_specs.specs.schema.Fitting.{default_of}

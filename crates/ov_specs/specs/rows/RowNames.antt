@@ -1,8 +1,12 @@
 -- The names of the columns that the rows of a table have (RFC 7047, 3.2).
-use Rattle.std.specs.Prelude.{ℕ, List, filter, not}
+use Rattle.std.specs.Prelude.{ℕ, ◌||◌, not, Bool, List, filter, codes}
 use Rattle.std.specs.FinMap.{keys}
-use Rattle.ov_specs.specs.operations.Operation.{is_own_column}
+use Rattle.std.specs.Str.{bytes_eq}
 use Rattle.ov_specs.specs.schema.SchemaTypes.{Table}
+
+-- a column that each row has by itself (RFC 7047, 3.2)
+abbrev pub is_own_column : List ℕ → Bool
+is_own_column name = bytes_eq name (codes "_uuid") || bytes_eq name (codes "_version")
 
 -- these names but `_uuid` and `_version`
 abbrev pub without_own : List (List ℕ) → List (List ℕ)

@@ -1,5 +1,5 @@
 -- Identifiers, and the names that stand for them in a transaction. What names no source is our own.
-use Rattle.std.specs.Prelude.{◌≡◌, ◌&&◌, ◌||◌, ◌==◌, ℕ, nat_lt, nat_le, List, [], ◌∷◌, length, Bool, true, false, Option, Some}
+use Rattle.std.specs.Prelude.{◌≡◌, ◌&&◌, ◌||◌, ◌==◌, ℕ, nat_lt, nat_le, List, [], ◌∷◌, length, Bool, true, false, Option, Some, None}
 use Rattle.std.specs.List.{list_all}
 
 -- the sixteen bytes of an identifier, greatest first (RFC 4122, 4.1.2)
@@ -30,6 +30,10 @@ is_id (c ∷ cs) = begins_id c && list_all continues_id cs
 -- the identifier of the row that a name stands for in a transaction, where an insert gives one that name (RFC 7047, 5.1, <named-uuid>)
 abbrev pub Names : Type 0
 Names = List ℕ → Option Uuid
+
+-- no name stands for a row
+abbrev pub no_names : Names
+no_names name = None
 
 -- whatever a name stands for is an identifier
 abbrev pub AreUuids : Names → Type 0

@@ -4,7 +4,7 @@ use Rattle.std.specs.List.{slice_get}
 use Rattle.std.specs.Prelude.{unwrap_or}
 use Rattle.serde_json.specs.View.{items_view}
 use Rattle.ov_specs.specs.operations.NamedUuids.{inserts_before}
-use Rattle.ov_specs.specs.operations.Transaction.{insert_count}
+use Rattle.ov_specs.specs.operations.Draws.{insert_count}
 use Rattle.ov_given.proofs.Counting.{counts_from, counts-from}
 use Rattle.ov_given.proofs.names.count_inserts.Goals as goal
 

@@ -1,6 +1,6 @@
 use Rattle.std.proofs.Common.{◌≡◌, ◌≤◌, ◌+◌, ◌++◌, drop}
 use Rattle.serde_json.specs.View.{items_view}
-use Rattle.ov_specs.specs.operations.Transaction.{insert_count}
+use Rattle.ov_specs.specs.operations.Draws.{insert_count}
 use Rattle.ov_given.proofs.Counting.{counts_from}
 use Rattle.ov_given.proofs.names.count_inserts.Given as goal
 

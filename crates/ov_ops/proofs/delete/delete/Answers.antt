@@ -3,8 +3,7 @@ use Rattle.std.proofs.lemmas.Result.{err_from_is_err_and}
 use Rattle.serde_json.specs.Data.{Data}
 use Rattle.serde_json.specs.View.{view}
 use Rattle.ov_specs.specs.operations.Conditions.{Condition}
-use Rattle.ov_specs.specs.operations.MatchingRows.{on_conditions}
-use Rattle.ov_specs.specs.operations.Operation.{matching}
+use Rattle.ov_specs.specs.operations.MatchingRows.{on_conditions, matching}
 use Rattle.ov_specs.specs.operations.OpOutcome.{OpContext, OpOutcome}
 use Rattle.ov_specs.specs.rows.Database.{Database}
 use Rattle.ov_specs.specs.schema.SchemaTypes.{Table}

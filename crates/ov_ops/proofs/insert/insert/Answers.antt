@@ -7,7 +7,8 @@ use Rattle.serde_json.specs.View.{view, members_view}
 use Rattle.ov_specs.specs.operations.Errors.{OpError, SyntaxError}
 use Rattle.ov_specs.specs.operations.Insert.{name_fault, new_row, put_new}
 use Rattle.ov_specs.specs.operations.NamedUuids.{id_at}
-use Rattle.ov_specs.specs.operations.OpOutcome.{OpContext, OpOutcome, Fault, names_in, object_at, some_or_fault, ok_or_fault, unless_fault}
+use Rattle.ov_specs.specs.operations.Members.{object_at}
+use Rattle.ov_specs.specs.operations.OpOutcome.{OpContext, OpOutcome, Fault, names_in, some_or_fault, ok_or_fault, unless_fault}
 use Rattle.ov_specs.specs.rows.Database.{Database, Columns}
 use Rattle.ov_specs.specs.schema.SchemaTypes.{Table}
 use Rattle.ov_specs.specs.wire.Message.{has_member}

@@ -3,7 +3,8 @@ use Rattle.std.specs.Prelude.{Option, Some}
 use Rattle.serde_json.specs.Data.{Items}
 use Rattle.serde_json.specs.View.{view, items_view}
 use Rattle.ov_specs.specs.operations.Errors.{SyntaxError}
-use Rattle.ov_specs.specs.operations.Operation.{array_at, conditions_read}
+use Rattle.ov_specs.specs.operations.Members.{array_at}
+use Rattle.ov_specs.specs.operations.MatchingRows.{conditions_read}
 use Rattle.ov_specs.specs.operations.NamedUuids.{names_of}
 use Rattle.ov_specs.specs.operations.OpOutcome.{some_or_fault, ok_or_fault}
 use Rattle.ov_ops.specs.Outcomes.{GoesOn}

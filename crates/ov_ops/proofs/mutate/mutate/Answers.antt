@@ -4,8 +4,7 @@ use Rattle.std.proofs.lemmas.Result.{err_from_is_err_and}
 use Rattle.serde_json.specs.Data.{Data, Items}
 use Rattle.serde_json.specs.View.{view, items_view}
 use Rattle.ov_specs.specs.operations.Conditions.{Condition}
-use Rattle.ov_specs.specs.operations.MatchingRows.{on_conditions}
-use Rattle.ov_specs.specs.operations.Operation.{matching}
+use Rattle.ov_specs.specs.operations.MatchingRows.{on_conditions, matching}
 use Rattle.ov_specs.specs.operations.OpOutcome.{OpContext, OpOutcome}
 use Rattle.ov_specs.specs.rows.Database.{Database, Columns}
 use Rattle.ov_specs.specs.rows.Lines.{LineKey}
@@ -16,7 +15,7 @@ use Rattle.ov_specs.specs.operations.Mutate.{mutations_read, mutated_rows, mutat
 use Rattle.ov_specs.specs.operations.Mutators.{Mutation}
 use Rattle.ov_specs.specs.operations.MatchingRows.{count_result, put_rows}
 use Rattle.ov_specs.specs.operations.Errors.{OpError}
-use Rattle.ov_specs.specs.operations.Operation.{array_at}
+use Rattle.ov_specs.specs.operations.Members.{array_at}
 use Rattle.ov_specs.specs.operations.OpOutcome.{Done, names_in, some_or_fault, ok_or_fault}
 use Rattle.ov_ops.specs.Outcomes.{context_of}
 use Rattle.ov_ops.proofs.Going.{stops, refuses}

@@ -3,14 +3,13 @@ use Rattle.std.proofs.lemmas.Result.{err_from_is_err_and}
 use Rattle.serde_json.specs.Data.{Data}
 use Rattle.serde_json.specs.View.{view}
 use Rattle.ov_specs.specs.operations.Conditions.{Condition}
-use Rattle.ov_specs.specs.operations.MatchingRows.{on_conditions}
-use Rattle.ov_specs.specs.operations.Operation.{matching}
+use Rattle.ov_specs.specs.operations.MatchingRows.{on_conditions, matching}
 use Rattle.ov_specs.specs.operations.OpOutcome.{OpContext, OpOutcome}
 use Rattle.ov_specs.specs.rows.Database.{Database}
 use Rattle.ov_specs.specs.schema.SchemaTypes.{Table}
 use Rattle.std.proofs.Common.{map, codes}
 use Rattle.serde_json.specs.Find as find
-use Rattle.ov_specs.specs.operations.Operation.{projection, without_repeats, select_result, selected_columns}
+use Rattle.ov_specs.specs.operations.Select.{projection, without_repeats, select_result, selected_columns}
 use Rattle.ov_specs.specs.operations.OpOutcome.{Done, ok_or_fault}
 use Rattle.ov_ops.specs.Outcomes.{context_of}
 use Rattle.ov_ops.proofs.Going.{stops}

@@ -1,5 +1,5 @@
 use Rattle.std.proofs.Common.{sym, ap, ◌∙◌}
-use Rattle.ov_specs.specs.operations.Operation.{without_repeats}
+use Rattle.ov_specs.specs.operations.Select.{without_repeats}
 use Rattle.ov_stage.proofs.Showing.{shown_once}
 use Rattle.ov_ops.proofs.select.select_result.Goals as goal
 

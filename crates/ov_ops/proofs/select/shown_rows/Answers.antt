@@ -1,6 +1,6 @@
 use Rattle.std.proofs.Common.{◌++◌, map, sym, ap, ◌∙◌, append-nil, arith}
 use Rattle.std.proofs.lemmas.List.{drop_all}
-use Rattle.ov_specs.specs.operations.Operation.{projection}
+use Rattle.ov_specs.specs.operations.Select.{projection}
 use Rattle.ov_rows.specs.Lending.{lent_row_of}
 use Rattle.ov_ops.proofs.select.shown_rows.Goals as goal
 

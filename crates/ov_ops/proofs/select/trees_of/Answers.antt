@@ -1,6 +1,6 @@
 use Rattle.std.proofs.Common.{◌<◌, map, length, ap, ◌∙◌}
 use Rattle.serde_json.specs.View.{view, items_view}
-use Rattle.ov_specs.specs.operations.Operation.{written_row}
+use Rattle.ov_specs.specs.operations.Select.{written_row}
 use Rattle.ov_specs.specs.wire.Tree.{items_have_real}
 use Rattle.ov_atoms.proofs.Plain.{plain-push}
 use Rattle.ov_stage.proofs.Equal.{map-take}

@@ -1,7 +1,7 @@
 use Rattle.std.proofs.Common.{◌≡◌, ◌<◌, ◌++◌, [], ◌∷◌, length, map, take, true, false, sym, ap, ◌∙◌, arith}
 use Rattle.std.proofs.lemmas.List.{take_all}
 use Rattle.serde_json.specs.View.{view, items_view}
-use Rattle.ov_specs.specs.operations.Operation.{written_row}
+use Rattle.ov_specs.specs.operations.Select.{written_row}
 use Rattle.ov_specs.specs.rows.Database.{same_columns}
 use Rattle.ov_specs.specs.wire.Tree.{items_have_real}
 use Rattle.ov_atoms.proofs.Plain.{plain-push}

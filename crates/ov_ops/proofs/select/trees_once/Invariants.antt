@@ -1,7 +1,7 @@
 use Rattle.std.proofs.Common.{◌≡◌, [], map, take, false}
 use Rattle.std.specs.List.{list_any}
 use Rattle.serde_json.specs.View.{view, items_view}
-use Rattle.ov_specs.specs.operations.Operation.{written_row}
+use Rattle.ov_specs.specs.operations.Select.{written_row}
 use Rattle.ov_specs.specs.rows.Database.{same_columns}
 use Rattle.ov_specs.specs.wire.Tree.{items_have_real}
 use Rattle.ov_stage.proofs.Repeats.{Shown, kept_with}

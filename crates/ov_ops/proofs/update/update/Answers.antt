@@ -3,8 +3,7 @@ use Rattle.std.proofs.lemmas.Result.{err_from_is_err_and}
 use Rattle.serde_json.specs.Data.{Data}
 use Rattle.serde_json.specs.View.{view}
 use Rattle.ov_specs.specs.operations.Conditions.{Condition}
-use Rattle.ov_specs.specs.operations.MatchingRows.{on_conditions}
-use Rattle.ov_specs.specs.operations.Operation.{matching}
+use Rattle.ov_specs.specs.operations.MatchingRows.{on_conditions, matching}
 use Rattle.ov_specs.specs.operations.OpOutcome.{OpContext, OpOutcome}
 use Rattle.ov_specs.specs.rows.Database.{Database}
 use Rattle.ov_specs.specs.schema.SchemaTypes.{Table}
@@ -12,7 +11,8 @@ use Rattle.std.proofs.Common.{codes}
 use Rattle.std.specs.FinMap.{empty}
 use Rattle.ov_specs.specs.operations.Errors.{SyntaxError}
 use Rattle.ov_specs.specs.operations.GivenRow.{may_be_changed, given_values}
-use Rattle.ov_specs.specs.operations.OpOutcome.{names_in, object_at, some_or_fault, ok_or_fault}
+use Rattle.ov_specs.specs.operations.Members.{object_at}
+use Rattle.ov_specs.specs.operations.OpOutcome.{names_in, some_or_fault, ok_or_fault}
 use Rattle.ov_specs.specs.operations.Update.{updated}
 use Rattle.ov_ops.specs.Outcomes.{context_of}
 use Rattle.ov_ops.proofs.Going.{stops}

@@ -1,5 +1,5 @@
 use Rattle.std.proofs.Common.{◌≡◌, ◌++◌, drop, filter, map, not}
-use Rattle.ov_specs.specs.operations.Operation.{is_own_column}
+use Rattle.ov_specs.specs.rows.RowNames.{is_own_column}
 use Rattle.ov_stage.proofs.projection.other_columns.Given as goal
 
 abbrev pub invariant-loop-name : goal.invariant-loop-name

@@ -4,7 +4,7 @@ use Rattle.std.specs.Option.{option_copied}
 use Rattle.std.specs.Prelude.{Some, None, Ok, option_map, option_and_then}
 use Rattle.serde_json.specs.Find as find
 use Rattle.serde_json.specs.View.{view, items_view}
-use Rattle.ov_specs.specs.operations.Operation.{text_at, array_at}
+use Rattle.ov_specs.specs.operations.Members.{text_at, array_at}
 use Rattle.ov_specs.specs.operations.OpOutcome.{names_in, ok_or_fault}
 use Rattle.ov_specs.specs.operations.Wait.{timeout_read, compared_columns, until_of, told_rows, wait_outcome}
 use Rattle.ov_specs.specs.values.Value.{Datum}

@@ -1,7 +1,7 @@
 use Rattle.std.proofs.Common.{◌≡◌, ◌++◌, [], drop}
 use Rattle.ov_rows.specs.Lending.{lent_row_of}
 use Rattle.ov_rows.specs.Named.{named}
-use Rattle.ov_specs.specs.operations.Operation.{projection}
+use Rattle.ov_specs.specs.operations.Select.{projection}
 use Rattle.ov_stage.proofs.shown.ShownRow.of.Given as goal
 
 abbrev pub invariant-loop-name : goal.invariant-loop-name
