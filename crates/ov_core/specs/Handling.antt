@@ -37,14 +37,6 @@ PostsIfRoom sent old (Some outcome.Kept) new = ⊥
 PostsIfRoom sent old (Some outcome.Exhausted) new = ⊥
 PostsIfRoom sent old (Some outcome.Failed) new = ⊥
 
--- The store was asked for the changes, and the results are sent as it answered; or nothing was tried, as memory was refused.
-abbrev pub CommitsWithReply : {K : Type 0} → ℕ → Data → Items → Delta → KeptDatabase K → WaitingFrames → Option Outcome → KeptDatabase K → WaitingFrames → Type 0
-CommitsWithReply session id results delta old waited (Some outcome.Kept) new waits = db.Commits delta old store.Kept new × PostsSent (results_to session id results) waited waits
-CommitsWithReply session id results delta old waited (Some outcome.Exhausted) new waits = db.Commits delta old store.Exhausted new × PostsSent (results_to session id (exhausted_results results)) waited waits
-CommitsWithReply session id results delta old waited (Some outcome.Failed) new waits = db.Commits delta old store.Failed new × PostsSent (results_to session id (failed_results results)) waited waits
-CommitsWithReply session id results delta old waited (Some outcome.NoMemory) new waits = (new ≡ old) × HasSameFrames waited waits
-CommitsWithReply session id results delta old waited None new waits = ⊥
-
 -- ---- the store
 
 -- What an attempt leaves of the database, by what is listed of it: where the store failed, its device has; where it answered
@@ -85,7 +77,7 @@ abbrev pub IsAttempt : {K : Type 0} → ℕ → Data → List Uuid → Items →
 IsAttempt session id draws operations old waited (Some outcome.NoMemory) new waits =
     IsMachineStep session (λ s. Some (closed s session)) old waited (Some outcome.NoMemory) new waits
 IsAttempt session id draws operations old waited outcome new waits =
-    IsMachineStep session (λ s. attempt s session id (transaction s.schema s.database draws operations) (listed_first outcome)) old waited outcome new waits
+    IsMachineStep session (λ s. attempt s session id (transaction s.schema s.database draws 0 operations) (listed_first outcome)) old waited outcome new waits
 
 -- the work on a message
 abbrev pub IsHandled : {K : Type 0} → ℕ → (State → Work) → KeptDatabase K → WaitingFrames → Handled → KeptDatabase K → WaitingFrames → Type 0

@@ -1,53 +1,62 @@
-ghost use Rattle.std.specs.Prelude.{◌≡◌, ◌≤◌, None};
-ghost use Rattle.serde_json.specs.Data.{Data, Items};
-ghost use Rattle.ov_specs.specs.machine.Machine.{results_to};
-ghost use Rattle.ov_specs.specs.operations.Transaction.{failed_results};
-ghost use Rattle.ov_db.specs.Changing.{SuitsChanges};
-ghost use Rattle.ov_core.specs.Handling.{AsksStore, IsAttempt, CommitsWithReply, PostsIfRoom};
-ghost use Rattle.ov_core.specs.Preparing.{AreFrames};
+ghost use Rattle.std.specs.Prelude.{◌≡◌, ◌≤◌, codes, IfOk};
+ghost use Rattle.ov_specs.specs.machine.Machine.{results_to, refusal_to};
+ghost use Rattle.ov_specs.specs.wire.Frame.{frame, failure_tree};
+ghost use Rattle.ov_core.specs.Handling.{AsksStore, IsAttempt, PostsIfRoom};
 
 use crate::event::Outcome;
-use crate::frames::{Frames, failed_reply_of, reply_of};
+use crate::frames::reply_of;
 use crate::outbox::{Outbox, send};
-use ov_base::{Tree, Trees};
-use ov_db::{Db, Delta, StoreAnswer};
+use crate::replying::Replying;
+use ov_base::{Bytes, Tree, Trees};
+use ov_db::{Db, StoreAnswer};
 use ov_keeper::Keeper;
-use ov_txn::{Performed, perform};
-use std::alloc::Global;
-use uuid::Uuid;
+use ov_rpc::failure;
+use ov_txn::{Tried, Tries, Txn, attempt};
+use std::alloc::{AllocError, Global};
+use std::mem;
 
-/// Tries the operations with these identifiers, and lets the reply wait. Where memory is refused nothing is changed.
-pub(crate) fn attempt<K: Keeper + Drop>(
-    db: &mut Db<K>,
+/// Tries a transaction as it arrives, and lets its reply wait. Where memory is refused nothing is changed.
+pub(crate) fn try_arrived<K: Keeper + Drop>(
     alloc: Global,
+    db: &mut Db<K>,
     outbox: &mut Outbox,
     session: u64,
     id: &Tree,
-    draws: &[Uuid],
-    operations: &Trees,
+    txn: &Txn,
 ) -> Option<Outcome>
-    ensures tried { IsAttempt session id.now draws.now operations.now db.old outbox.old result db.new outbox.new }
+    ensures tried { IsAttempt session id.now txn.now.draws txn.now.operations db.old outbox.old result db.new outbox.new }
     ensures asks { AsksStore K.failed result db.old db.new }
     ensures counts { K.failed db.old.keeper ≤ K.failed db.new.keeper }
 {
-    db.kept();
-    let Ok(performed) = perform(alloc, db.schema(), db.rows(), draws, operations) else {
-        return Some(Outcome::NoMemory);
-    };
-    let Performed { results, delta } = performed;
-    if delta.is_empty() {
-        return answer(alloc, outbox, session, id, results);
+    let waiting = mem::replace(outbox, Outbox::new(alloc));
+    let mut replying = Replying::new(alloc, session, id, waiting);
+    let tried = attempt(alloc, db, txn, 0, &mut Tries::new(), &mut replying);
+    let Replying {
+        alloc: _,
+        session: _,
+        id: _,
+        outbox: waiting,
+        exhausted,
+        failed,
+    } = replying;
+    *outbox = waiting;
+    match tried {
+        Tried::Answer(results) => answer(alloc, outbox, session, id, results),
+        Tried::Stored(StoreAnswer::Kept) => Some(Outcome::Kept),
+        Tried::Stored(StoreAnswer::Exhausted) => {
+            outbox.replace_newest(session, exhausted);
+            Some(Outcome::Exhausted)
+        }
+        Tried::Stored(StoreAnswer::Failed) => {
+            outbox.replace_newest(session, failed);
+            Some(Outcome::Failed)
+        }
+        Tried::Blocked(_) => refuse(alloc, outbox, session, id),
+        Tried::NoMemory => Some(Outcome::NoMemory),
     }
-    if db.sealed() {
-        return answer_failed(alloc, outbox, session, id, results);
-    }
-    let Ok(frames) = Frames::new(alloc, id, results) else {
-        return Some(Outcome::NoMemory);
-    };
-    commit(db, alloc, outbox, session, frames, delta)
 }
 
-/// Lets the results wait as they are, where there is memory for it.
+/// Lets the reply with these results wait, where there is memory for it.
 fn answer(
     alloc: Global,
     outbox: &mut Outbox,
@@ -63,55 +72,19 @@ fn answer(
     }
 }
 
-/// Lets the results wait with the error of a database that is sealed.
-fn answer_failed(
-    alloc: Global,
-    outbox: &mut Outbox,
-    session: u64,
-    id: &Tree,
-    results: Trees,
-) -> Option<Outcome>
-    ensures { PostsIfRoom (results_to session id.now (failed_results results)) outbox.old result outbox.new }
+/// The answer to a transaction that waits: none is kept outstanding yet.
+fn refusal(alloc: Global, id: &Tree) -> Result<Bytes, AllocError>
+    ensures { IfOk result (λ b. b ≡ frame (failure_tree id.now (codes "resources exhausted"))) }
 {
-    match failed_reply_of(alloc, id, results) {
-        Ok(frame) => send(alloc, outbox, session, Some(frame)),
-        Err(_) => Some(Outcome::NoMemory),
-    }
+    failure(alloc, id.copy()?, "resources exhausted")
 }
 
-/// Commits the changes. The frame of a commit that is kept waits before the store is asked, and gives way to another where
-/// the store refuses: so nothing takes memory behind a commit.
-fn commit<K: Keeper + Drop>(
-    db: &mut Db<K>,
-    alloc: Global,
-    outbox: &mut Outbox,
-    session: u64,
-    frames: Frames,
-    delta: Delta,
-) -> Option<Outcome>
-    requires unsealed { db.old.sealed ≡ None }
-    requires suits { SuitsChanges db.old.schema delta }
-    ensures commits { (id : Data) (results : Items) → AreFrames id results frames → CommitsWithReply session id results delta db.old outbox.old result db.new outbox.new }
-    ensures asks { AsksStore K.failed result db.old db.new }
-    ensures counts { K.failed db.old.keeper ≤ K.failed db.new.keeper }
+/// Lets the answer to a transaction that waits wait, where there is memory for it.
+fn refuse(alloc: Global, outbox: &mut Outbox, session: u64, id: &Tree) -> Option<Outcome>
+    ensures { PostsIfRoom (refusal_to session id.now) outbox.old result outbox.new }
 {
-    let Frames {
-        kept,
-        exhausted,
-        failed,
-    } = frames;
-    if !outbox.push(alloc, session, kept) {
-        return Some(Outcome::NoMemory);
-    }
-    match db.commit(alloc, delta) {
-        StoreAnswer::Kept => Some(Outcome::Kept),
-        StoreAnswer::Exhausted => {
-            outbox.replace_newest(session, exhausted);
-            Some(Outcome::Exhausted)
-        }
-        StoreAnswer::Failed => {
-            outbox.replace_newest(session, failed);
-            Some(Outcome::Failed)
-        }
+    match refusal(alloc, id) {
+        Ok(frame) => send(alloc, outbox, session, Some(frame)),
+        Err(_) => Some(Outcome::NoMemory),
     }
 }

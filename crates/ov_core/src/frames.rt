@@ -1,12 +1,11 @@
 ghost use Rattle.std.specs.Prelude.{◌≡◌, IfOk};
 ghost use Rattle.serde_json.specs.Data.{array};
 ghost use Rattle.ov_specs.specs.wire.Frame.{frame, reply_tree};
-ghost use Rattle.ov_specs.specs.operations.Transaction.{failed_results};
 ghost use Rattle.ov_core.specs.Preparing.{AreFrames};
 
 use ov_base::{Bytes, Tree, Trees};
 use ov_rpc::{append_item, reply};
-use ov_txn::{exhausted, failed};
+use ov_txn::Replies;
 use std::alloc::{AllocError, Global};
 
 /// The reply to a transaction for each answer of the store. They are made before it is asked, so that nothing takes
@@ -19,14 +18,19 @@ pub(crate) struct Frames {
 }
 
 impl Frames {
-    /// The replies under this id, where the operations have these results.
-    pub fn new(alloc: Global, id: &Tree, results: Trees) -> Result<Frames, AllocError>
-        ensures { IfOk result (AreFrames id.now results) }
+    /// The frames of these replies, under this id.
+    pub fn new(alloc: Global, id: &Tree, replies: Replies) -> Result<Frames, AllocError>
+        ensures { IfOk result (AreFrames id.now replies) }
     {
-        let is_first = results.as_slice().is_empty();
-        let kept = reply_of(alloc, id, results)?;
-        let exhausted = append_item(alloc, &kept, is_first, &exhausted(alloc)?)?;
-        let failed = append_item(alloc, &kept, is_first, &failed(alloc)?)?;
+        let Replies {
+            kept,
+            exhausted,
+            failed,
+        } = replies;
+        let is_first = kept.as_slice().is_empty();
+        let kept = reply_of(alloc, id, kept)?;
+        let exhausted = append_item(alloc, &kept, is_first, &exhausted)?;
+        let failed = append_item(alloc, &kept, is_first, &failed)?;
         Ok(Frames {
             kept,
             exhausted,
@@ -40,13 +44,4 @@ pub(crate) fn reply_of(alloc: Global, id: &Tree, results: Trees) -> Result<Bytes
     ensures { IfOk result (λ b. b ≡ frame (reply_tree id.now (array results))) }
 {
     reply(alloc, id.copy()?, results.into_tree())
-}
-
-/// The reply with these results, and the error of a failed commit behind them.
-pub(crate) fn failed_reply_of(alloc: Global, id: &Tree, results: Trees) -> Result<Bytes, AllocError>
-    ensures { IfOk result (λ b. b ≡ frame (reply_tree id.now (array (failed_results results)))) }
-{
-    let is_first = results.as_slice().is_empty();
-    let kept = reply_of(alloc, id, results)?;
-    append_item(alloc, &kept, is_first, &failed(alloc)?)
 }

@@ -5,14 +5,14 @@ ghost use Rattle.ov_txn.specs.Drawing.{DrawsFrom};
 ghost use Rattle.ov_core.specs.Handling.{AsksStore, IsHandled};
 
 use crate::answer::{Work, work_of};
-use crate::attempt::attempt;
+use crate::attempt::try_arrived;
 use crate::event::Outcome;
 use crate::outbox::{Outbox, send};
 use ov_base::{Tree, Trees};
 use ov_db::Db;
 use ov_keeper::Keeper;
 use ov_rpc::Message;
-use ov_txn::{Draws, draws_for};
+use ov_txn::{Draws, Txn};
 use std::alloc::Global;
 use uuid::Uuid;
 
@@ -41,26 +41,21 @@ fn transact<K: Keeper + Drop, D: Draws>(
     outbox: &mut Outbox,
     session: u64,
     id: &Tree,
-    operations: &Trees,
+    operations: Trees,
 ) -> Handled
-    ensures is_handled { IsHandled session (λ s. spec.Transact id.now operations.now) database.old outbox.old result database.new outbox.new }
+    ensures is_handled { IsHandled session (λ s. spec.Transact id.now operations) database.old outbox.old result database.new outbox.new }
     ensures asks { AsksStore K.failed result.outcome database.old database.new }
     ensures counts { K.failed database.old.keeper ≤ K.failed database.new.keeper }
     ensures drawn { DrawsFrom D.draws source.old result.draws.items source.new }
 {
-    let Ok(draws) = draws_for(alloc, operations, source) else {
+    let Ok(txn) = Txn::read(alloc, operations, source) else {
         return out_of_memory(Vec::new(alloc));
     };
-    let outcome = attempt(
-        database,
-        alloc,
-        outbox,
-        session,
-        id,
-        draws.as_slice(),
-        operations,
-    );
-    Handled { draws, outcome }
+    let outcome = try_arrived(alloc, database, outbox, session, id, &txn);
+    Handled {
+        draws: txn.into_draws(),
+        outcome,
+    }
 }
 
 /// The work on a message of a session, which is the first attempt of its event.
@@ -84,7 +79,7 @@ pub(crate) fn handle<K: Keeper + Drop, D: Draws>(
             outcome: send(alloc, outbox, session, frame),
         },
         Ok(Work::Transact(id, operations)) => {
-            transact(alloc, database, source, outbox, session, &id, &operations)
+            transact(alloc, database, source, outbox, session, &id, operations)
         }
     }
 }

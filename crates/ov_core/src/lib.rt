@@ -13,6 +13,7 @@ mod handle;
 mod history;
 mod machine;
 mod outbox;
+mod replying;
 mod session;
 
 pub use event::{Attempt, Cause, Choice, Entry, Event, Outcome, Session, StepFault, Stepped};

@@ -4,7 +4,6 @@ ghost use Rattle.std.specs.FinMap.{empty, entries};
 ghost use Rattle.serde_json.specs.View.{view, members_view};
 ghost use Rattle.ov_specs.specs.operations.GivenRow as rows;
 ghost use Rattle.ov_specs.specs.operations.Insert as insert;
-ghost use Rattle.ov_specs.specs.operations.Operation as spec;
 ghost use Rattle.ov_specs.specs.schema.SchemaTypes.{kinds_of};
 ghost use Rattle.ov_specs.specs.values.Reading.{Reads, reads};
 ghost use Rattle.ov_stage.specs.Errors.{IsOpResult};
@@ -40,7 +39,7 @@ impl GivenRow {
 
 /// The value where it fits its column.
 fn fitting(column: &Column, datum: Datum) -> Result<Datum, OpFault>
-    ensures { IsOpResult (λ d. d) (spec.fitting_reading column.now (Reads datum)) result }
+    ensures { IsOpResult (λ d. d) (rows.fitting_reading column.now (Reads datum)) result }
 {
     if column.fits(&datum) {
         Ok(datum)
@@ -56,7 +55,7 @@ fn value_read<N: Names>(
     tree: &Value,
     names: &N,
 ) -> Result<Datum, OpFault>
-    ensures { IsOpResult (λ d. d) (spec.fitting_reading column.now (reads (N.names names.now) (kinds_of column.now.type_of) (view tree.now))) result }
+    ensures { IsOpResult (λ d. d) (rows.fitting_reading column.now (reads (N.names names.now) (kinds_of column.now.type_of) (view tree.now))) result }
 {
     match read_datum(alloc, tree, column.kinds(), names) {
         Ok(datum) => fitting(column, datum),
@@ -109,14 +108,14 @@ pub fn given_values<N: Names>(
 
 /// The default of a column, where it fits.
 fn default_given(alloc: Global, column: &Column) -> Result<Datum, OpFault>
-    ensures { IsOpResult (λ d. d) (spec.fitting_default column.now) result }
+    ensures { IsOpResult (λ d. d) (insert.fitting_default column.now) result }
 {
     fitting(column, column.default_of(alloc)?)
 }
 
 /// The values with the defaults of those that were not given.
 fn with_defaults(alloc: Global, table: &Table, values: NamedValues) -> Result<NamedValues, OpFault>
-    ensures { IsOpResult (λ v. v) (spec.with_defaults (entries table.now.columns) values) result }
+    ensures { IsOpResult (λ v. v) (insert.with_defaults (entries table.now.columns) values) result }
 {
     let mut values = values;
     for (name, column) in table.columns() {

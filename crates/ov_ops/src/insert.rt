@@ -1,7 +1,6 @@
 ghost use Rattle.std.specs.Prelude.{◌≡◌, IfOk};
 ghost use Rattle.serde_json.specs.View.{view};
 ghost use Rattle.ov_specs.specs.operations.Insert as spec;
-ghost use Rattle.ov_specs.specs.operations.Operation as operation;
 ghost use Rattle.ov_specs.specs.values.Value as value;
 ghost use Rattle.ov_specs.specs.values.Writing.{atom_tree};
 ghost use Rattle.ov_ops.specs.Outcomes.{context_of, IsDone};
@@ -25,7 +24,7 @@ fn uuid_value(alloc: Global, id: Uuid) -> Result<Value, AllocError>
 }
 
 fn result_value(alloc: Global, id: Uuid) -> Result<Value, AllocError>
-    ensures { IfOk result (λ v. view v ≡ operation.insert_result id) }
+    ensures { IfOk result (λ v. view v ≡ spec.insert_result id) }
 {
     let uuid = uuid_value(alloc, id)?;
     json!(in alloc; {"uuid": uuid})
@@ -33,7 +32,7 @@ fn result_value(alloc: Global, id: Uuid) -> Result<Value, AllocError>
 
 /// The result of an insert: the identifier of its row (RFC 7047, 5.2.1).
 pub fn insert_result(alloc: Global, id: Uuid) -> Result<Tree, AllocError>
-    ensures { IfOk result (λ t. t ≡ operation.insert_result id) }
+    ensures { IfOk result (λ t. t ≡ spec.insert_result id) }
 {
     Ok(Tree::new(result_value(alloc, id)?))
 }

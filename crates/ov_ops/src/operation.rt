@@ -1,6 +1,6 @@
 ghost use Rattle.std.specs.Prelude.{◌≡◌};
 ghost use Rattle.serde_json.specs.View.{view};
-ghost use Rattle.ov_specs.specs.operations.AnyOperation as spec;
+ghost use Rattle.ov_specs.specs.operations.Operation as spec;
 ghost use Rattle.ov_ops.specs.Outcomes.{context_of, reader_outcome, IsOutcome};
 
 use crate::abort::abort;

@@ -4,8 +4,8 @@ ghost use Rattle.std.specs.Str.{bytes_eq};
 ghost use Rattle.serde_json.specs.Data.{array};
 ghost use Rattle.serde_json.specs.View.{view, items_view};
 ghost use Rattle.ov_specs.specs.rows.Database.{object_of};
-ghost use Rattle.ov_specs.specs.operations.Operation as spec;
-ghost use Rattle.ov_specs.specs.operations.Select.{select_outcome};
+ghost use Rattle.ov_specs.specs.operations.MatchingRows.{matching};
+ghost use Rattle.ov_specs.specs.operations.Select as spec;
 ghost use Rattle.ov_specs.specs.wire.Tree.{items_have_real};
 ghost use Rattle.ov_ops.specs.Outcomes.{context_of, IsDone};
 
@@ -26,7 +26,7 @@ pub(crate) fn shown_rows(
     conditions: &[Condition],
     names: &[Text],
 ) -> Result<Vec<ShownRow>, AllocError>
-    ensures { IfOk result (λ v. v.items ≡ map (spec.projection names.now) (spec.matching stage.now.now table.now conditions.now)) }
+    ensures { IfOk result (λ v. v.items ≡ map (spec.projection names.now) (matching stage.now.now table.now conditions.now)) }
 {
     let mut shown = Vec::new(alloc);
     let rows = stage.matching(alloc, table, conditions)?;
@@ -93,7 +93,7 @@ pub fn select_result(
     conditions: &[Condition],
     names: &[Text],
 ) -> Result<Tree, AllocError>
-    ensures { IfOk result (λ t. t ≡ spec.select_result (spec.without_repeats (map (spec.projection names.now) (spec.matching stage.now.now table.now conditions.now)))) }
+    ensures { IfOk result (λ t. t ≡ spec.select_result (spec.without_repeats (map (spec.projection names.now) (matching stage.now.now table.now conditions.now)))) }
 {
     let shown = shown_rows(alloc, stage, table, conditions, names)?;
     let items = trees_shown(alloc, names, shown.as_slice())?;
@@ -107,7 +107,7 @@ pub(crate) fn select<'a>(
     ctx: &OpCtx<'a, '_, '_>,
     operation: &'a Value,
 ) -> Result<Tree, OpFault>
-    ensures { IsDone (select_outcome (context_of ctx.now stage.now.before) stage.now.now (view operation.now)) result stage.now.now }
+    ensures { IsDone (spec.select_outcome (context_of ctx.now stage.now.before) stage.now.now (view operation.now)) result stage.now.now }
 {
     let (name, table) = table_at(ctx, operation)?;
     let conditions = conditions_at(alloc, ctx, table, operation)?;

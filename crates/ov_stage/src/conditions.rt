@@ -1,7 +1,7 @@
 ghost use Rattle.std.specs.Prelude.{◌≡◌, IfOk, IfSome};
 ghost use Rattle.std.specs.List.{filter};
 ghost use Rattle.serde_json.specs.View.{items_view};
-ghost use Rattle.ov_specs.specs.operations.Operation as spec;
+ghost use Rattle.ov_specs.specs.operations.MatchingRows as spec;
 ghost use Rattle.ov_stage.specs.Errors.{IsOpResult};
 ghost use Rattle.ov_stage.specs.Staging.{AreOnlyOf, meets};
 

@@ -5,8 +5,9 @@ ghost use Rattle.std.specs.FinMap.{keys, contains_key};
 ghost use Rattle.serde_json.specs.Find.{as_str};
 ghost use Rattle.serde_json.specs.View.{view, items_view};
 ghost use Rattle.std.specs.Str.{bytes_eq};
-ghost use Rattle.ov_specs.specs.operations.Operation as spec;
+ghost use Rattle.ov_specs.specs.operations.Select as spec;
 ghost use Rattle.ov_specs.specs.operations.Wait.{compared_columns};
+ghost use Rattle.ov_specs.specs.rows.RowNames.{is_own_column};
 ghost use Rattle.ov_specs.specs.values.Reading.{each_read, list_read};
 ghost use Rattle.ov_stage.specs.Errors.{IsOpResult};
 
@@ -87,7 +88,7 @@ fn all_columns(alloc: Global, table: &Table) -> Result<Vec<Text>, AllocError>
 
 /// The columns of the table but `_uuid` and `_version`, in ascending order.
 fn other_columns(alloc: Global, table: &Table) -> Result<Vec<Text>, AllocError>
-    ensures { IfOk result (λ v. v.items ≡ filter (λ name. not (spec.is_own_column name)) (keys table.now.columns)) }
+    ensures { IfOk result (λ v. v.items ≡ filter (λ name. not (is_own_column name)) (keys table.now.columns)) }
 {
     let mut names = Vec::new(alloc);
     for (name, _column) in table.columns() {

@@ -5,7 +5,7 @@ ghost use Rattle.ov_rows.specs.Lending.{lent_row_of};
 ghost use Rattle.ov_rows.specs.Named.{named};
 ghost use Rattle.ov_specs.specs.rows.Database.{one_uuid};
 ghost use Rattle.ov_specs.specs.operations.Conditions.{column_value};
-ghost use Rattle.ov_specs.specs.operations.Operation as spec;
+ghost use Rattle.ov_specs.specs.operations.Select as spec;
 ghost use Rattle.ov_specs.specs.wire.Tree.{has_real};
 ghost use Rattle.ov_specs.specs.values.Writing.{tree};
 

@@ -1,5 +1,5 @@
 -- What a transaction changes are rows of the schema.
-use Rattle.std.proofs.Common.{◌≡◌, List, true, sym, ap, ◌∙◌}
+use Rattle.std.proofs.Common.{◌≡◌, ℕ, List, true, sym, ap, subst, ◌∙◌}
 use Rattle.std.specs.List.{list_all}
 use Rattle.std.specs.FinMap.{get}
 use Rattle.serde_json.specs.Data.{Items}
@@ -8,12 +8,18 @@ use Rattle.ov_specs.specs.rows.Database.{Database}
 use Rattle.ov_specs.specs.rows.Suits.{Suits}
 use Rattle.ov_specs.specs.schema.SchemaTypes.{Schema}
 use Rattle.ov_specs.specs.values.Uuid.{Uuid, is_uuid}
-use Rattle.ov_specs.proofs.laws.Suiting.{transaction_suits}
+use Rattle.ov_specs.proofs.laws.OutcomeSuiting.{SuitsTransaction, transaction_suits}
 use Rattle.ov_db.specs.Changing.{Delta, applied, SuitsChanges}
 use Rattle.ov_db.proofs.Places.{or_before, get-applied}
+use Rattle.ov_txn.specs.Performing.{IsPerformed, SuitsPerformed}
+use Rattle.ov_txn.specs.declared.perform.Performed.{Performed}
+use Rattle.ov_txn.specs.declared.perform.Performed.TheVariants.{Completed, Blocked}
 
-pub changes_suit : (schema : Schema) (before : Database) (draws : List Uuid) (operations : Items) (delta : Delta) → list_all is_uuid draws ≡ true → Suits schema before
-    → applied delta before ≡ (transaction schema before draws operations).database → SuitsChanges schema delta
-changes_suit schema before draws operations delta are suits is key row h =
-    transaction_suits schema before draws operations are suits key row
-    (sym (ap (λ (d : Database). get d key) is) ∙ get-applied delta before key ∙ ap (λ o. or_before o (get before key)) h)
+changes_suit : (schema : Schema) (before : Database) (delta : Delta) → Suits schema (applied delta before) → SuitsChanges schema delta
+changes_suit schema before delta suits key row h = suits key row (get-applied delta before key ∙ ap (λ o. or_before o (get before key)) h)
+
+pub performed_suits : (schema : Schema) (before : Database) (draws : List Uuid) (age : ℕ) (operations : Items) (performed : Performed) → list_all is_uuid draws ≡ true → Suits schema before
+    → IsPerformed (transaction schema before draws age operations) before performed → SuitsPerformed schema performed
+performed_suits schema before draws age operations (Completed results delta) are suits is =
+    changes_suit schema before delta (subst (SuitsTransaction schema) is.0 (transaction_suits schema before draws age operations are suits))
+performed_suits schema before draws age operations (Blocked timeout) are suits is = tt

@@ -1,3 +1,6 @@
 pub mod Drawing
+pub mod Reading
 pub mod Results
-pub mod Staging
+pub mod Performing
+pub mod Replying
+pub mod Attempting

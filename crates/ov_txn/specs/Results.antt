@@ -1,6 +1,6 @@
 -- How the results of a transaction grow, operation by operation.
 use Rattle.serde_json.specs.Data.{null, Items, no_items, item}
-use Rattle.ov_specs.specs.operations.Transaction.{Transacted, and_item}
+use Rattle.ov_specs.specs.operations.Transaction.{TransactionOutcome, Completes, Waits, and_item}
 
 -- the results with a null behind them for each of these operations
 abbrev pub nulls_after : Items → Items → Items
@@ -13,5 +13,6 @@ items_append no_items others = others
 items_append (item d items) others = item d (items_append items others)
 
 -- these results, and then what follows
-abbrev pub prefixed : Items → Transacted → Transacted
-prefixed results t = record t { results = items_append results t.results }
+abbrev pub prefixed : Items → TransactionOutcome → TransactionOutcome
+prefixed results (Completes others database) = Completes (items_append results others) database
+prefixed results (Waits timeout) = Waits timeout

@@ -1,13 +1,13 @@
 ghost use Rattle.std.specs.Prelude.{◌≡◌, length, true, IfOk, OnErr};
 ghost use Rattle.std.specs.List.{list_all};
-ghost use Rattle.serde_json.specs.View.{view, items_view};
-ghost use Rattle.ov_specs.specs.operations.Draws.{is_insert, insert_count, draws_wanted};
+ghost use Rattle.serde_json.specs.View.{items_view};
+ghost use Rattle.ov_specs.specs.operations.Draws.{insert_count, draws_wanted};
 ghost use Rattle.ov_specs.specs.values.Uuid.{Uuid as Bytes16, is_uuid};
 ghost use Rattle.ov_txn.specs.Drawing.{DrawsFrom};
 
 use ov_atoms::has_sixteen_bytes;
 use ov_base::Trees;
-use ov_stage::text_at;
+use ov_given::is_insert;
 use serde_json::Value;
 use std::alloc::{AllocError, Global};
 use uuid::Uuid;
@@ -22,15 +22,6 @@ pub trait Draws {
         ensures { draws self.old result self.new };
 }
 
-fn is_insert(operation: &Value) -> bool
-    ensures { result ≡ is_insert (view operation.now) }
-{
-    match text_at(operation, "op") {
-        Some(op) => op == "insert",
-        None => false,
-    }
-}
-
 fn count_inserts(operations: &[Value]) -> usize
     ensures { result ≡ insert_count (items_view operations.now) }
 {
@@ -43,10 +34,9 @@ fn count_inserts(operations: &[Value]) -> usize
     count
 }
 
-/// Draws what a transaction uses: the version of the rows that it changes, and then an identifier for each operation that
-/// is an object whose `op` is `insert`, also for one that will be refused (RFC 7047, 5.2.1; the order is our own). Refused for
+/// Draws what a transaction uses: the version of the rows that it changes, and then an identifier for each insert. Refused for
 /// memory, it has drawn nothing.
-pub fn draws_for<D: Draws>(
+pub(crate) fn draws_for<D: Draws>(
     alloc: Global,
     operations: &Trees,
     source: &mut D,

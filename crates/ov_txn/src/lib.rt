@@ -1,15 +1,17 @@
-//! One transaction: its operations in order, each on the rows that those before it left (RFC 7047, 4.1.3 and 5.2). What names no
-//! source is our own.
+//! One transaction: its operations in order, each on the rows that those before it left, and its commit (RFC 7047, 4.1.3 and 5.2).
+//! What names no source is our own.
 #![tactic(auto)]
 
+mod attempt;
 mod draws;
-mod insert;
-mod operation;
+mod perform;
+mod ready;
 mod results;
-mod row_values;
-mod select;
-mod transaction;
+mod tries;
+mod txn;
 
-pub use draws::{Draws, draws_for};
-pub use results::{exhausted, failed};
-pub use transaction::{Performed, perform};
+pub use attempt::{Tried, attempt};
+pub use draws::Draws;
+pub use ready::{Ready, Replies};
+pub use tries::Tries;
+pub use txn::Txn;

@@ -84,17 +84,3 @@ pub(crate) fn error_tree(alloc: Global, error: OpError) -> Result<Tree, AllocErr
 {
     Ok(Tree::new(error_value(alloc, error)?))
 }
-
-/// The result behind all others where the store has no room for the changes: `resources exhausted` (RFC 7047, 4.1.3).
-pub fn exhausted(alloc: Global) -> Result<Tree, AllocError>
-    ensures { IfOk result (λ t. t ≡ spec.error_tree spec.ResourcesExhausted) }
-{
-    error_tree(alloc, OpError::ResourcesExhausted)
-}
-
-/// The result behind all others where the store fails: `I/O error` (RFC 7047, 4.1.3).
-pub fn failed(alloc: Global) -> Result<Tree, AllocError>
-    ensures { IfOk result (λ t. t ≡ spec.error_tree spec.InputOutput) }
-{
-    error_tree(alloc, OpError::InputOutput)
-}

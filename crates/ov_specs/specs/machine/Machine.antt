@@ -176,6 +176,10 @@ results_of id results = reply_tree id (array results) ∷ []
 abbrev pub results_to : ℕ → Data → Items → List Sent
 results_to session id results = to_session session (results_of id results)
 
+-- the answer to a transaction that waits: none is kept outstanding yet (our own)
+abbrev pub refusal_to : ℕ → Data → List Sent
+refusal_to session id = to_session session (failure_tree id (codes "resources exhausted") ∷ [])
+
 -- What comes of the store's answer: where it keeps the change, the database is the new one; where it has no room, nothing is
 -- changed; where it fails, the database stays and is sealed.
 abbrev pub commits : State → ℕ → Data → Items → Database → Option Outcome → Option Stepped
@@ -193,10 +197,10 @@ completes s session id results database outcome =
     else (if is_some s.sealed then sends_at_once s (results_to session id (failed_results results)) outcome
     else commits s session id results database outcome)
 
--- What comes of a transaction. No transaction is kept outstanding yet, so one that waits is refused (our own).
+-- what comes of a transaction
 abbrev pub attempt : State → ℕ → Data → TransactionOutcome → Option Outcome → Option Stepped
 attempt s session id (Completes results database) outcome = completes s session id results database outcome
-attempt s session id (Waits timeout) outcome = sends_at_once s (to_session session (failure_tree id (codes "resources exhausted") ∷ [])) outcome
+attempt s session id (Waits timeout) outcome = sends_at_once s (refusal_to session id) outcome
 
 -- ---- the attempts of an event
 

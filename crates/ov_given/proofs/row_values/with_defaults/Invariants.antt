@@ -1,6 +1,6 @@
 use Rattle.std.proofs.Common.{◌≡◌, drop}
 use Rattle.std.specs.FinMap.{entries}
-use Rattle.ov_specs.specs.operations.Operation as spec
+use Rattle.ov_specs.specs.operations.Insert as spec
 use Rattle.ov_given.proofs.row_values.with_defaults.Given as goal
 
 abbrev pub invariant-loop-name : goal.invariant-loop-name

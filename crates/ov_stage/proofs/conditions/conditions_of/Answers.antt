@@ -1,7 +1,7 @@
 use Rattle.std.proofs.Common.{◌+◌, ◌∙◌, ap, sym, refl, drop}
 use Rattle.serde_json.specs.View.{view, items_view}
 use Rattle.ov_specs.specs.operations.Conditions.{condition_read}
-use Rattle.ov_specs.specs.operations.Operation as spec
+use Rattle.ov_specs.specs.operations.MatchingRows as spec
 use Rattle.ov_stage.proofs.Matching.{and_others-item}
 use Rattle.ov_stage.proofs.conditions.conditions_of.Goals as goal
 

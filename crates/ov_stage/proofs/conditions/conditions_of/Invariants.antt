@@ -1,6 +1,6 @@
 use Rattle.std.proofs.Common.{◌≡◌, drop}
 use Rattle.serde_json.specs.View.{items_view}
-use Rattle.ov_specs.specs.operations.Operation as spec
+use Rattle.ov_specs.specs.operations.MatchingRows as spec
 use Rattle.ov_stage.proofs.conditions.conditions_of.Given as goal
 
 abbrev pub invariant-loop-item : goal.invariant-loop-item

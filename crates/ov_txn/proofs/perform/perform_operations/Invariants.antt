@@ -1,0 +1,13 @@
+use Rattle.std.proofs.Common.{◌≡◌, drop}
+use Rattle.serde_json.specs.View.{items_view}
+use Rattle.ov_ops.specs.Outcomes.{context_of}
+use Rattle.ov_specs.specs.operations.Transaction as spec
+use Rattle.ov_txn.specs.Results.{prefixed}
+use Rattle.ov_txn.proofs.perform.perform_operations.Given as goal
+
+abbrev pub invariant-loop-place : goal.invariant-loop-place
+invariant-loop-place l = record {
+  going : spec.transaction l.schema l.rows l.txn.draws l.age l.txn.operations
+      ≡ prefixed l.results (spec.performed (context_of l.ctx l.rows) l.place (items_view (drop l.place l.operations)) l.stage.now);
+  before : l.stage.before ≡ l.rows;
+}

@@ -1,0 +1,67 @@
+-- What an attempt of a transaction comes to. What names no source is our own.
+use Rattle.std.specs.Prelude.{◌≡◌, ◌⊎◌, ℕ, Bool, true, false, is_some, None}
+use Rattle.serde_json.specs.Data.{Items}
+use Rattle.ov_db.specs.Changing.{Delta, applied}
+use Rattle.ov_db.specs.Committing.{Commits}
+use Rattle.ov_db.specs.KeptDatabase.{KeptDatabase}
+use Rattle.ov_db.specs.declared.answer.StoreAnswer.TheVariants as store
+use Rattle.ov_keeper.specs.Keeping.{HasFailed}
+use Rattle.ov_specs.specs.operations.Transaction.{TransactionOutcome, Completes, Waits, failed_results}
+use Rattle.ov_specs.specs.rows.Database.{Database, same_database}
+use Rattle.ov_txn.specs.Replying.{replies_with}
+use Rattle.ov_txn.specs.declared.attempt.Tried.{Tried}
+use Rattle.ov_txn.specs.declared.attempt.Tried.TheVariants.{Answer, Stored, Blocked, NoMemory}
+use Rattle.ov_txn.specs.declared.ready.Replies.{Replies}
+
+-- what makes ready, by its state before, the database, its changes, the replies, whether all is ready, and its state after
+abbrev pub Readies : Type 0 → Type 0 → Type 1
+Readies R K = R → KeptDatabase K → Delta → Replies → Bool → R → Type 0
+
+-- The results where the store is not asked. Where the transaction leaves the database as it was, they are its own; where it would
+-- change one that is sealed, the error of a commit that fails stands behind them (RFC 7047, 4.1.3).
+abbrev pub Answers : {K : Type 0} → TransactionOutcome → KeptDatabase K → Items → Type 0
+Answers (Completes made database) old results =
+    ((same_database old.committed database ≡ true) × (results ≡ made))
+    ⊎ ((same_database old.committed database ≡ false) × (is_some old.sealed ≡ true) × (results ≡ failed_results made))
+Answers (Waits timeout) old results = ⊥
+
+-- The transaction changes a database that is not sealed, and what follows its commit was made ready, with the changes and its
+-- results, or could not be for want of memory.
+pub record MadeReady {K R : Type 0} (readies : Readies R K) (outcome : TransactionOutcome) (old : KeptDatabase K) (was : R) (ready : Bool) (is : R) : Type 0 where
+  pub results : Items
+  pub delta : Delta
+  pub completes : outcome ≡ Completes results (applied delta old.committed)
+  pub changes : same_database old.committed (applied delta old.committed) ≡ false
+  pub unsealed : old.sealed ≡ None
+  pub made : readies was old delta (replies_with results) ready is
+
+-- What an attempt comes to. The store is asked once, where the transaction changes a database that is not sealed, and before that
+-- all is made ready; where anything else comes of it, nothing is changed.
+abbrev pub IsTried : {K R : Type 0} → Readies R K → TransactionOutcome → KeptDatabase K → R → Tried → KeptDatabase K → R → Type 0
+IsTried readies outcome old was (Answer results) new is = (new ≡ old) × (is ≡ was) × Answers outcome old results
+IsTried readies outcome old was (Stored answer) new is = (r : MadeReady readies outcome old was true is) × Commits r.delta old answer new
+IsTried readies outcome old was (Blocked timeout) new is = (new ≡ old) × (is ≡ was) × (outcome ≡ Waits timeout)
+IsTried readies outcome old was NoMemory new is = (new ≡ old) × ((is ≡ was) ⊎ MadeReady readies outcome old was false is)
+
+-- the same of a transaction with these results and changes, for which the store is to be asked
+abbrev pub IsAsked : {K R : Type 0} → Readies R K → Items → Delta → KeptDatabase K → R → Tried → KeptDatabase K → R → Type 0
+IsAsked readies results delta old was (Stored answer) new is = readies was old delta (replies_with results) true is × Commits delta old answer new
+IsAsked readies results delta old was NoMemory new is = (new ≡ old) × ((is ≡ was) ⊎ readies was old delta (replies_with results) false is)
+IsAsked readies results delta old was (Answer others) new is = ⊥
+IsAsked readies results delta old was (Blocked timeout) new is = ⊥
+
+-- the answer of a database that is sealed, if there is memory for it
+abbrev pub IsSealedAnswer : Items → Tried → Type 0
+IsSealedAnswer made (Answer results) = results ≡ failed_results made
+IsSealedAnswer made NoMemory = Unit {0}
+IsSealedAnswer made (Stored answer) = ⊥
+IsSealedAnswer made (Blocked timeout) = ⊥
+
+-- a failure of the store has a cause: its device has failed
+abbrev pub HasCause : {K : Type 0} → (K → ℕ) → Tried → KeptDatabase K → KeptDatabase K → Type 0
+HasCause failed (Stored store.Failed) old new = HasFailed (failed old.keeper) (failed new.keeper)
+HasCause failed (Stored store.Kept) old new = Unit {0}
+HasCause failed (Stored store.Exhausted) old new = Unit {0}
+HasCause failed (Answer results) old new = Unit {0}
+HasCause failed (Blocked timeout) old new = Unit {0}
+HasCause failed NoMemory old new = Unit {0}

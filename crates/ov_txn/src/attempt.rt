@@ -1,0 +1,106 @@
+ghost use Rattle.std.specs.Prelude.{◌≡◌, ◌≤◌, ◌+◌, None, IfOk};
+ghost use Rattle.ov_specs.specs.operations.Transaction.{failed_results, transaction};
+ghost use Rattle.ov_db.specs.Changing.{SuitsChanges};
+ghost use Rattle.ov_txn.specs.Attempting.{IsTried, IsAsked, IsSealedAnswer, HasCause};
+
+use crate::perform::{Performed, perform};
+use crate::ready::{Ready, Replies};
+use crate::results::{Results, error_tree};
+use crate::tries::Tries;
+use crate::txn::Txn;
+use ov_base::Trees;
+use ov_db::{Db, Delta, StoreAnswer};
+use ov_keeper::Keeper;
+use ov_stage::OpError;
+use std::alloc::{AllocError, Global};
+
+/// What an attempt of a transaction comes to (RFC 7047, 4.1.3).
+#[derive(Drop)]
+pub enum Tried {
+    /// It is answered with these results, and nothing is stored.
+    Answer(Trees),
+    /// The store was asked to keep its changes, and answered so.
+    Stored(StoreAnswer),
+    /// A wait is not met, so nothing is changed. It is given up when the transaction is so many milliseconds old, if ever (RFC
+    /// 7047, 5.2.6).
+    Blocked(Option<u64>),
+    /// A growth was refused, and nothing is changed.
+    NoMemory,
+}
+
+/// Tries a transaction of this age in milliseconds, and counts the attempt.
+///
+/// Where its operations change the database, all that follows the commit is made ready, and then the store is asked, once and
+/// last of all. A database that is sealed is not asked any more: such a transaction is answered as where the store fails. Where
+/// the operations change nothing, and where one of them fails, the store is not asked either (RFC 7047, 4.1.3).
+pub fn attempt<K: Keeper + Drop, R: Ready<K>>(
+    alloc: Global,
+    db: &mut Db<K>,
+    txn: &Txn,
+    age: u64,
+    tries: &mut Tries,
+    ready: &mut R,
+) -> Tried
+    ensures tried { IsTried R.readies (transaction db.old.schema db.old.committed txn.now.draws age txn.now.operations) db.old ready.old result db.new ready.new }
+    ensures cause { HasCause K.failed result db.old db.new }
+    ensures counts { K.failed db.old.keeper ≤ K.failed db.new.keeper }
+    ensures counted { tries.new ≡ tries.old + 1 }
+{
+    tries.add();
+    db.kept();
+    match perform(alloc, db.schema(), db.rows(), txn, age) {
+        Err(_) => Tried::NoMemory,
+        Ok(Performed::Blocked(timeout)) => Tried::Blocked(timeout),
+        Ok(Performed::Completed(results, delta)) => {
+            if delta.is_empty() {
+                return Tried::Answer(results.into_trees());
+            }
+            if db.sealed() {
+                return answer_sealed(alloc, results);
+            }
+            store(alloc, db, results, delta, ready)
+        }
+    }
+}
+
+/// The results with the error of a commit that fails behind them.
+fn with_failure(alloc: Global, results: Results) -> Result<Trees, AllocError>
+    ensures { IfOk result (λ trees. trees ≡ failed_results results) }
+{
+    let mut results = results;
+    results.push(error_tree(alloc, OpError::InputOutput)?)?;
+    Ok(results.into_trees())
+}
+
+/// The answer of a database that is sealed, where there is memory for it.
+fn answer_sealed(alloc: Global, results: Results) -> Tried
+    ensures { IsSealedAnswer results result }
+{
+    match with_failure(alloc, results) {
+        Ok(trees) => Tried::Answer(trees),
+        Err(_) => Tried::NoMemory,
+    }
+}
+
+/// Makes all ready, and then asks the store.
+fn store<K: Keeper + Drop, R: Ready<K>>(
+    alloc: Global,
+    db: &mut Db<K>,
+    results: Results,
+    delta: Delta,
+    ready: &mut R,
+) -> Tried
+    requires unsealed { db.old.sealed ≡ None }
+    requires suits { SuitsChanges db.old.schema delta }
+    ensures asked { IsAsked R.readies results delta db.old ready.old result db.new ready.new }
+    ensures cause { HasCause K.failed result db.old db.new }
+    ensures counts { K.failed db.old.keeper ≤ K.failed db.new.keeper }
+{
+    let Ok(replies) = Replies::new(alloc, results) else {
+        return Tried::NoMemory;
+    };
+    if !ready.ready(db, &delta, replies) {
+        return Tried::NoMemory;
+    }
+    Tried::Stored(db.commit(alloc, delta))
+}

@@ -1,0 +1,48 @@
+ghost use Rattle.std.specs.Prelude.{◌≡◌, Bool, IfOk};
+ghost use Rattle.serde_json.specs.Data.{Items};
+ghost use Rattle.ov_db.specs.Changing.{Delta as Changes};
+ghost use Rattle.ov_db.specs.KeptDatabase.{KeptDatabase};
+ghost use Rattle.ov_txn.specs.Replying.{replies_with};
+
+use crate::results::{Results, error_tree};
+use ov_base::{Tree, Trees};
+use ov_db::{Db, Delta};
+use ov_keeper::Keeper;
+use ov_stage::OpError;
+use std::alloc::{AllocError, Global};
+
+/// The results of a transaction whose changes are to be stored, for each answer of the store (RFC 7047, 4.1.3).
+#[derive(Drop)]
+pub struct Replies {
+    /// Where the store keeps the changes.
+    pub kept: Trees,
+    /// What stands behind these results where the store has no room: `resources exhausted`.
+    pub exhausted: Tree,
+    /// What stands behind them where the store fails: `I/O error`.
+    pub failed: Tree,
+}
+
+impl Replies {
+    /// Those with these results.
+    pub(crate) fn new(alloc: Global, results: Results) -> Result<Replies, AllocError>
+        ensures { IfOk result (λ replies. replies ≡ replies_with results) }
+    {
+        let exhausted = error_tree(alloc, OpError::ResourcesExhausted)?;
+        let failed = error_tree(alloc, OpError::InputOutput)?;
+        Ok(Replies {
+            kept: results.into_trees(),
+            exhausted,
+            failed,
+        })
+    }
+}
+
+/// What makes everything ready that has to follow a commit, so that nothing takes memory behind it.
+pub trait Ready<K: Keeper> {
+    /// The state before, the database, its changes, the replies, whether all is ready, and the state after.
+    ghost readies: { Self → KeptDatabase K → Changes → Replies → Bool → Self → Type 0 };
+
+    /// Makes ready what follows the store's answer on these changes of the database. False where memory is refused.
+    fn ready(&mut self, db: &Db<K>, delta: &Delta, replies: Replies) -> bool
+        ensures { readies self.old db.now delta.now replies result self.new };
+}
