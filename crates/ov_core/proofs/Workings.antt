@@ -9,19 +9,22 @@ use Rattle.ov_specs.specs.rows.Database.{Database, same_database}
 use Rattle.ov_specs.specs.wire.Frame.{frame}
 use Rattle.ov_specs.specs.rows.Lines.{Contents}
 use Rattle.ov_specs.specs.machine.Machine as machine
-use Rattle.ov_specs.specs.machine.Machine.{State, Sent, Stepped, Work, Answers, Transact, works, draws_for, attempt, sends_at_once, closed, without_session, to_session, results_to}
+use Rattle.ov_specs.specs.machine.Machine.{State, Sent, Stepped, Work, Answers, Transact, works, draws_for, attempt, sends_at_once, closed, without_session, to_session, results_to, refusal_to}
 use Rattle.ov_specs.specs.operations.Draws.{draws_wanted}
-use Rattle.ov_specs.specs.operations.Transaction.{transaction, exhausted_results, failed_results}
+use Rattle.ov_specs.specs.operations.Transaction.{TransactionOutcome, Completes, Waits, transaction, exhausted_results, failed_results}
 use Rattle.ov_specs.specs.values.Uuid.{Uuid}
-use Rattle.ov_db.specs.Committing.{IsHeld}
+use Rattle.ov_db.specs.Committing.{Commits, IsHeld}
 use Rattle.ov_db.specs.Changing.{Delta, applied}
 use Rattle.ov_db.specs.KeptDatabase.{KeptDatabase}
+use Rattle.ov_db.specs.declared.answer.StoreAnswer.{StoreAnswer}
+use Rattle.ov_db.specs.declared.answer.StoreAnswer.TheVariants as store
+use Rattle.ov_txn.specs.Attempting.{IsAnswer}
 use Rattle.ov_core.specs.declared.answer.Work.TheVariants as kinds
 use Rattle.ov_core.specs.declared.event.Outcome.{Outcome}
 use Rattle.ov_core.specs.declared.event.Outcome.TheVariants as outcome
 use Rattle.ov_core.specs.Leaving.{LeavesItsOwn}
 use Rattle.ov_core.specs.Outbox.{WaitingFrames, waiting_for, PostsSent, HasSameFrames}
-use Rattle.ov_core.specs.Handling.{AsksStore, IsWork, PostsIfRoom, CommitsWithReply, with_db, closed_if_no_memory, listed_first, IsMachineStep, IsAttempt}
+use Rattle.ov_core.specs.Handling.{AsksStore, IsWork, PostsIfRoom, with_db, closed_if_no_memory, listed_first, IsMachineStep, IsAttempt}
 
 -- ---- out of memory
 
@@ -47,66 +50,73 @@ pub sends : {K : Type 0} (n : ℕ) (go : State → Option Stepped) (old new : Ke
     → ((s : State) → go (with_db s old) ≡ Some (record { state = closed_if_no_memory n o (with_db s new); sent = sent })) → PostsSent sent waited waits → IsMachineStep n go old waited o new waits
 sends n go old new o waited waits sent h posts s = (sent, h s, posts)
 
--- the results are sent, and nothing is asked of the store
+-- what a transaction comes to on a database, as it arrives
+abbrev outcome_on : {K : Type 0} → KeptDatabase K → List Uuid → Items → TransactionOutcome
+outcome_on old draws operations = transaction old.schema old.committed draws 0 operations
+
+-- what is sent at once, where nothing is asked of the store
 answered : {K : Type 0} (n : ℕ) (id : Data) (draws : List Uuid) (operations : Items) (sent : List Sent) (old : KeptDatabase K) (o : Option Outcome) (waited waits : WaitingFrames)
-    → ((s : State) → attempt (with_db s old) n id (transaction old.schema old.committed draws operations) None ≡ sends_at_once (with_db s old) sent None)
+    → ((s : State) → attempt (with_db s old) n id (outcome_on old draws operations) None ≡ sends_at_once (with_db s old) sent None)
     → PostsIfRoom sent waited o waits → IsAttempt n id draws operations old waited o old waits
 answered n id draws operations sent old None waited waits h posts =
-    sends n (λ s. attempt s n id (transaction s.schema s.database draws operations) None) old old None waited waits sent h posts
+    sends n (λ s. attempt s n id (transaction s.schema s.database draws 0 operations) None) old old None waited waits sent h posts
 answered n id draws operations sent old (Some outcome.NoMemory) waited waits h silent = attempt_gave_up n id draws operations old old waited waits (λ s. refl) silent
 answered n id draws operations sent old (Some outcome.Kept) waited waits h never = absurd never
 answered n id draws operations sent old (Some outcome.Exhausted) waited waits h never = absurd never
 answered n id draws operations sent old (Some outcome.Failed) waited waits h never = absurd never
 
--- a transaction that changes nothing
-pub unchanged : {K : Type 0} (n : ℕ) (id : Data) (draws : List Uuid) (operations : Items) (old : KeptDatabase K) (o : Option Outcome) (waited waits : WaitingFrames)
-    → same_database old.committed (transaction old.schema old.committed draws operations).database ≡ true
-    → PostsIfRoom (results_to n id (transaction old.schema old.committed draws operations).results) waited o waits
-    → IsAttempt n id draws operations old waited o old waits
-unchanged n id draws operations old o waited waits e outbox =
-    answered n id draws operations (results_to n id (transaction old.schema old.committed draws operations).results) old o waited waits (λ s. rw e refl) outbox
+-- a transaction for which the store is not asked
+pub answers : {K : Type 0} (n : ℕ) (id : Data) (draws : List Uuid) (operations results : Items) (old : KeptDatabase K) (o : Option Outcome) (waited waits : WaitingFrames)
+    → IsAnswer (outcome_on old draws operations) old results → PostsIfRoom (results_to n id results) waited o waits → IsAttempt n id draws operations old waited o old waits
+answers {K} n id draws operations results old o waited waits answer posts = by (outcome_on old draws operations) refl answer
+  where
+    by : (t : TransactionOutcome) → outcome_on old draws operations ≡ t → IsAnswer t old results → IsAttempt n id draws operations old waited o old waits
+    by (Completes made database) is (inl (same, made_is)) = answered n id draws operations (results_to n id results) old o waited waits (λ s. rw is (rw (same, made_is) refl)) posts
+    by (Completes made database) is (inr (other, sealed, made_is)) = answered n id draws operations (results_to n id results) old o waited waits (λ s. rw is (rw (other, sealed, made_is) refl)) posts
+    by (Waits timeout) is never = absurd never
 
--- a transaction that would change a sealed database
-pub on_sealed : {K : Type 0} (n : ℕ) (id : Data) (draws : List Uuid) (operations : Items) (old : KeptDatabase K) (o : Option Outcome) (waited waits : WaitingFrames)
-    → same_database old.committed (transaction old.schema old.committed draws operations).database ≡ false → is_some old.sealed ≡ true
-    → PostsIfRoom (results_to n id (failed_results (transaction old.schema old.committed draws operations).results)) waited o waits
-    → IsAttempt n id draws operations old waited o old waits
-on_sealed n id draws operations old o waited waits e sealed outbox =
-    answered n id draws operations (results_to n id (failed_results (transaction old.schema old.committed draws operations).results)) old o waited waits (λ s. rw (e, sealed) refl) outbox
+-- a transaction that waits
+pub waiting : {K : Type 0} (n : ℕ) (id : Data) (draws : List Uuid) (operations : Items) (timeout : Option ℕ) (old : KeptDatabase K) (o : Option Outcome) (waited waits : WaitingFrames)
+    → outcome_on old draws operations ≡ Waits timeout → PostsIfRoom (refusal_to n id) waited o waits → IsAttempt n id draws operations old waited o old waits
+waiting n id draws operations timeout old o waited waits is posts = answered n id draws operations (refusal_to n id) old o waited waits (λ s. rw is refl) posts
 
 -- ---- a commit
 
--- no database is sealed
-pub not_sealed : (o : Option Database) → is_some o ≡ false → o ≡ None
-not_sealed None h = refl
-not_sealed (Some d) h = cc
+-- the outcome that an answer of the store is
+abbrev pub outcome_after : StoreAnswer → Outcome
+outcome_after store.Kept = outcome.Kept
+outcome_after store.Exhausted = outcome.Exhausted
+outcome_after store.Failed = outcome.Failed
 
-pub committed : {K : Type 0} (n : ℕ) (id : Data) (draws : List Uuid) (operations : Items) (old new : KeptDatabase K) (delta : Delta) (o : Option Outcome) (waited waits : WaitingFrames)
-    → same_database old.committed (transaction old.schema old.committed draws operations).database ≡ false → old.sealed ≡ None
-    → applied delta old.committed ≡ (transaction old.schema old.committed draws operations).database
-    → CommitsWithReply n id (transaction old.schema old.committed draws operations).results delta old waited o new waits
-    → IsAttempt n id draws operations old waited o new waits
-committed n id draws operations old new delta None waited waits e unsealed is never = absurd never
-committed {K} n id draws operations old new delta (Some outcome.Kept) waited waits e unsealed is (made, added) =
-    let t = transaction old.schema old.committed draws operations in
-    let schema : new.schema ≡ old.schema = ap (λ (k : KeptDatabase K). k.schema) made in
-    let d : new.committed ≡ t.database = ap (λ (k : KeptDatabase K). k.committed) made ∙ is in
-    let k : new.sealed ≡ None = ap (λ (k : KeptDatabase K). k.sealed) made ∙ unsealed in
-    sends n (λ s. attempt s n id (transaction s.schema s.database draws operations) (Some machine.Committed)) old new (Some outcome.Kept) waited waits (results_to n id t.results) (λ s. rw (e, unsealed, schema, d, k) refl) added
-committed {K} n id draws operations old new delta (Some outcome.Exhausted) waited waits e unsealed is (made, added) =
-    let t = transaction old.schema old.committed draws operations in
-    let schema : new.schema ≡ old.schema = ap (λ (k : KeptDatabase K). k.schema) made in
-    let d : new.committed ≡ old.committed = ap (λ (k : KeptDatabase K). k.committed) made in
-    let k : new.sealed ≡ None = ap (λ (k : KeptDatabase K). k.sealed) made ∙ unsealed in
-    sends n (λ s. attempt s n id (transaction s.schema s.database draws operations) (Some machine.Exhausted)) old new (Some outcome.Exhausted) waited waits (results_to n id (exhausted_results t.results)) (λ s. rw (e, unsealed, schema, d, k) refl) added
-committed {K} n id draws operations old new delta (Some outcome.Failed) waited waits e unsealed is (made, added) =
-    let t = transaction old.schema old.committed draws operations in
-    let schema : new.schema ≡ old.schema = ap (λ (k : KeptDatabase K). k.schema) made in
-    let d : new.committed ≡ old.committed = ap (λ (k : KeptDatabase K). k.committed) made in
-    let k : new.sealed ≡ Some t.database = ap (λ (k : KeptDatabase K). k.sealed) made ∙ ap Some is in
-    sends n (λ s. attempt s n id (transaction s.schema s.database draws operations) (Some machine.Failed)) old new (Some outcome.Failed) waited waits (results_to n id (failed_results t.results)) (λ s. rw (e, unsealed, schema, d, k) refl) added
-committed {K} n id draws operations old new delta (Some outcome.NoMemory) waited waits e unsealed is (same, silent) =
-    attempt_gave_up n id draws operations old new waited waits (λ s. ap (with_db s) same) silent
+-- the results that are sent behind it
+abbrev pub results_after : StoreAnswer → Items → Items
+results_after store.Kept results = results
+results_after store.Exhausted results = exhausted_results results
+results_after store.Failed results = failed_results results
+
+-- a transaction whose changes the store was asked to keep
+module _ {K : Type 0} (n : ℕ) (id : Data) (draws : List Uuid) (operations results : Items) (old new : KeptDatabase K) (delta : Delta) (waited waits : WaitingFrames)
+    (is : outcome_on old draws operations ≡ Completes results (applied delta old.committed)) (other : same_database old.committed (applied delta old.committed) ≡ false) (unsealed : old.sealed ≡ None) where
+  pub stored : (answer : StoreAnswer) → Commits delta old answer new → PostsSent (results_to n id (results_after answer results)) waited waits
+      → IsAttempt n id draws operations old waited (Some (outcome_after answer)) new waits
+  stored store.Kept made posts =
+      let schema : new.schema ≡ old.schema = ap (λ (k : KeptDatabase K). k.schema) made in
+      let database : new.committed ≡ applied delta old.committed = ap (λ (k : KeptDatabase K). k.committed) made in
+      let sealed : new.sealed ≡ None = ap (λ (k : KeptDatabase K). k.sealed) made ∙ unsealed in
+      sends n (λ s. attempt s n id (transaction s.schema s.database draws 0 operations) (Some machine.Committed)) old new (Some outcome.Kept) waited waits (results_to n id results)
+      (λ s. rw is (rw (other, unsealed, schema, database, sealed) refl)) posts
+  stored store.Exhausted made posts =
+      let schema : new.schema ≡ old.schema = ap (λ (k : KeptDatabase K). k.schema) made in
+      let database : new.committed ≡ old.committed = ap (λ (k : KeptDatabase K). k.committed) made in
+      let sealed : new.sealed ≡ None = ap (λ (k : KeptDatabase K). k.sealed) made ∙ unsealed in
+      sends n (λ s. attempt s n id (transaction s.schema s.database draws 0 operations) (Some machine.Exhausted)) old new (Some outcome.Exhausted) waited waits (results_to n id (exhausted_results results))
+      (λ s. rw is (rw (other, unsealed, schema, database, sealed) refl)) posts
+  stored store.Failed made posts =
+      let schema : new.schema ≡ old.schema = ap (λ (k : KeptDatabase K). k.schema) made in
+      let database : new.committed ≡ old.committed = ap (λ (k : KeptDatabase K). k.committed) made in
+      let sealed : new.sealed ≡ Some (applied delta old.committed) = ap (λ (k : KeptDatabase K). k.sealed) made in
+      sends n (λ s. attempt s n id (transaction s.schema s.database draws 0 operations) (Some machine.Failed)) old new (Some outcome.Failed) waited waits (results_to n id (failed_results results))
+      (λ s. rw is (rw (other, unsealed, schema, database, sealed) refl)) posts
 
 -- ---- any work
 

@@ -19,11 +19,11 @@ Readies R K = R → KeptDatabase K → Delta → Replies → Bool → R → Type
 
 -- The results where the store is not asked. Where the transaction leaves the database as it was, they are its own; where it would
 -- change one that is sealed, the error of a commit that fails stands behind them (RFC 7047, 4.1.3).
-abbrev pub Answers : {K : Type 0} → TransactionOutcome → KeptDatabase K → Items → Type 0
-Answers (Completes made database) old results =
+abbrev pub IsAnswer : {K : Type 0} → TransactionOutcome → KeptDatabase K → Items → Type 0
+IsAnswer (Completes made database) old results =
     ((same_database old.committed database ≡ true) × (results ≡ made))
     ⊎ ((same_database old.committed database ≡ false) × (is_some old.sealed ≡ true) × (results ≡ failed_results made))
-Answers (Waits timeout) old results = ⊥
+IsAnswer (Waits timeout) old results = ⊥
 
 -- The transaction changes a database that is not sealed, and what follows its commit was made ready, with the changes and its
 -- results, or could not be for want of memory.
@@ -38,7 +38,7 @@ pub record MadeReady {K R : Type 0} (readies : Readies R K) (outcome : Transacti
 -- What an attempt comes to. The store is asked once, where the transaction changes a database that is not sealed, and before that
 -- all is made ready; where anything else comes of it, nothing is changed.
 abbrev pub IsTried : {K R : Type 0} → Readies R K → TransactionOutcome → KeptDatabase K → R → Tried → KeptDatabase K → R → Type 0
-IsTried readies outcome old was (Answer results) new is = (new ≡ old) × (is ≡ was) × Answers outcome old results
+IsTried readies outcome old was (Answer results) new is = (new ≡ old) × (is ≡ was) × IsAnswer outcome old results
 IsTried readies outcome old was (Stored answer) new is = (r : MadeReady readies outcome old was true is) × Commits r.delta old answer new
 IsTried readies outcome old was (Blocked timeout) new is = (new ≡ old) × (is ≡ was) × (outcome ≡ Waits timeout)
 IsTried readies outcome old was NoMemory new is = (new ≡ old) × ((is ≡ was) ⊎ MadeReady readies outcome old was false is)

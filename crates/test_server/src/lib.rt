@@ -2,6 +2,8 @@
 #![tactic(auto)]
 
 #[cfg(test)]
+mod attempts;
+#[cfg(test)]
 mod databases;
 #[cfg(test)]
 mod machine;
@@ -17,8 +19,6 @@ mod stages;
 mod streams;
 #[cfg(test)]
 mod transact;
-#[cfg(test)]
-mod transactions;
 #[cfg(test)]
 mod values;
 #[cfg(test)]

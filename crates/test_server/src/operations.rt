@@ -5,7 +5,7 @@ use ov_ops::{OpCtx, OpOutcome, run_op};
 use ov_rows::Rows;
 use ov_schema::Schema;
 use ov_stage::Stage;
-use ov_txn::draws_for;
+use ov_txn::Txn;
 use std::alloc::{AllocError, Global};
 use std::test::Fail;
 use test_support::{Counter, Scripted, agrees, compact, follows, net, trees};
@@ -64,8 +64,8 @@ impl Operations {
 impl Scripted for Operations {
     fn answer(&mut self, alloc: Global, command: &str) -> Result<String, Fail> {
         let operations = trees(alloc, command)?;
-        let draws = draws_for(alloc, &operations, &mut Counter::new())?;
-        let (version, ids) = draws.as_slice().split_at(1);
+        let txn = Txn::read(alloc, trees(alloc, command)?, &mut Counter::new())?;
+        let (version, ids) = txn.draws().split_at(1);
         let inserts = NamedRows::new(alloc, ids, &operations)?;
         let ctx = OpCtx {
             schema: &self.schema,

@@ -118,6 +118,42 @@ const MISREAD: &str =
 >{"id":9,"method":"transact","params":["Net",{"op":"select","table":"Switch","where":[["load","==",["set",[4,4]]]],"columns":["nam"]}]}
 <{"error":null,"id":9,"result":[{"error":"unknown column"}]}"#;
 
+/// Each operation once, in one transaction or two.
+const OPERATIONS: &str =
+    r#">{"id":1,"method":"transact","params":["Net",{"op":"insert","table":"Switch","row":{"name":"s1","ports":["named-uuid","p"]}},{"op":"insert","table":"Port","uuid-name":"p","row":{"name":"p1"}},{"op":"comment","comment":"two rows"}]}
+<{"error":null,"id":1,"result":[{"uuid":["uuid","00000000-0000-4000-8000-000000000002"]},{"uuid":["uuid","00000000-0000-4000-8000-000000000003"]},{}]}
+>{"id":2,"method":"transact","params":["Net",{"op":"select","table":"Switch","where":[],"columns":["ports"]}]}
+<{"error":null,"id":2,"result":[{"rows":[{"ports":["uuid","00000000-0000-4000-8000-000000000003"]}]}]}
+>{"id":3,"method":"transact","params":["Net",{"op":"update","table":"Switch","where":[],"row":{"load":-7}},{"op":"mutate","table":"Switch","where":[],"mutations":[["load","%=",2]]},{"op":"select","table":"Switch","where":[],"columns":["load"]},{"op":"commit","durable":false}]}
+<{"error":null,"id":3,"result":[{"count":1},{"count":1},{"rows":[{"load":-1}]},{}]}
+>{"id":4,"method":"transact","params":["Net",{"op":"delete","table":"Port","where":[["name","==","p1"]]},{"op":"abort"}]}
+<{"error":null,"id":4,"result":[{"count":1},{"error":"aborted"}]}
+>{"id":5,"method":"transact","params":["Net",{"op":"update","table":"Switch","where":[],"row":{"_uuid":["uuid","00000000-0000-4000-8000-000000000001"]}}]}
+<{"error":null,"id":5,"result":[{"error":"constraint violation"}]}
+>{"id":6,"method":"transact","params":["Net",{"op":"wait","table":"Port","where":[],"columns":["name"],"until":"==","rows":[{"name":"p1"}]},{"op":"delete","table":"Port","where":[]},{"op":"select","table":"Port","where":[]}]}
+<{"error":null,"id":6,"result":[{},{"count":1},{"rows":[]}]}
+>{"id":7,"method":"transact","params":["Net",{"op":"insert","table":"Switch","uuid-name":"p","row":{}},{"op":"insert","table":"Switch","uuid-name":"p","row":{}}]}
+<{"error":null,"id":7,"result":[{"uuid":["uuid","00000000-0000-4000-8000-00000000000a"]},{"error":"duplicate uuid-name"}]}"#;
+
+/// No transaction is kept outstanding yet. One whose timeout has come is answered.
+const WAITING: &str =
+    r#">{"id":1,"method":"transact","params":["Net",{"op":"insert","table":"Switch","row":{"name":"s1"}},{"op":"wait","table":"Switch","where":[["name","==","s9"]],"columns":["name"],"until":"==","rows":[{"name":"s9"}]}]}
+<{"error":"resources exhausted","id":1,"result":null}
+>{"id":2,"method":"transact","params":["Net",{"op":"wait","table":"Switch","timeout":0,"where":[["name","==","s9"]],"columns":["name"],"until":"==","rows":[{"name":"s9"}]}]}
+<{"error":null,"id":2,"result":[{"error":"timed out"}]}
+>{"id":3,"method":"transact","params":["Net",{"op":"select","table":"Switch","where":[],"columns":["name"]}]}
+<{"error":null,"id":3,"result":[{"rows":[]}]}"#;
+
+#[test]
+fn each_operation_is_performed(rt: HostRuntime) -> Result<(), Fail> {
+    converses(rt.alloc(), OPERATIONS)
+}
+
+#[test]
+fn a_transaction_that_waits_is_refused(rt: HostRuntime) -> Result<(), Fail> {
+    converses(rt.alloc(), WAITING)
+}
+
 #[test]
 fn inserted_rows_are_selected(rt: HostRuntime) -> Result<(), Fail> {
     converses(rt.alloc(), INSERTED)

@@ -1,0 +1,215 @@
+use ov_db::{Db, Delta, StoreAnswer};
+use ov_keeper::Keeper;
+use ov_txn::{Draws, Ready, Replies, Tried, Tries, Txn, attempt};
+use std::alloc::Global;
+use std::test::Fail;
+use test_support::{Counter, Faults, NetKeeper, Scripted, agrees, compact, net, net_keeper, trees};
+use uuid::Uuid;
+
+/// What follows a commit, in tests: the replies that are made ready, as texts.
+#[derive(Drop)]
+struct Prepared {
+    alloc: Global,
+    /// Whether memory is refused.
+    is_refused: bool,
+    /// The results, and how many rows are changed.
+    kept: String,
+    exhausted: String,
+    failed: String,
+}
+
+impl Prepared {
+    fn keep(&mut self, changes: usize, replies: Replies) -> Result<(), Fail> {
+        let Replies {
+            kept,
+            exhausted,
+            failed,
+        } = replies;
+        let results = compact(self.alloc, &kept.into_tree())?;
+        self.exhausted = compact(self.alloc, &exhausted)?;
+        self.failed = compact(self.alloc, &failed)?;
+        self.kept = format!(in self.alloc; "{results} {changes}")?;
+        Ok(())
+    }
+}
+
+impl<K: Keeper> Ready<K> for Prepared {
+    ghost readies = { λ old db delta replies ready new. Unit {0} };
+
+    fn ready(&mut self, _db: &Db<K>, delta: &Delta, replies: Replies) -> bool {
+        !self.is_refused && self.keep(delta.map().len(), replies).is_ok()
+    }
+}
+
+/// Attempts of transactions on a database Net, each with an age and its operations. What is told of one are the results that it is
+/// answered with; or the store's answer, the results that were made ready, how many rows they change, and what stands behind
+/// them; or how long it waits. `refuse` refuses memory to what is made ready from then on.
+#[derive(Drop)]
+struct Attempts<D> {
+    db: Db<NetKeeper>,
+    draws: D,
+    prepared: Prepared,
+}
+
+/// What is told of an attempt.
+fn told(alloc: Global, tried: Tried, prepared: &Prepared) -> Result<String, Fail> {
+    let kept = prepared.kept.as_str();
+    match tried {
+        Tried::Answer(results) => compact(alloc, &results.into_tree()),
+        Tried::Stored(StoreAnswer::Kept) => Ok(format!(in alloc; "kept {kept}")?),
+        Tried::Stored(StoreAnswer::Exhausted) => {
+            let exhausted = prepared.exhausted.as_str();
+            Ok(format!(in alloc; "exhausted {kept} {exhausted}")?)
+        }
+        Tried::Stored(StoreAnswer::Failed) => {
+            let failed = prepared.failed.as_str();
+            Ok(format!(in alloc; "failed {kept} {failed}")?)
+        }
+        Tried::Blocked(Some(timeout)) => Ok(format!(in alloc; "waits {timeout}")?),
+        Tried::Blocked(None) => Ok(String::from_str(alloc, "waits")?),
+        Tried::NoMemory => Ok(String::from_str(alloc, "no memory")?),
+    }
+}
+
+impl<D: Draws> Attempts<D> {
+    fn attempt(&mut self, alloc: Global, age: u64, operations: &str) -> Result<String, Fail> {
+        let txn = Txn::read(alloc, trees(alloc, operations)?, &mut self.draws)?;
+        let mut tries = Tries::new();
+        let tried = attempt(alloc, &mut self.db, &txn, age, &mut tries, &mut self.prepared);
+        told(alloc, tried, &self.prepared)
+    }
+}
+
+impl<D: Draws> Scripted for Attempts<D> {
+    fn answer(&mut self, alloc: Global, command: &str) -> Result<String, Fail> {
+        let Some((age, operations)) = command.split_once(" ") else {
+            self.prepared.is_refused = true;
+            return Ok(String::new(alloc));
+        };
+        self.attempt(alloc, age.parse::<u64>()?, operations)
+    }
+}
+
+/// The attempts of a script come to what it says, on a new database over a keeper that fails as it is told.
+fn attempts_with<D: Draws + Drop>(
+    alloc: Global,
+    draws: D,
+    faults: Faults,
+    script: &str,
+) -> Result<(), Fail> {
+    let attempts = Attempts {
+        db: Db::open(alloc, net_keeper(alloc, faults)?, net(alloc)?)?,
+        draws,
+        prepared: Prepared {
+            alloc,
+            is_refused: false,
+            kept: String::new(alloc),
+            exhausted: String::new(alloc),
+            failed: String::new(alloc),
+        },
+    };
+    agrees(alloc, attempts, script)
+}
+
+/// The same with draws that are counted.
+fn attempts_over(alloc: Global, faults: Faults, script: &str) -> Result<(), Fail> {
+    attempts_with(alloc, Counter::new(), faults, script)
+}
+
+/// Draws the same identifier again and again.
+#[derive(Drop)]
+struct Same;
+
+impl Draws for Same {
+    ghost draws = { λ _ _ _. Unit {0} };
+
+    fn draw(&mut self) -> Uuid {
+        Uuid::from_u128(2)
+    }
+}
+
+/// Rows that are shown alike are one, and columns without a value have their defaults.
+const MERGED: &str =
+    r#"0 [{"op":"insert","table":"Switch","row":{}},{"op":"insert","table":"Switch","row":{}},{"op":"select","table":"Switch","where":[],"columns":["name","load","name"]}] -> kept [{"uuid":["uuid","00000000-0000-4000-8000-000000000002"]},{"uuid":["uuid","00000000-0000-4000-8000-000000000003"]},{"rows":[{"load":0,"name":""}]}] 2"#;
+
+#[test]
+fn repeats_merge_and_defaults_are_given(rt: HostRuntime) -> Result<(), Fail> {
+    attempts_over(rt.alloc(), Faults::NONE, MERGED)
+}
+
+const DRAWN_TWICE: &str =
+    r#"0 [{"op":"insert","table":"Switch","row":{"name":"s1"}},{"op":"insert","table":"Switch","row":{"name":"s1"}}] -> [{"uuid":["uuid","00000000-0000-0000-0000-000000000002"]},{"error":"duplicate uuid"}]"#;
+
+#[test]
+fn identifiers_are_not_used_twice(rt: HostRuntime) -> Result<(), Fail> {
+    attempts_with(rt.alloc(), Same, Faults::NONE, DRAWN_TWICE)
+}
+
+/// What changes nothing is not stored: a select, a failure, an update to what there is, an insert that is undone.
+const ATTEMPTS: &str =
+    r#"0 [{"op":"insert","table":"Switch","row":{"name":"s1"}},{"op":"insert","table":"Switch","row":{"name":"s2"}}] -> kept [{"uuid":["uuid","00000000-0000-4000-8000-000000000002"]},{"uuid":["uuid","00000000-0000-4000-8000-000000000003"]}] 2
+0 [{"op":"select","table":"Switch","where":[],"columns":["name"]}] -> [{"rows":[{"name":"s1"},{"name":"s2"}]}]
+0 [{"op":"insert","table":"Switch","row":{"name":"s3"}},{"op":"erase"},{"op":"comment"}] -> [{"uuid":["uuid","00000000-0000-4000-8000-000000000006"]},{"error":"unknown operation"},null]
+0 [{"op":"update","table":"Switch","where":[["name","==","s1"]],"row":{"name":"s1"}}] -> [{"count":1}]
+0 [{"op":"insert","table":"Port","uuid-name":"p","row":{}},{"op":"delete","table":"Port","where":[["_uuid","==",["named-uuid","p"]]]}] -> [{"uuid":["uuid","00000000-0000-4000-8000-000000000009"]},{"count":1}]
+0 [{"op":"mutate","table":"Switch","where":[["name","==","s2"]],"mutations":[["load","+=",1]]},{"op":"delete","table":"Switch","where":[["name","==","s1"]]}] -> kept [{"count":1},{"count":1}] 2
+0 [] -> []"#;
+
+#[test]
+fn what_changes_nothing_is_not_stored(rt: HostRuntime) -> Result<(), Fail> {
+    attempts_over(rt.alloc(), Faults::NONE, ATTEMPTS)
+}
+
+/// A transaction that waits changes nothing, whatever its operations did; it is given up at its age.
+const WAITS: &str =
+    r#"0 [{"op":"insert","table":"Switch","row":{"name":"s1"}}] -> kept [{"uuid":["uuid","00000000-0000-4000-8000-000000000002"]}] 1
+49 [{"op":"delete","table":"Switch","where":[]},{"op":"wait","table":"Switch","timeout":50,"where":[],"until":"!=","rows":[]}] -> waits 50
+0 [{"op":"wait","table":"Switch","where":[],"until":"==","rows":[]}] -> waits
+50 [{"op":"delete","table":"Switch","where":[]},{"op":"wait","table":"Switch","timeout":50,"where":[],"until":"!=","rows":[]}] -> [{"count":1},{"error":"timed out"}]
+0 [{"op":"wait","table":"Switch","where":[],"columns":["name"],"until":"==","rows":[{"name":"s1"}]},{"op":"select","table":"Switch","where":[],"columns":["name"]}] -> [{},{"rows":[{"name":"s1"}]}]"#;
+
+#[test]
+fn a_wait_that_is_not_met_changes_nothing(rt: HostRuntime) -> Result<(), Fail> {
+    attempts_over(rt.alloc(), Faults::NONE, WAITS)
+}
+
+/// Where memory is refused to what is made ready, nothing is stored.
+const UNREADY: &str = r#"refuse
+0 [{"op":"insert","table":"Switch","row":{"name":"s1"}}] -> no memory
+0 [{"op":"select","table":"Switch","where":[],"columns":["name"]}] -> [{"rows":[]}]"#;
+
+#[test]
+fn nothing_is_stored_before_all_is_ready(rt: HostRuntime) -> Result<(), Fail> {
+    attempts_over(rt.alloc(), Faults::NONE, UNREADY)
+}
+
+/// The store has no room for the first commit, and makes the second.
+const NO_ROOM: &str =
+    r#"0 [{"op":"insert","table":"Switch","row":{"name":"s1"}}] -> exhausted [{"uuid":["uuid","00000000-0000-4000-8000-000000000002"]}] 1 {"error":"resources exhausted"}
+0 [{"op":"insert","table":"Switch","row":{"name":"s1"}}] -> kept [{"uuid":["uuid","00000000-0000-4000-8000-000000000004"]}] 1"#;
+
+#[test]
+fn a_store_without_room_keeps_nothing(rt: HostRuntime) -> Result<(), Fail> {
+    let faults = Faults {
+        is_too_large: true,
+        good: 0,
+        bad: 0,
+    };
+    attempts_over(rt.alloc(), faults, NO_ROOM)
+}
+
+/// After a failure the store is not asked any more.
+const FAILED: &str =
+    r#"0 [{"op":"insert","table":"Switch","row":{"name":"s1"}}] -> failed [{"uuid":["uuid","00000000-0000-4000-8000-000000000002"]}] 1 {"error":"I/O error"}
+0 [{"op":"insert","table":"Switch","row":{"name":"s2"}}] -> [{"uuid":["uuid","00000000-0000-4000-8000-000000000004"]},{"error":"I/O error"}]
+0 [{"op":"select","table":"Switch","where":[],"columns":["name"]}] -> [{"rows":[]}]"#;
+
+#[test]
+fn a_sealed_database_is_not_stored(rt: HostRuntime) -> Result<(), Fail> {
+    let faults = Faults {
+        is_too_large: false,
+        good: 0,
+        bad: 1,
+    };
+    attempts_over(rt.alloc(), faults, FAILED)
+}
