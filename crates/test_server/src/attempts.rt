@@ -6,38 +6,22 @@ use std::test::Fail;
 use test_support::{Counter, Faults, NetKeeper, Scripted, agrees, compact, net, net_keeper, trees};
 use uuid::Uuid;
 
-/// What follows a commit, in tests: the replies that are made ready, as texts.
+/// What follows a commit, in tests: the replies that are made ready, and how many rows are changed.
 #[derive(Drop)]
 struct Prepared {
-    alloc: Global,
     /// Whether memory is refused.
     is_refused: bool,
-    /// The results, and how many rows are changed.
-    kept: String,
-    exhausted: String,
-    failed: String,
-}
-
-impl Prepared {
-    fn keep(&mut self, changes: usize, replies: Replies) -> Result<(), Fail> {
-        let Replies {
-            kept,
-            exhausted,
-            failed,
-        } = replies;
-        let results = compact(self.alloc, &kept.into_tree())?;
-        self.exhausted = compact(self.alloc, &exhausted)?;
-        self.failed = compact(self.alloc, &failed)?;
-        self.kept = format!(in self.alloc; "{results} {changes}")?;
-        Ok(())
-    }
+    replies: Option<Replies>,
+    changes: usize,
 }
 
 impl<K: Keeper> Ready<K> for Prepared {
     ghost readies = { λ old db delta replies ready new. Unit {0} };
 
     fn ready(&mut self, _db: &Db<K>, delta: &Delta, replies: Replies) -> bool {
-        !self.is_refused && self.keep(delta.map().len(), replies).is_ok()
+        self.replies = Some(replies);
+        self.changes = delta.map().len();
+        !self.is_refused
     }
 }
 
@@ -51,20 +35,34 @@ struct Attempts<D> {
     prepared: Prepared,
 }
 
+/// What is told of a store's answer.
+fn told_stored(
+    alloc: Global,
+    answer: StoreAnswer,
+    prepared: &mut Prepared,
+) -> Result<String, Fail> {
+    let replies = prepared.replies.take().ok_or("nothing is ready")?;
+    let Replies {
+        kept,
+        exhausted,
+        failed,
+    } = replies;
+    let results = compact(alloc, &kept.into_tree())?;
+    let exhausted = compact(alloc, &exhausted)?;
+    let failed = compact(alloc, &failed)?;
+    let changes = prepared.changes;
+    match answer {
+        StoreAnswer::Kept => Ok(format!(in alloc; "kept {results} {changes}")?),
+        StoreAnswer::Exhausted => Ok(format!(in alloc; "exhausted {results} {exhausted}")?),
+        StoreAnswer::Failed => Ok(format!(in alloc; "failed {results} {failed}")?),
+    }
+}
+
 /// What is told of an attempt.
-fn told(alloc: Global, tried: Tried, prepared: &Prepared) -> Result<String, Fail> {
-    let kept = prepared.kept.as_str();
+fn told(alloc: Global, tried: Tried, prepared: &mut Prepared) -> Result<String, Fail> {
     match tried {
         Tried::Answer(results) => compact(alloc, &results.into_tree()),
-        Tried::Stored(StoreAnswer::Kept) => Ok(format!(in alloc; "kept {kept}")?),
-        Tried::Stored(StoreAnswer::Exhausted) => {
-            let exhausted = prepared.exhausted.as_str();
-            Ok(format!(in alloc; "exhausted {kept} {exhausted}")?)
-        }
-        Tried::Stored(StoreAnswer::Failed) => {
-            let failed = prepared.failed.as_str();
-            Ok(format!(in alloc; "failed {kept} {failed}")?)
-        }
+        Tried::Stored(answer) => told_stored(alloc, answer, prepared),
         Tried::Blocked(Some(timeout)) => Ok(format!(in alloc; "waits {timeout}")?),
         Tried::Blocked(None) => Ok(String::from_str(alloc, "waits")?),
         Tried::NoMemory => Ok(String::from_str(alloc, "no memory")?),
@@ -75,8 +73,15 @@ impl<D: Draws> Attempts<D> {
     fn attempt(&mut self, alloc: Global, age: u64, operations: &str) -> Result<String, Fail> {
         let txn = Txn::read(alloc, trees(alloc, operations)?, &mut self.draws)?;
         let mut tries = Tries::new();
-        let tried = attempt(alloc, &mut self.db, &txn, age, &mut tries, &mut self.prepared);
-        told(alloc, tried, &self.prepared)
+        let tried = attempt(
+            alloc,
+            &mut self.db,
+            &txn,
+            age,
+            &mut tries,
+            &mut self.prepared,
+        );
+        told(alloc, tried, &mut self.prepared)
     }
 }
 
@@ -101,11 +106,9 @@ fn attempts_with<D: Draws + Drop>(
         db: Db::open(alloc, net_keeper(alloc, faults)?, net(alloc)?)?,
         draws,
         prepared: Prepared {
-            alloc,
             is_refused: false,
-            kept: String::new(alloc),
-            exhausted: String::new(alloc),
-            failed: String::new(alloc),
+            replies: None,
+            changes: 0,
         },
     };
     agrees(alloc, attempts, script)
@@ -185,7 +188,7 @@ fn nothing_is_stored_before_all_is_ready(rt: HostRuntime) -> Result<(), Fail> {
 
 /// The store has no room for the first commit, and makes the second.
 const NO_ROOM: &str =
-    r#"0 [{"op":"insert","table":"Switch","row":{"name":"s1"}}] -> exhausted [{"uuid":["uuid","00000000-0000-4000-8000-000000000002"]}] 1 {"error":"resources exhausted"}
+    r#"0 [{"op":"insert","table":"Switch","row":{"name":"s1"}}] -> exhausted [{"uuid":["uuid","00000000-0000-4000-8000-000000000002"]}] {"error":"resources exhausted"}
 0 [{"op":"insert","table":"Switch","row":{"name":"s1"}}] -> kept [{"uuid":["uuid","00000000-0000-4000-8000-000000000004"]}] 1"#;
 
 #[test]
@@ -200,7 +203,7 @@ fn a_store_without_room_keeps_nothing(rt: HostRuntime) -> Result<(), Fail> {
 
 /// After a failure the store is not asked any more.
 const FAILED: &str =
-    r#"0 [{"op":"insert","table":"Switch","row":{"name":"s1"}}] -> failed [{"uuid":["uuid","00000000-0000-4000-8000-000000000002"]}] 1 {"error":"I/O error"}
+    r#"0 [{"op":"insert","table":"Switch","row":{"name":"s1"}}] -> failed [{"uuid":["uuid","00000000-0000-4000-8000-000000000002"]}] {"error":"I/O error"}
 0 [{"op":"insert","table":"Switch","row":{"name":"s2"}}] -> [{"uuid":["uuid","00000000-0000-4000-8000-000000000004"]},{"error":"I/O error"}]
 0 [{"op":"select","table":"Switch","where":[],"columns":["name"]}] -> [{"rows":[]}]"#;
 
