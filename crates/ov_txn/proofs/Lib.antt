@@ -1,4 +1,5 @@
 pub mod Drawing
 pub mod Pushing
 pub mod Performing
+pub mod Ending
 pub mod Suiting
