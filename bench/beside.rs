@@ -5,15 +5,13 @@
 //! compared take turns in one run. Plain Rust, std only; `bench/run` builds and starts it.
 
 mod systems;
+mod turns;
 
 use std::collections::BTreeSet;
-use std::path::Path;
 use std::process::ExitCode;
 use std::time::{Duration, Instant};
-use systems::{Exchange, Folder, Measured, Outcome, Server, System, Systems, inserts, say, search, transact};
-
-/// What is compared. The peer writes a file without a sync, since it has no database in memory alone.
-const SYSTEMS: [System; 2] = [System::Memory, System::Peer];
+use systems::{Exchange, Measured, Outcome, Server, inserts, say, search, transact};
+use turns::Bench;
 
 /// The size of a piece, in bytes: what the server reads at once.
 const PIECE: usize = 4_096;
@@ -70,55 +68,7 @@ fn select_all(server: &mut Server, rows: usize) -> Outcome<Duration> {
     if all && names.len() == rows { Ok(time) } else { Err(format!("a wrong select of {}", server.system.name())) }
 }
 
-/// The driver: the systems that are there, where the peer's files lie, and the time for one figure of a system.
-struct Bench<'a> {
-    systems: Systems,
-    above: &'a Path,
-    limit: Duration,
-}
-
-impl Bench<'_> {
-    /// Measures one figure: a turn of each system after the other, until the time is over. It gives what was measured of each.
-    fn in_turns(
-        &self,
-        rows: usize,
-        mut turn: impl FnMut(&mut Server, &mut Measured) -> Outcome<()>,
-    ) -> Outcome<Vec<(System, Measured)>> {
-        let folder = Folder::make(self.above)?;
-        let present = self.systems.present(&SYSTEMS);
-        let mut servers = self.systems.filled(&present, &folder.0, rows)?;
-        let mut all: Vec<(System, Measured)> = present.into_iter().map(|system| (system, Measured::default())).collect();
-        while all.iter().any(|(_, measured)| measured.whole < self.limit) {
-            servers.iter_mut().zip(&mut all).try_for_each(|(server, (_, measured))| turn(server, measured))?;
-        }
-        servers.into_iter().try_for_each(Server::finish)?;
-        Ok(all)
-    }
-
-    /// Prints how many a second each system answered, and the ratio.
-    fn say_rates(&self, name: &str, all: &[(System, Measured)]) -> Outcome<()> {
-        for (system, measured) in all {
-            let (rate, median) = (measured.rate(), measured.median());
-            say(&format!("{name}, {}", system.name()), format!("{rate:>9.0} per second  {median:>11.1} us median"))?;
-        }
-        if let [(_, ours), (_, peer)] = all {
-            say(&format!("{name}, ours / peer"), format!("{:>9.2} times as many", ours.rate() / peer.rate()))?;
-        }
-        Ok(())
-    }
-
-    /// Prints the medians of each system, and the ratio. It gives ours.
-    fn say_medians(&self, name: &str, all: &[(System, Measured)]) -> Outcome<f64> {
-        for (system, measured) in all {
-            let value = format!("{:>11.1} us median  {:>6} requests", measured.median(), measured.times.len());
-            say(&format!("{name}, {}", system.name()), value)?;
-        }
-        if let [(_, ours), (_, peer)] = all {
-            say(&format!("{name}, ours / peer"), format!("{:>9.2} times as long", ours.median() / peer.median()))?;
-        }
-        Ok(all.first().map_or(0.0, |(_, measured)| measured.median()))
-    }
-
+impl Bench {
     fn small_echoes(&self, depth: usize) -> Outcome<()> {
         let mut id = 0;
         let mut next = move |_: &mut Server| {
@@ -138,8 +88,8 @@ impl Bench<'_> {
 
     /// The resident memory after ever more small echoes.
     fn memory(&self) -> Outcome<()> {
-        let folder = Folder::make(self.above)?;
-        let mut servers = self.systems.filled(&self.systems.present(&SYSTEMS), &folder.0, 0)?;
+        let folder = self.folder()?;
+        let mut servers = self.started(&folder, 0)?;
         for server in &mut servers {
             let mut sent = 0;
             for count in ECHOES_BEFORE_A_LOOK {
@@ -210,21 +160,5 @@ impl Bench<'_> {
 }
 
 fn main() -> ExitCode {
-    let words: Vec<String> = std::env::args().skip(1).collect();
-    let seconds = words.get(1).map_or(Ok(4.0), |word| word.parse::<f64>());
-    let (Some(program), Ok(seconds), 1..=4) = (words.first(), seconds, words.len()) else {
-        eprintln!("beside PROGRAM [SECONDS [ROOT-OF-THE-PEER [FOLDER-FOR-FILES]]]");
-        return ExitCode::from(2);
-    };
-    let root = words.get(2).map_or("/", String::as_str);
-    let above = Path::new(words.get(3).map_or(".", String::as_str));
-    let limit = Duration::from_secs_f64(seconds.clamp(0.1, 60.0));
-    let done = Systems::find(program, Path::new(root)).and_then(|systems| Bench { systems, above, limit }.figures());
-    match done {
-        Ok(()) => ExitCode::SUCCESS,
-        Err(why) => {
-            eprintln!("beside: {why}");
-            ExitCode::FAILURE
-        }
-    }
+    turns::run("beside", Bench::figures)
 }

@@ -22,6 +22,9 @@ const SCHEMA: &str = r#"{"name":"Net","tables":{"Port":{"columns":{"name":{"type
 /// Stands in a wanted reply for each byte of an identifier that the server draws.
 const DRAWN: u8 = 0;
 
+/// How many bytes an identifier has.
+const IDENTIFIER: usize = 36;
+
 /// How many rows one transaction inserts while a table is filled: some 80 KB of text.
 const FILLED_AT_ONCE: usize = 1_000;
 
@@ -98,7 +101,7 @@ pub fn inserts(system: System, first: u64, rows: usize) -> Exchange {
         .take(rows)
         .map(|n| format!(",{{\"op\":\"insert\",\"table\":\"Switch\",\"row\":{{\"load\":{n},\"name\":\"switch {n}\"}}}}"))
         .collect();
-    let drawn = String::from(char::from(DRAWN)).repeat(36);
+    let drawn = String::from(char::from(DRAWN)).repeat(IDENTIFIER);
     let mut results = vec![format!("{{\"uuid\":[\"uuid\",\"{drawn}\"]}}"); rows];
     if system == System::DurablePeer {
         operations.push_str(",{\"op\":\"commit\",\"durable\":true}");
@@ -122,6 +125,12 @@ fn is_wanted(seen: &[u8], wanted: &[u8]) -> bool {
 
 /// A process that is killed where it has not ended.
 struct Process(Child);
+
+impl Process {
+    fn has_ended(&mut self) -> bool {
+        !matches!(self.0.try_wait(), Ok(None))
+    }
+}
 
 impl Drop for Process {
     fn drop(&mut self) {
@@ -152,42 +161,54 @@ impl Server {
         self.input.write_all(text.as_bytes()).map_err(|e| format!("a write to the server: {e}"))
     }
 
-    /// Reads until so many bytes are there that nobody has compared.
-    fn read(&mut self, length: usize) -> Outcome<()> {
-        while self.unread.len() < length {
-            let n = self.output.read(&mut self.chunk).map_err(|e| format!("a read from the server: {e}"))?;
-            if n == 0 {
-                let name = self.system.name();
-                return Err(format!("{name} ended its output after {}", String::from_utf8_lossy(&self.unread)));
-            }
-            self.unread.extend_from_slice(&self.chunk[..n]);
+    /// Waits for bytes, and puts them behind those that nobody has compared.
+    fn read(&mut self) -> Outcome<()> {
+        let n = self.output.read(&mut self.chunk).map_err(|e| format!("a read from the server: {e}"))?;
+        if n == 0 {
+            let name = self.system.name();
+            return Err(format!("{name} ended its output after {}", String::from_utf8_lossy(&self.unread)));
         }
+        self.unread.extend_from_slice(&self.chunk[..n]);
         Ok(())
     }
 
     /// Reads as many bytes as the wanted reply has, and gives them.
     pub fn take(&mut self, exchange: &Exchange) -> Outcome<String> {
         let length = exchange.reply(self.order).len();
-        self.read(length)?;
+        while self.unread.len() < length {
+            self.read()?;
+        }
         String::from_utf8(self.unread.drain(..length).collect()).map_err(|e| format!("a reply: {e}"))
     }
 
     /// Reads until the wanted reply is whole, and compares it.
     pub fn receive(&mut self, exchange: &Exchange) -> Outcome<()> {
-        self.receive_in(exchange, &[self.order]).map(drop)
+        let (_, length) = self.wait(exchange, &[self.order])?;
+        self.unread.drain(..length);
+        Ok(())
     }
 
-    /// Reads until the wanted reply is whole, and compares it in each of these orders. It gives the one that fits.
-    fn receive_in(&mut self, exchange: &Exchange, orders: &[Order]) -> Outcome<Order> {
+    /// Reads until the wanted reply is whole, and compares it in each of these orders. It gives the one that fits, and how many
+    /// bytes the reply has, which stay unread.
+    fn wait(&mut self, exchange: &Exchange, orders: &[Order]) -> Outcome<(Order, usize)> {
         let length = exchange.reply(self.order).len();
-        self.read(length)?;
-        let seen = &self.unread[..length];
-        let Some(order) = orders.iter().find(|&&order| is_wanted(seen, &exchange.reply(order))) else {
-            let seen = String::from_utf8_lossy(&seen[..length.min(300)]);
-            return Err(format!("a wrong reply of {}: {seen}", self.system.name()));
-        };
-        self.unread.drain(..length);
-        Ok(*order)
+        while self.unread.len() < length {
+            // Where a wrong reply is shorter than the wanted one, nothing comes behind it.
+            if self.unread.ends_with(b"}") {
+                self.fitting(&self.unread, exchange, orders)?;
+            }
+            self.read()?;
+        }
+        Ok((self.fitting(&self.unread[..length], exchange, orders)?, length))
+    }
+
+    /// The order in which the wanted reply begins with these bytes.
+    fn fitting(&self, seen: &[u8], exchange: &Exchange, orders: &[Order]) -> Outcome<Order> {
+        let order = orders.iter().find(|&&order| is_wanted(seen, &exchange.reply(order)));
+        order.copied().ok_or_else(|| {
+            let seen = String::from_utf8_lossy(&seen[..seen.len().min(300)]);
+            format!("a wrong reply of {}: {seen}", self.system.name())
+        })
     }
 
     /// Sends a request whole before it reads the reply: a server answers a message only when it has all of it.
@@ -196,11 +217,34 @@ impl Server {
         self.receive(exchange)
     }
 
+    /// Asks, and gives the identifiers of the reply.
+    pub fn ask_for_identifiers(&mut self, exchange: &Exchange) -> Outcome<Vec<String>> {
+        self.send(&exchange.request)?;
+        let (_, length) = self.wait(exchange, &[self.order])?;
+        let reply: Vec<u8> = self.unread.drain(..length).collect();
+        let parts = reply.split(|&byte| byte == b'"').filter(|part| part.len() == IDENTIFIER);
+        Ok(parts.map(|part| String::from_utf8_lossy(part).into_owned()).collect())
+    }
+
+    /// Asks, and tells whether the reply is the wanted one; a transaction whose one operation is unknown to the server
+    /// (RFC 7047, 4.1.3) has another.
+    pub fn ask_if_known(&mut self, exchange: &Exchange) -> Outcome<bool> {
+        self.send(&exchange.request)?;
+        if self.receive(exchange).is_ok() {
+            return Ok(true);
+        }
+        let unknown = "[{\"error\":\"unknown operation\"}]";
+        self.receive(&transact(exchange.id, "", unknown.into()))?;
+        Ok(false)
+    }
+
     /// The first request: its reply tells the order of the members of all others.
     pub fn greet(&mut self) -> Outcome<()> {
         let exchange = list_dbs(self.system);
         self.send(&exchange.request)?;
-        self.order = self.receive_in(&exchange, self.system.orders())?;
+        let (order, length) = self.wait(&exchange, self.system.orders())?;
+        self.unread.drain(..length);
+        self.order = order;
         Ok(())
     }
 
@@ -296,20 +340,22 @@ impl Peer {
             .stdout(Stdio::null())
             .spawn()
             .map_err(|e| format!("ovsdb-server: {e}"))?;
-        let process = Process(child);
-        let stream = connect(&socket)?;
+        let mut process = Process(child);
+        let stream = connect(&socket, &mut process)?;
         let input = stream.try_clone().map_err(|e| format!("the peer's socket: {e}"))?;
         Ok(Server::new(system, process, Box::new(input), Box::new(stream)))
     }
 }
 
-/// Tries until a socket takes a connection.
-fn connect(socket: &Path) -> Outcome<UnixStream> {
+/// Tries until the socket of a process takes a connection.
+fn connect(socket: &Path, process: &mut Process) -> Outcome<UnixStream> {
     let begin = Instant::now();
     loop {
         match UnixStream::connect(socket) {
             Ok(stream) => return Ok(stream),
-            Err(error) if begin.elapsed() > LONGEST_START => return Err(format!("the peer's socket: {error}")),
+            Err(error) if begin.elapsed() > LONGEST_START || process.has_ended() => {
+                return Err(format!("the peer's socket: {error}"));
+            }
             Err(_) => std::thread::sleep(Duration::from_micros(100)),
         }
     }

@@ -1,0 +1,110 @@
+//! What the drivers share that measure the server in memory beside the peer: how the two take turns, how what was measured is
+//! printed, and how a driver is started.
+//!
+//! Plain Rust, std only.
+
+// Each driver uses some of it.
+#![allow(dead_code)]
+
+use crate::systems::{Folder, Measured, Outcome, Server, System, Systems, say};
+use std::path::{Path, PathBuf};
+use std::process::ExitCode;
+use std::time::Duration;
+
+/// What is compared. The peer writes a file without a sync, since it has no database in memory alone.
+const SYSTEMS: [System; 2] = [System::Memory, System::Peer];
+
+/// The driver: the systems that are there, where the peer's files lie, and the time for one figure of a system.
+pub struct Bench {
+    systems: Systems,
+    above: PathBuf,
+    limit: Duration,
+}
+
+impl Bench {
+    /// A new folder for the peer's files.
+    pub fn folder(&self) -> Outcome<Folder> {
+        Folder::make(&self.above)
+    }
+
+    /// The systems, started anew in a folder, each with a table of so many rows.
+    pub fn started(&self, folder: &Folder, rows: usize) -> Outcome<Vec<Server>> {
+        self.systems.filled(&self.systems.present(&SYSTEMS), &folder.0, rows)
+    }
+
+    /// A turn of each of these after the other, until the time of all is over. It gives what was measured of each.
+    pub fn take_turns<S>(
+        &self,
+        all: &mut [S],
+        mut turn: impl FnMut(&mut S, &mut Measured) -> Outcome<()>,
+    ) -> Outcome<Vec<Measured>> {
+        let mut measured: Vec<Measured> = all.iter().map(|_| Measured::default()).collect();
+        while measured.iter().any(|measured| measured.whole < self.limit) {
+            all.iter_mut().zip(&mut measured).try_for_each(|(one, measured)| turn(one, measured))?;
+        }
+        Ok(measured)
+    }
+
+    /// Measures one figure: the systems are started anew and take turns. It gives what was measured of each.
+    pub fn in_turns(
+        &self,
+        rows: usize,
+        turn: impl FnMut(&mut Server, &mut Measured) -> Outcome<()>,
+    ) -> Outcome<Vec<(System, Measured)>> {
+        let folder = self.folder()?;
+        let mut servers = self.started(&folder, rows)?;
+        let measured = self.take_turns(&mut servers, turn)?;
+        let systems: Vec<System> = servers.iter().map(|server| server.system).collect();
+        servers.into_iter().try_for_each(Server::finish)?;
+        Ok(systems.into_iter().zip(measured).collect())
+    }
+
+    /// Prints how many a second each system answered, and the ratio.
+    pub fn say_rates(&self, name: &str, all: &[(System, Measured)]) -> Outcome<()> {
+        for (system, measured) in all {
+            let (rate, median) = (measured.rate(), measured.median());
+            say(&format!("{name}, {}", system.name()), format!("{rate:>9.0} per second  {median:>11.1} us median"))?;
+        }
+        if let [(_, ours), (_, peer)] = all {
+            say(&format!("{name}, ours / peer"), format!("{:>9.2} times as many", ours.rate() / peer.rate()))?;
+        }
+        Ok(())
+    }
+
+    /// Prints the medians of each system, and the ratio. It gives ours.
+    pub fn say_medians(&self, name: &str, all: &[(System, Measured)]) -> Outcome<f64> {
+        for (system, measured) in all {
+            let value = format!("{:>11.1} us median  {:>6} requests", measured.median(), measured.times.len());
+            say(&format!("{name}, {}", system.name()), value)?;
+        }
+        if let [(_, ours), (_, peer)] = all {
+            say(&format!("{name}, ours / peer"), format!("{:>9.2} times as long", ours.median() / peer.median()))?;
+        }
+        Ok(all.first().map_or(0.0, |(_, measured)| measured.median()))
+    }
+}
+
+/// Looks for the systems. The peer takes a path of its own folder for the current one, so that of the files must be absolute.
+fn start(program: &str, seconds: f64, root: &Path, above: &Path) -> Outcome<Bench> {
+    let above = above.canonicalize().map_err(|e| format!("the folder for the files: {e}"))?;
+    Ok(Bench { systems: Systems::find(program, root)?, above, limit: Duration::from_secs_f64(seconds.clamp(0.1, 60.0)) })
+}
+
+/// Starts a driver over the program that the arguments name.
+pub fn run(driver: &str, figures: impl FnOnce(&Bench) -> Outcome<()>) -> ExitCode {
+    let words: Vec<String> = std::env::args().skip(1).collect();
+    let seconds = words.get(1).map_or(Ok(4.0), |word| word.parse::<f64>());
+    let (Some(program), Ok(seconds), 1..=4) = (words.first(), seconds, words.len()) else {
+        eprintln!("{driver} PROGRAM [SECONDS [ROOT-OF-THE-PEER [FOLDER-FOR-FILES]]]");
+        return ExitCode::from(2);
+    };
+    let root = words.get(2).map_or("/", String::as_str);
+    let above = words.get(3).map_or(".", String::as_str);
+    match start(program, seconds, Path::new(root), Path::new(above)).and_then(|bench| figures(&bench)) {
+        Ok(()) => ExitCode::SUCCESS,
+        Err(why) => {
+            eprintln!("{driver}: {why}");
+            ExitCode::FAILURE
+        }
+    }
+}
