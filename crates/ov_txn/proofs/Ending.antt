@@ -1,5 +1,5 @@
 -- How the operations of a transaction end: what is to be changed.
-use Rattle.std.proofs.Common.{◌≡◌, ◌==◌, List, sym, ap, subst, ◌∙◌}
+use Rattle.std.proofs.Common.{◌≡◌, ◌==◌, sym, ap, subst, ◌∙◌}
 use Rattle.std.specs.FinMap.{empty, len}
 use Rattle.serde_json.specs.Data.{Items}
 use Rattle.ov_db.specs.Changing.{Delta, applied}

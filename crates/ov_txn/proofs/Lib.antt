@@ -3,3 +3,4 @@ pub mod Pushing
 pub mod Performing
 pub mod Ending
 pub mod Suiting
+pub mod Storing

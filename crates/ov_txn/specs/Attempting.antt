@@ -7,10 +7,10 @@ use Rattle.ov_db.specs.KeptDatabase.{KeptDatabase}
 use Rattle.ov_db.specs.declared.answer.StoreAnswer.TheVariants as store
 use Rattle.ov_keeper.specs.Keeping.{HasFailed}
 use Rattle.ov_specs.specs.operations.Transaction.{TransactionOutcome, Completes, Waits, failed_results}
-use Rattle.ov_specs.specs.rows.Database.{Database, same_database}
+use Rattle.ov_specs.specs.rows.Database.{same_database}
 use Rattle.ov_txn.specs.Replying.{replies_with}
-use Rattle.ov_txn.specs.declared.attempt.Tried.{Tried}
-use Rattle.ov_txn.specs.declared.attempt.Tried.TheVariants.{Answer, Stored, Blocked, NoMemory}
+use Rattle.ov_txn.specs.declared.tried.Tried.{Tried}
+use Rattle.ov_txn.specs.declared.tried.Tried.TheVariants.{Answer, Stored, Blocked, NoMemory}
 use Rattle.ov_txn.specs.declared.ready.Replies.{Replies}
 
 -- what makes ready, by its state before, the database, its changes, the replies, whether all is ready, and its state after

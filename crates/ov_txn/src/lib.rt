@@ -2,16 +2,16 @@
 //! What names no source is our own.
 #![tactic(auto)]
 
-mod attempt;
 mod draws;
 mod perform;
 mod ready;
 mod results;
+mod tried;
 mod tries;
 mod txn;
 
-pub use attempt::{Tried, attempt};
 pub use draws::Draws;
 pub use ready::{Ready, Replies};
+pub use tried::{Tried, attempt};
 pub use tries::Tries;
 pub use txn::Txn;

@@ -3,6 +3,7 @@ ghost use Rattle.serde_json.specs.Data.{Items};
 ghost use Rattle.ov_db.specs.Changing.{Delta as Changes};
 ghost use Rattle.ov_db.specs.KeptDatabase.{KeptDatabase};
 ghost use Rattle.ov_txn.specs.Replying.{replies_with};
+ghost use Rattle.ov_txn.specs.declared.ready.Replies.{Replies as Prepared};
 
 use crate::results::{Results, error_tree};
 use ov_base::{Tree, Trees};
@@ -40,7 +41,7 @@ impl Replies {
 /// What makes everything ready that has to follow a commit, so that nothing takes memory behind it.
 pub trait Ready<K: Keeper> {
     /// The state before, the database, its changes, the replies, whether all is ready, and the state after.
-    ghost readies: { Self → KeptDatabase K → Changes → Replies → Bool → Self → Type 0 };
+    ghost readies: { Self → KeptDatabase K → Changes → Prepared → Bool → Self → Type 0 };
 
     /// Makes ready what follows the store's answer on these changes of the database. False where memory is refused.
     fn ready(&mut self, db: &Db<K>, delta: &Delta, replies: Replies) -> bool

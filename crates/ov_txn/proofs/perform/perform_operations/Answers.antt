@@ -1,0 +1,57 @@
+use Rattle.std.proofs.Common.{◌≡◌, ◌∙◌, ◌<◌, ◌+◌, length, drop, sym, ap, arith}
+use Rattle.std.proofs.lemmas.List.{drop_all}
+use Rattle.serde_json.specs.View.{view, items_view}
+use Rattle.ov_specs.specs.operations.Errors.{error_tree}
+use Rattle.ov_specs.specs.operations.Operation.{outcome_of}
+use Rattle.ov_specs.specs.operations.OpOutcome.{OpContext, Done, Fault}
+use Rattle.ov_specs.specs.operations.Transaction.{TransactionOutcome, Completes, transaction, and_item}
+use Rattle.ov_specs.specs.rows.Database.{Database}
+use Rattle.ov_stage.specs.Errors.{error_view}
+use Rattle.ov_txn.specs.Results.{nulls_after}
+use Rattle.ov_txn.proofs.Ending.{completed, unchanged}
+use Rattle.ov_txn.proofs.Performing.{items_at, at_does, at_fails, at_end}
+use Rattle.ov_txn.proofs.perform.perform_operations.Goals as goal
+
+pub returns-in-Fault : goal.returns-in-Fault
+returns-in-Fault c =
+    let before = c.args.rows.now in
+    let rows = c.loop-place.stage.now in
+    let trees = c.as_slice-operations.result.now in
+    let i = c.loop-place.place in
+    let within : i < length trees = c.loop-place-test.true in
+    let tree = c.index-operations-place.result in
+    let context : Database → OpContext = λ db. record { schema = c.args.schema.now; before = db; version = c.in-Some.version.now; ids = c.in_ok-inserts.inserts.ids; operations = c.in_ok-inserts.inserts.operations; age = c.args.age } in
+    let error = error_view c.in-Fault.error in
+    let all : TransactionOutcome = transaction c.args.schema.now before c.args.txn.now.draws c.args.age c.args.txn.now.operations in
+    let fails : outcome_of (context before) i rows (view tree) ≡ Fault error = ap (λ (db : Database). outcome_of (context db) i rows (view tree)) (sym c.loop-place.invariant.before) ∙ c.in-Fault.ensures.done in
+    let ends = at_fails (context before) all i rows (items_view (drop i trees)) c.loop-place.results c.loop-place.invariant.going (view tree) error (items_view (drop (i + 1) trees)) (items_at trees i tree within c.index-operations-place.is) fails in
+    let given = c.in_ok-results-in-Fault.ensures ∙ ap (λ vs. nulls_after (and_item c.loop-place.results (error_tree error)) (items_view vs)) c.split_at.ensures.back in
+    unchanged all before c.in_ok-results-in-Fault.results c.new-in-Fault.result c.new-in-Fault.ensures (ends ∙ ap (λ rs. Completes rs before) (sym given))
+
+pub loop-place-preserved : goal.loop-place-preserved
+loop-place-preserved c =
+    let before = c.args.rows.now in
+    let rows = c.loop-place.stage.now in
+    let trees = c.as_slice-operations.result.now in
+    let i = c.loop-place.place in
+    let within : i < length trees = c.loop-place-test.true in
+    let tree = c.index-operations-place.result in
+    let context : Database → OpContext = λ db. record { schema = c.args.schema.now; before = db; version = c.in-Some.version.now; ids = c.in_ok-inserts.inserts.ids; operations = c.in_ok-inserts.inserts.operations; age = c.args.age } in
+    let all : TransactionOutcome = transaction c.args.schema.now before c.args.txn.now.draws c.args.age c.args.txn.now.operations in
+    let does : outcome_of (context before) i rows (view tree) ≡ Done c.in-Done.result c.run_op.new.stage.now =
+    ap (λ (db : Database). outcome_of (context db) i rows (view tree)) (sym c.loop-place.invariant.before) ∙ c.in-Done.ensures.done in
+    record {
+      going = rw c.in_ok-push-in-Done.ensures (at_does (context before) all i rows (items_view (drop i trees)) c.loop-place.results c.loop-place.invariant.going (view tree) c.in-Done.result (items_view (drop (i + 1) trees)) c.run_op.new.stage.now
+          (items_at trees i tree within c.index-operations-place.is) does);
+      before = c.in-Done.ensures.frame ∙ c.loop-place.invariant.before;
+    }
+
+pub returns : goal.returns
+returns c =
+    let before = c.args.rows.now in
+    let trees = c.as_slice-operations.result.now in
+    let i = c.loop-place.place in
+    let context : OpContext = record { schema = c.args.schema.now; before = before; version = c.in-Some.version.now; ids = c.in_ok-inserts.inserts.ids; operations = c.in_ok-inserts.inserts.operations; age = c.args.age } in
+    let all : TransactionOutcome = transaction c.args.schema.now before c.args.txn.now.draws c.args.age c.args.txn.now.operations in
+    let ends = at_end context all i c.loop-place.stage.now (items_view (drop i trees)) c.loop-place.results c.loop-place.invariant.going (ap items_view (drop_all i trees (omega arith))) in
+    completed all c.loop-place.stage.before c.loop-place.stage.now before c.loop-place.results c.into_delta-2.result c.loop-place.invariant.before c.into_delta-2.ensures.made c.into_delta-2.ensures.least ends
