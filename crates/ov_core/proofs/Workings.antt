@@ -1,11 +1,11 @@
 -- What comes of the work on a message.
-use Rattle.std.proofs.Common.{◌≡◌, ℕ, List, [], length, map, refl, sym, ap, ◌∙◌, true, false, Option, Some, None, arith, inl, inr}
-use Rattle.std.specs.Prelude.{option_to_list, is_some}
+use Rattle.std.proofs.Common.{◌≡◌, ℕ, List, [], length, map, refl, sym, ap, ◌∙◌, false, Option, Some, None, arith, inl, inr}
+use Rattle.std.specs.Prelude.{option_to_list}
 use Rattle.std.proofs.lemmas.List.{append-nil}
 use Rattle.std.proofs.lemmas.Bool.{eq-eqb, le-leb}
 use Rattle.serde_json.specs.Data.{Data, Items}
 use Rattle.serde_json.specs.Written.{compact_text}
-use Rattle.ov_specs.specs.rows.Database.{Database, same_database}
+use Rattle.ov_specs.specs.rows.Database.{same_database}
 use Rattle.ov_specs.specs.wire.Frame.{frame}
 use Rattle.ov_specs.specs.rows.Lines.{Contents}
 use Rattle.ov_specs.specs.machine.Machine as machine
@@ -18,11 +18,13 @@ use Rattle.ov_db.specs.Changing.{Delta, applied}
 use Rattle.ov_db.specs.KeptDatabase.{KeptDatabase}
 use Rattle.ov_db.specs.declared.answer.StoreAnswer.{StoreAnswer}
 use Rattle.ov_db.specs.declared.answer.StoreAnswer.TheVariants as store
-use Rattle.ov_txn.specs.Attempting.{IsAnswer}
+use Rattle.ov_txn.specs.Attempting.{IsAnswer, HasCause}
+use Rattle.ov_txn.specs.declared.tried.Tried.TheVariants.{Stored}
 use Rattle.ov_core.specs.declared.answer.Work.TheVariants as kinds
 use Rattle.ov_core.specs.declared.event.Outcome.{Outcome}
 use Rattle.ov_core.specs.declared.event.Outcome.TheVariants as outcome
 use Rattle.ov_core.specs.Leaving.{LeavesItsOwn}
+use Rattle.ov_core.specs.Preparing.{outcome_after, results_after}
 use Rattle.ov_core.specs.Outbox.{WaitingFrames, waiting_for, PostsSent, HasSameFrames}
 use Rattle.ov_core.specs.Handling.{AsksStore, IsWork, PostsIfRoom, with_db, closed_if_no_memory, listed_first, IsMachineStep, IsAttempt}
 
@@ -82,18 +84,6 @@ waiting n id draws operations timeout old o waited waits is posts = answered n i
 
 -- ---- a commit
 
--- the outcome that an answer of the store is
-abbrev pub outcome_after : StoreAnswer → Outcome
-outcome_after store.Kept = outcome.Kept
-outcome_after store.Exhausted = outcome.Exhausted
-outcome_after store.Failed = outcome.Failed
-
--- the results that are sent behind it
-abbrev pub results_after : StoreAnswer → Items → Items
-results_after store.Kept results = results
-results_after store.Exhausted results = exhausted_results results
-results_after store.Failed results = failed_results results
-
 -- a transaction whose changes the store was asked to keep
 module _ {K : Type 0} (n : ℕ) (id : Data) (draws : List Uuid) (operations results : Items) (old new : KeptDatabase K) (delta : Delta) (waited waits : WaitingFrames)
     (is : outcome_on old draws operations ≡ Completes results (applied delta old.committed)) (other : same_database old.committed (applied delta old.committed) ≡ false) (unsealed : old.sealed ≡ None) where
@@ -117,6 +107,12 @@ module _ {K : Type 0} (n : ℕ) (id : Data) (draws : List Uuid) (operations resu
       let sealed : new.sealed ≡ Some (applied delta old.committed) = ap (λ (k : KeptDatabase K). k.sealed) made in
       sends n (λ s. attempt s n id (transaction s.schema s.database draws 0 operations) (Some machine.Failed)) old new (Some outcome.Failed) waited waits (results_to n id (failed_results results))
       (λ s. rw is (rw (other, unsealed, schema, database, sealed) refl)) posts
+
+-- what the store's answer leaves of the database
+pub asks_stored : {K : Type 0} (failed : K → ℕ) (delta : Delta) (old new : KeptDatabase K) (answer : StoreAnswer) → HasCause failed (Stored answer) old new → Commits delta old answer new → AsksStore failed (Some (outcome_after answer)) old new
+asks_stored {K} failed delta old new store.Kept cause made = ap (λ (k : KeptDatabase K). k.sealed) made
+asks_stored {K} failed delta old new store.Exhausted cause made = ap (λ (k : KeptDatabase K). k.sealed) made
+asks_stored failed delta old new store.Failed cause made = cause
 
 -- ---- any work
 

@@ -5,13 +5,10 @@ use Rattle.serde_json.specs.Data.{Data, Items}
 use Rattle.ov_specs.specs.wire.Frame.{frame}
 use Rattle.ov_specs.specs.machine.Machine as machine
 use Rattle.ov_specs.specs.machine.Machine.{State, Sent, Stepped, Work, Answers, Transact, works, attempt, closed, without_session, results_to}
-use Rattle.ov_specs.specs.operations.Transaction.{transaction, exhausted_results, failed_results}
+use Rattle.ov_specs.specs.operations.Transaction.{transaction}
 use Rattle.ov_specs.specs.values.Uuid.{Uuid}
-use Rattle.ov_db.specs.Changing.{Delta}
-use Rattle.ov_db.specs.Committing as db
 use Rattle.ov_db.specs.KeptDatabase.{KeptDatabase}
 use Rattle.ov_keeper.specs.Keeping.{HasFailed}
-use Rattle.ov_db.specs.declared.answer.StoreAnswer.TheVariants as store
 use Rattle.ov_core.specs.Entries.{outcome_view}
 use Rattle.ov_core.specs.Outbox.{WaitingFrames, PostsSent, HasSameFrames}
 use Rattle.ov_core.specs.declared.answer.Work as code

@@ -1,7 +1,9 @@
-ghost use Rattle.std.specs.Prelude.{◌≡◌, ◌≤◌, codes, IfOk};
+ghost use Rattle.std.specs.Prelude.{◌≡◌, ◌≤◌, ℕ, List, codes, IfOk};
 ghost use Rattle.ov_specs.specs.machine.Machine.{results_to, refusal_to};
 ghost use Rattle.ov_specs.specs.wire.Frame.{frame, failure_tree};
 ghost use Rattle.ov_core.specs.Handling.{AsksStore, IsAttempt, PostsIfRoom};
+ghost use Rattle.ov_core.specs.Outbox.{WaitingFrames, PostsFrame};
+ghost use Rattle.ov_core.specs.Preparing.{outcome_after, frame_after};
 
 use crate::event::Outcome;
 use crate::frames::reply_of;
@@ -42,17 +44,34 @@ pub(crate) fn try_arrived<K: Keeper + Drop>(
     *outbox = waiting;
     match tried {
         Tried::Answer(results) => answer(alloc, outbox, session, id, results),
-        Tried::Stored(StoreAnswer::Kept) => Some(Outcome::Kept),
-        Tried::Stored(StoreAnswer::Exhausted) => {
-            outbox.replace_newest(session, exhausted);
-            Some(Outcome::Exhausted)
-        }
-        Tried::Stored(StoreAnswer::Failed) => {
-            outbox.replace_newest(session, failed);
-            Some(Outcome::Failed)
-        }
+        Tried::Stored(answer) => Some(settle(outbox, session, answer, exhausted, failed)),
         Tried::Blocked(_) => refuse(alloc, outbox, session, id),
         Tried::NoMemory => Some(Outcome::NoMemory),
+    }
+}
+
+/// Where the store did not keep the changes, puts the frame for its answer in place of that for a commit that is kept. It takes no
+/// memory.
+fn settle(
+    outbox: &mut Outbox,
+    session: u64,
+    answer: StoreAnswer,
+    exhausted: Bytes,
+    failed: Bytes,
+) -> Outcome
+    ensures outcome { result ≡ outcome_after answer }
+    ensures posts { (before : WaitingFrames) (kept : List ℕ) → PostsFrame session kept before outbox.old → PostsFrame session (frame_after answer kept exhausted failed) before outbox.new }
+{
+    match answer {
+        StoreAnswer::Kept => Outcome::Kept,
+        StoreAnswer::Exhausted => {
+            outbox.replace_newest(session, exhausted);
+            Outcome::Exhausted
+        }
+        StoreAnswer::Failed => {
+            outbox.replace_newest(session, failed);
+            Outcome::Failed
+        }
     }
 }
 

@@ -26,7 +26,7 @@ impl<'a> Replying<'a> {
     /// Nothing is ready yet. This takes no memory.
     pub fn new(alloc: Global, session: u64, id: &'a Tree, outbox: Outbox) -> Replying<'a>
         ensures session { result.session ≡ session }
-        ensures id { result.id ≡ id }
+        ensures id { result.id.now ≡ id.now }
         ensures outbox { result.outbox ≡ outbox }
     {
         Replying {

@@ -1,16 +1,12 @@
-use Rattle.std.proofs.Common.{ap, ◌∙◌}
-use Rattle.serde_json.specs.Data.{Data, array}
-use Rattle.ov_specs.specs.wire.Frame.{frame, reply_tree}
-use Rattle.ov_specs.specs.operations.Transaction.{and_item}
 use Rattle.ov_core.proofs.Framing.{is_nothing}
 use Rattle.ov_core.proofs.frames.Frames.new.Goals as goal
 
 pub returns : goal.returns
 returns c =
-    let first = is_nothing c.is_empty-is_first.result c.as_slice.result.now c.args.results c.is_empty-is_first.ensures c.as_slice.ensures.same in
-    let form = λ (error : Data). frame (reply_tree c.args.id.now (array (and_item c.args.results error))) in
+    let results = c.args.replies.kept in
+    let first = is_nothing c.is_empty-is_first.result c.as_slice.result.now results c.is_empty-is_first.ensures c.as_slice.ensures.same in
     record {
       kept = c.in_ok-kept.ensures;
-      exhausted = c.in_ok-exhausted-2.ensures c.args.id.now c.args.results c.in_ok-kept.ensures first ∙ ap form c.in_ok-exhausted.ensures;
-      failed = c.in_ok-failed-2.ensures c.args.id.now c.args.results c.in_ok-kept.ensures first ∙ ap form c.in_ok-failed.ensures;
+      exhausted = c.in_ok-exhausted.ensures c.args.id.now results c.in_ok-kept.ensures first;
+      failed = c.in_ok-failed.ensures c.args.id.now results c.in_ok-kept.ensures first;
     }
