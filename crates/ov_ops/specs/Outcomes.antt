@@ -1,11 +1,5 @@
 -- What an operation comes to in the code, as it does in the definitions. What names no source is our own.
-use Rattle.std.specs.Prelude.{◌≡◌, ℕ, List, if◌then◌else◌, codes, Result, Ok, Err}
-use Rattle.std.specs.Str.{bytes_eq}
-use Rattle.ov_specs.specs.operations.Abort.{abort_outcome}
-use Rattle.ov_specs.specs.operations.Comment.{comment_outcome}
-use Rattle.ov_specs.specs.operations.Commit.{commit_outcome}
-use Rattle.ov_specs.specs.operations.Errors.{UnknownOperation}
-use Rattle.ov_specs.specs.operations.Wait.{wait_outcome}
+use Rattle.std.specs.Prelude.{◌≡◌, Result, Ok, Err}
 use Rattle.serde_json.specs.Data.{Data}
 use Rattle.ov_specs.specs.operations.OpOutcome as spec
 use Rattle.ov_specs.specs.operations.OpOutcome.{OpContext}
@@ -56,12 +50,3 @@ abbrev pub outcome_of_result : Result Data OpFault → OpOutcome
 outcome_of_result (Ok result) = Done result
 outcome_of_result (Err (Refused error)) = Fault error
 outcome_of_result (Err Memory) = NoMemory
-
--- an operation of this name that changes no row (RFC 7047, 5.2.6 to 5.2.9)
-abbrev pub reader_outcome : OpContext → Database → Data → List ℕ → spec.OpOutcome
-reader_outcome c rows d op =
-    if bytes_eq op (codes "wait") then wait_outcome c rows d
-    else (if bytes_eq op (codes "commit") then commit_outcome rows d
-    else (if bytes_eq op (codes "abort") then abort_outcome
-    else (if bytes_eq op (codes "comment") then comment_outcome rows d
-    else spec.Fault UnknownOperation)))

@@ -1,7 +1,7 @@
 ghost use Rattle.std.specs.Prelude.{◌≡◌};
 ghost use Rattle.serde_json.specs.View.{view};
 ghost use Rattle.ov_specs.specs.operations.Operation as spec;
-ghost use Rattle.ov_ops.specs.Outcomes.{context_of, reader_outcome, IsOutcome};
+ghost use Rattle.ov_ops.specs.Outcomes.{context_of, IsOutcome};
 
 use crate::abort::abort;
 use crate::comment::comment;
@@ -18,15 +18,15 @@ use ov_stage::{OpError, Stage, text_at};
 use serde_json::Value;
 use std::alloc::Global;
 
-/// An operation that changes no row (RFC 7047, 5.2.6 to 5.2.9).
-fn run_reader<'a>(
+/// An operation that touches no row, and steers its transaction (RFC 7047, 5.2.6 to 5.2.9).
+fn run_control<'a>(
     alloc: Global,
     stage: &Stage<'_>,
     ctx: &OpCtx<'a, '_, '_>,
     op: &str,
     operation: &'a Value,
 ) -> OpOutcome
-    ensures { IsOutcome (reader_outcome (context_of ctx.now stage.now.before) stage.now.now (view operation.now) op.now) result stage.now.now }
+    ensures { IsOutcome (spec.control_outcome (context_of ctx.now stage.now.before) stage.now.now (view operation.now) op.now) result stage.now.now }
 {
     match op {
         "wait" => wait(alloc, stage, ctx, operation),
@@ -57,6 +57,6 @@ pub fn run_op<'a>(
         Some(op) if op == "update" => update(alloc, stage, ctx, operation).into(),
         Some(op) if op == "mutate" => mutate(alloc, stage, ctx, operation).into(),
         Some(op) if op == "delete" => delete(alloc, stage, ctx, operation).into(),
-        Some(op) => run_reader(alloc, stage, ctx, op, operation),
+        Some(op) => run_control(alloc, stage, ctx, op, operation),
     }
 }

@@ -1,5 +1,5 @@
 -- Any operation of a transaction, by its "op" (RFC 7047, 5.2).
-use Rattle.std.specs.Prelude.{ℕ, if◌then◌else◌, codes}
+use Rattle.std.specs.Prelude.{ℕ, List, if◌then◌else◌, codes}
 use Rattle.std.specs.Str.{bytes_eq}
 use Rattle.serde_json.specs.Data.{Data}
 use Rattle.ov_specs.specs.operations.Abort.{abort_outcome}
@@ -16,8 +16,18 @@ use Rattle.ov_specs.specs.operations.Update.{update_outcome}
 use Rattle.ov_specs.specs.operations.Wait.{wait_outcome}
 use Rattle.ov_specs.specs.rows.Database.{Database}
 
+-- An operation of this name that touches no row, and steers its transaction (RFC 7047, 5.2.6 to 5.2.9). "assert" (5.2.10) is still
+-- unknown, as every other text is.
+abbrev pub control_outcome : OpContext → Database → Data → List ℕ → OpOutcome
+control_outcome c rows d op =
+    if bytes_eq op (codes "wait") then wait_outcome c rows d
+    else (if bytes_eq op (codes "commit") then commit_outcome rows d
+    else (if bytes_eq op (codes "abort") then abort_outcome
+    else (if bytes_eq op (codes "comment") then comment_outcome rows d
+    else Fault UnknownOperation)))
+
 -- What the operation at this place of the transaction comes to, on the rows that those before it left. It is an object, and "op" is
--- a text (a syntax error); "assert" (RFC 7047, 5.2.10) is still unknown, as every other text is.
+-- a text (a syntax error).
 abbrev pub outcome_of : OpContext → ℕ → Database → Data → OpOutcome
 outcome_of c place rows d = some_or_fault (text_at (codes "op") d) SyntaxError (λ op.
     if bytes_eq op (codes "insert") then insert_outcome c place rows d
@@ -25,8 +35,4 @@ outcome_of c place rows d = some_or_fault (text_at (codes "op") d) SyntaxError (
     else (if bytes_eq op (codes "update") then update_outcome c rows d
     else (if bytes_eq op (codes "mutate") then mutate_outcome c rows d
     else (if bytes_eq op (codes "delete") then delete_outcome c rows d
-    else (if bytes_eq op (codes "wait") then wait_outcome c rows d
-    else (if bytes_eq op (codes "commit") then commit_outcome rows d
-    else (if bytes_eq op (codes "abort") then abort_outcome
-    else (if bytes_eq op (codes "comment") then comment_outcome rows d
-    else Fault UnknownOperation)))))))))
+    else control_outcome c rows d op)))))
