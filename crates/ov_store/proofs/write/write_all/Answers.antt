@@ -1,4 +1,4 @@
-use Rattle.std.proofs.Common.{◌≡◌, ap, refl, sym, subst, arith, rules, IsTrue, ◌∙◌}
+use Rattle.std.proofs.Common.{◌≡◌, inl, ap, refl, sym, subst, arith, rules, IsTrue, ◌∙◌}
 use Rattle.sqlite_trees.specs.Tree.{Trees}
 use Rattle.sqlite.specs.State.{HasCleanDisk, Survives}
 use Rattle.sqlite.specs.Held.{state}
@@ -11,6 +11,7 @@ use Rattle.ov_store.specs.Format.{stored_lines}
 use Rattle.sqlite.specs.Effect.{Database}
 use Rattle.ov_store.specs.Changing.{IsStored, MayBeStored, KeepsOthers, Stores, IsCommitImage}
 use Rattle.ov_store.specs.Format.{rows_of_meta, rows_of_line}
+use Rattle.ov_store.proofs.RunLemmas.{nothing_now, keeps_now, survives_as}
 use Rattle.ov_store.proofs.write.write_all.Goals as goal
 
 pub returns-in-Err-commit-clause-crash : goal.returns-in-Err-commit-clause-crash
@@ -83,3 +84,17 @@ returns-in-Ok-commit-clause-kept g c =
     let late : HasCleanDisk (state g.S.Store last) = omega (arith, c.commit.ensures.survives.clean) in
     let shows = (c.in-Ok-commit.ensures.ok clean).1 in
     subst (IsStored text) (sym shows.now_is) ((made late text may).stored shows.was_open))
+
+pub returns-then-not-is_autocommit-clause-before : goal.returns-then-not-is_autocommit-clause-before
+returns-then-not-is_autocommit-clause-before g c before = nothing_now _
+
+pub returns-then-not-is_autocommit-clause-crash : goal.returns-then-not-is_autocommit-clause-crash
+returns-then-not-is_autocommit-clause-crash g c =
+    let old = state g.S.Store c.args.conn.now in
+    survives_as old old (λ _. ⊥) _ (nothing_now old) (λ clean db h. inl h)
+
+pub returns-then-not-is_autocommit-clause-unmoved : goal.returns-then-not-is_autocommit-clause-unmoved
+returns-then-not-is_autocommit-clause-unmoved g c clean = keeps_now _
+
+pub returns-then-not-is_autocommit-clause-kept : goal.returns-then-not-is_autocommit-clause-kept
+returns-then-not-is_autocommit-clause-kept g c clean text may = may
