@@ -15,9 +15,9 @@ use Rattle.sqlite_rules.proofs.ListLemmas.{all_has, has_right}
 use Rattle.ov_store.specs.Tables.{meta_table, line_table, tree_of, with_meta, with_ours, HasRoom, HasOurTables, create_meta, create_line}
 use Rattle.ov_store.proofs.ListingLemmas.{line_rows_are, meta_rows_are}
 use Rattle.std.specs.List.{AllByRecursion}
-use Rattle.ov_store.specs.Format.{IsLine, rows_of_meta}
-use Rattle.ov_store.specs.Changing.{IsNumbered}
-use Rattle.ov_store.specs.Making.{MayMake, HasMeta, HasTables, IsFilled, IsNewDatabase, IsNewBeside}
+use Rattle.ov_store.specs.Format.{IsLine, rows_of_meta, rows_of_line}
+use Rattle.ov_store.specs.Changing.{IsNumbered, IsStored}
+use Rattle.ov_store.specs.Making.{MayMake, HasMeta, HasTables, IsFilled, IsNew, IsNewDatabase, IsNewBeside}
 use Rattle.ov_store.proofs.Texts.{meta_understood, line_understood, meta_defined, line_defined}
 use Rattle.ov_store.proofs.RoomLemmas.{is_free, line_free, counts_kept, meta_tree, line_tree, ours_behind, kept_then}
 use Rattle.ov_store.proofs.DeleteLemmas.{went, same_value}
@@ -98,6 +98,21 @@ filled_new before text s f = record {
   };
   no_line = f.tables.lines;
 }
+
+-- and so it is committed
+pub filled_committed : (text : List ℕ) (old last end : State) → IsFilled old.now text last → IsTrue old.is_open → old.now ≡ old.committed → IsTrue end.is_open → end.now ≡ last.now → end.committed ≡ last.now → IsNew text old end
+filled_committed text old last end f was settled up now committed =
+    let new = filled_new old.now text last f in
+    record {
+      was_open = was;
+      was_settled = settled;
+      is_open = up;
+      settled = now ∙ sym committed;
+      schema = ap (λ (d : Database). d.schema) now ∙ f.tables.schema;
+      others = subst (λ (d : Database). KeepsRows old.now.schema.tables old.now.trees d.trees) (sym now) f.tables.others;
+      stored = subst (IsStored text) (sym now) new.stored;
+      no_line = ap (λ (d : Database). rows_of_line d.trees) now ∙ new.no_line;
+    }
 
 -- its commit writes the whole of it, if it gets that far
 pub filled_crash : (text : List ℕ) (old last end : State) → Survives old last (λ _. ⊥) → Survives last end (λ db. db ≡ last.now.trees) → (IsTrue old.is_open → old.now ≡ old.committed)

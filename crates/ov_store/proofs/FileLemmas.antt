@@ -1,17 +1,21 @@
 -- From a store of a connection to what its files hold.
-use Rattle.std.proofs.Common.{◌≡◌, ◌⊎◌, inl, inr, ℕ, List, sym, subst}
+use Rattle.std.proofs.Common.{◌≡◌, ◌⊎◌, inl, inr, ℕ, List, sym, subst, Result, Ok, Err, IfErr}
 use Rattle.sqlite.specs.Store.{Ghosts}
 use Rattle.sqlite.specs.Effect.{Database}
 use Rattle.sqlite.specs.Schema.{Schema}
 use Rattle.sqlite.specs.State.{State, HasCleanDisk, Opens, IsLive}
-use Rattle.sqlite.specs.Held.{Held as Connected, state}
+use Rattle.sqlite.specs.Held.{Held as Connected, state, IsNew}
 use Rattle.sqlite.specs.Start.{FindsIn}
-use Rattle.sqlite.specs.Files.{AreFoundIn}
+use Rattle.sqlite.specs.Files.{AreFoundIn, IsOpened, over_files, file_state}
+use Rattle.sqlite.specs.Steps.{IsEmpty}
+use Rattle.sqlite_disk.specs.declared.Disk as disk
+use Rattle.sqlite_store.specs.declared.store.FileStore.{FileStore}
+use Rattle.ov_keeper.specs.declared.fault.KeepFault.{KeepFault}
 use Rattle.sqlite_wal.specs.Recovery.{Image}
 use Rattle.ov_specs.specs.rows.Lines.{Contents}
 use Rattle.ov_store.specs.Tables.{no_schema, HasOurTables}
 use Rattle.ov_store.specs.StoreState.{StoreState, MayFind}
-use Rattle.ov_store.specs.Finding.{new_contents, IsNewStore, IsStoreOf, HasNoTable, IsNobodyElses, IsStoredIn}
+use Rattle.ov_store.specs.Finding.{new_contents, IsNewStore, IsStoreOf, HasNoTable, IsNobodyElses, IsStoredIn, IsRefused, IsFileRefused, IsMemoryRefused}
 
 pub no_tables : (schema : Schema) → schema ≡ no_schema → ¬ HasOurTables schema
 no_tables schema blank has = let none = (rw blank at has).meta.named in absurd cc
@@ -62,3 +66,16 @@ module _ {S : Type 0} (g : Ghosts S) where
         format = old.format clean;
         contents_are = old.holds clean it.0 contents found;
       })
+
+module _ {D : Type 0} {g : disk.Ghosts D} where
+  -- a store that is refused over what was opened and found is refused of the file
+  pub file_refused : (image : Image) (text : List ℕ) (c : Connected (FileStore D g)) (r : Result (StoreState (FileStore D g)) KeepFault) → IsNew c → (HasCleanDisk (file_state c) → IsOpened c) → (HasCleanDisk (file_state c) → FindsIn image (file_state c))
+      → IfErr r (λ fault. (left : Connected (FileStore D g)) × IsRefused over_files text c left fault) → IsFileRefused image text r
+  file_refused image text c (Ok s) fresh opened holds refused = tt
+  file_refused image text c (Err fault) fresh opened holds refused = inr (c, refused.0, record { fresh = fresh; opened = opened; holds = holds; refused = refused.1 })
+
+  -- and one that is refused over nothing, of memory
+  pub memory_refused : (text : List ℕ) (c : Connected (FileStore D g)) (r : Result (StoreState (FileStore D g)) KeepFault) → IsEmpty (file_state c)
+      → IfErr r (λ fault. (left : Connected (FileStore D g)) × IsRefused over_files text c left fault) → IsMemoryRefused text r
+  memory_refused text c (Ok s) empty refused = tt
+  memory_refused text c (Err fault) empty refused = inr (c, refused.0, empty, refused.1)

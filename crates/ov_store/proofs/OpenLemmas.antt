@@ -13,7 +13,9 @@ use Rattle.sqlite_value.proofs.OrderLemmas.{value_cmp-Text, value_cmp_total}
 use Rattle.std.specs.Cmp.{eq_by_cmp_equiv}
 use Rattle.std.specs.Ordering.{is_eq}
 use Rattle.ov_store.specs.Format.{IsLine, IsMeta, IsFormatRow, IsSchemaRow, stored_schema}
-use Rattle.ov_store.specs.Changing.{IsNumbered}
+use Rattle.sqlite.specs.State.{State}
+use Rattle.ov_store.specs.Changing.{IsNumbered, IsStored, MayBeStored}
+use Rattle.ov_store.specs.Querying.{IsAsBefore}
 use Rattle.ov_store.specs.Reading.{line_selected, meta_selected, ReadsFormat, ReadsSchema, ReadsMeta}
 
 pub every_shuffled : {X : Type 0} (P : X → Type 0) (xs ys : List X) → IsPermutation xs ys → AllByRecursion P xs → AllByRecursion P ys
@@ -175,3 +177,7 @@ schema_is text rows m = ap stored_schema m.all ∙ go m.are
     go : (IsFormatRow m.first × IsSchemaRow text m.second) ⊎ (IsSchemaRow text m.first × IsFormatRow m.second) → stored_schema (m.first ∷ m.second ∷ []) ≡ text
     go (inl p) = rw (is_no_schema (column m.first 1) p.0.key, is_schema (column m.second 1) p.1.key) (ap bytes p.1.value)
     go (inr p) = rw (is_schema (column m.first 1) p.0.key) (ap bytes p.0.value)
+
+-- what a query leaves is stored as it was
+pub as_before_stored : (text : List ℕ) (a b : State) → IsAsBefore a b → MayBeStored text a → MayBeStored text b
+as_before_stored text a b same may up = subst (IsStored text) (sym (same.now up)) (may (same.was_open up))

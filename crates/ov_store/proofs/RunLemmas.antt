@@ -1,6 +1,7 @@
 -- Runs of changes.
 use Rattle.std.proofs.Common.{◌≡◌, ℕ, List, [], ◌∷◌, false, refl, sym, ap, ◌∙◌, arith, IsTrue, inl, inr, ◌⊎◌, Result, Ok, Err, OnOk, IfOk, IfErr, subst}
 use Rattle.sqlite.specs.State.{State, HasCleanDisk, Survives, KeepsCommit, IsUnchanged, IsRolledBack, ExecutesInside, IsNotRun}
+use Rattle.sqlite.specs.Steps.{FailsToCommit}
 use Rattle.sqlite.specs.Held.{Held as Connected, state}
 use Rattle.sqlite.specs.Store.{Ghosts}
 use Rattle.sqlite.specs.declared.error.ErrorCode.TheVariants.{TransactionState}
@@ -76,6 +77,11 @@ unchanged_keeps a b same = record { was_open = λ _. same.0.was_open; committed 
 pub rolled_keeps : (a b : State) → IsRolledBack a b → KeepsCommit a b
 rolled_keeps a b back = record { was_open = back.was_open; committed = λ up. (back.undone up).1 }
 
+-- a commit that fails commits nothing
+pub commit_fails_keeps : (a b : State) (e : Error) → FailsToCommit a b e → KeepsCommit a b
+commit_fails_keeps a b e (inl fails) = rolled_keeps a b fails.3
+commit_fails_keeps a b e (inr ends) = unchanged_keeps a b ends.2
+
 -- a statement within a transaction commits nothing
 pub inside_keeps : (sql : List ℕ) (params : Row) (a b : State) (r : Result ℕ Error) → ExecutesInside 0 sql params a b r → KeepsCommit a b
 inside_keeps sql params a b (Ok count) h = record { was_open = λ _. h.1.was_open; committed = λ _. h.1.committed_is }
@@ -121,3 +127,8 @@ pub prepared_stored : {T : Type 0} (text : List ℕ) (P : T → Type 0) (a b : S
     → MayBeStored text a → (IsTrue a.is_open → a.now ≡ a.committed) → MayBeStored text b
 prepared_stored text P a b sql (Ok s) ok err may settled = unchanged_stored text a b ok.1 may
 prepared_stored text P a b sql (Err e) ok err may settled = not_run_stored text a b sql [] e (err []) may settled
+
+-- after a commit that fails in a transaction it is as the last commit left it
+pub commit_fails_stored : (text : List ℕ) (a b c : State) (e : Error) → MayBeStored text a → (IsTrue a.is_open → a.now ≡ a.committed) → KeepsCommit a b → IsTrue b.in_transaction → FailsToCommit b c e → MayBeStored text c
+commit_fails_stored text a b c e may settled kept mode (inl fails) = stored_again text a b c may settled kept fails.3
+commit_fails_stored text a b c e may settled kept mode (inr ends) = let ended : b.in_transaction ≡ false = ends.1 in absurd cc

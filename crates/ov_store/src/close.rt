@@ -11,7 +11,7 @@ ghost use Rattle.ov_store.specs.Whole.{IsWhole, WasWhole};
 use crate::crash::fault_over;
 use crate::store::Store;
 use ov_keeper::KeepFault;
-use sqlite::{Alter, FileFrom, FileStore, Files, Start};
+use sqlite::{Alter, Connection, FileFrom, FileStore, Files, Start};
 use sqlite_disk::Disk;
 use std::fs;
 use std::io::{self, ErrorKind};
@@ -23,14 +23,24 @@ impl<S: Alter> Store<S> {
     {}
 }
 
+impl<S: Alter + Drop> Store<S> {
+    /// The connection, as `close` gives it, with the law of `found`.
+    fn into_found(self) -> Connection<S>
+        ensures same { result ≡ self.connection }
+        ensures found { IsTrue (state S.Store self.connection).is_open → (contents : _) → MayFind S.Store self.connection contents → contents ≡ held (state S.Store self.connection).committed.trees }
+    {
+        self.found();
+        self.close()
+    }
+}
+
 impl<D: Disk + Drop> Store<FileStore<D>> {
     /// Copies all that is in the log into the database file, which then has the whole, and gives the two files back.
     pub fn into_files(self) -> Result<Files<D>, KeepFault>
         ensures whole { IfOk result (λ files. AreClean D.Disk files.log files.db → IsWhole self files) }
         ensures kinds { IfErr result IsLoadFault }
     {
-        self.found();
-        match self.close().close_files() {
+        match self.into_found().close_files() {
             Ok(files) => Ok(files),
             Err((error, left)) => {
                 drop(left.close());

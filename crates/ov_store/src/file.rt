@@ -13,7 +13,7 @@ ghost use Rattle.ov_store.specs.Refusing.{fault_of_open};
 use crate::look::test_file;
 use crate::memory::open_in_memory;
 use crate::memory_disk::MemoryDisk;
-use crate::over::store_over;
+use crate::over::store_over_files;
 use crate::store::Store;
 use ov_base::Text;
 use ov_keeper::{KeepFault, Keeper};
@@ -73,10 +73,7 @@ pub fn store_in_file<S: Start>(
 {
     test_file(rt, path)?;
     let connection = open_file(rt, path, start)?;
-    match store_over(rt.alloc(), connection, schema) {
-        Ok(store) => Ok(store),
-        Err(refused) => Err(refused.fault),
-    }
+    store_over_files(rt.alloc(), connection, schema)
 }
 
 /// A new store in memory, with this text of a schema and no line. It is refused when out of memory, and as `store_over` is
@@ -95,8 +92,5 @@ pub fn store_in_memory(
         Ok(connection) => connection,
         Err(error) => return Err(fault_of_open(&error)),
     };
-    match store_over(alloc, connection, schema) {
-        Ok(store) => Ok(store),
-        Err(refused) => Err(refused.fault),
-    }
+    store_over_files(alloc, connection, schema)
 }

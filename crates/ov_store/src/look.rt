@@ -12,7 +12,8 @@ use crate::make::{CREATE_LINE, CREATE_META};
 use crate::memory_disk::MemoryDisk;
 use crate::schema::{is_blank, is_ours};
 use ov_keeper::KeepFault;
-use sqlite::{Connection, Error, ErrorCode, Files, Options};
+use sqlite::{Alter, Connection, Error, ErrorCode, FileStore, Files, Options};
+use sqlite_disk::Disk;
 use sqlite_schema::schema::Schema;
 use std::alloc::Global;
 use std::fs;
@@ -137,9 +138,27 @@ fn test_copies(alloc: Global, files: Copies) -> Result<(), KeepFault>
         db: MemoryDisk::holding(db),
     };
     match Connection::open_files(alloc, files, Options::new(1)) {
-        Ok(connection) => test_schema(connection.schema()),
+        Ok(connection) => test_over_files(connection),
         Err((error, _)) => Err(fault_of_open(&error)),
     }
+}
+
+/// Refuses a connection to a file and its log of what is neither blank nor ours, and closes it.
+///
+/// It stands apart for the reason that `store_over_files` does.
+fn test_over_files<D: Disk + Drop>(connection: Connection<FileStore<D>>) -> Result<(), KeepFault>
+    ensures passes { OnOk result ((connection.schema ≡ no_schema) ⊎ HasOurTables connection.schema) }
+    ensures refused { IfErr result IsOpenRefused }
+{
+    test_over(connection)
+}
+
+/// The same over any store.
+fn test_over<S: Alter + Drop>(connection: Connection<S>) -> Result<(), KeepFault>
+    ensures passes { OnOk result ((connection.schema ≡ no_schema) ⊎ HasOurTables connection.schema) }
+    ensures refused { IfErr result IsOpenRefused }
+{
+    test_schema(connection.schema())
 }
 
 /// Refuses what is neither blank nor ours.

@@ -1,11 +1,14 @@
 ghost use Rattle.std.specs.Prelude.{◌≡◌, ◌≢◌, ◌↔◌, false, IfOk, IfErr, IsTrue};
+ghost use Rattle.sqlite.specs.Files.{over_files};
 ghost use Rattle.ov_store.specs.Tables.{no_schema};
 ghost use Rattle.ov_store.specs.Finding.{IsNewStore, IsOldStore, IsStoreOf, IsRefused};
 
 use crate::store::Store;
 use crate::unopened::Unopened;
 use ov_base::Text;
-use sqlite::{Alter, Connection};
+use ov_keeper::KeepFault;
+use sqlite::{Alter, Connection, FileStore};
+use sqlite_disk::Disk;
 use sqlite_schema::schema::Schema;
 use std::alloc::Global;
 
@@ -29,6 +32,40 @@ pub fn store_over<S: Alter + Drop>(
     } else {
         open(alloc, connection)
     }
+}
+
+/// The same, where the connection of a refusal is closed and the fault alone is kept.
+fn store_or_fault<S: Alter + Drop>(
+    alloc: Global,
+    connection: Connection<S>,
+    schema: Text,
+) -> Result<Store<S>, KeepFault>
+    requires { connection.in_transaction ≡ false }
+    ensures store { IfOk result (IsStoreOf S.Store schema connection) }
+    ensures fresh { IfOk result (λ s. s.failures ≡ 0) }
+    ensures refused { IfErr result (λ fault. (left : _) × IsRefused S.Store schema connection left fault) }
+{
+    match store_over(alloc, connection, schema) {
+        Ok(store) => Ok(store),
+        Err(refused) => Err(refused.fault),
+    }
+}
+
+/// The store over a connection to a file and its log, or why there is none.
+///
+/// It stands apart from its callers because the proof that such a pair of files is an `Alter` is long: here it is needed once,
+/// for any kind of file.
+pub(crate) fn store_over_files<D: Disk + Drop>(
+    alloc: Global,
+    connection: Connection<FileStore<D>>,
+    schema: Text,
+) -> Result<Store<FileStore<D>>, KeepFault>
+    requires { connection.in_transaction ≡ false }
+    ensures store { IfOk result (IsStoreOf over_files schema connection) }
+    ensures fresh { IfOk result (λ s. s.failures ≡ 0) }
+    ensures refused { IfErr result (λ fault. (left : _) × IsRefused over_files schema connection left fault) }
+{
+    store_or_fault(alloc, connection, schema)
 }
 
 /// Whether nothing was made yet.

@@ -1,16 +1,16 @@
-use Rattle.std.proofs.Common.{inr}
+use Rattle.std.proofs.lemmas.Result.{IfOk-weaker}
 use Rattle.sqlite_wal.specs.Files.{image_at}
 use Rattle.sqlite.specs.Files.{over_files}
-use Rattle.ov_store.proofs.FileLemmas.{found_in}
+use Rattle.ov_store.proofs.FileLemmas.{found_in, file_refused}
 use Rattle.ov_store.proofs.file.store_in_file.Goals as goal
 
-pub returns-in-Ok-clause-found : goal.returns-in-Ok-clause-found
-returns-in-Ok-clause-found g c =
-    let connection = c.in_ok-connection.connection in
-    found_in over_files (image_at g.S.Start) c.args.schema connection c.in-Ok.store c.in_ok-connection.ensures.opened c.in_ok-connection.ensures.found c.in-Ok.ensures.store
-
-pub returns-in-Err-clause-refused : goal.returns-in-Err-clause-refused
-returns-in-Err-clause-refused g c =
+pub returns-clause-found : goal.returns-clause-found
+returns-clause-found g c =
     let connection = c.in_ok-connection.connection in
     let it = c.in_ok-connection.ensures in
-    inr (connection, c.in-Err.refused.connection, record { fresh = it.new; opened = it.opened; holds = it.found; refused = c.in-Err.ensures.refused })
+    IfOk-weaker c.store_over_files.result _ _ (λ s store. found_in over_files (image_at g.S.Start) c.args.schema connection s it.opened it.found store) c.store_over_files.ensures.store
+
+pub returns-clause-refused : goal.returns-clause-refused
+returns-clause-refused g c =
+    let it = c.in_ok-connection.ensures in
+    file_refused (image_at g.S.Start) c.args.schema c.in_ok-connection.connection c.store_over_files.result it.new it.opened it.found c.store_over_files.ensures.refused

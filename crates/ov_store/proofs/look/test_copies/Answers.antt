@@ -13,5 +13,5 @@ returns-in-Ok-clause-passes c =
     let now = file_state c.in-Ok.connection in
     let clean : HasCleanDisk now = no_doubt _ refl in
     let opened = c.in-Ok.ensures.opened clean in
-    on_ok c.test_schema.result c.test_schema.ensures.passes
-    (nobody_elses _ _ _ now opened.0 opened.1 (c.in-Ok.ensures.found clean).reads c.holding.ensures.holds c.holding-2.ensures.holds _ c.schema.ensures.value)
+    on_ok c.test_over_files.result c.test_over_files.ensures.passes
+    (nobody_elses _ _ _ now opened.0 opened.1 (c.in-Ok.ensures.found clean).reads c.holding.ensures.holds c.holding-2.ensures.holds _ refl)

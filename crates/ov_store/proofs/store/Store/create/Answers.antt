@@ -1,8 +1,10 @@
-use Rattle.std.proofs.Common.{subst}
+use Rattle.std.proofs.Common.{◌≡◌, inl, refl, sym, subst, IsTrue, false}
 use Rattle.sqlite.specs.Held.{state}
+use Rattle.ov_keeper.specs.Keeping.{IsCommitFault}
 use Rattle.ov_store.specs.Tables.{HasRoom}
 use Rattle.ov_store.specs.Making.{MayMake}
 use Rattle.ov_store.proofs.FoundLemmas.{new_found, new_beside}
+use Rattle.ov_store.proofs.RunLemmas.{nothing_now, survives_as}
 use Rattle.ov_store.proofs.store.Store.create.Goals as goal
 
 pub returns-in-Ok-clause-ok : goal.returns-in-Ok-clause-ok
@@ -32,3 +34,41 @@ returns-in-Err-clause-left g c =
     let room : HasRoom c.args.connection.schema = subst HasRoom c.schema.ensures.value (c.has_room.ensures.0 c.if-not-has_room.false) in
     let may : MayMake old = λ up. (room, (c.schema.ensures.live up).0) in
     c.in-Err.ensures.left may
+
+pub returns-in-Ok-clause-honest : goal.returns-in-Ok-clause-honest
+returns-in-Ok-clause-honest g c clean = c.make_new.ensures.honest clean
+
+pub returns-in-Ok-clause-room : goal.returns-in-Ok-clause-room
+returns-in-Ok-clause-room g c = subst HasRoom c.schema.ensures.value (c.has_room.ensures.0 c.if-not-has_room.false)
+
+pub invariant_of-result : goal.invariant_of-result
+invariant_of-result g c =
+    let room : HasRoom c.args.connection.schema = subst HasRoom c.schema.ensures.value (c.has_room.ensures.0 c.if-not-has_room.false) in
+    let may : MayMake (state g.S.Store c.args.connection) = λ up. (room, (c.schema.ensures.live up).0) in
+    (c.make_new.ensures.mode, λ clean up. (c.in-Ok.ensures.ok clean may).stored)
+
+pub returns-in-Err-clause-honest : goal.returns-in-Err-clause-honest
+returns-in-Err-clause-honest g c = tt
+
+pub returns-in-Err-clause-ours : goal.returns-in-Err-clause-ours
+returns-in-Err-clause-ours g c =
+    let room : HasRoom c.args.connection.schema = subst HasRoom c.schema.ensures.value (c.has_room.ensures.0 c.if-not-has_room.false) in
+    (λ is. absurd (subst IsCommitFault is c.in-Err.ensures.kinds), λ none. absurd (none room))
+
+pub returns-in-Err-clause-format : goal.returns-in-Err-clause-format
+returns-in-Err-clause-format g c = λ is. subst IsCommitFault is c.in-Err.ensures.kinds
+
+pub returns-in-Err-clause-same : goal.returns-in-Err-clause-same
+returns-in-Err-clause-same g c clean = c.in-Err.ensures.same clean
+
+pub returns-then-not-has_room-clause-ours : goal.returns-then-not-has_room-clause-ours
+returns-then-not-has_room-clause-ours g c =
+    (λ is room. let yes : IsTrue c.has_room.result = c.has_room.ensures.1 (subst HasRoom (sym c.schema.ensures.value) room) in let no : c.has_room.result ≡ false = c.if-not-has_room.true in absurd cc, λ none. refl)
+
+pub returns-then-not-has_room-clause-same : goal.returns-then-not-has_room-clause-same
+returns-then-not-has_room-clause-same g c clean = record { was_open = λ up. up; now = λ up. refl }
+
+pub returns-then-not-has_room-clause-left : goal.returns-then-not-has_room-clause-left
+returns-then-not-has_room-clause-left g c =
+    let old = state g.S.Store c.args.connection in
+    survives_as old old (λ _. ⊥) _ (nothing_now old) (λ clean db h. inl h)
