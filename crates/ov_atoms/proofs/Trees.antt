@@ -2,6 +2,7 @@
 use Rattle.std.proofs.Common.{◌≡◌, length, Some, sym, ap, subst, ◌∙◌, Vec, Global}
 use Rattle.std.proofs.lemmas.List.{length-map}
 use Rattle.std.specs.FinMap.{keys, entries, len-entries}
+use Rattle.std.specs.List.{list_all}
 use Rattle.ov_specs.specs.values.Value as value
 use Rattle.ov_specs.specs.values.Writing.{set_tree, map_tree, tree}
 use Rattle.ov_specs.proofs.laws.ReadingBack.{keys-set_of, entries-from_entries}
@@ -38,3 +39,13 @@ count-pairs p pairs d is ascending seen =
     let ps = pairs_view pairs.items in
     let kept = entries-from_entries ps (subst IsAscending is ascending) in
     sym (length-map pairs.items _) ∙ (ap length (sym kept) ∙ (sym (len-entries (value.map_of ps)) ∙ ap value.count (ap sorted_view (sym is) ∙ seen)))
+
+pub is_of-atoms : (kind : value.AtomKind) (p : SortedElements) (atoms : Vec Atom Global) (d : value.Datum) → p ≡ Atoms atoms → IsAscending p → sorted_view p ≡ d
+    → list_all (value.is_atom_of kind) (atoms_view atoms.items) ≡ value.is_of (value.Single kind) d
+is_of-atoms kind p atoms d is ascending seen =
+    ap (list_all (value.is_atom_of kind)) (sym (keys-set_of (atoms_view atoms.items) (subst IsAscending is ascending))) ∙ ap (value.is_of (value.Single kind)) (ap sorted_view (sym is) ∙ seen)
+
+pub is_of-pairs : (key val : value.AtomKind) (p : SortedElements) (pairs : Vec (Atom × Atom) Global) (d : value.Datum) → p ≡ Pairs pairs → IsAscending p → sorted_view p ≡ d
+    → list_all (value.is_pair_of key val) (pairs_view pairs.items) ≡ value.is_of (value.Pair key val) d
+is_of-pairs key val p pairs d is ascending seen =
+    ap (list_all (value.is_pair_of key val)) (sym (entries-from_entries (pairs_view pairs.items) (subst IsAscending is ascending))) ∙ ap (value.is_of (value.Pair key val)) (ap sorted_view (sym is) ∙ seen)

@@ -11,6 +11,7 @@ mod id;
 mod identifier;
 mod kind;
 mod names;
+mod of_kinds;
 mod order;
 mod read;
 mod text;

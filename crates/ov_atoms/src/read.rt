@@ -42,7 +42,7 @@ fn text_of(alloc: Global, tree: &Value) -> Result<Option<Text>, AllocError>
 }
 
 /// Whether an atom may hold the text, which is UTF-8 by its type.
-fn is_text(text: &str) -> bool
+pub(crate) fn is_text(text: &str) -> bool
     ensures { result ≡ is_text text.now }
 {
     !has_nul(text.as_bytes())

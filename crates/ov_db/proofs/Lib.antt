@@ -6,3 +6,4 @@ pub mod Loads
 pub mod ReadsBack
 pub mod StoredSuits
 pub mod Keeping
+pub mod Guessed

@@ -132,7 +132,7 @@ module _ (table : Table) (columns : Columns) (suits : SuitsTable table columns) 
 
 -- ---- a row
 
-values_of_kinds : (table : Table) (columns : Columns) → SuitsTable table columns → AreOfKinds columns
+pub values_of_kinds : (table : Table) (columns : Columns) → SuitsTable table columns → AreOfKinds columns
 values_of_kinds table columns suits name datum is = by (column_of_row table name) (sym (ap (suits_column (column_of_row table name)) is) ∙ suits name)
   where
     by : (o : Option Column) → suits_column o (Some datum) ≡ true → (kinds : Kinds) × (is_of kinds datum ≡ true)

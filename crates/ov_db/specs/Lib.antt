@@ -7,3 +7,4 @@ pub mod Committing
 pub mod Stored
 pub mod Loading
 pub mod Opening
+pub mod Guessed

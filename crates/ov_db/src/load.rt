@@ -10,10 +10,10 @@ ghost use Rattle.ov_db.specs.Stored.{KeepsRows};
 ghost use Rattle.ov_db.specs.declared.fault.OpenFault.TheVariants.{Keeping};
 
 use crate::fault::OpenFault;
-use crate::read::row_of;
+use crate::read::next_row;
 use ov_atoms::has_sixteen_bytes;
 use ov_keeper::{KeepFault, Keeper, Line, Loaded};
-use ov_rows::{RowKey, Rows};
+use ov_rows::{BodyReader, RowKey, Rows};
 use ov_schema::Schema;
 use std::alloc::Global;
 
@@ -54,15 +54,22 @@ fn rows_of_lines(alloc: Global, schema: &Schema, lines: &[Line]) -> Result<Rows,
     ensures loaded { IsLoaded (λ rows. rows) (with_lines schema.now (map line_entry lines.now) empty) result }
     ensures kept { IfOk result (KeepsRows schema.now) }
 {
+    let mut reader = BodyReader::new(alloc);
     let mut rows = Rows::new(alloc);
     for line in lines {
-        add_line(alloc, schema, line, &mut rows)?;
+        add_line(alloc, &mut reader, schema, line, &mut rows)?;
     }
     Ok(rows)
 }
 
 /// Adds the row that a line is, where there is none of its key yet.
-fn add_line(alloc: Global, schema: &Schema, line: &Line, rows: &mut Rows) -> Result<(), OpenFault>
+fn add_line(
+    alloc: Global,
+    reader: &mut BodyReader,
+    schema: &Schema,
+    line: &Line,
+    rows: &mut Rows,
+) -> Result<(), OpenFault>
     ensures ok { OnOk result (with_line schema.now (line_entry line.now) rows.old ≡ Some rows.new) }
     ensures kept { KeepsRows schema.now rows.old → OnOk result (KeepsRows schema.now rows.new) }
     ensures err { IfErr result (IsNotLoaded (with_line schema.now (line_entry line.now) rows.old)) }
@@ -71,7 +78,7 @@ fn add_line(alloc: Global, schema: &Schema, line: &Line, rows: &mut Rows) -> Res
     if rows.contains(&key) {
         return Ok(());
     }
-    let row = match row_of(alloc, schema, line) {
+    let row = match next_row(alloc, reader, schema, line) {
         Ok(row) => row,
         Err(fault) => return Err(fault),
     };

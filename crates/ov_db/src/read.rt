@@ -1,15 +1,18 @@
-ghost use Rattle.std.specs.Prelude.{◌≡◌};
+ghost use Rattle.std.specs.Prelude.{◌≡◌, IfOk, Some};
 ghost use Rattle.std.specs.FinMap.{empty, entries};
 ghost use Rattle.serde_json.specs.View.{view};
+ghost use Rattle.ov_specs.specs.rows.Suits.{is_value_for};
 ghost use Rattle.ov_specs.specs.wire.Message.{tree_of};
 ghost use Rattle.ov_keeper.specs.Views.{line_entry};
 ghost use Rattle.ov_db.specs.Loading.{IsLoaded};
+ghost use Rattle.ov_db.specs.Guessed.{are_values_for};
 ghost use Rattle.ov_db.specs.Stored.{columns_stored, row_of_table, row_stored, value_stored};
 
 use crate::fault::OpenFault;
 use ov_atoms::{AtomFault, Datum, NoNames, read_datum};
+use ov_base::Text;
 use ov_keeper::{KeepFault, Line};
-use ov_rows::{Columns, NamedValues, Row};
+use ov_rows::{BodyReader, Columns, NamedValues, Row};
 use ov_schema::{Column, Schema, Table, is_own};
 use serde_json::Value;
 use std::alloc::Global;
@@ -19,14 +22,89 @@ use std::alloc::Global;
 pub fn row_of(alloc: Global, schema: &Schema, line: &Line) -> Result<Row, OpenFault>
     ensures { IsLoaded (λ row. row) (row_stored schema.now (line_entry line.now).0 (line_entry line.now).1) result }
 {
+    let mut reader = BodyReader::new(alloc);
+    next_row(alloc, &mut reader, schema, line)
+}
+
+/// The same by a reader that serves line after line.
+pub(crate) fn next_row(
+    alloc: Global,
+    reader: &mut BodyReader,
+    schema: &Schema,
+    line: &Line,
+) -> Result<Row, OpenFault>
+    ensures { IsLoaded (λ row. row) (row_stored schema.now (line_entry line.now).0 (line_entry line.now).1) result }
+{
     match schema.table(line.table.as_str()) {
-        Some(table) => row_of_table(alloc, table, line),
+        Some(table) => row_of_table(alloc, reader, table, line),
         None => Err(OpenFault::BadBody),
     }
 }
 
-/// The row of a table that a stored line is.
-fn row_of_table(alloc: Global, table: &Table, line: &Line) -> Result<Row, OpenFault>
+/// The row of a table that a stored line is. Where no row is found by a guess, the body is read in full.
+fn row_of_table(
+    alloc: Global,
+    reader: &mut BodyReader,
+    table: &Table,
+    line: &Line,
+) -> Result<Row, OpenFault>
+    ensures { IsLoaded (λ row. row) (row_of_table table.now (line_entry line.now).1) result }
+{
+    match row_by_guess(alloc, reader, table, line) {
+        Ok(row) => Ok(row),
+        Err(AtomFault::Memory) => Err(OpenFault::Keeping(KeepFault::Memory)),
+        Err(AtomFault::Syntax | AtomFault::Clash) => row_in_full(alloc, table, line),
+    }
+}
+
+/// The row of a table whose text the line's body is, where a guess finds it. Any fault but that of memory says no more than
+/// that none was found.
+fn row_by_guess(
+    alloc: Global,
+    reader: &mut BodyReader,
+    table: &Table,
+    line: &Line,
+) -> Result<Row, AtomFault>
+    ensures { IfOk result (λ row. row_of_table table.now (line_entry line.now).1 ≡ Some row) }
+{
+    let columns = reader.columns(alloc, table.names_of_row(), line.body.as_slice())?;
+    if !are_values_for(table.columns(), columns.values()) {
+        return Err(AtomFault::Syntax);
+    }
+    Ok(Row {
+        version: line.version,
+        columns,
+    })
+}
+
+/// Whether these are values for the columns but those that rows have by themselves, one for each in their order.
+fn are_values_for(columns: &[(Text, Column)], values: &[Datum]) -> bool
+    ensures { result ≡ are_values_for columns.now values.now }
+{
+    let mut rest = values;
+    for (name, column) in columns {
+        if !is_own(name.as_str()) {
+            let Some((datum, others)) = rest.split_first() else {
+                return false;
+            };
+            if !is_value_for(column, datum) {
+                return false;
+            }
+            rest = others;
+        }
+    }
+    rest.is_empty()
+}
+
+/// Whether this is a value of the column's kinds that fits it.
+fn is_value_for(column: &Column, datum: &Datum) -> bool
+    ensures { result ≡ is_value_for column.now datum.now }
+{
+    datum.is_of(column.kinds()) && column.fits(datum)
+}
+
+/// The row of a table that a stored line is, by the tree of its body.
+fn row_in_full(alloc: Global, table: &Table, line: &Line) -> Result<Row, OpenFault>
     ensures { IsLoaded (λ row. row) (row_of_table table.now (line_entry line.now).1) result }
 {
     let body = body_of(alloc, line.body.as_slice())?;

@@ -4,3 +4,4 @@ pub mod Values
 pub mod Nesting
 pub mod Nested
 pub mod BodyText
+pub mod Listed

@@ -1,8 +1,8 @@
 -- The columns of the code as those of the definitions.
-use Rattle.std.specs.Prelude.{ℕ, ◌+◌, List, [], ◌∷◌, map, zip, Option, Some, None, if◌then◌else◌, String, string_bytes}
+use Rattle.std.specs.Prelude.{ℕ, ◌+◌, T, List, [], ◌∷◌, map, zip, Option, Some, None, if◌then◌else◌, String, string_bytes}
 use Rattle.std.specs.Str.{bytes_eq}
 use Rattle.std.specs.declared.alloc.Global.{Global}
-use Rattle.std.specs.FinMap.{from_sorted}
+use Rattle.std.specs.FinMap.{from_sorted, is_sorted}
 use Rattle.ov_specs.specs.rows.Database.{Columns}
 use Rattle.ov_specs.specs.schema.SchemaTypes.{name_cmp}
 use Rattle.ov_specs.specs.values.Value.{Datum}
@@ -23,3 +23,11 @@ columns_at names values = from_sorted {R = name_cmp} (zip names values)
 abbrev pub place_from : ℕ → List ℕ → List (List ℕ) → Option ℕ
 place_from place name [] = None
 place_from place name (known ∷ names) = if bytes_eq name known then Some place else place_from (place + 1) name names
+
+-- a name with nothing under it
+abbrev pub alone : List ℕ → List ℕ × Unit {0}
+alone name = (name, tt)
+
+-- the names ascend, and none comes twice
+abbrev pub DoAscend : List (List ℕ) → Type 0
+DoAscend names = T (is_sorted name_cmp (map alone names))

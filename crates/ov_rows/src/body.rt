@@ -1,4 +1,4 @@
-ghost use Rattle.std.specs.Prelude.{◌≡◌, IfOk, Some};
+ghost use Rattle.std.specs.Prelude.{◌≡◌, [], IfOk, Some};
 ghost use Rattle.serde_json.specs.Written.{compact_text};
 ghost use Rattle.ov_specs.specs.wire.Message.{tree_of};
 ghost use Rattle.ov_atoms.specs.Tokens.{Puts};
@@ -17,7 +17,16 @@ impl Columns {
         ensures text { IfOk result (λ text. text ≡ compact_text (body_of self.now)) }
         ensures reads_back { AreOfKinds self.now → IfOk result (λ text. tree_of text ≡ Some (body_of self.now)) }
     {
-        let mut out = Writer::new(Vec::new(alloc));
+        self.text_in(Vec::new(alloc))
+    }
+
+    /// The same text in this buffer, which is empty, and grows only where it has too little room.
+    pub(crate) fn text_in(&self, buffer: Vec<u8>) -> Result<Bytes, AllocError>
+        requires { buffer.items ≡ [] }
+        ensures text { IfOk result (λ text. text ≡ compact_text (body_of self.now)) }
+        ensures reads_back { AreOfKinds self.now → IfOk result (λ text. tree_of text ≡ Some (body_of self.now)) }
+    {
+        let mut out = Writer::new(buffer);
         out.begin_object()?;
         for (name, datum) in self.names.as_slice().iter().zip(&self.values) {
             put_column(&mut out, name.as_str(), datum)?;

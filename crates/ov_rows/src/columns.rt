@@ -1,7 +1,7 @@
-ghost use Rattle.std.specs.Prelude.{◌≡◌, IfOk, map, option_copied, string_bytes};
-ghost use Rattle.std.specs.FinMap.{get, insert, keys, entries};
+ghost use Rattle.std.specs.Prelude.{◌≡◌, IfOk, length, map, option_copied, string_bytes};
+ghost use Rattle.std.specs.FinMap.{get, insert, keys, values, entries};
 ghost use Rattle.ov_specs.specs.rows.Database.{same_columns};
-ghost use Rattle.ov_rows.specs.Named.{place_from};
+ghost use Rattle.ov_rows.specs.Named.{place_from, DoAscend};
 
 use crate::column_names::ColumnNames;
 use crate::named_values::NamedValues;
@@ -42,6 +42,18 @@ impl Columns {
         Ok(Columns {
             names: names.share()?,
             values: named.into_values(alloc)?,
+        })
+    }
+
+    /// These values, each in the column of the name at its place. The names are not copied.
+    pub(crate) fn listed(names: &ColumnNames, values: Vec<Datum>) -> Result<Columns, AllocError>
+        requires ascend { DoAscend names.now }
+        requires as_many { length values.items ≡ length names.now }
+        ensures { IfOk result (λ columns. keys columns ≡ names.now) }
+    {
+        Ok(Columns {
+            names: names.share()?,
+            values,
         })
     }
 
@@ -107,6 +119,13 @@ impl Columns {
                 Columns::with_own_names(alloc, named)
             }
         }
+    }
+
+    /// The values, in ascending order of the names of their columns.
+    pub fn values(&self) -> &[Datum]
+        ensures { result.now ≡ values self.now }
+    {
+        self.values.as_slice()
     }
 
     /// The value of the column of this name.

@@ -3,8 +3,10 @@
 #![tactic(auto)]
 
 mod body;
+mod body_reader;
 mod column_names;
 mod columns;
+mod guess;
 mod key;
 mod named_values;
 mod row;
@@ -12,6 +14,7 @@ mod row_view;
 mod rows;
 mod table_rows;
 
+pub use body_reader::BodyReader;
 pub use column_names::ColumnNames;
 pub use columns::Columns;
 pub use key::RowKey;

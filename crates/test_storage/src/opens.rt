@@ -38,6 +38,29 @@ const BODIES: &str = r#"x -> a stored row does not fit the schema
 {"name":"\u0070","peer":["set",[]],"tag":7} -> a stored row does not fit the schema
 {"name":"p1","peer":["set",[]],"tag":7} -> Port 2 1 {"name":"p1","peer":["set",[]],"tag":7}"#;
 
+/// A table with a column for each kind of value.
+const EVERY: &str =
+    r#"{"name":"Every","tables":{"All":{"columns":{"flag":{"type":"boolean"},"id":{"type":"uuid"},"ids":{"type":{"key":"uuid","max":"unlimited","min":0}},"name":{"type":"string"},"number":{"type":"integer"},"numbers":{"type":{"key":"integer","max":"unlimited","min":0}},"truths":{"type":{"key":"uuid","max":"unlimited","min":0,"value":"boolean"}},"words":{"type":{"key":"string","max":"unlimited","min":0,"value":"string"}}}}},"version":"1.0.0"}"#;
+
+/// Bodies of lines of All that are a row or none: each kind of value, with no elements and with some, and texts with escapes; then
+/// other names, words and brackets, elements not in order or twice, a key twice, values of another kind, a U+0000, other numbers.
+const EVERY_BODIES: &str =
+    r#"{"flag":true,"id":["uuid","01234567-89ab-cdef-0123-456789abcdef"],"ids":["set",[["uuid","00000000-0000-0000-0000-000000000003"],["uuid","00000000-0000-0000-0000-000000000005"]]],"name":"a\"\\n\u0001é😀","number":-9223372036854775808,"numbers":["set",[-3,0,7]],"truths":["map",[[["uuid","00000000-0000-0000-0000-000000000003"],false],[["uuid","00000000-0000-0000-0000-000000000005"],true]]],"words":["map",[["","x"],["map","set"],["set","uuid"]]]} -> kept
+{"flag":false,"id":["uuid","00000000-0000-0000-0000-000000000000"],"ids":["set",[]],"name":"","number":9223372036854775807,"numbers":["set",[]],"truths":["map",[]],"words":["map",[]]} -> kept
+{"flag":false,"id":["uuid","00000000-0000-0000-0000-000000000000"],"ids":["uuid","00000000-0000-0000-0000-000000000003"],"name":"set","number":0,"numbers":7,"truths":["map",[]],"words":["map",[["a","b"]]]} -> kept
+{"flag":false,"id":["uuid","00000000-0000-0000-0000-000000000000"],"ids":["set",[]],"nane":"","number":0,"numbers":["set",[]],"truths":["map",[]],"words":["map",[]]} -> refused
+{"flag":false,"id":["uuid","00000000-0000-0000-0000-000000000000"],"ids":["sets",[]],"name":"","number":0,"numbers":["set",[]],"truths":["map",[]],"words":["map",[]]} -> refused
+{"flag":false,"id":["uuid","00000000-0000-0000-0000-000000000000","x"],"ids":["set",[]],"name":"","number":0,"numbers":["set",[]],"truths":["map",[]],"words":["map",[]]} -> refused
+{"flag":false,"id":["uuid","00000000-0000-0000-0000-000000000000"],"ids":["set",[]],"name":"","number":0,"numbers":["set",[7,-3]],"truths":["map",[]],"words":["map",[]]} -> refused
+{"flag":false,"id":["uuid","00000000-0000-0000-0000-000000000000"],"ids":["set",[]],"name":"","number":0,"numbers":["set",[7,7]],"truths":["map",[]],"words":["map",[]]} -> refused
+{"flag":false,"id":["uuid","00000000-0000-0000-0000-000000000000"],"ids":["set",[]],"name":"","number":0,"numbers":["set",[]],"truths":["map",[]],"words":["map",[["a","b"],["a","c"]]]} -> refused
+{"flag":false,"id":["uuid","00000000-0000-0000-0000-000000000000"],"ids":["set",[]],"name":"","number":0,"numbers":["set",["x"]],"truths":["map",[]],"words":["map",[]]} -> refused
+{"flag":false,"id":["uuid","00000000-0000-0000-0000-000000000000"],"ids":["set",[]],"name":"\u0000","number":0,"numbers":["set",[]],"truths":["map",[]],"words":["map",[]]} -> refused
+{"flag":false,"id":["uuid","00000000-0000-0000-0000-000000000000"],"ids":["set",[]],"name":"","number":-0,"numbers":["set",[]],"truths":["map",[]],"words":["map",[]]} -> refused
+{"flag":false,"id":["uuid","00000000-0000-0000-0000-000000000000"],"ids":["set",[]],"name":"","number":9223372036854775808,"numbers":["set",[]],"truths":["map",[]],"words":["map",[]]} -> refused
+{"flag":null,"id":["uuid","00000000-0000-0000-0000-000000000000"],"ids":["set",[]],"name":"","number":0,"numbers":["set",[]],"truths":["map",[]],"words":["map",[]]} -> refused
+{"flag":false,"id":["uuid","0000000000000000-0000-000000000000"],"ids":["set",[]],"name":"","number":0,"numbers":["set",[]],"truths":["map",[]],"words":["map",[]]} -> refused"#;
+
 /// The text of a row, as that of its line.
 fn text_of_row(alloc: Global, table: &str, id: &Uuid, row: &Row) -> Result<String, Fail> {
     let body = row.columns.text(alloc)?;
@@ -100,6 +123,28 @@ impl Scripted for Bodies {
 #[test]
 fn bodies_that_are_no_row_are_refused(rt: HostRuntime) -> Result<(), Fail> {
     agrees(rt.alloc(), Bodies, BODIES)
+}
+
+/// Whether a line of All with this body is opened as it is.
+#[derive(Drop)]
+struct EveryBodies;
+
+impl Scripted for EveryBodies {
+    fn answer(&mut self, alloc: Global, command: &str) -> Result<String, Fail> {
+        let line = format!(in alloc; "All 2 1 {command}")?;
+        let told = opened(alloc, EVERY, line.as_str(), EVERY)?;
+        let answer = if told.as_str().trim_end() == line.as_str() {
+            "kept"
+        } else {
+            "refused"
+        };
+        Ok(String::from_str(alloc, answer)?)
+    }
+}
+
+#[test]
+fn values_of_every_kind_are_opened(rt: HostRuntime) -> Result<(), Fail> {
+    agrees(rt.alloc(), EveryBodies, EVERY_BODIES)
 }
 
 #[test]

@@ -12,7 +12,7 @@ use Rattle.ov_atoms.specs.Tokens.{tokens_of}
 use Rattle.ov_rows.specs.Body.{body_of, column_tokens}
 use Rattle.ov_rows.proofs.BodyText.{body-tokens, body-text, body-reads-back}
 use Rattle.ov_rows.proofs.Names.{paired, paired-start, paired-end, entries-columns_at}
-use Rattle.ov_rows.proofs.columns.Columns.text.Goals as goal
+use Rattle.ov_rows.proofs.columns.Columns.text_in.Goals as goal
 
 pub loop-name-preserved : goal.loop-name-preserved
 loop-name-preserved c =

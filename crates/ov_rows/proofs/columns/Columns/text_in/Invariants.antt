@@ -1,7 +1,7 @@
 use Rattle.std.proofs.Common.{◌≡◌, ◌++◌, [], flat_map}
 use Rattle.ov_rows.specs.Body.{column_tokens}
 use Rattle.ov_rows.proofs.Names.{paired}
-use Rattle.ov_rows.proofs.columns.Columns.text.Given as goal
+use Rattle.ov_rows.proofs.columns.Columns.text_in.Given as goal
 
 abbrev pub invariant-loop-name : goal.invariant-loop-name
 invariant-loop-name l = record {

@@ -1,0 +1,38 @@
+-- Values in a list, each in the column of the name at its place.
+use Rattle.std.proofs.Common.{◌≡◌, ℕ, List, [], ◌∷◌, map, length, zip, arith, T, refl, ap, ◌∙◌}
+use Rattle.std.specs.FinMap.{is_sorted, keys, values}
+use Rattle.std.specs.FinMap.Entries.{below_all}
+use Rattle.ov_specs.specs.schema.SchemaTypes.{name_cmp}
+use Rattle.ov_specs.specs.values.Value.{Datum}
+use Rattle.ov_specs.proofs.laws.Truths.{both_hold, left_holds, right_holds}
+use Rattle.ov_rows.specs.Named.{alone, columns_at, DoAscend}
+use Rattle.ov_rows.proofs.Names.{entries-columns_at}
+
+-- names ascend whatever stands at them
+below : (name : List ℕ) (names : List (List ℕ)) (vs : List Datum) → T (below_all name_cmp name (map alone names)) → T (below_all name_cmp name (zip names vs))
+below name [] vs h = tt
+below name (n ∷ names) [] h = tt
+below name (n ∷ names) (v ∷ vs) h = both_hold _ _ (left_holds _ _ h) (below name names vs (right_holds _ _ h))
+
+pub ascend : (names : List (List ℕ)) (vs : List Datum) → DoAscend names → T (is_sorted name_cmp (zip names vs))
+ascend [] vs h = tt
+ascend (n ∷ names) [] h = tt
+ascend (n ∷ names) (v ∷ vs) h = both_hold _ _ (below n names vs (left_holds _ _ h)) (ascend names vs (right_holds _ _ h))
+
+names-zip : (names : List (List ℕ)) (vs : List Datum) → length vs ≡ length names → map (λ e. e.0) (zip names vs) ≡ names
+names-zip [] vs same = refl
+names-zip (n ∷ names) [] same = absurd (omega arith)
+names-zip (n ∷ names) (v ∷ vs) same = ap (λ ns. n ∷ ns) (names-zip names vs (omega arith))
+
+values-zip : (names : List (List ℕ)) (vs : List Datum) → length vs ≡ length names → map (λ e. e.1) (zip names vs) ≡ vs
+values-zip [] [] same = refl
+values-zip [] (v ∷ vs) same = absurd (omega arith)
+values-zip (n ∷ names) [] same = absurd (omega arith)
+values-zip (n ∷ names) (v ∷ vs) same = ap (λ ws. v ∷ ws) (values-zip names vs (omega arith))
+
+module _ (names : List (List ℕ)) (vs : List Datum) (h : T (is_sorted name_cmp (zip names vs))) (same : length vs ≡ length names) where
+  pub keys-columns_at : keys (columns_at names vs) ≡ names
+  keys-columns_at = ap (map (λ e. e.0)) (entries-columns_at names vs h) ∙ names-zip names vs same
+
+  pub values-columns_at : values (columns_at names vs) ≡ vs
+  values-columns_at = ap (map (λ e. e.1)) (entries-columns_at names vs h) ∙ values-zip names vs same

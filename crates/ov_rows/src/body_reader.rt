@@ -1,0 +1,68 @@
+ghost use Rattle.std.specs.Prelude.{◌≡◌, IfOk, length, Some};
+ghost use Rattle.std.specs.FinMap.{keys};
+ghost use Rattle.serde_json.specs.Written.{compact_text};
+ghost use Rattle.ov_specs.specs.wire.Message.{tree_of};
+ghost use Rattle.ov_rows.specs.Body.{body_of, AreOfKinds};
+ghost use Rattle.ov_rows.specs.Named.{columns_at, DoAscend};
+
+use crate::column_names::ColumnNames;
+use crate::columns::Columns;
+use crate::guess::guess_values;
+use json::{Reader, Scratch};
+use ov_atoms::{AtomFault, Datum};
+use std::alloc::{AllocError, Global};
+
+/// Reads the columns of rows from the bodies of their lines. What one reading takes of memory serves the next.
+#[derive(Drop)]
+pub struct BodyReader {
+    scratch: Scratch,
+}
+
+impl BodyReader {
+    /// A reader that has taken no memory yet.
+    pub fn new(alloc: Global) -> BodyReader {
+        BodyReader {
+            scratch: Scratch::new(alloc),
+        }
+    }
+
+    /// The columns of just these names, shared and not copied, whose text is this body. `Syntax` and `Clash` say that none
+    /// were found, and not that there are none: the values are guessed, and their text is compared with the body. A body
+    /// that `Columns::text` wrote of such columns is found.
+    pub fn columns(
+        &mut self,
+        alloc: Global,
+        names: &ColumnNames,
+        body: &[u8],
+    ) -> Result<Columns, AtomFault>
+        requires { DoAscend names.now }
+        ensures names { IfOk result (λ columns. keys columns ≡ names.now) }
+        ensures text { IfOk result (λ columns. compact_text (body_of columns) ≡ body.now) }
+        ensures reads_back { IfOk result (λ columns. AreOfKinds columns → tree_of body.now ≡ Some (body_of columns)) }
+    {
+        let values = self.values(alloc, names, body)?;
+        let columns = Columns::listed(names, values)?;
+        let text = columns.text_in(Vec::with_capacity(alloc, body.len())?)?;
+        if text.as_slice() == body {
+            Ok(columns)
+        } else {
+            Err(AtomFault::Syntax)
+        }
+    }
+
+    /// A value for each of these names, as the body may have it.
+    fn values(
+        &mut self,
+        alloc: Global,
+        names: &ColumnNames,
+        body: &[u8],
+    ) -> Result<Vec<Datum>, AtomFault>
+        ensures { IfOk result (λ values. length values.items ≡ length names.now) }
+    {
+        let Ok(text) = str::from_utf8(body) else {
+            return Err(AtomFault::Syntax);
+        };
+        let mut reader = Reader::new(text, &mut self.scratch)?;
+        guess_values(alloc, names.as_slice().len(), &mut reader)
+    }
+}
