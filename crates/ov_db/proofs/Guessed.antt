@@ -6,7 +6,7 @@ use Rattle.std.specs.FinMap.{empty, find, is_sorted, get, keys, values, entries,
 use Rattle.std.specs.FinMap.Entries.{below_all}
 use Rattle.std.specs.Str.{bytes_eq}
 use Rattle.serde_json.specs.Written.{compact_text}
-use Rattle.ov_specs.specs.operations.Operation.{is_own_column}
+use Rattle.ov_specs.specs.rows.RowNames.{is_own_column}
 use Rattle.ov_specs.specs.rows.Database.{Columns, Row, line_of}
 use Rattle.ov_specs.specs.rows.Lines.{LineBody}
 use Rattle.ov_specs.specs.rows.RowNames.{row_names, without_own}

@@ -1,6 +1,6 @@
 -- Whether values in a list are those of a table's columns. What names no source is our own.
 use Rattle.std.specs.Prelude.{ℕ, ◌&&◌, List, [], ◌∷◌, Bool, true, false, if◌then◌else◌}
-use Rattle.ov_specs.specs.operations.Operation.{is_own_column}
+use Rattle.ov_specs.specs.rows.RowNames.{is_own_column}
 use Rattle.ov_specs.specs.rows.Suits.{is_value_for}
 use Rattle.ov_specs.specs.schema.SchemaTypes.{Column}
 use Rattle.ov_specs.specs.values.Value.{Datum}
