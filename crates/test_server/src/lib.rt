@@ -6,6 +6,10 @@ mod attempts;
 #[cfg(test)]
 mod databases;
 #[cfg(test)]
+mod fault_pairs;
+#[cfg(test)]
+mod faults;
+#[cfg(test)]
 mod machine;
 #[cfg(test)]
 mod operations;

@@ -88,6 +88,17 @@ fn run_over(alloc: Global, rows: &str, age: u64, script: &str) -> Result<(), Fai
     agrees(alloc, Operations { schema, rows, age }, script)
 }
 
+/// The same on no row of a database of this schema.
+pub(crate) fn run_without_rows(alloc: Global, schema: Schema, script: &str) -> Result<(), Fail> {
+    let rows = Rows::new(alloc);
+    let operations = Operations {
+        schema,
+        rows,
+        age: 0,
+    };
+    agrees(alloc, operations, script)
+}
+
 /// A name stands for its row before the insert that declares it, and in conditions.
 const NAMED: &str =
     r#"[{"op":"insert","table":"Switch","row":{"name":"s1","ports":["named-uuid","p"]}},{"op":"insert","table":"Port","uuid-name":"p","row":{"name":"p1"}},{"op":"select","table":"Switch","where":[["ports","includes",["named-uuid","p"]]],"columns":["ports"]}] -> {"uuid":["uuid","00000000-0000-4000-8000-000000000002"]} {"uuid":["uuid","00000000-0000-4000-8000-000000000003"]} {"rows":[{"ports":["uuid","00000000-0000-4000-8000-000000000003"]}]} 2
