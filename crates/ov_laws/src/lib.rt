@@ -2,19 +2,22 @@
 #![tactic(auto)]
 
 ghost use Rattle.std.specs.List.{list_all};
-ghost use Rattle.std.specs.Prelude.{◌≡◌, ◌↔◌, ◌++◌, ◌-◌, ◌<◌, ℕ, List, [], Option, Some, None, is_some, not, true, false, length};
+ghost use Rattle.std.specs.Prelude.{◌≡◌, ◌↔◌, ◌++◌, ◌-◌, ◌<◌, ℕ, List, [], Option, Some, None, is_some, not, true, false, length, Ok};
 ghost use Rattle.serde_json.specs.Data.{Data, Items};
 ghost use Rattle.ov_specs.specs.wire.Cut.{Cut, cut, cut_from, IsCut, continue_cut, with_messages, max_message};
 ghost use Rattle.ov_specs.specs.wire.Message.{asked};
 ghost use Rattle.ov_specs.specs.machine.Machine.{State, is_open, Entry, Stepped, Outcome, Transact, step, works, to_session, results_of, opening};
 ghost use Rattle.ov_specs.specs.operations.Transaction.{has_error};
 ghost use Rattle.ov_specs.specs.machine.Suiting.{SuitsState, draws_uuids};
+ghost use Rattle.ov_specs.specs.integrity.Committed.{committed, is_whole};
+ghost use Rattle.ov_specs.specs.integrity.Kept.{IsGreatestSupported, kept};
 ghost use Rattle.ov_specs.specs.rows.Suits.{Suits};
+ghost use Rattle.ov_specs.specs.schema.Schema.{accepted};
 ghost use Rattle.ov_specs.specs.schema.SchemaTypes.{Schema};
 ghost use Rattle.ov_specs.specs.rows.Database.{Database};
 ghost use Rattle.ov_specs.specs.machine.History.{run, requests, closed_by};
 ghost use Rattle.ov_specs.specs.machine.Streams.{StreamEvent, Streams, ExpandsTimed};
-ghost use Rattle.ov_specs.specs.values.Uuid.{Uuid};
+ghost use Rattle.ov_specs.specs.values.Uuid.{Uuid, is_uuid};
 ghost use Rattle.ov_laws.specs.Requests.{AreAskedFor};
 
 /// The relation and the program tell of the same cuts, of every stream.
@@ -70,4 +73,21 @@ pub fn rows_stay_those_of_the_schema()
     ensures run { (schema : Schema) (database : Database) (history : List Entry) (stepped : Stepped)
         → run (opening schema database) history ≡ Some stepped → list_all draws_uuids history ≡ true → Suits schema database
         → (stepped.state.schema ≡ schema) × SuitsState stepped.state }
+{}
+
+/// The rows that are kept are those that stand among some rows which keep one another: the greatest part of all rows that is
+/// supported (RFC 7047, 3.2, `<table-schema>`, isRoot).
+pub fn kept_rows_are_the_greatest_supported()
+    ensures { (schema : Schema) (rows : Database) → IsGreatestSupported schema rows (kept schema rows) }
+{}
+
+/// What a commit makes under an accepted schema is whole: each reference is to a row that is there, each row is supported, and no
+/// limit is broken. Of rows of the schema it makes rows of the schema, and what is whole it leaves as it is.
+pub fn what_is_committed_is_whole()
+    ensures whole { (tree : Data) (schema : Schema) (before rows database : Database) (version : Uuid)
+        → accepted tree ≡ Ok schema → committed schema before version rows ≡ Ok database → is_whole schema database ≡ true }
+    ensures suits { (schema : Schema) (before rows database : Database) (version : Uuid)
+        → Suits schema before → is_uuid version ≡ true → Suits schema rows → committed schema before version rows ≡ Ok database → Suits schema database }
+    ensures stays { (schema : Schema) (before rows : Database) (version : Uuid)
+        → Suits schema rows → is_whole schema rows ≡ true → committed schema before version rows ≡ Ok rows }
 {}

@@ -14,3 +14,4 @@ mod TwoSwitches
 mod StagedRows
 mod WaitRows
 mod TransactionRows
+mod IntegrityRows

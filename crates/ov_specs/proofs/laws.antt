@@ -29,3 +29,10 @@ pub mod Nesting
 pub mod Bodies
 pub mod Printing
 pub mod RowNames
+pub mod References
+pub mod KeptRows
+pub mod PrunedValues
+pub mod Pruning
+pub mod MixedPairs
+pub mod Following
+pub mod Committing

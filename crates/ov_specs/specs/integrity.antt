@@ -1,0 +1,4 @@
+pub mod References
+pub mod Kept
+pub mod Limits
+pub mod Committed
