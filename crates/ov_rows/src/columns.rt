@@ -121,6 +121,13 @@ impl Columns {
         }
     }
 
+    /// The names of the columns, ascending.
+    pub fn names(&self) -> &[String]
+        ensures { map string_bytes result.now ≡ keys self.now }
+    {
+        self.names.as_slice()
+    }
+
     /// The values, in ascending order of the names of their columns.
     pub fn values(&self) -> &[Datum]
         ensures { result.now ≡ values self.now }

@@ -1,5 +1,6 @@
 ghost use Rattle.std.specs.Prelude.{◌≡◌, IfOk};
 ghost use Rattle.std.specs.List.{list_any};
+ghost use Rattle.std.specs.Option.{option_copied};
 ghost use Rattle.std.specs.FinMap.{contains_key};
 ghost use Rattle.std.specs.Ordering.{eq_by_cmp};
 ghost use Rattle.ov_specs.specs.values.Value.{atom_cmp};
@@ -17,9 +18,9 @@ use ov_base::Text;
 use std::alloc::{AllocError, Global};
 use std::marker::Model;
 
-/// The table that an identifier refers to (RFC 7047, 3.2, `<base-type>`).
+/// The table that an identifier refers to, and how (RFC 7047, 3.2, `<base-type>`).
 #[derive(Drop)]
-pub(crate) struct Reference {
+pub struct Reference {
     table: Text,
     is_strong: bool,
 }
@@ -61,6 +62,22 @@ impl Model for BaseType {
     ghost view = { λ b. record { kind = kind_view b.kind; choices = option_map set_in b.choices; least = b.least; greatest = b.greatest; shortest = b.shortest; longest = b.longest; refers = b.refers } };
 }
 
+impl Reference {
+    /// The name of the table.
+    pub fn table(&self) -> &str
+        ensures { result.now ≡ self.now.table }
+    {
+        self.table.as_str()
+    }
+
+    /// Whether a row that is referred to stays (RFC 7047, 3.2, `<base-type>`, refType).
+    pub fn is_strong(&self) -> bool
+        ensures { result ≡ self.now.is_strong }
+    {
+        self.is_strong
+    }
+}
+
 impl BaseType {
     /// The base type of these members.
     pub(crate) fn build(alloc: Global, shape: &BaseShape<'_>) -> Result<BaseType, AllocError>
@@ -77,6 +94,13 @@ impl BaseType {
             longest: shape.longest,
             refers,
         })
+    }
+
+    /// The table that its identifiers refer to, if they do.
+    pub(crate) fn refers(&self) -> Option<&Reference>
+        ensures { option_copied result ≡ self.now.refers }
+    {
+        self.refers.as_ref()
     }
 
     /// The kind of its atoms.

@@ -1,4 +1,5 @@
-ghost use Rattle.std.specs.Prelude.{◌≡◌, IfOk};
+ghost use Rattle.std.specs.Prelude.{◌≡◌, IfOk, option_and_then};
+ghost use Rattle.std.specs.Option.{option_copied};
 ghost use Rattle.ov_specs.specs.schema.Fitting.{fits, default_of};
 ghost use Rattle.ov_specs.specs.schema.Schema.{accepted_column, own_column};
 ghost use Rattle.ov_specs.specs.schema.SchemaTypes.{kinds_of};
@@ -6,6 +7,7 @@ ghost use Rattle.ov_specs.specs.operations.Conditions.{is_scalar};
 ghost use Rattle.ov_atoms.specs.Views.{kinds_view};
 ghost use Rattle.ov_schema.specs.ShapeViews.{column_view};
 
+use crate::base_type::Reference;
 use crate::column_type::ColumnType;
 use crate::parse::base_shape::{BaseShape, TypeName};
 use crate::parse::type_shape::{ColumnShape, TypeShape};
@@ -61,6 +63,27 @@ impl Column {
         ensures { kinds_view result ≡ kinds_of self.now.type_of }
     {
         self.type_of.kinds()
+    }
+
+    /// The table that its atoms refer to, or the keys of its map, if they do (RFC 7047, 3.2, `<base-type>`, refTable).
+    pub fn key_refers(&self) -> Option<&Reference>
+        ensures { option_copied result ≡ self.now.type_of.key.refers }
+    {
+        self.type_of.key_refers()
+    }
+
+    /// The table that the values of its map refer to, if it is a map and they do (RFC 7047, 3.2, `<base-type>`, refTable).
+    pub fn value_refers(&self) -> Option<&Reference>
+        ensures { option_copied result ≡ option_and_then (λ b. b.refers) self.now.type_of.value }
+    {
+        self.type_of.value_refers()
+    }
+
+    /// The least count of atoms or pairs: 0 or 1 (RFC 7047, 3.2, `<type>`, min).
+    pub fn min(&self) -> i64
+        ensures { result ≡ self.now.type_of.min }
+    {
+        self.type_of.min()
     }
 
     /// Whether it holds one atom, no more and no less: no map, and `min` and `max` are both 1 (RFC 7047, 3.2, `<type>`).

@@ -1,5 +1,6 @@
-ghost use Rattle.std.specs.Prelude.{◌≡◌, ◌&&◌, IfOk, option_map};
+ghost use Rattle.std.specs.Prelude.{◌≡◌, ◌&&◌, IfOk, option_map, option_and_then};
 ghost use Rattle.std.specs.List.{list_all};
+ghost use Rattle.std.specs.Option.{option_copied};
 ghost use Rattle.ov_specs.specs.schema.Schema.{accepted_base, max_of, accepted_type};
 ghost use Rattle.ov_specs.specs.schema.SchemaTypes.{kinds_of};
 ghost use Rattle.ov_specs.specs.operations.Conditions.{is_scalar};
@@ -7,7 +8,7 @@ ghost use Rattle.ov_specs.specs.schema.Fitting.{atom_fits, value_fits, fits, def
 ghost use Rattle.ov_atoms.specs.Views.{kinds_view, atom_view, atoms_view, pairs_view};
 ghost use Rattle.ov_schema.specs.ShapeViews.{base_view, most_view, type_view};
 
-use crate::base_type::BaseType;
+use crate::base_type::{BaseType, Reference};
 use crate::limits::is_between;
 use crate::parse::base_shape::BaseShape;
 use crate::parse::type_shape::{Most, TypeShape};
@@ -47,6 +48,30 @@ impl ColumnType {
             min: shape.min.unwrap_or(1),
             max: max_of(shape.max),
         })
+    }
+
+    /// The table that the atoms, or the keys of a map, refer to, if they do.
+    pub(crate) fn key_refers(&self) -> Option<&Reference>
+        ensures { option_copied result ≡ self.now.key.refers }
+    {
+        self.key.refers()
+    }
+
+    /// The table that the values of a map refer to, if they do.
+    pub(crate) fn value_refers(&self) -> Option<&Reference>
+        ensures { option_copied result ≡ option_and_then (λ b. b.refers) self.now.value }
+    {
+        match &self.value {
+            Some(value) => value.refers(),
+            None => None,
+        }
+    }
+
+    /// The least count of atoms or pairs.
+    pub(crate) fn min(&self) -> i64
+        ensures { result ≡ self.now.min }
+    {
+        self.min
     }
 
     /// What the column holds: atoms of one kind, or pairs of two.

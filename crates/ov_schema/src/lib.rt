@@ -19,6 +19,7 @@ mod schema;
 mod table;
 mod text;
 
+pub use base_type::Reference;
 pub use column::Column;
 pub use fault::SchemaFault;
 pub use file_fault::SchemaFileFault;

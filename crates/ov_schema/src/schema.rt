@@ -1,6 +1,6 @@
 ghost use Rattle.std.specs.Prelude.{◌≡◌, IfOk, IfErr, map, Ok, option_map};
 ghost use Rattle.std.specs.Option.{option_copied};
-ghost use Rattle.std.specs.FinMap.{get};
+ghost use Rattle.std.specs.FinMap.{get, from_entries};
 ghost use Rattle.serde_json.specs.Data.{Data};
 ghost use Rattle.serde_json.specs.View.{view};
 ghost use Rattle.ov_specs.specs.schema.SchemaShape.{schema_shape};
@@ -78,6 +78,13 @@ impl Schema {
         ensures { result.now ≡ self.now.tree }
     {
         &self.tree
+    }
+
+    /// All tables with their names, in the order of the tree.
+    pub fn tables(&self) -> &[(Text, Table)]
+        ensures { from_entries result.now ≡ self.now.tables }
+    {
+        self.parts.tables.as_slice()
     }
 
     /// The table of this name. The tables are looked through one by one.

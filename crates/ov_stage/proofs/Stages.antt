@@ -19,11 +19,17 @@ use Rattle.ov_stage.proofs.SameRows.{columns-is, database-is}
 
 -- ---- what stands at a key
 
+pub row_changed : (delta : Delta) (db : Database) (key : LineKey) (change : Option Row) → get delta key ≡ Some change → change ≡ get (applied delta db) key
+row_changed delta db key change is = sym (get-applied delta db key ∙ ap (λ o. or_before o (get db key)) is)
+
+pub row_unchanged : (delta : Delta) (db : Database) (key : LineKey) → get delta key ≡ None → get db key ≡ get (applied delta db) key
+row_unchanged delta db key is = sym (get-applied delta db key ∙ ap (λ o. or_before o (get db key)) is)
+
 pub changed_here : (delta : Delta) (db : Database) (key : LineKey) (change : Option Row) → get delta key ≡ Some change → is_some change ≡ contains_key (applied delta db) key
-changed_here delta db key change is = sym (ap is_some (get-applied delta db key ∙ ap (λ o. or_before o (get db key)) is))
+changed_here delta db key change is = ap is_some (row_changed delta db key change is)
 
 pub unchanged_here : (delta : Delta) (db : Database) (key : LineKey) → get delta key ≡ None → contains_key db key ≡ contains_key (applied delta db) key
-unchanged_here delta db key is = sym (ap is_some (get-applied delta db key ∙ ap (λ o. or_before o (get db key)) is))
+unchanged_here delta db key is = ap is_some (row_unchanged delta db key is)
 
 -- ---- without changes
 

@@ -19,6 +19,7 @@ pub enum OpError {
     Range,
     TimedOut,
     Aborted,
+    ReferentialIntegrity,
     ResourcesExhausted,
     InputOutput,
 }
@@ -40,6 +41,7 @@ impl OpError {
             OpError::Range => "range error",
             OpError::TimedOut => "timed out",
             OpError::Aborted => "aborted",
+            OpError::ReferentialIntegrity => "referential integrity violation",
             OpError::ResourcesExhausted => "resources exhausted",
             OpError::InputOutput => "I/O error",
         }

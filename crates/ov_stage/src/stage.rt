@@ -1,4 +1,4 @@
-ghost use Rattle.std.specs.Prelude.{◌≡◌, ◌==◌, map, option_to_list, IfOk, OnOk, OnErr};
+ghost use Rattle.std.specs.Prelude.{◌≡◌, ◌==◌, map, option_copied, option_to_list, IfOk, OnOk, OnErr};
 ghost use Rattle.std.specs.List.{filter};
 ghost use Rattle.std.specs.FinMap.{contains_key, get, insert, remove, entries, len};
 ghost use Rattle.ov_db.specs.Changing.{applied};
@@ -7,7 +7,7 @@ ghost use Rattle.ov_specs.specs.operations.MatchingRows.{matching};
 ghost use Rattle.ov_specs.specs.rows.Database.{same_database};
 ghost use Rattle.ov_specs.specs.rows.Version.{row_now};
 ghost use Rattle.std.specs.Str.{bytes_eq};
-ghost use Rattle.ov_stage.specs.Staging.{is_met, with_key};
+ghost use Rattle.ov_stage.specs.Staging.{Differs, is_met, with_key};
 
 use crate::conditions::{meeting, only_id};
 use crate::former::is_former;
@@ -51,6 +51,31 @@ impl<'a> Stage<'a> {
         }
     }
 
+    /// The rows before the first operation.
+    pub fn before(&self) -> &Rows
+        ensures { result.now ≡ self.now.before }
+    {
+        self.rows
+    }
+
+    /// What the operations have changed so far. Each change is one: it differs from what stood at its key before.
+    pub fn changes(&self) -> &Delta
+        ensures made { applied result.now self.now.before ≡ self.now.now }
+        ensures differs { Differs result.now self.now.before }
+    {
+        &self.delta
+    }
+
+    /// The row of this key as it is now, if there is one. No other row is looked at.
+    pub fn row(&self, key: &RowKey) -> Option<&Row>
+        ensures { option_copied result ≡ get self.now.now key.now }
+    {
+        match self.delta.change(key) {
+            Some(change) => change.as_ref(),
+            None => self.rows.row(key.table(), key.id()),
+        }
+    }
+
     /// Whether there is a row of this key now.
     pub fn contains(&self, key: &RowKey) -> bool
         ensures { result ≡ contains_key self.now.now key.now }
@@ -89,7 +114,7 @@ impl<'a> Stage<'a> {
     }
 
     /// The rows of the table of this name as they are now, in ascending order of their identifiers.
-    pub(crate) fn rows_of(&self, alloc: Global, table: &str) -> Result<Vec<RowView<'_>>, AllocError>
+    pub fn rows_of(&self, alloc: Global, table: &str) -> Result<Vec<RowView<'_>>, AllocError>
         ensures { IfOk result (λ rows. map (lent_row_of table.now) rows.items ≡ filter (λ r. bytes_eq r.0.0 table.now) (entries self.now.now)) }
     {
         let rows = rows_of(alloc, self.rows, table)?;
