@@ -1,5 +1,5 @@
 //! Tests of what is told by the arguments alone: the program's arguments, cuts, messages and frames, trees, values, schemas,
-//! conditions and mutations.
+//! conditions and mutations, and what rows refer to.
 #![tactic(auto)]
 
 #[cfg(test)]
@@ -18,6 +18,8 @@ mod given;
 mod messages;
 #[cfg(test)]
 mod mutations;
+#[cfg(test)]
+mod references;
 #[cfg(test)]
 mod schema_files;
 #[cfg(test)]

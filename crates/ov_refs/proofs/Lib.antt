@@ -1,0 +1,4 @@
+pub mod Referring
+pub mod KeySets
+pub mod HolderMaps
+pub mod Collecting

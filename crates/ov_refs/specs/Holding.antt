@@ -1,0 +1,52 @@
+-- Who refers to which row, as maps. What names no source is our own.
+use Rattle.std.specs.Prelude.{List, map, Bool, Option, Some, None, unwrap_or}
+use Rattle.std.specs.Coded.{Coded, coded×, coded_ℕ, coded_list}
+use base.Stored.{coded_unit}
+use Rattle.std.specs.FinMap as map
+use Rattle.std.specs.FinMap.{FinMap, empty, get, contains_key, insert, remove}
+use Rattle.ov_specs.specs.rows.Lines.{LineKey, line_cmp}
+use Rattle.ov_specs.specs.schema.Schema.{is_some_and}
+
+-- a set of keys
+abbrev pub KeySet : Type 0
+KeySet = FinMap line_cmp (Unit {0})
+
+-- a key as an entry of a set
+abbrev pub marked : LineKey → LineKey × Unit {0}
+marked key = (key, tt)
+
+-- the set of an ascending list
+abbrev pub set_of_keys : List LineKey → KeySet
+set_of_keys keys = map.from_sorted {R = line_cmp} (map marked keys)
+
+-- for each row those that refer to it
+abbrev pub Holders : Type 0
+Holders = FinMap line_cmp KeySet
+
+-- the holders of an ascending list
+abbrev pub holders_of : List (LineKey × KeySet) → Holders
+holders_of es = map.from_sorted {R = line_cmp} es
+
+-- the one refers to the other
+abbrev pub is_holder : Holders → LineKey → LineKey → Bool
+is_holder holders to from = is_some_and (λ set. contains_key set from) (get holders to)
+
+-- with one more that refers to the row
+abbrev pub with_holder : LineKey → LineKey → Holders → Holders
+with_holder to from holders = insert holders to (insert (unwrap_or (get holders to) empty) from tt)
+
+-- without the one, where there is one
+abbrev pub without : Option KeySet → LineKey → LineKey → Holders → Holders
+without None to from holders = holders
+without (Some set) to from holders = insert holders to (remove set from)
+
+-- without one that refers to the row
+abbrev pub without_holder : LineKey → LineKey → Holders → Holders
+without_holder to from holders = without (get holders to) to from holders
+
+-- how models store them
+abbrev pub key_set_code : Coded KeySet
+key_set_code = map.code (coded× (coded_list coded_ℕ) (coded_list coded_ℕ)) coded_unit
+
+abbrev pub holders_code : Coded Holders
+holders_code = map.code (coded× (coded_list coded_ℕ) (coded_list coded_ℕ)) key_set_code

@@ -1,0 +1,81 @@
+ghost use Rattle.std.specs.Prelude.{◌≡◌, option_copied, OnOk, OnErr};
+ghost use Rattle.std.specs.FinMap.{empty, entries, get};
+ghost use Rattle.ov_refs.specs.Holding.{with_holder, without_holder};
+
+use crate::key_set::KeySet;
+use ov_rows::RowKey;
+use std::alloc::{AllocError, Global};
+use std::collections::BTreeMap;
+use std::marker::Model;
+
+/// For each row, and for what is no row yet or no more, those that refer to it.
+#[derive(Drop)]
+pub struct Holders {
+    of: BTreeMap<RowKey, KeySet>,
+}
+
+impl Model for Holders {
+    ghost use Rattle.std.specs.Prelude.{T};
+    ghost use Rattle.std.specs.FinMap.{is_sorted};
+    ghost use Rattle.ov_specs.specs.rows.Lines.{line_cmp};
+    ghost use Rattle.ov_refs.specs.Holding as holding;
+    ghost use Rattle.ov_refs.specs.Holding.{holders_code, holders_of};
+
+    ghost Value = { holding.Holders };
+
+    ghost coded = { holders_code };
+
+    ghost view = { λ h. holders_of h.of.entries };
+
+    ghost invariant = { λ h. T (is_sorted line_cmp h.of.entries) };
+}
+
+impl Holders {
+    /// Nobody refers to any row.
+    pub fn new(alloc: Global) -> Holders
+        ensures { result ≡ empty }
+    {
+        Holders {
+            of: BTreeMap::new(alloc),
+        }
+    }
+
+    /// Those that refer to the row; none where nobody ever did.
+    pub fn of(&self, to: &RowKey) -> Option<&KeySet>
+        ensures { option_copied result ≡ get self.now to.now }
+    {
+        self.of.get(to)
+    }
+
+    /// All rows that somebody ever referred to, ascending, with those that do now.
+    pub fn map(&self) -> &BTreeMap<RowKey, KeySet>
+        ensures { result.now.entries ≡ entries self.now }
+    {
+        &self.of
+    }
+
+    /// One more that refers to the row, unless it does already. Where a growth is refused, nothing is changed.
+    pub fn add(&mut self, alloc: Global, to: RowKey, from: RowKey) -> Result<(), AllocError>
+        ensures ok { OnOk result (self.new ≡ with_holder to from self.old) }
+        ensures err { OnErr result (self.new ≡ self.old) }
+    {
+        match self.of.get_mut(&to) {
+            Some(set) => set.insert(from),
+            None => {
+                let mut set = KeySet::new(alloc);
+                set.insert(from)?;
+                self.of.insert(to, set)?;
+                Ok(())
+            }
+        }
+    }
+
+    /// One fewer, if it refers to the row.
+    pub fn remove(&mut self, to: &RowKey, from: &RowKey)
+        ensures { self.new ≡ without_holder to.now from.now self.old }
+    {
+        if let Some(set) = self.of.get_mut(to) {
+            set.remove(from);
+        }
+    }
+}

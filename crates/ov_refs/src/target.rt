@@ -1,0 +1,21 @@
+use ov_rows::RowKey;
+use std::marker::Model;
+
+/// The row that a reference is to (RFC 7047, 3.2, `<base-type>`).
+#[derive(Drop)]
+pub struct Target {
+    pub key: RowKey,
+    /// Whether the row stays as long as it is referred to (RFC 7047, 3.2, `<base-type>`, refType).
+    pub is_strong: bool,
+}
+
+impl Model for Target {
+    ghost use Rattle.ov_specs.specs.integrity.References as references;
+    ghost use Rattle.ov_refs.specs.Targets.{target_code};
+
+    ghost Value = { references.Target };
+
+    ghost coded = { target_code };
+
+    ghost view = { λ t. record { key = t.key; is_strong = t.is_strong } };
+}
