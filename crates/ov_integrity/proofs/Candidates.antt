@@ -1,0 +1,94 @@
+-- Rows that may have dangling references are those that were changed, and those that referred weakly to one that was taken out.
+use Rattle.std.proofs.Common.{◌≡◌, List, [], ◌∷◌, Bool, true, false, cond, ◌||◌, ◌⊎◌, inl, inr, is_some, flat_map, Option, Some, None, refl, sym, ap, subst, ◌∙◌}
+use Rattle.std.proofs.lemmas.Bool.{or_left, or_right}
+use Rattle.std.proofs.lemmas.List.Folds.{list_any-append}
+use Rattle.std.proofs.lemmas.Option.{same_Some}
+use Rattle.std.specs.FinMap.{get, contains_key, keys, entries, find, get-entries}
+use Rattle.std.specs.FinMap.Entries.{is_some-find}
+use Rattle.std.specs.List.{list_any}
+use Rattle.std.specs.Ordering.{eq_by_cmp}
+use Rattle.ov_db.specs.Changing.{Delta, applied}
+use Rattle.ov_db.proofs.Places.{or_before, get-applied}
+use Rattle.ov_refs.specs.Holding.{KeySet, is_holder}
+use Rattle.ov_refs.specs.Linking.{Links}
+use Rattle.ov_specs.specs.integrity.References.{refers_weakly}
+use Rattle.ov_specs.specs.rows.Database.{Row, Database, same_key}
+use Rattle.ov_specs.specs.rows.Lines.{LineKey, line_cmp}
+use Rattle.ov_specs.specs.schema.Schema.{is_some_and}
+use Rattle.ov_specs.proofs.laws.Committing.{whole_is}
+use Rattle.ov_specs.proofs.laws.Following.{HasGoneTarget, dangles_follows}
+use Rattle.ov_specs.proofs.laws.LineKeys.{tied_same}
+use Rattle.ov_integrity.specs.Pruning.{AreCandidates, keys_held, may_dangle_by}
+use Rattle.ov_integrity.proofs.Keys.{none_is, same_key-itself, same_key-tied}
+
+-- what is found at a key has its share in the whole
+any_at_entry : (f : LineKey × Option Row → List LineKey) (test : LineKey → Bool) (key : LineKey) (change : Option Row) (es : List (LineKey × Option Row)) → find line_cmp key es ≡ Some change
+    → list_any test (f (key, change)) ≡ true → list_any test (flat_map f es) ≡ true
+any_at_entry f test key change [] found any = cc
+any_at_entry f test key change (e ∷ es) found any =
+    list_any-append test (f e) (flat_map f es) ∙ by (eq_by_cmp line_cmp key e.0) refl found (λ later. any_at_entry f test key change es later any)
+  where
+    by : (b : Bool) → eq_by_cmp line_cmp key e.0 ≡ b → cond b (Some e.1) (find line_cmp key es) ≡ Some change → (find line_cmp key es ≡ Some change → list_any test (flat_map f es) ≡ true)
+        → (list_any test (f e) || list_any test (flat_map f es)) ≡ true
+    by true same found others =
+        or_left (list_any test (f e)) (list_any test (flat_map f es))
+        (subst (λ (c : LineKey × Option Row). list_any test (f c) ≡ true) (λ i. (tied_same key e.0 same i, sym (same_Some e.1 change found) i)) any)
+    by false other found others = or_right (list_any test (f e)) (list_any test (flat_map f es)) (others found)
+
+-- one that a set contains is one of its keys
+holder_is : (key : LineKey) (o : Option KeySet) → is_some_and (λ set. contains_key set key) o ≡ true → list_any (same_key key) (keys_held o) ≡ true
+holder_is key None h = cc
+holder_is key (Some set) h =
+    (λ i. list_any (λ other. same_key-tied key other i) (keys set)) ∙ sym (is_some-find line_cmp key (entries set)) ∙ sym (ap is_some (get-entries set key)) ∙ h
+
+none_there : {X : Type 0} (o : Option X) → is_some o ≡ false → o ≡ None
+none_there None h = refl
+none_there (Some x) h = cc
+
+module _ (delta : Delta) (before now : Database) (made : applied delta before ≡ now) where
+  stands : (key : LineKey) → get now key ≡ or_before (get delta key) (get before key)
+  stands key = ap (λ (rows : Database). get rows key) (sym made) ∙ get-applied delta before key
+
+  beside : (key : LineKey) → contains_key delta key ≡ false → get now key ≡ get before key
+  beside key none = stands key ∙ ap (λ o. or_before o (get before key)) (none_there (get delta key) none)
+
+  module _ (links : Links) where
+    abbrev listed : List LineKey
+    listed = flat_map (may_dangle_by links.weak) (entries delta)
+
+    by_change : (to key : LineKey) (change : Option Row) → get delta to ≡ Some change → list_any (same_key key) (may_dangle_by links.weak (to, change)) ≡ true → list_any (same_key key) listed ≡ true
+    by_change to key change at any = any_at_entry (may_dangle_by links.weak) (same_key key) to change (entries delta) (sym (get-entries delta to) ∙ at) any
+
+    itself : (key : LineKey) (change : Option Row) → list_any (same_key key) (may_dangle_by links.weak (key, change)) ≡ true
+    itself key (Some row) = or_left (same_key key key) false (same_key-itself key)
+    itself key None = or_left (same_key key key) (list_any (same_key key) (keys_held (get links.weak key))) (same_key-itself key)
+
+    changed_is : (key : LineKey) → contains_key delta key ≡ true → list_any (same_key key) listed ≡ true
+    changed_is key so = by (get delta key) refl so
+      where
+        by : (o : Option (Option Row)) → get delta key ≡ o → is_some o ≡ true → list_any (same_key key) listed ≡ true
+        by None at h = cc
+        by (Some change) at h = by_change key key change at (itself key change)
+
+    held_is : (to key : LineKey) → contains_key delta to ≡ true → get now to ≡ None → is_holder links.weak to key ≡ true → list_any (same_key key) listed ≡ true
+    held_is to key so gone holds = by (get delta to) refl so
+      where
+        by : (o : Option (Option Row)) → get delta to ≡ o → is_some o ≡ true → list_any (same_key key) listed ≡ true
+        by None at h = cc
+        by (Some (Some row)) at h = absurd (none_is row (sym gone ∙ stands to ∙ ap (λ o. or_before o (get before to)) at))
+        by (Some None) at h =
+            by_change to key None at (or_right (same_key key to) (list_any (same_key key) (keys_held (get links.weak to))) (holder_is key (get links.weak to) holds))
+
+    pub candidates_are : AreCandidates before now links listed
+    candidates_are schema whole linked key row found dangling =
+        by (dangles_follows schema before now (contains_key delta) beside (whole_is schema before whole).targets key row found dangling)
+      where
+        at : (b : Bool) → contains_key delta key ≡ b → HasGoneTarget schema before now (contains_key delta) (key, row) → list_any (same_key key) listed ≡ true
+        at true so gone = changed_is key so
+        at false so gone =
+            held_is gone.0 key gone.1 gone.3
+            (linked.weak gone.0 key ∙ ap (is_some_and (λ r. refers_weakly schema (key, r) gone.0)) (sym (beside key so) ∙ found) ∙ gone.4)
+
+        by : (contains_key delta key ≡ true) ⊎ HasGoneTarget schema before now (contains_key delta) (key, row) → list_any (same_key key) listed ≡ true
+        by (inl so) = changed_is key so
+        by (inr gone) = at (contains_key delta key) refl gone

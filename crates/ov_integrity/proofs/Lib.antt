@@ -1,0 +1,16 @@
+pub mod Keys
+pub mod Lacking
+pub mod Fewer
+pub mod PrunedAt
+pub mod Short
+pub mod Alike
+pub mod Entries
+pub mod Repeating
+pub mod ChangedRows
+pub mod HeldKeys
+pub mod MissingRows
+pub mod PrunedColumns
+pub mod Unclashed
+pub mod Candidates
+pub mod PrunedInTurn
+pub mod SupportedRows

@@ -1,0 +1,50 @@
+-- What a transaction has changed, and how it is collected. What names no source is our own.
+use Rattle.std.specs.Prelude.{◌≡◌, ◌&&◌, not, List, [], ◌∷◌, Bool, false, Option, Some, None, if◌then◌else◌, refl}
+use Rattle.std.specs.Coded.{Coded, code_by, coded×}
+use Rattle.std.specs.FinMap.{get, contains_key, insert, keys}
+use Rattle.std.specs.List.{list_any}
+use Rattle.ov_specs.specs.schema.Schema.{is_some_and}
+use Rattle.ov_refs.specs.Holding.{KeySet, Holders, key_set_code, holders_code, is_holder, with_holder}
+use Rattle.ov_refs.specs.Linking.{is_strong_in}
+use Rattle.ov_specs.specs.integrity.References.{Target, row_targets}
+use Rattle.ov_specs.specs.rows.Database.{Row, Database}
+use Rattle.ov_specs.specs.rows.Lines.{LineKey}
+use Rattle.ov_specs.specs.schema.SchemaTypes.{Schema}
+
+-- the keys that are changed, and the rows there that refer strongly to rows
+pub record Changes : Type 0 where
+  pub keys : KeySet
+  pub strong : Holders
+
+-- changes as a pair
+abbrev pub changes_code : Coded Changes
+changes_code = code_by (KeySet × Holders) (coded× key_set_code holders_code) (λ c. (c.keys, c.strong)) (λ p. record { keys = p.0; strong = p.1 }) (λ _. refl)
+
+-- At all other keys the rows are as they were; and of the rows at these keys those refer strongly to a row that are its holders.
+pub record AreChanges (schema : Schema) (before now : Database) (changes : Changes) : Type 0 where
+  pub beside : (key : LineKey) → contains_key changes.keys key ≡ false → get now key ≡ get before key
+  pub strong : (to from : LineKey) → is_holder changes.strong to from ≡ (contains_key changes.keys from && is_strong_in schema now to from)
+
+-- ---- how they are collected; for private clauses
+
+-- with the row of this key, where its reference is a strong one
+abbrev pub with_strong : LineKey → Target → Changes → Changes
+with_strong from target changes = if target.is_strong then record changes { strong = with_holder target.key from changes.strong } else changes
+
+-- with the row of this key for each strong one of its references
+abbrev pub with_strong_ones : LineKey → List Target → Changes → Changes
+with_strong_ones from [] changes = changes
+with_strong_ones from (target ∷ targets) changes = with_strong_ones from targets (with_strong from target changes)
+
+-- with the key
+abbrev pub with_key : LineKey → Changes → Changes
+with_key key changes = record changes { keys = insert changes.keys key tt }
+
+-- with a change
+abbrev pub with_change : Schema → LineKey × Option Row → Changes → Changes
+with_change schema (key, None) changes = with_key key changes
+with_change schema (key, Some row) changes = with_strong_ones key (row_targets schema (key, row)) (with_key key changes)
+
+-- a row that is none of these refers to the one of this key
+abbrev pub is_held_beside : Holders → KeySet → LineKey → Bool
+is_held_beside holders others key = is_some_and (λ set. list_any (λ from. not (contains_key others from)) (keys set)) (get holders key)

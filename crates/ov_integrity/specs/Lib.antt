@@ -1,0 +1,6 @@
+pub mod Pruning
+pub mod Supporting
+pub mod Changes
+pub mod Linked
+pub mod Repeating
+pub mod Finishing

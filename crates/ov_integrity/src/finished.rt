@@ -1,0 +1,79 @@
+ghost use Rattle.std.specs.Prelude.{◌≡◌, true, IfOk};
+ghost use Rattle.ov_refs.specs.Linking.{AreLinksOf};
+ghost use Rattle.ov_specs.specs.integrity.Committed.{committed, is_whole};
+ghost use Rattle.ov_specs.specs.rows.Suits.{Suits};
+ghost use Rattle.ov_integrity.specs.Finishing.{IsFinished};
+
+use crate::changes::Changes;
+use crate::limits::breaks_a_limit;
+use crate::missing::misses;
+use crate::prune::prune;
+use crate::support::drop_unsupported;
+use ov_db::Delta;
+use ov_refs::Links;
+use ov_schema::Schema;
+use ov_stage::{OpError, Stage};
+use std::alloc::{AllocError, Global};
+use uuid::Uuid;
+
+/// What the end of a transaction comes to.
+#[derive(Drop)]
+pub enum Finished {
+    /// This is to be changed.
+    Changed(Delta),
+    /// The commit fails: `ReferentialIntegrity` or `Constraint`.
+    Refused(OpError),
+    /// A growth was refused.
+    NoMemory,
+}
+
+/// What is to be changed, or the error of the commit, where there is memory for it.
+fn finish_stage(
+    alloc: Global,
+    schema: &Schema,
+    version: Uuid,
+    links: &Links,
+    stage: Stage<'_>,
+) -> Result<Finished, AllocError>
+    requires whole { is_whole schema.now stage.before ≡ true }
+    requires linked { AreLinksOf schema.now stage.before links.now }
+    requires suits { Suits schema.now stage.now }
+    ensures { IfOk result (IsFinished (committed schema.now stage.entry.before version stage.entry.now) stage.entry.before) }
+{
+    let changes = Changes::of(alloc, schema, &stage)?;
+    if misses(alloc, schema, links, &changes, &stage)? {
+        return Ok(Finished::Refused(OpError::ReferentialIntegrity));
+    }
+    let mut stage = stage;
+    drop_unsupported(alloc, schema, links, &changes, &mut stage)?;
+    if prune(alloc, schema, version, links, &mut stage)? {
+        return Ok(Finished::Refused(OpError::Constraint));
+    }
+    if breaks_a_limit(alloc, schema, &stage)? {
+        return Ok(Finished::Refused(OpError::Constraint));
+    }
+    Ok(Finished::Changed(stage.into_delta()))
+}
+
+/// What a commit of this version makes of the rows that the operations left on a stage (RFC 7047, 3.2 and 5.2). A strong
+/// reference to a row that is not there is refused. Rows that nothing keeps go, and then weak references to rows that are not
+/// there. Then a value that is too short, a table with too many rows, and two rows that are alike in an index are refused.
+///
+/// The rows before the transaction are whole, and the links are theirs. Only what the transaction changed is followed.
+pub fn finish(
+    alloc: Global,
+    schema: &Schema,
+    version: Uuid,
+    links: &Links,
+    stage: Stage<'_>,
+) -> Finished
+    requires whole { is_whole schema.now stage.before ≡ true }
+    requires linked { AreLinksOf schema.now stage.before links.now }
+    requires suits { Suits schema.now stage.now }
+    ensures { IsFinished (committed schema.now stage.entry.before version stage.entry.now) stage.entry.before result }
+{
+    match finish_stage(alloc, schema, version, links, stage) {
+        Ok(finished) => finished,
+        Err(_) => Finished::NoMemory,
+    }
+}

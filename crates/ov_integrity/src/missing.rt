@@ -1,0 +1,85 @@
+ghost use Rattle.std.specs.Prelude.{◌≡◌, not, true, IfOk};
+ghost use Rattle.std.specs.FinMap.{contains_key, keys};
+ghost use Rattle.std.specs.List.{list_any};
+ghost use Rattle.ov_refs.specs.Linking.{AreLinksOf};
+ghost use Rattle.ov_integrity.specs.Changes.{AreChanges, is_held_beside};
+ghost use Rattle.ov_specs.specs.integrity.Committed.{is_missing, is_whole};
+ghost use Rattle.ov_specs.specs.integrity.References.{references, row_references};
+
+use crate::changes::Changes;
+use ov_refs::{KeySet, Links, targets_of};
+use ov_rows::{Row, RowKey};
+use ov_schema::Schema;
+use ov_stage::Stage;
+use std::alloc::{AllocError, Global};
+
+/// Whether the row of this key refers strongly to one that is not there.
+fn row_misses(
+    alloc: Global,
+    schema: &Schema,
+    stage: &Stage<'_>,
+    key: &RowKey,
+    row: &Row,
+) -> Result<bool, AllocError>
+    ensures { IfOk result (λ misses. misses ≡ list_any (is_missing stage.now.now) (row_references schema.now (key.now, row.now))) }
+{
+    for target in targets_of(alloc, schema, key.table(), &row.columns)? {
+        if target.is_strong && !stage.contains(&target.key) {
+            return Ok(true);
+        }
+    }
+    Ok(false)
+}
+
+/// Whether one of these keys is none of the others.
+fn has_other(set: &KeySet, others: &KeySet) -> bool
+    ensures { result ≡ list_any (λ key. not (contains_key others.now key)) (keys set.now) }
+{
+    for key in set.as_set() {
+        if !others.contains(key) {
+            return true;
+        }
+    }
+    false
+}
+
+/// Whether a strong reference is to a row that is not there (RFC 7047, 3.2, `<base-type>`, refType). It is one of a row that was
+/// changed, or one to a row that was taken out.
+pub(crate) fn misses(
+    alloc: Global,
+    schema: &Schema,
+    links: &Links,
+    changes: &Changes,
+    stage: &Stage<'_>,
+) -> Result<bool, AllocError>
+    requires whole { is_whole schema.now stage.now.before ≡ true }
+    requires linked { AreLinksOf schema.now stage.now.before links.now }
+    requires changed { AreChanges schema.now stage.now.before stage.now.now changes.now }
+    ensures { IfOk result (λ misses. misses ≡ list_any (is_missing stage.now.now) (references schema.now stage.now.now)) }
+{
+    for key in changes.keys().as_set() {
+        match stage.row(key) {
+            Some(row) => {
+                if row_misses(alloc, schema, stage, key, row)? {
+                    return Ok(true);
+                }
+            }
+            None => {
+                if is_held_beside(links, changes, key) {
+                    return Ok(true);
+                }
+            }
+        }
+    }
+    Ok(false)
+}
+
+/// Whether a row that is as it was refers strongly to the one of this key.
+fn is_held_beside(links: &Links, changes: &Changes, key: &RowKey) -> bool
+    ensures { result ≡ is_held_beside links.now.strong changes.now.keys key.now }
+{
+    match links.strong().of(key) {
+        Some(holders) => has_other(holders, changes.keys()),
+        None => false,
+    }
+}
