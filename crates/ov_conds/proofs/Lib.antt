@@ -2,3 +2,4 @@ pub mod Seen
 pub mod WalkLemmas
 pub mod CompareLemmas
 pub mod OnlyIds
+pub mod EqualValues

@@ -1,10 +1,11 @@
-ghost use Rattle.std.specs.Prelude.{◌≡◌, true, IfOk, IfSome};
+ghost use Rattle.std.specs.Prelude.{◌≡◌, true, IfOk, IfSome, option_copied};
 ghost use Rattle.serde_json.specs.View.{view};
 ghost use Rattle.ov_specs.specs.operations.Conditions.{column_value, holds, compares, value_read, condition_read, suits_condition};
 ghost use Rattle.ov_specs.specs.rows.Database.{one_uuid};
 ghost use Rattle.ov_specs.specs.values.Reading.{reads};
 ghost use Rattle.ov_specs.specs.values.Uuid.{AreUuids};
 ghost use Rattle.ov_specs.specs.schema.SchemaTypes.{kinds_of};
+ghost use Rattle.ov_conds.specs.EqualTo.{IsValueIn, equal_value, equals};
 ghost use Rattle.ov_conds.specs.OnlyId.{IsOnlyOf, equal_uuid, only_id};
 ghost use Rattle.ov_conds.specs.Views.{function_view, IsConditionRead};
 
@@ -107,6 +108,27 @@ impl Condition {
     {
         match self.function {
             Function::Equal => Elements::of(&self.value).uuid(),
+            _ => None,
+        }
+    }
+
+    /// The value that each row that meets the condition has in the column of this name, where the column is to be equal to it.
+    pub fn equals(&self, column: &str) -> Option<&Datum>
+        ensures value { option_copied result ≡ equals column.now self.now }
+        ensures only { IfSome result (λ value. IsValueIn column.now value.now self.now) }
+    {
+        if self.column.as_str() == column {
+            self.equal_value()
+        } else {
+            None
+        }
+    }
+
+    fn equal_value(&self) -> Option<&Datum>
+        ensures { option_copied result ≡ equal_value self.now.function self.now.value }
+    {
+        match self.function {
+            Function::Equal => Some(&self.value),
             _ => None,
         }
     }
