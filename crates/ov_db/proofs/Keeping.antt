@@ -7,6 +7,7 @@ use Rattle.ov_specs.specs.wire.Message.{tree_of}
 use Rattle.std.proofs.lemmas.Option.{same_Some}
 use Rattle.std.specs.FinMap.{empty, get, insert, get-empty, get-insert, get-entries, entries, find}
 use Rattle.serde_json.specs.Written.{compact_text}
+use Rattle.ov_specs.specs.integrity.Committed.{is_whole}
 use Rattle.ov_specs.specs.rows.Database.{Database, Row, line_of}
 use Rattle.ov_specs.specs.rows.Lines.{LineKey, LineBody, Contents, line_cmp}
 use Rattle.ov_specs.specs.rows.Suits.{SuitsRow}
@@ -86,25 +87,36 @@ changes_kept schema delta rows suit read kept = record {
 
 -- ---- what an open may find
 
--- lines of rows that read back can be opened as these rows
+-- lines of rows that read back and are whole can be opened as these rows
 pub found_rows : (leaves : Contents → Type 0) (schema : Schema) (committed : Database) (sealed : Option Database) → MayHold leaves (compact_text schema.tree) committed sealed
     → AreKept schema committed sealed → MayFind leaves schema committed sealed
 found_rows leaves schema committed sealed may kept held left = by (may held left)
   where
     by : IsHeld (compact_text schema.tree) committed sealed held → CanOpen schema committed held ⊎ ((database : Database) × (sealed ≡ Some database) × CanOpen schema database held)
-    by (text, inl lines) = inl (record { same_schema = text; rows = lines_read_back schema held.lines committed kept.committed_kept.read_back lines })
-    by (text, inr (database, is, lines)) = inr (database, is, record { same_schema = text; rows = lines_read_back schema held.lines database (kept.sealed_kept database is).read_back lines })
+    by (text, inl lines) = inl (record { same_schema = text; rows = lines_read_back schema held.lines committed kept.committed_kept.read_back lines; whole = kept.committed_whole })
+    by (text, inr (database, is, lines)) = inr (database, is, record { same_schema = text; rows = lines_read_back schema held.lines database (kept.sealed_kept database is).read_back lines; whole = kept.sealed_whole database is })
 
 -- ---- what a step of a function shows
 
-pub sealed_none : (schema : Schema) (committed : Database) → KeepsRows schema committed → AreKept schema committed None
-sealed_none schema committed kept = record { committed_kept = kept; sealed_kept = λ database is. absurd (no database is) }
+pub sealed_none : (schema : Schema) (committed : Database) → KeepsRows schema committed → is_whole schema committed ≡ true → AreKept schema committed None
+sealed_none schema committed kept whole = record {
+  committed_kept = kept;
+  committed_whole = whole;
+  sealed_kept = λ database is. absurd (no database is);
+  sealed_whole = λ database is. absurd (no database is);
+}
   where
     no : (database : Database) → None ≡ Some database → ⊥
     no database e = cc
 
-pub sealed_some : (schema : Schema) (committed failed : Database) → KeepsRows schema committed → KeepsRows schema failed → AreKept schema committed (Some failed)
-sealed_some schema committed failed kept left = record { committed_kept = kept; sealed_kept = λ database is. subst (KeepsRows schema) (same_Some failed database is) left }
+pub sealed_some : (schema : Schema) (committed failed : Database) → KeepsRows schema committed → is_whole schema committed ≡ true → KeepsRows schema failed → is_whole schema failed ≡ true
+    → AreKept schema committed (Some failed)
+sealed_some schema committed failed kept whole left left_whole = record {
+  committed_kept = kept;
+  committed_whole = whole;
+  sealed_kept = λ database is. subst (KeepsRows schema) (same_Some failed database is) left;
+  sealed_whole = λ database is. subst (λ (d : Database). is_whole schema d ≡ true) (same_Some failed database is) left_whole;
+}
 
 -- a body that reads back, as a call says it
 pub read_as_written : {E : Type 0} (row : Row) (result : Result (List ℕ) E) → IfOk result (λ text. text ≡ compact_text (body_of row.columns))

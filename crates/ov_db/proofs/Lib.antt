@@ -7,3 +7,4 @@ pub mod ReadsBack
 pub mod StoredSuits
 pub mod Keeping
 pub mod Guessed
+pub mod Residing

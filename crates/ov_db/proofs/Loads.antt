@@ -20,7 +20,7 @@ use Rattle.ov_db.specs.declared.fault.OpenFault.{OpenFault}
 use Rattle.ov_db.specs.declared.fault.OpenFault.TheVariants.{SchemaDiffers, BadBody, Broken, Keeping}
 use Rattle.ov_keeper.specs.declared.keeper.Loaded.{Loaded}
 use Rattle.ov_db.proofs.Added.{same}
-use Rattle.ov_db.specs.Opening.{CanOpen, IsOwnFault, RefusesOpen}
+use Rattle.ov_db.specs.Opening.{HoldsRows, IsOwnFault, RefusesOpen}
 use Rattle.ov_db.specs.Loading.{IsNotLoaded, IsLoaded, with_line, with_lines}
 use Rattle.ov_db.specs.Stored.{AreRowsOf, HasBadLine, columns_stored, row_of_columns, row_of_table, row_stored}
 
@@ -184,10 +184,10 @@ module _ (schema : Schema) (loaded : Loaded) where
   abbrev lines : List (LineKey × LineBody)
   lines = map line_entry loaded.lines.items
 
-  -- the rows of what can be opened, or the cause why it can't
+  -- the rows of what is held, or the cause why it is none
   pub opens : (result : Result Database OpenFault) → loaded.schema ≡ compact_text schema.tree → IsLoaded (λ rows. rows) (with_lines schema lines empty) result
-      → IfOk result (λ rows. CanOpen schema rows (loaded_contents loaded)) × IfErr result (RefusesOpen schema (loaded_contents loaded)) × IfErr result IsOwnFault
-  opens (Ok rows) same_text is = (record { same_schema = same_text; rows = are_rows schema lines rows is }, tt, tt)
+      → IfOk result (HoldsRows schema (loaded_contents loaded)) × IfErr result (RefusesOpen schema (loaded_contents loaded)) × IfErr result IsOwnFault
+  opens (Ok rows) same_text is = ((same_text, are_rows schema lines rows is), tt, tt)
   opens (Err BadBody) same_text is = (tt, (same_text, has_bad_line schema lines is), tt)
   opens (Err (Keeping fault)) same_text is = (tt, tt, is)
   opens (Err SchemaDiffers) same_text is = absurd is

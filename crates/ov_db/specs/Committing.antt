@@ -1,5 +1,6 @@
 -- What a commit makes of a database, and what an open may find of it. What names no source is our own.
-use Rattle.std.specs.Prelude.{◌≡◌, ◌⊎◌, List, ℕ, Option, Some}
+use Rattle.std.specs.Prelude.{◌≡◌, ◌⊎◌, List, ℕ, true, Option, Some}
+use Rattle.ov_specs.specs.integrity.Committed.{is_whole}
 use Rattle.ov_specs.specs.rows.Database.{Database, AreLinesOf}
 use Rattle.ov_specs.specs.rows.Lines.{Contents}
 use Rattle.ov_db.specs.declared.answer.StoreAnswer.{StoreAnswer}
@@ -25,12 +26,15 @@ IsHeld text committed sealed held = (held.schema ≡ text) × (AreLinesOf commit
 abbrev pub MayHold : (Contents → Type 0) → List ℕ → Database → Option Database → Type 0
 MayHold leaves text committed sealed = (held : Contents) → leaves held → IsHeld text committed sealed held
 
--- the committed rows, and those that a failed commit would have made, are rows of the schema that read back
+-- the committed rows, and those that a failed commit would have made, are rows of the schema that read back, and are whole: a commit
+-- leaves them as they are
 pub record AreKept (schema : Schema) (committed : Database) (sealed : Option Database) : Type 0 where
   pub committed_kept : KeepsRows schema committed
+  pub committed_whole : is_whole schema committed ≡ true
   pub sealed_kept : (database : Database) → sealed ≡ Some database → KeepsRows schema database
+  pub sealed_whole : (database : Database) → sealed ≡ Some database → is_whole schema database ≡ true
 
 -- Whatever an open may now find are the committed rows, or those of the commit that failed: the text of the schema, and lines
--- that read back as them.
+-- that read back as them. They are whole, so an open does not refuse them.
 abbrev pub MayFind : (Contents → Type 0) → Schema → Database → Option Database → Type 0
 MayFind leaves schema committed sealed = (held : Contents) → leaves held → CanOpen schema committed held ⊎ ((database : Database) × (sealed ≡ Some database) × CanOpen schema database held)

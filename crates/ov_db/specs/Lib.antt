@@ -8,3 +8,4 @@ pub mod Stored
 pub mod Loading
 pub mod Opening
 pub mod Guessed
+pub mod Residing

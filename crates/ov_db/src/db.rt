@@ -7,18 +7,24 @@ ghost use Rattle.std.specs.Str.{bytes_eq};
 ghost use Rattle.ov_rows.specs.Nested.{rows_in};
 ghost use Rattle.ov_keeper.specs.Keeping.{LeavesNoMore, HasFailed};
 ghost use Rattle.ov_keeper.specs.declared.fault.KeepFault.TheVariants.{Device};
-ghost use Rattle.ov_db.specs.Changing.{SuitsChanges};
+ghost use Rattle.ov_db.specs.Changing.{SuitsChanges, applied};
+ghost use Rattle.ov_refs.specs.Linking.{AreLinksOf};
+ghost use Rattle.ov_index.specs.Indexing.{AreIndexesOf};
+ghost use Rattle.ov_specs.specs.integrity.Committed.{is_whole};
 ghost use Rattle.ov_db.specs.Committing.{AreKept, Commits, MayFind, MayHold};
 ghost use Rattle.ov_db.specs.Opening.{CanOpen, IsOpenFault, RefusesOpen};
 ghost use Rattle.ov_db.specs.declared.answer.StoreAnswer.TheVariants.{Kept, Failed};
 ghost use Rattle.ov_db.specs.declared.fault.OpenFault.TheVariants.{Keeping};
 
 use crate::answer::StoreAnswer;
-use crate::commit::{changes_of, make, place, take_out};
+use crate::commit::changes_of;
 use crate::delta::Delta;
 use crate::fault::RefusedOpen;
-use crate::load::load_rows;
+use crate::load::load_whole;
+use crate::resident::{Resident, Room};
+use ov_index::Indexes;
 use ov_keeper::{KeepFault, Keeper};
+use ov_refs::Links;
 use ov_rows::{Row, Rows, TableRows};
 use ov_schema::Schema;
 use std::alloc::Global;
@@ -32,7 +38,7 @@ use uuid::Uuid;
 #[derive(Drop)]
 pub struct Db<K: Keeper> {
     schema: Schema,
-    rows: Rows,
+    resident: Resident,
     /// The changes of a commit that failed.
     failed: Option<Delta>,
     keeper: K,
@@ -46,25 +52,27 @@ impl<K: Keeper> Model for Db<K> {
     ghost use Rattle.ov_db.specs.Changing.{applied};
     ghost use Rattle.ov_db.specs.Committing.{MayHold, AreKept};
     ghost use Rattle.ov_db.specs.KeptDatabase.{KeptDatabase};
+    ghost use Rattle.ov_db.specs.Residing.{IsBeside};
     ghost use Rattle.ov_rows.specs.Resident.{database_code};
 
     ghost Value = { KeptDatabase K };
 
     ghost coded = { Prim.hlevel (codes, schema_code, database_code, K.code) };
 
-    ghost view = { λ d. record { schema = d.schema; committed = d.rows; sealed = option_map (λ delta. applied delta d.rows) d.failed; keeper = d.keeper } };
+    ghost view = { λ d. record { schema = d.schema; committed = d.resident.rows; sealed = option_map (λ delta. applied delta d.resident.rows) d.failed; keeper = d.keeper } };
 
-    ghost invariant = { λ d. (K.Keeper.is_honest d.keeper → MayHold (K.Keeper.leaves d.keeper) (compact_text d.schema.tree) d.rows (option_map (λ delta. applied delta d.rows) d.failed))
-        × AreKept d.schema d.rows (option_map (λ delta. applied delta d.rows) d.failed) };
+    ghost invariant = { λ d. (K.Keeper.is_honest d.keeper → MayHold (K.Keeper.leaves d.keeper) (compact_text d.schema.tree) d.resident.rows (option_map (λ delta. applied delta d.resident.rows) d.failed))
+        × AreKept d.schema d.resident.rows (option_map (λ delta. applied delta d.resident.rows) d.failed)
+        × IsBeside d.schema d.resident.rows d.resident };
 }
 
 impl<K: Keeper + Drop> Db<K> {
     /// The database of what a keeper holds, each of its lines being a row.
     ///
     /// It is refused as `SchemaDiffers` where the keeper holds another text than the schema's, as `BadBody` where one of its
-    /// lines is no row of the schema, and with the fault of the keeper's load; the first of these that applies, the keeper's
-    /// before all. Memory that is refused is the keeper's fault `Memory`. What the keeper holds is not changed, and a refusal
-    /// gives it back.
+    /// lines is no row of the schema, and as `Broken` where the rows that its lines are break a rule of commits, or a commit
+    /// would change them, and with the fault of the keeper's load; the first of these that applies, the keeper's before all.
+    /// Memory that is refused is the keeper's fault `Memory`. What the keeper holds is not changed, and a refusal gives it back.
     pub fn open(alloc: Global, mut keeper: K, schema: Schema) -> Result<Db<K>, RefusedOpen<K>>
         ensures rest { IfOk result (λ d. (d.schema ≡ schema) × (d.sealed ≡ None)) }
         ensures held { IfOk result (λ d. K.is_honest d.keeper → (held : Contents) → K.leaves keeper held → CanOpen schema d.committed held) }
@@ -77,10 +85,10 @@ impl<K: Keeper + Drop> Db<K> {
         ensures same_refused { IfErr result (λ e. K.is_honest e.keeper → LeavesNoMore (K.leaves keeper) (K.leaves e.keeper)) }
         ensures honest_refused { IfErr result (λ e. K.is_honest e.keeper → K.is_honest keeper) }
     {
-        match load_rows(alloc, &mut keeper, &schema) {
-            Ok(rows) => Ok(Db {
+        match load_whole(alloc, &mut keeper, &schema) {
+            Ok(resident) => Ok(Db {
                 schema,
-                rows,
+                resident,
                 failed: None,
                 keeper,
             }),
@@ -95,25 +103,39 @@ impl<K: Keeper + Drop> Db<K> {
         &self.schema
     }
 
+    /// Who refers to which of its rows. It takes no memory.
+    pub fn links(&self) -> &Links
+        ensures { AreLinksOf self.now.schema self.now.committed result.now }
+    {
+        &self.resident.links
+    }
+
+    /// Which of its rows have which values in an index. It takes no memory.
+    pub fn indexes(&self) -> &Indexes
+        ensures { AreIndexesOf self.now.schema self.now.committed result.now }
+    {
+        &self.resident.indexes
+    }
+
     /// Its rows.
     pub fn rows(&self) -> &Rows
         ensures { result.now ≡ self.now.committed }
     {
-        &self.rows
+        &self.resident.rows
     }
 
     /// The row of this identifier in the table of this name.
     pub fn row(&self, table: &str, id: Uuid) -> Option<&Row>
         ensures { option_copied result ≡ get self.now.committed (table.now, id) }
     {
-        self.rows.row(table, id)
+        self.resident.rows.row(table, id)
     }
 
     /// The rows of the table of this name, if it ever had one. They take no memory.
     pub fn rows_of(&self, table: &str) -> Option<&TableRows>
         ensures { rows_in table.now (option_copied result) ≡ filter (λ r. bytes_eq r.0.0 table.now) (entries self.now.committed) }
     {
-        self.rows.of_table(table)
+        self.resident.rows.of_table(table)
     }
 
     /// Whether a commit has failed. Then no later one is made, until the database is opened again.
@@ -136,7 +158,7 @@ impl<K: Keeper + Drop> Db<K> {
     {
         let Db {
             schema: _,
-            rows: _,
+            resident: _,
             failed: _,
             keeper,
         } = self;
@@ -151,21 +173,23 @@ impl<K: Keeper + Drop> Db<K> {
         let _keeper = &self.keeper;
     }
 
-    /// Tells contracts that each row is a row of the schema, and is what its line reads back as; so are the rows that a commit
-    /// that failed would have left. It does nothing.
+    /// Tells contracts that each row is a row of the schema, and is what its line reads back as, and that a commit would leave
+    /// the rows as they are; so it is with the rows that a commit that failed would have left. It does nothing.
     pub fn kept(&self)
         ensures { AreKept self.now.schema self.now.committed self.now.sealed }
     {
-        let _rows = &self.rows;
+        let _resident = &self.resident;
     }
 
-    /// Makes the changes, all of them or none, by one call of the keeper. Each row that they put is a row of the schema.
+    /// Makes the changes, all of them or none, by one call of the keeper. Each row that they put is a row of the schema, and what
+    /// they make of the rows breaks no rule of commits.
     ///
     /// Where the answer is not `Kept`, the rows stay as they are. After `Failed` the database is sealed: what the commit would
     /// have made is kept beside the rows, and each later commit is answered `Failed` without a call of the keeper. Without a
     /// change the answer is `Kept`, and the keeper is not called either. No memory is taken once the keeper was called.
     pub fn commit(&mut self, alloc: Global, delta: Delta) -> StoreAnswer
-        requires { SuitsChanges self.old.schema delta }
+        requires suits { SuitsChanges self.old.schema delta }
+        requires whole { is_whole self.old.schema (applied delta self.old.committed) ≡ true }
         ensures commits { self.old.sealed ≡ None → Commits delta self.old result self.new }
         ensures sealed { is_some self.old.sealed ≡ true → (result ≡ Failed) × (self.new ≡ self.old) }
         ensures empty { self.old.sealed ≡ None → (len delta == 0) ≡ true → (result ≡ Kept) × (self.new ≡ self.old) }
@@ -187,6 +211,7 @@ impl<K: Keeper + Drop> Db<K> {
     fn commit_changes(&mut self, alloc: Global, delta: Delta) -> StoreAnswer
         requires unsealed { self.old.sealed ≡ None }
         requires suits { SuitsChanges self.old.schema delta }
+        requires whole { is_whole self.old.schema (applied delta self.old.committed) ≡ true }
         ensures commits { Commits delta self.old result self.new }
         ensures cause { result ≡ Failed → HasFailed (K.failed self.old.keeper) (K.failed self.new.keeper) }
         ensures counts { K.failed self.old.keeper ≤ K.failed self.new.keeper }
@@ -195,24 +220,24 @@ impl<K: Keeper + Drop> Db<K> {
         let Ok(changes) = changes_of(alloc, &delta) else {
             return StoreAnswer::Exhausted;
         };
-        let mut added = Vec::new(alloc);
-        let Ok(()) = place(alloc, &mut self.rows, &delta, &mut added) else {
-            take_out(&mut self.rows, added);
+        let mut room = Room::new(alloc);
+        let Ok(()) = self.resident.place(alloc, &self.schema, &delta, &mut room) else {
+            self.resident.take_back(room);
             return StoreAnswer::Exhausted;
         };
         match self.keeper.commit(alloc, changes.as_slice()) {
             Ok(()) => {
-                drop(added);
-                make(alloc, &mut self.rows, delta);
+                self.resident.let_go(room);
+                self.resident.make(alloc, delta);
                 StoreAnswer::Kept
             }
             Err(KeepFault::Device) => {
-                take_out(&mut self.rows, added);
+                self.resident.take_back(room);
                 self.failed = Some(delta);
                 StoreAnswer::Failed
             }
             Err(_) => {
-                take_out(&mut self.rows, added);
+                self.resident.take_back(room);
                 StoreAnswer::Exhausted
             }
         }

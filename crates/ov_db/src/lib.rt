@@ -11,6 +11,7 @@ mod delta;
 mod fault;
 mod load;
 mod read;
+mod resident;
 
 pub use answer::StoreAnswer;
 pub use db::Db;

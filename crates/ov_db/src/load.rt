@@ -1,30 +1,48 @@
-ghost use Rattle.std.specs.Prelude.{◌≡◌, map, Some, Err, IfOk, IfErr, OnOk};
+ghost use Rattle.std.specs.Prelude.{◌≡◌, map, Some, None, Err, IfOk, IfErr, OnOk};
 ghost use Rattle.std.specs.FinMap.{empty};
 ghost use Rattle.ov_specs.specs.rows.Lines.{Contents};
 ghost use Rattle.ov_keeper.specs.Keeping.{HasFailed, LeavesNoMore, loaded_contents};
 ghost use Rattle.ov_keeper.specs.declared.fault.KeepFault.TheVariants.{Device};
 ghost use Rattle.ov_keeper.specs.Views.{line_entry};
 ghost use Rattle.ov_db.specs.Loading.{IsNotLoaded, IsLoaded, with_line, with_lines};
-ghost use Rattle.ov_db.specs.Opening.{CanOpen, IsOpenFault, IsOwnFault, RefusesOpen};
+ghost use Rattle.ov_db.specs.Committing.{AreKept};
+ghost use Rattle.ov_db.specs.Opening.{CanOpen, HoldsRows, IsOpenFault, IsOwnFault, RefusesOpen};
+ghost use Rattle.ov_db.specs.Residing.{IsBeside};
 ghost use Rattle.ov_db.specs.Stored.{KeepsRows};
 ghost use Rattle.ov_db.specs.declared.fault.OpenFault.TheVariants.{Keeping};
 
 use crate::fault::OpenFault;
 use crate::read::next_row;
+use crate::resident::Resident;
 use ov_atoms::has_sixteen_bytes;
 use ov_keeper::{KeepFault, Keeper, Line, Loaded};
 use ov_rows::{BodyReader, RowKey, Rows};
 use ov_schema::Schema;
 use std::alloc::Global;
 
-/// Loads what a keeper holds, and gives its rows.
-pub(crate) fn load_rows<K: Keeper>(
+/// Loads what a keeper holds, and gives its rows with what is kept beside them, where a commit would leave them as they are.
+pub(crate) fn load_whole<K: Keeper>(
     alloc: Global,
     keeper: &mut K,
     schema: &Schema,
-) -> Result<Rows, OpenFault>
+) -> Result<Resident, OpenFault>
+    ensures kept { IfOk result (λ resident. AreKept schema.now resident.rows None) }
+    ensures beside { IfOk result (λ resident. IsBeside schema.now resident.rows resident) }
+    ensures ok { K.is_honest keeper.new → IfOk result (λ resident. (held : Contents) → K.leaves keeper.old held → CanOpen schema.now resident.rows held) }
+    ensures err { K.is_honest keeper.new → IfErr result (λ fault. (held : Contents) → K.leaves keeper.old held → RefusesOpen schema.now held fault) }
+    ensures kinds { IfErr result IsOpenFault }
+    ensures cause { result ≡ Err (Keeping Device) → HasFailed (K.failed keeper.old) (K.failed keeper.new) }
+    ensures same { K.is_honest keeper.new → LeavesNoMore (K.leaves keeper.old) (K.leaves keeper.new) }
+    ensures honest { K.is_honest keeper.new → K.is_honest keeper.old }
+{
+    let rows = load_rows(alloc, keeper, schema)?;
+    Resident::of(alloc, schema, rows)
+}
+
+/// Loads what a keeper holds, and gives its rows. Whether these are whole is not looked at.
+fn load_rows<K: Keeper>(alloc: Global, keeper: &mut K, schema: &Schema) -> Result<Rows, OpenFault>
     ensures kept { IfOk result (KeepsRows schema.now) }
-    ensures ok { K.is_honest keeper.new → IfOk result (λ rows. (held : Contents) → K.leaves keeper.old held → CanOpen schema.now rows held) }
+    ensures ok { K.is_honest keeper.new → IfOk result (λ rows. (held : Contents) → K.leaves keeper.old held → HoldsRows schema.now held rows) }
     ensures err { K.is_honest keeper.new → IfErr result (λ fault. (held : Contents) → K.leaves keeper.old held → RefusesOpen schema.now held fault) }
     ensures kinds { IfErr result IsOpenFault }
     ensures cause { result ≡ Err (Keeping Device) → HasFailed (K.failed keeper.old) (K.failed keeper.new) }
@@ -35,10 +53,10 @@ pub(crate) fn load_rows<K: Keeper>(
     rows_of(alloc, schema, &loaded)
 }
 
-/// The rows of what a keeper holds, where that can be opened under the schema: else the first cause why it can't.
+/// The rows of what a keeper holds, where that is the text of the schema and rows: else the first cause why it isn't.
 fn rows_of(alloc: Global, schema: &Schema, loaded: &Loaded) -> Result<Rows, OpenFault>
     ensures kept { IfOk result (KeepsRows schema.now) }
-    ensures ok { IfOk result (λ rows. CanOpen schema.now rows (loaded_contents loaded.now)) }
+    ensures ok { IfOk result (HoldsRows schema.now (loaded_contents loaded.now)) }
     ensures err { IfErr result (RefusesOpen schema.now (loaded_contents loaded.now)) }
     ensures kinds { IfErr result IsOwnFault }
 {

@@ -1,5 +1,5 @@
 -- What holds of some entry of a map, and what stands at its key.
-use Rattle.std.proofs.Common.{◌≡◌, List, [], ◌∷◌, map, filter, Bool, true, false, cond, T, ◌&&◌, ◌||◌, Some, None, refl, sym, ap, subst, ◌∙◌}
+use Rattle.std.proofs.Common.{◌≡◌, List, [], ◌∷◌, Bool, true, false, cond, T, ◌||◌, Some, None, refl, sym, ap, subst, ◌∙◌}
 use Rattle.std.proofs.lemmas.Bool.{or_left, or_right}
 use Rattle.std.proofs.lemmas.Option.{same_Some}
 use Rattle.std.specs.Cmp.{IsTotalOrder, eq_by_cmp_equiv}
@@ -10,25 +10,6 @@ use Rattle.std.specs.Ordering.{eq_by_cmp}
 use Rattle.std.specs.declared.cmp.Ordering.{Ordering}
 use Rattle.ov_specs.proofs.laws.FoundRows.{not_tied}
 use Rattle.ov_specs.proofs.laws.Truths.{left_holds, right_holds, equal_is}
-
--- ---- some of a list
-
--- what is asked of the items that a function makes
-pub any-map : {A B : Type 0} (test : B → Bool) (f : A → B) (xs : List A) → list_any test (map f xs) ≡ list_any (λ x. test (f x)) xs
-any-map test f [] = refl
-any-map test f (x ∷ xs) = ap (λ b. test (f x) || b) (any-map test f xs)
-
--- what is asked of the items that pass a test
-pub any-filter : {A : Type 0} (test passes : A → Bool) (xs : List A) → list_any test (filter passes xs) ≡ list_any (λ x. passes x && test x) xs
-any-filter test passes [] = refl
-any-filter test passes (x ∷ xs) = by (passes x) (any-filter test passes xs)
-  where
-    by : (b : Bool) → list_any test (filter passes xs) ≡ list_any (λ y. passes y && test y) xs
-        → list_any test (cond b (x ∷ filter passes xs) (filter passes xs)) ≡ ((b && test x) || list_any (λ y. passes y && test y) xs)
-    by true rest = ap (λ b. test x || b) rest
-    by false rest = rest
-
--- ---- some of a map
 
 tied_is : {K : Type 0} (R : K → K → Ordering) → IsAntisymmetric R → (a b : K) → eq_by_cmp R a b ≡ true → a ≡ b
 tied_is R exact a b tied = exact a b (equal_is _ tied)

@@ -7,9 +7,10 @@ use Rattle.ov_specs.specs.integrity.References.{Target}
 use Rattle.ov_specs.specs.rows.Database.{Row, Database, same_key}
 use Rattle.ov_specs.specs.rows.Lines.{LineKey}
 use Rattle.ov_specs.specs.schema.Schema.{is_some_and}
+use Rattle.ov_specs.proofs.laws.LineKeys.{same_key-is, same_key-itself, same_key-tied}
 use Rattle.ov_refs.specs.Holding.{KeySet, Holders, is_holder}
 use Rattle.ov_integrity.specs.Linked.{some_holds}
-use Rattle.ov_integrity.proofs.Keys.{same_key-is, same_key-itself, same_key-tied, any_at_key}
+use Rattle.ov_integrity.proofs.Keys.{any_at_key}
 
 -- ---- keys of a set
 

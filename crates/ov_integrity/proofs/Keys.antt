@@ -1,13 +1,10 @@
 -- Whether two keys are one, and what holds of one of several.
 use Rattle.std.proofs.Common.{◌≡◌, List, [], ◌∷◌, Bool, true, false, ◌||◌, Option, Some, None, refl, sym, ap, ◌∙◌}
-use Rattle.std.proofs.lemmas.Bool.{and_parts, and_from, or_left, or_right}
-use Rattle.std.proofs.lemmas.Slice.Eq.{bytes_eq-Decides}
+use Rattle.std.proofs.lemmas.Bool.{or_left, or_right}
 use Rattle.std.specs.List.{list_any}
-use Rattle.std.specs.Ordering.{eq_by_cmp}
-use Rattle.std.specs.Str.{bytes_eq}
 use Rattle.ov_specs.specs.rows.Database.{Row, same_key}
-use Rattle.ov_specs.specs.rows.Lines.{LineKey, line_cmp}
-use Rattle.ov_specs.proofs.laws.LineKeys.{tied_same, same_tied}
+use Rattle.ov_specs.specs.rows.Lines.{LineKey}
+use Rattle.ov_specs.proofs.laws.LineKeys.{same_key-is, same_key-itself}
 
 -- ---- what cannot be, and truth
 
@@ -26,25 +23,8 @@ same_truth false false there back = refl
 
 -- ---- keys
 
-pub same_key-is : (a b : LineKey) → same_key a b ≡ true → a ≡ b
-same_key-is a b same =
-    let parts = and_parts (bytes_eq a.0 b.0) (bytes_eq a.1 b.1) same in
-    λ i. ((bytes_eq-Decides a.0 b.0).0 parts.0 i, (bytes_eq-Decides a.1 b.1).0 parts.1 i)
-
-pub same_key-itself : (key : LineKey) → same_key key key ≡ true
-same_key-itself key = and_from (bytes_eq key.0 key.0) (bytes_eq key.1 key.1) ((bytes_eq-Decides key.0 key.0).1 refl) ((bytes_eq-Decides key.1 key.1).1 refl)
-
-pub same_key-of : (a b : LineKey) → a ≡ b → same_key a b ≡ true
+same_key-of : (a b : LineKey) → a ≡ b → same_key a b ≡ true
 same_key-of a b same = ap (same_key a) (sym same) ∙ same_key-itself a
-
--- it is the order's test of it
-pub same_key-tied : (a b : LineKey) → same_key a b ≡ eq_by_cmp line_cmp a b
-same_key-tied a b = by (same_key a b) (eq_by_cmp line_cmp a b) refl refl
-  where
-    by : (x y : Bool) → same_key a b ≡ x → eq_by_cmp line_cmp a b ≡ y → same_key a b ≡ eq_by_cmp line_cmp a b
-    by true y is tied = is ∙ sym (same_tied a b (same_key-is a b is))
-    by false true is tied = same_key-of a b (tied_same a b tied) ∙ sym tied
-    by false false is tied = is ∙ sym tied
 
 pub same_key-turned : (a b : LineKey) → same_key a b ≡ same_key b a
 same_key-turned a b = by (same_key a b) (same_key b a) refl refl

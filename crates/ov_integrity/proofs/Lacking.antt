@@ -12,9 +12,9 @@ use Rattle.ov_specs.specs.rows.Lines.{LineKey, line_cmp}
 use Rattle.ov_specs.specs.schema.SchemaTypes.{Schema}
 use Rattle.ov_specs.proofs.laws.Following.{ChangedSupporter, unsupported_step, unsupported_follows}
 use Rattle.ov_specs.proofs.laws.KeptRows.{kept_whole}
-use Rattle.ov_specs.proofs.laws.LineKeys.{key_total}
+use Rattle.ov_specs.proofs.laws.LineKeys.{key_total, same_key-is, same_key-tied}
 use Rattle.ov_integrity.specs.Supporting.{strong_keys, MayLack}
-use Rattle.ov_integrity.proofs.Keys.{contradicts, none_is, same_key-is, same_key-tied, same_key-turned}
+use Rattle.ov_integrity.proofs.Keys.{contradicts, none_is, same_key-turned}
 
 abbrev is_strong_to : LineKey → Target → Bool
 is_strong_to key target = target.is_strong && same_key target.key key

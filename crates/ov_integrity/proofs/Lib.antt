@@ -3,9 +3,8 @@ pub mod Lacking
 pub mod Fewer
 pub mod PrunedAt
 pub mod Short
-pub mod Alike
 pub mod Entries
-pub mod Repeating
+pub mod Counting
 pub mod ChangedRows
 pub mod HeldKeys
 pub mod MissingRows
@@ -14,3 +13,5 @@ pub mod Unclashed
 pub mod Candidates
 pub mod PrunedInTurn
 pub mod SupportedRows
+pub mod Indexed
+pub mod SuitingRows

@@ -1,5 +1,5 @@
 -- Whether a strong reference is to a row that is not there, by the keys that a transaction has changed.
-use Rattle.std.proofs.Common.{◌≡◌, List, [], ◌∷◌, map, Bool, true, false, ◌&&◌, ◌||◌, ◌⊎◌, inl, inr, not, Option, Some, None, refl, sym, ap, ◌∙◌}
+use Rattle.std.proofs.Common.{◌≡◌, List, Bool, true, false, ◌&&◌, ◌⊎◌, inl, inr, not, Option, Some, None, refl, sym, ap, ◌∙◌}
 use Rattle.std.proofs.lemmas.Bool.{not_from_false}
 use Rattle.std.specs.FinMap.{get, contains_key, keys}
 use Rattle.std.specs.List.{list_any}
@@ -11,6 +11,7 @@ use Rattle.ov_specs.specs.schema.Schema.{is_some_and}
 use Rattle.ov_specs.specs.schema.SchemaTypes.{Schema}
 use Rattle.ov_specs.proofs.laws.Committing.{IsWhole, whole_is}
 use Rattle.ov_specs.proofs.laws.Following.{ChangedMisses, HeldMisses, missing_follows, changed_is_missing, held_is_missing}
+use Rattle.ov_specs.proofs.laws.Lists.{any-map}
 use Rattle.ov_refs.specs.Holding.{KeySet, Holders}
 use Rattle.ov_refs.specs.Linking.{Links, AreLinksOf}
 use Rattle.ov_integrity.specs.Changes.{Changes, AreChanges, is_held_beside}
@@ -22,10 +23,6 @@ use Rattle.ov_integrity.proofs.Keys.{same_truth}
 -- a strong reference is to a row that is not there
 abbrev pub target_misses : Database → Target → Bool
 target_misses rows target = target.is_strong && not (contains_key rows target.key)
-
-any-map : {A B : Type 0} (test : B → Bool) (f : A → B) (xs : List A) → list_any test (map f xs) ≡ list_any (λ x. test (f x)) xs
-any-map test f [] = refl
-any-map test f (x ∷ xs) = ap (λ b. test (f x) || b) (any-map test f xs)
 
 pub row-misses : (schema : Schema) (rows : Database) (r : LineKey × Row) → list_any (is_missing rows) (row_references schema r) ≡ list_any (target_misses rows) (row_targets schema r)
 row-misses schema rows r = any-map (is_missing rows) (λ target. record { from = r.0; to = target }) (row_targets schema r)

@@ -13,10 +13,10 @@ use Rattle.ov_specs.specs.schema.Schema.{is_some_and}
 use Rattle.ov_specs.specs.schema.SchemaTypes.{BaseType, ColumnType, Column, Table, Schema}
 use Rattle.ov_specs.specs.values.Uuid.{Uuid}
 use Rattle.ov_specs.specs.values.Value.{Atom, Datum, Atoms, Pairs, set_of, map_of}
-use Rattle.ov_specs.proofs.laws.LineKeys.{key_total, key_exact, tied_same}
+use Rattle.ov_specs.proofs.laws.LineKeys.{key_total, key_exact, tied_same, same_key-tied}
 use Rattle.ov_specs.proofs.laws.Pruning.{get-pruned, pruned_row-without, pruned_row_dangles_not}
 use Rattle.ov_integrity.specs.Pruning.{with_pruned, pruned_at, pruned_at_all, MayDangle}
-use Rattle.ov_integrity.proofs.Keys.{contradicts, same_key-tied}
+use Rattle.ov_integrity.proofs.Keys.{contradicts}
 
 -- ---- what dangles depends on the keys alone
 

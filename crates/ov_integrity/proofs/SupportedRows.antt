@@ -16,7 +16,7 @@ use Rattle.ov_specs.specs.schema.Schema.{is_some_and}
 use Rattle.ov_specs.specs.schema.SchemaTypes.{Schema}
 use Rattle.ov_specs.proofs.laws.Committing.{whole_is}
 use Rattle.ov_specs.proofs.laws.Following.{Supporter, support_is, is_support}
-use Rattle.ov_specs.proofs.laws.LineKeys.{key_total}
+use Rattle.ov_specs.proofs.laws.LineKeys.{key_total, same_key-itself, same_key-tied}
 use Rattle.ov_refs.specs.Holding.{Holders, is_holder}
 use Rattle.ov_refs.specs.Linking.{Links, AreLinksOf, is_strong_in}
 use Rattle.ov_integrity.specs.Changes.{Changes, AreChanges}
@@ -24,7 +24,7 @@ use Rattle.ov_integrity.specs.Linked.{AreLinked, some_holds, is_unchanged_beside
 use Rattle.ov_integrity.specs.Supporting.{strong_keys, MayLack}
 use Rattle.ov_integrity.proofs.Fewer.{strong_ones_fewer, references_fewer}
 use Rattle.ov_integrity.proofs.HeldKeys.{passes_key, holder_passes, passes_holder, row_there}
-use Rattle.ov_integrity.proofs.Keys.{same_key-itself, same_key-tied, same_truth}
+use Rattle.ov_integrity.proofs.Keys.{same_truth}
 use Rattle.ov_integrity.proofs.Lacking.{lacking_at_first}
 
 -- ---- truth

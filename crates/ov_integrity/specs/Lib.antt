@@ -2,5 +2,5 @@ pub mod Pruning
 pub mod Supporting
 pub mod Changes
 pub mod Linked
-pub mod Repeating
+pub mod Counting
 pub mod Finishing

@@ -1,4 +1,5 @@
 ghost use Rattle.std.specs.Prelude.{◌≡◌, true, IfOk};
+ghost use Rattle.ov_index.specs.Indexing.{AreIndexesOf};
 ghost use Rattle.ov_refs.specs.Linking.{AreLinksOf};
 ghost use Rattle.ov_specs.specs.integrity.Committed.{committed, is_whole};
 ghost use Rattle.ov_specs.specs.rows.Suits.{Suits};
@@ -10,6 +11,7 @@ use crate::missing::misses;
 use crate::prune::prune;
 use crate::support::drop_unsupported;
 use ov_db::Delta;
+use ov_index::Indexes;
 use ov_refs::Links;
 use ov_schema::Schema;
 use ov_stage::{OpError, Stage};
@@ -33,10 +35,12 @@ fn finish_stage(
     schema: &Schema,
     version: Uuid,
     links: &Links,
+    indexes: &Indexes,
     stage: Stage<'_>,
 ) -> Result<Finished, AllocError>
     requires whole { is_whole schema.now stage.before ≡ true }
     requires linked { AreLinksOf schema.now stage.before links.now }
+    requires indexed { AreIndexesOf schema.now stage.before indexes.now }
     requires suits { Suits schema.now stage.now }
     ensures { IfOk result (IsFinished (committed schema.now stage.entry.before version stage.entry.now) stage.entry.before) }
 {
@@ -49,7 +53,7 @@ fn finish_stage(
     if prune(alloc, schema, version, links, &mut stage)? {
         return Ok(Finished::Refused(OpError::Constraint));
     }
-    if breaks_a_limit(alloc, schema, &stage)? {
+    if breaks_a_limit(alloc, schema, indexes, &stage)? {
         return Ok(Finished::Refused(OpError::Constraint));
     }
     Ok(Finished::Changed(stage.into_delta()))
@@ -59,20 +63,23 @@ fn finish_stage(
 /// reference to a row that is not there is refused. Rows that nothing keeps go, and then weak references to rows that are not
 /// there. Then a value that is too short, a table with too many rows, and two rows that are alike in an index are refused.
 ///
-/// The rows before the transaction are whole, and the links are theirs. Only what the transaction changed is followed.
+/// The rows before the transaction are whole, and the links and the indexes are theirs. Only what the transaction changed is
+/// followed.
 pub fn finish(
     alloc: Global,
     schema: &Schema,
     version: Uuid,
     links: &Links,
+    indexes: &Indexes,
     stage: Stage<'_>,
 ) -> Finished
     requires whole { is_whole schema.now stage.before ≡ true }
     requires linked { AreLinksOf schema.now stage.before links.now }
+    requires indexed { AreIndexesOf schema.now stage.before indexes.now }
     requires suits { Suits schema.now stage.now }
     ensures { IsFinished (committed schema.now stage.entry.before version stage.entry.now) stage.entry.before result }
 {
-    match finish_stage(alloc, schema, version, links, stage) {
+    match finish_stage(alloc, schema, version, links, indexes, stage) {
         Ok(finished) => finished,
         Err(_) => Finished::NoMemory,
     }

@@ -1,5 +1,5 @@
-ghost use Rattle.std.specs.Prelude.{◌≡◌, ◌++◌, not, filter, Some, option_copied, true, IfOk, OnOk};
-ghost use Rattle.std.specs.FinMap.{entries, keys};
+ghost use Rattle.std.specs.Prelude.{◌≡◌, ◌++◌, not, filter, Some, option_copied, true, false, IfOk, OnOk};
+ghost use Rattle.std.specs.FinMap.{entries, get, keys};
 ghost use Rattle.std.specs.List.{list_any};
 ghost use Rattle.ov_atoms.specs.Views.{atom_view, atoms_view, pair_view, pairs_view};
 ghost use Rattle.ov_refs.specs.Linking.{AreLinksOf};
@@ -7,11 +7,13 @@ ghost use Rattle.ov_specs.specs.integrity.Committed as committed;
 ghost use Rattle.ov_specs.specs.integrity.Committed.{is_dangling, is_whole, pruned};
 ghost use Rattle.ov_specs.specs.integrity.Limits as limits;
 ghost use Rattle.ov_specs.specs.integrity.References.{target_of};
+ghost use Rattle.ov_specs.specs.rows.Database as database;
 ghost use Rattle.ov_specs.specs.rows.Suits.{Suits};
 ghost use Rattle.ov_specs.specs.schema.Schema.{is_some_and};
+ghost use Rattle.ov_specs.specs.values.Uuid.{is_uuid};
 ghost use Rattle.ov_integrity.specs.Pruning.{is_short_at, may_dangle_by, pruned_at, AreCandidates};
 
-use ov_atoms::{Atom, Datum};
+use ov_atoms::{Atom, Datum, has_sixteen_bytes};
 use ov_refs::{KeySet, Links, targets_of};
 use ov_rows::{Columns, Row, RowKey};
 use ov_schema::{Column, Reference, Schema, Table};
@@ -174,6 +176,18 @@ fn dangles(
     Ok(false)
 }
 
+/// Tells contracts that this version, and that of the row of this key before the transaction, have sixteen bytes (RFC 4122,
+/// 4.1.2).
+fn have_sixteen_bytes(stage: &Stage<'_>, key: &RowKey, version: Uuid)
+    ensures version { is_uuid version ≡ true }
+    ensures former { (row : database.Row) → get stage.now.before key.now ≡ Some row → is_uuid row.version ≡ true }
+{
+    has_sixteen_bytes(&version);
+    if let Some(row) = stage.before().row(key.table(), key.id()) {
+        has_sixteen_bytes(&row.version);
+    }
+}
+
 /// The row of this key without weak references to rows that are not there, if it has some. The answer is whether one of its
 /// values is now too short.
 fn prune_row(
@@ -186,6 +200,7 @@ fn prune_row(
     ensures before { stage.new.before ≡ stage.old.before }
     ensures now { OnOk result (stage.new.now ≡ pruned_at schema.now stage.old.before version key stage.old.now) }
     ensures short { IfOk result (λ short. short ≡ is_short_at schema.now key stage.new.now) }
+    ensures suits { IfOk result (λ short. short ≡ false → Suits schema.now stage.old.now → Suits schema.now stage.new.now) }
 {
     let Some(table) = schema.table(key.table()) else {
         return Ok(false);
@@ -198,6 +213,7 @@ fn prune_row(
     }
     let columns = pruned_columns(alloc, stage, table, &row.columns)?;
     let short = is_short(table, &columns);
+    have_sixteen_bytes(stage, &key, version);
     stage.put(key, version, columns)?;
     Ok(short)
 }
@@ -259,6 +275,7 @@ pub(crate) fn prune(
     requires suits { Suits schema.now stage.old.now }
     ensures now { OnOk result (stage.new ≡ record stage.old { now = pruned schema.now stage.old.before version stage.old.now }) }
     ensures short { IfOk result (λ short. short ≡ list_any (limits.is_short schema.now) (entries stage.new.now)) }
+    ensures suits { IfOk result (λ short. short ≡ false → Suits schema.now stage.new.now) }
 {
     let mut short = false;
     for key in candidates(alloc, links, stage)? {

@@ -8,11 +8,11 @@ ghost use Rattle.ov_specs.specs.wire.Cut.{Cut, cut, cut_from, IsCut, continue_cu
 ghost use Rattle.ov_specs.specs.wire.Message.{asked};
 ghost use Rattle.ov_specs.specs.machine.Machine.{State, is_open, Entry, Stepped, Outcome, Transact, step, works, to_session, results_of, opening};
 ghost use Rattle.ov_specs.specs.operations.Transaction.{has_error};
-ghost use Rattle.ov_specs.specs.machine.Suiting.{SuitsState, draws_uuids};
+ghost use Rattle.ov_specs.specs.machine.Suiting.{SuitsState, IsWholeState, draws_uuids};
 ghost use Rattle.ov_specs.specs.integrity.Committed.{committed, is_whole};
 ghost use Rattle.ov_specs.specs.integrity.Kept.{IsGreatestSupported, kept};
 ghost use Rattle.ov_specs.specs.rows.Suits.{Suits};
-ghost use Rattle.ov_specs.specs.schema.Schema.{accepted};
+ghost use Rattle.ov_specs.specs.schema.Schema.{accepted, IsAccepted};
 ghost use Rattle.ov_specs.specs.schema.SchemaTypes.{Schema};
 ghost use Rattle.ov_specs.specs.rows.Database.{Database};
 ghost use Rattle.ov_specs.specs.machine.History.{run, requests, closed_by};
@@ -73,6 +73,16 @@ pub fn rows_stay_those_of_the_schema()
     ensures run { (schema : Schema) (database : Database) (history : List Entry) (stepped : Stepped)
         → run (opening schema database) history ≡ Some stepped → list_all draws_uuids history ≡ true → Suits schema database
         → (stepped.state.schema ≡ schema) × SuitsState stepped.state }
+{}
+
+/// Under an accepted schema each step of the machine keeps the rows whole: each reference is to a row that is there, each row is
+/// supported, and no limit is broken; so does each run from an opening whose rows are whole.
+pub fn rows_stay_whole()
+    ensures step { (s : State) (entry : Entry) (stepped : Stepped) → step s entry ≡ Some stepped → IsAccepted s.schema → IsWholeState s
+        → (stepped.state.schema ≡ s.schema) × IsWholeState stepped.state }
+    ensures run { (schema : Schema) (database : Database) (history : List Entry) (stepped : Stepped)
+        → run (opening schema database) history ≡ Some stepped → IsAccepted schema → is_whole schema database ≡ true
+        → (stepped.state.schema ≡ schema) × IsWholeState stepped.state }
 {}
 
 /// The rows that are kept are those that stand among some rows which keep one another: the greatest part of all rows that is

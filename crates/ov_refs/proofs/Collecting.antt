@@ -1,21 +1,21 @@
 -- Who refers to whom after the references of rows were collected.
-use Rattle.std.proofs.Common.{◌≡◌, List, [], ◌∷◌, ◌++◌, Bool, true, false, cond, T, ◌&&◌, ◌||◌, not, Option, Some, None, is_some, refl, sym, ap, ◌∙◌, Ordering, Less, Equal, Greater}
+use Rattle.std.proofs.Common.{◌≡◌, ◌==◌, ◌-◌, List, [], ◌∷◌, ◌++◌, Bool, true, false, cond, T, ◌&&◌, ◌||◌, not, Option, Some, None, is_some, refl, sym, ap, ◌∙◌, Ordering, Less, Equal, Greater}
 use Rattle.std.specs.Prelude.{unwrap_or}
 use Rattle.std.specs.Cmp.{eq_by_cmp_equiv}
 use Rattle.std.specs.Cmp.Lexicographic.{slice_cmp, texts_ties}
-use Rattle.std.specs.FinMap.{find, is_sorted, empty, get, contains_key, insert, remove, entries, entries_sorted, get-entries, get-empty, get-insert, get-remove}
+use Rattle.std.specs.FinMap.{find, is_sorted, empty, get, contains_key, insert, remove, entries, len, len-empty, len-remove, empty_of_len, entries_sorted, get-entries, get-empty, get-insert, get-remove}
+use Rattle.std.specs.FinMap.Entries.{below_all}
 use Rattle.std.specs.List.{list_any}
-use Rattle.std.specs.Ordering.{nat_cmp, eq_by_cmp, is_eq, ordering_then}
+use Rattle.std.specs.Ordering.{nat_cmp, eq_by_cmp, is_lt, is_eq, ordering_then}
 use Rattle.ov_specs.specs.integrity.References.{Target, row_targets, refers_strongly, refers_weakly}
 use Rattle.ov_specs.specs.rows.Database.{Row, Database, same_key}
 use Rattle.ov_specs.specs.rows.Lines.{LineKey, line_cmp}
 use Rattle.ov_specs.specs.schema.Schema.{is_some_and}
 use Rattle.ov_specs.specs.schema.SchemaTypes.{Schema}
-use Rattle.ov_specs.proofs.laws.FoundRows.{find-below}
 use Rattle.ov_specs.proofs.laws.LineKeys.{key_total, tied_same}
-use Rattle.ov_specs.proofs.laws.Truths.{left_holds, right_holds}
+use Rattle.ov_specs.proofs.laws.Truths.{left_holds, right_holds, zero_is}
 use Rattle.ov_refs.specs.Holding.{KeySet, Holders, is_holder, with_holder, without, without_holder}
-use Rattle.ov_refs.specs.Linking.{Links, AreNone, AreLinksOf, with_target, with_targets, with_rows}
+use Rattle.ov_refs.specs.Linking.{Links, AreNone, AreLinksOf, strong_count, with_target, with_targets, with_rows}
 
 -- ---- keys
 
@@ -25,12 +25,12 @@ both_tied Equal p = refl
 both_tied Greater p = refl
 
 -- keys are the same where the order ties them
-same_key-tied : (a b : LineKey) → same_key a b ≡ eq_by_cmp line_cmp a b
+pub same_key-tied : (a b : LineKey) → same_key a b ≡ eq_by_cmp line_cmp a b
 same_key-tied a b = (λ i. texts_ties a.0 b.0 i && texts_ties a.1 b.1 i) ∙ both_tied (slice_cmp nat_cmp a.0 b.0) (slice_cmp nat_cmp a.1 b.1)
 
 -- ---- one more that refers to a row
 
-given_or : (b : Bool) (o : Option (Unit {0})) → is_some (cond b (Some tt) o) ≡ (is_some o || b)
+pub given_or : (b : Bool) (o : Option (Unit {0})) → is_some (cond b (Some tt) o) ≡ (is_some o || b)
 given_or true None = refl
 given_or true (Some tt) = refl
 given_or false None = refl
@@ -41,7 +41,7 @@ in_empty : (o : Option KeySet) (from : LineKey) → contains_key (unwrap_or o em
 in_empty None from = ap is_some (get-empty line_cmp from)
 in_empty (Some set) from = refl
 
-or_false : (b : Bool) → b ≡ (b || false)
+pub or_false : (b : Bool) → b ≡ (b || false)
 or_false true = refl
 or_false false = refl
 
@@ -75,7 +75,7 @@ without_given true (Some tt) = refl
 without_given false None = refl
 without_given false (Some tt) = refl
 
-and_true : (b : Bool) → b ≡ (b && true)
+pub and_true : (b : Bool) → b ≡ (b && true)
 and_true true = refl
 and_true false = refl
 
@@ -99,13 +99,44 @@ module _ (holders : Holders) (at by : LineKey) (to from : LineKey) where
       less : (set : KeySet) (b : Bool) → eq_by_cmp line_cmp to at ≡ b → is_holder (insert holders at (remove set by)) to from ≡ refers_in (cond b (Some (remove set by)) (get holders to))
       less set b is = ap refers_in (get-insert key_total holders at (remove set by) to ∙ ap (λ t. cond t (Some (remove set by)) (get holders to)) is)
 
+      gone : (b : Bool) → eq_by_cmp line_cmp to at ≡ b → is_holder (remove holders at) to from ≡ refers_in (cond b None (get holders to))
+      gone b is = ap refers_in (get-remove key_total holders at to ∙ ap (λ t. cond t None (get holders to)) is)
+
+      one_less : (set : KeySet) → get holders at ≡ Some set → eq_by_cmp line_cmp to at ≡ true → contains_key (remove set by) from ≡ (is_holder holders to from && not (same_key at to && same_key from by))
+      one_less set has is =
+          ap is_some (get-remove key_total set by from) ∙ without_given (eq_by_cmp line_cmp from by) (get set from)
+          ∙ (λ i. sym (here (Some set) has is) i && not (sym (same_at true is) i && sym (same_key-tied from by) i))
+
+      none_left : (set : KeySet) → (len (remove set by) == 0) ≡ true → contains_key (remove set by) from ≡ false
+      none_left set none = ap (λ (s : KeySet). contains_key s from) (empty_of_len (remove set by) (zero_is (len (remove set by)) none)) ∙ ap is_some (get-empty line_cmp from)
+
+      last : (set : KeySet) (none : Bool) → (len (remove set by) == 0) ≡ none → get holders at ≡ Some set → (b : Bool) → eq_by_cmp line_cmp to at ≡ b
+          → is_holder (cond (len (remove set by) == 0) (remove holders at) (insert holders at (remove set by))) to from ≡ (is_holder holders to from && not (same_key at to && same_key from by))
+      last set true none has true is =
+          ap (λ c. is_holder (cond c (remove holders at) (insert holders at (remove set by))) to from) none ∙ gone true is ∙ sym (none_left set none) ∙ one_less set has is
+      last set true none has false is =
+          ap (λ c. is_holder (cond c (remove holders at) (insert holders at (remove set by))) to from) none ∙ gone false is ∙ beside is
+      last set false none has true is =
+          ap (λ c. is_holder (cond c (remove holders at) (insert holders at (remove set by))) to from) none ∙ less set true is ∙ one_less set has is
+      last set false none has false is =
+          ap (λ c. is_holder (cond c (remove holders at) (insert holders at (remove set by))) to from) none ∙ less set false is ∙ beside is
+
       turn : (o : Option KeySet) → get holders at ≡ o → (b : Bool) → eq_by_cmp line_cmp to at ≡ b → is_holder (without o at by holders) to from ≡ (is_holder holders to from && not (same_key at to && same_key from by))
       turn None has true is = here None has is ∙ sym (ap (λ b. b && not (same_key at to && same_key from by)) (here None has is))
       turn None has false is = beside is
-      turn (Some set) has true is =
-          less set true is ∙ ap is_some (get-remove key_total set by from) ∙ without_given (eq_by_cmp line_cmp from by) (get set from)
-          ∙ (λ i. sym (here (Some set) has is) i && not (sym (same_at true is) i && sym (same_key-tied from by) i))
-      turn (Some set) has false is = less set false is ∙ beside is
+      turn (Some set) has b is = last set (len (remove set by) == 0) refl has b is
+
+-- ---- what is found at a key
+
+not_tied : (o : Ordering) → T (is_lt o) → is_eq o ≡ false
+not_tied Less h = refl
+not_tied Equal h = absurd h
+not_tied Greater h = absurd h
+
+-- a key that is below all is none of them
+pub find-below : {X : Type 0} (key : LineKey) (es : List (LineKey × X)) → T (below_all line_cmp key es) → find line_cmp key es ≡ None
+find-below key [] h = refl
+find-below key (e ∷ es) h = ap (λ b. cond b (Some e.1) (find line_cmp key es)) (not_tied (line_cmp key e.0) (left_holds _ _ h)) ∙ find-below key es (right_holds _ _ h)
 
 -- ---- the references of rows
 
@@ -127,7 +158,7 @@ or_three true b c = refl
 or_three false b c = refl
 
 module _ (to from : LineKey) where
-  strong-target : (by : LineKey) (target : Target) (links : Links)
+  pub strong-target : (by : LineKey) (target : Target) (links : Links)
       → is_holder (with_target by target links).strong to from ≡ (is_holder links.strong to from || ((target.is_strong && same_key target.key to) && same_key from by))
   strong-target by target links = turn target.is_strong
     where
@@ -136,7 +167,7 @@ module _ (to from : LineKey) where
       turn true = is_holder-with links.strong target.key by to from
       turn false = or_false (is_holder links.strong to from)
 
-  weak-target : (by : LineKey) (target : Target) (links : Links)
+  pub weak-target : (by : LineKey) (target : Target) (links : Links)
       → is_holder (with_target by target links).weak to from ≡ (is_holder links.weak to from || ((not target.is_strong && same_key target.key to) && same_key from by))
   weak-target by target links = turn target.is_strong
     where
@@ -181,18 +212,18 @@ module _ (to from : LineKey) where
 
   -- ---- the row of a key in an ascending list
 
-  any_at : (test : LineKey × Row → Bool) (rs : List (LineKey × Row)) → T (is_sorted line_cmp rs)
+  pub any_at : {X : Type 0} (test : LineKey × X → Bool) (rs : List (LineKey × X)) → T (is_sorted line_cmp rs)
       → list_any (λ r. same_key from r.0 && test r) rs ≡ is_some_and (λ row. test (from, row)) (find line_cmp from rs)
   any_at test [] h = refl
-  any_at test (r ∷ rs) h =
-      ap (λ b. (b && test r) || list_any (λ (x : LineKey × Row). same_key from x.0 && test x) rs) (same_key-tied from r.0) ∙ turn (any_at test rs (right_holds _ _ h)) (eq_by_cmp line_cmp from r.0) refl
+  any_at {X = X} test (r ∷ rs) h =
+      ap (λ b. (b && test r) || list_any (λ (x : LineKey × X). same_key from x.0 && test x) rs) (same_key-tied from r.0) ∙ turn (any_at test rs (right_holds _ _ h)) (eq_by_cmp line_cmp from r.0) refl
     where
-      turn : list_any (λ (x : LineKey × Row). same_key from x.0 && test x) rs ≡ is_some_and (λ row. test (from, row)) (find line_cmp from rs) → (b : Bool) → eq_by_cmp line_cmp from r.0 ≡ b
-          → ((b && test r) || list_any (λ (x : LineKey × Row). same_key from x.0 && test x) rs) ≡ is_some_and (λ row. test (from, row)) (cond b (Some r.1) (find line_cmp from rs))
+      turn : list_any (λ (x : LineKey × X). same_key from x.0 && test x) rs ≡ is_some_and (λ row. test (from, row)) (find line_cmp from rs) → (b : Bool) → eq_by_cmp line_cmp from r.0 ≡ b
+          → ((b && test r) || list_any (λ (x : LineKey × X). same_key from x.0 && test x) rs) ≡ is_some_and (λ row. test (from, row)) (cond b (Some r.1) (find line_cmp from rs))
       turn others true is =
           let same : from ≡ r.0 = tied_same from r.0 is in
           let none : find line_cmp from rs ≡ None = ap (λ k. find line_cmp k rs) same ∙ find-below r.0 rs (left_holds _ _ h) in
-          let nobody = others ∙ ap (is_some_and (λ (row : Row). test (from, row))) none in
+          let nobody = others ∙ ap (is_some_and (λ (row : X). test (from, row))) none in
           (λ i. test (sym same i, r.1) || nobody i) ∙ sym (or_false (test (from, r.1)))
       turn others false is = others
 
@@ -217,3 +248,12 @@ links_are schema rows none links nobody are = record {
 pub with_rows-append : (schema : Schema) (xs ys : List (LineKey × Row)) (links : Links) → with_rows schema (xs ++ ys) links ≡ with_rows schema ys (with_rows schema xs links)
 with_rows-append schema [] ys links = refl
 with_rows-append schema (x ∷ xs) ys links = with_rows-append schema xs ys (with_targets x.0 (row_targets schema x) links)
+
+len_none : (to : LineKey) → len (remove (empty {X = Unit {0}} {R = line_cmp}) to) ≡ 0
+len_none to =
+    len-remove key_total empty to ∙ ap (λ (o : Option (Unit {0})). cond (is_some o) (len (empty {X = Unit {0}} {R = line_cmp}) - 1) (len (empty {X = Unit {0}} {R = line_cmp}))) (get-empty line_cmp to)
+    ∙ len-empty line_cmp (Unit {0})
+
+-- no row refers to one that is not listed
+pub count_none : (links : Links) (to : LineKey) → None ≡ get links.strong to → 0 ≡ strong_count links to
+count_none links to none = sym (ap (λ (o : Option KeySet). len (remove (unwrap_or o empty) to)) (sym none) ∙ len_none to)

@@ -1,15 +1,16 @@
 -- Who refers to which row, of the code as those of the definitions.
-use Rattle.std.proofs.Common.{◌≡◌, List, [], Bool, true, false, cond, T, Option, Some, None, refl, sym, ap, ◌∙◌}
+use Rattle.std.proofs.Common.{◌≡◌, ◌==◌, List, [], Bool, true, false, cond, T, Option, Some, None, refl, sym, ap, ◌∙◌}
 use Rattle.std.specs.Prelude.{unwrap_or}
 use Rattle.std.specs.BTreeMap.{is_at, insert_entry}
 use Rattle.std.specs.Cmp.{eq_by_cmp_equiv}
-use Rattle.std.specs.FinMap.{is_sorted, empty, get, insert, remove, get-insert, same_map}
+use Rattle.std.specs.FinMap.{is_sorted, empty, get, insert, remove, len, get-insert, get-remove, same_map}
 use Rattle.std.specs.Map.{lookup}
 use Rattle.std.specs.Ordering.{eq_by_cmp}
 use Rattle.ov_specs.specs.rows.Lines.{LineKey, line_cmp}
+use Rattle.ov_specs.specs.schema.Schema.{is_some_and}
 use Rattle.ov_specs.proofs.laws.LineKeys.{key_exact, key_total, tied_same}
 use Rattle.ov_rows.proofs.Maps.{get-lookup, from_sorted-insert, from_sorted-nil}
-use Rattle.ov_refs.specs.Holding.{KeySet, holders_of, with_holder, without_holder, without}
+use Rattle.ov_refs.specs.Holding.{KeySet, Holders, holders_of, with_holder, fewer, with_fewer, without, without_holder}
 
 abbrev pub Entries : Type 0
 Entries = List (LineKey × KeySet)
@@ -46,9 +47,9 @@ module _ (es es' : Entries) (to from : LineKey) (h : T (is_sorted line_cmp es)) 
       ∙ ap (insert (holders_of es) to) (put ∙ ap (λ (o : Option KeySet). insert (unwrap_or o empty) from tt) (is ∙ sym (get-holders_of es to h)))
 
   -- one fewer
-  pub with-fewer : (old new : KeySet) → PutsSet es es' to new → Some old ≡ set_at to es → new ≡ remove old from → holders_of es' ≡ without_holder to from (holders_of es)
+  pub with-fewer : (old new : KeySet) → PutsSet es es' to new → Some old ≡ set_at to es → new ≡ remove old from → holders_of es' ≡ with_fewer to from (holders_of es)
   with-fewer old new puts is out =
-      holders_of-put new puts ∙ ap (insert (holders_of es) to) out ∙ ap (λ o. without o to from (holders_of es)) (is ∙ sym (get-holders_of es to h))
+      holders_of-put new puts ∙ ap (insert (holders_of es) to) out ∙ ap (λ o. fewer o to from (holders_of es)) (is ∙ sym (get-holders_of es to h))
 
   -- those of a row that are put back as they were
   pub put-back : (old new : KeySet) → PutsSet es es' to new → Some old ≡ set_at to es → new ≡ old → holders_of es' ≡ holders_of es
@@ -58,6 +59,39 @@ module _ (es es' : Entries) (to from : LineKey) (h : T (is_sorted line_cmp es)) 
       by q false e = rw e refl
       by q true e = rw e (ap (λ set. Some set) same ∙ is ∙ ap (λ k. set_at k es) (tied_same to q e))
 
--- there is nothing to take out where nobody ever referred to the row
-pub without-none : (es : Entries) (to from : LineKey) → T (is_sorted line_cmp es) → None ≡ set_at to es → holders_of es ≡ without_holder to from (holders_of es)
-without-none es to from h none = ap (λ o. without o to from (holders_of es)) (none ∙ sym (get-holders_of es to h))
+-- there is nothing to take out where nobody refers to the row
+pub fewer-none : (es : Entries) (to from : LineKey) → T (is_sorted line_cmp es) → None ≡ set_at to es → holders_of es ≡ with_fewer to from (holders_of es)
+fewer-none es to from h none = ap (λ o. fewer o to from (holders_of es)) (none ∙ sym (get-holders_of es to h))
+
+-- ---- the last one of a row
+
+-- nobody is left to refer to the row
+abbrev pub is_left_alone : LineKey → Option KeySet → Bool
+is_left_alone from o = is_some_and (λ set. len (remove set from) == 0) o
+
+-- what is put at a key goes where the key does
+remove-insert : (holders : Holders) (to : LineKey) (set : KeySet) → remove (insert holders to set) to ≡ remove holders to
+remove-insert holders to set = same_map key_total key_exact _ _ (λ q.
+    get-remove key_total (insert holders to set) to q ∙ ap (cond (eq_by_cmp line_cmp q to) None) (get-insert key_total holders to set q)
+    ∙ by (eq_by_cmp line_cmp q to) (get holders q) ∙ sym (get-remove key_total holders to q))
+  where
+    by : (b : Bool) (o : Option KeySet) → cond b None (cond b (Some set) o) ≡ cond b None o
+    by true o = refl
+    by false o = refl
+
+module _ (to from : LineKey) (holders : Holders) where
+  -- the row is listed no more
+  pub without-last : is_left_alone from (get holders to) ≡ true → remove (with_fewer to from holders) to ≡ without_holder to from holders
+  without-last = by (get holders to)
+    where
+      by : (o : Option KeySet) → is_left_alone from o ≡ true → remove (fewer o to from holders) to ≡ without o to from holders
+      by None last = cc
+      by (Some set) last = remove-insert holders to (remove set from) ∙ ap (λ b. cond b (remove holders to) (insert holders to (remove set from))) (sym last)
+
+  -- others are left, or none was there
+  pub without-others : is_left_alone from (get holders to) ≡ false → with_fewer to from holders ≡ without_holder to from holders
+  without-others = by (get holders to)
+    where
+      by : (o : Option KeySet) → is_left_alone from o ≡ false → fewer o to from holders ≡ without o to from holders
+      by None last = refl
+      by (Some set) last = ap (λ b. cond b (remove holders to) (insert holders to (remove set from))) (sym last)

@@ -2,3 +2,5 @@ pub mod Referring
 pub mod KeySets
 pub mod HolderMaps
 pub mod Collecting
+pub mod Placing
+pub mod WholeLinks

@@ -1,9 +1,9 @@
 -- Who refers to which row, as maps. What names no source is our own.
-use Rattle.std.specs.Prelude.{List, map, Bool, Option, Some, None, unwrap_or}
+use Rattle.std.specs.Prelude.{◌==◌, List, map, Bool, if◌then◌else◌, Option, Some, None, unwrap_or}
 use Rattle.std.specs.Coded.{Coded, coded×, coded_ℕ, coded_list}
 use base.Stored.{coded_unit}
 use Rattle.std.specs.FinMap as map
-use Rattle.std.specs.FinMap.{FinMap, empty, get, contains_key, insert, remove}
+use Rattle.std.specs.FinMap.{FinMap, empty, get, contains_key, insert, remove, len}
 use Rattle.ov_specs.specs.rows.Lines.{LineKey, line_cmp}
 use Rattle.ov_specs.specs.schema.Schema.{is_some_and}
 
@@ -35,10 +35,18 @@ is_holder holders to from = is_some_and (λ set. contains_key set from) (get hol
 abbrev pub with_holder : LineKey → LineKey → Holders → Holders
 with_holder to from holders = insert holders to (insert (unwrap_or (get holders to) empty) from tt)
 
--- without the one, where there is one
+-- without the one among those that refer to the row
+abbrev pub fewer : Option KeySet → LineKey → LineKey → Holders → Holders
+fewer None to from holders = holders
+fewer (Some set) to from holders = insert holders to (remove set from)
+
+abbrev pub with_fewer : LineKey → LineKey → Holders → Holders
+with_fewer to from holders = fewer (get holders to) to from holders
+
+-- without the one; where it was the last one, the row is listed no more
 abbrev pub without : Option KeySet → LineKey → LineKey → Holders → Holders
 without None to from holders = holders
-without (Some set) to from holders = insert holders to (remove set from)
+without (Some set) to from holders = if len (remove set from) == 0 then remove holders to else insert holders to (remove set from)
 
 -- without one that refers to the row
 abbrev pub without_holder : LineKey → LineKey → Holders → Holders

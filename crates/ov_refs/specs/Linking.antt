@@ -1,9 +1,9 @@
 -- Who refers to whom in the rows of a database, and how that is collected row by row. What names no source is our own.
-use Rattle.std.specs.Prelude.{◌≡◌, List, [], ◌∷◌, Bool, if◌then◌else◌, refl}
+use Rattle.std.specs.Prelude.{◌≡◌, ℕ, List, [], ◌∷◌, Bool, if◌then◌else◌, unwrap_or, refl}
 use Rattle.std.specs.Coded.{Coded, code_by, coded×}
-use Rattle.std.specs.FinMap.{empty, get}
-use Rattle.ov_refs.specs.Holding.{Holders, holders_code, is_holder, with_holder}
-use Rattle.ov_specs.specs.integrity.References.{Target, refers_strongly, refers_weakly, row_targets}
+use Rattle.std.specs.FinMap.{empty, get, remove, len}
+use Rattle.ov_refs.specs.Holding.{Holders, holders_code, is_holder, with_holder, without_holder}
+use Rattle.ov_specs.specs.integrity.References.{Target, RowReference, refers_strongly, refers_weakly, row_targets}
 use Rattle.ov_specs.specs.rows.Database.{Row, Database}
 use Rattle.ov_specs.specs.rows.Lines.{LineKey}
 use Rattle.ov_specs.specs.schema.Schema.{is_some_and}
@@ -36,6 +36,24 @@ is_weak_in schema rows to from = is_some_and (λ row. refers_weakly schema (from
 pub record AreLinksOf (schema : Schema) (rows : Database) (links : Links) : Type 0 where
   pub strong : (to from : LineKey) → is_holder links.strong to from ≡ is_strong_in schema rows to from
   pub weak : (to from : LineKey) → is_holder links.weak to from ≡ is_weak_in schema rows to from
+
+-- ---- what they are without some references
+
+-- without the reference
+abbrev pub without_reference : RowReference → Links → Links
+without_reference r links =
+    if r.to.is_strong then record links { strong = without_holder r.to.key r.from links.strong } else record links { weak = without_holder r.to.key r.from links.weak }
+
+-- without all of these
+abbrev pub without_references : List RowReference → Links → Links
+without_references [] links = links
+without_references (r ∷ rs) links = without_references rs (without_reference r links)
+
+-- ---- support
+
+-- how many different rows other than itself refer strongly to the row
+abbrev pub strong_count : Links → LineKey → ℕ
+strong_count links to = len (remove (unwrap_or (get links.strong to) empty) to)
 
 -- ---- how they are collected; for private clauses
 

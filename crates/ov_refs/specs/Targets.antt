@@ -4,7 +4,7 @@ use Rattle.std.specs.Coded.{Coded, code_by, coded×, coded_bool, coded_ℕ, code
 use Rattle.std.specs.FinMap.{keys, values}
 use Rattle.std.specs.List.{flat_map}
 use Rattle.std.specs.Option.{option_to_list}
-use Rattle.ov_specs.specs.integrity.References.{Target, target_of}
+use Rattle.ov_specs.specs.integrity.References.{Target, RowReference, target_of}
 use Rattle.ov_specs.specs.rows.Lines.{LineKey}
 use Rattle.ov_specs.specs.schema.SchemaTypes.{Reference}
 use Rattle.ov_specs.specs.values.Value.{Atom, Datum, Atoms, Pairs}
@@ -12,6 +12,10 @@ use Rattle.ov_specs.specs.values.Value.{Atom, Datum, Atoms, Pairs}
 -- a target as a pair
 abbrev pub target_code : Coded Target
 target_code = code_by (LineKey × Bool) (coded× (coded× (coded_list coded_ℕ) (coded_list coded_ℕ)) coded_bool) (λ t. (t.key, t.is_strong)) (λ p. record { key = p.0; is_strong = p.1 }) (λ _. refl)
+
+-- a reference as a pair
+abbrev pub reference_code : Coded RowReference
+reference_code = code_by (LineKey × Target) (coded× (coded× (coded_list coded_ℕ) (coded_list coded_ℕ)) target_code) (λ r. (r.from, r.to)) (λ p. record { from = p.0; to = p.1 }) (λ _. refl)
 
 -- ---- for private clauses
 

@@ -1,6 +1,7 @@
-ghost use Rattle.std.specs.Prelude.{◌≡◌, option_copied, OnOk, OnErr};
-ghost use Rattle.std.specs.FinMap.{empty, entries, get};
-ghost use Rattle.ov_refs.specs.Holding.{with_holder, without_holder};
+ghost use Rattle.std.specs.Prelude.{◌≡◌, ◌==◌, option_copied, OnOk, OnErr};
+ghost use Rattle.std.specs.FinMap.{empty, entries, get, remove, len};
+ghost use Rattle.ov_specs.specs.schema.Schema.{is_some_and};
+ghost use Rattle.ov_refs.specs.Holding.{is_holder, with_holder, with_fewer, without_holder};
 
 use crate::key_set::KeySet;
 use ov_rows::RowKey;
@@ -8,7 +9,7 @@ use std::alloc::{AllocError, Global};
 use std::collections::BTreeMap;
 use std::marker::Model;
 
-/// For each row, and for what is no row yet or no more, those that refer to it.
+/// For each row that is referred to, and for what is no row yet or no more, those that refer to it.
 #[derive(Drop)]
 pub struct Holders {
     of: BTreeMap<RowKey, KeySet>,
@@ -40,14 +41,24 @@ impl Holders {
         }
     }
 
-    /// Those that refer to the row; none where nobody ever did.
+    /// Those that refer to the row.
     pub fn of(&self, to: &RowKey) -> Option<&KeySet>
         ensures { option_copied result ≡ get self.now to.now }
     {
         self.of.get(to)
     }
 
-    /// All rows that somebody ever referred to, ascending, with those that do now.
+    /// Whether the one refers to the other.
+    pub fn has(&self, to: &RowKey, from: &RowKey) -> bool
+        ensures { result ≡ is_holder self.now to.now from.now }
+    {
+        match self.of(to) {
+            Some(set) => set.contains(from),
+            None => false,
+        }
+    }
+
+    /// All rows that somebody refers to, ascending, with those that do.
     pub fn map(&self) -> &BTreeMap<RowKey, KeySet>
         ensures { result.now.entries ≡ entries self.now }
     {
@@ -70,12 +81,26 @@ impl Holders {
         }
     }
 
-    /// One fewer, if it refers to the row.
+    /// One fewer, if it refers to the row. A row that nobody is left to refer to is listed no more.
     pub fn remove(&mut self, to: &RowKey, from: &RowKey)
         ensures { self.new ≡ without_holder to.now from.now self.old }
     {
-        if let Some(set) = self.of.get_mut(to) {
-            set.remove(from);
+        if self.take_from(to, from) {
+            self.of.remove(to);
+        }
+    }
+
+    /// One fewer, if it refers to the row; whether the row is listed and nobody refers to it.
+    fn take_from(&mut self, to: &RowKey, from: &RowKey) -> bool
+        ensures fewer { self.new ≡ with_fewer to.now from.now self.old }
+        ensures none { result ≡ is_some_and (λ set. len (remove set from.now) == 0) (get self.old to.now) }
+    {
+        match self.of.get_mut(to) {
+            Some(set) => {
+                set.remove(from);
+                set.is_empty()
+            }
+            None => false,
         }
     }
 }

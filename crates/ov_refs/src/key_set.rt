@@ -52,6 +52,18 @@ impl KeySet {
         self.keys.contains(key)
     }
 
+    /// How many it has without this one.
+    pub fn count_beside(&self, key: &RowKey) -> usize
+        ensures { result ≡ len (remove self.now key.now) }
+    {
+        let all = self.keys.len();
+        if self.keys.contains(key) {
+            all - 1
+        } else {
+            all
+        }
+    }
+
     /// All of them, ascending.
     pub fn as_set(&self) -> &BTreeSet<RowKey>
         ensures { result.now.keys ≡ keys self.now }

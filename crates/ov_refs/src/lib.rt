@@ -4,12 +4,19 @@
 
 mod holders;
 mod key_set;
+mod link_changes;
 mod links;
+mod reference;
 mod target;
+mod target_set;
 mod targets;
+mod whole;
 
 pub use holders::Holders;
 pub use key_set::KeySet;
+pub use link_changes::LinkChanges;
 pub use links::Links;
+pub use reference::RowReference;
 pub use target::Target;
 pub use targets::targets_of;
+pub use whole::are_references_whole;

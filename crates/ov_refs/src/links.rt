@@ -1,15 +1,22 @@
-ghost use Rattle.std.specs.Prelude.{◌≡◌, IfOk, OnOk};
+ghost use Rattle.std.specs.Prelude.{◌≡◌, ◌++◌, [], ◌∷◌, IfOk, OnOk, OnErr};
 ghost use Rattle.std.specs.FinMap.{get, entries};
 ghost use Rattle.ov_specs.specs.integrity.References.{targets_in};
-ghost use Rattle.ov_refs.specs.Linking.{AreLinksOf, AreNone, with_rows, with_target, with_targets};
+ghost use Rattle.ov_specs.specs.rows.Database.{Database};
+ghost use Rattle.ov_refs.specs.Changed.{IsAfter};
+ghost use Rattle.ov_refs.specs.Linking.{AreLinksOf, AreNone, strong_count, with_rows, with_target, with_targets, without_reference, without_references};
+ghost use Rattle.ov_refs.specs.Placed.{Adds, AreAlike, lost, refers, targets_at};
 ghost use Rattle.ov_rows.specs.Nested.{in_table};
 
 use crate::holders::Holders;
+use crate::link_changes::LinkChanges;
+use crate::reference::RowReference;
 use crate::target::Target;
-use crate::targets::targets_of;
-use ov_rows::{Columns, RowKey, Rows, TableRows};
+use crate::target_set::TargetSet;
+use crate::targets::{targets_at, targets_of};
+use ov_rows::{Columns, Row, RowKey, Rows, TableRows};
 use ov_schema::Schema;
 use std::alloc::{AllocError, Global};
+use std::collections::BTreeMap;
 use std::marker::Model;
 
 /// Who refers to which row, strongly and weakly (RFC 7047, 3.2, `<base-type>`, refType).
@@ -55,9 +62,31 @@ impl Links {
         &self.weak
     }
 
-    /// One more that refers to the row of the target.
+    /// How many different rows other than itself refer strongly to the row.
+    pub fn strong_count(&self, to: &RowKey) -> usize
+        ensures { result ≡ strong_count self.now to.now }
+    {
+        match self.strong.of(to) {
+            Some(set) => set.count_beside(to),
+            None => 0,
+        }
+    }
+
+    /// Whether the row refers to the target.
+    fn has(&self, from: &RowKey, to: &Target) -> bool
+        ensures { result ≡ refers to.now.is_strong self.now to.now.key from.now }
+    {
+        if to.is_strong {
+            self.strong.has(&to.key, from)
+        } else {
+            self.weak.has(&to.key, from)
+        }
+    }
+
+    /// One more that refers to the row of the target. Where a growth is refused, nothing is changed.
     fn add_target(&mut self, alloc: Global, from: &RowKey, target: Target) -> Result<(), AllocError>
-        ensures { OnOk result (self.new ≡ with_target from.now target self.old) }
+        ensures ok { OnOk result (self.new ≡ with_target from.now target self.old) }
+        ensures err { OnErr result (self.new ≡ self.old) }
     {
         let from = RowKey::new(alloc, from.table(), from.id())?;
         if target.is_strong {
@@ -68,7 +97,7 @@ impl Links {
     }
 
     /// With what the columns of the row of this key refer to.
-    pub fn add_row(
+    fn add_row(
         &mut self,
         alloc: Global,
         schema: &Schema,
@@ -109,5 +138,109 @@ impl Links {
             links.add_table(alloc, schema, name.as_str(), table)?;
         }
         Ok(links)
+    }
+
+    /// Adds that the row refers to the target, and lists it, unless that is known.
+    fn place_target(
+        &mut self,
+        alloc: Global,
+        from: &RowKey,
+        to: &Target,
+        added: &mut Vec<RowReference>,
+    ) -> Result<(), AllocError>
+        ensures back { AreAlike (without_references added.new.items self.new) (without_references added.old.items self.old) }
+        ensures adds { OnOk result (Adds from.now (to.now ∷ []) self.old self.new) }
+    {
+        if self.has(from, to) {
+            return Ok(());
+        }
+        added.reserve(1)?;
+        let reference = RowReference::new(alloc, from, to.copied(alloc)?)?;
+        self.add_target(alloc, from, to.copied(alloc)?)?;
+        added.push_reserved(reference);
+        Ok(())
+    }
+
+    /// Adds that the row refers to the targets, and lists those of which that was not known.
+    fn place_targets(
+        &mut self,
+        alloc: Global,
+        from: &RowKey,
+        targets: &[Target],
+        added: &mut Vec<RowReference>,
+    ) -> Result<(), AllocError>
+        ensures back { AreAlike (without_references added.new.items self.new) (without_references added.old.items self.old) }
+        ensures adds { OnOk result (Adds from.now targets.now self.old self.new) }
+    {
+        for target in targets {
+            self.place_target(alloc, from, target, added)?;
+        }
+        Ok(())
+    }
+
+    /// Adds what the changed row refers to, and lists it where it was not there before. Lists also what the row referred to before
+    /// and doesn't after.
+    fn place_change(
+        &mut self,
+        alloc: Global,
+        schema: &Schema,
+        rows: &Rows,
+        key: &RowKey,
+        change: &Option<Row>,
+        room: &mut LinkChanges,
+    ) -> Result<(), AllocError>
+        ensures back { AreAlike (without_references room.new.added.items self.new) (without_references room.old.added.items self.old) }
+        ensures adds { OnOk result (Adds key.now (targets_at schema.now key.now change.now) self.old self.new) }
+        ensures gone { OnOk result (room.new.gone.items ≡ room.old.gone.items ++ lost key.now (targets_at schema.now key.now (get rows.now key.now)) (targets_at schema.now key.now change.now)) }
+    {
+        let before = targets_at(alloc, schema, key, rows.row(key.table(), key.id()))?;
+        let after = targets_at(alloc, schema, key, change.as_ref())?;
+        self.place_targets(alloc, key, after.as_slice(), &mut room.added)?;
+        let after = TargetSet::of(alloc, after)?;
+        after.push_others(alloc, key, before, &mut room.gone)
+    }
+
+    /// Makes room for what a commit of these changes makes of the links: adds what the changed rows refer to, and lists it where it
+    /// was not there before. Lists also what the rows of these keys referred to before and don't after.
+    ///
+    /// Where a growth is refused, what was added till then is listed. So taking out what was added gives back who referred to whom,
+    /// and taking out what is gone gives who does after the changes; neither takes memory.
+    pub fn place(
+        &mut self,
+        alloc: Global,
+        schema: &Schema,
+        rows: &Rows,
+        changes: &BTreeMap<RowKey, Option<Row>>,
+        room: &mut LinkChanges,
+    ) -> Result<(), AllocError>
+        requires linked { AreLinksOf schema.now rows.now self.old }
+        requires none { (room.old.added.items ≡ []) × (room.old.gone.items ≡ []) }
+        ensures back { AreLinksOf schema.now rows.now (without_references room.new.added.items self.new) }
+        ensures on { OnOk result ((after : Database) → IsAfter changes.now.entries rows.now after → AreLinksOf schema.now after (without_references room.new.gone.items self.new)) }
+    {
+        for (key, change) in changes {
+            self.place_change(alloc, schema, rows, key, change, room)?;
+        }
+        Ok(())
+    }
+
+    /// Without the reference.
+    fn remove(&mut self, reference: &RowReference)
+        ensures { self.new ≡ without_reference reference.now self.old }
+    {
+        if reference.to.is_strong {
+            self.strong.remove(&reference.to.key, &reference.from);
+        } else {
+            self.weak.remove(&reference.to.key, &reference.from);
+        }
+    }
+
+    /// Without these references. No memory is taken.
+    pub fn take_out(&mut self, references: &[RowReference])
+        ensures { self.new ≡ without_references references.now self.old }
+    {
+        for reference in references {
+            self.remove(reference);
+        }
     }
 }

@@ -1,4 +1,7 @@
+ghost use Rattle.std.specs.Prelude.{◌≡◌, IfOk};
+
 use ov_rows::RowKey;
+use std::alloc::{AllocError, Global};
 use std::marker::Model;
 
 /// The row that a reference is to (RFC 7047, 3.2, `<base-type>`).
@@ -18,4 +21,16 @@ impl Model for Target {
     ghost coded = { target_code };
 
     ghost view = { λ t. record { key = t.key; is_strong = t.is_strong } };
+}
+
+impl Target {
+    /// The same target once more.
+    pub(crate) fn copied(&self, alloc: Global) -> Result<Target, AllocError>
+        ensures { IfOk result (λ target. target ≡ self.now) }
+    {
+        Ok(Target {
+            key: RowKey::new(alloc, self.key.table(), self.key.id())?,
+            is_strong: self.is_strong,
+        })
+    }
 }

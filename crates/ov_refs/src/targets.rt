@@ -1,13 +1,14 @@
-ghost use Rattle.std.specs.Prelude.{◌≡◌, ◌++◌, map, option_and_then, Some, IfOk, OnOk};
+ghost use Rattle.std.specs.Prelude.{◌≡◌, ◌++◌, map, option_and_then, option_copied, Some, IfOk, OnOk};
 ghost use Rattle.std.specs.List.{flat_map};
 ghost use Rattle.std.specs.FinMap.{get};
 ghost use Rattle.ov_atoms.specs.Views.{atom_view, atoms_view, pairs_view};
 ghost use Rattle.ov_specs.specs.integrity.References.{column_targets, datum_targets, targets_in};
+ghost use Rattle.ov_refs.specs.Placed.{targets_at};
 ghost use Rattle.ov_refs.specs.Targets.{key_atoms, value_atoms, one_target, all_targets};
 
 use crate::target::Target;
 use ov_atoms::{Atom, Datum};
-use ov_rows::{Columns, RowKey};
+use ov_rows::{Columns, Row, RowKey};
 use ov_schema::{Column, Reference, Schema, Table};
 use std::alloc::{AllocError, Global};
 
@@ -188,6 +189,21 @@ pub fn targets_of(
 {
     match schema.table(table) {
         Some(table) => targets_in(alloc, table, columns),
+        None => Ok(Vec::new(alloc)),
+    }
+}
+
+/// What the row at this key refers to, if there is one.
+pub(crate) fn targets_at(
+    alloc: Global,
+    schema: &Schema,
+    key: &RowKey,
+    row: Option<&Row>,
+) -> Result<Vec<Target>, AllocError>
+    ensures { IfOk result (λ targets. targets.items ≡ targets_at schema.now key.now (option_copied row.entry)) }
+{
+    match row {
+        Some(row) => targets_of(alloc, schema, key.table(), &row.columns),
         None => Ok(Vec::new(alloc)),
     }
 }

@@ -4,7 +4,7 @@ ghost use Rattle.std.specs.FinMap.{get, from_entries};
 ghost use Rattle.serde_json.specs.Data.{Data};
 ghost use Rattle.serde_json.specs.View.{view};
 ghost use Rattle.ov_specs.specs.schema.SchemaShape.{schema_shape};
-ghost use Rattle.ov_specs.specs.schema.Schema.{judged, accepted_schema, accepted};
+ghost use Rattle.ov_specs.specs.schema.Schema.{IsAccepted, judged, accepted_schema, accepted};
 ghost use Rattle.ov_schema.specs.Built.{named_table_of};
 ghost use Rattle.ov_schema.specs.SchemaMembers.{schema_of_members};
 ghost use Rattle.ov_schema.specs.Refusals.{RefusesWith, JudgesWith};
@@ -38,6 +38,7 @@ pub(crate) struct SchemaMembers {
 impl Model for Schema {
     ghost use Rattle.ov_specs.specs.schema.SchemaTypes as types;
     ghost use Rattle.ov_specs.specs.codes.SchemaCode.{schema_code};
+    ghost use Rattle.ov_specs.specs.schema.Schema.{IsAccepted};
     ghost use Rattle.ov_schema.specs.SchemaMembers.{schema_of_members};
 
     ghost Value = { types.Schema };
@@ -45,6 +46,8 @@ impl Model for Schema {
     ghost coded = { schema_code };
 
     ghost view = { λ s. schema_of_members s.tree s.parts };
+
+    ghost invariant = { λ s. IsAccepted (schema_of_members s.tree s.parts) };
 }
 
 impl Schema {
@@ -57,6 +60,13 @@ impl Schema {
     {
         let parts = SchemaMembers::read(alloc, tree.as_value())?;
         Ok(Schema { parts, tree })
+    }
+
+    /// Tells contracts that the schema is what its own tree is read as. It does nothing.
+    pub fn accepted(&self)
+        ensures { IsAccepted self.now }
+    {
+        let _tree = &self.tree;
     }
 
     /// The database's name.

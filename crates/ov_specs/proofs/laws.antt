@@ -17,13 +17,16 @@ pub mod Works
 pub mod Turns
 pub mod LineKeys
 pub mod Truths
+pub mod Lists
 pub mod Names
 pub mod SuitingColumns
 pub mod Suiting
 pub mod FoundRows
 pub mod MadeRows
 pub mod OutcomeSuiting
+pub mod StepKeeping
 pub mod StepSuiting
+pub mod StepWhole
 pub mod RefusedOutcome
 pub mod Nesting
 pub mod Bodies

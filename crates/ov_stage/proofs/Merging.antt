@@ -1,8 +1,8 @@
 -- Two ascending lists, of rows and of changes, made one: a change replaces or removes the row of its key.
 use Rattle.std.proofs.Common.{◌≡◌, ℕ, ◌+◌, ◌<◌, ◌≤◌, List, [], ◌∷◌, ◌++◌, length, get_or, drop, map, Bool, true, false, cond, not, T, Option, Some, None, refl, sym, ap, subst, ◌∙◌, append-nil, append_assoc, Less, Equal, Greater}
-use Rattle.std.proofs.lemmas.List.{drop_all}
+use Rattle.std.proofs.lemmas.List.{drop_all, nil_from_length}
 use Rattle.std.specs.Cmp.{eq_by_cmp_equiv}
-use Rattle.std.specs.FinMap.{FinMap, put, is_sorted, from_sorted, remove, get, entries, entries_sorted, entries-insert, entries-from_sorted, get-from_sorted, get-entries, get-remove, same_map}
+use Rattle.std.specs.FinMap.{FinMap, put, is_sorted, from_sorted, remove, get, entries, entries_sorted, entries-insert, len, len-entries, entries-from_sorted, get-from_sorted, get-entries, get-remove, same_map}
 use Rattle.std.specs.FinMap.Entries.{below_all, by_order, where_key, is_sorted-where_key, find-where_key}
 use Rattle.std.specs.List.{filter, flat_map}
 use Rattle.std.specs.Ordering.{is_lt, is_eq, eq_by_cmp, ordering_reverse}
@@ -18,6 +18,7 @@ use Rattle.ov_rows.specs.Nested.{id_cmp}
 use Rattle.ov_rows.specs.Resident.{database_of}
 use Rattle.ov_rows.proofs.Nesting.{within}
 use Rattle.ov_db.proofs.Places.{Changes, get-applied, or_before}
+use Rattle.ov_stage.specs.Asked.{rows_after}
 use Rattle.ov_stage.specs.Staging.{row_made, place, placed}
 use Rattle.ov_stage.proofs.Equal.{drop-at, map-push}
 use Rattle.ov_specs.proofs.laws.Truths.{both_hold, cond-not, left_holds, less_is, right_holds}
@@ -205,32 +206,43 @@ in_part : (b : Bool) (change : Option (Option Row)) (old : Option Row) → or_be
 in_part true change old = refl
 in_part false change old = refl
 
-module _ (table : List ℕ) (delta : Delta) (db : Database) where
+module _ (table : List ℕ) (delta : Delta) where
   abbrev of_it : LineKey → Bool
   of_it k = bytes_eq k.0 table
 
   abbrev its_changes : Changes
   its_changes = where_key line_cmp of_it (entries delta)
 
-  abbrev its_rows : Entries
-  its_rows = where_key line_cmp of_it (entries db)
-
   pub its_changes_sorted : T (is_sorted line_cmp its_changes)
   its_changes_sorted = part_sorted delta of_it
 
-  pub its_rows_sorted : T (is_sorted line_cmp its_rows)
-  its_rows_sorted = part_sorted db of_it
+  -- what stands at a key after the table's changes
+  pub get-after : (rows : Database) (q : LineKey) → get (with_rows its_changes rows) q ≡ or_before (cond (of_it q) (get delta q) None) (get rows q)
+  get-after rows q =
+      ap (λ (cs : Changes). get (with_rows cs rows) q) (sym (entries-from_sorted line_cmp its_changes its_changes_sorted))
+      ∙ get-applied (delta_of its_changes) rows q ∙ ap (λ o. or_before o (get rows q)) (get-part delta of_it q)
 
-  -- the table's rows after its changes are its rows after all changes
-  pub of_table_after : entries (with_rows its_changes (database_of its_rows)) ≡ filter (λ r. bytes_eq r.0.0 table) (entries (applied delta db))
-  of_table_after =
-      ap (λ (d : Database). entries d) (same_map key_total key_exact (with_rows its_changes (database_of its_rows)) (database_of (where_key line_cmp of_it (entries (applied delta db)))) (λ q.
-      ap (λ (cs : Changes). get (with_rows cs (database_of its_rows)) q) (sym (entries-from_sorted line_cmp its_changes its_changes_sorted))
-      ∙ get-applied (delta_of its_changes) (database_of its_rows) q
-      ∙ ap (λ o. or_before o (get (database_of its_rows) q)) (get-part delta of_it q) ∙ ap (or_before (cond (of_it q) (get delta q) None)) (get-part db of_it q)
-      ∙ in_part (of_it q) (get delta q) (get db q) ∙ ap (λ o. cond (of_it q) o None) (sym (get-applied delta db q))
-      ∙ sym (get-part (applied delta db) of_it q)))
-      ∙ entries-from_sorted line_cmp _ (part_sorted (applied delta db) of_it)
+  module _ (db : Database) where
+    abbrev its_rows : Entries
+    its_rows = where_key line_cmp of_it (entries db)
+
+    pub its_rows_sorted : T (is_sorted line_cmp its_rows)
+    its_rows_sorted = part_sorted db of_it
+
+    -- the table's rows after its changes are its rows after all changes
+    pub of_table_after : entries (with_rows its_changes (database_of its_rows)) ≡ filter (λ r. bytes_eq r.0.0 table) (entries (applied delta db))
+    of_table_after =
+        ap (λ (d : Database). entries d) (same_map key_total key_exact (with_rows its_changes (database_of its_rows)) (database_of (where_key line_cmp of_it (entries (applied delta db)))) (λ q.
+        get-after (database_of its_rows) q ∙ ap (or_before (cond (of_it q) (get delta q) None)) (get-part db of_it q)
+        ∙ in_part (of_it q) (get delta q) (get db q) ∙ ap (λ o. cond (of_it q) o None) (sym (get-applied delta db q))
+        ∙ sym (get-part (applied delta db) of_it q)))
+        ∙ entries-from_sorted line_cmp _ (part_sorted (applied delta db) of_it)
+
+-- without changes the rows stay as they are
+pub after-none : (table : List ℕ) (delta : Delta) (es : Entries) → len delta ≡ 0 → T (is_sorted line_cmp es) → es ≡ rows_after delta table es
+after-none table delta es none h =
+    sym (entries-from_sorted line_cmp es h)
+    ∙ ap (λ (cs : Changes). entries (with_rows (filter (λ c. bytes_eq c.0.0 table) cs) (database_of es))) (sym (nil_from_length (entries delta) (sym (len-entries delta) ∙ none)))
 
 -- ---- rows of one table by their identifiers, and by their keys
 

@@ -5,6 +5,7 @@
 mod conditions;
 mod fault;
 mod former;
+mod indexed;
 mod lookup;
 mod member;
 mod merge;

@@ -1,11 +1,14 @@
-ghost use Rattle.std.specs.Prelude.{◌≡◌, option_map};
+ghost use Rattle.std.specs.Prelude.{◌≡◌, map, option_map, option_to_list, IfOk};
 ghost use Rattle.std.specs.FinMap.{get};
+ghost use Rattle.std.specs.List.{flat_map};
 ghost use Rattle.ov_db.specs.Changing.{applied};
 ghost use Rattle.ov_rows.specs.Lending.{lent_row, lent_row_of};
+ghost use Rattle.ov_stage.specs.Asked.{rows_of_ids};
 ghost use Rattle.ov_stage.specs.Staging.{with_key};
 
 use ov_db::Delta;
 use ov_rows::{Row, RowKey, RowView, Rows, TableRows};
+use std::alloc::{AllocError, Global};
 use uuid::Uuid;
 
 /// The row of this identifier in a table.
@@ -46,5 +49,37 @@ pub(crate) fn row_after<'a>(rows: &'a Rows, delta: &'a Delta, key: &RowKey) -> O
         Some((id, Some(row))) => Some(RowView { id, row }),
         Some((_, None)) => None,
         None => row_before(rows, key),
+    }
+}
+
+/// The rows of these identifiers in a table, those of them that there are.
+fn listed_at<'a>(
+    alloc: Global,
+    table: &'a TableRows,
+    ids: &[Uuid],
+) -> Result<Vec<RowView<'a>>, AllocError>
+    ensures { IfOk result (λ rows. map lent_row rows.items ≡ flat_map (λ id. option_to_list (with_key id (get table.now id))) ids.now) }
+{
+    let mut rows = Vec::new(alloc);
+    for id in ids {
+        if let Some(row) = row_in(table, *id) {
+            rows.push(row)?;
+        }
+    }
+    Ok(rows)
+}
+
+/// The rows of these identifiers in the table of this name, those of them that there are. No other row is looked at.
+pub(crate) fn rows_of_ids<'a>(
+    alloc: Global,
+    rows: &'a Rows,
+    table: &str,
+    ids: &[Uuid],
+) -> Result<Vec<RowView<'a>>, AllocError>
+    ensures { IfOk result (λ listed. map (lent_row_of table.now) listed.items ≡ rows_of_ids rows.now table.now ids.now) }
+{
+    match rows.of_table(table) {
+        Some(rows) => listed_at(alloc, rows, ids),
+        None => Ok(Vec::new(alloc)),
     }
 }

@@ -4,6 +4,8 @@ ghost use Rattle.std.specs.FinMap.{entries, is_sorted};
 ghost use Rattle.ov_rows.specs.Lending.{lent_row, lent_row_of};
 ghost use Rattle.ov_rows.specs.Nested.{id_cmp};
 ghost use Rattle.std.specs.Str.{bytes_eq};
+ghost use Rattle.ov_specs.specs.rows.Lines.{line_cmp};
+ghost use Rattle.ov_stage.specs.Asked.{changes_of, rows_after};
 ghost use Rattle.ov_stage.specs.Staging.{row_made, placed};
 
 use ov_db::Delta;
@@ -38,12 +40,12 @@ pub(crate) fn rows_of<'a>(
 }
 
 /// The changes of the table of this name, in ascending order of their identifiers. All changes are looked at.
-pub(crate) fn changes_of<'a>(
+fn changes_of<'a>(
     alloc: Global,
     delta: &'a Delta,
     table: &str,
 ) -> Result<Vec<(&'a Uuid, &'a Option<Row>)>, AllocError>
-    ensures { IfOk result (λ changes. map (λ c. ((table.now, c.0.now), c.1.now)) changes.items ≡ filter (λ c. bytes_eq c.0.0 table.now) (entries delta.now)) }
+    ensures { IfOk result (λ changes. map (λ c. ((table.now, c.0.now), c.1.now)) changes.items ≡ changes_of delta.now table.now) }
 {
     let mut changes = Vec::new(alloc);
     for (key, change) in delta.map() {
@@ -81,7 +83,7 @@ fn push_changes<'a>(
 
 /// The rows after the changes, in ascending order: a change replaces or removes the row of its identifier, and a new one
 /// stands at its place. Each row and each change is looked at once.
-pub(crate) fn merged<'a>(
+fn merged<'a>(
     alloc: Global,
     rows: &[RowView<'a>],
     changes: &[(&'a Uuid, &'a Option<Row>)],
@@ -115,4 +117,21 @@ pub(crate) fn merged<'a>(
     merged.extend_from_slice(&rows[i..])?;
     push_changes(&mut merged, &changes[j..])?;
     Ok(merged)
+}
+
+/// These rows of the table of this name after the changes of the table.
+pub(crate) fn rows_after<'a>(
+    alloc: Global,
+    rows: Vec<RowView<'a>>,
+    delta: &'a Delta,
+    table: &str,
+) -> Result<Vec<RowView<'a>>, AllocError>
+    requires { T (is_sorted line_cmp (map (lent_row_of table.now) rows.items)) }
+    ensures { IfOk result (λ after. map (lent_row_of table.now) after.items ≡ rows_after delta.now table.now (map (lent_row_of table.now) rows.entry.items)) }
+{
+    if delta.is_empty() {
+        return Ok(rows);
+    }
+    let changes = changes_of(alloc, delta, table)?;
+    merged(alloc, rows.as_slice(), changes.as_slice())
 }

@@ -1,21 +1,27 @@
-ghost use Rattle.std.specs.Prelude.{◌≡◌, ◌==◌, map, option_copied, option_to_list, IfOk, OnOk, OnErr};
+ghost use Rattle.std.specs.Prelude.{◌≡◌, ◌==◌, List, map, option_copied, option_to_list, IfOk, IfSome, OnOk, OnErr};
 ghost use Rattle.std.specs.List.{filter};
 ghost use Rattle.std.specs.FinMap.{contains_key, get, insert, remove, entries, len};
 ghost use Rattle.ov_db.specs.Changing.{applied};
+ghost use Rattle.ov_index.specs.Indexing.{AreIndexesOf};
 ghost use Rattle.ov_rows.specs.Lending.{lent_row_of};
+ghost use Rattle.ov_specs.specs.operations.Conditions as conditions;
 ghost use Rattle.ov_specs.specs.operations.MatchingRows.{matching};
 ghost use Rattle.ov_specs.specs.rows.Database.{same_database};
 ghost use Rattle.ov_specs.specs.rows.Version.{row_now};
 ghost use Rattle.std.specs.Str.{bytes_eq};
+ghost use Rattle.ov_stage.specs.Asked.{Ascend, AreIdsOf};
 ghost use Rattle.ov_stage.specs.Staging.{Differs, is_met, with_key};
 
 use crate::conditions::{meeting, only_id};
 use crate::former::is_former;
-use crate::lookup::row_after;
-use crate::merge::{changes_of, merged, rows_of};
+use crate::indexed::Indexed;
+use crate::lookup::{row_after, rows_of_ids};
+use crate::merge::{rows_after, rows_of};
 use ov_conds::Condition;
 use ov_db::Delta;
+use ov_index::Indexes;
 use ov_rows::{Columns, Row, RowKey, RowView, Rows};
+use ov_schema::Schema;
 use std::alloc::{AllocError, Global};
 use std::marker::Model;
 use uuid::Uuid;
@@ -24,11 +30,14 @@ use uuid::Uuid;
 #[derive(Drop)]
 pub struct Stage<'a> {
     rows: &'a Rows,
+    /// The indexes of these rows, where they are kept.
+    indexed: Option<Indexed<'a>>,
     delta: Delta,
 }
 
 impl<'a> Model for Stage<'a> {
     ghost use Rattle.ov_db.specs.Changing.{applied};
+    ghost use Rattle.ov_stage.specs.Asked.{AreIndexesIf};
     ghost use Rattle.ov_stage.specs.Staging.{Differs, Stage, stage_code};
 
     ghost Value = { Stage };
@@ -37,7 +46,7 @@ impl<'a> Model for Stage<'a> {
 
     ghost view = { λ s. record { before = s.rows.now; now = applied s.delta s.rows.now } };
 
-    ghost invariant = { λ s. Differs s.delta s.rows.now };
+    ghost invariant = { λ s. Differs s.delta s.rows.now × AreIndexesIf s.rows.now s.indexed };
 }
 
 impl<'a> Stage<'a> {
@@ -47,6 +56,25 @@ impl<'a> Stage<'a> {
     {
         Stage {
             rows,
+            indexed: None,
+            delta: Delta::new(alloc),
+        }
+    }
+
+    /// The rows before the first operation, with their indexes: where conditions ask for values in all columns of an index, only
+    /// the rows that have them are looked at.
+    pub fn with_indexes(
+        alloc: Global,
+        schema: &'a Schema,
+        rows: &'a Rows,
+        indexes: &'a Indexes,
+    ) -> Stage<'a>
+        requires indexed { AreIndexesOf schema.now rows.now indexes.now }
+        ensures { result ≡ record { before = rows.now; now = rows.now } }
+    {
+        Stage {
+            rows,
+            indexed: Some(Indexed { schema, indexes }),
             delta: Delta::new(alloc),
         }
     }
@@ -118,11 +146,39 @@ impl<'a> Stage<'a> {
         ensures { IfOk result (λ rows. map (lent_row_of table.now) rows.items ≡ filter (λ r. bytes_eq r.0.0 table.now) (entries self.now.now)) }
     {
         let rows = rows_of(alloc, self.rows, table)?;
-        if self.delta.is_empty() {
-            return Ok(rows);
+        rows_after(alloc, rows, &self.delta, table)
+    }
+
+    /// Identifiers among which are those of all rows of the table of this name that met all conditions before the first operation,
+    /// where the conditions ask for values in all columns of an index.
+    fn ids_asked(
+        &self,
+        alloc: Global,
+        table: &str,
+        conditions: &[Condition],
+    ) -> Result<Option<&[Uuid]>, AllocError>
+        ensures ascending { IfOk result (λ asked. IfSome asked (λ ids. Ascend ids.now)) }
+        ensures all { IfOk result (λ asked. IfSome asked (λ ids. AreIdsOf conditions.now self.now.before table.now ids.now)) }
+    {
+        match self.indexed {
+            Some(indexed) => indexed.ids_asked(alloc, conditions, table),
+            None => Ok(None),
         }
-        let changes = changes_of(alloc, &self.delta, table)?;
-        merged(alloc, rows.as_slice(), changes.as_slice())
+    }
+
+    /// Rows of the table of this name as they are now: those of these identifiers before the first operation, and those that the
+    /// operations have put.
+    fn rows_of_ids(
+        &self,
+        alloc: Global,
+        table: &str,
+        ids: &[Uuid],
+    ) -> Result<Vec<RowView<'_>>, AllocError>
+        requires { Ascend ids.now }
+        ensures { (asked : List conditions.Condition) → AreIdsOf asked self.now.before table.now ids.now → IfOk result (λ rows. filter (is_met asked) (map (lent_row_of table.now) rows.items) ≡ matching self.now.now table.now asked) }
+    {
+        let before = rows_of_ids(alloc, self.rows, table, ids)?;
+        rows_after(alloc, before, &self.delta, table)
     }
 
     /// The row of this identifier in the table of this name as it is now, if there is one.
@@ -146,14 +202,18 @@ impl<'a> Stage<'a> {
     ) -> Result<Vec<RowView<'_>>, AllocError>
         ensures { IfOk result (λ rows. filter (is_met conditions.now) (map (lent_row_of table.now) rows.items) ≡ matching self.now.now table.now conditions.now) }
     {
-        match only_id(conditions) {
-            Some(id) => self.rows_at(alloc, table, id),
+        if let Some(id) = only_id(conditions) {
+            return self.rows_at(alloc, table, id);
+        }
+        match self.ids_asked(alloc, table, conditions)? {
+            Some(ids) => self.rows_of_ids(alloc, table, ids),
             None => self.rows_of(alloc, table),
         }
     }
 
     /// The rows of the table of this name that meet all conditions, in ascending order of their identifiers (RFC 7047, 5.2.2).
-    /// Where a condition asks for one identifier, no other row is looked at.
+    /// Where a condition asks for one identifier, no other row is looked at. Where conditions ask for values in all columns of an
+    /// index, only the rows that have them and those that the operations have put are.
     pub fn matching(
         &self,
         alloc: Global,
@@ -171,7 +231,11 @@ impl<'a> Stage<'a> {
         ensures made { applied result self.entry.before ≡ self.entry.now }
         ensures least { (len result == 0) ≡ same_database self.entry.before self.entry.now }
     {
-        let Stage { rows: _, delta } = self;
+        let Stage {
+            rows: _,
+            indexed: _,
+            delta,
+        } = self;
         delta
     }
 }

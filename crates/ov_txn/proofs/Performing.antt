@@ -5,11 +5,12 @@ use Rattle.std.proofs.lemmas.List.{drop_more}
 use Rattle.serde_json.specs.Data.{Data, null, Items, no_items, item}
 use Rattle.serde_json.specs.View.{view, items_view}
 use Rattle.serde_json.specs.declared.value.Value.{Value}
+use Rattle.ov_specs.specs.integrity.Committed.{committed}
 use Rattle.ov_specs.specs.rows.Database.{Database}
 use Rattle.ov_specs.specs.operations.Errors.{OpError, error_tree}
 use Rattle.ov_specs.specs.operations.Operation.{outcome_of}
 use Rattle.ov_specs.specs.operations.OpOutcome.{OpContext, OpOutcome, Done, Fault, Blocked}
-use Rattle.ov_specs.specs.operations.Transaction.{TransactionOutcome, Completes, Waits, and_result, and_item, nulls, after, performed}
+use Rattle.ov_specs.specs.operations.Transaction.{TransactionOutcome, Completes, Waits, and_result, and_item, nulls, after, ended, performed}
 use Rattle.ov_txn.specs.Results.{nulls_after, items_append, prefixed}
 
 pub items_at : (vs : List Value) (i : ℕ) (v : Value) → i < length vs → v ≡ get_or vs i v → items_view (drop i vs) ≡ item (view v) (items_view (drop (i + 1) vs))
@@ -19,13 +20,17 @@ append_and : (xs : Items) (d : Data) (ys : Items) → items_append (and_item xs 
 append_and no_items d ys = refl
 append_and (item x xs) d ys = ap (item x) (append_and xs d ys)
 
-append_none : (xs : Items) → items_append xs no_items ≡ xs
+pub append_none : (xs : Items) → items_append xs no_items ≡ xs
 append_none no_items = refl
 append_none (item x xs) = ap (item x) (append_none xs)
 
 nulls_is : (xs ys : Items) → items_append xs (nulls ys) ≡ nulls_after xs ys
 nulls_is xs no_items = append_none xs
 nulls_is xs (item y ys) = sym (append_and xs null (nulls ys)) ∙ nulls_is (and_item xs null) ys
+
+-- nothing but a result follows
+pub append_one : (xs : Items) (d : Data) → items_append xs (item d no_items) ≡ and_item xs d
+append_one xs d = sym (append_and xs d no_items) ∙ append_none (and_item xs d)
 
 -- a result more in front of what follows
 prefixed_and : (rs : Items) (r : Data) (t : TransactionOutcome) → prefixed rs (and_result r t) ≡ prefixed (and_item rs r) t
@@ -56,5 +61,5 @@ module _ (c : OpContext) (all : TransactionOutcome) (place : ℕ) (rows : Databa
   at_waits d timeout ds at is = next d ds (Blocked timeout) at is
 
   -- no operation is left
-  pub at_end : rest ≡ no_items → all ≡ Completes rs rows
-  at_end at = going ∙ ap (λ ys. prefixed rs (performed c place ys rows)) at ∙ ap (λ ys. Completes ys rows) (append_none rs)
+  pub at_end : rest ≡ no_items → all ≡ prefixed rs (ended c.before (committed c.schema c.before c.version rows))
+  at_end at = going ∙ ap (λ ys. prefixed rs (performed c place ys rows)) at

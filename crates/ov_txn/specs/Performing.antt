@@ -1,7 +1,8 @@
--- What the operations of a transaction come to in the code, as they do in the definitions. What names no source is our own.
-use Rattle.std.specs.Prelude.{◌≡◌, ◌==◌}
+-- What a transaction comes to in the code, as it does in the definitions. What names no source is our own.
+use Rattle.std.specs.Prelude.{◌≡◌, ◌==◌, true}
 use Rattle.std.specs.FinMap.{len}
 use Rattle.ov_db.specs.Changing.{applied, SuitsChanges}
+use Rattle.ov_specs.specs.integrity.Committed.{is_whole}
 use Rattle.ov_specs.specs.operations.Transaction.{TransactionOutcome, Completes, Waits}
 use Rattle.ov_specs.specs.rows.Database.{Database, same_database}
 use Rattle.ov_specs.specs.schema.SchemaTypes.{Schema}
@@ -17,3 +18,8 @@ IsPerformed outcome before (Blocked timeout) = outcome ≡ Waits timeout
 abbrev pub SuitsPerformed : Schema → Performed → Type 0
 SuitsPerformed schema (Completed results delta) = SuitsChanges schema delta
 SuitsPerformed schema (Blocked timeout) = Unit {0}
+
+-- what is to be changed leaves whole rows
+abbrev pub WholePerformed : Schema → Database → Performed → Type 0
+WholePerformed schema before (Completed results delta) = is_whole schema (applied delta before) ≡ true
+WholePerformed schema before (Blocked timeout) = Unit {0}

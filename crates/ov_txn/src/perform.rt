@@ -1,29 +1,40 @@
-ghost use Rattle.std.specs.Prelude.{◌≡◌, IfOk};
+ghost use Rattle.std.specs.Prelude.{◌≡◌, true, IfOk};
 ghost use Rattle.std.specs.FinMap.{empty};
+ghost use Rattle.std.specs.List.{list_all};
 ghost use Rattle.serde_json.specs.View.{items_view};
+ghost use Rattle.ov_index.specs.Indexing.{AreIndexesOf};
+ghost use Rattle.ov_refs.specs.Linking.{AreLinksOf};
+ghost use Rattle.ov_specs.specs.integrity.Committed.{committed, is_whole};
 ghost use Rattle.ov_specs.specs.rows.Suits.{Suits};
 ghost use Rattle.ov_specs.specs.operations.Errors as spec;
-ghost use Rattle.ov_specs.specs.operations.Transaction.{and_item, transaction};
+ghost use Rattle.ov_specs.specs.operations.Transaction.{and_error, and_item, ended, transaction};
+ghost use Rattle.ov_specs.specs.schema.Schema.{IsAccepted};
+ghost use Rattle.ov_specs.specs.values.Uuid.{is_uuid};
 ghost use Rattle.ov_stage.specs.Errors.{error_view};
-ghost use Rattle.ov_txn.specs.Performing.{IsPerformed, SuitsPerformed};
-ghost use Rattle.ov_txn.specs.Results.{nulls_after};
+ghost use Rattle.ov_txn.specs.Performing.{IsPerformed, SuitsPerformed, WholePerformed};
+ghost use Rattle.ov_txn.specs.Results.{nulls_after, prefixed};
+ghost use Rattle.ov_txn.specs.declared.perform.Performed.TheVariants.{Completed};
 
 use crate::draws::are_uuids;
 use crate::results::{Results, error_tree};
 use crate::txn::Txn;
 use ov_db::Delta;
 use ov_given::NamedRows;
+use ov_index::Indexes;
+use ov_integrity::{Finished, finish};
 use ov_ops::{OpCtx, OpOutcome, run_op};
+use ov_refs::Links;
 use ov_rows::Rows;
 use ov_schema::Schema;
 use ov_stage::{OpError, Stage};
 use serde_json::Value;
 use std::alloc::{AllocError, Global};
+use uuid::Uuid;
 
-/// What the operations of a transaction have come to.
+/// What a transaction has come to.
 #[derive(Drop)]
 pub(crate) enum Performed {
-    /// The results, one for each operation, and what is to be changed.
+    /// The results, one for each operation, and the error of the commit where that fails; and what is to be changed.
     Completed(Results, Delta),
     /// A wait is not met. It is given up when the transaction is so many milliseconds old, if ever.
     Blocked(Option<u64>),
@@ -44,18 +55,58 @@ fn failed(
     Ok(results)
 }
 
-/// The operations of a transaction in order, on a stage over the rows.
+/// Where the commit fails, one result more tells its error, and nothing is changed (RFC 7047, 4.1.3).
+fn refused(alloc: Global, results: Results, error: OpError) -> Result<Performed, AllocError>
+    ensures { IfOk result (λ p. p ≡ Completed (and_error results (error_view error)) empty) }
+{
+    let mut results = results;
+    let error = error_tree(alloc, error)?;
+    results.push(error)?;
+    Ok(Performed::Completed(results, Delta::new(alloc)))
+}
+
+/// The end of the operations, which have these results: what the commit makes of the rows that they left (RFC 7047, 3.2).
+fn end(
+    alloc: Global,
+    schema: &Schema,
+    version: Uuid,
+    links: &Links,
+    indexes: &Indexes,
+    results: Results,
+    stage: Stage<'_>,
+) -> Result<Performed, AllocError>
+    requires whole { is_whole schema.now stage.before ≡ true }
+    requires linked { AreLinksOf schema.now stage.before links.now }
+    requires indexed { AreIndexesOf schema.now stage.before indexes.now }
+    requires suits { Suits schema.now stage.now }
+    ensures { IfOk result (IsPerformed (prefixed results (ended stage.entry.before (committed schema.now stage.entry.before version stage.entry.now))) stage.entry.before) }
+{
+    match finish(alloc, schema, version, links, indexes, stage) {
+        Finished::Changed(delta) => Ok(Performed::Completed(results, delta)),
+        Finished::Refused(error) => refused(alloc, results, error),
+        Finished::NoMemory => Err(AllocError),
+    }
+}
+
+/// The operations of a transaction in order, on a stage over the rows, and their commit.
 fn perform_operations(
     alloc: Global,
     schema: &Schema,
     rows: &Rows,
+    links: &Links,
+    indexes: &Indexes,
     txn: &Txn,
     age: u64,
 ) -> Result<Performed, AllocError>
+    requires drawn { list_all is_uuid txn.now.draws ≡ true }
+    requires suits { Suits schema.now rows.now }
+    requires whole { is_whole schema.now rows.now ≡ true }
+    requires linked { AreLinksOf schema.now rows.now links.now }
+    requires indexed { AreIndexesOf schema.now rows.now indexes.now }
     ensures { IfOk result (IsPerformed (transaction schema.now rows.now txn.now.draws age txn.now.operations) rows.now) }
 {
     let mut results = Results::new(alloc);
-    let mut stage = Stage::new(alloc, rows);
+    let mut stage = Stage::with_indexes(alloc, schema, rows, indexes);
     let Some((version, ids)) = txn.draws().split_first() else {
         return Ok(Performed::Completed(results, stage.into_delta()));
     };
@@ -79,22 +130,34 @@ fn perform_operations(
             OpOutcome::NoMemory => return Err(AllocError),
         }
     }
-    Ok(Performed::Completed(results, stage.into_delta()))
+    end(alloc, schema, *version, links, indexes, results, stage)
 }
 
 /// The operations of a transaction of this age in milliseconds, in order, each on the rows that those before it left (RFC 7047,
-/// 4.1.3). The rows are not touched. What is to be changed is empty exactly where that is nothing. From rows of the schema only
-/// rows of the schema are made.
+/// 4.1.3), and then its commit. That refuses strong references to rows that are not there, takes out the rows that nothing keeps
+/// and weak references to rows that are gone, and refuses what then breaks a limit (3.2). Where it refuses, one result more tells
+/// the error (4.1.3).
+///
+/// The rows are not touched. What is to be changed is empty exactly where that is nothing. The rows, to which the links belong,
+/// are whole rows of the schema, and whole rows of the schema are made of them.
 pub(crate) fn perform(
     alloc: Global,
     schema: &Schema,
     rows: &Rows,
+    links: &Links,
+    indexes: &Indexes,
     txn: &Txn,
     age: u64,
 ) -> Result<Performed, AllocError>
+    requires accepted { IsAccepted schema.now }
+    requires suits { Suits schema.now rows.now }
+    requires whole { is_whole schema.now rows.now ≡ true }
+    requires linked { AreLinksOf schema.now rows.now links.now }
+    requires indexed { AreIndexesOf schema.now rows.now indexes.now }
     ensures performed { IfOk result (IsPerformed (transaction schema.now rows.now txn.now.draws age txn.now.operations) rows.now) }
-    ensures suits { Suits schema.now rows.now → IfOk result (SuitsPerformed schema.now) }
+    ensures suits { IfOk result (SuitsPerformed schema.now) }
+    ensures whole { IfOk result (WholePerformed schema.now rows.now) }
 {
     are_uuids(txn.draws());
-    perform_operations(alloc, schema, rows, txn, age)
+    perform_operations(alloc, schema, rows, links, indexes, txn, age)
 }

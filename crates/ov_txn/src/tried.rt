@@ -1,7 +1,9 @@
-ghost use Rattle.std.specs.Prelude.{◌≡◌, ◌≤◌, ◌+◌, None, IfOk};
+ghost use Rattle.std.specs.Prelude.{◌≡◌, ◌≤◌, ◌+◌, true, None, IfOk};
+ghost use Rattle.ov_specs.specs.integrity.Committed.{is_whole};
 ghost use Rattle.ov_specs.specs.operations.Transaction.{failed_results, transaction};
-ghost use Rattle.ov_db.specs.Changing.{SuitsChanges};
+ghost use Rattle.ov_db.specs.Changing.{SuitsChanges, applied};
 ghost use Rattle.ov_txn.specs.Attempting.{IsTried, IsAsked, IsSealedAnswer, HasCause};
+ghost use Rattle.ov_txn.specs.Performing.{IsPerformed, SuitsPerformed, WholePerformed};
 
 use crate::perform::{Performed, perform};
 use crate::ready::{Ready, Replies};
@@ -28,11 +30,29 @@ pub enum Tried {
     NoMemory,
 }
 
+/// What a transaction of this age in milliseconds comes to on the database as it is.
+fn perform_on<K: Keeper + Drop>(
+    alloc: Global,
+    db: &Db<K>,
+    txn: &Txn,
+    age: u64,
+) -> Result<Performed, AllocError>
+    ensures performed { IfOk result (IsPerformed (transaction db.now.schema db.now.committed txn.now.draws age txn.now.operations) db.now.committed) }
+    ensures suits { IfOk result (SuitsPerformed db.now.schema) }
+    ensures whole { IfOk result (WholePerformed db.now.schema db.now.committed) }
+{
+    db.kept();
+    let schema = db.schema();
+    schema.accepted();
+    perform(alloc, schema, db.rows(), db.links(), db.indexes(), txn, age)
+}
+
 /// Tries a transaction of this age in milliseconds, and counts the attempt.
 ///
-/// Where its operations change the database, all that follows the commit is made ready, and then the store is asked, once and
-/// last of all. A database that is sealed is not asked any more: such a transaction is answered as where the store fails. Where
-/// the operations change nothing, and where one of them fails, the store is not asked either (RFC 7047, 4.1.3).
+/// It has its operations done in order, and is committed by the rules for references, unreferenced rows and limits (RFC 7047,
+/// 3.2). Where that changes the database, all that follows the commit is made ready, and then the store is asked, once and last
+/// of all. A database that is sealed is not asked any more: such a transaction is answered as where the store fails. Where
+/// nothing is changed, and where an operation or the commit fails, the store is not asked either (4.1.3).
 pub fn attempt<K: Keeper + Drop, R: Ready<K>>(
     alloc: Global,
     db: &mut Db<K>,
@@ -47,8 +67,7 @@ pub fn attempt<K: Keeper + Drop, R: Ready<K>>(
     ensures counted { tries.new ≡ tries.old + 1 }
 {
     tries.add();
-    db.kept();
-    match perform(alloc, db.schema(), db.rows(), txn, age) {
+    match perform_on(alloc, db, txn, age) {
         Err(_) => Tried::NoMemory,
         Ok(Performed::Blocked(timeout)) => Tried::Blocked(timeout),
         Ok(Performed::Completed(results, delta)) => {
@@ -92,6 +111,7 @@ fn store<K: Keeper + Drop, R: Ready<K>>(
 ) -> Tried
     requires unsealed { db.old.sealed ≡ None }
     requires suits { SuitsChanges db.old.schema delta }
+    requires whole { is_whole db.old.schema (applied delta db.old.committed) ≡ true }
     ensures asked { IsAsked R.readies results delta db.old ready.old result db.new ready.new }
     ensures cause { HasCause K.failed result db.old db.new }
     ensures counts { K.failed db.old.keeper ≤ K.failed db.new.keeper }

@@ -1,9 +1,12 @@
 use ov_db::{Db, Delta, StoreAnswer};
 use ov_keeper::Keeper;
+use ov_schema::Schema;
 use ov_txn::{Draws, Ready, Replies, Tried, Tries, Txn, attempt};
 use std::alloc::Global;
 use std::test::Fail;
-use test_support::{Counter, Faults, NetKeeper, Scripted, agrees, compact, net, net_keeper, trees};
+use test_support::{
+    Counter, Faults, NetKeeper, Scripted, agrees, compact, net, new_keeper, schema_of_text, trees,
+};
 use uuid::Uuid;
 
 /// What follows a commit, in tests: the replies that are made ready, and how many rows are changed.
@@ -25,11 +28,11 @@ impl<K: Keeper> Ready<K> for Prepared {
     }
 }
 
-/// Attempts of transactions on a database Net, each with an age and its operations. What is told of one are the results that it is
+/// Attempts of transactions on a database, each with an age and its operations. What is told of one are the results that it is
 /// answered with; or the store's answer, the results that were made ready, how many rows they change, and what stands behind
 /// them; or how long it waits. `refuse` refuses memory to what is made ready from then on.
 #[derive(Drop)]
-struct Attempts<D> {
+pub(crate) struct Attempts<D> {
     db: Db<NetKeeper>,
     draws: D,
     prepared: Prepared,
@@ -95,22 +98,39 @@ impl<D: Draws> Scripted for Attempts<D> {
     }
 }
 
-/// The attempts of a script come to what it says, on a new database over a keeper that fails as it is told.
-fn attempts_with<D: Draws + Drop>(
+/// Attempts on a new database of this schema, over a keeper that fails as it is told.
+fn new_attempts<D: Draws + Drop>(
     alloc: Global,
+    schema: Schema,
     draws: D,
     faults: Faults,
-    script: &str,
-) -> Result<(), Fail> {
-    let attempts = Attempts {
-        db: Db::open(alloc, net_keeper(alloc, faults)?, net(alloc)?)?,
+) -> Result<Attempts<D>, Fail> {
+    let keeper = new_keeper(alloc, &schema, faults)?;
+    Ok(Attempts {
+        db: Db::open(alloc, keeper, schema)?,
         draws,
         prepared: Prepared {
             is_refused: false,
             replies: None,
             changes: 0,
         },
-    };
+    })
+}
+
+/// Attempts on a new database of the schema of a text, with draws that are counted.
+pub(crate) fn attempts_on(alloc: Global, schema: &str) -> Result<Attempts<Counter>, Fail> {
+    let schema = schema_of_text(alloc, schema)?;
+    new_attempts(alloc, schema, Counter::new(), Faults::NONE)
+}
+
+/// The attempts of a script come to what it says, on a new database Net over a keeper that fails as it is told.
+fn attempts_with<D: Draws + Drop>(
+    alloc: Global,
+    draws: D,
+    faults: Faults,
+    script: &str,
+) -> Result<(), Fail> {
+    let attempts = new_attempts(alloc, net(alloc)?, draws, faults)?;
     agrees(alloc, attempts, script)
 }
 
@@ -133,7 +153,7 @@ impl Draws for Same {
 
 /// Rows that are shown alike are one, and columns without a value have their defaults.
 const MERGED: &str =
-    r#"0 [{"op":"insert","table":"Switch","row":{}},{"op":"insert","table":"Switch","row":{}},{"op":"select","table":"Switch","where":[],"columns":["name","load","name"]}] -> kept [{"uuid":["uuid","00000000-0000-4000-8000-000000000002"]},{"uuid":["uuid","00000000-0000-4000-8000-000000000003"]},{"rows":[{"load":0,"name":""}]}] 2"#;
+    r#"0 [{"op":"insert","table":"Switch","row":{}},{"op":"insert","table":"Switch","row":{"name":"s1"}},{"op":"select","table":"Switch","where":[],"columns":["main","load","main"]},{"op":"select","table":"Switch","where":[],"columns":["name"]}] -> kept [{"uuid":["uuid","00000000-0000-4000-8000-000000000002"]},{"uuid":["uuid","00000000-0000-4000-8000-000000000003"]},{"rows":[{"load":0,"main":["set",[]]}]},{"rows":[{"name":""},{"name":"s1"}]}] 2"#;
 
 #[test]
 fn repeats_merge_and_defaults_are_given(rt: HostRuntime) -> Result<(), Fail> {

@@ -1,16 +1,12 @@
-ghost use Rattle.std.specs.Prelude.{IfOk};
-ghost use Rattle.ov_db.specs.Changing.{SuitsChanges};
-
 use crate::rows::key_of;
-use ov_db::{Db, Delta, StoreAnswer};
+use ov_db::{Db, StoreAnswer};
 use ov_keeper::Line;
 use ov_rows::Row;
-use ov_schema::Schema;
 use std::alloc::Global;
 use std::test::Fail;
 use test_support::{
-    Faults, NetKeeper, Scripted, agrees, follows, line_of, net, net_keeper, no_changes, put_line,
-    remove_row,
+    Faults, NetKeeper, Scripted, agrees, commit_nothing, follows, line_of, net, net_keeper, number,
+    put_line, remove_row,
 };
 use uuid::Uuid;
 
@@ -38,20 +34,14 @@ fn line_of_switch(alloc: Global, put: &str) -> Result<Line, Fail> {
     line_of(alloc, text.as_str())
 }
 
-/// The change that puts a switch of this name.
-fn put_of(alloc: Global, schema: &Schema, put: &str) -> Result<Delta, Fail>
-    ensures { IfOk result (SuitsChanges schema.now) }
-{
-    let line = line_of_switch(alloc, put)?;
-    put_line(alloc, schema, &line)
-}
-
-/// The change that removes a switch.
-fn removal_of(alloc: Global, schema: &Schema, number: &str) -> Result<Delta, Fail>
-    ensures { IfOk result (SuitsChanges schema.now) }
-{
-    let id = Uuid::from_u128(number.parse::<u128>()?);
-    remove_row(alloc, schema, "Switch", id)
+/// The word of a store's answer.
+fn word_of(alloc: Global, answer: StoreAnswer) -> Result<String, Fail> {
+    let word = match answer {
+        StoreAnswer::Kept => "kept",
+        StoreAnswer::Exhausted => "exhausted",
+        StoreAnswer::Failed => "failed",
+    };
+    Ok(String::from_str(alloc, word)?)
 }
 
 /// The text of a switch: its number and its body.
@@ -62,33 +52,21 @@ fn text_of(alloc: Global, id: &Uuid, row: &Row) -> Result<String, Fail> {
 }
 
 impl Database {
-    fn commit(&mut self, alloc: Global, delta: Delta) -> Result<String, Fail>
-        requires { SuitsChanges self.old.db.schema delta }
-    {
-        let word = match self.db.commit(alloc, delta) {
-            StoreAnswer::Kept => "kept",
-            StoreAnswer::Exhausted => "exhausted",
-            StoreAnswer::Failed => "failed",
-        };
-        Ok(String::from_str(alloc, word)?)
-    }
-
     /// Puts a switch.
     fn put(&mut self, alloc: Global, row: &str) -> Result<String, Fail> {
-        let delta = put_of(alloc, self.db.schema(), row)?;
-        self.commit(alloc, delta)
+        let line = line_of_switch(alloc, row)?;
+        word_of(alloc, put_line(alloc, &mut self.db, &line)?)
     }
 
     /// Removes a switch.
-    fn remove(&mut self, alloc: Global, number: &str) -> Result<String, Fail> {
-        let delta = removal_of(alloc, self.db.schema(), number)?;
-        self.commit(alloc, delta)
+    fn remove(&mut self, alloc: Global, id: &str) -> Result<String, Fail> {
+        let id = number(id)?;
+        word_of(alloc, remove_row(alloc, &mut self.db, "Switch", id)?)
     }
 
     /// Commits no change.
     fn commit_nothing(&mut self, alloc: Global) -> Result<String, Fail> {
-        let delta = no_changes(alloc, self.db.schema());
-        self.commit(alloc, delta)
+        word_of(alloc, commit_nothing(alloc, &mut self.db)?)
     }
 
     /// Whether there is a row of a key.

@@ -1,4 +1,5 @@
-//! Tests of what serves: rows, changes, stages, transactions, the machine, streams, and one session over a reader and a writer.
+//! Tests of what serves: rows, changes, stages, transactions and their commits, the machine, streams, and one session over a reader
+//! and a writer.
 #![tactic(auto)]
 
 #[cfg(test)]
@@ -9,6 +10,8 @@ mod databases;
 mod fault_pairs;
 #[cfg(test)]
 mod faults;
+#[cfg(test)]
+mod integrity;
 #[cfg(test)]
 mod machine;
 #[cfg(test)]

@@ -102,6 +102,9 @@ fn a_database_that_does_not_fit_is_not_opened(rt: HostRuntime) -> Result<(), Fai
     assert_eq!(rt; other, Some(OpenFault::SchemaDiffers));
     let filled = refusal(rt.alloc(), NET, "Port 1 0 {}")?;
     assert_eq!(rt; filled, Some(OpenFault::BadBody));
+    let port = r#"Port 1 0 {"name":"p1","peer":["set",[]],"tag":7}"#;
+    let unused = refusal(rt.alloc(), NET, port)?;
+    assert_eq!(rt; unused, Some(OpenFault::Broken));
     Ok(())
 }
 

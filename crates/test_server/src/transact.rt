@@ -130,8 +130,8 @@ const OPERATIONS: &str =
 <{"error":null,"id":4,"result":[{"count":1},{"error":"aborted"}]}
 >{"id":5,"method":"transact","params":["Net",{"op":"update","table":"Switch","where":[],"row":{"_uuid":["uuid","00000000-0000-4000-8000-000000000001"]}}]}
 <{"error":null,"id":5,"result":[{"error":"constraint violation"}]}
->{"id":6,"method":"transact","params":["Net",{"op":"wait","table":"Port","where":[],"columns":["name"],"until":"==","rows":[{"name":"p1"}]},{"op":"delete","table":"Port","where":[]},{"op":"select","table":"Port","where":[]}]}
-<{"error":null,"id":6,"result":[{},{"count":1},{"rows":[]}]}
+>{"id":6,"method":"transact","params":["Net",{"op":"wait","table":"Port","where":[],"columns":["name"],"until":"==","rows":[{"name":"p1"}]},{"op":"delete","table":"Port","where":[]},{"op":"select","table":"Port","where":[]},{"op":"update","table":"Switch","where":[],"row":{"ports":["set",[]]}}]}
+<{"error":null,"id":6,"result":[{},{"count":1},{"rows":[]},{"count":1}]}
 >{"id":7,"method":"transact","params":["Net",{"op":"insert","table":"Switch","uuid-name":"p","row":{}},{"op":"insert","table":"Switch","uuid-name":"p","row":{}}]}
 <{"error":null,"id":7,"result":[{"uuid":["uuid","00000000-0000-4000-8000-00000000000a"]},{"error":"duplicate uuid-name"}]}"#;
 

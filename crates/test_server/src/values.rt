@@ -1,16 +1,13 @@
 use std::test::Fail;
 use test_support::{NET, converses};
 
-/// Sets merge and ascend, a set of one is its atom, and identifiers are in lower case.
+/// Sets merge and ascend, a set of one is its atom, and identifiers are in lower case. The rows are deleted before the commit,
+/// since they refer to none.
 const WRITTEN: &str =
-    r#">{"id":1,"method":"transact","params":["Net",{"op":"insert","table":"Port","row":{"name":"p1","peer":["set",[["uuid","00000000-0000-4000-8000-0000000000AB"]]],"tag":["set",[7,7]]}}]}
-<{"error":null,"id":1,"result":[{"uuid":["uuid","00000000-0000-4000-8000-000000000002"]}]}
->{"id":2,"method":"transact","params":["Net",{"op":"select","table":"Port","where":[],"columns":["name","peer","tag"]}]}
-<{"error":null,"id":2,"result":[{"rows":[{"name":"p1","peer":["uuid","00000000-0000-4000-8000-0000000000ab"],"tag":7}]}]}
->{"id":3,"method":"transact","params":["Net",{"op":"insert","table":"Switch","row":{"load":-9223372036854775808,"ports":["set",[["uuid","00000000-0000-4000-8000-0000000000AB"],["uuid","00000000-0000-4000-8000-000000000001"]]]}}]}
-<{"error":null,"id":3,"result":[{"uuid":["uuid","00000000-0000-4000-8000-000000000005"]}]}
->{"id":4,"method":"transact","params":["Net",{"op":"select","table":"Switch","where":[],"columns":["load","ports"]}]}
-<{"error":null,"id":4,"result":[{"rows":[{"load":-9223372036854775808,"ports":["set",[["uuid","00000000-0000-4000-8000-000000000001"],["uuid","00000000-0000-4000-8000-0000000000ab"]]]}]}]}"#;
+    r#">{"id":1,"method":"transact","params":["Net",{"op":"insert","table":"Port","row":{"name":"p1","peer":["set",[["uuid","00000000-0000-4000-8000-0000000000AB"]]],"tag":["set",[7,7]]}},{"op":"select","table":"Port","where":[],"columns":["name","peer","tag"]},{"op":"delete","table":"Port","where":[]}]}
+<{"error":null,"id":1,"result":[{"uuid":["uuid","00000000-0000-4000-8000-000000000002"]},{"rows":[{"name":"p1","peer":["uuid","00000000-0000-4000-8000-0000000000ab"],"tag":7}]},{"count":1}]}
+>{"id":2,"method":"transact","params":["Net",{"op":"insert","table":"Switch","row":{"load":-9223372036854775808,"ports":["set",[["uuid","00000000-0000-4000-8000-0000000000AB"],["uuid","00000000-0000-4000-8000-000000000001"]]]}},{"op":"select","table":"Switch","where":[],"columns":["load","ports"]},{"op":"delete","table":"Switch","where":[]}]}
+<{"error":null,"id":2,"result":[{"uuid":["uuid","00000000-0000-4000-8000-000000000004"]},{"rows":[{"load":-9223372036854775808,"ports":["set",[["uuid","00000000-0000-4000-8000-000000000001"],["uuid","00000000-0000-4000-8000-0000000000ab"]]]}]},{"count":1}]}"#;
 
 /// Each is a syntax error, but a real, which no request may have.
 const UNREAD: &str =

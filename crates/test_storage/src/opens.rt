@@ -108,15 +108,23 @@ fn rows_are_opened_as_they_were_stored(rt: HostRuntime) -> Result<(), Fail> {
     Ok(())
 }
 
-/// What is opened of a line of Port with this body.
+/// The line of a switch that refers to the port 2.
+const HOLDER: &str =
+    r#"Switch 1 1 {"load":0,"main":["set",[]],"name":"s1","ports":["uuid","00000000-0000-0000-0000-000000000002"]}"#;
+
+/// What is opened of a line of Port with this body, beside the switch that refers to the port.
 #[derive(Drop)]
 struct Bodies;
 
 impl Scripted for Bodies {
     fn answer(&mut self, alloc: Global, command: &str) -> Result<String, Fail> {
-        let line = format!(in alloc; "Port 2 1 {command}")?;
-        let told = opened(alloc, NET, line.as_str(), NET)?;
-        Ok(String::from_str(alloc, told.as_str().trim_end())?)
+        let lines = format!(in alloc; "Port 2 1 {command}\n{HOLDER}")?;
+        let told = opened(alloc, NET, lines.as_str(), NET)?;
+        let (first, _) = told
+            .as_str()
+            .split_once("\n")
+            .unwrap_or((told.as_str(), ""));
+        Ok(String::from_str(alloc, first)?)
     }
 }
 
@@ -174,11 +182,62 @@ fn another_schema_is_refused(rt: HostRuntime) -> Result<(), Fail> {
     Ok(())
 }
 
+/// Rows that a commit would refuse or change: two switches of one name; a port that no row refers to, or itself alone, or by a
+/// weak reference; and a strong and a weak reference to a row that is not there.
+const BROKEN: [&str; 6] = [
+    r#"Switch 1 1 {"load":0,"main":["set",[]],"name":"s1","ports":["set",[]]}
+Switch 2 1 {"load":7,"main":["set",[]],"name":"s1","ports":["set",[]]}"#,
+    r#"Port 2 1 {"name":"p1","peer":["set",[]],"tag":7}"#,
+    r#"Port 2 1 {"name":"p1","peer":["uuid","00000000-0000-0000-0000-000000000002"],"tag":7}"#,
+    r#"Port 2 1 {"name":"p1","peer":["set",[]],"tag":7}
+Switch 1 1 {"load":0,"main":["uuid","00000000-0000-0000-0000-000000000002"],"name":"s1","ports":["set",[]]}"#,
+    r#"Switch 1 1 {"load":0,"main":["set",[]],"name":"s1","ports":["uuid","00000000-0000-0000-0000-000000000002"]}"#,
+    r#"Switch 1 1 {"load":0,"main":["uuid","00000000-0000-0000-0000-000000000002"],"name":"s1","ports":["set",[]]}"#,
+];
+
+#[test]
+fn rows_that_a_commit_would_not_leave_are_refused(rt: HostRuntime) -> Result<(), Fail> {
+    for lines in BROKEN {
+        assert_eq!(rt;
+            opened(rt.alloc(), NET, lines, NET)?.as_str(),
+            "the stored rows break a constraint"
+        );
+    }
+    Ok(())
+}
+
+/// Two ports that refer to each other.
+const PEERS: &str =
+    r#"Port 3 4 {"name":"p1","peer":["uuid","00000000-0000-0000-0000-000000000005"],"tag":["set",[]]}
+Port 5 4 {"name":"p2","peer":["uuid","00000000-0000-0000-0000-000000000003"],"tag":["set",[]]}
+"#;
+
+#[test]
+fn rows_that_support_each_other_are_opened(rt: HostRuntime) -> Result<(), Fail> {
+    assert_eq!(rt; opened(rt.alloc(), NET, PEERS, NET)?.as_str(), PEERS);
+    Ok(())
+}
+
+/// A table of one row at most.
+const ONE: &str =
+    r#"{"name":"One","tables":{"T":{"columns":{"n":{"type":"integer"}},"maxRows":1}},"version":"1.0.0"}"#;
+
+#[test]
+fn a_table_with_too_many_rows_is_refused(rt: HostRuntime) -> Result<(), Fail> {
+    let one = "T 1 1 {\"n\":7}\n";
+    assert_eq!(rt; opened(rt.alloc(), ONE, one, ONE)?.as_str(), one);
+    let two = "T 1 1 {\"n\":7}\nT 2 1 {\"n\":8}";
+    assert_eq!(rt;
+        opened(rt.alloc(), ONE, two, ONE)?.as_str(),
+        "the stored rows break a constraint"
+    );
+    Ok(())
+}
+
 /// What the keeper holds after the row of a line was committed beside what is opened.
 fn committed(alloc: Global, keeper: ListKeeper, line: &Line) -> Result<ListKeeper, Fail> {
     let mut db = Db::open(alloc, keeper, net(alloc)?)?;
-    let delta = put_line(alloc, db.schema(), line)?;
-    db.commit(alloc, delta);
+    put_line(alloc, &mut db, line)?;
     Ok(db.into_keeper())
 }
 
@@ -192,13 +251,16 @@ fn opened_again(alloc: Global, lines: &str, line: &str) -> Result<String, Fail> 
 /// What was committed is found again, by the table, the identifier, the version and the bytes of its line.
 #[test]
 fn committed_rows_are_opened_again(rt: HostRuntime) -> Result<(), Fail> {
-    let port = r#"Port 3 1 {"name":"p1","peer":["set",[]],"tag":["set",[]]}"#;
-    let switch = r#"Switch 2 1 {"load":0,"main":["set",[]],"name":"s1","ports":["set",[]]}"#;
-    let told = opened_again(rt.alloc(), port, switch)?;
+    let lines = r#"Port 3 1 {"name":"p1","peer":["set",[]],"tag":["set",[]]}
+Switch 6 1 {"load":0,"main":["set",[]],"name":"s1","ports":["uuid","00000000-0000-0000-0000-000000000003"]}"#;
+    let switch =
+        r#"Switch 2 1 {"load":0,"main":["uuid","00000000-0000-0000-0000-000000000003"],"name":"s2","ports":["set",[]]}"#;
+    let told = opened_again(rt.alloc(), lines, switch)?;
     assert_eq!(rt;
         told.as_str(),
         r#"Port 3 1 {"name":"p1","peer":["set",[]],"tag":["set",[]]}
-Switch 2 1 {"load":0,"main":["set",[]],"name":"s1","ports":["set",[]]}
+Switch 2 1 {"load":0,"main":["uuid","00000000-0000-0000-0000-000000000003"],"name":"s2","ports":["set",[]]}
+Switch 6 1 {"load":0,"main":["set",[]],"name":"s1","ports":["uuid","00000000-0000-0000-0000-000000000003"]}
 "#
     );
     Ok(())

@@ -3,6 +3,7 @@ use crate::lines::line_of;
 use crate::schemas::NET;
 use ov_base::Text;
 use ov_keeper::{Change, Keeper, ListKeeper};
+use ov_schema::{Schema, text_of};
 use std::alloc::Global;
 use std::test::Fail;
 
@@ -64,4 +65,10 @@ pub fn failing<K: Keeper>(inner: K, faults: Faults) -> FailingKeeper<K> {
 pub fn net_keeper(alloc: Global, faults: Faults) -> Result<NetKeeper, Fail> {
     let schema = Text::from_str(alloc, NET)?;
     Ok(failing(ListKeeper::new(alloc, schema), faults))
+}
+
+/// A keeper of a new database of this schema, failing as it is told.
+pub fn new_keeper(alloc: Global, schema: &Schema, faults: Faults) -> Result<NetKeeper, Fail> {
+    let text = text_of(alloc, schema)?;
+    Ok(failing(ListKeeper::new(alloc, text), faults))
 }

@@ -1,5 +1,6 @@
 //! What tests of several crates share: schemas, trees and lines of their texts, identifiers that are counted, readers, writers
-//! and a keeper that fail when they are told to, and a keeper, a machine and a server behind scripts of commands and answers.
+//! and a keeper that fail when they are told to, commits of one row, and a keeper, a machine and a server behind scripts of
+//! commands and answers.
 //!
 //! What runs a script has no contract, so that a test's own proof stays small.
 #![tactic(auto)]
@@ -19,10 +20,10 @@ mod server;
 mod tree_texts;
 mod writers;
 
-pub use changes::{no_changes, put_line, remove_row};
+pub use changes::{commit_nothing, put_line, remove_row};
 pub use counter::Counter;
 pub use failing_keeper::FailingKeeper;
-pub use keepers::{Faults, NetKeeper, failing, keeper_of, net_keeper};
+pub use keepers::{Faults, NetKeeper, failing, keeper_of, net_keeper, new_keeper};
 pub use keeping::Keeping;
 pub use lines::{change_of, line_of, number, text_of_line};
 pub use machine::{NetCore, net_core, steps};

@@ -10,6 +10,8 @@ use Rattle.serde_json.specs.Data.{Data, Items, number, unsigned, string, array, 
 use Rattle.serde_json.specs.Read.{read}
 use Rattle.serde_json.proofs.OnLiterals.{serde_json_on_literals}
 use Rattle.uuid.specs.Text.{by_index}
+use Rattle.ov_specs.specs.integrity.Committed.{committed, is_whole}
+use Rattle.ov_specs.specs.integrity.Limits.{is_short}
 use Rattle.ov_specs.specs.rows.Database.{Columns, Row, Database}
 use Rattle.ov_specs.specs.schema.Fitting.{fits}
 use Rattle.ov_specs.specs.rows.Lines.{LineKey, line_cmp}
@@ -24,6 +26,8 @@ use Rattle.ov_specs.specs.schema.SchemaTypes.{Column, Table, Schema, name_cmp}
 use Rattle.ov_specs.specs.values.Uuid as uuid
 use Rattle.ov_specs.specs.values.Value.{AtomKind, Integers, Texts, Uuids, Atom, Integer, Text, Uuid, Datum, Atoms, set_of}
 use Rattle.ov_specs.specs.values.Writing.{atom_tree}
+use Rattle.std.specs.List.{list_any}
+use Rattle.ov_specs.proofs.laws.Committing.{enough_committed}
 use Rattle.ov_specs.proofs.laws.Order.{atom_cmp_total, atom_cmp-IsAntisymmetric}
 use Rattle.ov_specs.proofs.examples.ConditionRows.{len-one}
 use Rattle.std.proofs.lemmas.List.{nil_from_length}
@@ -90,6 +94,10 @@ switch_table = get-from_entries name_cmp_total ((codes "Switch", switch) ∷ [])
 no_other_table : get tables (codes "Swich") ≡ None
 unfolding tables
 no_other_table = get-from_entries name_cmp_total ((codes "Switch", switch) ∷ []) (codes "Swich")
+
+entries-tables : entries tables ≡ (codes "Switch", switch) ∷ []
+unfolding tables
+entries-tables = entries-from_entries name_cmp_total name_cmp-IsAntisymmetric ((codes "Switch", switch) ∷ []) tt
 
 abbrev net0 : Schema
 net0 = record { name = codes "Net"; version = None; tables = tables; tree = null }
@@ -162,17 +170,33 @@ in_these operations ids = record { schema = net0; before = empty; version = numb
 insert-does : (others : Items) (ids : List uuid.Uuid) → outcome_of (in_these (item insert_s1 others) (numbered 2 ∷ ids)) 0 empty insert_s1 ≡ Done (insert_result (numbered 2)) with_s1
 insert-does others ids = rw switch_table (rw (s1-new (names_in (in_these (item insert_s1 others) (numbered 2 ∷ ids)))) (rw (get-empty line_cmp (codes "Switch", numbered 2)) refl))
 
+entries-with_s1 : entries with_s1 ≡ ((codes "Switch", numbered 2), s1) ∷ []
+entries-with_s1 = entries-insert line_cmp_total empty (codes "Switch", numbered 2) s1 ∙ ap (put line_cmp (codes "Switch", numbered 2) s1) (nil_from_length _ (sym (len-entries empty) ∙ len-empty line_cmp Row))
+
+entries-s1 : entries s1_columns ≡ (codes "load", one (Integer (pos 4))) ∷ (codes "name", one (Text (codes "s1"))) ∷ []
+entries-s1 =
+    entries-insert name_cmp_total (insert empty (codes "load") (one (Integer (pos 4)))) (codes "name") (one (Text (codes "s1")))
+    ∙ ap (put name_cmp (codes "name") (one (Text (codes "s1")))) (entries-insert name_cmp_total empty (codes "load") (one (Integer (pos 4)))
+    ∙ ap (put name_cmp (codes "load") (one (Integer (pos 4)))) (nil_from_length _ (sym (len-entries empty) ∙ len-empty name_cmp Datum)))
+
+s1-enough : list_any (is_short net0) (entries with_s1) ≡ false
+s1-enough = rw entries-with_s1 (rw switch_table (rw entries-s1 (rw (load_column, name_column) (rw (len-one (Integer (pos 4)), len-one (Text (codes "s1"))) refl))))
+
+s1-whole : is_whole net0 with_s1 ≡ true
+s1-whole = rw (entries-with_s1, entries-tables) (rw switch_table (rw entries-s1 (rw (load_column, name_column) (rw (entries-one (Integer (pos 4)), entries-one (Text (codes "s1"))) refl))))
+
+-- the row needs no other, so it is committed as it is
+s1-committed : committed net0 empty (numbered 1) with_s1 ≡ Ok with_s1
+s1-committed = enough_committed net0 empty (numbered 1) with_s1 s1-enough s1-whole
+
 pub insert_one : transaction net0 empty (numbered 1 ∷ numbered 2 ∷ []) 0 (item insert_s1 no_items) ≡ Completes (item (insert_result (numbered 2)) no_items) with_s1
-insert_one = rw (insert-does no_items []) refl
+insert_one = rw (insert-does no_items []) (rw s1-committed refl)
 
 pub insert_is_answered : Some (array (item (insert_result (numbered 2)) no_items)) ≡ read (codes "[{\"uuid\":[\"uuid\",\"00000000-0000-0000-0000-000000000002\"]}]")
 unfolding serde_json_on_literals by_index
 insert_is_answered = refl
 
 -- ---- the select
-
-entries-with_s1 : entries with_s1 ≡ ((codes "Switch", numbered 2), s1) ∷ []
-entries-with_s1 = entries-insert line_cmp_total empty (codes "Switch", numbered 2) s1 ∙ ap (put line_cmp (codes "Switch", numbered 2) s1) (nil_from_length _ (sym (len-entries empty) ∙ len-empty line_cmp Row))
 
 abbrev select_of : List ℕ → Data
 select_of table = object (member (codes "op") (string (codes "select")) (member (codes "table") (string table) (member (codes "where") (array no_items) no_members)))
@@ -196,7 +220,7 @@ select-does : outcome_of (in_these both (numbered 2 ∷ [])) 1 with_s1 (select_o
 select-does = rw switch_table (rw (entries-columns, entries-with_s1) (ap (λ d. Done (object (member (codes "rows") (array (item d no_items)) no_members)) with_s1) shown-s1))
 
 pub insert_then_select : transaction net0 empty (numbered 1 ∷ numbered 2 ∷ []) 0 both ≡ Completes (item (insert_result (numbered 2)) (item rows_tree no_items)) with_s1
-insert_then_select = rw (insert-does (item (select_of (codes "Switch")) no_items) []) (rw select-does refl)
+insert_then_select = rw (insert-does (item (select_of (codes "Switch")) no_items) []) (rw select-does (rw s1-committed refl))
 
 pub select_is_answered : Some rows_tree ≡ read (codes "{\"rows\":[{\"_uuid\":[\"uuid\",\"00000000-0000-0000-0000-000000000002\"],\"_version\":[\"uuid\",\"00000000-0000-0000-0000-000000000001\"],\"load\":4,\"name\":\"s1\"}]}")
 unfolding serde_json_on_literals by_index

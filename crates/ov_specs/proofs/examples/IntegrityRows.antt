@@ -1,13 +1,19 @@
--- Worked commits: which rows stay, which references go, and what fails.
-use Rattle.std.proofs.Common.{◌≡◌, ℕ, pos, int_lt, List, [], ◌∷◌, ◌++◌, ◌||◌, length, filter, Bool, true, false, cond, not, T, Option, Some, None, option_map, Ok, Err, refl, sym, ap, ◌∙◌, codes}
-use Rattle.std.specs.FinMap.{FinMap, get, len, remove, entries, is_sorted, find, same_map, from_entries, from_sorted, entries-from_sorted, get-from_entries, get-from_sorted, len-entries, get-remove}
+-- Worked commits: which rows stay, which references go, and what fails; and transactions that end so.
+use Rattle.std.proofs.Common.{◌≡◌, ℕ, pos, int_lt, List, [], ◌∷◌, ◌++◌, ◌||◌, length, filter, Bool, true, false, cond, not, T, Option, Some, None, option_map, option_and_then, Ok, Err, refl, sym, ap, ◌∙◌, codes}
+use Rattle.std.specs.FinMap.{FinMap, empty, insert, put, get, len, remove, entries, entries-insert, same_entries_map, is_sorted, find, same_map, from_entries, from_sorted, entries-from_sorted, get-from_entries, get-from_sorted, len-entries, get-remove}
 use Rattle.std.specs.Ordering.{eq_by_cmp}
+use Rattle.std.specs.Str.{is_utf8, chars}
 use Rattle.serde_json.specs.Data.{null}
+use Rattle.serde_json.specs.Find.{as_array}
+use Rattle.serde_json.specs.Read.{read}
+use Rattle.serde_json.proofs.OnLiterals.{serde_json_on_literals}
+use Rattle.uuid.specs.Text.{by_index}
 use Rattle.ov_specs.specs.integrity.Committed.{pruned_columns, pruned, within_limits, committed}
 use Rattle.ov_specs.specs.integrity.Kept.{kept}
 use Rattle.ov_specs.specs.integrity.Limits.{is_short, is_over_limits}
 use Rattle.ov_specs.specs.integrity.References.{Target, RowReference, datum_targets, row_targets, references}
 use Rattle.ov_specs.specs.operations.Errors.{ConstraintViolation, ReferentialIntegrity}
+use Rattle.ov_specs.specs.operations.Transaction.{TransactionOutcome, Completes, transaction}
 use Rattle.ov_specs.specs.rows.Database.{Columns, Row, Database}
 use Rattle.ov_specs.specs.rows.Lines.{LineKey, line_cmp}
 use Rattle.ov_specs.specs.schema.SchemaTypes.{name_cmp, Column, Table, Schema}
@@ -19,7 +25,7 @@ use Rattle.ov_specs.proofs.laws.Names.{name_cmp_total}
 use Rattle.ov_specs.proofs.laws.PrunedValues.{is_sorted-filter}
 use Rattle.ov_specs.proofs.examples.ConditionRows.{len-one}
 use Rattle.ov_specs.proofs.examples.NetRows.{entries-named, numbered, own, text}
-use Rattle.ov_specs.proofs.examples.TwoSwitches.{one, entries-one, entries-none, len-none}
+use Rattle.ov_specs.proofs.examples.TwoSwitches.{one, entries-one, entries-none, len-none, entries-given, text_s1}
 
 -- ---- a switch has strong references to ports, and a weak one to its main port; a port may have a strong one to its peer
 
@@ -398,3 +404,85 @@ twins_limited = rw one_name_twice (rw (rows_are twins tt) (rw (enough-switch 7 (
 
 pub one_name_of_two : (before : Database) (version : Uuid) → committed wired before version (listed twins) ≡ Err ConstraintViolation
 one_name_of_two before version = rw twins_refer (rw twins_kept (rw (twins_pruned before version) twins_limited))
+
+-- ---- whole transactions
+
+-- what the transaction of a text comes to, where version 9 is drawn, and then these identifiers
+abbrev transacted : Database → List Uuid → List ℕ → Option TransactionOutcome
+transacted before ids text = option_map (transaction wired before (numbered 9 ∷ ids) 0) (option_and_then as_array (read text))
+
+-- the results, as they are sent, and the database
+abbrev completes : List ℕ → Database → Option TransactionOutcome
+completes text database = option_map (λ results. Completes results database) (option_and_then as_array (read text))
+
+text_p : is_utf8 (codes "p") ≡ true
+unfolding is_utf8 chars serde_json_on_literals
+text_p = refl
+
+entries-switch : entries switch_columns ≡ switch_listed
+unfolding switch_columns
+entries-switch = entries-named switch_listed tt
+
+entries-port : entries port_columns ≡ port_listed
+unfolding port_columns
+entries-port = entries-named port_listed tt
+
+in_switch : (name : List ℕ) (main ports : Option ℕ) (q : List ℕ) → get (of_switch name main ports) q ≡ find name_cmp q (switch_values name main ports)
+unfolding of_switch
+in_switch name main ports q = get-from_entries name_cmp_total (switch_values name main ports) q
+
+in_port : (peer : Option ℕ) (q : List ℕ) → get (of_port peer) q ≡ find name_cmp q (port_values peer)
+unfolding of_port
+in_port peer q = get-from_entries name_cmp_total (port_values peer) q
+
+-- the columns that are put one by one
+made_switch : (name : List ℕ) (main ports : Option ℕ) → insert (insert (insert empty (codes "main") (to_one main)) (codes "name") (one (Text name))) (codes "ports") (to_one ports) ≡ of_switch name main ports
+made_switch name main ports = same_entries_map _ _ (
+    entries-insert name_cmp_total _ (codes "ports") (to_one ports)
+    ∙ ap (put name_cmp (codes "ports") (to_one ports)) (entries-insert name_cmp_total _ (codes "name") (one (Text name))
+    ∙ ap (put name_cmp (codes "name") (one (Text name))) (entries-given (codes "main") (to_one main)))
+    ∙ sym (entries-of_switch name main ports))
+
+made_port : (peer : Option ℕ) → insert (insert empty (codes "name") (one (Text (codes "p")))) (codes "peer") (to_one peer) ≡ of_port peer
+made_port peer = same_entries_map _ _ (
+    entries-insert name_cmp_total _ (codes "peer") (to_one peer)
+    ∙ ap (put name_cmp (codes "peer") (to_one peer)) (entries-given (codes "name") (one (Text (codes "p"))))
+    ∙ sym (entries-of_port peer))
+
+-- one row more
+insert_listed : (es : List (LineKey × Row)) (key : LineKey) (row : Row) → T (is_sorted line_cmp es) → T (is_sorted line_cmp (put line_cmp key row es)) → insert (listed es) key row ≡ listed (put line_cmp key row es)
+insert_listed es key row h more = same_entries_map _ _ (entries-insert key_total (listed es) key row ∙ ap (put line_cmp key row) (rows_are es h) ∙ sym (rows_are (put line_cmp key row es) more))
+
+-- the port has its result, and goes with the commit: the database is as before
+pub insert_of_an_unused_port : transacted (listed one_switch) (numbered 1 ∷ []) (codes "[{\"op\":\"insert\",\"row\":{\"name\":\"p\",\"peer\":[\"set\",[]]},\"table\":\"Port\"}]")
+    ≡ completes (codes "[{\"uuid\":[\"uuid\",\"00000000-0000-0000-0000-000000000001\"]}]") (listed one_switch)
+unfolding serde_json_on_literals by_index
+insert_of_an_unused_port =
+    rw (table_is (codes "Port")) (rw (on_port (codes "name"), text_p) (rw (len-one (Text (codes "p")), entries-one (Text (codes "p"))) (rw (on_port (codes "peer")) (rw (len-none, entries-none)
+    (rw entries-port (rw (made_port None) (rw (in_port None (codes "name"), in_port None (codes "peer")) (rw (get-from_sorted line_cmp one_switch (port 1) tt)
+    (rw (insert_listed one_switch (port 1) (a_port None) tt tt) (rw (unused_port_goes (listed one_switch) (numbered 9)) refl))))))))))
+
+-- each insert has its result, and one result more tells that the commit failed: no switch is there
+pub one_name_in_two_inserts : transacted (listed []) (numbered 7 ∷ numbered 8 ∷ [])
+    (codes "[{\"op\":\"insert\",\"row\":{\"main\":[\"set\",[]],\"name\":\"s1\",\"ports\":[\"set\",[]]},\"table\":\"Switch\"},{\"op\":\"insert\",\"row\":{\"main\":[\"set\",[]],\"name\":\"s1\",\"ports\":[\"set\",[]]},\"table\":\"Switch\"}]")
+    ≡ completes (codes "[{\"uuid\":[\"uuid\",\"00000000-0000-0000-0000-000000000007\"]},{\"uuid\":[\"uuid\",\"00000000-0000-0000-0000-000000000008\"]},{\"error\":\"constraint violation\"}]") (listed [])
+unfolding serde_json_on_literals by_index
+one_name_in_two_inserts =
+    rw (table_is (codes "Switch")) (rw (on_switch (codes "main")) (rw (len-none, entries-none) (rw (on_switch (codes "name"), text_s1) (rw (len-one (Text (codes "s1")), entries-one (Text (codes "s1")))
+    (rw (on_switch (codes "ports")) (rw (len-none, entries-none) (rw entries-switch (rw (made_switch (codes "s1") None None)
+    (rw (in_switch (codes "s1") None None (codes "main"), in_switch (codes "s1") None None (codes "name"), in_switch (codes "s1") None None (codes "ports"))
+    (rw (get-from_sorted line_cmp [] (switch 7) tt) (rw (insert_listed [] (switch 7) (a_switch (codes "s1") None None) tt tt)
+    (rw (get-from_sorted line_cmp one_switch (switch 8) tt, get-from_sorted line_cmp [] (switch 8) tt)
+    (rw (insert_listed one_switch (switch 8) (a_switch (codes "s1") None None) tt tt) (rw (one_name_of_two (listed []) (numbered 9)) refl))))))))))))))
+
+-- no port is there that the new switch could have
+pub insert_that_refers_to_nothing : transacted (listed []) (numbered 7 ∷ [])
+    (codes "[{\"op\":\"insert\",\"row\":{\"main\":[\"set\",[]],\"name\":\"s1\",\"ports\":[\"uuid\",\"00000000-0000-0000-0000-000000000001\"]},\"table\":\"Switch\"}]")
+    ≡ completes (codes "[{\"uuid\":[\"uuid\",\"00000000-0000-0000-0000-000000000007\"]},{\"error\":\"referential integrity violation\"}]") (listed [])
+unfolding serde_json_on_literals by_index
+insert_that_refers_to_nothing =
+    rw (table_is (codes "Switch")) (rw (on_switch (codes "main")) (rw (len-none, entries-none) (rw (on_switch (codes "name"), text_s1) (rw (len-one (Text (codes "s1")), entries-one (Text (codes "s1")))
+    (rw (on_switch (codes "ports")) (rw (len-one (Id (numbered 1)), entries-one (Id (numbered 1))) (rw entries-switch (rw (made_switch (codes "s1") None (Some 1))
+    (rw (in_switch (codes "s1") None (Some 1) (codes "main"), in_switch (codes "s1") None (Some 1) (codes "name"), in_switch (codes "s1") None (Some 1) (codes "ports"))
+    (rw (get-from_sorted line_cmp [] (switch 7) tt) (rw (insert_listed [] (switch 7) (a_switch (codes "s1") None (Some 1)) tt tt)
+    (rw (strong_reference_to_nothing (listed []) (numbered 9)) refl))))))))))))

@@ -88,6 +88,10 @@ pub table_is : (name : List ℕ) → get tables name ≡ find name_cmp name tabl
 unfolding tables
 table_is name = get-from_entries name_cmp_total tables_listed name
 
+pub entries-tables : entries tables ≡ tables_listed
+unfolding tables
+entries-tables = entries-named tables_listed tt
+
 abbrev pub net : Schema
 net = record { name = codes "Net"; version = None; tables = tables; tree = null }
 

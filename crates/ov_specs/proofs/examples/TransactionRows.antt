@@ -1,11 +1,14 @@
 -- Worked transactions: their results, and what they leave.
-use Rattle.std.proofs.Common.{◌≡◌, ℕ, pos, negsuc, List, [], ◌∷◌, Option, Some, None, Ok, option_map, option_and_then, refl, ap, ◌∙◌, codes}
+use Rattle.std.proofs.Common.{◌≡◌, ℕ, pos, negsuc, List, [], ◌∷◌, true, false, Option, Some, None, Ok, option_map, option_and_then, refl, ap, ◌∙◌, codes}
+use Rattle.std.specs.List.{list_any}
 use Rattle.std.specs.FinMap.{empty, get, insert, entries, put, entries-insert, get-empty, get-insert}
 use Rattle.serde_json.specs.Data.{Data, null, number, unsigned, negative, string, array, object, Members, no_members, member, Items, no_items, item}
 use Rattle.serde_json.specs.Find.{as_array}
 use Rattle.serde_json.specs.Read.{read}
 use Rattle.serde_json.proofs.OnLiterals.{serde_json_on_literals}
 use Rattle.uuid.specs.Text.{by_index}
+use Rattle.ov_specs.specs.integrity.Committed.{committed, is_whole}
+use Rattle.ov_specs.specs.integrity.Limits.{is_short}
 use Rattle.ov_specs.specs.operations.Operation.{outcome_of}
 use Rattle.ov_specs.specs.operations.Transaction.{TransactionOutcome, Completes, Waits, transaction}
 use Rattle.ov_specs.specs.operations.Errors.{DuplicateName, error_tree}
@@ -15,15 +18,18 @@ use Rattle.ov_specs.specs.operations.MatchingRows.{count_result}
 use Rattle.ov_specs.specs.operations.OpOutcome.{OpContext, Done, names_in}
 use Rattle.ov_specs.specs.rows.Database.{Columns, Row, Database}
 use Rattle.ov_specs.specs.rows.Lines.{line_cmp}
+use Rattle.ov_specs.specs.rows.Suits.{Suits}
+use Rattle.ov_specs.specs.schema.SchemaTypes.{name_cmp}
 use Rattle.ov_specs.specs.values.Uuid.{Names}
 use Rattle.ov_specs.specs.values.Value.{Atom, Integer, Text, Uuid, Datum}
 use Rattle.ov_specs.specs.values.Writing.{two, atom_tree}
+use Rattle.ov_specs.proofs.laws.Committing.{enough_committed, whole_committed}
 use Rattle.ov_specs.proofs.laws.LineKeys.{key_total}
 use Rattle.ov_specs.proofs.laws.Names.{name_cmp_total}
 use Rattle.ov_specs.proofs.examples.ConditionRows.{len-one}
 use Rattle.ov_specs.proofs.examples.NetRows as net_rows
-use Rattle.ov_specs.proofs.examples.NetRows.{numbered, net, table_of, table_is, switch_columns, on_switch, on_port, entries-switch, entries-port}
-use Rattle.ov_specs.proofs.examples.TwoSwitches.{one, entries-one, key, row, columns_1, entries-columns_1, entries-1, entries-again, entries-given, rows, entries-rows, entries-put, entries-deleted, given, given_load, given_name, given_ports, text_s1}
+use Rattle.ov_specs.proofs.examples.NetRows.{numbered, net, table_of, table_is, entries-tables, switch_columns, on_switch, on_port, entries-switch, entries-port}
+use Rattle.ov_specs.proofs.examples.TwoSwitches.{one, entries-one, entries-none, len-none, key, row, columns_1, entries-columns_1, entries-1, entries-again, entries-given, entries-given_all, rows, entries-rows, entries-put, entries-deleted, given, given_load, given_name, given_ports, text_s1}
 
 -- what the transaction of a text comes to, with draws from 1 on
 abbrev transacted : Database → ℕ → List ℕ → Option TransactionOutcome
@@ -35,14 +41,16 @@ completes text database = option_map (λ results. Completes results database) (o
 
 -- ---- whatever rows there are
 
-pub transaction_of_nothing : (before : Database) → transacted before 0 (codes "[]") ≡ completes (codes "[]") before
+-- whole rows of the schema are committed as they are
+pub transaction_of_nothing : (before : Database) → Suits net before → is_whole net before ≡ true → transacted before 0 (codes "[]") ≡ completes (codes "[]") before
 unfolding serde_json_on_literals
-transaction_of_nothing before = refl
+transaction_of_nothing before suits whole = rw (whole_committed net before (numbered 1) before suits whole) refl
 
 -- every commit is durable
-pub commit_without_durability : (before : Database) → transacted before 0 (codes "[{\"durable\":false,\"op\":\"commit\"},{\"comment\":\"x\",\"op\":\"comment\"},{\"durable\":true,\"op\":\"commit\"}]") ≡ completes (codes "[{},{},{}]") before
+pub commit_without_durability : (before : Database) → Suits net before → is_whole net before ≡ true
+    → transacted before 0 (codes "[{\"durable\":false,\"op\":\"commit\"},{\"comment\":\"x\",\"op\":\"comment\"},{\"durable\":true,\"op\":\"commit\"}]") ≡ completes (codes "[{},{},{}]") before
 unfolding serde_json_on_literals
-commit_without_durability before = refl
+commit_without_durability before suits whole = rw (whole_committed net before (numbered 1) before suits whole) refl
 
 pub unknown_operation_ends_it : (before : Database) → transacted before 0 (codes "[{\"op\":\"erase\"},{\"op\":\"insert\",\"row\":{\"name\":\"s1\"},\"table\":\"Switch\"}]") ≡ completes (codes "[{\"error\":\"unknown operation\"},null]") before
 unfolding serde_json_on_literals
@@ -195,9 +203,29 @@ ports_shown = object (member (codes "rows") (array (item (object (member (codes 
 select_does : outcome_of in_before 2 both_rows select_ports ≡ Done ports_shown both_rows
 select_does = rw (table_is (codes "Switch")) (rw (on_switch (codes "ports"), entries-switch) (rw entries-both_rows (rw (given_ports (one (Uuid (numbered 3)))) (rw (entries-one (Uuid (numbered 3))) refl))))
 
+entries-port_columns : entries port_columns ≡ (codes "name", one (Text (codes "s1"))) ∷ (codes "tag", one (Integer (pos 5))) ∷ []
+entries-port_columns =
+    entries-insert name_cmp_total _ (codes "tag") (one (Integer (pos 5))) ∙ ap (put name_cmp (codes "tag") (one (Integer (pos 5)))) (entries-given (codes "name") (one (Text (codes "s1"))))
+
+both-enough : list_any (is_short net) (entries both_rows) ≡ false
+both-enough =
+    rw entries-both_rows (rw (table_is (codes "Port"), table_is (codes "Switch")) (rw (entries-port_columns, entries-given_all (one (Uuid (numbered 3))))
+    (rw (on_port (codes "name"), on_port (codes "tag")) (rw (on_switch (codes "load"), on_switch (codes "name"), on_switch (codes "ports"))
+    (rw (len-one (Text (codes "s1")), len-one (Integer (pos 5)), len-one (Uuid (numbered 3))) refl)))))
+
+both-whole : is_whole net both_rows ≡ true
+both-whole =
+    rw (entries-both_rows, entries-tables) (rw (table_is (codes "Port"), table_is (codes "Switch")) (rw (entries-port_columns, entries-given_all (one (Uuid (numbered 3))))
+    (rw (on_port (codes "name"), on_port (codes "tag")) (rw (on_switch (codes "load"), on_switch (codes "name"), on_switch (codes "ports"))
+    (rw (entries-one (Text (codes "s1")), entries-one (Integer (pos 5)), entries-one (Uuid (numbered 3))) refl)))))
+
+-- in this schema identifiers refer to no table, and each table is a root table
+both-committed : committed net empty (numbered 1) both_rows ≡ Ok both_rows
+both-committed = enough_committed net empty (numbered 1) both_rows both-enough both-whole
+
 pub named_uuid_used_before : transaction net empty (numbered 1 ∷ numbered 2 ∷ numbered 3 ∷ []) 0 before_declared
     ≡ Completes (item (insert_result (numbered 2)) (item (insert_result (numbered 3)) (item ports_shown no_items))) both_rows
-named_uuid_used_before = rw switch_does (rw port_does (rw select_does refl))
+named_uuid_used_before = rw switch_does (rw port_does (rw select_does (rw both-committed refl)))
 
 pub used_before_is_answered : Some (array (item (insert_result (numbered 2)) (item (insert_result (numbered 3)) (item ports_shown no_items))))
     ≡ read (codes "[{\"uuid\":[\"uuid\",\"00000000-0000-0000-0000-000000000002\"]},{\"uuid\":[\"uuid\",\"00000000-0000-0000-0000-000000000003\"]},{\"rows\":[{\"ports\":[\"uuid\",\"00000000-0000-0000-0000-000000000003\"]}]}]")
@@ -279,8 +307,21 @@ load_shown = object (member (codes "rows") (array (item (object (member (codes "
 load_does : outcome_of in_edges 2 left_rows select_load ≡ Done load_shown left_rows
 load_does = rw (table_is (codes "Switch")) (rw (on_switch (codes "load"), entries-switch) (rw entries-left (rw left_load (rw (entries-one left) refl))))
 
+left-enough : list_any (is_short net) (entries left_rows) ≡ false
+left-enough =
+    rw entries-left (rw (table_is (codes "Switch")) (rw (entries-again (codes "load") (one seven) (one left)) (rw (on_switch (codes "load"), on_switch (codes "name"), on_switch (codes "ports"))
+    (rw (len-one left, len-one (Text (codes "s1")), len-none) refl))))
+
+left-whole : is_whole net left_rows ≡ true
+left-whole =
+    rw (entries-left, entries-tables) (rw (table_is (codes "Switch")) (rw (entries-again (codes "load") (one seven) (one left)) (rw (on_switch (codes "load"), on_switch (codes "name"), on_switch (codes "ports"))
+    (rw (entries-one left, entries-one (Text (codes "s1")), entries-none) refl))))
+
+left-committed : committed net lone (numbered 1) left_rows ≡ Ok left_rows
+left-committed = enough_committed net lone (numbered 1) left_rows left-enough left-whole
+
 pub arithmetic_edges : transaction net lone (numbered 1 ∷ []) 0 edges ≡ Completes (item (count_result 1) (item (count_result 1) (item load_shown no_items))) left_rows
-arithmetic_edges = rw update_does (rw mutate_does (rw load_does refl))
+arithmetic_edges = rw update_does (rw mutate_does (rw load_does (rw left-committed refl)))
 
 pub edges_are_answered : Some (array (item (count_result 1) (item (count_result 1) (item load_shown no_items)))) ≡ read (codes "[{\"count\":1},{\"count\":1},{\"rows\":[{\"load\":-1}]}]")
 unfolding serde_json_on_literals

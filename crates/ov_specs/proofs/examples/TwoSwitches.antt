@@ -144,3 +144,9 @@ pub given_load : (ports : Datum) → get (given ports) (codes "load") ≡ Some (
 given_load ports =
     get-insert name_cmp_total _ (codes "ports") ports (codes "load")
     ∙ (get-insert name_cmp_total _ (codes "name") (one (Text (codes "s1"))) (codes "load") ∙ get-insert name_cmp_total empty (codes "load") (one (Integer (pos 5))) (codes "load"))
+
+pub entries-given_all : (ports : Datum) → entries (given ports) ≡ (codes "load", one (Integer (pos 5))) ∷ (codes "name", one (Text (codes "s1"))) ∷ (codes "ports", ports) ∷ []
+entries-given_all ports =
+    entries-insert name_cmp_total _ (codes "ports") ports
+    ∙ ap (put name_cmp (codes "ports") ports) (entries-insert name_cmp_total _ (codes "name") (one (Text (codes "s1")))
+    ∙ ap (put name_cmp (codes "name") (one (Text (codes "s1")))) (entries-given (codes "load") (one (Integer (pos 5)))))

@@ -1,13 +1,11 @@
 -- What a commit leaves: rows of the schema that are whole; and whole rows it leaves as they are.
-use Rattle.std.proofs.Common.{◌≡◌, ℕ, List, [], ◌∷◌, map, Bool, true, false, cond, ◌&&◌, ◌||◌, not, flat_map, Option, Some, None, is_some, option_map, Result, Ok, Err, int_lt, pos, refl, sym, ap, subst, ◌∙◌}
+use Rattle.std.proofs.Common.{◌≡◌, ℕ, List, [], ◌∷◌, Bool, true, false, cond, ◌&&◌, ◌||◌, not, flat_map, Option, Some, None, is_some, option_map, Result, Ok, Err, int_lt, pos, refl, sym, ap, subst, ◌∙◌}
 use Rattle.std.proofs.lemmas.Bool.{and_parts, and_from, or_left, or_right, or_parts, or_from, not_from_false}
 use Rattle.std.proofs.lemmas.List.Folds.{list_all-append, list_all-map}
 use Rattle.std.proofs.lemmas.Option.{same_Some}
 use Rattle.std.specs.FinMap.{get, insert, entries, contains_key, get-insert}
 use Rattle.std.specs.List.{list_any, list_all}
 use Rattle.std.specs.Ordering.{eq_by_cmp}
-use Rattle.std.specs.Str.{bytes_eq}
-use Rattle.std.proofs.lemmas.Slice.Eq.{bytes_eq-Decides}
 use Rattle.ov_specs.specs.integrity.Committed.{is_missing, is_dangling, dangles, pruned_row, pruned, within_limits, committed, is_whole}
 use Rattle.ov_specs.specs.integrity.Kept.{supports, is_in_root_table, is_supported, AreSupported, AreSome, IsGreatestSupported, kept}
 use Rattle.ov_specs.specs.integrity.Limits.{has_too_few, is_short, is_over_limits}
@@ -23,20 +21,18 @@ use Rattle.ov_specs.specs.schema.SchemaTypes.{ColumnType, Column, Table, Schema,
 use Rattle.ov_specs.specs.values.Uuid.{Uuid, is_uuid}
 use Rattle.ov_specs.specs.values.Value.{Datum, Atoms, Pairs, is_of, count}
 use Rattle.ov_specs.proofs.laws.KeptRows.{support_grows, supported_all, all_supported, kept_are, kept_whole}
-use Rattle.ov_specs.proofs.laws.LineKeys.{key_total, tied_same, same_tied}
+use Rattle.ov_specs.proofs.laws.LineKeys.{key_total, tied_same, same_tied, same_key-is, same_key-itself}
+use Rattle.ov_specs.proofs.laws.Lists.{any-map}
 use Rattle.ov_specs.proofs.laws.Names.{EachEntry, each_entry}
 use Rattle.ov_specs.proofs.laws.Pruning.{HasNoMixedPairs, get-pruned, pruned_without, pruned_strong, contains_key-pruned, pruned_dangles_not, limited_suits}
 use Rattle.ov_specs.proofs.laws.References.{any_row_is, all_rows_are, are_all_rows, any_reference_is, reference_is_any}
+use Rattle.ov_specs.proofs.laws.Truths.{was_not}
 
 -- ---- truth, and lists
 
 contradicts : (b : Bool) → b ≡ true → b ≡ false → ⊥
 contradicts true is is_not = cc
 contradicts false is is_not = cc
-
-was_not : (b : Bool) → not b ≡ true → b ≡ false
-was_not true h = cc
-was_not false h = refl
 
 module _ {A : Type 0} where
   -- where an element passes the test, there is one that does; whatever test that one passes, an element passes
@@ -71,10 +67,6 @@ module _ {A : Type 0} where
 all-flat_map : {A B : Type 0} (test : B → Bool) (f : A → List B) (xs : List A) → list_all test (flat_map f xs) ≡ list_all (λ x. list_all test (f x)) xs
 all-flat_map test f [] = refl
 all-flat_map test f (x ∷ xs) = list_all-append test (f x) (flat_map f xs) ∙ ap (λ b. list_all test (f x) && b) (all-flat_map test f xs)
-
-any-map : {A B : Type 0} (test : B → Bool) (f : A → B) (xs : List A) → list_any test (map f xs) ≡ list_any (λ x. test (f x)) xs
-any-map test f [] = refl
-any-map test f (x ∷ xs) = ap (λ b. test (f x) || b) (any-map test f xs)
 
 -- ---- rows that are whole
 
@@ -149,14 +141,6 @@ committed_suits schema before version rows database all is_version suits is =
     limited_suits schema before version (kept schema rows) database all is_version (kept_suits schema rows suits) (committed_parts schema before version rows database is).1
 
 -- ---- what is committed is whole
-
-same_key-itself : (key : LineKey) → same_key key key ≡ true
-same_key-itself key = and_from (bytes_eq key.0 key.0) (bytes_eq key.1 key.1) ((bytes_eq-Decides key.0 key.0).1 refl) ((bytes_eq-Decides key.1 key.1).1 refl)
-
-same_key-is : (a b : LineKey) → same_key a b ≡ true → a ≡ b
-same_key-is a b same =
-    let parts = and_parts (bytes_eq a.0 b.0) (bytes_eq a.1 b.1) same in
-    λ i. ((bytes_eq-Decides a.0 b.0).0 parts.0 i, (bytes_eq-Decides a.1 b.1).0 parts.1 i)
 
 has_row : (o : Option Row) → is_some o ≡ true → (row : Row) × (o ≡ Some row)
 has_row None is = cc
@@ -350,11 +334,11 @@ none_short schema rows suits = by (list_any (is_short schema) (entries rows)) re
         let found = any_row_is (is_short schema) rows is in
         absurd (contradicts _ found.3 (suiting_not_short schema found.0 found.1 (suits found.0 found.1 found.2)))
 
--- whole rows of the schema are committed as they are
-pub whole_committed : (schema : Schema) (before : Database) (version : Uuid) (rows : Database) → Suits schema rows → is_whole schema rows ≡ true → committed schema before version rows ≡ Ok rows
-whole_committed schema before version rows suits is =
+-- whole rows without values that are too short are committed as they are
+pub enough_committed : (schema : Schema) (before : Database) (version : Uuid) (rows : Database) → list_any (is_short schema) (entries rows) ≡ false → is_whole schema rows ≡ true → committed schema before version rows ≡ Ok rows
+enough_committed schema before version rows enough is =
     (λ i. cond (none_missing i) (Err ReferentialIntegrity) (within_limits schema (all_left i)))
-    ∙ (λ i. cond (none_short schema rows suits i || whole.limited i) (Err ConstraintViolation) (Ok rows))
+    ∙ (λ i. cond (enough i || whole.limited i) (Err ConstraintViolation) (Ok rows))
   where
     whole : IsWhole schema rows
     whole = whole_is schema rows is
@@ -379,3 +363,7 @@ whole_committed schema before version rows suits is =
 
     all_left : pruned schema before version (kept schema rows) ≡ rows
     all_left = ap (pruned schema before version) (kept_whole schema rows whole.supported) ∙ pruned_without schema before version rows none_dangle
+
+-- whole rows of the schema are committed as they are
+pub whole_committed : (schema : Schema) (before : Database) (version : Uuid) (rows : Database) → Suits schema rows → is_whole schema rows ≡ true → committed schema before version rows ≡ Ok rows
+whole_committed schema before version rows suits is = enough_committed schema before version rows (none_short schema rows suits) is

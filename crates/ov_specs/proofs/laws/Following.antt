@@ -1,5 +1,5 @@
 -- What a commit looks for, found by what a transaction changed and not by all rows.
-use Rattle.std.proofs.Common.{◌≡◌, ℕ, List, [], ◌∷◌, map, Bool, true, false, cond, T, ◌&&◌, ◌||◌, not, ◌⊎◌, inl, inr, Option, Some, None, is_some, int_lt, pos, length, refl, sym, ap, ◌∙◌, true≢false, Equal}
+use Rattle.std.proofs.Common.{◌≡◌, ℕ, List, [], ◌∷◌, Bool, true, false, cond, T, ◌&&◌, ◌||◌, not, ◌⊎◌, inl, inr, Option, Some, None, is_some, int_lt, pos, length, refl, sym, ap, ◌∙◌, true≢false, Equal}
 use Rattle.std.specs.List.{list_any, list_all}
 use Rattle.std.specs.Ordering.{eq_by_cmp}
 use Rattle.std.specs.Str.{bytes_eq}
@@ -17,8 +17,10 @@ use Rattle.ov_specs.specs.rows.Lines.{LineKey, line_cmp}
 use Rattle.ov_specs.specs.schema.Schema.{is_some_and}
 use Rattle.ov_specs.specs.schema.SchemaTypes.{Table, Schema}
 use Rattle.ov_specs.specs.values.Uuid.{Uuid}
-use Rattle.ov_specs.proofs.laws.LineKeys.{key_total, key_exact, tied_same}
+use Rattle.ov_specs.proofs.laws.LineKeys.{key_total, key_exact, tied_same, same_key-is, same_key-itself}
+use Rattle.ov_specs.proofs.laws.Lists.{any-map}
 use Rattle.ov_specs.proofs.laws.References.{any_reference_is, reference_is_any}
+use Rattle.ov_specs.proofs.laws.Truths.{was_not}
 
 -- ---- one of a list
 
@@ -50,10 +52,6 @@ one_passes {A = A} test (x ∷ xs) any = by (test x) refl any (one_passes test x
     )
     by false is any others = let found = others any in (found.0, found.1, later found.0 found.2)
 
-any-map : {A B : Type 0} (test : B → Bool) (f : A → B) (xs : List A) → list_any test (map f xs) ≡ list_any (λ x. test (f x)) xs
-any-map test f [] = refl
-any-map test f (x ∷ xs) = ap (λ b. test (f x) || b) (any-map test f xs)
-
 -- where none passed a test, and only the touched ones can pass now, it is asked of them alone
 any_touched : {A : Type 0} (touched was is : A → Bool) → ((x : A) → touched x ≡ false → is x ≡ was x) → (xs : List A) → list_any was xs ≡ false → list_any is xs ≡ list_any (λ x. touched x && is x) xs
 any_touched touched was is same [] none = refl
@@ -71,22 +69,6 @@ any_target : (schema : Schema) (test : RowReference → Bool) (r : LineKey × Ro
     → list_any test (row_references schema r) ≡ list_any (λ target. test (record { from = r.0; to = target })) (row_targets schema r)
 any_target schema test r = any-map test (λ target. record { from = r.0; to = target }) (row_targets schema r)
 
--- ---- keys
-
-same_key-is : (a b : LineKey) → same_key a b ≡ true → a ≡ b
-same_key-is a b h =
-    let parts = and_parts (bytes_eq a.0 b.0) (bytes_eq a.1 b.1) h in
-    let table : a.0 ≡ b.0 = (bytes_eq-Decides a.0 b.0).0 parts.0 in
-    let id : a.1 ≡ b.1 = (bytes_eq-Decides a.1 b.1).0 parts.1 in
-    λ i. (table i, id i)
-
-same_key-itself : (a : LineKey) → same_key a a ≡ true
-same_key-itself a = and_from (bytes_eq a.0 a.0) (bytes_eq a.1 a.1) ((bytes_eq-Decides a.0 a.0).1 refl) ((bytes_eq-Decides a.1 a.1).1 refl)
-
-not_so : (b : Bool) → not b ≡ true → b ≡ false
-not_so true h = cc
-not_so false h = refl
-
 -- ---- support
 
 -- a different one of these rows that refers strongly to the row of this key
@@ -101,7 +83,7 @@ module _ (schema : Schema) (rows : Database) (key : LineKey) where
       let test : Target → Bool = λ target. supports key (record { from = found.0; to = target }) in
       let one = one_passes test (row_targets schema (found.0, found.1)) (sym (any_target schema (supports key) (found.0, found.1)) ∙ found.3) in
       let parts = and_parts (one.0.is_strong && same_key one.0.key key) (not (same_key found.0 key)) one.1 in
-      (found.0, found.1, found.2, not_so (same_key found.0 key) parts.1, one.2.some (λ target. target.is_strong && same_key target.key key) parts.0)
+      (found.0, found.1, found.2, was_not (same_key found.0 key) parts.1, one.2.some (λ target. target.is_strong && same_key target.key key) parts.0)
 
   is_supporter : Supporter schema rows key → list_any (supports key) (references schema rows) ≡ true
   is_supporter one =
@@ -225,7 +207,7 @@ module _ (schema : Schema) (before now : Database) (changed : LineKey → Bool) 
           let to : LineKey = one.0.key in
           let parts = and_parts one.0.is_strong (not (contains_key now to)) one.1 in
           let was : contains_key before to ≡ true = one.2.each (λ target. contains_key before target.key) (present key row has) in
-          let gone : contains_key now to ≡ false = not_so (contains_key now to) parts.1 in
+          let gone : contains_key now to ≡ false = was_not (contains_key now to) parts.1 in
           let strong = one.2.some (λ target. target.is_strong && same_key target.key to) (and_from one.0.is_strong (same_key to to) parts.0 (same_key-itself to)) in
           (key, row, to, so, has, gone_is_changed to was gone, was, none_there (get now to) gone, strong)
 
@@ -262,7 +244,7 @@ module _ (schema : Schema) (before now : Database) (changed : LineKey → Bool) 
           let to : LineKey = one.0.key in
           let parts = and_parts (not one.0.is_strong) (not (contains_key now to)) one.1 in
           let was : contains_key before to ≡ true = one.2.each (λ target. contains_key before target.key) (present key row was_there) in
-          let gone : contains_key now to ≡ false = not_so (contains_key now to) parts.1 in
+          let gone : contains_key now to ≡ false = was_not (contains_key now to) parts.1 in
           let weak = one.2.some (λ target. not target.is_strong && same_key target.key to) (and_from (not one.0.is_strong) (same_key to to) parts.0 (same_key-itself to)) in
           (to, gone_is_changed to was gone, was, none_there (get now to) gone, weak)
 

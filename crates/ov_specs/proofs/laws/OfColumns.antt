@@ -1,5 +1,5 @@
 -- What is read of a condition or a mutation suits its column, and so does what a mutation makes.
-use Rattle.std.proofs.Common.{◌≡◌, ◌&&◌, ◌||◌, List, ℕ, Bool, true, false, Option, Some, None, Result, Ok, Err, if◌then◌else◌, ℤ, [], ◌∷◌, ◌++◌, map, filter, not, is_some, is_none, codes, refl, sym, ap, subst, ◌∙◌}
+use Rattle.std.proofs.Common.{◌≡◌, ◌&&◌, ◌||◌, List, ℕ, Bool, true, false, Option, Some, None, Result, Ok, Err, if◌then◌else◌, ℤ, [], ◌∷◌, ◌++◌, map, not, is_some, is_none, codes, refl, sym, ap, subst, ◌∙◌}
 use Rattle.std.proofs.lemmas.Bool.{and_parts, and_from}
 use Rattle.std.proofs.lemmas.List.Folds.{list_all-append}
 use Rattle.std.specs.List.{list_all}
@@ -13,6 +13,7 @@ use Rattle.ov_specs.specs.schema.SchemaTypes.{BaseType, ColumnType, Column, Tabl
 use Rattle.ov_specs.specs.values.Reading.{Reading, Reads, Unreadable, Clashing, behind, reads}
 use Rattle.ov_specs.specs.values.Uuid.{Names, AreUuids}
 use Rattle.ov_specs.specs.values.Value.{AtomKind, Integers, Booleans, Texts, Uuids, Kinds, Single, Pair, Atom, Integer, Boolean, Text, Uuid, Datum, Atoms, Pairs, is_in_64_bits, is_atom_of, is_pair_of, set_of, is_of}
+use Rattle.ov_specs.proofs.laws.Lists.{all-filter}
 use Rattle.ov_specs.proofs.laws.OfKinds.{Passes, passes-then, passes-if, reads_is_of, set_is_of, map_is_of}
 use Rattle.ov_specs.proofs.laws.Truths.{or_truth}
 
@@ -132,15 +133,6 @@ module _ (names : Names) (are : AreUuids names) where
 
 -- ---- what a mutation makes
 
-all-filter : {A : Type 0} (test kept : A → Bool) (xs : List A) → list_all test xs ≡ true → list_all test (filter kept xs) ≡ true
-all-filter test kept [] h = refl
-all-filter test kept (x ∷ xs) h =
-    let parts = and_parts (test x) (list_all test xs) h in
-    elim (kept x) as (λ b. list_all test (if b then x ∷ filter kept xs else filter kept xs) ≡ true) [
-      | true ↦ and_from (test x) (list_all test (filter kept xs)) parts.0 (all-filter test kept xs parts.1)
-      | false ↦ all-filter test kept xs parts.1
-    ]
-
 all-both : {A : Type 0} (test : A → Bool) (xs ys : List A) → list_all test xs ≡ true → list_all test ys ≡ true → list_all test (xs ++ ys) ≡ true
 all-both test xs ys h j = list_all-append test xs ys ∙ and_from (list_all test xs) (list_all test ys) h j
 
@@ -153,12 +145,12 @@ inserted_is_of (Pair key value) (Pairs m) (Atoms more) h j = h
 inserted_is_of (Pair key value) (Pairs m) (Pairs more) h j = map_is_of key value (entries m ++ entries more) (all-both (is_pair_of key value) (entries m) (entries more) h j)
 
 deleted_is_of : (kinds : Kinds) (v elements : Datum) → is_of kinds v ≡ true → is_of kinds (deleted v elements) ≡ true
-deleted_is_of (Single kind) (Atoms s) (Atoms gone) h = set_is_of kind _ (all-filter (is_atom_of kind) (λ a. not (contains_key gone a)) (keys s) h)
+deleted_is_of (Single kind) (Atoms s) (Atoms gone) h = set_is_of kind _ (all-filter (λ a. not (contains_key gone a)) (is_atom_of kind) (keys s) h)
 deleted_is_of (Single kind) (Atoms s) (Pairs gone) h = h
 deleted_is_of (Single kind) (Pairs m) elements h = cc
 deleted_is_of (Pair key value) (Atoms s) elements h = cc
-deleted_is_of (Pair key value) (Pairs m) (Atoms gone) h = map_is_of key value _ (all-filter (is_pair_of key value) (λ p. not (contains_key gone p.0)) (entries m) h)
-deleted_is_of (Pair key value) (Pairs m) (Pairs gone) h = map_is_of key value _ (all-filter (is_pair_of key value) (λ p. not (has_pair gone p)) (entries m) h)
+deleted_is_of (Pair key value) (Pairs m) (Atoms gone) h = map_is_of key value _ (all-filter (λ p. not (contains_key gone p.0)) (is_pair_of key value) (entries m) h)
+deleted_is_of (Pair key value) (Pairs m) (Pairs gone) h = map_is_of key value _ (all-filter (λ p. not (has_pair gone p)) (is_pair_of key value) (entries m) h)
 
 numbers_alone : (key : AtomKind) (value : Option BaseType) → (is_none value && is_integers key) ≡ true → kinds_with key value ≡ Single Integers
 numbers_alone Integers None h = refl

@@ -9,8 +9,9 @@ use Rattle.serde_json.specs.Data.{Data, Items, no_items, item}
 use Rattle.serde_json.specs.Find as find
 use Rattle.serde_json.specs.Find.{as_bool}
 use Rattle.ov_specs.specs.wire.Message.{has_member}
+use Rattle.ov_specs.specs.integrity.Committed.{committed}
 use Rattle.ov_specs.specs.operations.Operation.{outcome_of}
-use Rattle.ov_specs.specs.operations.Transaction.{TransactionOutcome, Completes, Waits, and_result, after, performed, transaction}
+use Rattle.ov_specs.specs.operations.Transaction.{TransactionOutcome, Completes, Waits, and_result, after, ended, performed, transaction}
 use Rattle.ov_specs.specs.operations.Delete.{delete_outcome}
 use Rattle.ov_specs.specs.operations.Conditions.{Condition}
 use Rattle.ov_specs.specs.operations.Errors.{OpError, SyntaxError, UnknownTable}
@@ -30,6 +31,7 @@ use Rattle.ov_specs.specs.rows.Suits.{SuitsTable, Suits}
 use Rattle.ov_specs.specs.rows.Version.{row_now}
 use Rattle.ov_specs.specs.schema.SchemaTypes.{Table, Schema}
 use Rattle.ov_specs.specs.values.Uuid.{Uuid, is_uuid, AreUuids}
+use Rattle.ov_specs.proofs.laws.Committing.{committed_suits}
 use Rattle.ov_specs.proofs.laws.Suiting.{one_row_suits}
 use Rattle.ov_specs.proofs.laws.SuitingColumns.{none_suits, MakesRow}
 use Rattle.ov_specs.proofs.laws.FoundRows.{got, names_are, matching_are, row_suits, put_suits, without_suits}
@@ -158,8 +160,13 @@ module _ (c : OpContext) (all : Suits c.schema c.before) (is_version : is_uuid c
 
   -- ---- transactions
 
+  -- so does the commit, whether it succeeds or fails
+  ended_suits : (rows : Database) → Suits c.schema rows → (r : Result Database OpError) → committed c.schema c.before c.version rows ≡ r → SuitsTransaction c.schema (ended c.before r)
+  ended_suits rows suits (Ok database) is = committed_suits c.schema c.before c.version rows database all is_version suits is
+  ended_suits rows suits (Err error) is = all
+
   performed_suits : (place : ℕ) (operations : Items) (rows : Database) → Suits c.schema rows → SuitsTransaction c.schema (performed c place operations rows)
-  performed_suits place no_items rows suits = suits
+  performed_suits place no_items rows suits = ended_suits rows suits (committed c.schema c.before c.version rows) refl
   performed_suits place (item d operations) rows suits =
       after_suits c.schema c.before all (outcome_of c place rows d) operations (performed c (place + 1) operations) (outcome_suits rows suits place d) (λ left left_suits. performed_suits (place + 1) operations left left_suits)
 

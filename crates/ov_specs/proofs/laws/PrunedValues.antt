@@ -15,23 +15,13 @@ use Rattle.ov_specs.specs.schema.Fitting.{is_none_or, is_between, atom_fits, val
 use Rattle.ov_specs.specs.schema.Schema.{is_some_and}
 use Rattle.ov_specs.specs.schema.SchemaTypes.{Reference, BaseType, ColumnType, Column, kinds_of}
 use Rattle.ov_specs.specs.values.Value.{Atom, Integer, Boolean, Text, Uuid, atom_cmp, Kinds, Single, Pair, AtomSet, AtomMap, marked, set_of, map_of, Datum, Atoms, Pairs, is_atom_of, is_pair_of, is_of, count}
+use Rattle.ov_specs.proofs.laws.Lists.{any-map, all-filter}
 use Rattle.ov_specs.proofs.laws.ReadingBack.{entries-from_entries}
 use Rattle.ov_specs.proofs.laws.Truths.{both_hold, left_holds, right_holds, or_truth}
 
 -- ---- a part of a list
 
 module _ {A : Type 0} (kept : A → Bool) where
-  pub all-filter : (test : A → Bool) (xs : List A) → list_all test xs ≡ true → list_all test (filter kept xs) ≡ true
-  all-filter test [] h = refl
-  all-filter test (x ∷ xs) h = by (kept x) (all-filter test xs parts.1)
-    where
-      parts : (test x ≡ true) × (list_all test xs ≡ true)
-      parts = and_parts (test x) (list_all test xs) h
-
-      by : (b : Bool) → list_all test (filter kept xs) ≡ true → list_all test (cond b (x ∷ filter kept xs) (filter kept xs)) ≡ true
-      by true rest = and_from (test x) (list_all test (filter kept xs)) parts.0 rest
-      by false rest = rest
-
   pub filter-shorter : (xs : List A) → length (filter kept xs) ≤ length xs
   filter-shorter [] = omega arith
   filter-shorter (x ∷ xs) = by (kept x) (filter-shorter xs)
@@ -193,10 +183,6 @@ any-filter_map {B = B} test f (x ∷ xs) = by (f x) (any-filter_map test f xs)
         → list_any test (cons_option o (filter_map f xs)) ≡ (is_some_and test o || list_any (λ x. is_some_and test (f x)) xs)
     by None rest = rest
     by (Some b) rest = ap (λ c. test b || c) rest
-
-any-map : {A B : Type 0} (test : B → Bool) (f : A → B) (xs : List A) → list_any test (map f xs) ≡ list_any (λ x. test (f x)) xs
-any-map test f [] = refl
-any-map test f (x ∷ xs) = ap (λ c. test (f x) || c) (any-map test f xs)
 
 any-nothing : {A : Type 0} (xs : List A) → false ≡ list_any (λ x. false) xs
 any-nothing [] = refl

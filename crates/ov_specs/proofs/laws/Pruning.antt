@@ -1,7 +1,7 @@
 -- Rows without weak references to rows that are not there.
 use Rattle.std.proofs.Common.{◌≡◌, ℕ, List, [], ◌∷◌, map, Bool, true, false, cond, T, ◌&&◌, ◌||◌, not, is_some, flat_map, Option, Some, None, option_map, Result, Ok, Err, int_lt, pos, refl, sym, ap, subst, ◌∙◌, Ordering}
 use Rattle.std.proofs.lemmas.Bool.{or_parts, or_from, or_left, or_right}
-use Rattle.std.proofs.lemmas.List.Folds.{list_any-append, flat_map-map}
+use Rattle.std.proofs.lemmas.List.Folds.{flat_map-map}
 use Rattle.std.proofs.lemmas.Option.{same_Some}
 use Rattle.std.specs.Ordering.{eq_by_cmp, is_lt}
 use Rattle.std.specs.List.{list_any}
@@ -23,6 +23,7 @@ use Rattle.ov_specs.specs.values.Uuid.{Uuid, is_uuid}
 use Rattle.ov_specs.specs.values.Value.{Datum, count}
 use Rattle.ov_specs.proofs.laws.FoundRows.{row_suits}
 use Rattle.ov_specs.proofs.laws.LineKeys.{key_total, key_exact, tied_same}
+use Rattle.ov_specs.proofs.laws.Lists.{any-flat_map}
 use Rattle.ov_specs.proofs.laws.Names.{name_cmp_total, name_exact, same_name-is}
 use Rattle.ov_specs.proofs.laws.PrunedValues.{pruned_value_fits, has_mixed_pairs, left_is_target, none_dangles, strong_stays}
 
@@ -114,10 +115,6 @@ module _ (rows : Database) (table : Table) (columns : Columns) where
 -- no map of the schema has a strong reference on one side and a weak one on the other
 abbrev pub HasNoMixedPairs : Schema → Type 0
 HasNoMixedPairs schema = (name other : List ℕ) (table : Table) (column : Column) → get schema.tables name ≡ Some table → get table.columns other ≡ Some column → has_mixed_pairs column.type_of ≡ false
-
-any-flat_map : {A B : Type 0} (test : B → Bool) (f : A → List B) (xs : List A) → list_any test (flat_map f xs) ≡ list_any (λ x. list_any test (f x)) xs
-any-flat_map test f [] = refl
-any-flat_map test f (x ∷ xs) = list_any-append test (f x) (flat_map f xs) ∙ ap (λ b. list_any test (f x) || b) (any-flat_map test f xs)
 
 none_of : {A : Type 0} (test : A → Bool) → ((a : A) → test a ≡ false) → (xs : List A) → list_any test xs ≡ false
 none_of test none [] = refl

@@ -1,10 +1,9 @@
 -- The references of a database, row by row, and what holds of some row or of each.
-use Rattle.std.proofs.Common.{◌≡◌, List, [], ◌∷◌, Bool, true, false, cond, T, ◌||◌, Some, refl, sym, ap, subst, ◌∙◌, flat_map}
+use Rattle.std.proofs.Common.{◌≡◌, List, [], ◌∷◌, Bool, true, false, cond, T, ◌||◌, Some, refl, sym, ap, subst, ◌∙◌}
 use Rattle.std.specs.List.{list_any, list_all}
 use Rattle.std.specs.FinMap.{get, entries, find, is_sorted, entries_sorted, get-entries}
 use Rattle.std.specs.Ordering.{eq_by_cmp}
 use Rattle.std.proofs.lemmas.Bool.{and_parts, and_from, or_left, or_right}
-use Rattle.std.proofs.lemmas.List.Folds.{list_any-append}
 use Rattle.std.proofs.lemmas.Option.{same_Some}
 use Rattle.ov_specs.specs.integrity.References.{RowReference, row_references, references}
 use Rattle.ov_specs.specs.rows.Database.{Row, Database}
@@ -12,6 +11,7 @@ use Rattle.ov_specs.specs.rows.Lines.{LineKey, line_cmp}
 use Rattle.ov_specs.specs.schema.SchemaTypes.{Schema}
 use Rattle.ov_specs.proofs.laws.FoundRows.{EachRow, find-later, each_found}
 use Rattle.ov_specs.proofs.laws.LineKeys.{same_tied, tied_same}
+use Rattle.ov_specs.proofs.laws.Lists.{any-flat_map}
 use Rattle.ov_specs.proofs.laws.Truths.{right_holds}
 
 -- ---- rows that are found in a list of them
@@ -79,10 +79,6 @@ module _ (test : LineKey × Row → Bool) where
       (each_found (λ key row. test (key, row) ≡ true) (entries rows) (entries_sorted rows) (λ key row found. all key row (get-entries rows key ∙ found)))
 
 -- ---- references
-
-any-flat_map : {A B : Type 0} (test : B → Bool) (f : A → List B) (xs : List A) → list_any test (flat_map f xs) ≡ list_any (λ x. list_any test (f x)) xs
-any-flat_map test f [] = refl
-any-flat_map test f (x ∷ xs) = list_any-append test (f x) (flat_map f xs) ∙ ap (λ b. list_any test (f x) || b) (any-flat_map test f xs)
 
 module _ (schema : Schema) (test : RowReference → Bool) (rows : Database) where
   -- a reference that passes the test is one of some row

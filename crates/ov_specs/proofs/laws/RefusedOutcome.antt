@@ -6,8 +6,9 @@ use Rattle.std.specs.FinMap.{empty, get, contains_key}
 use Rattle.serde_json.specs.Data.{Data, Items, no_items, item}
 use Rattle.serde_json.specs.Find as find
 use Rattle.serde_json.specs.Find.{as_bool}
+use Rattle.ov_specs.specs.integrity.Committed.{committed}
 use Rattle.ov_specs.specs.operations.Operation.{outcome_of}
-use Rattle.ov_specs.specs.operations.Transaction.{TransactionOutcome, Completes, Waits, and_result, after, performed, transaction, has_error}
+use Rattle.ov_specs.specs.operations.Transaction.{TransactionOutcome, Completes, Waits, and_result, after, ended, performed, transaction, has_error}
 use Rattle.ov_specs.specs.operations.Conditions.{Condition}
 use Rattle.ov_specs.specs.operations.Delete.{delete_outcome}
 use Rattle.ov_specs.specs.operations.Errors.{OpError, SyntaxError, UnknownTable}
@@ -131,8 +132,13 @@ leaves_after before (Done result rows) operations go plain next = leaves_result 
 leaves_after before (Fault error) operations go plain next = λ h. refl
 leaves_after before (Blocked timeout) operations go plain next = tt
 
+-- a commit has an error, or no result at all
+leaves_end : (before : Database) (r : Result Database OpError) → LeavesIfError before (ended before r)
+leaves_end before (Ok database) = λ h. cc
+leaves_end before (Err error) = λ h. refl
+
 performed_leaves : (c : OpContext) (place : ℕ) (operations : Items) (rows : Database) → LeavesIfError c.before (performed c place operations rows)
-performed_leaves c place no_items rows = λ h. cc
+performed_leaves c place no_items rows = leaves_end c.before (committed c.schema c.before c.version rows)
 performed_leaves c place (item d operations) rows =
     leaves_after c.before (outcome_of c place rows d) operations (performed c (place + 1) operations) (plain_outcome c place rows d) (λ left. performed_leaves c (place + 1) operations left)
 

@@ -27,6 +27,10 @@ pub or_truth : (b : Bool) → (b || true) ≡ true
 or_truth true = refl
 or_truth false = refl
 
+pub was_not : (b : Bool) → not b ≡ true → b ≡ false
+was_not true h = cc
+was_not false h = refl
+
 pub right_fails : (a b : Bool) → (a || b) ≡ false → b ≡ false
 right_fails true b h = cc
 right_fails false b h = h

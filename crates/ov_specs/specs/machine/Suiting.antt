@@ -1,6 +1,7 @@
--- States of the machine whose rows are rows of the schema. What names no source is our own.
-use Rattle.std.specs.Prelude.{◌≡◌, Bool, Some}
+-- States of the machine whose rows are rows of the schema, and whole. What names no source is our own.
+use Rattle.std.specs.Prelude.{◌≡◌, Bool, true, Some}
 use Rattle.std.specs.List.{list_all}
+use Rattle.ov_specs.specs.integrity.Committed.{is_whole}
 use Rattle.ov_specs.specs.machine.Machine.{State, Entry}
 use Rattle.ov_specs.specs.rows.Database.{Database}
 use Rattle.ov_specs.specs.rows.Suits.{Suits}
@@ -10,6 +11,12 @@ use Rattle.ov_specs.specs.values.Uuid.{is_uuid}
 pub record SuitsState (s : State) : Type 0 where
   pub committed : Suits s.schema s.database
   pub sealed : (database : Database) → s.sealed ≡ Some database → Suits s.schema database
+
+-- Of the rows that are committed, and of those that a failed commit would have made, each reference is to a row, each row is
+-- supported, and no limit is broken.
+pub record IsWholeState (s : State) : Type 0 where
+  pub committed : is_whole s.schema s.database ≡ true
+  pub sealed : (database : Database) → s.sealed ≡ Some database → is_whole s.schema database ≡ true
 
 -- what was drawn are identifiers (RFC 4122, 4.1.2)
 abbrev pub draws_uuids : Entry → Bool

@@ -1,7 +1,8 @@
--- One transaction: its operations in order, each on the rows that those before it left; a wait may block it (RFC 7047, 4.1.3 and
--- 5.2). What names no source is our own.
-use Rattle.std.specs.Prelude.{ℕ, ◌+◌, ◌||◌, Bool, false, List, [], ◌∷◌, Option, codes}
+-- One transaction: its operations in order, each on the rows that those before it left, and its commit; a wait may block it (RFC
+-- 7047, 4.1.3 and 5.2). What names no source is our own.
+use Rattle.std.specs.Prelude.{ℕ, ◌+◌, ◌||◌, Bool, false, List, [], ◌∷◌, Option, Result, Ok, Err, codes}
 use Rattle.serde_json.specs.Data.{Data, null, Items, no_items, item}
+use Rattle.ov_specs.specs.integrity.Committed.{committed}
 use Rattle.ov_specs.specs.operations.Errors.{OpError, ResourcesExhausted, InputOutput, error_tree}
 use Rattle.ov_specs.specs.operations.Operation.{outcome_of}
 use Rattle.ov_specs.specs.operations.OpOutcome.{OpContext, OpOutcome, Done, Fault, Blocked}
@@ -35,9 +36,15 @@ after before (Done result rows) operations go = and_result result (go rows)
 after before (Fault error) operations go = Completes (item (error_tree error) (nulls operations)) before
 after before (Blocked timeout) operations go = Waits timeout
 
--- the operations from this place on, in order (RFC 7047, 4.1.3)
+-- The end of the operations: the database is what the commit makes. Where it fails, one result more tells its error, and the database
+-- is as before the transaction (RFC 7047, 4.1.3).
+abbrev pub ended : Database → Result Database OpError → TransactionOutcome
+ended before (Ok database) = Completes no_items database
+ended before (Err error) = Completes (item (error_tree error) no_items) before
+
+-- the operations from this place on, in order, and then the commit (RFC 7047, 4.1.3)
 abbrev pub performed : OpContext → ℕ → Items → Database → TransactionOutcome
-performed c place no_items rows = Completes no_items rows
+performed c place no_items rows = ended c.before (committed c.schema c.before c.version rows)
 performed c place (item d operations) rows = after c.before (outcome_of c place rows d) operations (performed c (place + 1) operations)
 
 -- A transaction of this age on the database. The first draw is the version of the rows that it changes, the others are the

@@ -1,5 +1,5 @@
 -- Which schemas are accepted, and with which refusal the others are not (RFC 7047, 3.2). What names no source is our own.
-use Rattle.std.specs.Prelude.{ℕ, ℤ, pos, int_lt, nat_le, Bool, true, false, not, ◌&&◌, ◌||◌, ◌==◌, List, [], ◌∷◌, if◌then◌else◌, Option, Some, None, is_some, is_none, codes, length, ◌++◌, map, option_map, unwrap_or, Result, Ok, Err}
+use Rattle.std.specs.Prelude.{◌≡◌, ℕ, ℤ, pos, int_lt, nat_le, Bool, true, false, not, ◌&&◌, ◌||◌, ◌==◌, List, [], ◌∷◌, if◌then◌else◌, Option, Some, None, is_some, is_none, codes, length, ◌++◌, map, option_map, unwrap_or, Result, Ok, Err}
 use Rattle.std.specs.FinMap.{from_entries}
 use Rattle.std.specs.List.{list_all, list_any}
 use Rattle.std.specs.Str.{bytes_eq}
@@ -301,3 +301,7 @@ judged d (Some s) = refused_or (accepted_schema d s) (refusal_of_shape s)
 -- refusals are our own).
 abbrev pub accepted : Data → Result Schema SchemaRefusal
 accepted d = if has_real d then Err RealNotSupported else judged d (schema_shape d)
+
+-- the schema is what its own tree is read as
+pub record IsAccepted (schema : Schema) : Type 0 where
+  pub is : accepted schema.tree ≡ Ok schema

@@ -1,34 +1,24 @@
-use Rattle.std.proofs.Common.{◌≡◌, [], ◌||◌, sym, ap, ◌∙◌}
-use Rattle.std.proofs.lemmas.List.{nil_from_length}
+use Rattle.std.proofs.Common.{◌≡◌, ◌||◌, List, Option, false, sym, ap, subst, ◌∙◌}
+use Rattle.std.proofs.lemmas.Bool.{or_parts}
+use Rattle.std.specs.FinMap.{entries}
 use Rattle.std.specs.List.{list_any}
-use Rattle.ov_specs.specs.integrity.Limits.{is_over_limits}
+use Rattle.ov_specs.specs.integrity.Limits.{has_too_many, has_duplicates}
+use Rattle.ov_specs.specs.rows.Database.{Row}
+use Rattle.ov_specs.specs.rows.Lines.{LineKey}
 use Rattle.ov_specs.proofs.laws.Committing.{whole_is, IsWhole}
-use Rattle.ov_integrity.specs.Repeating.{breaks_limits}
-use Rattle.ov_integrity.proofs.Repeating.{over_by_names}
+use Rattle.ov_refs.specs.Changed.{IsAfter}
+use Rattle.ov_index.specs.Changing.{are_any_alike}
+use Rattle.ov_integrity.proofs.Indexed.{made_after}
 use Rattle.ov_integrity.proofs.limits.breaks_a_limit.Goals as goal
 
-pub returns-then-branch : goal.returns-then-branch
-returns-then-branch c =
+pub returns-in_ok-are_made_alike : goal.returns-in_ok-are_made_alike
+returns-in_ok-are_made_alike c =
     let schema = c.args.schema.now in
     let before = c.args.stage.now.before in
     let now = c.args.stage.now.now in
-    let names = c.in_ok-name-items.name-items.items in
-    let whole : list_any (breaks_limits schema now) names ≡ is_over_limits schema now =
-    over_by_names schema before now c.changes.result.now c.changes.ensures.made (IsWhole.limited (whole_is schema before c.requires.whole)) names c.in_ok-name-items.ensures in
-    ap (λ b. b || list_any (breaks_limits schema now) c.next.new.self.rest.items)
-    (sym c.if-branch.true ∙ c.in_ok-breaks_limits.ensures ∙ ap (breaks_limits schema now) c.as_str.ensures)
-    ∙ sym (ap (list_any (breaks_limits schema now)) c.in-Some.ensures.steps.0) ∙ c.loop-name.invariant
-    ∙ ap (list_any (breaks_limits schema now)) c.into_iter-name-iterator.ensures.into_iter_gives.0 ∙ whole
-
-pub returns : goal.returns
-returns c =
-    let schema = c.args.schema.now in
-    let before = c.args.stage.now.before in
-    let now = c.args.stage.now.now in
-    let names = c.in_ok-name-items.name-items.items in
-    let whole : list_any (breaks_limits schema now) names ≡ is_over_limits schema now =
-    over_by_names schema before now c.changes.result.now c.changes.ensures.made (IsWhole.limited (whole_is schema before c.requires.whole)) names c.in_ok-name-items.ensures in
-    let none : c.loop-name.name-iterator.rest.items ≡ [] =
-    nil_from_length c.loop-name.name-iterator.rest.items (sym c.loop-name.name-iterator.rest.ok.0 ∙ c.in-None.ensures.steps.0) in
-    sym (ap (list_any (breaks_limits schema now)) none) ∙ c.loop-name.invariant
-    ∙ ap (list_any (breaks_limits schema now)) c.into_iter-name-iterator.ensures.into_iter_gives.0 ∙ whole
+    let delta = c.changes.result.now in
+    let none = (or_parts (list_any (has_too_many before) (entries schema.tables)) (list_any (has_duplicates before) (entries schema.tables)) (IsWhole.limited (whole_is schema before c.requires.whole))).1 in
+    let after : IsAfter c.map-changes.result.now.entries before now =
+    subst (λ (changes : List (LineKey × Option Row)). IsAfter changes before now) (sym c.map-changes.ensures) (made_after delta before now c.changes.ensures.made) in
+    let few : list_any (has_too_many now) (entries schema.tables) ≡ false = sym c.in_ok-are_too_many.ensures ∙ c.if-branch.false in
+    c.in_ok-are_made_alike.ensures before now c.requires.indexed none after c.requires.suits ∙ sym (ap (λ b. b || are_any_alike schema now) few)

@@ -1,7 +1,7 @@
 use Rattle.std.proofs.Common.{◌≡◌, ◌||◌, true, sym, ap, ◌∙◌}
 use Rattle.std.specs.List.{list_any}
 use Rattle.std.specs.Str.{bytes_eq}
-use Rattle.ov_integrity.proofs.Repeating.{known_before}
+use Rattle.ov_integrity.proofs.Counting.{known_before}
 use Rattle.ov_integrity.proofs.limits.touched.Goals as goal
 
 pub loop-key-preserved : goal.loop-key-preserved

@@ -1,4 +1,4 @@
-use Rattle.std.proofs.Common.{◌≡◌, [], ◌||◌, true, false, sym, ap, subst, ◌∙◌}
+use Rattle.std.proofs.Common.{◌≡◌, [], ◌||◌, true, false, true≢false, sym, ap, subst, ◌∙◌}
 use Rattle.std.proofs.lemmas.List.{nil_from_length}
 use Rattle.std.specs.FinMap.{entries}
 use Rattle.std.specs.List.{list_any}
@@ -29,6 +29,7 @@ loop-key-preserved-then-branch c =
       now = ap (pruned_at_all schema before version later) is ∙ sym (ap (λ keys. pruned_at_all schema before version keys rows) steps) ∙ c.loop-key.invariant.now;
       short = short_turn schema before version short true key later rows next is answer ∙ sym (ap (λ keys. short || some_short schema before version keys rows) steps)
           ∙ c.loop-key.invariant.short;
+      suits = λ is. absurd (true≢false is);
     }
 
 pub loop-key-preserved : goal.loop-key-preserved
@@ -49,6 +50,7 @@ loop-key-preserved c =
       now = ap (pruned_at_all schema before version later) is ∙ sym (ap (λ keys. pruned_at_all schema before version keys rows) steps) ∙ c.loop-key.invariant.now;
       short = short_turn schema before version short false key later rows next is answer ∙ sym (ap (λ keys. short || some_short schema before version keys rows) steps)
           ∙ c.loop-key.invariant.short;
+      suits = λ enough. c.in_ok-prune_row.ensures.suits c.if-branch.false (c.loop-key.invariant.suits enough);
     }
 
 pub returns-clause-now : goal.returns-clause-now

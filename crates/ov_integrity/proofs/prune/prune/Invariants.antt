@@ -1,4 +1,5 @@
-use Rattle.std.proofs.Common.{◌≡◌, ◌||◌}
+use Rattle.std.proofs.Common.{◌≡◌, ◌||◌, false}
+use Rattle.ov_specs.specs.rows.Suits.{Suits}
 use Rattle.ov_integrity.specs.Pruning.{pruned_at_all}
 use Rattle.ov_integrity.proofs.PrunedInTurn.{some_short}
 use Rattle.ov_integrity.proofs.prune.prune.Given as goal
@@ -10,4 +11,5 @@ invariant-loop-key l = record {
       ≡ pruned_at_all l.schema l.fn.stage.before l.version l.initial.key-iterator.rest.items l.fn.stage.now;
   short : (l.short || some_short l.schema l.fn.stage.before l.version l.key-iterator.rest.items l.stage.now)
       ≡ some_short l.schema l.fn.stage.before l.version l.initial.key-iterator.rest.items l.fn.stage.now;
+  suits : l.short ≡ false → Suits l.schema l.stage.now;
 }

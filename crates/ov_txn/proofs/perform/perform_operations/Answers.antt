@@ -1,16 +1,38 @@
-use Rattle.std.proofs.Common.{◌≡◌, ◌∙◌, ◌<◌, ◌+◌, length, drop, sym, ap, arith}
+use Rattle.std.proofs.Common.{◌≡◌, ◌∙◌, ◌<◌, ◌+◌, List, ◌∷◌, length, drop, true, sym, ap, subst, arith}
+use Rattle.std.specs.List.{list_all}
+use Rattle.std.proofs.lemmas.Bool.{and_parts}
 use Rattle.std.proofs.lemmas.List.{drop_all}
+use Rattle.std.proofs.lemmas.Result.{IfOk-weaker}
 use Rattle.serde_json.specs.View.{view, items_view}
+use Rattle.ov_refs.specs.Linking.{AreLinksOf}
+use Rattle.ov_specs.specs.integrity.Committed.{is_whole}
 use Rattle.ov_specs.specs.operations.Errors.{error_tree}
 use Rattle.ov_specs.specs.operations.Operation.{outcome_of}
 use Rattle.ov_specs.specs.operations.OpOutcome.{OpContext, Done, Fault}
 use Rattle.ov_specs.specs.operations.Transaction.{TransactionOutcome, Completes, transaction, and_item}
 use Rattle.ov_specs.specs.rows.Database.{Database}
+use Rattle.ov_specs.specs.rows.Suits.{Suits}
+use Rattle.ov_specs.specs.values.Uuid.{Uuid, is_uuid}
+use Rattle.ov_specs.proofs.laws.OutcomeSuiting.{SuitsOutcome, outcome_suits}
+use Rattle.ov_given.specs.Naming.{Naming}
+use Rattle.ov_stage.specs.Staging.{Stage}
 use Rattle.ov_stage.specs.Errors.{error_view}
 use Rattle.ov_txn.specs.Results.{nulls_after}
-use Rattle.ov_txn.proofs.Ending.{completed, unchanged}
-use Rattle.ov_txn.proofs.Performing.{items_at, at_does, at_fails, at_end}
+use Rattle.ov_txn.proofs.Ending.{unchanged, ends_as}
+use Rattle.ov_txn.proofs.Performing.{prefixed_none, items_at, at_does, at_fails, at_end}
 use Rattle.ov_txn.proofs.perform.perform_operations.Goals as goal
+
+pub loop-place-init : goal.loop-place-init
+loop-place-init c =
+    let version = c.in-Some.version.now in
+    let draws : c.args.txn.now.draws ≡ version ∷ c.in-Some.ids.now = sym c.draws.ensures ∙ c.in-Some.ensures.cases.0 in
+    let drawn = subst (λ (xs : List Uuid). list_all is_uuid xs ≡ true) draws c.requires.drawn in
+    record {
+      going = rw (draws, c.new-results.ensures, c.in_ok-inserts.ensures, c.with_indexes-stage.ensures, c.as_slice-operations.ensures.same, c.operations-2.ensures, c.operations.ensures) (prefixed_none _);
+      before = ap (λ (s : Stage). s.before) c.with_indexes-stage.ensures;
+      drawn = subst (λ (n : Naming). list_all is_uuid (version ∷ n.ids) ≡ true) (sym c.in_ok-inserts.ensures) drawn;
+      suits = subst (λ (s : Stage). Suits c.args.schema.now s.now) (sym c.with_indexes-stage.ensures) c.requires.suits;
+    }
 
 pub returns-in-Fault : goal.returns-in-Fault
 returns-in-Fault c =
@@ -40,18 +62,29 @@ loop-place-preserved c =
     let all : TransactionOutcome = transaction c.args.schema.now before c.args.txn.now.draws c.args.age c.args.txn.now.operations in
     let does : outcome_of (context before) i rows (view tree) ≡ Done c.in-Done.result c.run_op.new.stage.now =
     ap (λ (db : Database). outcome_of (context db) i rows (view tree)) (sym c.loop-place.invariant.before) ∙ c.in-Done.ensures.done in
+    let drawn = and_parts (is_uuid c.in-Some.version.now) (list_all is_uuid c.in_ok-inserts.inserts.ids) c.loop-place.invariant.drawn in
     record {
       going = rw c.in_ok-push-in-Done.ensures (at_does (context before) all i rows (items_view (drop i trees)) c.loop-place.results c.loop-place.invariant.going (view tree) c.in-Done.result (items_view (drop (i + 1) trees)) c.run_op.new.stage.now
           (items_at trees i tree within c.index-operations-place.is) does);
       before = c.in-Done.ensures.frame ∙ c.loop-place.invariant.before;
+      drawn = c.loop-place.invariant.drawn;
+      suits = subst (SuitsOutcome c.args.schema.now) does
+          (outcome_suits (context before) c.requires.suits drawn.0 drawn.1 rows c.loop-place.invariant.suits i (view tree));
     }
+
+pub end-requires-clause-whole : goal.end-requires-clause-whole
+end-requires-clause-whole c = subst (λ (db : Database). is_whole c.args.schema.now db ≡ true) (sym c.loop-place.invariant.before) c.requires.whole
+
+pub end-requires-clause-linked : goal.end-requires-clause-linked
+end-requires-clause-linked c = subst (λ (db : Database). AreLinksOf c.args.schema.now db c.args.links.now) (sym c.loop-place.invariant.before) c.requires.linked
 
 pub returns : goal.returns
 returns c =
     let before = c.args.rows.now in
     let trees = c.as_slice-operations.result.now in
     let i = c.loop-place.place in
-    let context : OpContext = record { schema = c.args.schema.now; before = before; version = c.in-Some.version.now; ids = c.in_ok-inserts.inserts.ids; operations = c.in_ok-inserts.inserts.operations; age = c.args.age } in
+    let version = c.in-Some.version.now in
+    let context : OpContext = record { schema = c.args.schema.now; before = before; version = version; ids = c.in_ok-inserts.inserts.ids; operations = c.in_ok-inserts.inserts.operations; age = c.args.age } in
     let all : TransactionOutcome = transaction c.args.schema.now before c.args.txn.now.draws c.args.age c.args.txn.now.operations in
     let ends = at_end context all i c.loop-place.stage.now (items_view (drop i trees)) c.loop-place.results c.loop-place.invariant.going (ap items_view (drop_all i trees (omega arith))) in
-    completed all c.loop-place.stage.before c.loop-place.stage.now before c.loop-place.results c.into_delta-2.result c.loop-place.invariant.before c.into_delta-2.ensures.made c.into_delta-2.ensures.least ends
+    IfOk-weaker c.end.result _ _ (λ p h. ends_as c.args.schema.now version c.loop-place.stage.before c.loop-place.stage.now before c.loop-place.results all p c.loop-place.invariant.before ends h) c.end.ensures

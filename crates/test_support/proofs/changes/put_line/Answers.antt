@@ -1,21 +1,31 @@
-use Rattle.std.proofs.Common.{◌≡◌, None, Some, sym, ap, subst, ◌∙◌}
-use Rattle.std.proofs.lemmas.Option.{same_Some}
-use Rattle.std.specs.FinMap.{empty, insert}
-use Rattle.ov_specs.specs.rows.Database.{Row}
-use Rattle.ov_specs.specs.rows.Suits.{SuitsRow}
+use Rattle.std.proofs.Common.{◌≡◌, Some, sym, ap, subst, ◌∙◌}
+use Rattle.std.specs.FinMap.{insert}
 use Rattle.ov_keeper.specs.Views.{line_entry}
-use Rattle.ov_db.specs.Changing.{Delta, SuitsChanges}
-use Rattle.ov_db.proofs.Keeping.{one_change_suits}
-use Rattle.ov_db.proofs.StoredSuits.{stored_row_suits}
+use Rattle.ov_db.specs.Stored.{row_stored}
+use Rattle.ov_specs.specs.rows.Database.{Database, Row, Columns}
+use Rattle.ov_specs.specs.rows.Lines.{LineKey}
+use Rattle.ov_specs.specs.rows.Suits.{Suits}
+use Rattle.ov_specs.specs.rows.Version.{row_now}
+use Rattle.ov_specs.specs.schema.SchemaTypes.{Schema}
+use Rattle.ov_stage.specs.Staging.{Stage}
+use Rattle.test_support.proofs.Commits.{put_suits}
 use Rattle.test_support.proofs.changes.put_line.Goals as goal
 
-pub returns : goal.returns
-returns c =
-    let schema = c.args.schema.now in
+pub finished-requires-clause-suits : goal.finished-requires-clause-suits
+finished-requires-clause-suits g c =
+    let schema = c.args.db.now.schema in
     let entry = line_entry c.args.line.now in
-    let row = c.in_ok-row.row in
+    let row : Row = c.in_ok-row.row in
+    let stored = subst (λ (x : Schema). row_stored x entry.0 entry.1 ≡ Some row) c.schema.ensures c.in_ok-row.ensures in
     let key : c.in_ok-key.key ≡ entry.0 = c.in_ok-key.ensures ∙ ap (λ table. (table, c.args.line.now.id)) c.as_str.ensures in
-    let suits : SuitsRow schema entry.0 row = stored_row_suits schema entry.0 entry.1 row c.has_sixteen_bytes.ensures c.has_sixteen_bytes-2.ensures c.in_ok-row.ensures in
-    let is : c.insert.new.self ≡ insert empty entry.0 (Some row) =
-    c.in_ok-insert.ensures.ok ∙ ap (λ (delta : Delta). insert delta c.in_ok-key.key (Some row)) c.new-delta.ensures ∙ ap (λ k. insert empty k (Some row)) key in
-    subst (λ (delta : Delta). SuitsChanges schema delta) (sym is) (one_change_suits schema entry.0 (Some row) (λ r e. subst (λ (x : Row). SuitsRow schema entry.0 x) (same_Some row r e) suits))
+    let first : Stage = c.new-stage.result in
+    let at_first : first ≡ record { before = c.args.db.now.committed; now = c.args.db.now.committed } =
+    c.new-stage.ensures ∙ ap (λ (rows : Database). record { before = rows; now = rows }) c.rows.ensures in
+    let columns : c.row.inside.columns ≡ row.columns = ap (λ (r : Row). r.columns) c.row.view_is in
+    let put : c.put.new.self.now ≡ insert first.now c.in_ok-key.key (row_now first.before c.args.line.now.version c.in_ok-key.key row.columns) =
+    ap (λ (s : Stage). s.now) c.in_ok-put.ensures.ok ∙ ap (λ (x : Columns). insert first.now c.in_ok-key.key (row_now first.before c.args.line.now.version c.in_ok-key.key x)) columns in
+    let over : c.put.new.self.now ≡ insert c.args.db.now.committed entry.0 (row_now c.args.db.now.committed entry.1.0 entry.0 row.columns) =
+    put ∙ ap (λ (s : Stage). insert s.now c.in_ok-key.key (row_now s.before entry.1.0 c.in_ok-key.key row.columns)) at_first
+    ∙ ap (λ (k : LineKey). insert c.args.db.now.committed k (row_now c.args.db.now.committed entry.1.0 k row.columns)) key in
+    subst (λ (rows : Database). Suits schema rows) (sym over)
+    (put_suits schema c.args.db.now.committed entry.0 entry.1 row c.kept.ensures.committed_kept.suits c.has_sixteen_bytes.ensures c.has_sixteen_bytes-2.ensures stored)

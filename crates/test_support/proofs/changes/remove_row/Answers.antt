@@ -1,14 +1,15 @@
-use Rattle.std.proofs.Common.{◌≡◌, None, Some, sym, ap, subst, ◌∙◌}
-use Rattle.std.specs.FinMap.{empty, insert}
-use Rattle.ov_specs.specs.rows.Database.{Row}
-use Rattle.ov_db.specs.Changing.{Delta, SuitsChanges}
-use Rattle.ov_db.proofs.Keeping.{one_change_suits}
+use Rattle.std.proofs.Common.{◌≡◌, sym, ap, subst, ◌∙◌}
+use Rattle.std.specs.FinMap.{remove}
+use Rattle.ov_specs.specs.rows.Database.{Database}
+use Rattle.ov_specs.specs.rows.Suits.{Suits}
+use Rattle.ov_stage.specs.Staging.{Stage}
+use Rattle.ov_specs.proofs.laws.FoundRows.{one_row_less}
 use Rattle.test_support.proofs.changes.remove_row.Goals as goal
 
-none_put : (row : Row) → None ≡ Some row → ⊥
-none_put row e = cc
-
-pub returns : goal.returns
-returns c =
-    let is : c.insert.new.self ≡ insert empty c.in_ok-key.key None = c.in_ok-insert.ensures.ok ∙ ap (λ (delta : Delta). insert delta c.in_ok-key.key None) c.new-delta.ensures in
-    subst (λ (delta : Delta). SuitsChanges c.args.schema.now delta) (sym is) (one_change_suits c.args.schema.now c.in_ok-key.key None (λ row e. absurd (none_put row e)))
+pub finished-requires-clause-suits : goal.finished-requires-clause-suits
+finished-requires-clause-suits g c =
+    let schema = c.args.db.now.schema in
+    let before = c.args.db.now.committed in
+    let at_first = ap (λ (s : Stage). s.now) c.new-stage.ensures ∙ c.rows.ensures in
+    let is = ap (λ (s : Stage). s.now) c.in_ok-remove.ensures.ok ∙ ap (λ (rows : Database). remove rows c.in_ok-key.key) at_first in
+    subst (λ (rows : Database). Suits schema rows) (sym is) (one_row_less schema before c.in_ok-key.key c.kept.ensures.committed_kept.suits)

@@ -5,4 +5,4 @@ pub returns-clause-held : goal.returns-clause-held
 returns-clause-held g c = rw (← c.self.view_is) c.self.invariant.0
 
 pub returns-clause-found : goal.returns-clause-found
-returns-clause-found g c = rw (← c.self.view_is) (λ honest. found_rows _ c.self.inside.schema c.self.inside.rows _ (c.self.invariant.0 honest) c.self.invariant.1)
+returns-clause-found g c = rw (← c.self.view_is) (λ honest. found_rows _ c.self.inside.schema c.self.inside.resident.rows _ (c.self.invariant.0 honest) c.self.invariant.1)

@@ -5,4 +5,4 @@ use Rattle.ov_stage.proofs.Stages.{least}
 use Rattle.ov_stage.proofs.stage.Stage.into_delta.Goals as goal
 
 pub returns-clause-least : goal.returns-clause-least
-returns-clause-least c = least c.self.inside.delta c.self.inside.rows.now c.self.invariant ∙ ap (λ (s : Stage). same_database s.before s.now) c.self.view_is
+returns-clause-least c = least c.self.inside.delta c.self.inside.rows.now c.self.invariant.0 ∙ ap (λ (s : Stage). same_database s.before s.now) c.self.view_is

@@ -6,7 +6,7 @@ use Rattle.ov_stage.proofs.Stages.{applied-empty, differs-empty}
 use Rattle.ov_stage.proofs.stage.Stage.new.Goals as goal
 
 pub invariant_of-result : goal.invariant_of-result
-invariant_of-result c = subst (λ (d : Delta). Differs d c.args.rows.now) (sym c.new.ensures) (differs-empty c.args.rows.now)
+invariant_of-result c = (subst (λ (d : Delta). Differs d c.args.rows.now) (sym c.new.ensures) (differs-empty c.args.rows.now), tt)
 
 pub returns : goal.returns
 returns c =

@@ -9,7 +9,7 @@ use Rattle.ov_stage.proofs.stage.Stage.put.Goals as goal
 
 pub invariant_of-self : goal.invariant_of-self
 invariant_of-self c =
-    subst (λ (d : Delta). Differs d c.self.inside.rows.now) (sym c.remove.ensures) (differs-remove c.self.inside.delta c.self.inside.rows.now c.args.key c.self.invariant)
+    (subst (λ (d : Delta). Differs d c.self.inside.rows.now) (sym c.remove.ensures) (differs-remove c.self.inside.delta c.self.inside.rows.now c.args.key c.self.invariant.0), c.self.invariant.1)
 
 pub returns-then-is_former-clause-ok : goal.returns-then-is_former-clause-ok
 returns-then-is_former-clause-ok c =
@@ -23,9 +23,11 @@ returns-then-is_former-clause-ok c =
 pub invariant_of-self-2 : goal.invariant_of-self-2
 invariant_of-self-2 c =
     let before = c.self.inside.rows.now in
-    let changed : has_columns c.args.columns (get before c.args.key) ≡ false = sym c.is_former.ensures ∙ c.if-is_former.false in
-    subst (λ (d : Delta). Differs d before) (sym c.in_ok-insert.ensures.ok)
-    (differs-insert c.self.inside.delta before c.args.key (Some (record { version = c.args.version; columns = c.args.columns })) c.self.invariant (changed_differs before c.args.version c.args.key c.args.columns changed))
+    let changed : has_columns c.args.columns (get before c.args.key) ≡ false = sym c.is_former.ensures ∙ c.if-is_former.false in (
+      subst (λ (d : Delta). Differs d before) (sym c.in_ok-insert.ensures.ok)
+          (differs-insert c.self.inside.delta before c.args.key (Some (record { version = c.args.version; columns = c.args.columns })) c.self.invariant.0 (changed_differs before c.args.version c.args.key c.args.columns changed)),
+      c.self.invariant.1,
+    )
 
 pub returns-clause-ok : goal.returns-clause-ok
 returns-clause-ok c =

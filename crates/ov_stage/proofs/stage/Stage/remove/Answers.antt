@@ -9,7 +9,7 @@ use Rattle.ov_stage.proofs.stage.Stage.remove.Goals as goal
 
 pub invariant_of-self : goal.invariant_of-self
 invariant_of-self c =
-    subst (λ (d : Delta). Differs d c.self.inside.rows.now) (sym c.remove.ensures) (differs-remove c.self.inside.delta c.self.inside.rows.now c.args.key c.self.invariant)
+    (subst (λ (d : Delta). Differs d c.self.inside.rows.now) (sym c.remove.ensures) (differs-remove c.self.inside.delta c.self.inside.rows.now c.args.key c.self.invariant.0), c.self.invariant.1)
 
 pub returns-then-not-contains-clause-ok : goal.returns-then-not-contains-clause-ok
 returns-then-not-contains-clause-ok c =
@@ -21,9 +21,11 @@ returns-then-not-contains-clause-ok c =
 
 pub invariant_of-self-2 : goal.invariant_of-self-2
 invariant_of-self-2 c =
-    let before = c.self.inside.rows.now in
-    subst (λ (d : Delta). Differs d before) (sym c.in_ok-insert.ensures.ok)
-    (differs-insert c.self.inside.delta before c.args.key None c.self.invariant (removed_differs before c.args.key (sym c.contains.ensures ∙ c.if-not-contains.false)))
+    let before = c.self.inside.rows.now in (
+      subst (λ (d : Delta). Differs d before) (sym c.in_ok-insert.ensures.ok)
+          (differs-insert c.self.inside.delta before c.args.key None c.self.invariant.0 (removed_differs before c.args.key (sym c.contains.ensures ∙ c.if-not-contains.false))),
+      c.self.invariant.1,
+    )
 
 pub returns-clause-ok : goal.returns-clause-ok
 returns-clause-ok c =

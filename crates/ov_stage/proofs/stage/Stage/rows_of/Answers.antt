@@ -1,51 +1,23 @@
-use Rattle.std.proofs.Common.{T, map, sym, ap, subst, ◌∙◌}
+use Rattle.std.proofs.Common.{T, sym, ap, subst, ◌∙◌}
 use Rattle.std.proofs.lemmas.Result.{IfOk-weaker}
-use Rattle.std.specs.FinMap.{entries, is_sorted, len}
+use Rattle.std.specs.FinMap.{entries, is_sorted}
 use Rattle.std.specs.List.{filter}
-use Rattle.ov_db.specs.Changing.{with_rows}
-use Rattle.ov_rows.specs.Lending.{lent_row, lent_row_of}
-use Rattle.ov_rows.specs.Resident.{database_of}
-use Rattle.ov_db.proofs.Places.{Changes}
 use Rattle.ov_specs.specs.rows.Database.{Database}
 use Rattle.ov_specs.specs.rows.Lines.{line_cmp}
 use Rattle.std.specs.Str.{bytes_eq}
+use Rattle.ov_stage.specs.Asked.{rows_after}
 use Rattle.ov_stage.specs.Staging.{Stage}
-use Rattle.ov_stage.proofs.Merging.{Entries, keyed, keyed-map, ids_sorted, merged_is, its_changes_sorted, its_rows_sorted, of_table_after}
-use Rattle.ov_stage.proofs.Stages.{applied-none}
+use Rattle.ov_stage.proofs.Merging.{Entries, its_rows_sorted, of_table_after}
 use Rattle.ov_stage.proofs.stage.Stage.rows_of.Goals as goal
-use Rattle.ov_specs.proofs.laws.Truths.{zero_is}
 
-pub returns-then-is_empty : goal.returns-then-is_empty
-returns-then-is_empty c =
-    let rows_of : Database → Entries = λ db. filter (λ r. bytes_eq r.0.0 c.args.table.now) (entries db) in
-    let none = zero_is (len c.self.inside.delta) (sym c.is_empty.ensures ∙ c.if-is_empty.true) in
-    c.in_ok-rows.ensures ∙ ap rows_of (sym (applied-none c.self.inside.delta c.self.inside.rows.now none)) ∙ ap (λ (s : Stage). rows_of s.now) c.self.view_is
-
-pub merged-requires-clause-rows : goal.merged-requires-clause-rows
-merged-requires-clause-rows c =
-    let table = c.args.table.now in
-    let rows = c.as_slice.result.now in
-    let keyed_rows = keyed-map table lent_row rows ∙ ap (map (lent_row_of table)) c.as_slice.ensures.value ∙ c.in_ok-rows.ensures in
-    ids_sorted table (map lent_row rows) (subst (λ (es : Entries). T (is_sorted line_cmp es)) (sym keyed_rows) (its_rows_sorted table c.self.inside.delta c.self.inside.rows.now))
-
-pub merged-requires-clause-changes : goal.merged-requires-clause-changes
-merged-requires-clause-changes c =
-    let table = c.args.table.now in
-    let changes = c.as_slice-2.result.now in
-    let keyed_changes = keyed-map table (λ r. (r.0.now, r.1.now)) changes ∙ ap (map (λ r. ((table, r.0.now), r.1.now))) c.as_slice-2.ensures.value ∙ c.in_ok-changes.ensures in
-    ids_sorted table (map (λ r. (r.0.now, r.1.now)) changes) (subst (λ (cs : Changes). T (is_sorted line_cmp cs)) (sym keyed_changes) (its_changes_sorted table c.self.inside.delta c.self.inside.rows.now))
+pub rows_after-requires : goal.rows_after-requires
+rows_after-requires c =
+    subst (λ (es : Entries). T (is_sorted line_cmp es)) (sym c.in_ok-rows.ensures) (its_rows_sorted c.args.table.now c.self.inside.delta c.self.inside.rows.now)
 
 pub returns : goal.returns
 returns c =
     let table = c.args.table.now in
     let rows_of : Database → Entries = λ db. filter (λ r. bytes_eq r.0.0 table) (entries db) in
-    let rows = c.as_slice.result.now in
-    let changes = c.as_slice-2.result.now in
-    let keyed_rows = keyed-map table lent_row rows ∙ ap (map (lent_row_of table)) c.as_slice.ensures.value ∙ c.in_ok-rows.ensures in
-    let keyed_changes = keyed-map table (λ r. (r.0.now, r.1.now)) changes ∙ ap (map (λ r. ((table, r.0.now), r.1.now))) c.as_slice-2.ensures.value ∙ c.in_ok-changes.ensures in
-    let sorted : T (is_sorted line_cmp (keyed table (map lent_row rows))) = subst (λ (es : Entries). T (is_sorted line_cmp es)) (sym keyed_rows) (its_rows_sorted table c.self.inside.delta c.self.inside.rows.now) in
-    IfOk-weaker c.merged.result _ _ (λ merged h.
-    sym (keyed-map table lent_row merged.items) ∙ ap (keyed table) h ∙ merged_is table (map (λ r. (r.0.now, r.1.now)) changes) (map lent_row rows) sorted
-    ∙ ap (λ (cs : Changes). entries (with_rows cs (database_of (keyed table (map lent_row rows))))) keyed_changes
-    ∙ ap (λ (es : Entries). entries (with_rows (filter (λ r. bytes_eq r.0.0 table) (entries c.self.inside.delta)) (database_of es))) keyed_rows
-    ∙ of_table_after table c.self.inside.delta c.self.inside.rows.now ∙ ap (λ (s : Stage). rows_of s.now) c.self.view_is) c.merged.ensures
+    IfOk-weaker c.rows_after.result _ _ (λ after h.
+    h ∙ ap (rows_after c.self.inside.delta table) c.in_ok-rows.ensures ∙ of_table_after table c.self.inside.delta c.self.inside.rows.now
+    ∙ ap (λ (s : Stage). rows_of s.now) c.self.view_is) c.rows_after.ensures

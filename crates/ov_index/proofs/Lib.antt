@@ -1,0 +1,10 @@
+pub mod IdSets
+pub mod IndexMaps
+pub mod Kept
+pub mod RowEntries
+pub mod Placed
+pub mod MapEntries
+pub mod TwoAlike
+pub mod Duplicates
+pub mod TwoIds
+pub mod MadeAlike

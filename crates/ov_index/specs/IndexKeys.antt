@@ -1,0 +1,49 @@
+-- The places in indexes at which rows stand, and their order. What names no source is our own.
+use Rattle.std.specs.Prelude.{ℕ, Bool, List, refl}
+use Rattle.std.specs.Coded.{Coded, code_by, coded×, coded_ℕ, coded_list}
+use Rattle.std.specs.Cmp.Lexicographic.{slice_cmp}
+use Rattle.std.specs.FinMap.{get}
+use Rattle.std.specs.List.{filter_map}
+use Rattle.std.specs.Ordering.{nat_cmp, eq_by_cmp, ordering_then}
+use Rattle.std.specs.declared.cmp.Ordering.{Ordering}
+use Rattle.ov_specs.specs.codes.ValueCode.{datum_code}
+use Rattle.ov_specs.specs.rows.Database.{Columns}
+use Rattle.ov_specs.specs.values.Uuid.{Uuid}
+use Rattle.ov_specs.specs.values.Value.{Datum, datum_cmp}
+
+-- a table, the number of one of its indexes, and values of the columns of that index (RFC 7047, 3.2, <table-schema>, indexes)
+pub record IndexKey : Type 0 where
+  pub table : List ℕ
+  pub number : ℕ
+  pub values : List Datum
+
+-- keys in order: by the bytes of the table's name, then by the number, then by the values, one after another
+abbrev pub index_cmp : IndexKey → IndexKey → Ordering
+index_cmp a b = ordering_then (slice_cmp nat_cmp a.table b.table) (ordering_then (nat_cmp a.number b.number) (slice_cmp datum_cmp a.values b.values))
+
+-- the same key
+abbrev pub same_index_key : IndexKey → IndexKey → Bool
+same_index_key a b = eq_by_cmp index_cmp a b
+
+-- the values in the columns of an index, in the index's order. A row of the schema has a value for each of them.
+abbrev pub values_in : List (List ℕ) → Columns → List Datum
+values_in index columns = filter_map (λ name. get columns name) index
+
+-- where columns of a row of the table of this name stand in the index of this number
+abbrev pub key_at : List ℕ → ℕ → List (List ℕ) → Columns → IndexKey
+key_at table number index columns = record { table = table; number = number; values = values_in index columns }
+
+-- a key, and the identifier of a row that stands there
+pub record IndexEntry : Type 0 where
+  pub key : IndexKey
+  pub id : Uuid
+
+-- ---- how models store them
+
+abbrev pub index_key_code : Coded IndexKey
+index_key_code =
+    code_by (List ℕ × (ℕ × List Datum)) (coded× (coded_list coded_ℕ) (coded× coded_ℕ (coded_list datum_code)))
+    (λ k. (k.table, (k.number, k.values))) (λ p. record { table = p.0; number = p.1.0; values = p.1.1 }) (λ _. refl)
+
+abbrev pub index_entry_code : Coded IndexEntry
+index_entry_code = code_by (IndexKey × Uuid) (coded× index_key_code (coded_list coded_ℕ)) (λ e. (e.key, e.id)) (λ p. record { key = p.0; id = p.1 }) (λ _. refl)

@@ -1,0 +1,92 @@
+-- Rows by their values in the indexes of their tables, as a map. What names no source is our own.
+use Rattle.std.specs.Prelude.{◌≡◌, ◌==◌, List, [], ◌∷◌, map, Bool, if◌then◌else◌, Option, Some, None, slice_get, unwrap_or}
+use Rattle.std.specs.Coded.{Coded, coded_ℕ, coded_list}
+use base.Stored.{coded_unit}
+use Rattle.std.specs.FinMap as map
+use Rattle.std.specs.FinMap.{FinMap, empty, get, contains_key, insert, remove, len}
+use Rattle.ov_rows.specs.Nested.{id_cmp}
+use Rattle.ov_index.specs.IndexKeys.{IndexKey, IndexEntry, index_cmp, same_index_key, key_at, index_key_code}
+use Rattle.ov_specs.specs.rows.Database.{Columns, Row, Database}
+use Rattle.ov_specs.specs.rows.Lines.{LineKey}
+use Rattle.ov_specs.specs.schema.Schema.{is_some_and}
+use Rattle.ov_specs.specs.schema.SchemaTypes.{Schema}
+use Rattle.ov_specs.specs.values.Uuid.{Uuid}
+
+-- a set of identifiers
+abbrev pub IdSet : Type 0
+IdSet = FinMap id_cmp (Unit {0})
+
+-- for each key the rows that stand there
+abbrev pub Indexes : Type 0
+Indexes = FinMap index_cmp IdSet
+
+-- the rows at the key
+abbrev pub ids_at : Indexes → IndexKey → IdSet
+ids_at indexes key = unwrap_or (get indexes key) empty
+
+-- the row of this identifier is kept at the key
+abbrev pub is_indexed : Indexes → IndexKey → Uuid → Bool
+is_indexed indexes key id = is_some_and (λ ids. contains_key ids id) (get indexes key)
+
+-- ---- of which rows they are
+
+-- a row of these columns stands at the key: its table has an index of the key's number, and there the values are those of the key
+abbrev pub stands_at : Schema → LineKey → Columns → IndexKey → Bool
+stands_at schema at columns key =
+    is_some_and (λ table. is_some_and (λ index. same_index_key (key_at at.0 key.number index columns) key) (slice_get table.indexes key.number)) (get schema.tables at.0)
+
+-- the row stands at the key
+abbrev pub is_at : Schema → LineKey × Row → IndexKey → Bool
+is_at schema r key = stands_at schema r.0 r.1.columns key
+
+-- there is a row of this identifier in the key's table, and it stands at the key
+abbrev pub is_in : Schema → Database → IndexKey → Uuid → Bool
+is_in schema rows key id = is_some_and (λ row. is_at schema ((key.table, id), row) key) (get rows (key.table, id))
+
+-- just the rows that stand at a key are kept there
+abbrev pub AreIndexesOf : Schema → Database → Indexes → Type 0
+AreIndexesOf schema rows indexes = (key : IndexKey) (id : Uuid) → is_indexed indexes key id ≡ is_in schema rows key id
+
+-- ---- entries that are taken out
+
+-- with the row of the entry taken out of those at its key
+abbrev pub lacking : Option IdSet → IndexEntry → Indexes → Indexes
+lacking None entry indexes = indexes
+lacking (Some ids) entry indexes = insert indexes entry.key (remove ids entry.id)
+
+-- there is such a key, and no row there
+abbrev pub has_none : Option IdSet → Bool
+has_none ids = is_some_and (λ set. len set == 0) ids
+
+-- without the key, if no row is left there
+abbrev pub without_none : IndexKey → Indexes → Indexes
+without_none key indexes = if has_none (get indexes key) then remove indexes key else indexes
+
+-- without the entry
+abbrev pub without_entry : IndexEntry → Indexes → Indexes
+without_entry entry indexes = without_none entry.key (lacking (get indexes entry.key) entry indexes)
+
+-- without these entries
+abbrev pub without_entries : List IndexEntry → Indexes → Indexes
+without_entries [] indexes = indexes
+without_entries (entry ∷ entries) indexes = without_entries entries (without_entry entry indexes)
+
+-- ---- how models store them
+
+-- an identifier as an entry of a set
+abbrev pub marked : Uuid → Uuid × Unit {0}
+marked id = (id, tt)
+
+-- the set of an ascending list
+abbrev pub set_of_ids : List Uuid → IdSet
+set_of_ids ids = map.from_sorted {R = id_cmp} (map marked ids)
+
+-- the map of an ascending list
+abbrev pub indexes_of : List (IndexKey × IdSet) → Indexes
+indexes_of es = map.from_sorted {R = index_cmp} es
+
+abbrev pub id_set_code : Coded IdSet
+id_set_code = map.code (coded_list coded_ℕ) coded_unit
+
+abbrev pub indexes_code : Coded Indexes
+indexes_code = map.code index_key_code id_set_code

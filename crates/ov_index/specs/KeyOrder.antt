@@ -1,0 +1,30 @@
+-- The order of keys of indexes is total, and only a key ties with itself.
+use Rattle.std.specs.Prelude.{◌≡◌, refl}
+use Rattle.std.specs.Cmp.{IsTotalOrder, nat_cmp_total, on_total, then_total}
+use Rattle.std.specs.Cmp.Lexicographic.{lists_total, nat_list_cmp_total}
+use Rattle.std.specs.FinMap.{IsAntisymmetric, nat_cmp-IsAntisymmetric, slice_cmp-IsAntisymmetric}
+use Rattle.std.specs.Ordering.{ordering_then}
+use Rattle.std.specs.declared.cmp.Ordering.{Ordering}
+use Rattle.std.specs.declared.cmp.Ordering.TheVariants.{Less, Equal, Greater}
+use Rattle.ov_specs.proofs.laws.DatumOrder.{datum_cmp_total, datum_cmp-IsAntisymmetric}
+use Rattle.ov_index.specs.IndexKeys.{IndexKey, index_cmp}
+
+pub index_total : IsTotalOrder index_cmp
+index_total =
+    then_total (on_total (λ (k : IndexKey). k.table) nat_list_cmp_total)
+    (then_total (on_total (λ (k : IndexKey). k.number) nat_cmp_total) (on_total (λ (k : IndexKey). k.values) (lists_total datum_cmp_total)))
+
+both_Equal : (o p : Ordering) → ordering_then o p ≡ Equal → (o ≡ Equal) × (p ≡ Equal)
+both_Equal Less p e = cc
+both_Equal Equal p e = (refl, e)
+both_Equal Greater p e = cc
+
+pub index_exact : IsAntisymmetric index_cmp
+index_exact a b e =
+    let table = both_Equal _ _ e in
+    let rest = both_Equal _ _ table.1 in
+    λ i. record {
+      table = slice_cmp-IsAntisymmetric nat_cmp-IsAntisymmetric a.table b.table table.0 i;
+      number = nat_cmp-IsAntisymmetric a.number b.number rest.0 i;
+      values = slice_cmp-IsAntisymmetric datum_cmp-IsAntisymmetric a.values b.values rest.1 i;
+    }

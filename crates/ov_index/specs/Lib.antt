@@ -1,0 +1,5 @@
+pub mod IndexKeys
+pub mod KeyOrder
+pub mod Indexing
+pub mod Changing
+pub mod Collecting

@@ -1,0 +1,221 @@
+ghost use Rattle.std.specs.Prelude.{◌≡◌, ◌&&◌, ◌||◌, option_copied, IfOk, OnOk, OnErr};
+ghost use Rattle.std.specs.FinMap.{empty, get, remove, entries};
+ghost use Rattle.std.specs.Str.{bytes_eq};
+ghost use Rattle.ov_index.specs.Collecting.{entries_in, with_entry, with_entries, with_rows, has_indexes};
+ghost use Rattle.ov_index.specs.IndexKeys as keys;
+ghost use Rattle.ov_index.specs.Indexing.{AreIndexesOf, is_indexed, stands_at, lacking, has_none, without_entry, without_entries};
+ghost use Rattle.ov_rows.specs.Nested.{in_table};
+ghost use Rattle.ov_specs.specs.values.Uuid as id;
+
+use crate::entry::{IndexEntry, entries_of};
+use crate::id_set::IdSet;
+use crate::key::IndexKey;
+use ov_rows::{Columns, RowKey, Rows, TableRows};
+use ov_schema::Schema;
+use std::alloc::{AllocError, Global};
+use std::collections::BTreeMap;
+use std::marker::Model;
+use uuid::Uuid;
+
+/// The rows of a database by their values in the indexes of their tables (RFC 7047, 3.2, `<table-schema>`, indexes). Where a
+/// database keeps its limits there is one row at each key; during a commit there may be more.
+#[derive(Drop)]
+pub struct Indexes {
+    of: BTreeMap<IndexKey, IdSet>,
+}
+
+impl Model for Indexes {
+    ghost use Rattle.std.specs.Prelude.{T};
+    ghost use Rattle.std.specs.FinMap.{is_sorted};
+    ghost use Rattle.ov_index.specs.IndexKeys.{index_cmp};
+    ghost use Rattle.ov_index.specs.Indexing as indexing;
+    ghost use Rattle.ov_index.specs.Indexing.{indexes_code, indexes_of};
+
+    ghost Value = { indexing.Indexes };
+
+    ghost coded = { indexes_code };
+
+    ghost view = { λ i. indexes_of i.of.entries };
+
+    ghost invariant = { λ i. T (is_sorted index_cmp i.of.entries) };
+}
+
+impl Indexes {
+    /// No row at any key.
+    pub fn new(alloc: Global) -> Indexes
+        ensures { result ≡ empty }
+    {
+        Indexes {
+            of: BTreeMap::new(alloc),
+        }
+    }
+
+    /// The rows at the key, if there is one.
+    pub fn at(&self, key: &IndexKey) -> Option<&IdSet>
+        ensures { option_copied result ≡ get self.now key.now }
+    {
+        self.of.get(key)
+    }
+
+    /// All keys at which rows stand, ascending, with these rows.
+    pub fn map(&self) -> &BTreeMap<IndexKey, IdSet>
+        ensures { result.now.entries ≡ entries self.now }
+    {
+        &self.of
+    }
+
+    /// Whether the row of this identifier is kept at the key.
+    pub fn contains(&self, key: &IndexKey, id: Uuid) -> bool
+        ensures { result ≡ is_indexed self.now key.now id }
+    {
+        match self.at(key) {
+            Some(ids) => ids.contains(id),
+            None => false,
+        }
+    }
+
+    /// One more row at the key of the entry, unless it is there. Where a growth is refused, nothing is changed.
+    pub(crate) fn add(&mut self, alloc: Global, entry: IndexEntry) -> Result<(), AllocError>
+        ensures ok { OnOk result (self.new ≡ with_entry entry self.old) }
+        ensures err { OnErr result (self.new ≡ self.old) }
+    {
+        let IndexEntry { key, id } = entry;
+        match self.of.get_mut(&key) {
+            Some(ids) => ids.insert(id),
+            None => {
+                self.of.insert(key, IdSet::of(alloc, id)?)?;
+                Ok(())
+            }
+        }
+    }
+
+    /// With these entries.
+    fn add_all(&mut self, alloc: Global, entries: Vec<IndexEntry>) -> Result<(), AllocError>
+        ensures { OnOk result (self.new ≡ with_entries entries.items self.old) }
+    {
+        for entry in entries {
+            self.add(alloc, entry)?;
+        }
+        Ok(())
+    }
+
+    /// With the row of this key, which has these columns, at its keys.
+    pub(crate) fn put_row(
+        &mut self,
+        alloc: Global,
+        schema: &Schema,
+        key: &RowKey,
+        columns: &Columns,
+    ) -> Result<(), AllocError>
+        ensures { OnOk result (self.new ≡ with_entries (entries_in (get schema.now.tables key.now.0) key.now columns.now) self.old) }
+    {
+        self.add_all(alloc, entries_of(alloc, schema, key, columns)?)
+    }
+
+    /// With the row of this key, which has these columns, at its keys.
+    pub fn add_row(
+        &mut self,
+        alloc: Global,
+        schema: &Schema,
+        key: &RowKey,
+        columns: &Columns,
+    ) -> Result<(), AllocError>
+        ensures { OnOk result ((at : keys.IndexKey) (of : id.Uuid) → is_indexed self.new at of ≡ (is_indexed self.old at of || (bytes_eq key.now.1 of && stands_at schema.now key.now columns.now at))) }
+    {
+        self.put_row(alloc, schema, key, columns)
+    }
+
+    /// With the rows of the table of this name.
+    fn add_rows(
+        &mut self,
+        alloc: Global,
+        schema: &Schema,
+        name: &str,
+        rows: &TableRows,
+    ) -> Result<(), AllocError>
+        ensures { OnOk result (self.new ≡ with_rows schema.now (in_table name.now (entries rows.now)) self.old) }
+    {
+        for (id, row) in rows.map() {
+            let key = RowKey::new(alloc, name, *id)?;
+            self.put_row(alloc, schema, &key, &row.columns)?;
+        }
+        Ok(())
+    }
+
+    /// With the rows of the table of this name, which are looked at only if it has indexes.
+    fn add_table(
+        &mut self,
+        alloc: Global,
+        schema: &Schema,
+        name: &str,
+        rows: &TableRows,
+    ) -> Result<(), AllocError>
+        ensures { OnOk result (self.new ≡ with_rows schema.now (in_table name.now (entries rows.now)) self.old) }
+    {
+        if has_indexes(schema, name) {
+            self.add_rows(alloc, schema, name, rows)
+        } else {
+            Ok(())
+        }
+    }
+
+    /// The indexes of these rows. All rows of tables that have indexes are looked at.
+    pub fn of(alloc: Global, schema: &Schema, rows: &Rows) -> Result<Indexes, AllocError>
+        ensures { IfOk result (AreIndexesOf schema.now rows.now) }
+    {
+        let mut indexes = Indexes::new(alloc);
+        for (name, table) in rows.tables() {
+            indexes.add_table(alloc, schema, name.as_str(), table)?;
+        }
+        Ok(indexes)
+    }
+
+    /// Takes the row out at the key of the entry, and answers whether no row is left there.
+    fn lose(&mut self, entry: &IndexEntry) -> bool
+        ensures lost { self.new ≡ lacking (get self.old entry.now.key) entry.now self.old }
+        ensures left { result ≡ has_none (get self.new entry.now.key) }
+    {
+        match self.of.get_mut(&entry.key) {
+            Some(ids) => {
+                ids.remove(entry.id);
+                ids.is_empty()
+            }
+            None => false,
+        }
+    }
+
+    /// Takes the key out, with all rows that stand there.
+    fn drop_key(&mut self, key: &IndexKey)
+        ensures { self.new ≡ remove self.old key.now }
+    {
+        self.of.remove(key);
+    }
+
+    /// Takes the entry out, if it is there. A key with no row left goes too.
+    fn take_one_out(&mut self, entry: &IndexEntry)
+        ensures { self.new ≡ without_entry entry.now self.old }
+    {
+        if self.lose(entry) {
+            self.drop_key(&entry.key);
+        }
+    }
+
+    /// Takes these entries out, those of them that are there. No memory is asked for.
+    pub fn take_out(&mut self, entries: &[IndexEntry])
+        ensures { self.new ≡ without_entries entries.now self.old }
+    {
+        for entry in entries {
+            self.take_one_out(entry);
+        }
+    }
+}
+
+/// Whether the table of this name has indexes.
+fn has_indexes(schema: &Schema, name: &str) -> bool
+    ensures { result ≡ has_indexes (get schema.now.tables name.now) }
+{
+    match schema.table(name) {
+        Some(table) => !table.indexes().is_empty(),
+        None => false,
+    }
+}

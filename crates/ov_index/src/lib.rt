@@ -1,0 +1,19 @@
+//! Rows by their values in the indexes of their tables (RFC 7047, 3.2, `<table-schema>`, indexes). What names no source is our
+//! own.
+#![tactic(auto)]
+
+mod alike;
+mod entry;
+mod id_set;
+mod indexes;
+mod key;
+mod limits;
+mod placing;
+
+pub use alike::are_made_alike;
+pub use entry::IndexEntry;
+pub use id_set::IdSet;
+pub use indexes::Indexes;
+pub use key::IndexKey;
+pub use limits::is_over_limits;
+pub use placing::IndexChanges;

@@ -1,0 +1,14 @@
+use Rattle.std.proofs.Common.{sym, ap, subst, ◌∙◌}
+use Rattle.ov_db.specs.Changing.{Delta, applied}
+use Rattle.ov_specs.specs.rows.Database.{Database}
+use Rattle.ov_stage.specs.Staging.{Differs, Stage}
+use Rattle.ov_stage.proofs.Stages.{applied-empty, differs-empty}
+use Rattle.ov_stage.proofs.stage.Stage.with_indexes.Goals as goal
+
+pub invariant_of-result : goal.invariant_of-result
+invariant_of-result c = (subst (λ (d : Delta). Differs d c.args.rows.now) (sym c.new.ensures) (differs-empty c.args.rows.now), c.requires.indexed)
+
+pub returns : goal.returns
+returns c =
+    let with : Database → Stage = λ db. record { before = c.args.rows.now; now = db } in
+    ap with (ap (λ (d : Delta). applied d c.args.rows.now) c.new.ensures ∙ applied-empty c.args.rows.now)

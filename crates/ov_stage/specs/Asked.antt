@@ -1,0 +1,70 @@
+-- What conditions ask for in the columns of an index, and the rows that stand there. What names no source is our own.
+use Rattle.std.specs.Prelude.{◌≡◌, true, Bool, ℕ, T, List, map, Option, Some, IfSome, option_to_list, slice_get}
+use Rattle.std.specs.FinMap.{get, entries, is_sorted}
+use Rattle.std.specs.List.{filter, flat_map, list_any}
+use Rattle.std.specs.Ordering.{eq_by_cmp}
+use Rattle.std.specs.Str.{bytes_eq}
+use Rattle.ov_db.specs.Changing.{Delta, with_rows}
+use Rattle.ov_index.specs.IndexKeys.{IndexKey, key_at, same_index_key, values_in}
+use Rattle.ov_index.specs.Indexing.{AreIndexesOf, marked}
+use Rattle.ov_rows.specs.Nested.{id_cmp}
+use Rattle.ov_rows.specs.Resident.{database_of}
+use Rattle.ov_specs.specs.operations.Conditions.{Condition}
+use Rattle.ov_specs.specs.rows.Database.{Database, Row}
+use Rattle.ov_specs.specs.rows.Lines.{LineKey}
+use Rattle.ov_specs.specs.schema.Schema.{is_some_and}
+use Rattle.ov_specs.specs.schema.SchemaTypes.{Table}
+use Rattle.ov_specs.specs.values.Uuid.{Uuid}
+use Rattle.ov_specs.specs.values.Value.{Datum}
+use Rattle.ov_stage.specs.Staging.{is_met, with_key}
+use Rattle.ov_stage.specs.declared.indexed.Indexed.{Indexed}
+
+-- ---- what each row has that meets all conditions
+
+-- it has this value in the column of this name
+abbrev pub IsValueOf : List Condition → List ℕ → Datum → Type 0
+IsValueOf conditions column value = (row : LineKey × Row) → is_met conditions row ≡ true → get row.1.columns column ≡ Some value
+
+-- it has these values in the columns of the index
+abbrev pub AreValuesOf : List Condition → List (List ℕ) → List Datum → Type 0
+AreValuesOf conditions index values = (row : LineKey × Row) → is_met conditions row ≡ true → values_in index row.1.columns ≡ values
+
+-- columns of a row of the table, which has this name, stand at the key
+abbrev pub stands_in : List ℕ → Table → Row → IndexKey → Bool
+stands_in name table row key = is_some_and (λ index. same_index_key (key_at name key.number index row.columns) key) (slice_get table.indexes key.number)
+
+-- the key is one of the table of this name, and a row of it stands there
+abbrev pub IsKeyOf : List Condition → List ℕ → Table → IndexKey → Type 0
+IsKeyOf conditions name table key = (key.table ≡ name) × ((row : LineKey × Row) → is_met conditions row ≡ true → stands_in name table row.1 key ≡ true)
+
+-- ---- rows among which they are
+
+-- identifiers that ascend
+abbrev pub Ascend : List Uuid → Type 0
+Ascend ids = T (is_sorted id_cmp (map marked ids))
+
+-- the identifier is one of these
+abbrev pub has_id : List Uuid → Uuid → Bool
+has_id ids id = list_any (eq_by_cmp id_cmp id) ids
+
+-- each row of the table of this name that meets all conditions has one of these identifiers
+abbrev pub AreIdsOf : List Condition → Database → List ℕ → List Uuid → Type 0
+AreIdsOf conditions rows table ids = (id : Uuid) (row : Row) → get rows (table, id) ≡ Some row → is_met conditions ((table, id), row) ≡ true → has_id ids id ≡ true
+
+-- the rows of these identifiers that there are in the table of this name
+abbrev pub rows_of_ids : Database → List ℕ → List Uuid → List (LineKey × Row)
+rows_of_ids rows table ids = flat_map (λ id. option_to_list (with_key (table, id) (get rows (table, id)))) ids
+
+-- the indexes are those of the rows, where there are some
+abbrev pub AreIndexesIf : Database → Option Indexed → Type 0
+AreIndexesIf rows indexed = IfSome indexed (λ i. AreIndexesOf i.schema.now rows i.indexes.now)
+
+-- ---- changes of one table
+
+-- the changes of the table of this name
+abbrev pub changes_of : Delta → List ℕ → List (LineKey × Option Row)
+changes_of delta table = filter (λ c. bytes_eq c.0.0 table) (entries delta)
+
+-- rows of the table of this name after its changes
+abbrev pub rows_after : Delta → List ℕ → List (LineKey × Row) → List (LineKey × Row)
+rows_after delta table rows = entries (with_rows (changes_of delta table) (database_of rows))

@@ -1,0 +1,102 @@
+ghost use Rattle.std.specs.Prelude.{◌≡◌, IfOk, IfSome};
+ghost use Rattle.std.specs.FinMap.{keys};
+ghost use Rattle.ov_index.specs.Indexing.{AreIndexesOf, ids_at};
+ghost use Rattle.ov_specs.specs.rows.Database as rows;
+ghost use Rattle.ov_stage.specs.Asked.{Ascend, AreIdsOf, AreValuesOf, IsKeyOf, IsValueOf};
+
+use ov_atoms::Datum;
+use ov_base::Text;
+use ov_conds::Condition;
+use ov_index::{IndexKey, Indexes};
+use ov_schema::{Schema, Table, is_own};
+use std::alloc::{AllocError, Global};
+use uuid::Uuid;
+
+/// The indexes of rows, and the schema that says of which columns they are.
+#[derive(Clone, Copy)]
+pub(crate) struct Indexed<'a> {
+    pub(crate) schema: &'a Schema,
+    pub(crate) indexes: &'a Indexes,
+}
+
+/// The value that each row that meets all conditions has in the column of this name, where one of them asks for it.
+fn value_asked<'a>(conditions: &'a [Condition], column: &str) -> Option<&'a Datum>
+    ensures { IfSome result (λ value. IsValueOf conditions.now column.now value.now) }
+{
+    if is_own(column) {
+        return None;
+    }
+    for condition in conditions {
+        if let Some(value) = condition.equals(column) {
+            return Some(value);
+        }
+    }
+    None
+}
+
+/// The values in the columns of the index, where there is a condition that asks for each.
+fn values_asked(
+    alloc: Global,
+    conditions: &[Condition],
+    index: &[Text],
+) -> Result<Option<Vec<Datum>>, AllocError>
+    ensures { IfOk result (λ asked. IfSome asked (λ values. AreValuesOf conditions.now index.now values.items)) }
+{
+    let mut values = Vec::new(alloc);
+    for column in index {
+        match value_asked(conditions, column.as_str()) {
+            Some(value) => values.push(value.copy(alloc)?)?,
+            None => return Ok(None),
+        }
+    }
+    Ok(Some(values))
+}
+
+/// The key in the first index of the table, which has this name, for each of whose columns a condition asks.
+fn key_asked(
+    alloc: Global,
+    conditions: &[Condition],
+    name: &str,
+    table: &Table,
+) -> Result<Option<IndexKey>, AllocError>
+    ensures { IfOk result (λ asked. IfSome asked (λ key. IsKeyOf conditions.now name.now table.now key)) }
+{
+    for (number, index) in table.indexes().iter().enumerate() {
+        if let Some(values) = values_asked(alloc, conditions, index.as_slice())? {
+            return Ok(Some(IndexKey::new(alloc, name, number, values)?));
+        }
+    }
+    Ok(None)
+}
+
+/// The identifiers of the rows at the key, ascending.
+fn ids_at<'a>(indexes: &'a Indexes, key: &IndexKey) -> &'a [Uuid]
+    ensures { result.now ≡ keys (ids_at indexes.now key.now) }
+{
+    match indexes.at(key) {
+        Some(ids) => ids.as_slice(),
+        None => &[],
+    }
+}
+
+impl<'a> Indexed<'a> {
+    /// Identifiers among which are those of all rows of the table of this name that meet all conditions, where the conditions ask
+    /// for values in all columns of an index. They ascend.
+    pub(crate) fn ids_asked(
+        self,
+        alloc: Global,
+        conditions: &[Condition],
+        name: &str,
+    ) -> Result<Option<&'a [Uuid]>, AllocError>
+        ensures ascending { IfOk result (λ asked. IfSome asked (λ ids. Ascend ids.now)) }
+        ensures all { (before : rows.Database) → AreIndexesOf self.entry.schema.now before self.entry.indexes.now → IfOk result (λ asked. IfSome asked (λ ids. AreIdsOf conditions.now before name.now ids.now)) }
+    {
+        let Some(table) = self.schema.table(name) else {
+            return Ok(None);
+        };
+        match key_asked(alloc, conditions, name, table)? {
+            Some(key) => Ok(Some(ids_at(self.indexes, &key))),
+            None => Ok(None),
+        }
+    }
+}
