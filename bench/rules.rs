@@ -1,0 +1,217 @@
+//! A driver for commits by the rules of RFC 7047, 3.2, in memory beside Open vSwitch's ovsdb-server: an insert into a table with an
+//! index, an update of an indexed column, a delete that takes a referenced row with it, and a select by an indexed name, in
+//! tables of three sizes.
+//!
+//! Each switch has one port, which goes with it. Each reply is compared with the one that is wanted, byte by byte; where an
+//! identifier is drawn, any one will do. What a transaction did is looked at, and undone, outside the clock. Plain Rust, std only;
+//! `bench/run` builds and starts it.
+
+mod systems;
+mod turns;
+
+use std::process::ExitCode;
+use std::time::{Duration, Instant};
+use systems::{Exchange, Measured, Outcome, Server, System, transact};
+use turns::Bench;
+
+/// The tables, by their switches.
+const TABLES: [usize; 3] = [1_000, 10_000, 100_000];
+
+/// How many switches one transaction inserts while a table is filled.
+const FILLED_AT_ONCE: usize = 500;
+
+/// A turn has so many requests, or as many as begin in this time.
+const REQUESTS_IN_A_TURN: usize = 100;
+const LONGEST_TURN: Duration = Duration::from_millis(50);
+
+/// How many switches stand between two that are asked for one after the other. It has no divisor with the tables' sizes in
+/// common, so all have their turn.
+const STEP: usize = 7_919;
+
+/// Stands in a wanted reply for an identifier that the server draws.
+const DRAWN: &str = "\0\0\0\0\0\0\0\0\0\0\0\0\0\0\0\0\0\0\0\0\0\0\0\0\0\0\0\0\0\0\0\0\0\0\0\0";
+
+/// What is measured.
+#[derive(Clone, Copy, PartialEq)]
+enum Figure {
+    Insert,
+    Rename,
+    Delete,
+    Select,
+}
+
+impl Figure {
+    const ALL: [Figure; 4] = [Figure::Insert, Figure::Rename, Figure::Delete, Figure::Select];
+
+    fn name(self) -> &'static str {
+        match self {
+            Figure::Insert => "insert of a switch",
+            Figure::Rename => "update of an indexed name by _uuid",
+            Figure::Delete => "delete by _uuid, its port goes too",
+            Figure::Select => "select by an indexed name",
+        }
+    }
+}
+
+/// A switch as it must be in a server's table, and its port.
+struct Switch {
+    identifier: String,
+    port: String,
+    name: String,
+}
+
+fn by_identifier(identifier: &str) -> String {
+    format!("[\"_uuid\",\"==\",[\"uuid\",\"{identifier}\"]]")
+}
+
+/// A delete of the switch of an identifier, which must be there.
+fn deletion(n: usize, identifier: &str) -> Exchange {
+    let condition = by_identifier(identifier);
+    let operation = format!(",{{\"op\":\"delete\",\"table\":\"Switch\",\"where\":[{condition}]}}");
+    transact(n as u64, &operation, "[{\"count\":1}]".into())
+}
+
+/// One transaction that inserts switches of the numbers from `first` on, each with its port.
+fn with_ports(first: usize, switches: usize) -> Exchange {
+    let operations: String = (first..first + switches)
+        .map(|n| {
+            format!(
+                ",{{\"op\":\"insert\",\"table\":\"Port\",\"uuid-name\":\"p{n}\",\"row\":{{\"name\":\"port {n}\"}}}}\
+                 ,{{\"op\":\"insert\",\"table\":\"Switch\",\"row\":{{\"load\":{n},\"name\":\"switch {n}\",\
+                 \"ports\":[\"named-uuid\",\"p{n}\"]}}}}"
+            )
+        })
+        .collect();
+    let results = vec![format!("{{\"uuid\":[\"uuid\",\"{DRAWN}\"]}}"); 2 * switches];
+    transact(first as u64, &operations, format!("[{}]", results.join(",")))
+}
+
+/// A server, its switches by their numbers, and the one that was asked for last.
+struct Table {
+    server: Server,
+    switches: Vec<Switch>,
+    last: usize,
+}
+
+impl Table {
+    /// Brings a server's empty tables to so many switches and ports.
+    fn fill(server: Server, switches: usize) -> Outcome<Table> {
+        let mut table = Table { server, switches: Vec::new(), last: 0 };
+        while table.switches.len() < switches {
+            let count = FILLED_AT_ONCE.min(switches - table.switches.len());
+            let more = table.inserted(table.switches.len(), count)?;
+            table.switches.extend(more);
+        }
+        Ok(table)
+    }
+
+    /// Inserts switches with their ports.
+    fn inserted(&mut self, first: usize, count: usize) -> Outcome<Vec<Switch>> {
+        let identifiers = self.server.ask_for_identifiers(&with_ports(first, count))?;
+        let pairs = identifiers.chunks_exact(2).zip(first..);
+        let switch = |(pair, n): (&[String], usize)| Switch {
+            identifier: pair[1].clone(),
+            port: pair[0].clone(),
+            name: format!("switch {n}"),
+        };
+        Ok(pairs.map(switch).collect())
+    }
+
+    /// Reads a column of the row of an identifier, which must have this value; without one the row must not be there.
+    fn read_back(&mut self, table: &str, identifier: &str, name: Option<&str>) -> Outcome<()> {
+        let condition = by_identifier(identifier);
+        let operation = format!(",{{\"op\":\"select\",\"table\":\"{table}\",\"where\":[{condition}],\"columns\":[\"name\"]}}");
+        let rows = name.map_or(String::new(), |name| format!("{{\"name\":\"{name}\"}}"));
+        self.server.ask(&transact(0, &operation, format!("[{{\"rows\":[{rows}]}}]")))
+    }
+
+    /// One insert of a switch without a port. It is deleted again outside the clock.
+    fn insert(&mut self, n: usize, measured: &mut Measured) -> Outcome<()> {
+        let operation = format!(",{{\"op\":\"insert\",\"table\":\"Switch\",\"row\":{{\"load\":{n},\"name\":\"new {n}\"}}}}");
+        let exchange = transact(n as u64, &operation, format!("[{{\"uuid\":[\"uuid\",\"{DRAWN}\"]}}]"));
+        let begin = Instant::now();
+        let drawn = self.server.ask_for_identifiers(&exchange)?;
+        measured.add(begin.elapsed());
+        let identifier = drawn.first().ok_or("an insert without an identifier")?;
+        self.read_back("Switch", identifier, Some(&format!("new {n}")))?;
+        self.server.ask(&deletion(n, identifier))
+    }
+
+    /// One update of the name of a switch, which has two names in turn.
+    fn rename(&mut self, n: usize, measured: &mut Measured) -> Outcome<()> {
+        let switch = &mut self.switches[n];
+        switch.name = if switch.name.starts_with("switch") { format!("bridge {n}") } else { format!("switch {n}") };
+        let (condition, name) = (by_identifier(&switch.identifier), switch.name.clone());
+        let operation =
+            format!(",{{\"op\":\"update\",\"table\":\"Switch\",\"where\":[{condition}],\"row\":{{\"name\":\"{name}\"}}}}");
+        let exchange = transact(n as u64, &operation, "[{\"count\":1}]".into());
+        measured.time(|| self.server.ask(&exchange))?;
+        let identifier = self.switches[n].identifier.clone();
+        self.read_back("Switch", &identifier, Some(&name))
+    }
+
+    /// One delete of a switch. Its port must be gone then; both are inserted again outside the clock.
+    fn delete(&mut self, n: usize, measured: &mut Measured) -> Outcome<()> {
+        let Switch { identifier, port, .. } = &self.switches[n];
+        let (exchange, identifier, port) = (deletion(n, identifier), identifier.clone(), port.clone());
+        measured.time(|| self.server.ask(&exchange))?;
+        self.read_back("Switch", &identifier, None)?;
+        self.read_back("Port", &port, None)?;
+        let mut again = self.inserted(n, 1)?;
+        self.switches[n] = again.pop().ok_or("an insert without an identifier")?;
+        Ok(())
+    }
+
+    /// One select of a switch by its name.
+    fn select(&mut self, n: usize, measured: &mut Measured) -> Outcome<()> {
+        let name = &self.switches[n].name;
+        let operation = format!(
+            ",{{\"op\":\"select\",\"table\":\"Switch\",\"where\":[[\"name\",\"==\",\"{name}\"]],\"columns\":[\"load\"]}}"
+        );
+        let exchange = transact(n as u64, &operation, format!("[{{\"rows\":[{{\"load\":{n}}}]}}]"));
+        measured.time(|| self.server.ask(&exchange))
+    }
+
+    /// A turn of one figure: the next request when the last one is answered.
+    fn turn(&mut self, figure: Figure, measured: &mut Measured) -> Outcome<()> {
+        let begin = Instant::now();
+        for _ in 0..REQUESTS_IN_A_TURN {
+            if begin.elapsed() > LONGEST_TURN {
+                break;
+            }
+            self.last = (self.last + STEP) % self.switches.len();
+            let n = self.last;
+            match figure {
+                Figure::Insert => self.insert(n, measured),
+                Figure::Rename => self.rename(n, measured),
+                Figure::Delete => self.delete(n, measured),
+                Figure::Select => self.select(n, measured),
+            }?;
+        }
+        Ok(())
+    }
+}
+
+impl Bench {
+    /// All figures of tables of so many switches.
+    fn figures(&self, switches: usize) -> Outcome<()> {
+        let folder = self.folder()?;
+        let servers = self.started(&folder, 0)?;
+        let mut tables: Vec<Table> = servers.into_iter().map(|server| Table::fill(server, switches)).collect::<Outcome<_>>()?;
+        for figure in Figure::ALL {
+            let measured = self.take_turns(&mut tables, |table, measured| table.turn(figure, measured))?;
+            let systems = tables.iter().map(|table| table.server.system);
+            let all: Vec<(System, Measured)> = systems.zip(measured).collect();
+            self.say_rates(&format!("{}, {switches} switches", figure.name()), &all)?;
+        }
+        tables.into_iter().try_for_each(|table| table.server.finish())
+    }
+
+    fn all_figures(&self) -> Outcome<()> {
+        TABLES.into_iter().try_for_each(|switches| self.figures(switches))
+    }
+}
+
+fn main() -> ExitCode {
+    turns::run("rules", Bench::all_figures)
+}
