@@ -8,3 +8,5 @@ pub mod StoredSuits
 pub mod Keeping
 pub mod Guessed
 pub mod Residing
+pub mod HeldBy
+pub mod IndexedRow

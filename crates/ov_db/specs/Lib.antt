@@ -9,3 +9,4 @@ pub mod Loading
 pub mod Opening
 pub mod Guessed
 pub mod Residing
+pub mod Lookups

@@ -1,5 +1,5 @@
-ghost use Rattle.std.specs.Prelude.{◌≡◌, ◌≤◌, ◌==◌, true, is_some, option_copied, IfOk, IfErr, None};
-ghost use Rattle.std.specs.FinMap.{get, entries, len};
+ghost use Rattle.std.specs.Prelude.{◌≡◌, ◌≤◌, ◌==◌, true, length, is_some, option_copied, option_map, IfOk, IfErr, None};
+ghost use Rattle.std.specs.FinMap.{get, entries, keys, len};
 ghost use Rattle.std.specs.List.{filter};
 ghost use Rattle.serde_json.specs.Written.{compact_text};
 ghost use Rattle.ov_specs.specs.rows.Lines.{Contents};
@@ -12,6 +12,7 @@ ghost use Rattle.ov_refs.specs.Linking.{AreLinksOf};
 ghost use Rattle.ov_index.specs.Indexing.{AreIndexesOf};
 ghost use Rattle.ov_specs.specs.integrity.Committed.{is_whole};
 ghost use Rattle.ov_db.specs.Committing.{AreKept, Commits, MayFind, MayHold};
+ghost use Rattle.ov_db.specs.Lookups.{TellsIndexed, if_any, strong_holders, weak_holders};
 ghost use Rattle.ov_db.specs.Opening.{CanOpen, IsOpenFault, RefusesOpen};
 ghost use Rattle.ov_db.specs.declared.answer.StoreAnswer.TheVariants.{Kept, Failed};
 ghost use Rattle.ov_db.specs.declared.fault.OpenFault.TheVariants.{Keeping};
@@ -22,10 +23,10 @@ use crate::delta::Delta;
 use crate::fault::RefusedOpen;
 use crate::load::load_whole;
 use crate::resident::{Resident, Room};
-use ov_index::Indexes;
+use ov_index::{IndexKey, Indexes};
 use ov_keeper::{KeepFault, Keeper};
-use ov_refs::Links;
-use ov_rows::{Row, Rows, TableRows};
+use ov_refs::{KeySet, Links};
+use ov_rows::{Row, RowKey, Rows, TableRows};
 use ov_schema::Schema;
 use std::alloc::Global;
 use std::marker::Model;
@@ -115,6 +116,35 @@ impl<K: Keeper + Drop> Db<K> {
         ensures { AreIndexesOf self.now.schema self.now.committed result.now }
     {
         &self.resident.indexes
+    }
+
+    /// How many rows refer strongly to the row of this key, each counted once and the row itself not (RFC 7047, 3.2,
+    /// `<base-type>`, refType). It takes no memory.
+    pub fn strong_count(&self, to: &RowKey) -> usize
+        ensures { result ≡ length (strong_holders self.now.schema self.now.committed to.now) }
+    {
+        self.resident.links.strong_count(to)
+    }
+
+    /// The rows that refer weakly to the row of this key, ascending, each of them once; None where no row does (RFC 7047, 3.2,
+    /// `<base-type>`, refType). They take no memory.
+    pub fn weak_holders(&self, to: &RowKey) -> Option<&KeySet>
+        ensures { option_map keys (option_copied result) ≡ if_any (weak_holders self.now.schema self.now.committed to.now) }
+    {
+        let holders = self.resident.links.weak().of(to)?;
+        if holders.is_empty() {
+            None
+        } else {
+            Some(holders)
+        }
+    }
+
+    /// The row that has these values in this index of its table, of which there is one at most (RFC 7047, 3.2, `<table-schema>`,
+    /// indexes). It takes no memory.
+    pub fn indexed(&self, key: &IndexKey) -> Option<Uuid>
+        ensures { TellsIndexed self.now.schema self.now.committed key.now result }
+    {
+        self.resident.indexes.at(key)?.as_slice().first().copied()
     }
 
     /// Its rows.
