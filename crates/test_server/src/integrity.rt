@@ -1,14 +1,17 @@
 //! What a commit makes of the rows that the operations left, and why it fails (RFC 7047, 3.2). A script has attempts as
-//! `Attempts` tells them: where the store was asked, what is told begins with `kept`.
+//! `Attempts` tells them: where the store was asked, what is told begins with `kept`. After each of them the database tells of its
+//! references and indexes what one tells that is opened from its lines.
 
 use crate::attempts::attempts_on;
 use std::alloc::Global;
 use std::test::Fail;
-use test_support::{NET, Scripted, agrees, converses};
+use test_support::{Looked, NET, Scripted, agrees, converses, looks};
 
-/// The attempts of a script come to what it says, on a new database of the schema of a text.
+/// The attempts of a script come to what it says, on a new database of the schema of a text; and what is told after them of its
+/// references and indexes is what it is when the database is opened.
 fn tries(alloc: Global, schema: &str, script: &str) -> Result<(), Fail> {
-    agrees(alloc, attempts_on(alloc, schema)?, script)
+    agrees(alloc, attempts_on(alloc, schema)?, script)?;
+    looks(alloc, schema, script)
 }
 
 /// A port goes that no other row refers to strongly, in the transaction that inserts it or in a later one.
@@ -40,6 +43,17 @@ const PEER: &str =
 #[test]
 fn a_port_that_nobody_refers_to_goes_with_its_peer(rt: HostRuntime) -> Result<(), Fail> {
     converses(rt.alloc(), PEER)
+}
+
+/// The same attempts, without sessions.
+const PEER_ATTEMPTS: &str =
+    r#"0 [{"op":"insert","table":"Switch","row":{"name":"s1","ports":["named-uuid","p"]}},{"op":"insert","table":"Port","uuid-name":"p","row":{"name":"p1","peer":["named-uuid","q"]}},{"op":"insert","table":"Port","uuid-name":"q","row":{"name":"p2"}}] -> kept [{"uuid":["uuid","00000000-0000-4000-8000-000000000002"]},{"uuid":["uuid","00000000-0000-4000-8000-000000000003"]},{"uuid":["uuid","00000000-0000-4000-8000-000000000004"]}] 3
+0 [{"op":"update","table":"Switch","where":[],"row":{"ports":["set",[]]}}] -> kept [{"count":1}] 3
+0 [{"op":"select","table":"Port","where":[],"columns":["name"]}] -> [{"rows":[]}]"#;
+
+#[test]
+fn a_peer_goes_from_the_holders(rt: HostRuntime) -> Result<(), Fail> {
+    tries(rt.alloc(), NET, PEER_ATTEMPTS)
 }
 
 /// Two ports that refer to each other stay, until one of them does so no more.
@@ -320,4 +334,39 @@ fn a_chain_falls_together(rt: HostRuntime) -> Result<(), Fail> {
     let mut attempts = attempts_on(alloc, NODES)?;
     attempts.answer(alloc, chain(alloc, 999)?.as_str())?;
     agrees(alloc, attempts, FALLEN)
+}
+
+/// Two switches of which the first refers to a port strongly, and both weakly, and the port refers to itself; then the second
+/// switch alone, which refers to it in both ways and has another name.
+const HELD: [&str; 2] = [
+    r#"0 [{"op":"insert","table":"Switch","row":{"main":["named-uuid","p"],"name":"s1","ports":["named-uuid","p"]}},{"op":"insert","table":"Switch","row":{"main":["named-uuid","p"],"name":"s2"}},{"op":"insert","table":"Port","uuid-name":"p","row":{"name":"p1","peer":["named-uuid","p"]}}]"#,
+    r#"0 [{"op":"delete","table":"Switch","where":[["name","==","s1"]]},{"op":"update","table":"Switch","where":[],"row":{"name":"s3","ports":["uuid","00000000-0000-4000-8000-000000000004"]}}]"#,
+];
+
+/// What is told of the port, of both switches, and of the names s1 and s2; then of s3 too.
+const HELD_TOLD: [&str; 2] = [
+    "Port 00000000-0000-4000-8000-000000000004 1 Switch 00000000-0000-4000-8000-000000000002 Switch 00000000-0000-4000-8000-000000000003
+Switch 00000000-0000-4000-8000-000000000002 0
+Switch 00000000-0000-4000-8000-000000000003 0
+Switch index 0 00000000-0000-4000-8000-000000000002
+Switch index 0 00000000-0000-4000-8000-000000000003
+",
+    "Port 00000000-0000-4000-8000-000000000004 1 Switch 00000000-0000-4000-8000-000000000003
+Switch 00000000-0000-4000-8000-000000000002 0
+Switch 00000000-0000-4000-8000-000000000003 0
+Switch index 0
+Switch index 0
+Switch index 0 00000000-0000-4000-8000-000000000003
+",
+];
+
+#[test]
+fn holders_and_the_row_of_an_index_are_told(rt: HostRuntime) -> Result<(), Fail> {
+    let alloc = rt.alloc();
+    let mut looked = Looked::new(alloc, NET)?;
+    looked.look(alloc, HELD[0])?;
+    assert_eq!(rt; looked.told(alloc)?.as_str(), HELD_TOLD[0]);
+    looked.look(alloc, HELD[1])?;
+    assert_eq!(rt; looked.told(alloc)?.as_str(), HELD_TOLD[1]);
+    Ok(())
 }

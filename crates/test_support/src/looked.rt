@@ -1,0 +1,85 @@
+use crate::counter::Counter;
+use crate::keepers::{Faults, NetKeeper, new_keeper};
+use crate::lookups::{Lookups, opened_from};
+use crate::schemas::schema_of_text;
+use crate::tree_texts::trees;
+use ov_db::{Db, Delta};
+use ov_keeper::Keeper;
+use ov_txn::{Ready, Replies, Tries, Txn, attempt};
+use std::alloc::Global;
+use std::test::Fail;
+
+/// Has nothing to make ready.
+#[derive(Drop)]
+struct Unprepared;
+
+impl<K: Keeper> Ready<K> for Unprepared {
+    ghost readies = { λ old db delta replies ready new. Unit {0} };
+
+    fn ready(&mut self, _db: &Db<K>, _delta: &Delta, _replies: Replies) -> bool {
+        true
+    }
+}
+
+/// A database, and the keys of all rows that it has or had, with those at which they stand or stood in indexes.
+#[derive(Drop)]
+pub struct Looked {
+    db: Db<NetKeeper>,
+    draws: Counter,
+    lookups: Lookups,
+}
+
+impl Looked {
+    /// A new database of the schema of a text, with draws that are counted.
+    pub fn new(alloc: Global, schema: &str) -> Result<Looked, Fail> {
+        let schema = schema_of_text(alloc, schema)?;
+        let keeper = new_keeper(alloc, &schema, Faults::NONE)?;
+        Ok(Looked {
+            db: Db::open(alloc, keeper, schema)?,
+            draws: Counter::new(),
+            lookups: Lookups::new(alloc),
+        })
+    }
+
+    /// Attempts a transaction.
+    fn attempt(&mut self, alloc: Global, operations: &str) -> Result<(), Fail> {
+        let txn = Txn::read(alloc, trees(alloc, operations)?, &mut self.draws)?;
+        let mut tries = Tries::new();
+        attempt(alloc, &mut self.db, &txn, 0, &mut tries, &mut Unprepared);
+        Ok(())
+    }
+
+    /// What the database tells by the keys, with those of the rows that it has now.
+    pub fn told(&mut self, alloc: Global) -> Result<String, Fail> {
+        self.lookups.add(alloc, self.db.schema(), self.db.rows())?;
+        self.lookups.told(alloc, &self.db)
+    }
+
+    /// What a database tells by the keys that is opened from the lines of its rows.
+    fn told_again(&self, alloc: Global) -> Result<String, Fail> {
+        let db = opened_from(alloc, self.db.schema(), self.db.rows())?;
+        self.lookups.told(alloc, &db)
+    }
+
+    /// Attempts the transaction of a command, after which both tell the same.
+    pub fn look(&mut self, alloc: Global, command: &str) -> Result<(), Fail> {
+        let (_age, operations) = command.split_once(" ").ok_or("no age")?;
+        self.attempt(alloc, operations)?;
+        let told = self.told(alloc)?;
+        if told.as_str() == self.told_again(alloc)?.as_str() {
+            return Ok(());
+        }
+        Err(Fail::new(told))
+    }
+}
+
+/// After each attempt of a script what a new database of the schema of a text tells of its references and indexes is what it is
+/// when it is opened.
+pub fn looks(alloc: Global, schema: &str, script: &str) -> Result<(), Fail> {
+    let mut looked = Looked::new(alloc, schema)?;
+    for line in script.lines() {
+        let (command, _answer) = line.split_once(" -> ").unwrap_or((line, ""));
+        looked.look(alloc, command)?;
+    }
+    Ok(())
+}

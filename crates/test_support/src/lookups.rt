@@ -1,0 +1,182 @@
+use crate::schemas::schema_of_text;
+use ov_base::Text;
+use ov_db::{Db, ListKeeper};
+use ov_index::IndexKey;
+use ov_keeper::{Change, Keeper, Line};
+use ov_rows::{Row, RowKey, Rows, TableRows};
+use ov_schema::{Schema, Table, text_of};
+use std::alloc::{AllocError, Global};
+use std::collections::BTreeSet;
+use std::test::Fail;
+use uuid::Uuid;
+
+/// The keys of rows, and those at which rows stand in the indexes of their tables.
+#[derive(Drop)]
+pub(crate) struct Lookups {
+    rows: BTreeSet<RowKey>,
+    places: BTreeSet<IndexKey>,
+}
+
+impl Lookups {
+    /// No key.
+    pub(crate) fn new(alloc: Global) -> Lookups {
+        Lookups {
+            rows: BTreeSet::new(alloc),
+            places: BTreeSet::new(alloc),
+        }
+    }
+
+    /// Adds where a row of the table of this name stands.
+    fn add_places(
+        &mut self,
+        alloc: Global,
+        name: &str,
+        table: &Table,
+        row: &Row,
+    ) -> Result<(), AllocError> {
+        for (number, index) in table.indexes().iter().enumerate() {
+            let place = IndexKey::at(alloc, name, number, index.as_slice(), &row.columns)?;
+            self.places.insert(place)?;
+        }
+        Ok(())
+    }
+
+    /// Adds the keys of the rows of a table.
+    fn add_rows(
+        &mut self,
+        alloc: Global,
+        schema: &Schema,
+        name: &str,
+        rows: &TableRows,
+    ) -> Result<(), AllocError> {
+        let Some(table) = schema.table(name) else {
+            return Ok(());
+        };
+        for (id, row) in rows.map() {
+            self.rows.insert(RowKey::new(alloc, name, *id)?)?;
+            self.add_places(alloc, name, table, row)?;
+        }
+        Ok(())
+    }
+
+    /// Adds the keys of all rows.
+    pub(crate) fn add(
+        &mut self,
+        alloc: Global,
+        schema: &Schema,
+        rows: &Rows,
+    ) -> Result<(), AllocError> {
+        for (name, table) in rows.tables() {
+            self.add_rows(alloc, schema, name.as_str(), table)?;
+        }
+        Ok(())
+    }
+
+    /// What a database tells by these keys. For the key of a row: how many rows refer to it strongly, and those that do weakly;
+    /// for a key of an index: the row that stands there. Each stands in a line with its key, of an index without the values.
+    pub(crate) fn told<K: Keeper + Drop>(&self, alloc: Global, db: &Db<K>) -> Result<String, Fail> {
+        let mut text = String::new(alloc);
+        for key in &self.rows {
+            push_row(alloc, &mut text, db, key)?;
+        }
+        for key in &self.places {
+            text.push_str(text_of_place(alloc, db, key)?.as_str())?;
+        }
+        Ok(text)
+    }
+}
+
+/// Adds what a database tells of who refers to a row.
+fn push_row<K: Keeper + Drop>(
+    alloc: Global,
+    text: &mut String,
+    db: &Db<K>,
+    key: &RowKey,
+) -> Result<(), Fail> {
+    let count = db.strong_count(key);
+    text.push_str(text_of_key(alloc, key)?.as_str())?;
+    text.push_str(format!(in alloc; " {count}")?.as_str())?;
+    if let Some(holders) = db.weak_holders(key) {
+        push_keys(alloc, text, holders.as_set())?;
+    }
+    text.push_str("\n")?;
+    Ok(())
+}
+
+/// Adds the keys of rows, each behind a space.
+fn push_keys(alloc: Global, text: &mut String, keys: &BTreeSet<RowKey>) -> Result<(), Fail> {
+    for key in keys {
+        text.push_str(" ")?;
+        text.push_str(text_of_key(alloc, key)?.as_str())?;
+    }
+    Ok(())
+}
+
+/// The text of a row's key.
+fn text_of_key(alloc: Global, key: &RowKey) -> Result<String, Fail> {
+    let table = key.table();
+    let id = key.id();
+    Ok(format!(in alloc; "{table} {id}")?)
+}
+
+/// What a database tells of the row at a key of an index.
+fn text_of_place<K: Keeper + Drop>(
+    alloc: Global,
+    db: &Db<K>,
+    key: &IndexKey,
+) -> Result<String, Fail> {
+    let table = key.table();
+    let number = key.number();
+    match db.indexed(key) {
+        Some(id) => Ok(format!(in alloc; "{table} index {number} {id}\n")?),
+        None => Ok(format!(in alloc; "{table} index {number}\n")?),
+    }
+}
+
+/// The line of a row.
+fn line_of_row(alloc: Global, table: &str, id: Uuid, row: &Row) -> Result<Line, AllocError> {
+    Ok(Line {
+        table: Text::from_str(alloc, table)?,
+        id,
+        version: row.version,
+        body: row.columns.text(alloc)?,
+    })
+}
+
+/// Adds the changes that put the lines of a table's rows.
+fn push_lines(
+    alloc: Global,
+    changes: &mut Vec<Change>,
+    table: &str,
+    rows: &TableRows,
+) -> Result<(), AllocError> {
+    for (id, row) in rows.map() {
+        changes.push(Change::Put(line_of_row(alloc, table, *id, row)?))?;
+    }
+    Ok(())
+}
+
+/// A keeper of these rows' lines.
+fn keeper_of_rows(alloc: Global, schema: Text, rows: &Rows) -> Result<ListKeeper, Fail> {
+    let mut changes = Vec::new(alloc);
+    for (name, table) in rows.tables() {
+        push_lines(alloc, &mut changes, name.as_str(), table)?;
+    }
+    let mut keeper = ListKeeper::new(alloc, schema);
+    match keeper.commit(alloc, changes.as_slice()) {
+        Ok(()) => Ok(keeper),
+        Err(_) => Err(Fail::new("not kept")),
+    }
+}
+
+/// A database that is opened from the lines of these rows.
+pub(crate) fn opened_from(
+    alloc: Global,
+    schema: &Schema,
+    rows: &Rows,
+) -> Result<Db<ListKeeper>, Fail> {
+    let text = text_of(alloc, schema)?;
+    let again = schema_of_text(alloc, text.as_str())?;
+    let keeper = keeper_of_rows(alloc, text, rows)?;
+    Ok(Db::open(alloc, keeper, again)?)
+}
