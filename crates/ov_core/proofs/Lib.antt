@@ -1,3 +1,4 @@
+pub mod Keying
 pub mod Queueing
 pub mod Histories
 pub mod Steps

@@ -1,10 +1,9 @@
 -- One step of the machine, and of the core.
-use Rattle.std.proofs.Common.{◌≡◌, ◌≢◌, ℕ, ◌+◌, ◌<◌, ◌≤◌, List, [], ◌∷◌, ◌++◌, map, refl, sym, ap, subst, ◌∙◌, cond, eqb, Bool, true, false, Option, Some, None, append_assoc, length, leb, ◌^◌, ◌-◌, arith}
-use Rattle.std.specs.List.{list_any}
-use Rattle.std.specs.Prelude.{is_some, not, ◌||◌, filter}
+use Rattle.std.proofs.Common.{◌≡◌, ℕ, ◌+◌, ◌≤◌, List, [], ◌∷◌, ◌++◌, map, refl, sym, ap, subst, ◌∙◌, cond, eqb, Bool, true, false, Option, Some, None, append_assoc, leb, arith}
+use Rattle.std.specs.Prelude.{is_some}
 use Rattle.std.proofs.lemmas.List.{append-nil, map-append}
 use Rattle.std.proofs.lemmas.List.Elements.{filter-append}
-use Rattle.std.proofs.lemmas.Bool.{le-leb, lt-leb, false≢true}
+use Rattle.std.proofs.lemmas.Bool.{le-leb, false≢true}
 use Rattle.ov_specs.specs.machine.Machine as machine
 use Rattle.ov_specs.specs.machine.Machine.{State, Sent, Stepped, step}
 use Rattle.ov_specs.specs.values.Uuid.{Uuid}
@@ -19,17 +18,18 @@ use Rattle.ov_core.specs.declared.event.Outcome.TheVariants as outcome
 use Rattle.ov_core.specs.declared.handle.Handled.{Handled}
 use Rattle.ov_core.specs.Entries.{entry_view, listed_attempts, is_closing}
 use Rattle.ov_core.specs.Outbox.{WaitingFrames, waiting_for, PostsSent, HasSameFrames}
-use Rattle.ov_core.specs.Sessions.{session_view, sessions_of, state_of}
+use Rattle.ov_core.specs.Sessions.{OpenSessions, sessions_of}
+use Rattle.ov_core.specs.States.{state_of}
 use Rattle.ov_specs.specs.schema.SchemaTypes.{Schema}
 use Rattle.ov_specs.specs.rows.Database.{Database}
-use Rattle.ov_core.specs.declared.session.OpenSession.{OpenSession}
+use Rattle.ov_core.specs.declared.event.Session.{Session}
 use Rattle.ov_db.specs.KeptDatabase.{KeptDatabase}
 use Rattle.ov_keeper.specs.Keeping.{HasFailed}
 use Rattle.ov_core.specs.Handling.{AsksStore, with_db, closed_if_no_memory, listed_first, IsHandled}
 use Rattle.ov_core.specs.Following.{CoreState, EntersEntry, Follows, none_given}
 use Rattle.ov_core.specs.History.{newest, HasHistory}
 use Rattle.ov_core.proofs.Histories.{entered_behind, keeps_more, has_more}
-use Rattle.ov_core.specs.Stepping.{closing, most_sessions, AsksKeeper, Closes, HasSameKeeper, IsEntered, has_outcome, is_failure, is_of_store}
+use Rattle.ov_core.specs.Stepping.{closing, AsksKeeper, Closes, HasSameKeeper, IsEntered, has_outcome, is_failure, is_of_store}
 use Rattle.ov_core.specs.declared.event.Stepped.TheVariants as answer
 use Rattle.std.proofs.lemmas.Option.{same_Some}
 
@@ -83,34 +83,25 @@ ticked old m x kept low added is = moves_silent old _ _ x (step_at old.state mac
 pub has_ticked : (s : State) (m : ℕ) (x : Entry) (old new : List Entry) → s.moment ≤ m → new ≡ newest (old ++ x ∷ []) → entry_view x ≡ entry_of machine.Tick (nothing_chosen m) → HasHistory s old → HasHistory (record s { moment = m }) new
 has_ticked s m x old new low added is has = has_more s (record s { moment = m }) old new (entry_of machine.Tick (nothing_chosen m)) [] (step_at s machine.Tick (nothing_chosen m) low) (entered_behind old new x _ added is) has
 
-pub opened : {K D : Type 0} (old : CoreState K D) (m : ℕ) (x : Entry) (kept : List Entry) (sessions : List machine.Session) → old.state.moment ≤ m → kept ≡ newest (old.kept ++ x ∷ []) → entry_view x ≡ entry_of machine.Open (nothing_chosen m)
+pub opened : {K D : Type 0} (old : CoreState K D) (m : ℕ) (x : Entry) (kept : List Entry) (sessions : List machine.Session) (keyed : List Session) → old.state.moment ≤ m → kept ≡ newest (old.kept ++ x ∷ []) → entry_view x ≡ entry_of machine.Open (nothing_chosen m)
     → sessions ≡ old.state.sessions ++ record { serial = old.state.next } ∷ []
-    → EntersEntry old (entry_of machine.Open (nothing_chosen m)) (record old { state = record old.state { moment = m; sessions = sessions; next = old.state.next + 1 }; kept = kept })
-opened old m x kept sessions low added is grown = moves_silent old _ _ x (step_at old.state machine.Open (nothing_chosen m) low ∙ rw grown refl) added is (λ s. refl)
+    → EntersEntry old (entry_of machine.Open (nothing_chosen m)) (record old { state = record old.state { moment = m; sessions = sessions; next = old.state.next + 1 }; open_sessions = keyed; kept = kept })
+opened old m x kept sessions keyed low added is grown = moves_silent old _ _ x (step_at old.state machine.Open (nothing_chosen m) low ∙ rw grown refl) added is (λ s. refl)
 
 pub has_opened : (s : State) (m : ℕ) (x : Entry) (old new : List Entry) (sessions : List machine.Session) → s.moment ≤ m → new ≡ newest (old ++ x ∷ []) → entry_view x ≡ entry_of machine.Open (nothing_chosen m) → sessions ≡ s.sessions ++ record { serial = s.next } ∷ [] → HasHistory s old
     → HasHistory (record s { moment = m; sessions = sessions; next = s.next + 1 }) new
 has_opened s m x old new sessions low added is grown has =
     has_more s (record s { moment = m; sessions = sessions; next = s.next + 1 }) old new (entry_of machine.Open (nothing_chosen m)) [] (step_at s machine.Open (nothing_chosen m) low ∙ rw grown refl) (entered_behind old new x _ added is) has
 
-pub closed : {K D : Type 0} (old : CoreState K D) (m : ℕ) (s : ℕ) (cause : machine.Cause) (x : Entry) (kept : List Entry) (sessions : List machine.Session) (outbox : WaitingFrames) → old.state.moment ≤ m → machine.is_open old.state s ≡ true → kept ≡ newest (old.kept ++ x ∷ []) → entry_view x ≡ closing m s cause
+pub closed : {K D : Type 0} (old : CoreState K D) (m : ℕ) (s : ℕ) (cause : machine.Cause) (x : Entry) (kept : List Entry) (sessions : List machine.Session) (keyed : List Session) (outbox : WaitingFrames) → old.state.moment ≤ m → machine.is_open old.state s ≡ true → kept ≡ newest (old.kept ++ x ∷ []) → entry_view x ≡ closing m s cause
     → sessions ≡ (machine.without_session s old.state).sessions → HasSameFrames old.outbox outbox
-    → EntersEntry old (closing m s cause) (record old { state = record old.state { moment = m; sessions = sessions }; kept = kept; outbox = outbox })
-closed old m s cause x kept sessions outbox low there added is left same = moves_silent old _ _ x (step_at old.state (machine.Close s cause) (nothing_chosen m) low ∙ rw (there, left) refl) added is same
+    → EntersEntry old (closing m s cause) (record old { state = record old.state { moment = m; sessions = sessions }; open_sessions = keyed; kept = kept; outbox = outbox })
+closed old m s cause x kept sessions keyed outbox low there added is left same = moves_silent old _ _ x (step_at old.state (machine.Close s cause) (nothing_chosen m) low ∙ rw (there, left) refl) added is same
 
 pub has_closed : (st : State) (m s : ℕ) (cause : machine.Cause) (x : Entry) (old new : List Entry) (sessions : List machine.Session) → st.moment ≤ m → machine.is_open st s ≡ true → new ≡ newest (old ++ x ∷ []) → entry_view x ≡ closing m s cause
     → sessions ≡ (machine.without_session s st).sessions → HasHistory st old → HasHistory (record st { moment = m; sessions = sessions }) new
 has_closed st m s cause x old new sessions low there added is left has =
     has_more st (record st { moment = m; sessions = sessions }) old new (closing m s cause) [] (step_at st (machine.Close s cause) (nothing_chosen m) low ∙ rw (there, left) refl) (entered_behind old new x _ added is) has
-
--- the one session
-pub alone : (o : Option OpenSession) (s : ℕ) → list_any (λ n. eqb n.serial s) (sessions_of o) ≡ true → [] ≡ filter (λ n. not (eqb n.serial s)) (sessions_of o)
-alone None s h = refl
-alone (Some n) s h = last (eqb n.serial s) h
-  where
-    last : (b : Bool) → (b || false) ≡ true → [] ≡ cond (not b) (session_view n ∷ []) []
-    last true k = refl
-    last false k = cc
 
 -- ---- a message that was taken
 
@@ -165,9 +156,10 @@ left_open n (Some outcome.Exhausted) s h = refl
 left_open n (Some outcome.Failed) s h = refl
 
 -- the core after the work, at the moment, with these sessions
-abbrev pub after_work : {K D : Type 0} → (K → ℕ) → CoreState K D → ℕ → List machine.Session → List Entry → WaitingFrames → KeptDatabase K → D → CoreState K D
+abbrev pub after_work : {K D : Type 0} → (K → ℕ) → CoreState K D → ℕ → List Session → List Entry → WaitingFrames → KeptDatabase K → D → CoreState K D
 after_work failed old m sessions entries outbox kept source = record {
-  state = record old.state { schema = kept.schema; database = kept.committed; sealed = kept.sealed; sessions = sessions; moment = m };
+  state = record old.state { schema = kept.schema; database = kept.committed; sealed = kept.sealed; sessions = sessions_of sessions; moment = m };
+  open_sessions = sessions;
   kept = entries;
   outbox = outbox;
   keeper = kept.keeper;
@@ -176,7 +168,7 @@ after_work failed old m sessions entries outbox kept source = record {
 }
 
 -- the work was entered
-pub taken : {K D : Type 0} (failed : K → ℕ) (old : CoreState K D) (m n : ℕ) (message : Message) (handled : Handled) (x : Entry) (entries : List Entry) (sessions : List machine.Session) (outbox : WaitingFrames) (kept : KeptDatabase K) (source : D)
+pub taken : {K D : Type 0} (failed : K → ℕ) (old : CoreState K D) (m n : ℕ) (message : Message) (handled : Handled) (x : Entry) (entries : List Entry) (sessions : List Session) (outbox : WaitingFrames) (kept : KeptDatabase K) (source : D)
     → old.state.moment ≤ m → machine.is_open old.state n ≡ true → entries ≡ newest (old.kept ++ x ∷ []) → entry_view x ≡ taking m n message handled.draws.items handled.outcome
     → closed_if_no_memory n handled.outcome (with_db (record old.state { moment = m }) kept) ≡ (after_work failed old m sessions entries outbox kept source).state
     → IsHandled n (λ s. machine.work_of s message) (kept_of old) old.outbox handled kept outbox
@@ -223,7 +215,7 @@ kept_open old new entry asked none sealed counts = record {
 }
 
 -- what was asked for a message
-pub asks_taking : {K D : Type 0} (failed : K → ℕ) (old : CoreState K D) (m n : ℕ) (message : Message) (draws : List Uuid) (o : Option Outcome) (sessions : List machine.Session) (entries : List Entry) (outbox : WaitingFrames) (kept : KeptDatabase K) (source : D)
+pub asks_taking : {K D : Type 0} (failed : K → ℕ) (old : CoreState K D) (m n : ℕ) (message : Message) (draws : List Uuid) (o : Option Outcome) (sessions : List Session) (entries : List Entry) (outbox : WaitingFrames) (kept : KeptDatabase K) (source : D)
     → old.failures ≡ failed old.keeper → AsksStore failed o (kept_of old) kept → failed old.keeper ≤ failed kept.keeper
     → AsksKeeper old (taking m n message draws o) (after_work failed old m sessions entries outbox kept source)
 asks_taking {K} failed old m n message draws None sessions entries outbox kept source count same counts =
@@ -253,23 +245,23 @@ closing_sealed s t m n cause sent h = by (leb s.moment m) (machine.is_open s n) 
 pub asks_closing : {K D : Type 0} (m n : ℕ) (cause : machine.Cause) (old new : CoreState K D) → Closes m n cause old new → AsksKeeper old (closing m n cause) new
 asks_closing m n cause old new c = asks_nothing old new (closing m n cause) refl c.asks (closing_sealed old.state new.state m n cause c.moves.sent c.moves.stepped)
 
--- there is a place, and a serial
-pub not_full : (o : Option OpenSession) (n : ℕ) → o ≡ None → n ≢ 2 ^ 64 - 1 → n < 2 ^ 64 → (leb most_sessions (length (sessions_of o)) || leb (2 ^ 64 - 1) n) ≡ false
-not_full o n none other fits = rw none (lt-leb (2 ^ 64 - 1) n (omega arith))
-
 -- a Close as it was asked for
 pub closed_as_asked : {K D : Type 0} (draws : D → Uuid → D → Type 0) (at s : ℕ) (cause : machine.Cause) (old new : CoreState K D) → Closes at s cause old new → IsEntered draws at (machine.Close s cause) old answer.Done new
-closed_as_asked draws at s cause old new c = record { entry = closing at s cause; tells = refl; moment = refl; drawn = c.drawn; moves = c.moves; asks = asks_closing at s cause old new c }
+closed_as_asked draws at s cause old new c = record { entry = closing at s cause; tells = refl; keys = c.keys; moment = refl; drawn = c.drawn; moves = c.moves; asks = asks_closing at s cause old new c }
 
 -- ---- before any entry
 
+-- no session is open
+abbrev pub none_open : OpenSessions
+none_open = record { open_sessions = []; next = 1 }
+
 -- the state of a database that was opened
-opened_state : {K : Type 0} (schema : Schema) (d : KeptDatabase K) → d.schema ≡ schema → d.sealed ≡ None → state_of d None 1 0 ≡ machine.opening schema d.committed
+opened_state : {K : Type 0} (schema : Schema) (d : KeptDatabase K) → d.schema ≡ schema → d.sealed ≡ None → state_of d none_open 0 ≡ machine.opening schema d.committed
 opened_state schema d same unsealed =
-    ap (λ (v : Schema). record (state_of d None 1 0) { schema = v }) same ∙ ap (λ (v : Option Database). record (machine.opening schema d.committed) { sealed = v }) unsealed
+    ap (λ (v : Schema). record (state_of d none_open 0) { schema = v }) same ∙ ap (λ (v : Option Database). record (machine.opening schema d.committed) { sealed = v }) unsealed
 
 -- the empty history is legal
-pub has_none : {K : Type 0} (d : KeptDatabase K) (kept : List Entry) → d.sealed ≡ None → kept ≡ [] → HasHistory (state_of d None 1 0) kept
+pub has_none : {K : Type 0} (d : KeptDatabase K) (kept : List Entry) → d.sealed ≡ None → kept ≡ [] → HasHistory (state_of d none_open 0) kept
 has_none d kept unsealed none = record {
   schema = d.schema;
   database = d.committed;
@@ -280,7 +272,7 @@ has_none d kept unsealed none = record {
 }
 
 -- and the core has followed it
-pub follows_none : {K D : Type 0} (schema : Schema) (d : KeptDatabase K) (core : CoreState K D) → d.schema ≡ schema → d.sealed ≡ None → core.state ≡ state_of d None 1 0 → core.kept ≡ [] → core.outbox ≡ [] → Follows (machine.opening schema d.committed) [] none_given core
+pub follows_none : {K D : Type 0} (schema : Schema) (d : KeptDatabase K) (core : CoreState K D) → d.schema ≡ schema → d.sealed ≡ None → core.state ≡ state_of d none_open 0 → core.kept ≡ [] → core.outbox ≡ [] → Follows (machine.opening schema d.committed) [] none_given core
 follows_none schema d core same unsealed is none nothing = record {
   sent = [];
   legal = ap (λ (s : State). Some (record { state = s; sent = [] })) (sym (is ∙ opened_state schema d same unsealed));

@@ -4,13 +4,15 @@ use Rattle.ov_specs.specs.machine.Machine as machine
 use Rattle.ov_specs.specs.machine.Machine.{State, Sent}
 use Rattle.ov_specs.specs.machine.History.{run, frames_to}
 use Rattle.ov_core.specs.declared.event.Entry.{Entry}
+use Rattle.ov_core.specs.declared.event.Session.{Session}
 use Rattle.ov_core.specs.History.{Keeps, KeepsNewest}
 use Rattle.ov_core.specs.Outbox.{WaitingFrames, waiting_for, PostsSent}
 
--- what contracts see of a core: its state, the entries that it keeps, the frames that wait, its keeper, how often the keeper's
+-- what contracts see of a core: its state, the open sessions with their keys in order of opening, the entries that it keeps, the frames that wait, its keeper, how often the keeper's
 -- device has failed, and its source of draws
 pub record CoreState (K D : Type 0) : Type 0 where
   pub state : State
+  pub open_sessions : List Session
   pub kept : List Entry
   pub outbox : WaitingFrames
   pub keeper : K

@@ -1,6 +1,7 @@
 pub mod Entries
 pub mod History
 pub mod Sessions
+pub mod States
 pub mod Outbox
 pub mod Handling
 pub mod Preparing

@@ -1,5 +1,5 @@
 -- What one step of a core promises. What names no source is our own.
-use Rattle.std.specs.Prelude.{◌≡◌, ◌⊎◌, ℕ, ◌-◌, ◌^◌, ◌<◌, ◌≤◌, ◌||◌, nat_le, [], length, Bool, true, false, is_some}
+use Rattle.std.specs.Prelude.{◌≡◌, ◌⊎◌, ℕ, ◌<◌, ◌≤◌, [], ◌∷◌, ◌++◌, Bool, true, false, is_some}
 use Rattle.std.specs.List.{list_any}
 use Rattle.ov_specs.specs.machine.Machine as machine
 use Rattle.ov_specs.specs.machine.Machine.{State, is_open}
@@ -10,16 +10,13 @@ use Rattle.ov_core.specs.declared.event.StepFault.{StepFault}
 use Rattle.ov_core.specs.declared.event.StepFault.TheVariants as fault
 use Rattle.ov_core.specs.declared.event.Stepped.{Stepped}
 use Rattle.ov_core.specs.declared.event.Stepped.TheVariants as answer
+use Rattle.ov_core.specs.Sessions.{most_sessions, has_no_room, IsFreeKey, still_open}
 use Rattle.ov_core.specs.Following.{CoreState, EntersEntry}
 use Rattle.ov_core.specs.Outbox.{waiting_for, has_queue}
 
--- how many sessions may be open
-abbrev pub most_sessions : ℕ
-most_sessions = 1
-
 -- no place is left for a session, or no serial
 abbrev pub is_full : State → Bool
-is_full s = nat_le most_sessions (length s.sessions) || nat_le (2 ^ 64 - 1) s.next
+is_full s = has_no_room s.sessions s.next
 
 -- The answer, by the event, the state before, the entry, and the state after. A `Take` may be entered as a closing when out of
 -- memory.
@@ -31,6 +28,12 @@ AnswersEvent (machine.Take session message) old entry new answer.Closed =
 AnswersEvent (machine.Close session cause) old entry new answer.Done = entry.event ≡ machine.Close session cause
 AnswersEvent machine.Tick old entry new answer.Done = entry.event ≡ machine.Tick
 AnswersEvent event old entry new stepped = ⊥
+
+-- A session that is opened comes last, with a key that no open session has. The others that were open and still are keep
+-- their keys.
+abbrev pub KeepsKeys : {K D : Type 0} → CoreState K D → Stepped → CoreState K D → Type 0
+KeepsKeys old (answer.Opened session) new = IsFreeKey session.key old.open_sessions × (new.open_sessions ≡ old.open_sessions ++ session ∷ [])
+KeepsKeys old stepped new = new.open_sessions ≡ still_open new.state old.open_sessions
 
 -- the keeper is as before, and no failure more is counted
 abbrev pub HasSameKeeper : {K D : Type 0} → CoreState K D → CoreState K D → Type 0
@@ -66,6 +69,7 @@ pub record AsksKeeper {K D : Type 0} (old : CoreState K D) (entry : machine.Entr
 pub record IsEntered {K D : Type 0} (draws : D → Uuid → D → Type 0) (at : ℕ) (event : machine.Event) (old : CoreState K D) (stepped : Stepped) (new : CoreState K D) : Type 0 where
   pub entry : machine.Entry
   pub tells : AnswersEvent event old.state entry new.state stepped
+  pub keys : KeepsKeys old stepped new
   pub moment : entry.choice.moment ≡ at
   pub drawn : DrawsFrom draws old.source entry.choice.draws new.source
   pub moves : EntersEntry old entry new
@@ -95,6 +99,7 @@ closing at session cause = record { event = machine.Close session cause; choice 
 pub record Closes {K D : Type 0} (at session : ℕ) (cause : machine.Cause) (old new : CoreState K D) : Type 0 where
   pub moves : EntersEntry old (closing at session cause) new
   pub shut : is_open new.state session ≡ false
+  pub keys : new.open_sessions ≡ still_open new.state old.open_sessions
   pub drawn : new.source ≡ old.source
   pub asks : HasSameKeeper old new
   pub forgotten : waiting_for session old.outbox ≡ [] → has_queue session new.outbox ≡ false

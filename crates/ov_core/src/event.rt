@@ -5,7 +5,7 @@ use uuid::Uuid;
 /// A session.
 #[derive(Clone, Copy, Debug, PartialEq, Eq)]
 pub struct Session {
-    /// Its place in the core, from 0 on.
+    /// Its place in the core, below 64. It is given again once the session is closed.
     pub key: usize,
     /// From 1 on, in the order of opening. It is never used again.
     pub serial: u64,
@@ -87,10 +87,11 @@ pub struct Entry {
 /// Why a step is refused. A refused step changes nothing.
 #[derive(Clone, Copy, Debug, PartialEq, Eq, Error)]
 pub enum StepFault {
-    /// A session is open already, or no serial is left: the last one is 2^64-2.
+    /// 64 sessions are open, or no serial is left: the last one is 2^64-2.
     #[error("too many sessions")]
     TooMany,
-    /// A growth was refused. No step answers it today, since the history has its room from the opening on.
+    /// Memory was refused for a session that opens. No other step answers it today, since the history has its room from the
+    /// opening on.
     #[error("out of memory")]
     Memory,
     /// The session is not open.

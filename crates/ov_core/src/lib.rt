@@ -14,7 +14,7 @@ mod history;
 mod machine;
 mod outbox;
 mod replying;
-mod session;
+mod sessions;
 
 pub use event::{Attempt, Cause, Choice, Entry, Event, Outcome, Session, StepFault, Stepped};
 pub use machine::Core;

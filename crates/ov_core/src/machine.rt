@@ -1,4 +1,4 @@
-ghost use Rattle.std.specs.Prelude.{◌≡◌, ◌≢◌, ◌≤◌, ◌++◌, ℕ, List, [], max, false, MatchBool, IfOk, IfErr, IfNone, OnOk, OnErr, option_to_list};
+ghost use Rattle.std.specs.Prelude.{◌≡◌, ◌≢◌, ◌≤◌, ◌-◌, ◌++◌, ℕ, List, [], length, max, true, false, MatchBool, IfOk, IfErr, IfNone, OnOk, OnErr, option_to_list};
 ghost use Rattle.serde_json.specs.Written.{compact_text};
 ghost use Rattle.ov_specs.specs.rows.Lines.{Contents};
 ghost use Rattle.ov_specs.specs.machine.History.{joined};
@@ -11,6 +11,7 @@ ghost use Rattle.ov_core.specs.Entries.{event_view, cause_view};
 ghost use Rattle.ov_core.specs.Outbox.{waiting_for, has_queue};
 ghost use Rattle.ov_core.specs.History.{HasHistory};
 ghost use Rattle.ov_core.specs.Following.{Follows, none_given, and_handed, and_all_handed};
+ghost use Rattle.ov_core.specs.Sessions.{most_sessions, serial_left};
 ghost use Rattle.ov_core.specs.Stepping.{StepIs, Closes};
 ghost use Rattle.ov_core.specs.Leaving.{LeavesItsOwn};
 ghost use Rattle.ov_db.specs.Committing.{MayFind};
@@ -20,7 +21,7 @@ use crate::event::{Cause, Entry, Event, Session, StepFault, Stepped};
 use crate::handle::{Handled, handle};
 use crate::history::History;
 use crate::outbox::Outbox;
-use crate::session::OpenSession;
+use crate::sessions::Sessions;
 use ov_base::Bytes;
 use ov_db::{Db, OpenFault, RefusedOpen};
 use ov_keeper::{KeepFault, Keeper};
@@ -31,14 +32,13 @@ use std::alloc::{AllocError, Global};
 use std::collections::VecDeque;
 use std::marker::Model;
 
-/// The machine over a keeper, with the newest 4,096 entries of its history (our own, over RFC 7047, 4). One session may be open at
-/// a time.
+/// The machine over a keeper, with the newest 4,096 entries of its history (our own, over RFC 7047, 4). Up to 64 sessions may be
+/// open at a time. A call goes by a session's serial, whatever its key.
 #[derive(Drop)]
 pub struct Core<K: Keeper, D> {
     database: Db<K>,
     source: D,
-    session: Option<OpenSession>,
-    next: u64,
+    sessions: Sessions,
     moment: u64,
     history: History,
     outbox: Outbox,
@@ -52,14 +52,15 @@ impl<K: Keeper, D> Model for Core<K, D> {
     ghost use Rattle.ov_rows.specs.Resident.{database_code};
     ghost use Rattle.ov_core.specs.Following.{CoreState};
     ghost use Rattle.ov_core.specs.History.{HasHistory};
-    ghost use Rattle.ov_core.specs.Sessions.{state_of};
+    ghost use Rattle.ov_core.specs.States.{state_of};
 
     ghost Value = { CoreState K D };
 
     ghost coded = { Prim.hlevel (codes, schema_code, database_code, tree_code, items_code, K.code, D.code) };
 
     ghost view = { λ c. record {
-      state = state_of c.database c.session c.next c.moment;
+      state = state_of c.database c.sessions c.moment;
+      open_sessions = c.sessions.open_sessions;
       kept = c.history;
       outbox = c.outbox;
       keeper = c.database.keeper;
@@ -67,7 +68,7 @@ impl<K: Keeper, D> Model for Core<K, D> {
       source = c.source;
     } };
 
-    ghost invariant = { λ c. HasHistory (state_of c.database c.session c.next c.moment) c.history };
+    ghost invariant = { λ c. HasHistory (state_of c.database c.sessions c.moment) c.history };
 }
 
 impl<K: Keeper + Drop, D: Draws + Drop> Core<K, D> {
@@ -76,7 +77,7 @@ impl<K: Keeper + Drop, D: Draws + Drop> Core<K, D> {
     /// It is refused as `SchemaDiffers` where the keeper holds another text than the schema's (RFC 7047, 3.2), as `BadBody`
     /// where one of its lines is no row of the schema, and with the fault of the keeper's load. Memory that is refused is the
     /// keeper's fault `Memory`. What the keeper holds is not changed, and a refusal gives it back. The room for the 4,096 entries
-    /// of the history is taken here.
+    /// of the history is taken here, and that for the serials of 64 sessions.
     pub fn open(
         alloc: Global,
         keeper: K,
@@ -84,6 +85,7 @@ impl<K: Keeper + Drop, D: Draws + Drop> Core<K, D> {
         draws: D,
     ) -> Result<Core<K, D>, RefusedOpen<K>>
         ensures start { IfOk result (λ core. Follows (opening schema core.state.database) [] none_given core) }
+        ensures none_open { IfOk result (λ core. core.open_sessions ≡ []) }
         ensures schema { IfOk result (λ core. core.state.schema ≡ schema) }
         ensures source { IfOk result (λ core. core.source ≡ draws) }
         // The keeper held the database under this schema.
@@ -105,12 +107,17 @@ impl<K: Keeper + Drop, D: Draws + Drop> Core<K, D> {
                 keeper,
             });
         };
+        let Ok(sessions) = Sessions::new(alloc) else {
+            return Err(RefusedOpen {
+                fault: OpenFault::Keeping(KeepFault::Memory),
+                keeper,
+            });
+        };
         let database = Db::open(alloc, keeper, schema)?;
         Ok(Core {
             database,
             source: draws,
-            session: None,
-            next: 1,
+            sessions,
             moment: 0,
             history,
             outbox: Outbox::new(alloc),
@@ -120,9 +127,9 @@ impl<K: Keeper + Drop, D: Draws + Drop> Core<K, D> {
 
     /// Enters an event at a moment in milliseconds, or at the last one if that is later.
     ///
-    /// An `Open` is refused as `TooMany` while a session is open and where no serial is left, a `Take` or a `Close` as
-    /// `NotOpen` where its session is not open. A `Take` for which memory is refused closes its session. A refused step changes
-    /// nothing. The entry takes no memory: the history has room for it, and keeps the message's text as it came.
+    /// An `Open` is refused as `TooMany` while 64 sessions are open and where no serial is left, else only as `Memory`; a `Take` or
+    /// a `Close` as `NotOpen` where its session is not open. A `Take` for which memory is refused closes its session. A refused
+    /// step changes nothing. The entry takes no memory: the history has room for it, and keeps the message's text as it came.
     pub fn step(&mut self, alloc: Global, moment: u64, event: Event<Received>) -> Stepped
         ensures { StepIs D.draws (max moment self.old.state.moment) (event_view event) self.old result self.new }
     {
@@ -164,10 +171,21 @@ impl<K: Keeper + Drop, D: Draws + Drop> Core<K, D> {
     pub fn is_open(&self, session: Session) -> bool
         ensures { result ≡ is_open self.now.state session.serial }
     {
-        match &self.session {
-            Some(open) => open.serial == session.serial,
-            None => false,
-        }
+        self.sessions.is_open(session.serial)
+    }
+
+    /// How many sessions more may be open: 64 less those that are.
+    pub fn free_places(&self) -> usize
+        ensures { result ≡ most_sessions - length self.now.state.sessions }
+    {
+        self.sessions.free_places()
+    }
+
+    /// The serial that the next session will have. None where none is left: the last is 2^64-2.
+    pub fn next_serial(&self) -> Option<u64>
+        ensures { result ≡ serial_left self.now.state.next }
+    {
+        self.sessions.next_serial()
     }
 
     /// The last 4,096 entries of the history since the core was opened, oldest first.
@@ -214,6 +232,24 @@ impl<K: Keeper + Drop, D: Draws + Drop> Core<K, D> {
         Ok(output)
     }
 
+    /// Drops the frames that wait for a session that is closed; where it is open, nothing is done. It takes no memory.
+    pub fn discard(&mut self, session: Session)
+        ensures open { is_open self.old.state session.serial ≡ true → self.new ≡ self.old }
+        // No frame waits any more for a closed session, and no queue is kept of it.
+        ensures none_left { is_open self.old.state session.serial ≡ false → waiting_for session.serial self.new.outbox ≡ [] }
+        ensures forgotten { is_open self.old.state session.serial ≡ false → has_queue session.serial self.new.outbox ≡ false }
+        ensures others { (other : ℕ) → other ≢ session.serial → waiting_for other self.new.outbox ≡ waiting_for other self.old.outbox }
+        // What waited for a closed session counts as handed out.
+        ensures handed { is_open self.old.state session.serial ≡ false → (before : State) (history : List SpecEntry) (given : ℕ → List (List ℕ)) → Follows before history given self.old
+            → Follows before history (and_all_handed given session.serial (waiting_for session.serial self.old.outbox)) self.new }
+        ensures same { self.new ≡ record self.old { outbox = self.new.outbox } }
+    {
+        if self.is_open(session) {
+            return;
+        }
+        self.outbox.clear(session.serial);
+    }
+
     /// What a crash now leaves, which each core keeps true of itself: the lines of the machine's database, or after a commit
     /// that failed also those of the database that it would have made. It does nothing.
     pub fn left(&self)
@@ -229,8 +265,7 @@ impl<K: Keeper + Drop, D: Draws + Drop> Core<K, D> {
         let Core {
             database,
             source: _,
-            session: _,
-            next: _,
+            sessions: _,
             moment: _,
             history: _,
             outbox: _,
@@ -251,16 +286,16 @@ impl<K: Keeper + Drop, D: Draws + Drop> Core<K, D> {
         requires { self.old.state.moment ≤ moment }
         ensures { StepIs D.draws moment SpecOpen self.old result self.new }
     {
-        if self.session.is_some() || self.next == u64::MAX {
+        if self.sessions.is_full() {
             return Stepped::Refused(StepFault::TooMany);
         }
+        let Ok(session) = self.sessions.open() else {
+            return Stepped::Refused(StepFault::Memory);
+        };
         self.history
             .push(entry_without_choice(self.alloc, moment, Event::Open));
-        let serial = self.next;
-        self.session = Some(OpenSession { serial });
-        self.next = serial + 1;
         self.moment = moment;
-        Stepped::Opened(Session { key: 0, serial })
+        Stepped::Opened(session)
     }
 
     fn tick(&mut self, moment: u64) -> Stepped
@@ -283,7 +318,7 @@ impl<K: Keeper + Drop, D: Draws + Drop> Core<K, D> {
             return false;
         }
         self.history.push(entry_without_choice(self.alloc, moment, Event::Close(session, cause)));
-        self.session = None;
+        self.sessions.close(session.serial);
         self.moment = moment;
         self.outbox.forget(session.serial);
         true
@@ -313,7 +348,7 @@ impl<K: Keeper + Drop, D: Draws + Drop> Core<K, D> {
         ));
         self.moment = moment;
         if is_closing(outcome) {
-            self.session = None;
+            self.sessions.close(session.serial);
             return Stepped::Closed;
         }
         Stepped::Done

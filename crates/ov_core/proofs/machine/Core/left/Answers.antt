@@ -6,4 +6,4 @@ pub returns : goal.returns
 returns g c =
     let d = c.self.inside.database in
     rw (← c.self.view_is) (λ honest held found.
-    its_own (record { schema = d.schema; database = d.committed; sealed = d.sealed; sessions = sessions_of c.self.inside.session; next = c.self.inside.next; moment = c.self.inside.moment }) held (c.left.ensures.held honest held found))
+    its_own (record { schema = d.schema; database = d.committed; sealed = d.sealed; sessions = sessions_of c.self.inside.sessions.open_sessions; next = c.self.inside.sessions.next; moment = c.self.inside.moment }) held (c.left.ensures.held honest held found))
