@@ -1,10 +1,11 @@
 -- Which lists of stream events suit after one event more.
-use Rattle.std.proofs.Common.{◌≡◌, ◌≢◌, ℕ, ◌+◌, ◌<◌, List, [], ◌∷◌, ◌++◌, refl, sym, ap, subst, ◌∙◌, cond, eqb, leb, max, Bool, true, false, Option, Some, None, suc, inl, inr, length, arith, ◌-◌, ◌^◌, append_assoc, take, get_or}
+use Rattle.std.proofs.Common.{◌≡◌, ◌≢◌, ℕ, ◌+◌, ◌<◌, List, [], ◌∷◌, ◌++◌, refl, sym, ap, subst, ◌∙◌, cond, eqb, leb, max, Bool, true, false, Option, Some, None, zero, suc, inl, inr, length, arith, ◌-◌, append_assoc, take, get_or}
 use Rattle.std.specs.Prelude.{◌||◌, MatchBool, IsSomeAnd, slice_get}
-use Rattle.std.specs.List.{list_any}
 use Rattle.std.proofs.lemmas.List.{append-nil, take_more, map-append, get_or_default}
 use Rattle.std.proofs.lemmas.Option.{slice_get_cases}
-use Rattle.std.proofs.lemmas.Bool.{false≢true, cases_Bool, cases_eq, le-leb, eq-eqb, eqb-true, MatchBool-at_true, MatchBool-at_false}
+use Rattle.std.proofs.lemmas.Bool.{false≢true, cases_Bool, cases_eq, le-leb, lt-leb, eq-eqb, ne_eqb, MatchBool-at_true, MatchBool-at_false}
+use Rattle.std.specs.BTreeMap.{is_at}
+use Rattle.std.specs.Ordering.{nat_cmp}
 use Rattle.ov_specs.specs.wire.Message.{Message, asked}
 use Rattle.ov_specs.specs.machine.Machine as machine
 use Rattle.ov_specs.specs.machine.Machine.{State, Entry, Stepped, is_open, opening}
@@ -21,10 +22,11 @@ use Rattle.ov_core.specs.declared.event.Session.{Session}
 use Rattle.ov_core.specs.declared.event.Stepped.TheVariants as answer
 use Rattle.ov_streams.specs.declared.event.StreamEvent.{StreamEvent}
 use Rattle.ov_core.specs.Following.{CoreState, Extends}
-use Rattle.ov_core.specs.Stepping.{IsEntered, Closes, is_full, most_sessions, closing}
-use Rattle.ov_streams.specs.declared.session_stream.SessionStream.{SessionStream}
+use Rattle.ov_core.specs.Sessions.{most_sessions, beyond_serials, serial_left}
+use Rattle.ov_core.specs.Stepping.{IsEntered, Closes, is_full, closing}
+use Rattle.ov_core.proofs.Keying.{same_serial}
 use Rattle.ov_streams.specs.Feeding.{IsFed, EntersPiece}
-use Rattle.ov_streams.specs.Running.{StreamsState, FollowsEvents, RunsEvents, HasSessionStream, stream_event_view, stream_events_view}
+use Rattle.ov_streams.specs.Running.{StreamsState, FollowsEvents, RunsEvents, HasCutter, cutter_of, stream_event_view, stream_events_view}
 use Rattle.ov_streams.proofs.Entering.{enters_none}
 
 max_zero : (m : ℕ) → max 0 m ≡ m
@@ -32,12 +34,12 @@ max_zero m = omega arith
 
 -- one event more, by its entries
 suits_more : {K D : Type 0} (schema : Schema) (database : Database) (list : List streams.StreamEvent) (h : List Entry) (given : ℕ → List (List ℕ)) (old new : StreamsState K D) (s : FollowsEvents schema database list h given old) (e : streams.StreamEvent) (k : List Entry) (after : Streams)
-    → Extends old.core k new.core → Expands 0 old.core.state s.fed e k new.core.state after → ((n : ℕ) → is_open new.core.state n ≡ true → HasSessionStream n (after n) new.session_stream) → FollowsEvents schema database (list ++ e ∷ []) (h ++ k) given new
-suits_more schema database list h given old new s e k after enters x session_streams = record {
+    → Extends old.core k new.core → Expands 0 old.core.state s.fed e k new.core.state after → ((n : ℕ) → is_open new.core.state n ≡ true → HasCutter n (after n) new.cutters) → FollowsEvents schema database (list ++ e ∷ []) (h ++ k) given new
+suits_more schema database list h given old new s e k after enters x cutters = record {
   fed = after;
   follows = enters.follows (opening schema database) h given s.follows;
   expands = one_more (opening schema database) no_streams list h old.core.state s.fed e k new.core.state after s.expands x;
-  session_streams = session_streams;
+  cutters = cutters;
 }
 
 at_true : (b : Bool) (P Q : Type 0) → b ≡ true → P → MatchBool b P Q
@@ -50,24 +52,24 @@ at_false false P Q h q = q
 
 -- ---- time passes, a session ends
 
-pub passed : {K D : Type 0} (draws : D → Uuid → D → Type 0) (ms : ℕ) (old new : StreamsState K D) → new.session_stream ≡ old.session_stream → IsEntered draws (max ms old.core.state.moment) machine.Tick old.core answer.Done new.core → RunsEvents (streams.Passes ms ∷ []) old new
+pub passed : {K D : Type 0} (draws : D → Uuid → D → Type 0) (ms : ℕ) (old new : StreamsState K D) → new.cutters ≡ old.cutters → IsEntered draws (max ms old.core.state.moment) machine.Tick old.core answer.Done new.core → RunsEvents (streams.Passes ms ∷ []) old new
 passed draws ms old new same e schema database list h given s =
     let t : Stepped = record { state = new.core.state; sent = e.moves.sent } in (
       e.entry ∷ [],
       suits_more schema database list h given old new s (streams.Passes ms) (e.entry ∷ []) s.fed e.moves.follows
           (e.entry, t, refl, record { event = e.tells; moment = e.moment; step = e.moves.stepped }, refl, refl)
-          (λ n there. subst (HasSessionStream n (s.fed n)) (sym same) (s.session_streams n (sym (turn_tick n old.core.state e.entry t e.moves.stepped e.tells).open_is ∙ there))),
+          (λ n there. subst (HasCutter n (s.fed n)) (sym same) (s.cutters n (sym (turn_tick n old.core.state e.entry t e.moves.stepped e.tells).open_is ∙ there))),
     )
 
 module _ {K D : Type 0} (n : ℕ) (old new : StreamsState K D) where
-  pub finished : new.session_stream ≡ old.session_stream → is_open old.core.state n ≡ true → Closes old.core.state.moment n machine.InputEnded old.core new.core → RunsEvents (streams.Finish n ∷ []) old new
+  pub finished : new.cutters ≡ old.cutters → is_open old.core.state n ≡ true → Closes old.core.state.moment n machine.InputEnded old.core new.core → RunsEvents (streams.Finish n ∷ []) old new
   finished same there c schema database list h given s =
       let e = closing old.core.state.moment n machine.InputEnded in
       let t : Stepped = record { state = new.core.state; sent = c.moves.sent } in (
         e ∷ [],
         suits_more schema database list h given old new s (streams.Finish n) (e ∷ []) s.fed c.moves.follows
             (at_true (is_open old.core.state n) _ _ there (e, t, refl, record { event = refl; moment = sym (max_zero old.core.state.moment); step = c.moves.stepped }, refl, refl))
-            (λ m still. subst (HasSessionStream m (s.fed m)) (sym same) (s.session_streams m (elim (cases_eq n m) [
+            (λ m still. subst (HasCutter m (s.fed m)) (sym same) (s.cutters m (elim (cases_eq n m) [
               | inl is ↦ absurd (false≢true (sym c.shut ∙ (ap (is_open new.core.state) is ∙ still)))
               | inr ne ↦ sym (turn_close_other m old.core.state e t c.moves.stepped n machine.InputEnded ne refl).open_is ∙ still
             ]))),
@@ -77,20 +79,58 @@ module _ {K D : Type 0} (n : ℕ) (old new : StreamsState K D) where
   not_finished same away schema database list h given s = (
     [],
     subst (λ (x : StreamsState K D). FollowsEvents schema database (list ++ streams.Finish n ∷ []) (h ++ []) given x) (sym same)
-        (suits_more schema database list h given old old s (streams.Finish n) [] s.fed (enters_none old.core) (at_false (is_open old.core.state n) _ _ away (refl, refl, refl)) s.session_streams),
+        (suits_more schema database list h given old old s (streams.Finish n) [] s.fed (enters_none old.core) (at_false (is_open old.core.state n) _ _ away (refl, refl, refl)) s.cutters),
   )
 
+-- ---- cutters
+
+abbrev Cutters : Type 0
+Cutters = List (ℕ × CutterState)
+
+-- the cutters were updated at one session
+abbrev pub UpdatesCutter : ℕ → Option CutterState → Cutters → Cutters → Type 0
+UpdatesCutter n cutter old new = (m : ℕ) → cutter_of m new ≡ cond (eqb m n) cutter (cutter_of m old)
+
+-- so was the map
+pub updates_cutter : (n : ℕ) (cutter : Option CutterState) (old new : Cutters) → ((m : ℕ) → cutter_of m new ≡ cond (is_at (nat_cmp n) m) cutter (cutter_of m old)) → UpdatesCutter n cutter old new
+updates_cutter n cutter old new h m = h m ∙ ap (λ (b : Bool). cond b cutter (cutter_of m old)) (same_serial n m)
+
+-- a session has a cutter after one was given
+has_updated : (n m : ℕ) (stream : List ℕ) (cutter : CutterState) (old new : Cutters) → UpdatesCutter n (Some cutter) old new → (m ≡ n → IsFed stream cutter) → (m ≢ n → HasCutter m stream old) → HasCutter m stream new
+has_updated n m stream cutter old new h own other = subst (λ (o : Option CutterState). IsSomeAnd o (IsFed stream)) (sym (h m)) (elim (cases_eq m n) [
+  | inl is ↦ rw (eq-eqb m n is) (own is)
+  | inr ne ↦ rw (ne_eqb m n ne) (other ne)
+])
+
+-- and after another's was given up
+has_kept : (n m : ℕ) (stream : List ℕ) (old new : Cutters) → UpdatesCutter n None old new → m ≢ n → HasCutter m stream old → HasCutter m stream new
+has_kept n m stream old new h ne has = subst (λ (o : Option CutterState). IsSomeAnd o (IsFed stream)) (sym (h m)) (rw (ne_eqb m n ne) has)
+
+-- the core with other cutters
+abbrev pub over : {K D : Type 0} → CoreState K D → Cutters → StreamsState K D
+over core cutters = record { core = core; cutters = cutters }
+
+-- whatever the streams suited before, they suit with other cutters, where each open session has its own
+with_cutters : {K D : Type 0} (old : StreamsState K D) (cutters : Cutters) → ((schema : Schema) (database : Database) (list : List streams.StreamEvent) (h : List Entry) (given : ℕ → List (List ℕ)) (s : FollowsEvents schema database list h given old)
+    → (m : ℕ) → is_open old.core.state m ≡ true → HasCutter m (s.fed m) cutters) → RunsEvents [] old (over old.core cutters)
+with_cutters old cutters has schema database list h given s = (
+  [],
+  subst (λ (l : List streams.StreamEvent). FollowsEvents schema database l (h ++ []) given (over old.core cutters)) (sym (append-nil list))
+      (subst (λ (k : List Entry). FollowsEvents schema database list k given (over old.core cutters)) (sym (append-nil h)) (record {
+        fed = s.fed;
+        follows = s.follows;
+        expands = s.expands;
+        cutters = has schema database list h given s;
+      })),
+)
+
+-- the cutter of a closed session was given up
+pub forgotten : {K D : Type 0} (n : ℕ) (old : StreamsState K D) (cutters : Cutters) → UpdatesCutter n None old.cutters cutters → is_open old.core.state n ≡ false → RunsEvents [] old (over old.core cutters)
+forgotten n old cutters updates away =
+    with_cutters old cutters (λ schema database list h given s m there.
+    has_kept n m (s.fed m) old.cutters cutters updates (λ is. false≢true (sym away ∙ (ap (is_open old.core.state) (sym is) ∙ there))) (s.cutters m there))
+
 -- ---- a session opens
-
-some : (k : ℕ) (b : Bool) → (leb most_sessions (suc k) || b) ≡ true
-some k b = rw (le-leb 1 (suc k) (omega arith)) refl
-
-none_open : (s : State) → is_full s ≡ false → (n : ℕ) → is_open s n ≡ false
-none_open s h n = by_list s.sessions (leb (2 ^ 64 - 1) s.next) h
-  where
-    by_list : (xs : List machine.Session) (b : Bool) → (leb most_sessions (length xs) || b) ≡ false → list_any (λ m. eqb m.serial n) xs ≡ false
-    by_list [] b k = refl
-    by_list (x ∷ xs) b k = absurd (false≢true (sym k ∙ some (length xs) b))
 
 pub first_fed : (stream : List ℕ) (cutter : CutterState) → stream ≡ [] → StandsFor [] [] cutter → IsFed stream cutter
 first_fed stream cutter none stands = record {
@@ -99,23 +139,66 @@ first_fed stream cutter none stands = record {
   whole = ap (λ (l : List ℕ). (asked l).damaged) none ∙ ap (λ a. a.damaged) asked_nothing;
 }
 
-pub opened : {K D : Type 0} (draws : D → Uuid → D → Type 0) (session : Session) (cutter : CutterState) (old new : StreamsState K D) → new.session_stream ≡ Some (record { session = session; cutter = cutter }) → StandsFor [] [] cutter
-    → IsEntered draws (max 0 old.core.state.moment) machine.Open old.core (answer.Opened session) new.core → RunsEvents (streams.Opens ∷ []) old new
-opened draws session cutter old new session_stream stands e schema database list h given s =
-    let t : Stepped = record { state = new.core.state; sent = e.moves.sent } in (
-      e.entry ∷ [],
-      suits_more schema database list h given old new s streams.Opens (e.entry ∷ []) s.fed e.moves.follows
-          (e.entry, t, refl, record { event = e.tells.0; moment = e.moment; step = e.moves.stepped }, refl, refl)
-          (λ n there.
-          let turned : (is_open old.core.state n || eqb old.core.state.next n) ≡ true = sym (turn_open n old.core.state e.entry t e.moves.stepped e.tells.0).open_is ∙ there in
-          let own : eqb old.core.state.next n ≡ true = only (is_open old.core.state n) (eqb old.core.state.next n) (none_open old.core.state e.tells.3 n) turned in
-          let is : old.core.state.next ≡ n = eqb-true old.core.state.next n own in
-          subst (HasSessionStream n (s.fed n)) (sym session_stream) (e.tells.1 ∙ is, first_fed (s.fed n) cutter (not_fed_yet schema database _ h old.core.state s.fed n s.expands (omega (arith, is))) stands)),
-    )
+module _ {K D : Type 0} (cutter : CutterState) (old : StreamsState K D) (cutters : Cutters) (updates : UpdatesCutter old.core.state.next (Some cutter) old.cutters cutters) (stands : StandsFor [] [] cutter) where
+  -- the next session has a cutter, which was given nothing
+  next_has : (schema : Schema) (database : Database) (list : List streams.StreamEvent) (h : List Entry) (given : ℕ → List (List ℕ)) (s : FollowsEvents schema database list h given old)
+      → (m : ℕ) → (m ≢ old.core.state.next → is_open old.core.state m ≡ true) → HasCutter m (s.fed m) cutters
+  next_has schema database list h given s m other = has_updated old.core.state.next m (s.fed m) cutter old.cutters cutters updates
+      (λ is. first_fed (s.fed m) cutter (not_fed_yet schema database _ h old.core.state s.fed m s.expands (omega (arith, is))) stands)
+      (λ ne. s.cutters m (other ne))
+
+  -- it is not opened
+  pub not_opened : RunsEvents [] old (over old.core cutters)
+  not_opened = with_cutters old cutters (λ schema database list h given s m there. next_has schema database list h given s m (λ _. there))
+
+  pub opened : (draws : D → Uuid → D → Type 0) (session : Session) (core : CoreState K D) → IsEntered draws (max 0 old.core.state.moment) machine.Open old.core (answer.Opened session) core → RunsEvents (streams.Opens ∷ []) old (over core cutters)
+  opened draws session core e schema database list h given s =
+      let t : Stepped = record { state = core.state; sent = e.moves.sent } in (
+        e.entry ∷ [],
+        suits_more schema database list h given old (over core cutters) s streams.Opens (e.entry ∷ []) s.fed e.moves.follows
+            (e.entry, t, refl, record { event = e.tells.0; moment = e.moment; step = e.moves.stepped }, refl, refl)
+            (λ n there.
+            let turned : (is_open old.core.state n || eqb old.core.state.next n) ≡ true = sym (turn_open n old.core.state e.entry t e.moves.stepped e.tells.0).open_is ∙ there in
+            next_has schema database list h given s n (λ ne. only (is_open old.core.state n) (eqb old.core.state.next n) (ne_eqb old.core.state.next n (λ is. ne (sym is))) turned)),
+      )
+    where
+      only : (a b : Bool) → b ≡ false → (a || b) ≡ true → a ≡ true
+      only true b h k = refl
+      only false true h k = cc
+      only false false h k = k
+
+-- no serial is left
+pub full_by_serial : (s : State) → serial_left s.next ≡ None → is_full s ≡ true
+full_by_serial s none = by (leb most_sessions (length s.sessions)) (leb beyond_serials s.next) none
   where
-    only : (a b : Bool) → a ≡ false → (a || b) ≡ true → b ≡ true
-    only true b h k = cc
-    only false b h k = k
+    by : (a b : Bool) → cond b None (Some s.next) ≡ None → (a || b) ≡ true
+    by true b h = refl
+    by false true h = refl
+    by false false h = cc
+
+-- no place is left
+pub full_by_places : (s : State) → most_sessions - length s.sessions ≡ 0 → is_full s ≡ true
+full_by_places s none = rw (le-leb most_sessions (length s.sessions) (omega arith)) refl
+
+-- a place and a serial are left
+pub not_full : (s : State) (serial : ℕ) → serial_left s.next ≡ Some serial → most_sessions - length s.sessions ≢ 0 → is_full s ≡ false
+not_full s serial left place = rw (lt-leb most_sessions (length s.sessions) (below (most_sessions - length s.sessions) refl place)) (by (leb beyond_serials s.next) left)
+  where
+    below : (k : ℕ) → most_sessions - length s.sessions ≡ k → k ≢ 0 → length s.sessions < most_sessions
+    below zero is ne = absurd (ne refl)
+    below (suc k) is ne = omega arith
+
+    by : (b : Bool) → cond b None (Some s.next) ≡ Some serial → b ≡ false
+    by true h = cc
+    by false h = refl
+
+-- the serial that is left is the next
+pub left_is : (next serial : ℕ) → serial_left next ≡ Some serial → serial ≡ next
+left_is next serial h = by (leb beyond_serials next) h
+  where
+    by : (b : Bool) → cond b None (Some next) ≡ Some serial → serial ≡ next
+    by true k = cc
+    by false k = cc
 
 -- ---- bytes of a session come
 
@@ -144,47 +227,34 @@ others_open at n m ne s (message ∷ ms) d (e ∷ entries) new (t, inr (enters, 
 pub fed_own : (x : Streams) (n : ℕ) (bytes : List ℕ) → with_fed x n bytes n ≡ x n ++ bytes
 fed_own x n bytes = ap (λ b. cond b (x n ++ bytes) (x n)) (eq-eqb n n refl)
 
+fed_other : (x : Streams) (n m : ℕ) (bytes : List ℕ) → m ≢ n → with_fed x n bytes m ≡ x m
+fed_other x n m bytes ne = ap (λ b. cond b (x m ++ bytes) (x m)) (ne_eqb m n ne)
+
 -- the session's cutter was given its bytes
-pub was_fed : {K D : Type 0} (n : ℕ) (bytes : List ℕ) (session : Session) (before after : CutterState) (old new : StreamsState K D) → session.serial ≡ n → old.session_stream ≡ Some (record { session = session; cutter = before }) → new.session_stream ≡ Some (record { session = session; cutter = after })
+pub was_fed : {K D : Type 0} (n : ℕ) (bytes : List ℕ) (before after : CutterState) (old new : StreamsState K D) → cutter_of n old.cutters ≡ Some before → UpdatesCutter n (Some after) old.cutters new.cutters
     → is_open old.core.state n ≡ true → ((stream : List ℕ) → IsFed stream before → EntersPiece 0 n stream bytes old.core new.core after) → RunsEvents (streams.Feed n bytes ∷ []) old new
-was_fed n bytes session before after old new own session_stream then there brings schema database list h given s =
-    let b = brings (s.fed n) (subst (HasSessionStream n (s.fed n)) session_stream (s.session_streams n there)).1 in (
+was_fed n bytes before after old new was updates there brings schema database list h given s =
+    let b = brings (s.fed n) (subst (λ (o : Option CutterState). IsSomeAnd o (IsFed (s.fed n))) was (s.cutters n there)) in (
       b.entries,
       suits_more schema database list h given old new s (streams.Feed n bytes) b.entries (with_fed s.fed n bytes) b.enters
           (at_true (is_open old.core.state n) _ _ there (b.messages, b.more, b.feeds, refl))
-          (λ m still. elim (cases_eq m n) [
-            | inl is ↦
-                let P : ℕ → Type 0 = λ k. HasSessionStream k (with_fed s.fed n bytes k) new.session_stream in
-                subst P (sym is) (subst (HasSessionStream n (with_fed s.fed n bytes n)) (sym then)
-                (own, subst (λ (l : List ℕ). IsFed l after) (sym (fed_own s.fed n bytes)) (b.goes_on (ap (is_open new.core.state) (sym is) ∙ still))))
-            | inr ne ↦
-                let before_it = s.session_streams m (others_open 0 m n (λ e. ne (sym e)) old.core.state b.messages (asked (s.fed n ++ bytes)).damaged b.entries new.core.state b.feeds still) in
-                absurd (ne (sym (subst (HasSessionStream m (s.fed m)) session_stream before_it).0 ∙ own))
-          ]),
+          (λ m still. has_updated n m (with_fed s.fed n bytes m) after old.cutters new.cutters updates
+          (λ is. subst (λ (k : ℕ). IsFed (with_fed s.fed n bytes k) after) (sym is) (subst (λ (l : List ℕ). IsFed l after) (sym (fed_own s.fed n bytes)) (b.goes_on (ap (is_open new.core.state) (sym is) ∙ still))))
+          (λ ne. subst (λ (l : List ℕ). HasCutter m l old.cutters) (sym (fed_other s.fed n m bytes ne))
+          (s.cutters m (others_open 0 m n (λ e. ne (sym e)) old.core.state b.messages (asked (s.fed n ++ bytes)).damaged b.entries new.core.state b.feeds still)))),
     )
 
 -- the session is not open
-pub not_fed : {K D : Type 0} (n : ℕ) (bytes : List ℕ) (old new : StreamsState K D) → new ≡ old → (is_open old.core.state n ≡ true → (stream : List ℕ) → HasSessionStream n stream old.session_stream → ⊥) → RunsEvents (streams.Feed n bytes ∷ []) old new
-not_fed n bytes old new same away schema database list h given s =
-    let shut : is_open old.core.state n ≡ false = elim (cases_Bool (is_open old.core.state n)) [
-      | inl there ↦ absurd (away there (s.fed n) (s.session_streams n there))
-      | inr shut ↦ shut
-    ] in (
-      [],
-      subst (λ (x : StreamsState _ _). FollowsEvents schema database (list ++ streams.Feed n bytes ∷ []) (h ++ []) given x) (sym same)
-          (suits_more schema database list h given old old s (streams.Feed n bytes) [] s.fed (enters_none old.core) (at_false (is_open old.core.state n) _ _ shut (refl, refl, refl)) s.session_streams),
-    )
+pub not_fed : {K D : Type 0} (n : ℕ) (bytes : List ℕ) (old new : StreamsState K D) → new ≡ old → is_open old.core.state n ≡ false → RunsEvents (streams.Feed n bytes ∷ []) old new
+not_fed n bytes old new same shut schema database list h given s = (
+  [],
+  subst (λ (x : StreamsState _ _). FollowsEvents schema database (list ++ streams.Feed n bytes ∷ []) (h ++ []) given x) (sym same)
+      (suits_more schema database list h given old old s (streams.Feed n bytes) [] s.fed (enters_none old.core) (at_false (is_open old.core.state n) _ _ shut (refl, refl, refl)) s.cutters),
+)
 
--- no session has a cutter, or another one
-pub no_session_stream : (n : ℕ) (stream : List ℕ) (session_stream : Option SessionStream) → session_stream ≡ None → HasSessionStream n stream session_stream → ⊥
-no_session_stream n stream session_stream none h = absurd (subst (HasSessionStream n stream) none h)
-
-pub other_session_stream : (n : ℕ) (stream : List ℕ) (session_stream : Option SessionStream) (l : SessionStream) → session_stream ≡ Some l → l.session.serial ≢ n → HasSessionStream n stream session_stream → ⊥
-other_session_stream n stream session_stream l is ne h = ne (subst (HasSessionStream n stream) is h).0
-
--- the core with a lane
-abbrev pub over : {K D : Type 0} → CoreState K D → Option SessionStream → StreamsState K D
-over core session_stream = record { core = core; session_stream = session_stream }
+-- an open session has a cutter, so what is without is nothing that the streams come to
+pub no_cutter : {K D : Type 0} (n : ℕ) (bytes : List ℕ) (old new : StreamsState K D) → is_open old.core.state n ≡ true → cutter_of n old.cutters ≡ None → RunsEvents (streams.Feed n bytes ∷ []) old new
+no_cutter n bytes old new there none schema database list h given s = absurd (subst (λ (o : Option CutterState). IsSomeAnd o (IsFed (s.fed n))) none (s.cutters n there))
 
 -- ---- lists of events
 

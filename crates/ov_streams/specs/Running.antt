@@ -1,5 +1,9 @@
 -- Which lists of stream events a core with its streams has followed. What names no source is our own.
 use Rattle.std.specs.Prelude.{◌≡◌, ℕ, ◌++◌, List, map, Option, IsSomeAnd, true}
+use Rattle.std.specs.Map.{lookup}
+use Rattle.std.specs.BTreeMap.{is_at}
+use Rattle.std.specs.Ordering.{nat_cmp}
+use Rattle.ov_cut.specs.CutterState.{CutterState}
 use Rattle.ov_specs.specs.machine.Machine as machine
 use Rattle.ov_specs.specs.machine.Machine.{Entry, State, opening, is_open}
 use Rattle.ov_specs.specs.schema.SchemaTypes.{Schema}
@@ -11,7 +15,6 @@ use Rattle.ov_core.specs.Following.{CoreState, Follows}
 use Rattle.ov_core.specs.Stepping.{RefusesStep}
 use Rattle.ov_streams.specs.declared.event.StreamEvent.{StreamEvent}
 use Rattle.ov_streams.specs.declared.event.StreamEvent.TheVariants.{Open, Feed, Finish, Tick}
-use Rattle.ov_streams.specs.declared.session_stream.SessionStream.{SessionStream}
 use Rattle.ov_streams.specs.Feeding.{IsFed}
 
 -- an event of the code as that of the definitions
@@ -25,14 +28,18 @@ stream_event_view (Tick moment) = streams.Passes moment
 abbrev pub stream_events_view : List StreamEvent → List streams.StreamEvent
 stream_events_view events = map stream_event_view events
 
--- what contracts see: the core, and the cutter of the session that is open, if one is
+-- what contracts see: the core, and the cutters by the serials of their sessions
 pub record StreamsState (K D : Type 0) : Type 0 where
   pub core : CoreState K D
-  pub session_stream : Option SessionStream
+  pub cutters : List (ℕ × CutterState)
+
+-- the cutter of a session, where it has one
+abbrev pub cutter_of : ℕ → List (ℕ × CutterState) → Option CutterState
+cutter_of n cutters = lookup (is_at (nat_cmp n)) cutters
 
 -- the session has a cutter that was given its stream, which is not damaged
-abbrev pub HasSessionStream : ℕ → List ℕ → Option SessionStream → Type 0
-HasSessionStream n stream session_stream = IsSomeAnd session_stream (λ l. (l.session.serial ≡ n) × IsFed stream l.cutter)
+abbrev pub HasCutter : ℕ → List ℕ → List (ℕ × CutterState) → Type 0
+HasCutter n stream cutters = IsSomeAnd (cutter_of n cutters) (IsFed stream)
 
 -- The list of events expands to the history that the core has followed from its opening, and each open session has a cutter that
 -- was given its stream.
@@ -40,7 +47,7 @@ pub record FollowsEvents {K D : Type 0} (schema : Schema) (database : Database) 
   pub fed : Streams
   pub follows : Follows (opening schema database) history given now.core
   pub expands : ExpandsAll (opening schema database) no_streams list history now.core.state fed
-  pub session_streams : (n : ℕ) → is_open now.core.state n ≡ true → HasSessionStream n (fed n) now.session_stream
+  pub cutters : (n : ℕ) → is_open now.core.state n ≡ true → HasCutter n (fed n) now.cutters
 
 -- whatever list the streams suited before, they suit it with these events behind it
 abbrev pub RunsEvents : {K D : Type 0} → List streams.StreamEvent → StreamsState K D → StreamsState K D → Type 0

@@ -3,7 +3,6 @@
 
 mod event;
 mod feed;
-pub mod session_stream;
 mod streams;
 
 pub use event::{Ran, StreamEvent};

@@ -11,19 +11,20 @@ ghost use Rattle.ov_streams.specs.Running.{FollowsEvents, RunsEvents, RefusesEve
 
 use crate::event::{Ran, StreamEvent};
 use crate::feed::feed_session;
-use crate::session_stream::SessionStream;
 use ov_base::Bytes;
 use ov_core::early::{Draws, Keeper};
 use ov_core::{Cause, Core, Event, Session, StepFault, Stepped};
 use ov_cut::Cutter;
 use std::alloc::{AllocError, Global};
+use std::collections::BTreeMap;
 use std::marker::Model;
 
-/// A core with the streams of its sessions.
+/// A core with the streams of its sessions, each with a cutter of its own.
 #[derive(Drop)]
 pub struct Streams<K: Keeper, D> {
     core: Core<K, D>,
-    session_stream: Option<SessionStream>,
+    /// The cutter of each open session, by its serial. The next session may have its own already.
+    cutters: BTreeMap<u64, Cutter>,
 }
 
 impl<K: Keeper, D> Model for Streams<K, D> {
@@ -37,19 +38,19 @@ impl<K: Keeper, D> Model for Streams<K, D> {
 
     ghost coded = { Prim.hlevel (codes, schema_code, database_code, tree_code, items_code, K.code, D.code) };
 
-    ghost view = { λ s. record { core = s.core; session_stream = s.session_stream } };
+    ghost view = { λ s. record { core = s.core; cutters = s.cutters.entries } };
 }
 
 impl<K: Keeper + Drop, D: Draws + Drop> Streams<K, D> {
     /// Streams over a core without history.
-    pub fn new(core: Core<K, D>) -> Streams<K, D>
+    pub fn new(alloc: Global, core: Core<K, D>) -> Streams<K, D>
         ensures same { result.core ≡ core }
         // The empty list of events suits it.
         ensures none { (schema : Schema) (database : Database) → Follows (opening schema database) [] none_given core → FollowsEvents schema database [] [] none_given result }
     {
         Streams {
             core,
-            session_stream: None,
+            cutters: BTreeMap::new(alloc),
         }
     }
 
@@ -110,36 +111,41 @@ impl<K: Keeper + Drop, D: Draws + Drop> Streams<K, D> {
     fn serve(&mut self, alloc: Global, event: &StreamEvent) -> Result<(), StepFault>
         ensures { MatchResult result
             (λ _. RunsEvents (stream_event_view event.now ∷ []) self.old self.new)
-            (λ fault. (self.new ≡ self.old) × RefusesEvent event.now self.old.core.state fault) }
+            (λ fault. RunsEvents [] self.old self.new × RefusesEvent event.now self.new.core.state fault) }
     {
         match event {
             StreamEvent::Open => self.open(alloc),
             StreamEvent::Feed(session, bytes) => {
                 self.feed(alloc, *session, bytes.as_slice());
+                self.forget(*session);
                 Ok(())
             }
             StreamEvent::Finish(session) => {
                 self.finish(*session);
+                self.forget(*session);
                 Ok(())
             }
             StreamEvent::Tick(moment) => self.tick(alloc, *moment),
         }
     }
 
-    /// Opens a session with a cutter of its own.
+    /// Opens a session, with a cutter of its own that is at hand before.
     fn open(&mut self, alloc: Global) -> Result<(), StepFault>
         ensures { MatchResult result
             (λ _. RunsEvents (stream_event_view StreamEvent.Open ∷ []) self.old self.new)
-            (λ fault. (self.new ≡ self.old) × RefusesStep SpecOpen self.old.core.state fault) }
+            (λ fault. RunsEvents [] self.old self.new × RefusesStep SpecOpen self.new.core.state fault) }
     {
+        let Some(serial) = self.core.next_serial() else {
+            return Err(StepFault::TooMany);
+        };
+        if self.core.free_places() == 0 {
+            return Err(StepFault::TooMany);
+        }
+        let Ok(_) = self.cutters.insert(serial, Cutter::new(alloc)) else {
+            return Err(StepFault::Memory);
+        };
         match self.core.step(alloc, 0, Event::Open) {
-            Stepped::Opened(session) => {
-                self.session_stream = Some(SessionStream {
-                    session,
-                    cutter: Cutter::new(alloc),
-                });
-                Ok(())
-            }
+            Stepped::Opened(_) => Ok(()),
             Stepped::Refused(fault) => Err(fault),
             Stepped::Done | Stepped::Closed => unreachable!(),
         }
@@ -149,7 +155,7 @@ impl<K: Keeper + Drop, D: Draws + Drop> Streams<K, D> {
     fn tick(&mut self, alloc: Global, moment: u64) -> Result<(), StepFault>
         ensures { MatchResult result
             (λ _. RunsEvents (stream_event_view (StreamEvent.Tick moment) ∷ []) self.old self.new)
-            (λ fault. (self.new ≡ self.old) × RefusesStep SpecTick self.old.core.state fault) }
+            (λ fault. RunsEvents [] self.old self.new × RefusesStep SpecTick self.new.core.state fault) }
     {
         match self.core.step(alloc, moment, Event::Tick) {
             Stepped::Done => Ok(()),
@@ -162,10 +168,7 @@ impl<K: Keeper + Drop, D: Draws + Drop> Streams<K, D> {
     fn finish(&mut self, session: u64)
         ensures { RunsEvents (stream_event_view (StreamEvent.Finish session) ∷ []) self.old self.new }
     {
-        let session = Session {
-            key: 0,
-            serial: session,
-        };
+        let session = session_of(session);
         if self.core.is_open(session) {
             let _ = self.core.close(session, Cause::InputEnded);
         }
@@ -175,31 +178,29 @@ impl<K: Keeper + Drop, D: Draws + Drop> Streams<K, D> {
     fn feed(&mut self, alloc: Global, session: u64, bytes: &[u8])
         ensures { RunsEvents (stream_event_view (StreamEvent.Feed session bytes.now) ∷ []) self.old self.new }
     {
-        let Some(session_stream) = self.session_stream.take() else {
+        let owner = session_of(session);
+        if !self.core.is_open(owner) {
+            return;
+        }
+        let Some(cutter) = self.cutters.get_mut(&session) else {
             return;
         };
-        let SessionStream {
-            session: owner,
-            mut cutter,
-        } = session_stream;
-        if owner.serial != session {
-            self.session_stream = Some(SessionStream {
-                session: owner,
-                cutter,
-            });
-            return;
-        }
-        if !self.core.is_open(owner) {
-            self.session_stream = Some(SessionStream {
-                session: owner,
-                cutter,
-            });
-            return;
-        }
-        feed_session(&mut self.core, alloc, 0, owner, &mut cutter, bytes);
-        self.session_stream = Some(SessionStream {
-            session: owner,
-            cutter,
-        });
+        feed_session(&mut self.core, alloc, 0, owner, cutter, bytes);
     }
+
+    /// Gives up the cutter of the session, if it is closed.
+    fn forget(&mut self, session: u64)
+        ensures { RunsEvents [] self.old self.new }
+    {
+        if !self.core.is_open(session_of(session)) {
+            self.cutters.remove(&session);
+        }
+    }
+}
+
+/// The session of a serial. Its key is not known here, and the core goes by serials.
+fn session_of(serial: u64) -> Session
+    ensures { result.serial ≡ serial }
+{
+    Session { key: 0, serial }
 }

@@ -1,4 +1,4 @@
-use Rattle.std.proofs.Common.{◌≡◌, refl, true, false, rules}
+use Rattle.std.proofs.Common.{◌≡◌, refl, sym, true, false, rules}
 use Rattle.ov_specs.specs.machine.Machine.{is_open}
 use Rattle.ov_streams.proofs.Suiting.{finished, not_finished}
 use Rattle.ov_streams.proofs.streams.Streams.finish.Goals as goal
@@ -7,7 +7,7 @@ use Rattle.ov_streams.proofs.Entering.{it_closed}
 pub returns-then-is_open : goal.returns-then-is_open
 returns-then-is_open g c =
     let there : is_open c.self.inside.core.state c.args.session ≡ true = search rules in
-    rw (← c.self.view_is) (finished c.args.session _ _ refl there (it_closed c.close.result _ _ _ c.close.ensures there))
+    rw (← c.self.view_is) (finished c.args.session _ _ refl there (rw c.session_of-session.ensures at (it_closed c.close.result _ _ _ c.close.ensures (sym c.if-is_open.ensures))))
 
 pub returns-else-is_open : goal.returns-else-is_open
 returns-else-is_open g c =

@@ -1,7 +1,7 @@
-use Rattle.std.proofs.Common.{List, refl, sym, subst, take, arith}
-use Rattle.std.specs.Prelude.{IsSomeAnd, slice_get}
+use Rattle.std.proofs.Common.{List, [], refl, sym, subst, take, arith}
+use Rattle.std.proofs.lemmas.List.{append-nil}
 use Rattle.ov_specs.specs.machine.Streams.{StreamEvent}
-use Rattle.ov_streams.specs.Running.{RunsEvents, RefusesEvent, StreamsState, stream_events_view}
+use Rattle.ov_streams.specs.Running.{RunsEvents, RefusesEvent, stream_events_view}
 use Rattle.ov_streams.proofs.Suiting.{serves_none, serves_more, view_more, event_at}
 use Rattle.ov_streams.proofs.streams.Streams.run.Goals as goal
 
@@ -20,13 +20,14 @@ loop-event-preserved g c =
 pub returns-in-Err-clause-suits : goal.returns-in-Err-clause-suits
 returns-in-Err-clause-suits g c =
     let inv = c.loop-event.invariant in
-    rw (← c.deref-event-items.ensures.value, inv.count) (subst (λ (x : StreamsState _ _). RunsEvents (stream_events_view (take c.loop-event.event-index c.deref-event-items.result.now)) c.args.self.now x) (sym c.in-Err.ensures.0) inv.serves)
+    let events = stream_events_view (take c.loop-event.event-index c.deref-event-items.result.now) in
+    rw (← c.deref-event-items.ensures.value, inv.count) (subst (λ (l : List StreamEvent). RunsEvents l c.args.self.now c.serve.new.self) (append-nil events) (serves_more events [] _ _ _ inv.serves c.in-Err.ensures.0))
 
 pub returns-in-Err-clause-refused : goal.returns-in-Err-clause-refused
 returns-in-Err-clause-refused g c =
     let inv = c.loop-event.invariant in
-    rw (← c.deref-event-items.ensures.value, inv.count) (subst (λ (x : StreamsState _ _). IsSomeAnd (slice_get c.deref-event-items.result.now c.loop-event.event-index) (λ event. RefusesEvent event x.core.state c.in-Err.fault)) (sym c.in-Err.ensures.0)
-    (event_at (λ event. RefusesEvent event c.loop-event.self.core.state c.in-Err.fault) c.deref-event-items.result.now c.loop-event.event-index c.event-item.result c.loop-event-test.true c.event-item.is c.in-Err.ensures.1))
+    rw (← c.deref-event-items.ensures.value, inv.count)
+    (event_at (λ event. RefusesEvent event c.serve.new.self.core.state c.in-Err.fault) c.deref-event-items.result.now c.loop-event.event-index c.event-item.result c.loop-event-test.true c.event-item.is c.in-Err.ensures.1)
 
 pub returns-clause-suits : goal.returns-clause-suits
 returns-clause-suits g c =
