@@ -4,11 +4,55 @@ use std::alloc::Global;
 use std::test::Fail;
 use test_support::{Counter, Faults, NET, NetKeeper, failing, keeper_of, net, net_keeper, steps};
 
-/// One session is open at a time.
-const ONE_AT_A_TIME: &str = r#"open 0 -> Opened(Session { key: 0, serial: 1 })
+/// Up to 64 sessions are open, each with a key of its own, and the key of one that is closed is given again.
+const SIXTY_FOUR: &str = r#"free -> 64
+next -> 1
+opens 32 -> 0;1;2;3;4;5;6;7;8;9;10;11;12;13;14;15;16;17;18;19;20;21;22;23;24;25;26;27;28;29;30;31;
+free -> 32
+opens 32 -> 32;33;34;35;36;37;38;39;40;41;42;43;44;45;46;47;48;49;50;51;52;53;54;55;56;57;58;59;60;61;62;63;
+free -> 0
+next -> 65
 open 5 -> Refused(TooMany)
-moments -> 0;
-is_open 1 -> true"#;
+next -> 65
+end 7 -> Done
+free -> 1
+is_open 6 -> true
+is_open 7 -> false
+is_open 64 -> true
+open 0 -> Opened(Session { key: 6, serial: 65 })
+open 0 -> Refused(TooMany)
+free -> 0
+next -> 66"#;
+
+/// Each of two sessions is answered its own requests, in the order of these.
+const INTERLEAVED: &str = r#"open 0 -> Opened(Session { key: 0, serial: 1 })
+open 0 -> Opened(Session { key: 1, serial: 2 })
+take 1 {"id":1,"method":"list_dbs","params":[]} -> Done
+take 2 {"id":2,"method":"list_dbs","params":[]} -> Done
+take 1 {"id":3,"method":"list_dbs","params":[]} -> Done
+frame 2 -> {"error":null,"id":2,"result":["Net"]}
+frame 2 -> none
+output 1 -> {"error":null,"id":1,"result":["Net"]}{"error":null,"id":3,"result":["Net"]}
+close 1 -> true
+take 2 {"id":4,"method":"list_dbs","params":[]} -> Done
+output 2 -> {"error":null,"id":4,"result":["Net"]}
+output 1"#;
+
+/// What waits for a closed session can be dropped, and what waits for an open one can't.
+const DISCARDED: &str = r#"open 0 -> Opened(Session { key: 0, serial: 1 })
+open 0 -> Opened(Session { key: 1, serial: 2 })
+take 1 {"id":1,"method":"list_dbs","params":[]} -> Done
+take 1 {"id":2,"method":"list_dbs","params":[]} -> Done
+take 2 {"id":3,"method":"list_dbs","params":[]} -> Done
+discard 1
+frame 1 -> {"error":null,"id":1,"result":["Net"]}
+close 1 -> true
+discard 1
+frame 1 -> none
+discard 1
+close 2 -> true
+frame 2 -> {"error":null,"id":3,"result":["Net"]}
+frame 2 -> none"#;
 
 /// A serial is not used again.
 const SERIALS: &str = r#"open 0 -> Opened(Session { key: 0, serial: 1 })
@@ -57,8 +101,18 @@ entries -> 4096
 first -> {"id":1,"method":"echo","params":[]}"#;
 
 #[test]
-fn one_session_is_open_at_a_time(rt: HostRuntime) -> Result<(), Fail> {
-    steps(rt.alloc(), ONE_AT_A_TIME)
+fn sixty_four_sessions_are_open_at_most(rt: HostRuntime) -> Result<(), Fail> {
+    steps(rt.alloc(), SIXTY_FOUR)
+}
+
+#[test]
+fn each_session_is_answered_its_own_requests(rt: HostRuntime) -> Result<(), Fail> {
+    steps(rt.alloc(), INTERLEAVED)
+}
+
+#[test]
+fn what_waits_for_a_closed_session_can_be_dropped(rt: HostRuntime) -> Result<(), Fail> {
+    steps(rt.alloc(), DISCARDED)
 }
 
 #[test]

@@ -122,8 +122,7 @@ fn longest_message(rt: HostRuntime) -> Result<(), Fail> {
 }
 
 /// What comes of a closed session does nothing.
-const OPENED_AGAIN: &str = r#"open -> false
-entries -> 1
+const OPENED_AGAIN: &str = r#"entries -> 1
 tick -> true
 entries -> 2
 >{"id":0,
@@ -139,4 +138,24 @@ entries -> 4
 #[test]
 fn ended_and_opened_again(rt: HostRuntime) -> Result<(), Fail> {
     converses(rt.alloc(), OPENED_AGAIN)
+}
+
+/// What one of two sessions sends, in pieces between those of the other, does nothing to the other, damage too.
+const TWO_STREAMS: &str = r#"open -> true
+>{"id":1,"method":
+2>{"id":2,"meth
+>"list_dbs","params":[]}
+2>od":"list_dbs","params":[]}]
+<{"error":null,"id":1,"result":["Net"]}
+2<{"error":null,"id":2,"result":["Net"]}
+entries -> 5
+2>{"id":3,"method":"list_dbs","params":[]}
+>{"id":4,"method":"list_dbs","params":[]}
+2<
+<{"error":null,"id":4,"result":["Net"]}
+entries -> 6"#;
+
+#[test]
+fn two_streams_are_cut_apart(rt: HostRuntime) -> Result<(), Fail> {
+    converses(rt.alloc(), TWO_STREAMS)
 }

@@ -3,7 +3,7 @@ use crate::keepers::{Faults, NetKeeper, net_keeper};
 use crate::schemas::net;
 use crate::scripts::{Scripted, agrees};
 use ov_base::Bytes;
-use ov_core::{Cause, Core, Event, Session};
+use ov_core::{Cause, Core, Event, Session, Stepped};
 use ov_rpc::{MessageText, Received};
 use std::alloc::Global;
 use std::test::Fail;
@@ -18,7 +18,7 @@ pub fn net_core(alloc: Global, faults: Faults) -> Result<NetCore, Fail> {
     Ok(Core::open(alloc, keeper, schema, Counter::new())?)
 }
 
-/// The session of a serial. One is open at a time, so all have the first key.
+/// The session of a serial. Its key is not known here, and the machine goes by serials.
 fn session_of(serial: u64) -> Session {
     Session { key: 0, serial }
 }
@@ -36,7 +36,9 @@ fn event_text(alloc: Global, event: &Event<MessageText>) -> Result<String, Fail>
 /// A machine behind a script.
 ///
 /// The commands are `open MOMENT`, `tick MOMENT`, `take SERIAL MESSAGE`, `end SERIAL`, `close SERIAL`, `is_open SERIAL`, `frame SERIAL`
-/// for the oldest frame that waits, and `output SERIAL` for all of them. What comes of an event is told in the words of the code.
+/// for the oldest frame that waits, `output SERIAL` for all of them, and `discard SERIAL`. What comes of an event is told in the words
+/// of the code. `opens COUNT` opens as many sessions, and tells their keys; `free` tells how many more may be open, and `next` the
+/// serial of the next.
 /// Of the history, `moments` tells those of all entries that are kept, `entries` how many there are, and `first` what the first
 /// is. `echoes ID BEYOND` takes echoes of session 1, with the ids from the first up to below the second.
 #[derive(Drop)]
@@ -78,6 +80,32 @@ impl Machine {
         event_text(alloc, &entry.event)
     }
 
+    /// Opens as many sessions, and tells their keys.
+    fn opens(&mut self, alloc: Global, count: u64) -> Result<String, Fail> {
+        let mut keys = String::new(alloc);
+        for _ in 0..count {
+            let Stepped::Opened(session) = self.core.step(alloc, 0, Event::Open) else {
+                return Err(Fail::new("not opened"));
+            };
+            keys.push_str(format!(in alloc; "{};", session.key)?.as_str())?;
+        }
+        Ok(keys)
+    }
+
+    /// Drops what waits for a closed session.
+    fn discard(&mut self, alloc: Global, session: Session) -> Result<String, Fail> {
+        self.core.discard(session);
+        Ok(String::new(alloc))
+    }
+
+    /// The serial of the next session.
+    fn next(&self, alloc: Global) -> Result<String, Fail> {
+        match self.core.next_serial() {
+            Some(serial) => Ok(format!(in alloc; "{serial}")?),
+            None => Ok(String::from_str(alloc, "none")?),
+        }
+    }
+
     /// Closes a session that did not take what was sent to it.
     fn close(&mut self, alloc: Global, session: Session) -> Result<String, Fail> {
         let is_closed = self.core.close(session, Cause::Overrun);
@@ -108,11 +136,12 @@ impl Machine {
         Ok(text)
     }
 
-    /// What comes of a command for a number, which is a moment, a serial or an id.
+    /// What comes of a command for a number, which is a moment, a serial, an id or a count.
     fn act(&mut self, alloc: Global, word: &str, number: u64, text: &str) -> Result<String, Fail> {
         let session = session_of(number);
         match word {
             "open" => self.step(alloc, number, Event::Open),
+            "opens" => self.opens(alloc, number),
             "tick" => self.step(alloc, number, Event::Tick),
             "take" => self.take(alloc, session, text),
             "end" => self.step(alloc, 0, Event::Close(session, Cause::InputEnded)),
@@ -120,6 +149,7 @@ impl Machine {
             "is_open" => Ok(format!(in alloc; "{}", self.core.is_open(session))?),
             "frame" => self.frame(alloc, session),
             "output" => self.output(alloc, session),
+            "discard" => self.discard(alloc, session),
             "echoes" => self.echoes(alloc, number, text.parse::<u64>()?),
             _ => Err(Fail::new("no command")),
         }
@@ -132,6 +162,8 @@ impl Scripted for Machine {
             "moments" => return self.moments(alloc),
             "entries" => return Ok(format!(in alloc; "{}", self.core.history().len())?),
             "first" => return self.first(alloc),
+            "free" => return Ok(format!(in alloc; "{}", self.core.free_places())?),
+            "next" => return self.next(alloc),
             _ => {}
         }
         let (word, rest) = command.split_once(" ").ok_or("no number")?;

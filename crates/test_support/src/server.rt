@@ -9,8 +9,9 @@ use std::test::Fail;
 
 /// The streams of a server behind a conversation.
 ///
-/// A line is what session 1 sends behind `>`, or all that it was sent since then behind `<`. Other lines are `open`, `tick` and
-/// `finish`, which tell whether the event was served, and `entries` for how many there are in the history.
+/// A line is what session 1 sends behind `>`, or all that it was sent since then behind `<`, and so for session 2 behind `2>` and
+/// `2<`. Other lines are `open`, `tick` and `finish`, which tell whether the event was served, and `entries` for how many there are
+/// in the history.
 #[derive(Drop)]
 struct Server {
     streams: Streams<NetKeeper, Counter>,
@@ -30,16 +31,16 @@ impl Server {
         Ok(format!(in alloc; "{}", ran.refused.is_none())?)
     }
 
-    /// Feeds session 1.
-    fn feed(&mut self, alloc: Global, text: &str) -> Result<String, Fail> {
+    /// Feeds a session.
+    fn feed(&mut self, alloc: Global, session: u64, text: &str) -> Result<String, Fail> {
         let bytes = Bytes::from_slice(alloc, text.as_bytes())?;
-        self.run(alloc, StreamEvent::Feed(1, bytes))?;
+        self.run(alloc, StreamEvent::Feed(session, bytes))?;
         Ok(String::new(alloc))
     }
 
-    /// What session 1 was sent, if it is not this.
-    fn output(&mut self, alloc: Global, want: &str) -> Result<String, Fail> {
-        let output = self.streams.output(alloc, 1)?;
+    /// What a session was sent, if it is not this.
+    fn output(&mut self, alloc: Global, session: u64, want: &str) -> Result<String, Fail> {
+        let output = self.streams.output(alloc, session)?;
         if output.as_slice() == want.as_bytes() {
             return Ok(String::new(alloc));
         }
@@ -55,10 +56,16 @@ impl Server {
 impl Scripted for Server {
     fn answer(&mut self, alloc: Global, command: &str) -> Result<String, Fail> {
         if let Some(text) = command.strip_prefix(">") {
-            return self.feed(alloc, text);
+            return self.feed(alloc, 1, text);
         }
         if let Some(want) = command.strip_prefix("<") {
-            return self.output(alloc, want);
+            return self.output(alloc, 1, want);
+        }
+        if let Some(text) = command.strip_prefix("2>") {
+            return self.feed(alloc, 2, text);
+        }
+        if let Some(want) = command.strip_prefix("2<") {
+            return self.output(alloc, 2, want);
         }
         match command {
             "open" => self.run(alloc, StreamEvent::Open),
@@ -73,7 +80,7 @@ impl Scripted for Server {
 /// Holds a conversation with session 1 of a new server over a new database Net, whose keeper fails as it is told.
 pub fn converses_over(alloc: Global, faults: Faults, conversation: &str) -> Result<(), Fail> {
     let mut server = Server {
-        streams: Streams::new(net_core(alloc, faults)?),
+        streams: Streams::new(alloc, net_core(alloc, faults)?),
     };
     server.open(alloc);
     agrees(alloc, server, conversation)
