@@ -15,3 +15,4 @@ mod StagedRows
 mod WaitRows
 mod TransactionRows
 mod IntegrityRows
+mod LockRows

@@ -4,5 +4,6 @@ pub mod schema
 pub mod rows
 pub mod operations
 pub mod integrity
+pub mod locks
 pub mod machine
 pub mod codes
