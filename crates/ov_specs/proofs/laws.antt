@@ -39,3 +39,5 @@ pub mod Pruning
 pub mod MixedPairs
 pub mod Following
 pub mod Committing
+pub mod LockQueues
+pub mod Locks
