@@ -122,7 +122,7 @@ module _ (name : List ℕ) where
 -- ---- the names that a session asked for
 
 -- names that come behind this one
-below-names : (session : ℕ) (e : List ℕ × List ℕ) (queues : Queues) → DoQueuesAscend (e ∷ queues) → IsBelow e.0 (names_of session queues)
+pub below-names : (session : ℕ) (e : List ℕ × List ℕ) (queues : Queues) → DoQueuesAscend (e ∷ queues) → IsBelow e.0 (names_of session queues)
 below-names session e queues ascend = all-names (λ other. name_cmp e.0 other ≡ Less) session queues (sorted_head name_cmp e.0 (keys_of queues) ascend)
 
 -- and behind one that comes before it

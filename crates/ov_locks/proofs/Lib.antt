@@ -1,0 +1,7 @@
+mod Leaving
+pub mod Named
+pub mod HeldNames
+pub mod Sessions
+pub mod Given
+pub mod Calls
+pub mod Tables

@@ -1,0 +1,4 @@
+pub mod Queued
+pub mod Held
+pub mod Freeing
+pub mod Refusing

@@ -1,0 +1,30 @@
+use std::alloc::AllocError;
+use thiserror::Error;
+
+/// Why a lock is not given or not given up. Nothing is changed by it.
+#[derive(Clone, Copy, Debug, PartialEq, Eq, Error)]
+pub enum LockFault {
+    /// The session asked for this lock before, and has not given it up since (RFC 7047, 4.1.8).
+    #[error("lock already requested")]
+    AlreadyRequested,
+    /// The session asked for no such lock (RFC 7047, 4.1.10).
+    #[error("lock not held")]
+    NotHeld,
+    /// The session asked for 256 locks, as their owner or as one that waits, and has given up none of them.
+    #[error("resources exhausted")]
+    Limit,
+    /// A growth was refused.
+    #[error("out of memory")]
+    Memory,
+}
+
+impl From<AllocError> for LockFault {
+    ghost use Rattle.std.specs.Prelude.{◌≡◌};
+    ghost use Rattle.ov_locks.specs.declared.fault.LockFault.TheVariants.{Memory};
+
+    ghost from_gives = { λ _ e. e ≡ Memory };
+
+    fn from(_refused: AllocError) -> LockFault {
+        LockFault::Memory
+    }
+}

@@ -1,0 +1,13 @@
+//! Named locks: who owns each, who waits for it, and what sessions are told of it (RFC 7047, 4.1.8 to 4.1.10).
+#![tactic(auto)]
+
+mod fault;
+mod freed;
+mod held;
+mod notes;
+mod queue;
+mod queues;
+mod table;
+
+pub use fault::LockFault;
+pub use table::LockTable;

@@ -1,0 +1,205 @@
+ghost use Rattle.std.specs.Prelude.{◌≡◌, ◌==◌, ◌+◌, ◌-◌, ◌<◌, ◌≤◌, ◌++◌, ℕ, [], length, map, not, is_some, true, false, string_bytes, option_map, option_to_list, if◌then◌else◌, Ok, Err, IfOk, IfNone, OnOk, OnErr};
+ghost use Rattle.std.specs.BTreeMap.{is_at};
+ghost use Rattle.std.specs.BTreeSet.{insert_key};
+ghost use Rattle.std.specs.List.{list_any};
+ghost use Rattle.std.specs.Set.{remove_key};
+ghost use Rattle.ov_specs.specs.locks.Queues.{owner, has_requested, lock, steal, unlock, next_owner, leave, freed, stolen_note};
+ghost use Rattle.ov_specs.specs.schema.SchemaTypes.{name_cmp};
+ghost use Rattle.ov_specs.specs.wire.Frame.{frame};
+ghost use Rattle.ov_locks.specs.Freeing.{told, told_all, unlock_all, freed_all};
+ghost use Rattle.ov_locks.specs.Held.{names_in, names_of_set, requests_in};
+ghost use Rattle.ov_locks.specs.Refusing.{refusal_for, request_refusal, RefusesFor};
+
+use crate::fault::LockFault;
+use crate::freed::Freed;
+use crate::held::Held;
+use crate::queues::Queues;
+use ov_base::Bytes;
+use std::alloc::Global;
+use std::collections::BTreeSet;
+use std::marker::Model;
+
+/// How many locks a session may ask for.
+const LOCK_LIMIT: usize = 256;
+
+/// Who owns each lock and who waits for it. Contracts see the queues, and those that have become owners by the end of another session
+/// and are still to be told, each with the frame that tells it so, the oldest first.
+///
+/// A lock is named by an `<id>` (RFC 7047, 4.1.8), which whoever calls has tested.
+#[derive(Drop)]
+pub struct LockTable {
+    queues: Queues,
+    held: Held,
+    freed: Freed,
+}
+
+impl Model for LockTable {
+    ghost use Rattle.std.specs.Prelude.{◌≡◌, ℕ, List};
+    ghost use Rattle.ov_specs.specs.locks.Queues as locks;
+    ghost use Rattle.ov_specs.specs.locks.Queues.{names_of};
+    ghost use Rattle.ov_specs.proofs.laws.LockQueues.{DoQueuesAscend};
+    ghost use Rattle.ov_locks.specs.Held.{names_in, requests_in};
+
+    ghost Value = { locks.Queues × List (ℕ × List ℕ) };
+
+    ghost view = { λ t. (t.queues, t.freed.0) };
+
+    ghost invariant = { λ t. DoQueuesAscend t.queues × ((session : ℕ) → names_in session t.held ≡ names_of session t.queues) × (t.freed.1 ≡ requests_in t.held) };
+}
+
+impl LockTable {
+    /// Nobody asked for a lock.
+    pub fn new(alloc: Global) -> LockTable
+        ensures { result ≡ ([], []) }
+    {
+        LockTable {
+            queues: Queues::new(alloc),
+            held: Held::new(alloc),
+            freed: Freed::new(alloc),
+        }
+    }
+
+    /// The owner of the lock.
+    pub fn owner(&self, name: &str) -> Option<u64>
+        ensures { result ≡ owner name.now self.now.0 }
+    {
+        self.queues.owner(name)
+    }
+
+    /// The session asks for the lock, and goes to the back of its queue. Whether it is the owner now (RFC 7047, 4.1.8).
+    pub fn lock(&mut self, alloc: Global, session: u64, name: &str) -> Result<bool, LockFault>
+        ensures refused { RefusesFor (request_refusal name.now session self.old.0) result }
+        ensures first { IfOk result (λ first. first ≡ not (is_some (owner name.now self.old.0))) }
+        ensures ok { OnOk result (self.new ≡ (lock name.now session self.old.0, self.old.1)) }
+        ensures err { OnErr result (self.new ≡ self.old) }
+    {
+        request(&mut self.held, &mut self.freed, alloc, session, name)?;
+        match self.queues.lock(alloc, session, name) {
+            Ok(is_first) => Ok(is_first),
+            Err(_) => {
+                take_back(&mut self.held, &mut self.freed, session, name);
+                Err(LockFault::Memory)
+            }
+        }
+    }
+
+    /// The session takes the lock, and goes to the front of its queue. The former owner, if there is one, and the frame that tells it
+    /// so: it stands behind the session from now on (RFC 7047, 4.1.8; that place is our own).
+    pub fn steal(
+        &mut self,
+        alloc: Global,
+        session: u64,
+        name: &str,
+    ) -> Result<Option<(u64, Bytes)>, LockFault>
+        ensures refused { RefusesFor (request_refusal name.now session self.old.0) result }
+        ensures told { IfOk result (λ told. told ≡ option_map (λ s. (s, frame (stolen_note name.now))) (owner name.now self.old.0)) }
+        ensures ok { OnOk result (self.new ≡ (steal name.now session self.old.0, self.old.1)) }
+        ensures err { OnErr result (self.new ≡ self.old) }
+    {
+        request(&mut self.held, &mut self.freed, alloc, session, name)?;
+        match self.queues.steal(alloc, session, name) {
+            Ok(told) => Ok(told),
+            Err(_) => {
+                take_back(&mut self.held, &mut self.freed, session, name);
+                Err(LockFault::Memory)
+            }
+        }
+    }
+
+    /// The session gives up the lock, or gives up waiting for it. Who becomes the owner by that, and the frame that tells it so (RFC
+    /// 7047, 4.1.9 and 4.1.10). It takes no memory, and is refused only as `NotHeld`.
+    pub fn unlock(&mut self, session: u64, name: &str) -> Result<Option<(u64, Bytes)>, LockFault>
+        ensures answer { result ≡ (if has_requested session name.now self.old.0 then Ok (told name.now (next_owner name.now session self.old.0)) else Err LockFault.NotHeld) }
+        ensures ok { OnOk result (self.new ≡ (unlock name.now session self.old.0, self.old.1)) }
+        ensures err { OnErr result (self.new ≡ self.old) }
+    {
+        if !self.held.has(session, name) {
+            return Err(LockFault::NotHeld);
+        }
+        take_back(&mut self.held, &mut self.freed, session, name);
+        Ok(self.queues.unlock(session, name))
+    }
+
+    /// The session gives up all locks, and gives up waiting for any, as one that closes does. Those that become owners by that are kept
+    /// for `next_freed`, in ascending order of the locks' names, behind earlier ones. It takes no memory.
+    pub fn leave_all(&mut self, session: u64)
+        ensures { self.new ≡ (leave session self.old.0, self.old.1 ++ told_all (freed session self.old.0)) }
+    {
+        if let Some(names) = self.held.take(session) {
+            leave_each(&mut self.queues, &mut self.freed, session, names);
+        }
+    }
+
+    /// The oldest of those that have become owners by the end of another session and were not told yet, with the frame that tells it so
+    /// (RFC 7047, 4.1.9). It takes no memory.
+    pub fn next_freed(&mut self) -> Option<(u64, Bytes)>
+        ensures queues { self.new.0 ≡ self.old.0 }
+        ensures freed { self.old.1 ≡ option_to_list result ++ self.new.1 }
+        ensures none { IfNone result (self.old.1 ≡ []) }
+    {
+        self.freed.pop()
+    }
+}
+
+/// Notes that the session asks for the lock, and keeps a place for what may be told of it, unless it asked before or asked for too
+/// many. Where it is refused, nothing is changed.
+fn request(
+    held: &mut Held,
+    freed: &mut Freed,
+    alloc: Global,
+    session: u64,
+    name: &str,
+) -> Result<(), LockFault>
+    ensures refused { RefusesFor (refusal_for (list_any (is_at (name_cmp name.now)) (names_in session held.old)) (length (names_in session held.old))) result }
+    ensures names { OnOk result ((other : ℕ) → names_in other held.new ≡ (if other == session then insert_key name_cmp (names_in other held.old) name.now else names_in other held.old)) }
+    ensures places { OnOk result ((requests_in held.new ≡ requests_in held.old + 1) × (freed.new ≡ (freed.old.0, freed.old.1 + 1))) }
+    ensures err { OnErr result ((held.new ≡ held.old) × (freed.new ≡ freed.old)) }
+{
+    if held.has(session, name) {
+        return Err(LockFault::AlreadyRequested);
+    }
+    if held.count(session) >= LOCK_LIMIT {
+        return Err(LockFault::Limit);
+    }
+    freed.keep_place()?;
+    if held.add(alloc, session, name).is_err() {
+        freed.give_up_place();
+        return Err(LockFault::Memory);
+    }
+    Ok(())
+}
+
+/// Notes that the session asks for the lock no more.
+fn take_back(held: &mut Held, freed: &mut Freed, session: u64, name: &str)
+    ensures names { (other : ℕ) → names_in other held.new ≡ (if other == session then remove_key (is_at (name_cmp name.now)) (names_in other held.old) else names_in other held.old) }
+    ensures requests { list_any (is_at (name_cmp name.now)) (names_in session held.old) ≡ true → requests_in held.new + 1 ≡ requests_in held.old }
+    ensures places { freed.new ≡ (freed.old.0, freed.old.1 - 1) }
+{
+    held.remove(session, name);
+    freed.give_up_place();
+}
+
+/// The session leaves the queues of these locks, for each of which a place is kept.
+fn leave_each(queues: &mut Queues, freed: &mut Freed, session: u64, names: BTreeSet<String>)
+    requires { length (names_of_set names) ≤ freed.old.1 }
+    ensures queues { queues.new ≡ unlock_all session (names_of_set names) queues.old }
+    ensures freed { freed.new.0 ≡ freed.old.0 ++ told_all (freed_all session (names_of_set names) queues.old) }
+    ensures places { freed.new.1 + length (names_of_set names) ≡ freed.old.1 }
+{
+    for name in names {
+        leave_one(queues, freed, session, name.as_str());
+    }
+}
+
+/// The session leaves the queue of this lock, and gives up one of the places that are kept.
+fn leave_one(queues: &mut Queues, freed: &mut Freed, session: u64, name: &str)
+    requires { 0 < freed.old.1 }
+    ensures queues { queues.new ≡ unlock name.now session queues.old }
+    ensures freed { freed.new.0 ≡ freed.old.0 ++ option_to_list (told name.now (next_owner name.now session queues.old)) }
+    ensures places { freed.new.1 + 1 ≡ freed.old.1 }
+{
+    match queues.unlock(session, name) {
+        Some(pair) => freed.push(pair),
+        None => freed.give_up_place(),
+    }
+}
