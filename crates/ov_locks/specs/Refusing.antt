@@ -4,8 +4,8 @@ use Rattle.ov_specs.specs.locks.Queues.{Queues, has_requested, requests_of, lock
 use Rattle.ov_locks.specs.declared.fault.LockFault.{LockFault}
 use Rattle.ov_locks.specs.declared.fault.LockFault.TheVariants.{AlreadyRequested, Limit, Memory}
 
--- what refuses a lock or a steal to a session that asked for this many locks, where it asked for this one, or not (RFC 7047, 4.1.8; the
--- limit is our own)
+-- what refuses a lock or a steal to a session that asked for this many locks, where it asked for this one, or not (RFC 7047,
+-- 4.1.8; the limit is our own)
 abbrev pub refusal_for : Bool → ℕ → Option LockFault
 refusal_for has_requested requests = if has_requested then Some AlreadyRequested else (if nat_le lock_limit requests then Some Limit else None)
 

@@ -5,8 +5,8 @@ use std::alloc::{AllocError, Global};
 use std::collections::VecDeque;
 use std::marker::Model;
 
-/// Those that have become owners by the end of another session, each with the frame that tells it so, and places kept for more:
-/// one for each request, so that a session can leave without memory.
+/// Those that have become owners by the end of another session, each with the frame that tells it so, and places kept for
+/// more: one for each request, so that a session can leave without memory.
 #[derive(Drop)]
 pub(crate) struct Freed {
     pairs: VecDeque<(u64, Bytes)>,

@@ -9,8 +9,8 @@ use std::alloc::{AllocError, Global};
 use std::collections::VecDeque;
 use std::marker::Model;
 
-/// The queue of one lock: its owner, and those who wait, the next owner first. Each of these has the frame by which it will be told
-/// that it has become the owner, since giving up a lock takes no memory.
+/// The queue of one lock: its owner, and those who wait, the next owner first. Each of these has the frame by which it
+/// will be told that it has become the owner, since giving up a lock takes no memory.
 #[derive(Drop)]
 pub(crate) struct Queue {
     owner: u64,
@@ -53,8 +53,8 @@ impl Queue {
         Ok(())
     }
 
-    /// The session takes the lock of this name from its owner, who waits before all others from now on. The former owner, and what
-    /// tells it so.
+    /// The session takes the lock of this name from its owner, who waits before all others from now on. The former owner,
+    /// and what tells it so.
     pub fn steal(
         &mut self,
         alloc: Global,

@@ -114,8 +114,8 @@ impl Queues {
     }
 }
 
-/// The session leaves the queue. Who becomes the owner by that, and what tells it so; and whether nobody is left, and the queue has to
-/// be taken out.
+/// The session leaves the queue. Who becomes the owner by that, and what tells it so; and whether nobody is left, and the
+/// queue has to be taken out.
 fn leave_queue(queue: &mut Queue, session: u64) -> (Option<(u64, Bytes)>, bool)
     ensures left { (if result.1 then [] else sessions_of queue.new) ≡ without session (sessions_of queue.old) }
     ensures told { (name : List ℕ) → AreToldOf name queue.old.1 → AreToldOf name queue.new.1 × (result.0 ≡ told name (next_in session (sessions_of queue.old))) }

@@ -22,8 +22,8 @@ use std::marker::Model;
 /// How many locks a session may ask for.
 const LOCK_LIMIT: usize = 256;
 
-/// Who owns each lock and who waits for it. Contracts see the queues, and those that have become owners by the end of another session
-/// and are still to be told, each with the frame that tells it so, the oldest first.
+/// Who owns each lock and who waits for it. Contracts see the queues, and those that have become owners by the end of
+/// another session and are still to be told, each with the frame that tells it so, the oldest first.
 ///
 /// A lock is named by an `<id>` (RFC 7047, 4.1.8), which whoever calls has tested.
 #[derive(Drop)]
@@ -83,8 +83,8 @@ impl LockTable {
         }
     }
 
-    /// The session takes the lock, and goes to the front of its queue. The former owner, if there is one, and the frame that tells it
-    /// so: it stands behind the session from now on (RFC 7047, 4.1.8; that place is our own).
+    /// The session takes the lock, and goes to the front of its queue. The former owner, if there is one, and the frame
+    /// that tells it so: it stands behind the session from now on (RFC 7047, 4.1.8; that place is our own).
     pub fn steal(
         &mut self,
         alloc: Global,
@@ -106,8 +106,8 @@ impl LockTable {
         }
     }
 
-    /// The session gives up the lock, or gives up waiting for it. Who becomes the owner by that, and the frame that tells it so (RFC
-    /// 7047, 4.1.9 and 4.1.10). It takes no memory, and is refused only as `NotHeld`.
+    /// The session gives up the lock, or gives up waiting for it. Who becomes the owner by that, and the frame that tells
+    /// it so (RFC 7047, 4.1.9 and 4.1.10). It takes no memory, and is refused only as `NotHeld`.
     pub fn unlock(&mut self, session: u64, name: &str) -> Result<Option<(u64, Bytes)>, LockFault>
         ensures answer { result ≡ (if has_requested session name.now self.old.0 then Ok (told name.now (next_owner name.now session self.old.0)) else Err LockFault.NotHeld) }
         ensures ok { OnOk result (self.new ≡ (unlock name.now session self.old.0, self.old.1)) }
@@ -120,8 +120,8 @@ impl LockTable {
         Ok(self.queues.unlock(session, name))
     }
 
-    /// The session gives up all locks, and gives up waiting for any, as one that closes does. Those that become owners by that are kept
-    /// for `next_freed`, in ascending order of the locks' names, behind earlier ones. It takes no memory.
+    /// The session gives up all locks, and gives up waiting for any, as one that closes does. Those that become owners by
+    /// that are kept for `next_freed`, in ascending order of the locks' names, behind earlier ones. It takes no memory.
     pub fn leave_all(&mut self, session: u64)
         ensures { self.new ≡ (leave session self.old.0, self.old.1 ++ told_all (freed session self.old.0)) }
     {
@@ -130,8 +130,8 @@ impl LockTable {
         }
     }
 
-    /// The oldest of those that have become owners by the end of another session and were not told yet, with the frame that tells it so
-    /// (RFC 7047, 4.1.9). It takes no memory.
+    /// The oldest of those that have become owners by the end of another session and were not told yet, with the frame
+    /// that tells it so (RFC 7047, 4.1.9). It takes no memory.
     pub fn next_freed(&mut self) -> Option<(u64, Bytes)>
         ensures queues { self.new.0 ≡ self.old.0 }
         ensures freed { self.old.1 ≡ option_to_list result ++ self.new.1 }
@@ -141,8 +141,8 @@ impl LockTable {
     }
 }
 
-/// Notes that the session asks for the lock, and keeps a place for what may be told of it, unless it asked before or asked for too
-/// many. Where it is refused, nothing is changed.
+/// Notes that the session asks for the lock, and keeps a place for what may be told of it, unless it asked before or
+/// asked for too many. Where it is refused, nothing is changed.
 fn request(
     held: &mut Held,
     freed: &mut Freed,
