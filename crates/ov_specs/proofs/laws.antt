@@ -41,3 +41,5 @@ pub mod Following
 pub mod Committing
 pub mod LockQueues
 pub mod Locks
+pub mod KeyedLists
+pub mod Monitoring

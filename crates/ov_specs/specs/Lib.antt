@@ -5,5 +5,6 @@ pub mod rows
 pub mod operations
 pub mod integrity
 pub mod locks
+pub mod monitors
 pub mod machine
 pub mod codes

@@ -1,0 +1,4 @@
+pub mod Requests
+pub mod Monitors
+pub mod Updates
+pub mod MonitorCode
