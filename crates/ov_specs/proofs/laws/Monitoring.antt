@@ -25,7 +25,7 @@ use Rattle.ov_specs.proofs.laws.Sameness.{datum-tied}
 same_datum-itself : (d : Datum) → same_datum d d ≡ true
 same_datum-itself d = datum-tied d d ∙ (eq_by_cmp_equiv datum_cmp_total).refl d
 
-is_same_value-itself : (o : Option Datum) → is_same_value o o ≡ true
+pub is_same_value-itself : (o : Option Datum) → is_same_value o o ≡ true
 is_same_value-itself None = refl
 is_same_value-itself (Some d) = same_datum-itself d
 
