@@ -16,3 +16,4 @@ mod WaitRows
 mod TransactionRows
 mod IntegrityRows
 mod LockRows
+mod MonitorRows
