@@ -27,7 +27,8 @@ abbrev pub with_monitor : List Monitor → Data → Result (List MonitoredTable)
 with_monitor monitors id (Err fault) = Err fault
 with_monitor monitors id (Ok tables) = Ok (monitors ++ record { id = id; tables = tables } ∷ [])
 
--- A monitor of these requests, where they read: its name is new, the session has not as many as it may, and all tables and columns are known.
+-- A monitor of these requests, where they read: its name is new, the session has not as many as it may, and all tables and columns
+-- are known.
 abbrev pub added_of : Schema → List Monitor → Data → Option (List TableRequests) → Result (List Monitor) MonitorFault
 added_of schema monitors id None = Err Syntax
 added_of schema monitors id (Some requests) =
@@ -35,8 +36,8 @@ added_of schema monitors id (Some requests) =
     else (if nat_le max_monitors (length monitors) then Err Limit
     else with_monitor monitors id (monitored_tables schema requests))
 
--- The monitors of a session with one more, or why it is refused: that the requests don't read comes before all else (RFC 7047, 4.1.5;
--- the order is our own).
+-- The monitors of a session with one more, or why it is refused: that the requests don't read comes before all else (RFC 7047,
+-- 4.1.5; the order is our own).
 abbrev pub added : Schema → List Monitor → Data → Data → Result (List Monitor) MonitorFault
 added schema monitors id requests = added_of schema monitors id (requests_read requests)
 

@@ -1,5 +1,5 @@
--- What is asked of a monitor: which columns of which tables it tells of, and at which kinds of change (RFC 7047, 4.1.5). What names no
--- source is our own.
+-- What is asked of a monitor: which columns of which tables it tells of, and at which kinds of change (RFC 7047, 4.1.5). What names
+-- no source is our own.
 use Rattle.std.specs.Prelude.{ℕ, not, List, [], ◌∷◌, filter, Bool, true, if◌then◌else◌, Option, Some, None, option_map, option_and_then, unwrap_or, codes, Result, Ok, Err}
 use Rattle.std.specs.List.{flat_map, list_all, list_any}
 use Rattle.std.specs.FinMap.{get, contains_key, keys}
@@ -20,7 +20,8 @@ pub record MonitorSelect : Type 0 where
   pub delete : Bool
   pub modify : Bool
 
--- one request for a table: the columns that it names, or all but `_uuid`, and when they are told (RFC 7047, 4.1.5, <monitor-request>)
+-- one request for a table: the columns that it names, or all but `_uuid`, and when they are told (RFC 7047, 4.1.5,
+-- <monitor-request>)
 pub record MonitorRequest : Type 0 where
   pub columns : Option (List (List ℕ))
   pub select : MonitorSelect

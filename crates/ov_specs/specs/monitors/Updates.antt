@@ -1,4 +1,5 @@
--- What a monitor is told: the rows at first, and then what changes in them (RFC 7047, 4.1.5 and 4.1.6). What names no source is our own.
+-- What a monitor is told: the rows at first, and then what changes in them (RFC 7047, 4.1.5 and 4.1.6). What names no source is our
+-- own.
 use Rattle.std.specs.Prelude.{ℕ, not, List, [], ◌∷◌, ◌++◌, filter, Bool, Option, Some, None, option_map, option_and_then, codes}
 use Rattle.std.specs.List.{filter_map}
 use Rattle.std.specs.FinMap.{get, keys, entries, from_entries}
@@ -32,8 +33,8 @@ with_old names r = object (member (codes "old") (shown names r) no_members)
 abbrev pub is_modified : LineKey × Row → LineKey × Row → List ℕ → Bool
 is_modified before after name = not (is_same_value (entry_value before name) (entry_value after name))
 
--- A row that is there before and after, of whose columns some are modified: "old" has the former values of these, and "new" has all
--- of its columns. It is told only where one of them is modified (RFC 7047, 4.1.6, <row-update>).
+-- A row that is there before and after, of whose columns some are modified: "old" has the former values of these, and "new" has
+-- all of its columns. It is told only where one of them is modified (RFC 7047, 4.1.6, <row-update>).
 abbrev pub with_both : List (List ℕ) → List (List ℕ) → LineKey × Row → LineKey × Row → Option Data
 with_both names [] before after = None
 with_both names (name ∷ modified) before after =
