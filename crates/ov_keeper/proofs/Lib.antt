@@ -1,1 +1,4 @@
 pub mod LineLemmas
+pub mod KeyMaps
+pub mod Added
+pub mod Places

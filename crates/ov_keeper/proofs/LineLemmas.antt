@@ -1,8 +1,8 @@
 -- Lists of lines, as the map that they make.
-use Rattle.std.proofs.Common.{◌≡◌, ◌↔◌, ℕ, List, [], ◌∷◌, ◌++◌, map, filter, Bool, true, false, not, cond, Some, None, refl, sym, ap, ◌∙◌, ◌+◌, ◌<◌, length, take, get_or, add-one}
+use Rattle.std.proofs.Common.{◌≡◌, ℕ, List, [], ◌∷◌, ◌++◌, map, filter, Bool, true, false, not, cond, Some, None, refl, sym, ap, ◌∙◌, ◌+◌, ◌<◌, length, take, get_or, add-one}
 use Rattle.std.specs.Ordering.{eq_by_cmp}
 use Rattle.std.specs.Cmp.{eq_by_cmp_equiv}
-use Rattle.std.specs.FinMap.{empty, find, get, insert, remove, from_entries, get-from_entries, get-insert, get-remove, same_map, from_entries_push}
+use Rattle.std.specs.FinMap.{empty, find, get, insert, remove, from_entries, entries, get-entries, get-from_entries, get-insert, get-remove, same_map, from_entries_push}
 use Rattle.std.specs.Map.{lookup}
 use Rattle.std.proofs.lemmas.List.{map-append}
 use Rattle.std.proofs.lemmas.Map.Entries.{lookup-filter-keys}
@@ -61,6 +61,10 @@ lines_of-push lines line m without =
     let new : find line_cmp k (map line_entry lines) ≡ None = sym (get-from_entries key_total (map line_entry lines) k) ∙ ap (λ (n : Lines). get n k) without ∙ not_found m k in
     ap from_entries (map-append line_entry lines (line ∷ [])) ∙ from_entries_push key_total key_exact (map line_entry lines) k (line_entry line).1 new
     ∙ ap (λ (n : Lines). insert n k (line_entry line).1) without ∙ insert-remove m k (line_entry line).1
+
+-- the entries of the lines make them again
+pub from_entries-entries : (m : Lines) → from_entries (entries m) ≡ m
+from_entries-entries m = same_map key_total key_exact _ _ (λ q. get-from_entries key_total (entries m) q ∙ sym (get-entries m q))
 
 -- two runs are one
 pub after_changes-append : (xs ys : List LineChange) (m : Lines) → after_changes (xs ++ ys) m ≡ after_changes ys (after_changes xs m)
