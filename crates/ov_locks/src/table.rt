@@ -107,7 +107,7 @@ impl LockTable {
     }
 
     /// The session gives up the lock, or gives up waiting for it. Who becomes the owner by that, and the frame that tells
-    /// it so (RFC 7047, 4.1.9 and 4.1.10). It takes no memory, and is refused only as `NotHeld`.
+    /// it so (RFC 7047, 4.1.8 and 4.1.9). It takes no memory, and is refused only as `NotHeld`.
     pub fn unlock(&mut self, session: u64, name: &str) -> Result<Option<(u64, Bytes)>, LockFault>
         ensures answer { result ≡ (if has_requested session name.now self.old.0 then Ok (told name.now (next_owner name.now session self.old.0)) else Err LockFault.NotHeld) }
         ensures ok { OnOk result (self.new ≡ (unlock name.now session self.old.0, self.old.1)) }

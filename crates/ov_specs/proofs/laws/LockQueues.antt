@@ -1,5 +1,5 @@
--- The queues of locks, which ascend by name: what one queue more, another or one fewer makes of them, and of the names that a session
--- asked for.
+-- The queues of locks, which ascend by name: what one queue more, another or one fewer makes of them, and of the names that
+-- a session asked for.
 use Rattle.std.proofs.Common.{◌≡◌, ℕ, List, [], ◌∷◌, ◌++◌, Bool, true, false, cond, not, ◌&&◌, ◌||◌, eqb, Some, refl, sym, ap, ◌∙◌, Ordering, Less, Equal, Greater, true≢false}
 use Rattle.std.proofs.lemmas.Bool.{eqb-true, eq-eqb, or_parts}
 use Rattle.std.proofs.lemmas.List.Folds.{list_any-append}

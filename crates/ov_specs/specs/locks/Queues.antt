@@ -1,5 +1,5 @@
--- Named locks, each with a queue of the sessions that asked for it (RFC 7047, 4.1.8). That there is one queue, and where a steal puts
--- its session, is our own: the owner is the first of the queue, whether it came by lock or by steal.
+-- Named locks, each with a queue of the sessions that asked for it (RFC 7047, 4.1.8). That there is one queue, and where a
+-- steal puts its session, is our own: the owner is the first of the queue, whether it came by lock or by steal.
 use Rattle.std.specs.Prelude.{◌==◌, ℕ, List, [], ◌∷◌, ◌++◌, length, codes, Bool, not, if◌then◌else◌, Option, Some, None, unwrap_or}
 use Rattle.std.specs.BTreeMap.{is_at, insert_entry}
 use Rattle.std.specs.List.{filter, list_any}
@@ -77,7 +77,7 @@ abbrev pub next_in : ℕ → List ℕ → Option ℕ
 next_in session [] = None
 next_in session (first ∷ queue) = if first == session then first_of (without session queue) else None
 
--- unlock: the session leaves the queue, be it as the owner or not (RFC 7047, 4.1.10)
+-- unlock: the session leaves the queue, be it as the owner or not (RFC 7047, 4.1.8)
 abbrev pub unlock : List ℕ → ℕ → Queues → Queues
 unlock name session queues = with_queue name (without session (queue_of name queues)) queues
 
