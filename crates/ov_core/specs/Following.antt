@@ -8,8 +8,8 @@ use Rattle.ov_core.specs.declared.event.Session.{Session}
 use Rattle.ov_core.specs.History.{Keeps, KeepsNewest}
 use Rattle.ov_core.specs.Outbox.{WaitingFrames, waiting_for, PostsSent}
 
--- what contracts see of a core: its state, the open sessions with their keys in order of opening, the entries that it keeps, the frames that wait, its keeper, how often the keeper's
--- device has failed, and its source of draws
+-- what contracts see of a core: its state, the open sessions with their keys in order of opening, the entries that it keeps, the
+-- frames that wait, its keeper, how often the keeper's device has failed, and its source of draws
 pub record CoreState (K D : Type 0) : Type 0 where
   pub state : State
   pub open_sessions : List Session
