@@ -5,10 +5,11 @@ use Rattle.std.specs.Option.{option_or}
 use Rattle.std.proofs.lemmas.Bool.{cases_Bool, cases_eq, eq-eqb, ne_eqb, false≢true}
 use Rattle.ov_specs.specs.rows.Database.{Database}
 use Rattle.ov_specs.specs.schema.SchemaTypes.{Schema}
+use Rattle.ov_specs.specs.wire.Message.{Message}
 use Rattle.ov_specs.specs.machine.Machine.{State, Entry, Event, Open, Take, Close, Tick, Stepped, step, is_open, opening}
 use Rattle.ov_specs.specs.machine.History.{run, cause_in, closing_cause, closed_by}
 use Rattle.ov_specs.proofs.laws.Histories.{run_parts, run_none, closed_by_first}
-use Rattle.ov_specs.proofs.laws.Turns.{cause_shut, turn_open, turn_tick, turn_close, turn_close_other, turn_take, turn_take_other}
+use Rattle.ov_specs.proofs.laws.Turns.{MayClose, cause_shut, turn_open, turn_tick, turn_close, turn_close_other, turn_take, turn_take_other}
 
 -- ---- one entry
 
@@ -28,19 +29,21 @@ no_cause_open n s t what there = ap (λ b. cond (is_open s n && not b) (Some (ca
 abbrev Turned : ℕ → State → State → Type 0
 Turned n s t = (((is_open t n ≡ is_open s n) ⊎ (is_open t n ≡ false)) × (t.next ≡ s.next)) ⊎ ((is_open t n ≡ (is_open s n || eqb s.next n)) × (t.next ≡ s.next + 1))
 
+-- one that may be closed
+may_close : (n : ℕ) (s : State) (e : Entry) (t : Stepped) (taken : List Message) → MayClose n s e t taken → Turned n s t.state
+may_close n s e t taken (inl turn) = inl (inl turn.open_is, turn.next_is)
+may_close n s e t taken (inr (was, turn)) = inl (inr turn.open_is, turn.next_is)
+
 turned : (n : ℕ) (s : State) (e : Entry) (t : Stepped) → step s e ≡ Some t → (what : Event) → e.event ≡ what → Turned n s t.state
 turned n s e t k Open is = let turn = turn_open n s e t k is in inr (turn.open_is, turn.next_is)
-turned n s e t k Tick is = let turn = turn_tick n s e t k is in inl (inl turn.open_is, turn.next_is)
+turned n s e t k Tick is = may_close n s e t [] (turn_tick n s e t k is)
 turned n s e t k (Close m cause) is = elim (cases_eq m n) [
   | inl same ↦ let turn = turn_close n s e t k cause (is ∙ ap (λ (v : ℕ). Close v cause) same) in inl (inr turn.open_is, turn.next_is)
   | inr ne ↦ let turn = turn_close_other n s e t k m cause ne is in inl (inl turn.open_is, turn.next_is)
 ]
 turned n s e t k (Take m message) is = elim (cases_eq m n) [
-  | inl same ↦ elim (turn_take n s e t k message (is ∙ ap (λ (v : ℕ). Take v message) same)) [
-    | inl turn ↦ inl (inl turn.open_is, turn.next_is)
-    | inr turn ↦ inl (inr turn.open_is, turn.next_is)
-  ]
-  | inr ne ↦ let turn = turn_take_other n s e t k m message ne is in inl (inl turn.open_is, turn.next_is)
+  | inl same ↦ may_close n s e t (message ∷ []) (turn_take n s e t k message (is ∙ ap (λ (v : ℕ). Take v message) same))
+  | inr ne ↦ may_close n s e t [] (turn_take_other n s e t k m message ne is)
 ]
 
 -- serials are never used again

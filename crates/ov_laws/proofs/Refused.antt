@@ -33,7 +33,16 @@ module _ (s : State) (n : ℕ) (id : Data) (results : Items) (error : has_error 
 
   works_leaves : (draws : List Uuid) (o : Option Outcome) (operations : Items) (t : Stepped) → works s n draws o (Transact id operations) ≡ Some t → Leaves t
   works_leaves draws o operations t h =
-      work_has Leaves s n (λ trees sent. refl) draws o (Transact id operations) t (λ sent. refl) (λ i os kept database is completes. (kept_leaves draws i os kept database completes, λ sent. refl)) h
+      work_has (λ own x. Leaves x) s n draws o (Transact id operations) t (record {
+        closes = λ sent. refl;
+        sends = λ trees sent. refl;
+        transacts = λ i os is. record {
+          sends = λ trees sent. refl;
+          commits = λ kept database completes. (kept_leaves draws i os kept database completes, λ sent. refl);
+          waits = λ timeout waits sent. refl;
+        };
+        cancels = λ i is sent. refl;
+      }) h
 
 -- a reply with an error among its results leaves the database
 pub changes_nothing : (s : State) (n : ℕ) (draws : List Uuid) (o : Option Outcome) (id : Data) (operations results : Items) (t : Stepped) → works s n draws o (Transact id operations) ≡ Some t

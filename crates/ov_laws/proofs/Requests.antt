@@ -12,7 +12,7 @@ use Rattle.ov_specs.specs.schema.SchemaTypes.{Schema}
 use Rattle.ov_specs.specs.rows.Database.{Database}
 use Rattle.ov_specs.specs.machine.Streams.{StreamEvent, Opens, Feed, Finish, Passes, Streams, no_streams, with_fed, IsEntryAt, Feeds, Expands, ExpandsTimed}
 use Rattle.ov_specs.proofs.laws.Histories.{Leads, leads_none, leads_more, option_or_none, requests_more, closed_by_more}
-use Rattle.ov_specs.proofs.laws.Turns.{Turn, turn_open, turn_tick, turn_close, turn_close_other, turn_take, turn_take_other}
+use Rattle.ov_specs.proofs.laws.Turns.{Turn, MayClose, turn_open, turn_tick, turn_close, turn_close_other, turn_take, turn_take_other}
 use Rattle.ov_laws.specs.Requests.{AreAskedFor}
 use Rattle.ov_specs.proofs.laws.Truths.{or_nothing}
 
@@ -72,6 +72,14 @@ shut before n stream s h e t taken cause stepped turn low leads none law =
       gone = λ _. law;
     }))
 
+-- an entry that takes nothing of the session, and may close it as memory is refused to it
+may_close : (before : State) (n : ℕ) (stream : List ℕ) (s : State) (h : List Entry) (e : Entry) (t : Stepped) → step s e ≡ Some t → MayClose n s e t [] → KeepsAt before n stream s h → KeepsAt before n stream t.state (h ++ e ∷ [])
+may_close before n stream s h e t stepped (inl turn) k = aside before n stream s h e t stepped turn k
+may_close before n stream s h e t stepped (inr (was, turn)) k =
+    let low : n < s.next = opened_before n stream (is_open s n) s.next (requests h n) (closed_by before h n) k.keeps was in
+    let (none, taken, whole) = k.keeps.going was in
+    shut before n stream s h e t [] Memory stepped turn low k.leads none ([], append-nil (requests h n ++ []) ∙ (append-nil (requests h n) ∙ taken))
+
 -- ---- a piece of the session's own stream
 
 module _ (before : State) (at n : ℕ) (stream : List ℕ) where
@@ -119,7 +127,7 @@ module _ (before : State) (at n : ℕ) (stream : List ℕ) where
             let c : closed_by before (h ++ e ∷ []) n ≡ None = closed_by_more before h s e t n leads enters.step ∙ (ap (option_or (closed_by before h n)) turn.cause_is ∙ (option_or_none (closed_by before h n) ∙ none)) in
             let low' : n < t.state.next = omega (arith, turn.next_is) in
             subst (KeepsAt before n stream new) (append_assoc h (e ∷ []) entries) (feeds_own t.state (h ++ e ∷ []) messages damaged entries new there' low' (leads_more before h s e t leads enters.step) c (ap (λ l. l ++ messages) r ∙ is') d on')
-        | inr turn ↦
+        | inr (was, turn) ↦
             let last : (entries ≡ []) × (new ≡ t.state) = MatchBool-at_false (Feeds at t.state n messages damaged entries new) ((entries ≡ []) × (new ≡ t.state)) turn.open_is on in
             subst (λ (v : State). KeepsAt before n stream v (h ++ e ∷ entries)) (sym last.1) (subst (λ (l : List Entry). KeepsAt before n stream t.state (h ++ e ∷ l)) (sym last.0)
             (shut before n stream s h e t (message ∷ []) Memory enters.step turn low leads none (messages, is')))
@@ -146,7 +154,7 @@ module _ (before : State) (at n : ℕ) (stream : List ℕ) (m : ℕ) (other : m 
   feeds_other s h (message ∷ messages) damaged (e ∷ entries) new k (t, inl (enters, no_more, same)) =
       subst (λ (v : State). KeepsAt before n stream v (h ++ e ∷ entries)) (sym same) (subst (λ (l : List Entry). KeepsAt before n stream t.state (h ++ e ∷ l)) (sym no_more) (closes_other s h Memory e t enters k))
   feeds_other s h (message ∷ messages) damaged (e ∷ entries) new k (t, inr (enters, on)) =
-      let k' : KeepsAt before n stream t.state (h ++ e ∷ []) = aside before n stream s h e t enters.step (turn_take_other n s e t enters.step m message other enters.event) k in
+      let k' : KeepsAt before n stream t.state (h ++ e ∷ []) = may_close before n stream s h e t enters.step (turn_take_other n s e t enters.step m message other enters.event) k in
       elim (cases_Bool (is_open t.state m)) [
         | inl there ↦
             let on' : Feeds at t.state m messages damaged entries new = MatchBool-at_true (Feeds at t.state m messages damaged entries new) ((entries ≡ []) × (new ≡ t.state)) there on in
@@ -276,7 +284,7 @@ expands before at n s streams Opens h k new after keeps (e, t, one, enters, stat
 expands before at n s streams (Feed m bytes) h k new after keeps x = expands_feed before at n s streams h k new after keeps m bytes x
 expands before at n s streams (Finish m) h k new after keeps x = expands_finish before at n s streams h k new after keeps m x
 expands before at n s streams (Passes ms) h k new after keeps (e, t, one, enters, state, same) =
-    single before n streams h k e t new after one state same (aside before n (streams n) s h e t enters.step (turn_tick n s e t enters.step enters.event) keeps)
+    single before n streams h k e t new after one state same (may_close before n (streams n) s h e t enters.step (turn_tick n s e t enters.step enters.event) keeps)
 
 -- ---- all stream events
 

@@ -2,12 +2,13 @@
 #![tactic(auto)]
 
 ghost use Rattle.std.specs.List.{list_all};
-ghost use Rattle.std.specs.Prelude.{◌≡◌, ◌↔◌, ◌++◌, ◌-◌, ◌<◌, ℕ, List, [], Option, Some, None, is_some, not, true, false, length, Ok};
+ghost use Rattle.std.specs.Prelude.{◌≡◌, ◌↔◌, ◌++◌, ◌+◌, ◌-◌, ◌*◌, ◌<◌, ◌≤◌, ℕ, List, [], Option, Some, None, is_some, not, true, false, length, Ok};
 ghost use Rattle.serde_json.specs.Data.{Data, Items};
 ghost use Rattle.ov_specs.specs.wire.Cut.{Cut, cut, cut_from, IsCut, continue_cut, with_messages, max_message};
 ghost use Rattle.ov_specs.specs.wire.Message.{asked};
-ghost use Rattle.ov_specs.specs.machine.Machine.{State, is_open, Entry, Stepped, Outcome, Transact, step, works, to_session, results_of, opening};
+ghost use Rattle.ov_specs.specs.machine.Machine.{State, is_open, Entry, Stepped, Outcome, Attempt, Passed, Transact, step, works, settle, to_session, results_of, opening};
 ghost use Rattle.ov_specs.specs.operations.Transaction.{has_error};
+ghost use Rattle.ov_specs.specs.machine.Blocked.{AreBlocked};
 ghost use Rattle.ov_specs.specs.machine.Suiting.{SuitsState, IsWholeState, draws_uuids};
 ghost use Rattle.ov_specs.specs.integrity.Committed.{committed, is_whole};
 ghost use Rattle.ov_specs.specs.integrity.Kept.{IsGreatestSupported, kept};
@@ -63,6 +64,19 @@ pub fn a_refused_transaction_changes_nothing()
     ensures { (s : State) (session : ℕ) (draws : List Uuid) (outcome : Option Outcome) (id : Data) (operations results : Items) (stepped : Stepped)
         → works s session draws outcome (Transact id operations) ≡ Some stepped
         → stepped.sent ≡ to_session session (results_of id results) → has_error results ≡ true → stepped.state.database ≡ s.database }
+{}
+
+/// Settling n transactions that wait takes at most n · (n + 1) / 2 attempts.
+pub fn settling_takes_few_attempts()
+    ensures { (s : State) (number : ℕ) (attempts : List Attempt) (passed : Passed) → settle s number attempts ≡ Some passed
+        → 2 * (passed.next - number) ≤ length s.outstanding * (length s.outstanding + 1) }
+{}
+
+/// Settling ends where each transaction that is left is blocked: tried again on the database as it is then, at its age, it would
+/// wait, and with the timeout that is kept of it.
+pub fn settling_leaves_what_is_blocked()
+    ensures { (s : State) (number : ℕ) (attempts : List Attempt) (passed : Passed) → settle s number attempts ≡ Some passed
+        → AreBlocked passed.tried.stepped.state }
 {}
 
 /// Where what is drawn are identifiers, each step of the machine keeps the schema, and the rows those of the schema; so does

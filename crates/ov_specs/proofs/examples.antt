@@ -6,6 +6,7 @@ mod ConditionRows
 mod MutatorRows
 mod InsertRows
 mod MachineRows
+mod SettlingRows
 mod SuitsRows
 mod NetRows
 mod OperationFaultRows

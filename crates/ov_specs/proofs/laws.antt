@@ -14,6 +14,10 @@ pub mod SchemaLaws
 pub mod Expanding
 pub mod Histories
 pub mod Works
+pub mod Tries
+pub mod Settling
+pub mod SettlingOn
+pub mod Happening
 pub mod Turns
 pub mod LineKeys
 pub mod Truths

@@ -2,3 +2,4 @@ pub mod Machine
 pub mod History
 pub mod Streams
 pub mod Suiting
+pub mod Blocked

@@ -6,9 +6,8 @@ use Rattle.std.specs.FinMap.{empty}
 use Rattle.ov_specs.specs.schema.SchemaTypes.{Schema}
 use Rattle.serde_json.specs.Data.{null, number, unsigned, string, object, no_members, item, no_items}
 use Rattle.ov_specs.specs.wire.Message.{Message, Call, Note}
-use Rattle.ov_specs.specs.wire.Frame.{frame, failure_tree, note_tree}
-use Rattle.ov_specs.specs.machine.Machine.{State, Event, Open, Take, Close, Tick, InputEnded, Memory, NoMemory, Committed, Entry, step, opening, attempt}
-use Rattle.ov_specs.specs.operations.Transaction.{Waits}
+use Rattle.ov_specs.specs.wire.Frame.{frame, note_tree}
+use Rattle.ov_specs.specs.machine.Machine.{State, Event, Open, Take, Close, Tick, InputEnded, Memory, NoMemory, Committed, Entry, step, opening}
 use Rattle.ov_specs.specs.machine.History.{run, out, requests, closed_by}
 
 -- a schema of this name, without tables
@@ -77,11 +76,6 @@ no_draws_are_wanted = refl
 -- nor where memory was refused
 pub no_draws_without_memory : step with_session (record { event = Take 1 echo; choice = record { moment = 0; draws = [] ∷ []; outcomes = record { number = 1; outcome = NoMemory } ∷ [] } }) ≡ None
 no_draws_without_memory = refl
-
--- no transaction is kept outstanding yet: one that waits is refused, and nothing is changed
-pub waiting_is_refused : attempt with_session 1 (number (unsigned 1)) (Waits (Some 50)) None
-    ≡ Some (record { state = with_session; sent = record { session = 1; tree = failure_tree (number (unsigned 1)) (codes "resources exhausted") } ∷ [] })
-waiting_is_refused = refl
 
 -- ---- runs, with their bytes out
 

@@ -11,14 +11,14 @@ use Rattle.ov_specs.specs.values.Uuid.{is_uuid}
 use Rattle.ov_specs.proofs.laws.OutcomeSuiting.{SuitsTransaction, transaction_suits}
 use Rattle.ov_specs.proofs.laws.StepKeeping.{Holds, IsKept, opening_holds, step_holds, run_holds}
 
-of_suits : (s : State) → SuitsState s → Holds Suits s
-of_suits s suits = record { committed = suits.committed; sealed = suits.sealed }
+of_suits : (s : State) → SuitsState s → Holds Suits (list_all is_uuid) s
+of_suits s suits = record { committed = suits.committed; sealed = suits.sealed; drawn = suits.drawn }
 
-to_suits : (s : State) → Holds Suits s → SuitsState s
-to_suits s holds = record { committed = holds.committed; sealed = holds.sealed }
+to_suits : (s : State) → Holds Suits (list_all is_uuid) s → SuitsState s
+to_suits s holds = record { committed = holds.committed; sealed = holds.sealed; drawn = holds.drawn }
 
 suits_kept : IsKept Suits (list_all is_uuid)
-suits_kept schema before database draws operations results are suits completes = subst (SuitsTransaction schema) completes (transaction_suits schema before draws 0 operations are suits)
+suits_kept schema before database draws age operations results are suits completes = subst (SuitsTransaction schema) completes (transaction_suits schema before draws age operations are suits)
 
 -- a step keeps the schema, and the rows those of the schema
 pub step_suits : (s : State) (e : Entry) (t : Stepped) → step s e ≡ Some t → draws_uuids e ≡ true → SuitsState s → (t.state.schema ≡ s.schema) × SuitsState t.state
@@ -33,4 +33,4 @@ run_suits s history t h are suits =
     (stays.0, to_suits t.state stays.1)
 
 pub opening_suits : (schema : Schema) (database : Database) → Suits schema database → SuitsState (opening schema database)
-opening_suits schema database suits = to_suits (opening schema database) (opening_holds Suits schema database suits)
+opening_suits schema database suits = to_suits (opening schema database) (opening_holds Suits (list_all is_uuid) schema database suits)

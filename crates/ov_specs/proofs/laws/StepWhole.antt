@@ -1,6 +1,5 @@
 -- Each transaction and each step of the machine keeps whole rows whole, where the schema is accepted.
 use Rattle.std.proofs.Common.{◌≡◌, ℕ, ◌+◌, List, [], ◌∷◌, true, Some, Result, Ok, Err, refl, sym, subst}
-use Rattle.std.specs.List.{list_all}
 use Rattle.serde_json.specs.Data.{Data, Items, no_items, item}
 use Rattle.ov_specs.specs.integrity.Committed.{committed, is_whole}
 use Rattle.ov_specs.specs.machine.History.{run}
@@ -16,6 +15,7 @@ use Rattle.ov_specs.specs.schema.SchemaTypes.{Schema}
 use Rattle.ov_specs.specs.values.Uuid.{Uuid}
 use Rattle.ov_specs.proofs.laws.Committing.{committed_whole}
 use Rattle.ov_specs.proofs.laws.MixedPairs.{accepted_is_not_mixed}
+use Rattle.ov_specs.proofs.laws.Settling.{all-any}
 use Rattle.ov_specs.proofs.laws.StepKeeping.{Holds, IsKept, opening_holds, step_holds, run_holds}
 
 -- ---- transactions
@@ -58,15 +58,15 @@ transaction_whole schema before (version ∷ ids) age operations accepted whole 
 abbrev IsWholeUnder : Schema → Database → Type 0
 IsWholeUnder schema database = IsAccepted schema → is_whole schema database ≡ true
 
-of_whole : (s : State) → IsWholeState s → Holds IsWholeUnder s
-of_whole s whole = record { committed = λ accepted. whole.committed; sealed = λ database is accepted. whole.sealed database is }
+of_whole : (s : State) → IsWholeState s → Holds IsWholeUnder (λ draws. true) s
+of_whole s whole = record { committed = λ accepted. whole.committed; sealed = λ database is accepted. whole.sealed database is; drawn = all-any s.outstanding }
 
-to_whole : (s : State) → IsAccepted s.schema → Holds IsWholeUnder s → IsWholeState s
+to_whole : (s : State) → IsAccepted s.schema → Holds IsWholeUnder (λ draws. true) s → IsWholeState s
 to_whole s accepted holds = record { committed = holds.committed accepted; sealed = λ database is. holds.sealed database is accepted }
 
 whole_kept : IsKept IsWholeUnder (λ draws. true)
-whole_kept schema before database draws operations results are whole completes accepted =
-    subst (WholeTransaction schema) completes (transaction_whole schema before draws 0 operations accepted (whole accepted))
+whole_kept schema before database draws age operations results are whole completes accepted =
+    subst (WholeTransaction schema) completes (transaction_whole schema before draws age operations accepted (whole accepted))
 
 -- a step keeps the schema, and the rows whole
 pub step_whole : (s : State) (e : Entry) (t : Stepped) → step s e ≡ Some t → IsAccepted s.schema → IsWholeState s → (t.state.schema ≡ s.schema) × IsWholeState t.state
@@ -74,16 +74,11 @@ step_whole s e t h accepted whole =
     let stays = step_holds IsWholeUnder (λ draws. true) whole_kept s e t h refl (of_whole s whole) in
     (stays.0, to_whole t.state (subst IsAccepted (sym stays.0) accepted) stays.1)
 
--- any entries do
-any_drawn : (history : List Entry) → list_all (λ e. true) history ≡ true
-any_drawn [] = refl
-any_drawn (e ∷ history) = any_drawn history
-
 -- a run keeps the schema, and the rows whole
 pub run_whole : (s : State) (history : List Entry) (t : Stepped) → run s history ≡ Some t → IsAccepted s.schema → IsWholeState s → (t.state.schema ≡ s.schema) × IsWholeState t.state
 run_whole s history t h accepted whole =
-    let stays = run_holds IsWholeUnder (λ draws. true) whole_kept s history t h (any_drawn history) (of_whole s whole) in
+    let stays = run_holds IsWholeUnder (λ draws. true) whole_kept s history t h (all-any history) (of_whole s whole) in
     (stays.0, to_whole t.state (subst IsAccepted (sym stays.0) accepted) stays.1)
 
 pub opening_whole : (schema : Schema) (database : Database) → is_whole schema database ≡ true → IsWholeState (opening schema database)
-opening_whole schema database whole = record { committed = whole; sealed = (opening_holds (λ x d. is_whole x d ≡ true) schema database whole).sealed }
+opening_whole schema database whole = record { committed = whole; sealed = (opening_holds (λ x d. is_whole x d ≡ true) (λ draws. true) schema database whole).sealed }

@@ -1,14 +1,18 @@
 -- What one entry makes of one session.
-use Rattle.std.proofs.Common.{◌≡◌, ◌≢◌, ℕ, ◌+◌, List, [], ◌∷◌, ◌++◌, refl, sym, ap, ◌∙◌, cond, eqb, leb, Bool, true, false, Option, Some, None, ◌⊎◌, inl, inr}
-use Rattle.std.specs.Prelude.{not, ◌||◌, ◌&&◌, filter, option_map}
+use Rattle.std.proofs.Common.{◌≡◌, ◌≢◌, ℕ, ◌+◌, List, [], ◌∷◌, ◌++◌, refl, sym, ap, subst, ◌∙◌, cond, eqb, leb, Bool, true, false, Option, Some, None, ◌⊎◌, inl, inr}
+use Rattle.std.specs.Prelude.{not, ◌||◌, ◌&&◌, filter, option_map, codes}
 use Rattle.std.specs.List.{list_any}
 use Rattle.std.proofs.lemmas.List.Folds.{list_any-append}
 use Rattle.std.proofs.lemmas.Map.Views.{any-filter_same}
-use Rattle.std.proofs.lemmas.Bool.{eq-eqb, eqb-true, ne_eqb, not_from_true, not_from_false, and_parts}
+use Rattle.std.proofs.lemmas.Bool.{cases_Bool, eq-eqb, eqb-true, ne_eqb, not_from_true, not_from_false, and_parts}
 use Rattle.ov_specs.specs.wire.Message.{Message}
 use Rattle.ov_specs.specs.values.Uuid.{Uuid}
-use Rattle.ov_specs.specs.machine.Machine.{State, Entry, Event, Open, Take, Close, Tick, Cause, Memory, Outcome, Attempt, Listed, listed, tries, ends, Session, Stepped, step, happens, takes, closed, when, is_open, is_without_choice, with_next_session, without_session, none_listed, Work, work_of, works}
+use Rattle.ov_specs.specs.machine.Machine.{State, Entry, Event, Open, Take, Close, Tick, Cause, Memory, Outcome, Attempt, Listed, listed, tries, ends, Session, Stepped, step, happens, takes_and_settles, settle, closed, when, is_open, is_without_choice, none_drawn, with_next_session, without_request, none_listed, arrived, Work, work_of, works}
 use Rattle.ov_specs.specs.machine.History.{taken_by, cause_in, closing_cause}
+use Rattle.ov_specs.specs.operations.Transaction.{transaction}
+use Rattle.ov_specs.specs.wire.Frame.{failure_tree}
+use Rattle.ov_specs.proofs.laws.Settling.{IsNoMore, IsWithin, no_more-same, no_more-closed, to_open, within-then, outcome_within, settle_within_open}
+use Rattle.ov_specs.proofs.laws.Tries.{left_by, sent_by, takes_first, tick_first}
 use Rattle.ov_specs.proofs.laws.Truths.{or_nothing}
 use Rattle.ov_specs.proofs.laws.Works.{when_is, when_suits, work_has}
 use Rattle.std.proofs.lemmas.Option.{same_Some}
@@ -94,20 +98,6 @@ module _ (n : ℕ) (s : State) (e : Entry) (t : Stepped) (h : step s e ≡ Some 
         cause_is = no_cause_more n s t.state e.event (eqb s.next n) open_is;
       }
 
-  -- time passes
-  pub turn_tick : e.event ≡ Tick → Turn n s e t.state (is_open s n) s.next [] None
-  turn_tick is =
-      let k = stepped s e t Tick is h in
-      let x : Stepped = record { state = now s e; sent = [] } in
-      let same : x ≡ t = same_Some x t (when_is (is_without_choice e.choice) (Some x) t k) in
-      let open_is : is_open t.state n ≡ is_open s n = ap (λ (v : Stepped). is_open v.state n) (sym same) in
-      record {
-        open_is = open_is;
-        next_is = ap (λ (v : Stepped). v.state.next) (sym same);
-        taken_is = ap (taken_by n) is;
-        cause_is = no_cause_same n s t.state e.event open_is;
-      }
-
   -- what a session is closed to
   after_close : (m : ℕ) (cause : Cause) → e.event ≡ Close m cause → closed (now s e) m ≡ t
   after_close m cause is = same_Some (closed (now s e) m) t (when_is (is_without_choice e.choice && is_open s m) (Some (closed (now s e) m)) t (stepped s e t (Close m cause) is h))
@@ -142,57 +132,74 @@ module _ (n : ℕ) (s : State) (e : Entry) (t : Stepped) (h : step s e ≡ Some 
         cause_is = no_cause_same n s t.state e.event open_is;
       }
 
--- what is left of the work on a message: the session is closed when out of memory, or the sessions stay
-abbrev Worked : State → ℕ → State → Type 0
-Worked s m t = ((t.sessions ≡ s.sessions) × (t.next ≡ s.next)) ⊎ (t ≡ without_session m s)
+-- ---- work and tries
 
--- the work on a message leaves so much
-any_work : (s : State) (m : ℕ) (draws : List Uuid) (o : Option Outcome) (w : Work) (t : Stepped) → works s m draws o w ≡ Some t → Worked s m t.state
-any_work s m draws o w t h =
-    work_has (λ x. Worked s m x.state) s m (λ trees. inl (refl, refl)) draws o w t (inr refl) (λ id operations results database is completes. (inl (refl, refl), inl (refl, refl))) h
+-- What an entry that takes so much of a session makes of it: it goes on, or it was open and is closed, as memory was refused to it.
+abbrev pub MayClose : ℕ → State → Entry → Stepped → List Message → Type 0
+MayClose n s e t taken = Turn n s e t.state (is_open s n) s.next taken None ⊎ ((is_open s n ≡ true) × Turn n s e t.state false s.next taken (Some Memory))
+
+-- where no session is opened
+may_close : (n : ℕ) (s : State) (e : Entry) (t : Stepped) (taken : List Message) → taken_by n e.event ≡ taken → cause_in n e.event ≡ Memory → IsNoMore (now s e) t.state → MayClose n s e t taken
+may_close n s e t taken taken_is cause no_more = elim (cases_Bool (is_open t.state n)) [
+  | inl there ↦
+      let open_is : is_open t.state n ≡ is_open s n = there ∙ sym (no_more.still_open n there) in
+      inl (record { open_is = open_is; next_is = no_more.next; taken_is = taken_is; cause_is = no_cause_same n s t.state e.event open_is })
+  | inr away ↦ elim (cases_Bool (is_open s n)) [
+    | inl was ↦ inr (was, record { open_is = away; next_is = no_more.next; taken_is = taken_is; cause_is = cause_shut n s t.state e.event was away ∙ ap (λ c. Some c) cause })
+    | inr was_not ↦
+        let open_is : is_open t.state n ≡ is_open s n = away ∙ sym was_not in
+        inl (record { open_is = open_is; next_is = no_more.next; taken_is = taken_is; cause_is = no_cause_same n s t.state e.event open_is })
+  ]
+]
+
+-- the work on a message of an open session
+work_within : (s : State) (m : ℕ) (draws : List Uuid) (o : Option Outcome) (w : Work) (t : Stepped) → is_open s m ≡ true → works s m draws o w ≡ Some t → IsWithin s t.state t.sent
+work_within s m draws o w t there h =
+    work_has (λ kept x. IsWithin s x.state x.sent) s m draws o w t (record {
+      closes = (no_more-closed s m, refl);
+      sends = λ trees. (no_more-same s s refl refl refl refl, to_open s m trees there);
+      transacts = λ id operations is. outcome_within s (arrived s m id draws operations) (transaction s.schema s.database draws 0 operations) there;
+      cancels = λ id is. (no_more-same s (without_request m id s) refl refl refl refl, to_open s m (failure_tree id (codes "canceled") ∷ []) there);
+    }) h
+
+module _ (s : State) (e : Entry) (t : Stepped) (h : step s e ≡ Some t) where
+  -- it is open before
+  pub open_to_take : (m : ℕ) (message : Message) → e.event ≡ Take m message → is_open s m ≡ true
+  open_to_take m message is = when_suits (is_open s m) (ends (takes_and_settles (now s e) e.choice m message)) t (stepped s e t (Take m message) is h)
+
+  -- the work on a message, and the tries behind it, open no session, and send to sessions that were open
+  pub take_within : (m : ℕ) (message : Message) → e.event ≡ Take m message → IsWithin (now s e) t.state t.sent
+  take_within m message is =
+      let x = takes_first (now s e) e.choice m message t (when_is (is_open s m) (ends (takes_and_settles (now s e) e.choice m message)) t (stepped s e t (Take m message) is h)) in
+      let own : Listed = listed 1 e.choice.outcomes in
+      let first : IsWithin (now s e) x.first.state x.first.sent = work_within (now s e) m e.choice.draws own.outcome (work_of (now s e) m message) x.first (open_to_take m message is) x.work in
+      elim x.goes_on [
+        | inl (not_kept, same) ↦ subst (λ (v : Stepped). IsWithin (now s e) v.state v.sent) same first
+        | inr (kept, p, settled, same) ↦
+            subst (λ (v : Stepped). IsWithin (now s e) v.state v.sent) same
+            (within-then (now s e) x.first.state (left_by p) x.first.sent (sent_by p) first (settle_within_open x.first.state 2 own.others p settled))
+      ]
+
+  -- nor does settling as time passes
+  pub tick_within : e.event ≡ Tick → IsWithin (now s e) t.state t.sent
+  tick_within is =
+      let k = when_is (none_drawn e.choice) (ends (option_map (λ p. p.tried) (settle (now s e) 1 e.choice.outcomes))) t (stepped s e t Tick is h) in
+      let (p, settled, same) = tick_first (now s e) e.choice t k in
+      subst (λ (v : Stepped). IsWithin (now s e) v.state v.sent) same (settle_within_open (now s e) 1 e.choice.outcomes p settled)
 
 module _ (n : ℕ) (s : State) (e : Entry) (t : Stepped) (h : step s e ≡ Some t) where
-  -- the state after the work on a message
-  after_take : (m : ℕ) (message : Message) → e.event ≡ Take m message → Worked (now s e) m t.state
-  after_take m message is =
-      let work : Option Outcome → Option Stepped = λ o. works (now s e) m e.choice.draws o (work_of (now s e) message) in
-      let first : Listed = listed 1 e.choice.outcomes in
-      let k = when_is (is_open s m) (ends (takes (now s e) e.choice m message)) t (stepped s e t (Take m message) is h) in
-      any_work (now s e) m e.choice.draws first.outcome (work_of (now s e) message) t (when_is (none_listed first.others) (work first.outcome) t (sym (ends_tries work 1 e.choice.outcomes) ∙ k))
-
-  -- it is open before
-  open_to_take : (m : ℕ) (message : Message) → e.event ≡ Take m message → is_open s m ≡ true
-  open_to_take m message is = when_suits (is_open s m) (ends (takes (now s e) e.choice m message)) t (stepped s e t (Take m message) is h)
+  -- time passes, and may close the session of a transaction that waits
+  pub turn_tick : e.event ≡ Tick → MayClose n s e t []
+  turn_tick is = may_close n s e t [] (ap (taken_by n) is) (ap (cause_in n) is) (tick_within s e t h is).0
 
   -- a message of the session is taken, and may close it
-  pub turn_take : (message : Message) → e.event ≡ Take n message → Turn n s e t.state (is_open s n) s.next (message ∷ []) None ⊎ Turn n s e t.state false s.next (message ∷ []) (Some Memory)
+  pub turn_take : (message : Message) → e.event ≡ Take n message → MayClose n s e t (message ∷ [])
   turn_take message is =
-      let own : eqb n n ≡ true = eq-eqb n n refl in
-      let taken : taken_by n e.event ≡ message ∷ [] = ap (taken_by n) is ∙ ap (λ b. cond b (message ∷ []) []) own in
-      elim (after_take n message is) [
-        | inl w ↦
-            let open_is : is_open t.state n ≡ is_open s n = ap (λ (xs : List Session). list_any (λ k. eqb k.serial n) xs) w.0 in
-            inl (record { open_is = open_is; next_is = w.1; taken_is = taken; cause_is = no_cause_same n s t.state e.event open_is })
-        | inr w ↦
-            let open_is : is_open t.state n ≡ false = ap (λ (v : State). is_open v n) w ∙ none_left n s.sessions in
-            inr (record {
-              open_is = open_is;
-              next_is = ap (λ (v : State). v.next) w;
-              taken_is = taken;
-              cause_is = cause_shut n s t.state e.event (open_to_take n message is) open_is ∙ ap (λ c. Some c) (ap (cause_in n) is);
-            })
-      ]
+      let taken : taken_by n e.event ≡ message ∷ [] = ap (taken_by n) is ∙ ap (λ b. cond b (message ∷ []) []) (eq-eqb n n refl) in
+      may_close n s e t (message ∷ []) taken (ap (cause_in n) is) (take_within s e t h n message is).0
 
-  -- a message of another session is taken
-  pub turn_take_other : (m : ℕ) (message : Message) → m ≢ n → e.event ≡ Take m message → Turn n s e t.state (is_open s n) s.next [] None
+  -- a message of another session is taken, and may close this one too, where a transaction of it waits
+  pub turn_take_other : (m : ℕ) (message : Message) → m ≢ n → e.event ≡ Take m message → MayClose n s e t []
   turn_take_other m message ne is =
-      let other : eqb m n ≡ false = ne_eqb m n ne in
-      let taken : taken_by n e.event ≡ [] = ap (taken_by n) is ∙ ap (λ b. cond b (message ∷ []) []) other in
-      elim (after_take m message is) [
-        | inl w ↦
-            let open_is : is_open t.state n ≡ is_open s n = ap (λ (xs : List Session). list_any (λ k. eqb k.serial n) xs) w.0 in
-            record { open_is = open_is; next_is = w.1; taken_is = taken; cause_is = no_cause_same n s t.state e.event open_is }
-        | inr w ↦
-            let open_is : is_open t.state n ≡ is_open s n = ap (λ (v : State). is_open v n) w ∙ others_left n m s.sessions ne in
-            record { open_is = open_is; next_is = ap (λ (v : State). v.next) w; taken_is = taken; cause_is = no_cause_same n s t.state e.event open_is }
-      ]
+      let taken : taken_by n e.event ≡ [] = ap (taken_by n) is ∙ ap (λ b. cond b (message ∷ []) []) (ne_eqb m n ne) in
+      may_close n s e t [] taken (ap (cause_in n) is) (take_within s e t h m message is).0

@@ -1,9 +1,10 @@
 -- The machine: what one event makes of its state and what it sends, given what the outside chose (our own, over RFC 7047, 4).
 -- What names no source is our own.
-use Rattle.std.specs.Prelude.{◌≡◌, ◌⊎◌, ℕ, ◌+◌, ◌==◌, ◌&&◌, not, nat_le, List, [], ◌∷◌, ◌++◌, length, map, filter, Bool, if◌then◌else◌, Option, Some, None, is_some, option_map, codes}
-use Rattle.std.specs.List.{list_any}
+use Rattle.std.specs.Prelude.{◌≡◌, ◌⊎◌, ℕ, zero, suc, ◌+◌, ◌-◌, ◌==◌, ◌&&◌, not, nat_le, min, List, [], ◌∷◌, ◌++◌, length, map, filter, Bool, true, false, if◌then◌else◌, Option, Some, None, is_some, option_map, option_and_then, codes}
+use Rattle.std.specs.List.{list_any, filter_map}
 use Rattle.serde_json.specs.Data.{Data, array, Items, no_items, item}
 use Rattle.serde_json.specs.Find.{as_str}
+use Rattle.serde_json.specs.Written.{compact_text}
 use Rattle.ov_specs.specs.rows.Database.{Database, same_database}
 use Rattle.ov_specs.specs.wire.Message.{Message, Call, Note, Answer, Bad}
 use Rattle.ov_specs.specs.wire.Frame.{reply_tree, failure_tree}
@@ -62,18 +63,29 @@ pub record Entry : Type 0 where
 pub record Session : Type 0 where
   pub serial : ℕ
 
+-- A transaction that waits: of which session, the id that it is answered under, what was drawn for it, its operations, the moment
+-- of its arrival, and the timeout, if any, of the wait that blocked its last try (RFC 7047, 4.1.3, 5.2.6).
+pub record Outstanding : Type 0 where
+  pub session : ℕ
+  pub id : Data
+  pub draws : List Uuid
+  pub operations : Items
+  pub arrival : ℕ
+  pub timeout : Option ℕ
+
 -- what the machine knows between two events
 pub record State : Type 0 where
   pub schema : Schema  -- of the database
   pub database : Database  -- as it was committed
   pub sealed : Option Database  -- after a commit that failed, the database that it would have made: nothing is committed any more
   pub sessions : List Session  -- the open ones, in order of opening
+  pub outstanding : List Outstanding  -- the transactions that wait, in order of arrival
   pub next : ℕ  -- the serial of the next session
   pub moment : ℕ  -- the last one
 
 -- before any event: the database as it was opened, no session is open, serials begin with 1
 abbrev pub opening : Schema → Database → State
-opening schema database = record { schema = schema; database = database; sealed = None; sessions = []; next = 1; moment = 0 }
+opening schema database = record { schema = schema; database = database; sealed = None; sessions = []; outstanding = []; next = 1; moment = 0 }
 
 -- What a crash may leave: the database as it was committed, or the one that a failed commit would have made.
 abbrev pub Left : State → Database → Type 0
@@ -87,9 +99,59 @@ is_open s session = list_any (λ n. n.serial == session) s.sessions
 abbrev pub with_next_session : State → State
 with_next_session s = record s { sessions = s.sessions ++ record { serial = s.next } ∷ []; next = s.next + 1 }
 
--- the state without the session
+-- these without the ones of the session
+abbrev pub of_others : ℕ → List Outstanding → List Outstanding
+of_others session waiting = filter (λ o. not (o.session == session)) waiting
+
+-- the state without the session, and without what it asked for
 abbrev pub without_session : ℕ → State → State
-without_session session s = record s { sessions = filter (λ n. not (n.serial == session)) s.sessions }
+without_session session s = record s { sessions = filter (λ n. not (n.serial == session)) s.sessions; outstanding = of_others session s.outstanding }
+
+-- Two ids are the same where their texts are (our own).
+abbrev pub same_id : Data → Data → Bool
+same_id a b = bytes_eq (compact_text a) (compact_text b)
+
+-- the transaction of the session with the id
+abbrev pub is_request : ℕ → Data → Outstanding → Bool
+is_request session id o = (o.session == session) && same_id o.id id
+
+-- a transaction of the session with this id waits
+abbrev pub is_waiting : State → ℕ → Data → Bool
+is_waiting s session id = list_any (is_request session id) s.outstanding
+
+-- the state without that transaction
+abbrev pub without_request : ℕ → Data → State → State
+without_request session id s = record s { outstanding = filter (λ o. not (is_request session id o)) s.outstanding }
+
+-- how many transactions of the session wait
+abbrev pub waiting_of : ℕ → State → ℕ
+waiting_of session s = length (filter (λ o. o.session == session) s.outstanding)
+
+-- the most of them (our own)
+abbrev pub most_waiting : ℕ
+most_waiting = 64
+
+-- the last moment that there is, in milliseconds
+abbrev pub last_moment : ℕ
+last_moment = 18446744073709551615
+
+-- when the transaction times out, if it does and its moment comes
+abbrev pub timeout_of : Outstanding → Option ℕ
+timeout_of o = option_and_then (λ timeout. if nat_le (o.arrival + timeout) last_moment then Some (o.arrival + timeout) else None) o.timeout
+
+-- the least of these and that one, if there is one
+abbrev pub least_with : ℕ → Option ℕ → ℕ
+least_with n None = n
+least_with n (Some m) = min n m
+
+-- the least of these
+abbrev pub least : List ℕ → Option ℕ
+least [] = None
+least (n ∷ others) = Some (least_with n (least others))
+
+-- when the first of the transactions that wait times out
+abbrev pub due : State → Option ℕ
+due s = least (filter_map timeout_of s.outstanding)
 
 -- a tree, and the session that it is sent to
 pub record Sent : Type 0 where
@@ -103,10 +165,11 @@ pub record Stepped : Type 0 where
 
 -- ---- the work on a message
 
--- what a message asks for: to be answered at once, or a transaction (RFC 7047, 4.1)
+-- what a message asks for: to be answered at once, a transaction, or to cancel one that waits (RFC 7047, 4.1)
 pub data Work : Type 0 where
   Answers : (trees : List Data) → Work
   Transact : (id : Data) (operations : Items) → Work
+  Cancels : (id : Data) → Work
 
 -- a result, at once (JSON-RPC 1.0, 1.2)
 abbrev pub answered : Data → Data → Work
@@ -116,15 +179,22 @@ answered id result = Answers (reply_tree id result ∷ [])
 abbrev pub refused : Data → List ℕ → Work
 refused id text = Answers (failure_tree id text ∷ [])
 
+-- A transaction is not tried where one of its session with this id waits, or as many of its session as may (our own).
+abbrev pub transact_work : State → ℕ → Data → Items → Work
+transact_work s session id operations =
+    if is_waiting s session id then refused id (codes "duplicate request id")
+    else (if nat_le most_waiting (waiting_of session s) then refused id (codes "resources exhausted")
+    else Transact id operations)
+
 -- a transaction on the database that is named, which is the one that is served (RFC 7047, 4.1.3)
-abbrev pub transact_call_on : State → Data → Option (List ℕ) → Items → Work
-transact_call_on s id None operations = refused id (codes "syntax error")
-transact_call_on s id (Some name) operations = if bytes_eq name s.schema.name then Transact id operations else refused id (codes "unknown database")
+abbrev pub transact_call_on : State → ℕ → Data → Option (List ℕ) → Items → Work
+transact_call_on s session id None operations = refused id (codes "syntax error")
+transact_call_on s session id (Some name) operations = if bytes_eq name s.schema.name then transact_work s session id operations else refused id (codes "unknown database")
 
 -- the params of "transact": the name of a database, and then the operations (RFC 7047, 4.1.3)
-abbrev pub transact_call : State → Data → Items → Work
-transact_call s id no_items = refused id (codes "syntax error")
-transact_call s id (item d operations) = transact_call_on s id (as_str d) operations
+abbrev pub transact_call : State → ℕ → Data → Items → Work
+transact_call s session id no_items = refused id (codes "syntax error")
+transact_call s session id (item d operations) = transact_call_on s session id (as_str d) operations
 
 -- the schema of the database that is named, which is the one that is served, as it was read (RFC 7047, 4.1.2)
 abbrev pub schema_call_on : State → Data → Option (List ℕ) → Work
@@ -138,20 +208,30 @@ schema_call s id (item d no_items) = schema_call_on s id (as_str d)
 schema_call s id (item d (item e items)) = refused id (codes "syntax error")
 
 -- what a call asks for, method by method; no other is known (RFC 7047, 4.1.1, 4.1.2, 4.1.3, 4.1.11; the last is our own)
-abbrev pub call_of : State → Data → List ℕ → Items → Work
-call_of s id method params =
+abbrev pub call_of : State → ℕ → Data → List ℕ → Items → Work
+call_of s session id method params =
     if bytes_eq method (codes "list_dbs") then answered id (database_names s.schema.name)
     else (if bytes_eq method (codes "get_schema") then schema_call s id params
-    else (if bytes_eq method (codes "transact") then transact_call s id params
+    else (if bytes_eq method (codes "transact") then transact_call s session id params
     else (if bytes_eq method (codes "echo") then answered id (array params)
     else refused id (codes "unknown method"))))
 
--- what a message asks for: a notification and an answer ask for nothing, and what can't be taken is told so (JSON-RPC 1.0, 1)
-abbrev pub work_of : State → Message → Work
-work_of s (Call id method params) = call_of s id method params
-work_of s (Note method params) = Answers []
-work_of s Answer = Answers []
-work_of s (Bad id kind) = refused id (bad_text kind)
+-- the params of "cancel": the id of a transaction of the session that waits; others do nothing (RFC 7047, 4.1.4)
+abbrev pub cancel_note : State → ℕ → Items → Work
+cancel_note s session no_items = Answers []
+cancel_note s session (item id no_items) = if is_waiting s session id then Cancels id else Answers []
+cancel_note s session (item id (item d items)) = Answers []
+
+-- what a notification asks for: nothing but to cancel (RFC 7047, 4.1.4)
+abbrev pub note_of : State → ℕ → List ℕ → Items → Work
+note_of s session method params = if bytes_eq method (codes "cancel") then cancel_note s session params else Answers []
+
+-- what a message of the session asks for: an answer asks for nothing, and what can't be taken is told so (JSON-RPC 1.0, 1)
+abbrev pub work_of : State → ℕ → Message → Work
+work_of s session (Call id method params) = call_of s session id method params
+work_of s session (Note method params) = note_of s session method params
+work_of s session Answer = Answers []
+work_of s session (Bad id kind) = refused id (bad_text kind)
 
 -- these trees, sent to the session
 abbrev pub to_session : ℕ → List Data → List Sent
@@ -176,10 +256,6 @@ results_of id results = reply_tree id (array results) ∷ []
 abbrev pub results_to : ℕ → Data → Items → List Sent
 results_to session id results = to_session session (results_of id results)
 
--- the answer to a transaction that waits: none is kept outstanding yet (our own)
-abbrev pub refusal_to : ℕ → Data → List Sent
-refusal_to session id = to_session session (failure_tree id (codes "resources exhausted") ∷ [])
-
 -- What comes of the store's answer: where it keeps the change, the database is the new one; where it has no room, nothing is
 -- changed; where it fails, the database stays and is sealed.
 abbrev pub commits : State → ℕ → Data → Items → Database → Option Outcome → Option Stepped
@@ -197,10 +273,18 @@ completes s session id results database outcome =
     else (if is_some s.sealed then sends_at_once s (results_to session id (failed_results results)) outcome
     else commits s session id results database outcome)
 
--- what comes of a transaction
-abbrev pub attempt : State → ℕ → Data → TransactionOutcome → Option Outcome → Option Stepped
-attempt s session id (Completes results database) outcome = completes s session id results database outcome
-attempt s session id (Waits timeout) outcome = sends_at_once s (refusal_to session id) outcome
+-- a transaction of the session as it arrives
+abbrev pub arrived : State → ℕ → Data → List Uuid → Items → Outstanding
+arrived s session id draws operations = record { session = session; id = id; draws = draws; operations = operations; arrival = s.moment; timeout = None }
+
+-- the transaction waits, as the last one, with the timeout of the wait that blocks it
+abbrev pub waits_on : State → Outstanding → Option ℕ → State
+waits_on s o timeout = record s { outstanding = s.outstanding ++ record o { timeout = timeout } ∷ [] }
+
+-- What comes of a transaction. One that is blocked waits, and is not answered (RFC 7047, 4.1.3).
+abbrev pub attempt : State → Outstanding → TransactionOutcome → Option Outcome → Option Stepped
+attempt s o (Completes results database) outcome = completes s o.session o.id results database outcome
+attempt s o (Waits timeout) outcome = sends_at_once (waits_on s o timeout) [] outcome
 
 -- ---- the attempts of an event
 
@@ -236,6 +320,69 @@ abbrev pub ends : Option Tried → Option Stepped
 ends None = None
 ends (Some tried) = when (none_listed tried.others) (Some tried.stepped)
 
+-- ---- settling: the transactions that wait are tried again
+
+-- The transaction is tried again, at the age that it has by now. Where memory was refused, its session is closed in its place.
+abbrev pub tries_again : State → Outstanding → Option Outcome → Option Stepped
+tries_again s o (Some NoMemory) = Some (closed s o.session)
+tries_again s o outcome = attempt s o (transaction s.schema s.database o.draws (s.moment - o.arrival) o.operations) outcome
+
+-- the store kept the changes: so the database is another
+abbrev pub is_kept : Option Outcome → Bool
+is_kept None = false
+is_kept (Some Committed) = true
+is_kept (Some Exhausted) = false
+is_kept (Some Failed) = false
+is_kept (Some NoMemory) = false
+
+-- What tries one after another come to, the number of the next, and whether the last one changed the database.
+pub record Passed : Type 0 where
+  pub tried : Tried
+  pub next : ℕ
+  pub has_changed : Bool
+
+-- nothing was tried, or nothing more is
+abbrev pub passed : State → ℕ → List Attempt → Bool → Passed
+passed s number attempts has_changed = record { tried = record { stepped = record { state = s; sent = [] }; others = attempts }; next = number; has_changed = has_changed }
+
+-- sent first, and then what was sent on the way
+abbrev pub passes_behind : List Sent → Passed → Passed
+passes_behind sent p = record p { tried = record p.tried { stepped = record p.tried.stepped { sent = sent ++ p.tried.stepped.sent } } }
+
+-- the transactions of sessions that are open
+abbrev pub still_waiting : State → List Outstanding → List Outstanding
+still_waiting s waiting = filter (λ o. is_open s o.session) waiting
+
+-- these wait behind those that wait already
+abbrev pub waits_behind : State → List Outstanding → State
+waits_behind s waiting = record s { outstanding = s.outstanding ++ still_waiting s waiting }
+
+-- One pass over transactions that wait, in order of arrival: each is tried, and one that is blocked waits again. A try that
+-- changes the database ends the pass, and those behind it wait on. None is tried of a session that was closed on the way.
+abbrev pub pass : State → ℕ → List Attempt → List Outstanding → Option Passed
+pass s number attempts [] = Some (passed s number attempts false)
+pass s number attempts (o ∷ waiting) =
+    if is_open s o.session
+    then option_and_then
+    (λ t. option_map (passes_behind t.stepped.sent)
+    (if is_kept (listed number attempts).outcome
+    then Some (passed (waits_behind t.stepped.state waiting) (number + 1) t.others true)
+    else pass t.stepped.state (number + 1) t.others waiting))
+    (tries (tries_again s o) number attempts)
+    else pass s number attempts waiting
+
+-- Passes from the first on again, until one has come to its end without a change of the database. Each other one answers a
+-- transaction, so there are at most as many of them as transactions wait.
+abbrev pub settle_within : ℕ → State → ℕ → List Attempt → Option Passed
+settle_within zero s number attempts = Some (passed s number attempts false)
+settle_within (suc most) s number attempts = option_and_then
+    (λ p. if p.has_changed then option_map (passes_behind p.tried.stepped.sent) (settle_within most p.tried.stepped.state p.next p.tried.others) else Some p)
+    (pass (record s { outstanding = [] }) number attempts s.outstanding)
+
+-- all transactions that wait are tried, beginning with the attempt of this number (our own)
+abbrev pub settle : State → ℕ → List Attempt → Option Passed
+settle s number attempts = settle_within (length s.outstanding) s number attempts
+
 -- ---- one step
 
 -- nothing was drawn
@@ -250,11 +397,13 @@ is_without_choice c = none_listed c.outcomes && none_drawn c
 abbrev pub draws_for : Work → ℕ
 draws_for (Answers trees) = 0
 draws_for (Transact id operations) = draws_wanted operations
+draws_for (Cancels id) = 0
 
 -- the work, done with the identifiers that were drawn for it, and with the store's answer where it was asked
 abbrev pub does : State → ℕ → List Uuid → Option Outcome → Work → Option Stepped
 does s session draws outcome (Answers trees) = sends_at_once s (to_session session trees) outcome
-does s session draws outcome (Transact id operations) = attempt s session id (transaction s.schema s.database draws 0 operations) outcome
+does s session draws outcome (Transact id operations) = attempt s (arrived s session id draws operations) (transaction s.schema s.database draws 0 operations) outcome
+does s session draws outcome (Cancels id) = sends_at_once (without_request session id s) (to_session session (failure_tree id (codes "canceled") ∷ [])) outcome
 
 -- The work, with the identifiers that were drawn for it and what is listed of it. Where memory was refused, at most as many
 -- were drawn as are wanted, and the session is closed; else just so many were drawn, and the work is done.
@@ -264,14 +413,23 @@ works s session draws outcome work = when (length draws == draws_for work) (does
 
 -- the work on a message is attempt 1 of its event
 abbrev pub takes : State → Choice → ℕ → Message → Option Tried
-takes s c session message = tries (λ outcome. works s session c.draws outcome (work_of s message)) 1 c.outcomes
+takes s c session message = tries (λ outcome. works s session c.draws outcome (work_of s session message)) 1 c.outcomes
+
+-- After an attempt that changed the database the transactions that wait are tried: these are the attempts after it.
+abbrev pub then_settles : Bool → Tried → Option Tried
+then_settles false t = Some t
+then_settles true t = option_map (λ p. (passes_behind t.stepped.sent p).tried) (settle t.stepped.state 2 t.others)
+
+-- the work on a message, and the tries that it leads to
+abbrev pub takes_and_settles : State → Choice → ℕ → Message → Option Tried
+takes_and_settles s c session message = option_and_then (then_settles (is_kept (listed 1 c.outcomes).outcome)) (takes s c session message)
 
 -- the event, at a moment that is the state's
 abbrev pub happens : State → Choice → Event → Option Stepped
 happens s c Open = when (is_without_choice c) (Some (record { state = with_next_session s; sent = [] }))
-happens s c (Take session message) = when (is_open s session) (ends (takes s c session message))
+happens s c (Take session message) = when (is_open s session) (ends (takes_and_settles s c session message))
 happens s c (Close session cause) = when (is_without_choice c && is_open s session) (Some (closed s session))
-happens s c Tick = when (is_without_choice c) (Some (record { state = s; sent = [] }))
+happens s c Tick = when (none_drawn c) (ends (option_map (λ p. p.tried) (settle s 1 c.outcomes)))
 
 -- the next state and what is sent, or None where the choice does not suit; the moment is not below the last one
 abbrev pub step : State → Entry → Option Stepped

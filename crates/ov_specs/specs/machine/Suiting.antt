@@ -7,10 +7,12 @@ use Rattle.ov_specs.specs.rows.Database.{Database}
 use Rattle.ov_specs.specs.rows.Suits.{Suits}
 use Rattle.ov_specs.specs.values.Uuid.{is_uuid}
 
--- the rows that are committed are rows of the schema, and so are those that a failed commit would have made
+-- The rows that are committed are rows of the schema, and so are those that a failed commit would have made; and what was drawn for
+-- each transaction that waits are identifiers (RFC 4122, 4.1.2).
 pub record SuitsState (s : State) : Type 0 where
   pub committed : Suits s.schema s.database
   pub sealed : (database : Database) → s.sealed ≡ Some database → Suits s.schema database
+  pub drawn : list_all (λ o. list_all is_uuid o.draws) s.outstanding ≡ true
 
 -- Of the rows that are committed, and of those that a failed commit would have made, each reference is to a row, each row is
 -- supported, and no limit is broken.
