@@ -1,10 +1,11 @@
 -- What is sent to a session, as frames that wait.
-use Rattle.std.proofs.Common.{◌≡◌, ℕ, List, [], ◌∷◌, ◌++◌, map, refl, sym, ap, ◌∙◌, cond, eqb, Bool, true, false}
-use Rattle.std.proofs.lemmas.List.{append-nil}
+use Rattle.std.proofs.Common.{◌≡◌, ℕ, List, [], ◌∷◌, ◌++◌, map, refl, sym, ap, ◌∙◌, cond, eqb, Bool, true, false, append_assoc}
+use Rattle.std.proofs.lemmas.List.{append-nil, map-append}
+use Rattle.std.proofs.lemmas.List.Elements.{filter-append}
 use Rattle.std.proofs.lemmas.Bool.{eqb-true, eq-eqb, ne_eqb}
 use Rattle.serde_json.specs.Data.{Data, array, Items}
 use Rattle.ov_specs.specs.wire.Frame.{frame, reply_tree}
-use Rattle.ov_specs.specs.machine.Machine.{to_session, results_to}
+use Rattle.ov_specs.specs.machine.Machine.{Sent, to_session, results_to}
 use Rattle.ov_specs.specs.machine.History.{frames_to}
 use Rattle.ov_core.specs.Outbox.{WaitingFrames, waiting_for, PostsFrame, PostsSent}
 
@@ -40,3 +41,11 @@ nothing_by false = refl
 -- where nothing is sent, nothing is added
 pub nothing_sent : (s : ℕ) (trees : List Data) (old : WaitingFrames) → map frame trees ≡ [] → PostsSent (to_session s trees) old old
 nothing_sent s trees old is other = sym (ap (λ fs. waiting_for other old ++ fs) (frames_to-to_session s other trees ∙ (ap (λ fs. cond (eqb other s) fs []) is ∙ nothing_by (eqb other s))) ∙ append-nil (waiting_for other old))
+
+-- what is sent in two parts
+pub frames_to-append : (s : ℕ) (xs ys : List Sent) → frames_to s (xs ++ ys) ≡ frames_to s xs ++ frames_to s ys
+frames_to-append s xs ys = ap (map (λ (t : Sent). frame t.tree)) (filter-append (λ (t : Sent). eqb t.session s) xs ys) ∙ map-append _ _ _
+
+pub posts_then : (xs ys : List Sent) (a b c : WaitingFrames) → PostsSent xs a b → PostsSent ys b c → PostsSent (xs ++ ys) a c
+posts_then xs ys a b c first then s =
+    then s ∙ (ap (λ (fs : List (List ℕ)). fs ++ frames_to s ys) (first s) ∙ (append_assoc (waiting_for s a) (frames_to s xs) (frames_to s ys) ∙ ap (λ (fs : List (List ℕ)). waiting_for s a ++ fs) (sym (frames_to-append s xs ys))))

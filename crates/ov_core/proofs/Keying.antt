@@ -13,7 +13,7 @@ use Rattle.std.proofs.lemmas.Option.{same_Some}
 use Rattle.slab.specs.Slab.{Slab, Updates, get}
 use Rattle.ov_specs.specs.machine.Machine as machine
 use Rattle.ov_core.specs.declared.event.Session.{Session}
-use Rattle.ov_core.specs.Sessions.{most_sessions, beyond_serials, has_no_room, session_at, sessions_of, without_serial}
+use Rattle.ov_core.specs.Sessions.{most_sessions, beyond_serials, has_no_room, session_at, sessions_of, without_serial, IsLeft}
 
 abbrev Keys : Type 0
 Keys = List (ℕ × ℕ)
@@ -239,3 +239,39 @@ still_others n sessions = same_kept (λ m. not (eqb m.serial n)) (λ m. is_among
     agree [] all = all
     agree (m ∷ these) all =
         (and_true (not (eqb m.serial n)) (is_among m.serial sessions) all.0 ∙ sym (among_without n m.serial sessions), agree these all.1)
+
+-- ---- sessions that are left
+
+among_kept : (p : Session → Bool) (n : ℕ) (sessions : List Session) → is_among n (filter p sessions) ≡ true → is_among n sessions ≡ true
+among_kept p n [] h = h
+among_kept p n (s ∷ sessions) h = by (p s) (among_kept p n sessions) h
+  where
+    or_more : (b c d : Bool) → (c ≡ true → d ≡ true) → (b || c) ≡ true → (b || d) ≡ true
+    or_more true c d so k = refl
+    or_more false c d so k = so k
+
+    or_true : (b c : Bool) → c ≡ true → (b || c) ≡ true
+    or_true true c k = refl
+    or_true false c k = k
+
+    by : (b : Bool) → (is_among n (filter p sessions) ≡ true → is_among n sessions ≡ true) → is_among n (cond b (s ∷ filter p sessions) (filter p sessions)) ≡ true → (eqb s.serial n || is_among n sessions) ≡ true
+    by true so k = or_more (eqb s.serial n) (is_among n (filter p sessions)) (is_among n sessions) so k
+    by false so k = or_true (eqb s.serial n) (is_among n sessions) (so k)
+
+-- what a narrower test keeps of those that a wider one kept
+kept_of_kept : (p q : Session → Bool) (sessions : List Session) → ((s : Session) → p s ≡ true → q s ≡ true) → filter p (filter q sessions) ≡ filter p sessions
+kept_of_kept p q [] so = refl
+kept_of_kept p q (s ∷ sessions) so = by (p s) refl (q s) refl (kept_of_kept p q sessions so)
+  where
+    by : (b : Bool) → p s ≡ b → (c : Bool) → q s ≡ c → filter p (filter q sessions) ≡ filter p sessions
+        → filter p (cond c (s ∷ filter q sessions) (filter q sessions)) ≡ cond b (s ∷ filter p sessions) (filter p sessions)
+    by true is_p true is_q rest = rw is_p (ap (λ (left : List Session). s ∷ left) rest)
+    by true is_p false is_q rest = absurd (false≢true (sym is_q ∙ so s is_p))
+    by false is_p true is_q rest = rw is_p rest
+    by false is_p false is_q rest = rest
+
+-- those that are left of those that are left
+pub left_then : (a b c : List Session) → IsLeft a b → IsLeft b c → IsLeft a c
+left_then a b c first then =
+    then ∙ (ap (filter (λ n. is_among n.serial c)) first
+    ∙ kept_of_kept (λ n. is_among n.serial c) (λ n. is_among n.serial b) a (λ s h. among_kept (λ n. is_among n.serial c) s.serial b (ap (is_among s.serial) (sym then) ∙ h)))

@@ -5,4 +5,9 @@ pub mod Steps
 pub mod Answered
 pub mod Prepared
 pub mod Workings
+pub mod Asking
+pub mod Earliest
+pub mod Counting
+pub mod Settlings
+pub mod Takings
 mod Framing

@@ -1,5 +1,6 @@
 -- Events and entries of the code as those of the machine. What names no source is our own.
-use Rattle.std.specs.Prelude.{List, [], ◌∷◌, map, Bool, true, false, Option, Some, None, option_to_list}
+use Rattle.std.specs.Prelude.{ℕ, List, [], ◌∷◌, map, Bool, true, false, Option, Some, None}
+use Rattle.std.specs.List.{list_any}
 use Rattle.ov_specs.specs.wire.Message.{Message}
 use Rattle.ov_specs.specs.machine.Machine as machine
 use Rattle.ov_core.specs.declared.event.Cause.{Cause}
@@ -41,21 +42,49 @@ attempt_view a = record { number = a.number; outcome = outcome_view a.outcome }
 
 -- a choice
 abbrev pub choice_view : Choice → machine.Choice
-choice_view c = record { moment = c.moment; draws = c.draws.items; outcomes = map attempt_view (option_to_list c.attempt) }
+choice_view c = record { moment = c.moment; draws = c.draws.items; outcomes = map attempt_view c.outcomes.items }
 
 -- an entry
 abbrev pub entry_view : Entry → machine.Entry
 entry_view e = record { event = event_view e.event; choice = choice_view e.choice }
 
--- what is listed of the first attempt
-abbrev pub listed_attempts : Option Outcome → List machine.Attempt
-listed_attempts None = []
-listed_attempts (Some o) = record { number = 1; outcome = outcome_view o } ∷ []
+-- what is listed of an attempt, as an attempt of the code's
+abbrev pub listed_by : ℕ → Option Outcome → List Attempt
+listed_by number None = []
+listed_by number (Some o) = record { number = number; outcome = o } ∷ []
 
--- refused memory closes the session at work
+-- refused memory closes the session of the attempt's transaction
 abbrev pub is_closing : Option Outcome → Bool
 is_closing None = false
 is_closing (Some NoMemory) = true
 is_closing (Some Kept) = false
 is_closing (Some Exhausted) = false
 is_closing (Some Failed) = false
+
+-- the store kept the changes
+abbrev pub is_kept : Option Outcome → Bool
+is_kept None = false
+is_kept (Some NoMemory) = false
+is_kept (Some Kept) = true
+is_kept (Some Exhausted) = false
+is_kept (Some Failed) = false
+
+-- ---- attempts of the machine
+
+-- the outcome is an answer of the store
+abbrev pub is_of_store : machine.Outcome → Bool
+is_of_store machine.Committed = true
+is_of_store machine.Exhausted = true
+is_of_store machine.Failed = true
+is_of_store machine.NoMemory = false
+
+-- the store failed
+abbrev pub is_failure : machine.Outcome → Bool
+is_failure machine.Committed = false
+is_failure machine.Exhausted = false
+is_failure machine.Failed = true
+is_failure machine.NoMemory = false
+
+-- some attempt has such an outcome
+abbrev pub some_outcome : (machine.Outcome → Bool) → List machine.Attempt → Bool
+some_outcome test attempts = list_any (λ attempt. test attempt.outcome) attempts

@@ -9,7 +9,8 @@ use Rattle.ov_core.specs.History.{Keeps, KeepsNewest}
 use Rattle.ov_core.specs.Outbox.{WaitingFrames, waiting_for, PostsSent}
 
 -- what contracts see of a core: its state, the open sessions with their keys in order of opening, the entries that it keeps, the
--- frames that wait, its keeper, how often the keeper's device has failed, and its source of draws
+-- frames that wait, its keeper, how often the keeper's device has failed, its source of draws, and how many attempts of
+-- transactions it has made
 pub record CoreState (K D : Type 0) : Type 0 where
   pub state : State
   pub open_sessions : List Session
@@ -18,6 +19,7 @@ pub record CoreState (K D : Type 0) : Type 0 where
   pub keeper : K
   pub failures : ℕ
   pub source : D
+  pub tries : ℕ
 
 -- The history leads from the state before it to the core's state, it ends with the entries that are kept, and of the frames that it sends to each
 -- session `given` were handed out and the others wait.

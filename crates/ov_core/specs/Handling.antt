@@ -1,28 +1,40 @@
--- What comes of the work on a message: what the machine makes of it, in every state over the database. What names no source is
--- our own.
-use Rattle.std.specs.Prelude.{◌≡◌, ℕ, List, map, Option, Some, None, option_map, option_to_list}
+-- What comes of the work on a message, and of a try of a transaction: what the machine makes of it. What names no source is our own.
+use Rattle.std.specs.Prelude.{◌≡◌, ℕ, ◌≤◌, List, [], ◌∷◌, ◌++◌, length, map, filter, not, codes, Bool, true, false, is_some, Option, Some, None, option_map, option_to_list}
 use Rattle.serde_json.specs.Data.{Data, Items}
-use Rattle.ov_specs.specs.wire.Frame.{frame}
+use Rattle.serde_json.specs.Written.{compact_text}
+use Rattle.ov_specs.specs.wire.Frame.{frame, failure_tree}
 use Rattle.ov_specs.specs.machine.Machine as machine
-use Rattle.ov_specs.specs.machine.Machine.{State, Sent, Stepped, Work, Answers, Transact, works, attempt, closed, without_session, results_to}
-use Rattle.ov_specs.specs.operations.Transaction.{transaction}
+use Rattle.ov_specs.specs.machine.Machine.{State, Sent, Stepped, Work, Answers, Transact, Cancels, works, draws_for, completes, to_session}
+use Rattle.ov_specs.specs.operations.Transaction.{TransactionOutcome, Completes, Waits}
+use Rattle.ov_specs.specs.rows.Database.{Database}
 use Rattle.ov_specs.specs.values.Uuid.{Uuid}
 use Rattle.ov_db.specs.KeptDatabase.{KeptDatabase}
 use Rattle.ov_keeper.specs.Keeping.{HasFailed}
-use Rattle.ov_core.specs.Entries.{outcome_view}
+use Rattle.ov_core.specs.Entries.{outcome_view, is_kept, is_of_store, is_failure, some_outcome}
 use Rattle.ov_core.specs.Outbox.{WaitingFrames, PostsSent, HasSameFrames}
+use Rattle.ov_core.specs.States.{state_of}
+use Rattle.ov_core.specs.Waiting.{has_text}
 use Rattle.ov_core.specs.declared.answer.Work as code
 use Rattle.ov_core.specs.declared.answer.Work.TheVariants as kinds
+use Rattle.ov_core.specs.declared.attempt.Trial.{Trial}
+use Rattle.ov_core.specs.declared.attempt.Trial.TheVariants.{Done, Blocked}
 use Rattle.ov_core.specs.declared.event.Outcome.{Outcome}
 use Rattle.ov_core.specs.declared.event.Outcome.TheVariants as outcome
 use Rattle.ov_core.specs.declared.handle.Handled.{Handled}
+use Rattle.ov_core.specs.declared.live.Live.{Live}
 
--- the work of the code is that of the machine: its frame is the machine's answer, or it is the same transaction
+-- The work of the code is that of the machine: its frame is the machine's answer, or it is the same transaction, or to cancel the
+-- one with the same id.
 abbrev pub IsWork : Work → code.Work → Type 0
 IsWork (Answers trees) (kinds.Answer bytes) = map frame trees ≡ option_to_list bytes
 IsWork (Transact id operations) (kinds.Transact i o) = (i ≡ id) × (o ≡ operations)
+IsWork (Cancels id) (kinds.Cancel i text) = (i ≡ id) × (text ≡ compact_text id)
 IsWork (Answers trees) (kinds.Transact i o) = ⊥
+IsWork (Answers trees) (kinds.Cancel i text) = ⊥
 IsWork (Transact id operations) (kinds.Answer bytes) = ⊥
+IsWork (Transact id operations) (kinds.Cancel i text) = ⊥
+IsWork (Cancels id) (kinds.Answer bytes) = ⊥
+IsWork (Cancels id) (kinds.Transact i o) = ⊥
 
 -- ---- what waits
 
@@ -45,38 +57,90 @@ AsksStore failed (Some outcome.Exhausted) old new = new.sealed ≡ old.sealed
 AsksStore failed (Some outcome.NoMemory) old new = new ≡ old
 AsksStore failed None old new = new ≡ old
 
--- ---- what the machine makes of it
+-- What attempts leave of it, by what is listed of them: without an answer of the store the keeper is as before, and that the store
+-- failed, and that the database is sealed now and was not, has a cause.
+pub record AsksAll {K : Type 0} (failed : K → ℕ) (attempts : List machine.Attempt) (old new : KeptDatabase K) : Type 0 where
+  pub unasked : some_outcome is_of_store attempts ≡ false → new.keeper ≡ old.keeper
+  pub failure : some_outcome is_failure attempts ≡ true → HasFailed (failed old.keeper) (failed new.keeper)
+  pub seal : is_some old.sealed ≡ false → is_some new.sealed ≡ true → HasFailed (failed old.keeper) (failed new.keeper)
+  pub counts : failed old.keeper ≤ failed new.keeper
+
+-- ---- a try
+
+-- what is listed of an attempt
+abbrev pub listed_of : Option Outcome → Option machine.Outcome
+listed_of o = option_map outcome_view o
 
 -- the state over a database
 abbrev pub with_db : {K : Type 0} → State → KeptDatabase K → State
 with_db s kept = record s { schema = kept.schema; database = kept.committed; sealed = kept.sealed }
 
--- refused memory closes the session at work
-abbrev pub closed_if_no_memory : ℕ → Option Outcome → State → State
-closed_if_no_memory session (Some outcome.NoMemory) s = without_session session s
-closed_if_no_memory session (Some outcome.Kept) s = s
-closed_if_no_memory session (Some outcome.Exhausted) s = s
-closed_if_no_memory session (Some outcome.Failed) s = s
-closed_if_no_memory session None s = s
+-- A transaction that comes to this on the database completes: in every state over the database the machine comes to the state over
+-- the database as it is now, and what it sends waits behind what waited.
+pub record IsCompleted {K : Type 0} (session : ℕ) (id : Data) (on : TransactionOutcome) (old : KeptDatabase K) (waited : WaitingFrames) (o : Option Outcome) (new : KeptDatabase K) (waits : WaitingFrames) : Type 0 where
+  pub results : Items
+  pub database : Database
+  pub is : on ≡ Completes results database
+  pub sent : List Sent
+  pub comes : (s : State) → completes (with_db s old) session id results database (listed_of o) ≡ Some (record { state = with_db s new; sent = sent })
+  pub posts : PostsSent sent waited waits
 
--- what is listed of attempt 1
-abbrev pub listed_first : Option Outcome → Option machine.Outcome
-listed_first o = option_map outcome_view o
+-- A try of a transaction that comes to this on the database: it completes, or it is blocked and nothing is changed, or memory was
+-- refused and nothing is changed.
+abbrev pub IsTrial : {K : Type 0} → ℕ → Data → TransactionOutcome → KeptDatabase K → WaitingFrames → Trial → KeptDatabase K → WaitingFrames → Type 0
+IsTrial session id on old waited (Done (Some outcome.NoMemory)) new waits = (new ≡ old) × HasSameFrames waited waits
+IsTrial session id on old waited (Done o) new waits = IsCompleted session id on old waited o new waits
+IsTrial session id on old waited (Blocked timeout) new waits = (on ≡ Waits timeout) × (new ≡ old) × (waits ≡ waited)
 
--- In every state over the database the machine comes to the state over the database as it is now, and what it sends waits behind
--- what waited, for whichever session.
-abbrev pub IsMachineStep : {K : Type 0} → ℕ → (State → Option Stepped) → KeptDatabase K → WaitingFrames → Option Outcome → KeptDatabase K → WaitingFrames → Type 0
-IsMachineStep session machine old waited outcome new waits = (s : State) → (sent : List Sent)
-    × (machine (with_db s old) ≡ Some (record { state = closed_if_no_memory session outcome (with_db s new); sent = sent })) × PostsSent sent waited waits
+-- what is listed of it
+abbrev pub outcome_in : Trial → Option Outcome
+outcome_in (Done o) = o
+outcome_in (Blocked timeout) = None
 
--- an attempt of a transaction; where memory was refused, the session at work is closed in its place
-abbrev pub IsAttempt : {K : Type 0} → ℕ → Data → List Uuid → Items → KeptDatabase K → WaitingFrames → Option Outcome → KeptDatabase K → WaitingFrames → Type 0
-IsAttempt session id draws operations old waited (Some outcome.NoMemory) new waits =
-    IsMachineStep session (λ s. Some (closed s session)) old waited (Some outcome.NoMemory) new waits
-IsAttempt session id draws operations old waited outcome new waits =
-    IsMachineStep session (λ s. attempt s session id (transaction s.schema s.database draws 0 operations) (listed_first outcome)) old waited outcome new waits
+-- ---- the work on a message
 
--- the work on a message
-abbrev pub IsHandled : {K : Type 0} → ℕ → (State → Work) → KeptDatabase K → WaitingFrames → Handled → KeptDatabase K → WaitingFrames → Type 0
-IsHandled session asked old waited handled new waits =
-    IsMachineStep session (λ s. works s session handled.draws.items (listed_first handled.outcome) (asked s)) old waited handled.outcome new waits
+-- nothing is changed but the count of attempts, and the same frames wait
+pub record Stays {K : Type 0} (old new : Live K) : Type 0 where
+  pub same : new ≡ record old { outbox = new.outbox; tries = new.tries }
+  pub frames : HasSameFrames old.outbox new.outbox
+
+-- The work was done, at the moment: it is what the machine does, and what it sends waits behind what waited. Where the store kept a
+-- change, the same transactions wait.
+pub record WorkIsDone {K : Type 0} (moment session : ℕ) (work : Work) (draws : List Uuid) (old : Live K) (o : Option Outcome) (new : Live K) : Type 0 where
+  pub sent : List Sent
+  pub works : works (state_of old moment) session draws (listed_of o) work ≡ Some (record { state = state_of new moment; sent = sent })
+  pub posts : PostsSent sent old.outbox new.outbox
+  pub sessions : new.sessions ≡ old.sessions
+  pub untried : new.waiting.untried ≡ old.waiting.untried
+  pub kept : is_kept o ≡ true → new.waiting ≡ old.waiting
+
+-- It was done, or memory was refused, with no more drawn than it wants, and nothing is changed.
+abbrev pub WorksWith : {K : Type 0} → ℕ → ℕ → Work → List Uuid → Live K → Option Outcome → Live K → Type 0
+WorksWith moment session work draws old (Some outcome.NoMemory) new = (length draws ≤ draws_for work) × Stays old new
+WorksWith moment session work draws old o new = WorkIsDone moment session work draws old o new
+
+-- the same of what came of it in the code
+abbrev pub Works : {K : Type 0} → ℕ → ℕ → Work → Live K → Handled → Live K → Type 0
+Works moment session work old handled new = WorksWith moment session work handled.draws.items old handled.outcome new
+
+-- ---- its parts
+
+-- Blocked as it arrived, it waits behind the others with this timeout, or memory was refused.
+abbrev pub WaitsIfRoom : {K : Type 0} → machine.Outstanding → Option ℕ → Live K → Option Outcome → Live K → Type 0
+WaitsIfRoom o timeout old None new = new ≡ record old { waiting = record old.waiting { outstanding = old.waiting.outstanding ++ record o { timeout = timeout } ∷ [] } }
+WaitsIfRoom o timeout old (Some outcome.NoMemory) new = new ≡ old
+WaitsIfRoom o timeout old (Some outcome.Kept) new = ⊥
+WaitsIfRoom o timeout old (Some outcome.Exhausted) new = ⊥
+WaitsIfRoom o timeout old (Some outcome.Failed) new = ⊥
+
+-- the live state with the frames that wait now, and without the one of the session whose id has this text
+abbrev pub without_text : {K : Type 0} → ℕ → List ℕ → WaitingFrames → Live K → Live K
+without_text session text waits live = record live { outbox = waits; waiting = record live.waiting { outstanding = filter (λ o. not (has_text session text o)) live.waiting.outstanding } }
+
+-- The one with this text is canceled: its answer is sent and it waits no more, or memory was refused.
+abbrev pub CancelsIfRoom : {K : Type 0} → ℕ → Data → List ℕ → Live K → Option Outcome → Live K → Type 0
+CancelsIfRoom session id text old None new = PostsSent (to_session session (failure_tree id (codes "canceled") ∷ [])) old.outbox new.outbox × (new ≡ without_text session text new.outbox old)
+CancelsIfRoom session id text old (Some outcome.NoMemory) new = HasSameFrames old.outbox new.outbox × (new ≡ record old { outbox = new.outbox })
+CancelsIfRoom session id text old (Some outcome.Kept) new = ⊥
+CancelsIfRoom session id text old (Some outcome.Exhausted) new = ⊥
+CancelsIfRoom session id text old (Some outcome.Failed) new = ⊥

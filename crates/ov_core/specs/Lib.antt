@@ -1,9 +1,11 @@
 pub mod Entries
 pub mod History
 pub mod Sessions
+pub mod Waiting
 pub mod States
 pub mod Outbox
 pub mod Handling
+pub mod Settling
 pub mod Preparing
 pub mod Following
 pub mod Stepping

@@ -1,6 +1,6 @@
 -- The open sessions: their serials and their keys. What names no source is our own.
 use Rattle.std.specs.Prelude.{◌≡◌, ◌≢◌, ℕ, ◌+◌, ◌-◌, ◌^◌, ◌<◌, ◌≤◌, ◌==◌, ◌||◌, nat_le, not, List, [], ◌∷◌, ◌++◌, map, filter, length, Bool, Option, Some, None, if◌then◌else◌, refl}
-use Rattle.std.specs.List.{All, AllByRecursion}
+use Rattle.std.specs.List.{All, AllByRecursion, list_any}
 use Rattle.std.specs.Coded.{Coded, code_by, coded×, coded_ℕ, coded_list}
 use Rattle.slab.specs.Slab.{Slab, get, slab_len}
 use Rattle.ov_specs.specs.machine.Machine as machine
@@ -38,6 +38,10 @@ still_open s sessions = filter (λ n. machine.is_open s n.serial) sessions
 -- the sessions but for the one of a serial
 abbrev pub without_serial : ℕ → List Session → List Session
 without_serial serial sessions = filter (λ n. not (n.serial == serial)) sessions
+
+-- no session was opened: these are those that are left of the others
+abbrev pub IsLeft : List Session → List Session → Type 0
+IsLeft old new = new ≡ filter (λ n. list_any (λ m. m.serial == n.serial) (sessions_of new)) old
 
 -- no session has this key
 abbrev pub IsFreeKey : ℕ → List Session → Type 0

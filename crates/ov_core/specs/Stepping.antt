@@ -1,11 +1,11 @@
 -- What one step of a core promises. What names no source is our own.
-use Rattle.std.specs.Prelude.{◌≡◌, ◌⊎◌, ℕ, ◌<◌, ◌≤◌, [], ◌∷◌, ◌++◌, Bool, true, false, is_some}
-use Rattle.std.specs.List.{list_any}
+use Rattle.std.specs.Prelude.{◌≡◌, ◌⊎◌, ℕ, ◌+◌, ◌<◌, ◌≤◌, [], ◌∷◌, ◌++◌, length, Bool, true, false, is_some}
 use Rattle.ov_specs.specs.machine.Machine as machine
 use Rattle.ov_specs.specs.machine.Machine.{State, is_open}
 use Rattle.ov_specs.specs.values.Uuid.{Uuid}
 use Rattle.ov_keeper.specs.Keeping.{HasFailed}
 use Rattle.ov_txn.specs.Drawing.{DrawsFrom}
+use Rattle.ov_core.specs.Entries.{is_of_store, is_failure, some_outcome}
 use Rattle.ov_core.specs.declared.event.StepFault.{StepFault}
 use Rattle.ov_core.specs.declared.event.StepFault.TheVariants as fault
 use Rattle.ov_core.specs.declared.event.Stepped.{Stepped}
@@ -13,13 +13,14 @@ use Rattle.ov_core.specs.declared.event.Stepped.TheVariants as answer
 use Rattle.ov_core.specs.Sessions.{most_sessions, has_no_room, IsFreeKey, still_open}
 use Rattle.ov_core.specs.Following.{CoreState, EntersEntry}
 use Rattle.ov_core.specs.Outbox.{waiting_for, has_queue}
+use Rattle.ov_core.specs.Settling.{most_tries}
 
 -- no place is left for a session, or no serial
 abbrev pub is_full : State → Bool
 is_full s = has_no_room s.sessions s.next
 
 -- The answer, by the event, the state before, the entry, and the state after. A `Take` may be entered as a closing when out of
--- memory.
+-- memory, and it is `Closed` exactly where its session is not open after it.
 abbrev pub AnswersEvent : machine.Event → State → machine.Entry → State → Stepped → Type 0
 AnswersEvent machine.Open old entry new (answer.Opened session) = (entry.event ≡ machine.Open) × (session.serial ≡ old.next) × (session.key < most_sessions) × (is_full old ≡ false)
 AnswersEvent (machine.Take session message) old entry new answer.Done = (entry.event ≡ machine.Take session message) × (is_open new session ≡ true)
@@ -39,23 +40,9 @@ KeepsKeys old stepped new = new.open_sessions ≡ still_open new.state old.open_
 abbrev pub HasSameKeeper : {K D : Type 0} → CoreState K D → CoreState K D → Type 0
 HasSameKeeper old new = (new.keeper ≡ old.keeper) × (new.failures ≡ old.failures)
 
--- the outcome is an answer of the store
-abbrev pub is_of_store : machine.Outcome → Bool
-is_of_store machine.Committed = true
-is_of_store machine.Exhausted = true
-is_of_store machine.Failed = true
-is_of_store machine.NoMemory = false
-
--- the store failed
-abbrev pub is_failure : machine.Outcome → Bool
-is_failure machine.Committed = false
-is_failure machine.Exhausted = false
-is_failure machine.Failed = true
-is_failure machine.NoMemory = false
-
 -- some attempt of the entry has such an outcome
 abbrev pub has_outcome : (machine.Outcome → Bool) → machine.Entry → Bool
-has_outcome test entry = list_any (λ attempt. test attempt.outcome) entry.choice.outcomes
+has_outcome test entry = some_outcome test entry.choice.outcomes
 
 -- Where the entry has no answer of the store, the keeper is as before. That the store failed, and that the database is sealed
 -- now and was not, has a cause: the device has failed.
@@ -74,12 +61,14 @@ pub record IsEntered {K D : Type 0} (draws : D → Uuid → D → Type 0) (at : 
   pub drawn : DrawsFrom draws old.source entry.choice.draws new.source
   pub moves : EntersEntry old entry new
   pub asks : AsksKeeper old entry new
+  -- at most one attempt of its own, and those of settling the transactions that waited
+  pub tries : new.tries ≤ old.tries + 1 + most_tries (length old.state.outstanding)
 
--- when a fault is answered
+-- When a fault is answered. A Tick is refused for memory only where transactions wait.
 abbrev pub RefusesStep : machine.Event → State → StepFault → Type 0
 RefusesStep machine.Open old fault.TooMany = is_full old ≡ true
 RefusesStep machine.Open old fault.Memory = is_full old ≡ false
-RefusesStep machine.Tick old fault.Memory = Unit {0}
+RefusesStep machine.Tick old fault.Memory = 0 < length old.outstanding
 RefusesStep (machine.Take session message) old fault.NotOpen = is_open old session ≡ false
 RefusesStep (machine.Close session cause) old fault.NotOpen = is_open old session ≡ false
 RefusesStep event old fault = ⊥
@@ -95,11 +84,12 @@ StepIs draws at event old answer.Closed new = IsEntered draws at event old answe
 abbrev pub closing : ℕ → ℕ → machine.Cause → machine.Entry
 closing at session cause = record { event = machine.Close session cause; choice = record { moment = at; draws = []; outcomes = [] } }
 
--- The session was closed, nothing was drawn, and the store was not asked. No queue is kept of it where nothing waits for it.
+-- The session was closed, nothing was drawn or tried, and the store was not asked. No queue is kept of it where nothing waits for it.
 pub record Closes {K D : Type 0} (at session : ℕ) (cause : machine.Cause) (old new : CoreState K D) : Type 0 where
   pub moves : EntersEntry old (closing at session cause) new
   pub shut : is_open new.state session ≡ false
   pub keys : new.open_sessions ≡ still_open new.state old.open_sessions
   pub drawn : new.source ≡ old.source
   pub asks : HasSameKeeper old new
+  pub tries : new.tries ≡ old.tries
   pub forgotten : waiting_for session old.outbox ≡ [] → has_queue session new.outbox ≡ false

@@ -1,7 +1,7 @@
-ghost use Rattle.std.specs.Prelude.{◌≡◌, ◌≤◌, ℕ, List, codes, IfOk};
-ghost use Rattle.ov_specs.specs.machine.Machine.{results_to, refusal_to};
-ghost use Rattle.ov_specs.specs.wire.Frame.{frame, failure_tree};
-ghost use Rattle.ov_core.specs.Handling.{AsksStore, IsAttempt, PostsIfRoom};
+ghost use Rattle.std.specs.Prelude.{◌≡◌, ◌≤◌, ◌+◌, ℕ, List};
+ghost use Rattle.ov_specs.specs.machine.Machine.{results_to};
+ghost use Rattle.ov_specs.specs.operations.Transaction.{transaction};
+ghost use Rattle.ov_core.specs.Handling.{AsksStore, IsTrial, PostsIfRoom, outcome_in};
 ghost use Rattle.ov_core.specs.Outbox.{WaitingFrames, PostsFrame};
 ghost use Rattle.ov_core.specs.Preparing.{outcome_after, frame_after};
 
@@ -12,27 +12,38 @@ use crate::replying::Replying;
 use ov_base::{Bytes, Tree, Trees};
 use ov_db::{Db, StoreAnswer};
 use ov_keeper::Keeper;
-use ov_rpc::failure;
 use ov_txn::{Tried, Tries, Txn, attempt};
-use std::alloc::{AllocError, Global};
+use std::alloc::Global;
 use std::mem;
 
-/// Tries a transaction as it arrives, and lets its reply wait. Where memory is refused nothing is changed.
-pub(crate) fn try_arrived<K: Keeper + Drop>(
+/// What a try of a transaction comes to.
+#[derive(Clone, Copy, Debug, PartialEq, Eq)]
+pub(crate) enum Trial {
+    /// It is answered, or memory was refused; this is what is listed of it.
+    Done(Option<Outcome>),
+    /// It is blocked by a wait with this timeout, and nothing is changed (RFC 7047, 5.2.6).
+    Blocked(Option<u64>),
+}
+
+/// Tries a transaction of this age in milliseconds, and lets its reply wait. Where memory is refused nothing is changed.
+pub(crate) fn try_once<K: Keeper + Drop>(
     alloc: Global,
     db: &mut Db<K>,
     outbox: &mut Outbox,
+    tries: &mut Tries,
     session: u64,
     id: &Tree,
     txn: &Txn,
-) -> Option<Outcome>
-    ensures tried { IsAttempt session id.now txn.now.draws txn.now.operations db.old outbox.old result db.new outbox.new }
-    ensures asks { AsksStore K.failed result db.old db.new }
+    age: u64,
+) -> Trial
+    ensures tried { IsTrial session id.now (transaction db.old.schema db.old.committed txn.now.draws age txn.now.operations) db.old outbox.old result db.new outbox.new }
+    ensures asks { AsksStore K.failed (outcome_in result) db.old db.new }
     ensures counts { K.failed db.old.keeper ≤ K.failed db.new.keeper }
+    ensures counted { tries.new ≡ tries.old + 1 }
 {
     let waiting = mem::replace(outbox, Outbox::new(alloc));
     let mut replying = Replying::new(alloc, session, id, waiting);
-    let tried = attempt(alloc, db, txn, 0, &mut Tries::new(), &mut replying);
+    let tried = attempt(alloc, db, txn, age, tries, &mut replying);
     let Replying {
         alloc: _,
         session: _,
@@ -43,16 +54,18 @@ pub(crate) fn try_arrived<K: Keeper + Drop>(
     } = replying;
     *outbox = waiting;
     match tried {
-        Tried::Answer(results) => answer(alloc, outbox, session, id, results),
-        Tried::Stored(answer) => Some(settle(outbox, session, answer, exhausted, failed)),
-        Tried::Blocked(_) => refuse(alloc, outbox, session, id),
-        Tried::NoMemory => Some(Outcome::NoMemory),
+        Tried::Answer(results) => Trial::Done(answer(alloc, outbox, session, id, results)),
+        Tried::Stored(answer) => {
+            Trial::Done(Some(after_store(outbox, session, answer, exhausted, failed)))
+        }
+        Tried::Blocked(timeout) => Trial::Blocked(timeout),
+        Tried::NoMemory => Trial::Done(Some(Outcome::NoMemory)),
     }
 }
 
 /// Where the store did not keep the changes, puts the frame for its answer in place of that for a commit that is kept. It takes no
 /// memory.
-fn settle(
+fn after_store(
     outbox: &mut Outbox,
     session: u64,
     answer: StoreAnswer,
@@ -86,23 +99,6 @@ fn answer(
     ensures { PostsIfRoom (results_to session id.now results) outbox.old result outbox.new }
 {
     match reply_of(alloc, id, results) {
-        Ok(frame) => send(alloc, outbox, session, Some(frame)),
-        Err(_) => Some(Outcome::NoMemory),
-    }
-}
-
-/// The answer to a transaction that waits: none is kept outstanding yet.
-fn refusal(alloc: Global, id: &Tree) -> Result<Bytes, AllocError>
-    ensures { IfOk result (λ b. b ≡ frame (failure_tree id.now (codes "resources exhausted"))) }
-{
-    failure(alloc, id.copy()?, "resources exhausted")
-}
-
-/// Lets the answer to a transaction that waits wait, where there is memory for it.
-fn refuse(alloc: Global, outbox: &mut Outbox, session: u64, id: &Tree) -> Option<Outcome>
-    ensures { PostsIfRoom (refusal_to session id.now) outbox.old result outbox.new }
-{
-    match refusal(alloc, id) {
         Ok(frame) => send(alloc, outbox, session, Some(frame)),
         Err(_) => Some(Outcome::NoMemory),
     }

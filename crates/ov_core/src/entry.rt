@@ -1,5 +1,5 @@
-ghost use Rattle.std.specs.Prelude.{◌≡◌, [], map, option_to_list};
-ghost use Rattle.ov_core.specs.Entries.{attempt_view, event_view, entry_view, listed_attempts, is_closing};
+ghost use Rattle.std.specs.Prelude.{◌≡◌, ◌++◌, ◌+◌, ◌<◌, ◌≤◌, [], map, length, vec_len, vec_capacity};
+ghost use Rattle.ov_core.specs.Entries.{attempt_view, event_view, entry_view, listed_by, is_closing, is_kept};
 
 use crate::event::{Attempt, Choice, Entry, Event, Outcome};
 use ov_rpc::MessageText;
@@ -10,41 +10,62 @@ use uuid::Uuid;
 pub(crate) fn entry_without_choice(alloc: Global, moment: u64, event: Event<MessageText>) -> Entry
     ensures { entry_view result ≡ record { event = event_view event; choice = record { moment = moment; draws = []; outcomes = [] } } }
 {
-    entry_with_choice(moment, event, Vec::new(alloc), None)
+    entry_with_choice(alloc, moment, event, Vec::new(alloc), Vec::new(alloc))
 }
 
-/// An entry with the identifiers that were drawn for it, and with what came of its attempt.
+/// An entry with the identifiers that were drawn for it, and with what came of its attempts. Where none is listed it keeps no room
+/// for them.
 pub(crate) fn entry_with_choice(
+    alloc: Global,
     moment: u64,
     event: Event<MessageText>,
     draws: Vec<Uuid>,
-    attempt: Option<Attempt>,
+    attempts: Vec<Attempt>,
 ) -> Entry
-    ensures { entry_view result ≡ record { event = event_view event; choice = record { moment = moment; draws = draws.items; outcomes = map attempt_view (option_to_list attempt) } } }
+    ensures { entry_view result ≡ record { event = event_view event; choice = record { moment = moment; draws = draws.items; outcomes = map attempt_view attempts.items } } }
 {
     Entry {
         event,
         choice: Choice {
             moment,
             draws,
-            attempt,
+            outcomes: without_room_if_empty(alloc, attempts),
         },
     }
 }
 
-/// The first attempt, where something is listed of it.
-pub(crate) fn first_attempt(outcome: Option<Outcome>) -> Option<Attempt>
-    ensures { map attempt_view (option_to_list result) ≡ listed_attempts outcome }
+fn without_room_if_empty(alloc: Global, attempts: Vec<Attempt>) -> Vec<Attempt>
+    ensures { result.items ≡ attempts.items }
 {
-    match outcome {
-        Some(outcome) => Some(Attempt { number: 1, outcome }),
-        None => None,
+    if attempts.is_empty() {
+        Vec::new(alloc)
+    } else {
+        attempts
     }
 }
 
-/// Whether the session at work is closed when out of memory.
+/// Lists the attempt, where something is listed of it. It takes no memory.
+pub(crate) fn list(attempts: &mut Vec<Attempt>, number: u64, outcome: Option<Outcome>)
+    requires { vec_len attempts.old < vec_capacity attempts.old }
+    ensures items { attempts.new.items ≡ attempts.old.items ++ listed_by number outcome }
+    ensures len { vec_len attempts.new ≡ vec_len attempts.old + length (listed_by number outcome) }
+    ensures capacity { vec_capacity attempts.new ≡ vec_capacity attempts.old }
+{
+    if let Some(outcome) = outcome {
+        attempts.push_reserved(Attempt { number, outcome });
+    }
+}
+
+/// Whether the session of the attempt's transaction is closed when out of memory.
 pub(crate) fn is_closing(outcome: Option<Outcome>) -> bool
     ensures { result ≡ is_closing outcome }
 {
     matches!(outcome, Some(Outcome::NoMemory))
+}
+
+/// Whether the store kept the changes.
+pub(crate) fn is_kept(outcome: Option<Outcome>) -> bool
+    ensures { result ≡ is_kept outcome }
+{
+    matches!(outcome, Some(Outcome::Kept))
 }

@@ -34,11 +34,12 @@ pub enum Cause {
 pub enum Event<M> {
     /// A session opens, with the next serial.
     Open,
-    /// A message of a session is taken, and answered at once if it is answered (RFC 7047, 4.1).
+    /// A message of a session is taken, and answered at once if it is answered (RFC 7047, 4.1). Only a transaction that is blocked
+    /// waits; it is answered when another event settles it (4.1.3), or when it is canceled (4.1.4).
     Take(Session, M),
-    /// A session is closed. What waits for it still waits.
+    /// A session is closed, and with it go its transactions that wait. The frames that wait for it still wait.
     Close(Session, Cause),
-    /// Time has come to the moment.
+    /// Time has come to the moment. The transactions that wait are tried, since a timeout may have passed (RFC 7047, 5.2.6).
     Tick,
 }
 
@@ -51,7 +52,7 @@ pub enum Outcome {
     Exhausted,
     /// The store failed.
     Failed,
-    /// Memory was refused, and the session at work was closed.
+    /// Memory was refused, and the session of this attempt's transaction was closed.
     NoMemory,
 }
 
@@ -71,8 +72,9 @@ pub struct Choice {
     pub moment: u64,
     /// The identifiers that were drawn, in order.
     pub draws: Vec<Uuid>,
-    /// The attempt, where it asked the store or was refused memory. An event has one at most.
-    pub attempt: Option<Attempt>,
+    /// The attempts that asked the store or were refused memory, in order. The first of a `Take` is the work on its message; the
+    /// others are those of transactions that waited.
+    pub outcomes: Vec<Attempt>,
 }
 
 /// One entry of the history.
@@ -90,8 +92,8 @@ pub enum StepFault {
     /// 64 sessions are open, or no serial is left: the last one is 2^64-2.
     #[error("too many sessions")]
     TooMany,
-    /// Memory was refused for a session that opens. No other step answers it today, since the history has its room from the
-    /// opening on.
+    /// Memory was refused for a session that opens, or for a Tick while transactions wait. No other step answers it, since the
+    /// history has its room from the opening on.
     #[error("out of memory")]
     Memory,
     /// The session is not open.
@@ -106,7 +108,7 @@ pub enum Stepped {
     Opened(Session),
     /// The event is entered; the session of a `Take` is open.
     Done,
-    /// The session of the `Take` was closed and is sent nothing for it, since memory was refused.
+    /// The session of the `Take` was closed, since memory was refused: for its message, or for one of its transactions that wait.
     Closed,
     /// Nothing is changed.
     Refused(StepFault),

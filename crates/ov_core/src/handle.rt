@@ -1,19 +1,24 @@
-ghost use Rattle.std.specs.Prelude.{◌≡◌, ◌≤◌, Some, None};
+ghost use Rattle.std.specs.Prelude.{◌≡◌, ◌≤◌, ◌<◌, ◌+◌, [], length, Some, None, IfOk, true, codes, vec_capacity};
 ghost use Rattle.ov_rpc.specs.Message.{message_view};
 ghost use Rattle.ov_specs.specs.machine.Machine as spec;
+ghost use Rattle.ov_specs.specs.wire.Frame.{frame, failure_tree};
 ghost use Rattle.ov_txn.specs.Drawing.{DrawsFrom};
-ghost use Rattle.ov_core.specs.Handling.{AsksStore, IsHandled};
+ghost use Rattle.ov_core.specs.Handling.{AsksStore, Works, WaitsIfRoom, CancelsIfRoom};
+ghost use Rattle.ov_core.specs.Settling.{ComesTo};
+ghost use Rattle.ov_core.specs.States.{state_of};
 
 use crate::answer::{Work, work_of};
-use crate::attempt::try_arrived;
-use crate::event::Outcome;
-use crate::outbox::{Outbox, send};
-use ov_base::{Tree, Trees};
-use ov_db::Db;
+use crate::attempt::{Trial, try_once};
+use crate::entry::{is_closing, is_kept, list};
+use crate::event::{Attempt, Outcome};
+use crate::live::Live;
+use crate::outbox::send;
+use crate::outstanding::Outstanding;
+use ov_base::{Bytes, Tree, Trees};
 use ov_keeper::Keeper;
-use ov_rpc::Message;
+use ov_rpc::{Message, failure};
 use ov_txn::{Draws, Txn};
-use std::alloc::Global;
+use std::alloc::{AllocError, Global};
 use uuid::Uuid;
 
 /// What came of the work on a message: the identifiers that were drawn for it, and what is listed of its attempt.
@@ -33,53 +38,160 @@ fn out_of_memory(draws: Vec<Uuid>) -> Handled
     }
 }
 
-/// A transaction, with the identifiers that are drawn for it.
-fn transact<K: Keeper + Drop, D: Draws>(
-    alloc: Global,
-    database: &mut Db<K>,
-    source: &mut D,
-    outbox: &mut Outbox,
-    session: u64,
-    id: &Tree,
-    operations: Trees,
-) -> Handled
-    ensures is_handled { IsHandled session (λ s. spec.Transact id.now operations) database.old outbox.old result database.new outbox.new }
-    ensures asks { AsksStore K.failed result.outcome database.old database.new }
-    ensures counts { K.failed database.old.keeper ≤ K.failed database.new.keeper }
-    ensures drawn { DrawsFrom D.draws source.old result.draws.items source.new }
+/// The answer to a transaction that is canceled (RFC 7047, 4.1.4).
+fn cancellation(alloc: Global, id: Tree) -> Result<Bytes, AllocError>
+    ensures { IfOk result (λ b. b ≡ frame (failure_tree id (codes "canceled"))) }
 {
-    let Ok(txn) = Txn::read(alloc, operations, source) else {
-        return out_of_memory(Vec::new(alloc));
-    };
-    let outcome = try_arrived(alloc, database, outbox, session, id, &txn);
-    Handled {
-        draws: txn.into_draws(),
-        outcome,
-    }
+    failure(alloc, id, "canceled")
 }
 
-/// The work on a message of a session, which is the first attempt of its event.
-pub(crate) fn handle<K: Keeper + Drop, D: Draws>(
-    alloc: Global,
-    database: &mut Db<K>,
-    source: &mut D,
-    outbox: &mut Outbox,
-    session: u64,
-    message: Message,
-) -> Handled
-    ensures is_handled { IsHandled session (λ s. spec.work_of s (message_view message)) database.old outbox.old result database.new outbox.new }
-    ensures asks { AsksStore K.failed result.outcome database.old database.new }
-    ensures counts { K.failed database.old.keeper ≤ K.failed database.new.keeper }
-    ensures drawn { DrawsFrom D.draws source.old result.draws.items source.new }
-{
-    match work_of(alloc, database.schema(), message) {
-        Err(_) => out_of_memory(Vec::new(alloc)),
-        Ok(Work::Answer(frame)) => Handled {
-            draws: Vec::new(alloc),
-            outcome: send(alloc, outbox, session, frame),
-        },
-        Ok(Work::Transact(id, operations)) => {
-            transact(alloc, database, source, outbox, session, &id, operations)
+impl<K: Keeper + Drop> Live<K> {
+    /// Takes a message of an open session: it is worked on, and where that changes the database, the transactions that wait are
+    /// settled. What is listed of the attempts is put into `attempts`. Answers the identifiers that were drawn.
+    pub fn take<D: Draws>(
+        &mut self,
+        alloc: Global,
+        moment: u64,
+        session: u64,
+        message: Message,
+        source: &mut D,
+        attempts: &mut Vec<Attempt>,
+    ) -> Vec<Uuid>
+        requires untried { self.old.waiting.untried ≡ [] }
+        requires open { spec.is_open (state_of self.old moment) session ≡ true }
+        requires none { attempts.old.items ≡ [] }
+        requires room { length self.old.waiting.outstanding < vec_capacity attempts.old }
+        ensures comes_to { ComesTo K.failed moment (spec.Take session (message_view message)) self.old result.items attempts.new.items self.new }
+        ensures drawn { DrawsFrom D.draws source.old result.items source.new }
+    {
+        let Handled { draws, outcome } = self.handle(alloc, moment, session, message, source);
+        list(attempts, 1, outcome);
+        if is_closing(outcome) {
+            self.close(session);
+            return draws;
         }
+        if !is_kept(outcome) {
+            return draws;
+        }
+        self.settle(alloc, moment, 2, attempts);
+        draws
+    }
+
+    /// The work on a message of a session, which is the first attempt of its event. Where memory is refused nothing is changed.
+    fn handle<D: Draws>(
+        &mut self,
+        alloc: Global,
+        moment: u64,
+        session: u64,
+        message: Message,
+        source: &mut D,
+    ) -> Handled
+        ensures works { Works moment session (spec.work_of (state_of self.old moment) session (message_view message)) self.old result self.new }
+        ensures asks { AsksStore K.failed result.outcome self.old.database self.new.database }
+        ensures counts { K.failed self.old.database.keeper ≤ K.failed self.new.database.keeper }
+        ensures drawn { DrawsFrom D.draws source.old result.draws.items source.new }
+        ensures tries { self.new.tries ≤ self.old.tries + 1 }
+    {
+        match work_of(
+            alloc,
+            self.database.schema(),
+            &self.waiting,
+            session,
+            message,
+        ) {
+            Err(_) => out_of_memory(Vec::new(alloc)),
+            Ok(Work::Answer(frame)) => Handled {
+                draws: Vec::new(alloc),
+                outcome: send(alloc, &mut self.outbox, session, frame),
+            },
+            Ok(Work::Transact(id, operations)) => {
+                self.transact(alloc, moment, session, id, operations, source)
+            }
+            Ok(Work::Cancel(id, text)) => Handled {
+                draws: Vec::new(alloc),
+                outcome: self.cancel(alloc, session, id, text),
+            },
+        }
+    }
+
+    /// A transaction, with the identifiers that are drawn for it.
+    fn transact<D: Draws>(
+        &mut self,
+        alloc: Global,
+        moment: u64,
+        session: u64,
+        id: Tree,
+        operations: Trees,
+        source: &mut D,
+    ) -> Handled
+        ensures works { Works moment session (spec.Transact id operations) self.old result self.new }
+        ensures asks { AsksStore K.failed result.outcome self.old.database self.new.database }
+        ensures counts { K.failed self.old.database.keeper ≤ K.failed self.new.database.keeper }
+        ensures drawn { DrawsFrom D.draws source.old result.draws.items source.new }
+        ensures tries { self.new.tries ≤ self.old.tries + 1 }
+    {
+        let Ok(txn) = Txn::read(alloc, operations, source) else {
+            return out_of_memory(Vec::new(alloc));
+        };
+        match try_once(
+            alloc,
+            &mut self.database,
+            &mut self.outbox,
+            &mut self.tries,
+            session,
+            &id,
+            &txn,
+            0,
+        ) {
+            Trial::Done(outcome) => Handled {
+                draws: txn.into_draws(),
+                outcome,
+            },
+            Trial::Blocked(timeout) => self.wait(alloc, moment, session, id, txn, timeout),
+        }
+    }
+
+    /// Lets a transaction that is blocked as it arrives wait behind the others, where there is memory for it and for a copy of its
+    /// identifiers.
+    fn wait(
+        &mut self,
+        alloc: Global,
+        moment: u64,
+        session: u64,
+        id: Tree,
+        txn: Txn,
+        timeout: Option<u64>,
+    ) -> Handled
+        ensures waits { WaitsIfRoom (spec.arrived (state_of self.old moment) session id txn.draws txn.operations) timeout self.old result.outcome self.new }
+        ensures draws { result.draws.items ≡ txn.draws }
+    {
+        let Ok(draws) = Vec::from_slice(alloc, txn.draws()) else {
+            return out_of_memory(txn.into_draws());
+        };
+        let Ok(waits) = Outstanding::new(alloc, session, id, txn, moment, timeout) else {
+            return out_of_memory(draws);
+        };
+        match self.waiting.push(waits) {
+            Ok(()) => Handled {
+                draws,
+                outcome: None,
+            },
+            Err(_) => out_of_memory(draws),
+        }
+    }
+
+    /// Cancels the transaction of the session that waits with the id, which has this text, where there is memory for its answer.
+    fn cancel(&mut self, alloc: Global, session: u64, id: Tree, text: Bytes) -> Option<Outcome>
+        ensures { CancelsIfRoom session id text self.old result self.new }
+    {
+        let Ok(frame) = cancellation(alloc, id) else {
+            return Some(Outcome::NoMemory);
+        };
+        let outcome = send(alloc, &mut self.outbox, session, Some(frame));
+        if outcome.is_some() {
+            return outcome;
+        }
+        self.waiting.remove(session, text.as_slice());
+        None
     }
 }

@@ -11,10 +11,14 @@ mod event;
 mod frames;
 mod handle;
 mod history;
+mod live;
 mod machine;
 mod outbox;
+mod outstanding;
 mod replying;
 mod sessions;
+mod settle;
+mod waiting;
 
 pub use event::{Attempt, Cause, Choice, Entry, Event, Outcome, Session, StepFault, Stepped};
 pub use machine::Core;

@@ -2,7 +2,7 @@ ghost use Rattle.std.specs.Prelude.{◌≡◌, ◌≢◌, ◌≤◌, ◌-◌, �
 ghost use Rattle.serde_json.specs.Written.{compact_text};
 ghost use Rattle.ov_specs.specs.rows.Lines.{Contents};
 ghost use Rattle.ov_specs.specs.machine.History.{joined};
-ghost use Rattle.ov_specs.specs.machine.Machine.{State, opening, is_open, Open as SpecOpen, Tick as SpecTick, Take as SpecTake, Entry as SpecEntry};
+ghost use Rattle.ov_specs.specs.machine.Machine.{State, opening, is_open, due, Open as SpecOpen, Tick as SpecTick, Take as SpecTake, Entry as SpecEntry};
 ghost use Rattle.ov_keeper.specs.Keeping.{LeavesNoMore, HasFailed};
 ghost use Rattle.ov_keeper.specs.declared.fault.KeepFault.TheVariants.{Device};
 ghost use Rattle.ov_db.specs.Opening.{CanOpen, IsOpenFault, RefusesOpen};
@@ -16,11 +16,10 @@ ghost use Rattle.ov_core.specs.Stepping.{StepIs, Closes};
 ghost use Rattle.ov_core.specs.Leaving.{LeavesItsOwn};
 ghost use Rattle.ov_db.specs.Committing.{MayFind};
 
-use crate::entry::{entry_with_choice, entry_without_choice, first_attempt, is_closing};
+use crate::entry::{entry_with_choice, entry_without_choice};
 use crate::event::{Cause, Entry, Event, Session, StepFault, Stepped};
-use crate::handle::{Handled, handle};
 use crate::history::History;
-use crate::outbox::Outbox;
+use crate::live::Live;
 use crate::sessions::Sessions;
 use ov_base::Bytes;
 use ov_db::{Db, OpenFault, RefusedOpen};
@@ -36,16 +35,15 @@ use std::marker::Model;
 /// open at a time. A call goes by a session's serial, whatever its key.
 #[derive(Drop)]
 pub struct Core<K: Keeper, D> {
-    database: Db<K>,
+    live: Live<K>,
     source: D,
-    sessions: Sessions,
     moment: u64,
     history: History,
-    outbox: Outbox,
     alloc: Global,
 }
 
 impl<K: Keeper, D> Model for Core<K, D> {
+    ghost use Rattle.std.specs.Prelude.{◌≡◌, []};
     ghost use Rattle.std.specs.Coded.{codes};
     ghost use Rattle.ov_specs.specs.codes.TreeCode.{tree_code, items_code};
     ghost use Rattle.ov_specs.specs.codes.SchemaCode.{schema_code};
@@ -59,16 +57,17 @@ impl<K: Keeper, D> Model for Core<K, D> {
     ghost coded = { Prim.hlevel (codes, schema_code, database_code, tree_code, items_code, K.code, D.code) };
 
     ghost view = { λ c. record {
-      state = state_of c.database c.sessions c.moment;
-      open_sessions = c.sessions.open_sessions;
+      state = state_of c.live c.moment;
+      open_sessions = c.live.sessions.open_sessions;
       kept = c.history;
-      outbox = c.outbox;
-      keeper = c.database.keeper;
-      failures = K.Keeper.failed c.database.keeper;
+      outbox = c.live.outbox;
+      keeper = c.live.database.keeper;
+      failures = K.Keeper.failed c.live.database.keeper;
       source = c.source;
+      tries = c.live.tries;
     } };
 
-    ghost invariant = { λ c. HasHistory (state_of c.database c.sessions c.moment) c.history };
+    ghost invariant = { λ c. HasHistory (state_of c.live c.moment) c.history × (c.live.waiting.untried ≡ []) };
 }
 
 impl<K: Keeper + Drop, D: Draws + Drop> Core<K, D> {
@@ -115,21 +114,27 @@ impl<K: Keeper + Drop, D: Draws + Drop> Core<K, D> {
         };
         let database = Db::open(alloc, keeper, schema)?;
         Ok(Core {
-            database,
+            live: Live::new(alloc, database, sessions),
             source: draws,
-            sessions,
             moment: 0,
             history,
-            outbox: Outbox::new(alloc),
             alloc,
         })
     }
 
     /// Enters an event at a moment in milliseconds, or at the last one if that is later.
     ///
+    /// A transaction that is blocked waits, behind those that wait already, until it can be answered (RFC 7047, 4.1.3, 5.2.6). At
+    /// most 64 of a session wait, each with an id of its own; one more is answered `resources exhausted`, and one with an id that
+    /// waits `duplicate request id`, and neither is tried. After an attempt that changed the database, and at a `Tick`, those that
+    /// wait are tried in order of arrival, from the first again after each that changed it, until a whole pass changes nothing.
+    /// Where memory is refused for one of them, its session is closed. The note `cancel` answers the canceled one with `canceled`
+    /// (4.1.4). With n that wait, a step makes at most 1 + n(n+1)/2 attempts.
+    ///
     /// An `Open` is refused as `TooMany` while 64 sessions are open and where no serial is left, else only as `Memory`; a `Take` or
-    /// a `Close` as `NotOpen` where its session is not open. A `Take` for which memory is refused closes its session. A refused
-    /// step changes nothing. The entry takes no memory: the history has room for it, and keeps the message's text as it came.
+    /// a `Close` as `NotOpen` where its session is not open; a `Tick` only as `Memory`, and only while transactions wait. A `Take`
+    /// for which memory is refused closes its session. A refused step changes nothing. The history has room for the entry, and
+    /// keeps the message's text as it came.
     pub fn step(&mut self, alloc: Global, moment: u64, event: Event<Received>) -> Stepped
         ensures { StepIs D.draws (max moment self.old.state.moment) (event_view event) self.old result self.new }
     {
@@ -144,12 +149,12 @@ impl<K: Keeper + Drop, D: Draws + Drop> Core<K, D> {
                     Stepped::Refused(StepFault::NotOpen)
                 }
             }
-            Event::Tick => self.tick(moment),
+            Event::Tick => self.tick(alloc, moment),
         }
     }
 
-    /// Closes the session at the last moment; false where it is not open, and then nothing is changed. What waits for it
-    /// still waits. It takes no memory.
+    /// Closes the session at the last moment, and drops its transactions that wait; false where it is not open, and then nothing is
+    /// changed. The frames that wait for it still wait. It takes no memory.
     pub fn close(&mut self, session: Session, cause: Cause) -> bool
         ensures { MatchBool result
             (Closes self.old.state.moment session.serial (cause_view cause) self.old self.new)
@@ -164,28 +169,37 @@ impl<K: Keeper + Drop, D: Draws + Drop> Core<K, D> {
         ensures count { result ≡ K.failed self.now.keeper }
         ensures state { result ≡ self.now.failures }
     {
-        self.database.failures()
+        self.live.database.failures()
     }
 
     /// Whether the session is open.
     pub fn is_open(&self, session: Session) -> bool
         ensures { result ≡ is_open self.now.state session.serial }
     {
-        self.sessions.is_open(session.serial)
+        self.live.sessions.is_open(session.serial)
     }
 
     /// How many sessions more may be open: 64 less those that are.
     pub fn free_places(&self) -> usize
         ensures { result ≡ most_sessions - length self.now.state.sessions }
     {
-        self.sessions.free_places()
+        self.live.sessions.free_places()
     }
 
     /// The serial that the next session will have. None where none is left: the last is 2^64-2.
     pub fn next_serial(&self) -> Option<u64>
         ensures { result ≡ serial_left self.now.state.next }
     {
-        self.sessions.next_serial()
+        self.live.sessions.next_serial()
+    }
+
+    /// When the first of the transactions that wait times out, in milliseconds: the least sum of a moment of arrival and the timeout of
+    /// the wait that blocked the last try (RFC 7047, 5.2.6). None where none does; a sum beyond 2^64-1 is left out. A `Tick` at this
+    /// moment answers it. It takes no memory.
+    pub fn due(&self) -> Option<u64>
+        ensures { result ≡ due self.now.state }
+    {
+        self.live.waiting.due()
     }
 
     /// The last 4,096 entries of the history since the core was opened, oldest first.
@@ -208,9 +222,9 @@ impl<K: Keeper + Drop, D: Draws + Drop> Core<K, D> {
         // No queue is kept of a closed session for which nothing waits any more.
         ensures forgotten { is_open self.old.state session.serial ≡ false → waiting_for session.serial self.new.outbox ≡ [] → has_queue session.serial self.new.outbox ≡ false }
     {
-        let frame = self.outbox.pop(session.serial);
+        let frame = self.live.outbox.pop(session.serial);
         if !self.is_open(session) {
-            self.outbox.forget(session.serial);
+            self.live.outbox.forget(session.serial);
         }
         frame
     }
@@ -227,8 +241,8 @@ impl<K: Keeper + Drop, D: Draws + Drop> Core<K, D> {
         // Where memory is refused, nothing was handed out.
         ensures refused { OnErr result (self.new ≡ self.old) }
     {
-        let output = self.outbox.joined_for(alloc, session.serial)?;
-        self.outbox.clear(session.serial);
+        let output = self.live.outbox.joined_for(alloc, session.serial)?;
+        self.live.outbox.clear(session.serial);
         Ok(output)
     }
 
@@ -247,7 +261,7 @@ impl<K: Keeper + Drop, D: Draws + Drop> Core<K, D> {
         if self.is_open(session) {
             return;
         }
-        self.outbox.clear(session.serial);
+        self.live.outbox.clear(session.serial);
     }
 
     /// What a crash now leaves, which each core keeps true of itself: the lines of the machine's database, or after a commit
@@ -255,7 +269,7 @@ impl<K: Keeper + Drop, D: Draws + Drop> Core<K, D> {
     pub fn left(&self)
         ensures { K.is_honest self.now.keeper → (held : Contents) → K.leaves self.now.keeper held → LeavesItsOwn self.now.state held }
     {
-        self.database.left();
+        self.live.database.left();
     }
 
     /// Gives the core up, and its keeper back.
@@ -263,15 +277,13 @@ impl<K: Keeper + Drop, D: Draws + Drop> Core<K, D> {
         ensures { result ≡ self.keeper }
     {
         let Core {
-            database,
+            live,
             source: _,
-            sessions: _,
             moment: _,
             history: _,
-            outbox: _,
             alloc: _,
         } = self;
-        database.into_keeper()
+        live.into_keeper()
     }
 
     /// What an open after a crash now would find, which each core keeps true of itself: the machine's database, or after a commit
@@ -279,17 +291,17 @@ impl<K: Keeper + Drop, D: Draws + Drop> Core<K, D> {
     pub fn would_open(&self)
         ensures { K.is_honest self.now.keeper → MayFind (K.leaves self.now.keeper) self.now.state.schema self.now.state.database self.now.state.sealed }
     {
-        self.database.left();
+        self.live.database.left();
     }
 
     fn open_session(&mut self, moment: u64) -> Stepped
         requires { self.old.state.moment ≤ moment }
         ensures { StepIs D.draws moment SpecOpen self.old result self.new }
     {
-        if self.sessions.is_full() {
+        if self.live.sessions.is_full() {
             return Stepped::Refused(StepFault::TooMany);
         }
-        let Ok(session) = self.sessions.open() else {
+        let Ok(session) = self.live.sessions.open() else {
             return Stepped::Refused(StepFault::Memory);
         };
         self.history
@@ -298,12 +310,21 @@ impl<K: Keeper + Drop, D: Draws + Drop> Core<K, D> {
         Stepped::Opened(session)
     }
 
-    fn tick(&mut self, moment: u64) -> Stepped
+    fn tick(&mut self, alloc: Global, moment: u64) -> Stepped
         requires { self.old.state.moment ≤ moment }
         ensures { StepIs D.draws moment SpecTick self.old result self.new }
     {
-        self.history
-            .push(entry_without_choice(self.alloc, moment, Event::Tick));
+        let Ok(mut attempts) = Vec::with_capacity(alloc, self.live.waiting.len()) else {
+            return Stepped::Refused(StepFault::Memory);
+        };
+        self.live.tick(alloc, moment, &mut attempts);
+        self.history.push(entry_with_choice(
+            self.alloc,
+            moment,
+            Event::Tick,
+            Vec::new(self.alloc),
+            attempts,
+        ));
         self.moment = moment;
         Stepped::Done
     }
@@ -317,13 +338,22 @@ impl<K: Keeper + Drop, D: Draws + Drop> Core<K, D> {
         if !self.is_open(session) {
             return false;
         }
-        self.history.push(entry_without_choice(self.alloc, moment, Event::Close(session, cause)));
-        self.sessions.close(session.serial);
-        self.moment = moment;
-        self.outbox.forget(session.serial);
+        self.close_open(moment, session, cause);
         true
     }
 
+    fn close_open(&mut self, moment: u64, session: Session, cause: Cause)
+        requires moment { self.old.state.moment ≤ moment }
+        requires open { is_open self.old.state session.serial ≡ true }
+        ensures { Closes moment session.serial (cause_view cause) self.old self.new }
+    {
+        self.history.push(entry_without_choice(self.alloc, moment, Event::Close(session, cause)));
+        self.live.close(session.serial);
+        self.moment = moment;
+        self.live.outbox.forget(session.serial);
+    }
+
+    /// A message is taken. Where memory is refused for what is to be listed of its attempts, its session is closed instead.
     fn take(&mut self, alloc: Global, moment: u64, session: Session, received: Received) -> Stepped
         requires { self.old.state.moment ≤ moment }
         ensures { StepIs D.draws moment (SpecTake session.serial received) self.old result self.new }
@@ -331,26 +361,26 @@ impl<K: Keeper + Drop, D: Draws + Drop> Core<K, D> {
         if !self.is_open(session) {
             return Stepped::Refused(StepFault::NotOpen);
         }
+        let Ok(mut attempts) = Vec::with_capacity(alloc, self.live.waiting.len() + 1) else {
+            self.close_open(moment, session, Cause::Memory);
+            return Stepped::Closed;
+        };
         let (message, text) = received.into_parts();
-        let Handled { draws, outcome } = handle(
+        let draws = self.live.take(
             alloc,
-            &mut self.database,
-            &mut self.source,
-            &mut self.outbox,
+            moment,
             session.serial,
             message,
+            &mut self.source,
+            &mut attempts,
         );
-        self.history.push(entry_with_choice(
-            moment,
-            Event::Take(session, text),
-            draws,
-            first_attempt(outcome),
-        ));
+        let event = Event::Take(session, text);
+        self.history.push(entry_with_choice(self.alloc, moment, event, draws, attempts));
         self.moment = moment;
-        if is_closing(outcome) {
-            self.sessions.close(session.serial);
-            return Stepped::Closed;
+        if self.live.sessions.is_open(session.serial) {
+            Stepped::Done
+        } else {
+            Stepped::Closed
         }
-        Stepped::Done
     }
 }

@@ -1,23 +1,18 @@
 use Rattle.std.proofs.Common.{◌≤◌, refl, rules}
-use Rattle.ov_core.proofs.Keying.{still_all}
-use Rattle.ov_core.proofs.Steps.{asks_nothing, ticked, has_ticked, nothing_chosen, entry_of}
+use Rattle.ov_core.proofs.Steps.{ticked, has_entered}
 use Rattle.ov_specs.specs.machine.Machine.{Tick}
 use Rattle.ov_core.proofs.machine.Core.tick.Goals as goal
 
-pub returns : goal.returns
-returns g c =
+pub returns-in-Ok : goal.returns-in-Ok
+returns-in-Ok g c =
     let low : c.self.inside.moment ≤ c.args.moment = search rules in
-    rw (← c.self.view_is) (record {
-      entry = entry_of Tick (nothing_chosen c.args.moment);
-      tells = refl;
-      keys = still_all c.self.inside.sessions.open_sessions;
-      moment = refl;
-      drawn = refl;
-      moves = ticked _ c.args.moment c.entry_without_choice.result _ low c.push.ensures c.entry_without_choice.ensures;
-      asks = asks_nothing _ _ _ refl (refl, refl) refl;
-    })
+    rw (← c.self.view_is) (ticked g.K.Keeper.failed g.D.Draws.draws c.self.inside.live c.tick.new.self c.self.inside.moment c.args.moment c.tick.new.attempts.items c.self.inside.history c.push.new.self c.entry_with_choice.result c.self.inside.source
+    c.tick.ensures low c.push.ensures (rw c.new.ensures.items at c.entry_with_choice.ensures))
 
 pub invariant_of-self : goal.invariant_of-self
 invariant_of-self g c =
-    let low : c.self.inside.moment ≤ c.args.moment = search rules in
-    has_ticked _ c.args.moment c.entry_without_choice.result _ _ low c.push.ensures c.entry_without_choice.ensures c.self.invariant
+    let low : c.self.inside.moment ≤ c.args.moment = search rules in (
+      has_entered g.K.Keeper.failed Tick c.self.inside.live c.tick.new.self c.self.inside.moment c.args.moment _ c.tick.new.attempts.items c.tick.ensures c.self.inside.history c.push.new.self c.entry_with_choice.result
+          low c.push.ensures (rw c.new.ensures.items at c.entry_with_choice.ensures) c.self.invariant.0,
+      c.tick.ensures.untried,
+    )

@@ -1,4 +1,4 @@
-use Rattle.ov_core.proofs.attempt.settle.Goals as goal
+use Rattle.ov_core.proofs.attempt.after_store.Goals as goal
 
 pub returns-in-Exhausted-clause-posts : goal.returns-in-Exhausted-clause-posts
 returns-in-Exhausted-clause-posts c = λ before kept h. rw c.in-Exhausted.is (c.replace_newest.ensures before kept h)

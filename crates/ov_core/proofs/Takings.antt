@@ -1,0 +1,142 @@
+-- What a message and a Tick come to, from the work and from settling.
+use Rattle.std.proofs.Common.{◌≡◌, ℕ, ◌+◌, ◌≤◌, List, [], ◌∷◌, ◌++◌, map, length, refl, sym, ap, subst, ◌∙◌, true, false, Option, Some, None, arith}
+use Rattle.std.proofs.lemmas.Bool.{le-leb, false≢true}
+use Rattle.ov_specs.specs.machine.Machine as machine
+use Rattle.ov_specs.specs.machine.Machine.{State, Stepped, Passed, Work, works, draws_for}
+use Rattle.ov_specs.specs.values.Uuid.{Uuid}
+use Rattle.ov_specs.specs.wire.Message.{Message}
+use Rattle.ov_specs.proofs.laws.Happening.{take_done, take_settled, tick_settled}
+use Rattle.ov_core.specs.declared.event.Attempt.{Attempt}
+use Rattle.ov_core.specs.declared.event.Outcome.{Outcome}
+use Rattle.ov_core.specs.declared.event.Outcome.TheVariants as outcome
+use Rattle.ov_core.specs.declared.live.Live.{Live}
+use Rattle.ov_core.specs.Entries.{attempt_view, listed_by, is_kept, is_closing}
+use Rattle.ov_core.specs.Handling.{AsksStore, WorkIsDone, WorksWith, listed_of}
+use Rattle.ov_core.specs.Settling.{ComesTo, Settles, without_session, most_tries}
+use Rattle.ov_core.specs.Waiting.{WaitingList}
+use Rattle.ov_core.specs.States.{state_of}
+use Rattle.ov_core.proofs.Answered.{posts_then}
+use Rattle.ov_core.proofs.Asking.{asks_one, asks_then}
+use Rattle.ov_core.proofs.Keying.{still_all, still_others, sessions_without, left_then}
+use Rattle.ov_core.proofs.Workings.{posts_none}
+
+-- what is listed of attempt 1, and no more
+listed_alone : (o : Option Outcome) → machine.listed 1 (map attempt_view (listed_by 1 o)) ≡ record { outcome = listed_of o; others = [] }
+listed_alone None = refl
+listed_alone (Some o) = refl
+
+not_kept : (o : Option Outcome) → is_kept o ≡ false → machine.is_kept (listed_of o) ≡ false
+not_kept None h = refl
+not_kept (Some outcome.NoMemory) h = refl
+not_kept (Some outcome.Kept) h = cc
+not_kept (Some outcome.Exhausted) h = refl
+not_kept (Some outcome.Failed) h = refl
+
+-- where the outcome is not that memory was refused, the work was done
+done_where : {K : Type 0} (m n : ℕ) (w : Work) (draws : List Uuid) (old : Live K) (o : Option Outcome) (new : Live K) → is_closing o ≡ false → WorksWith m n w draws old o new → WorkIsDone m n w draws old o new
+done_where m n w draws old None new h done = done
+done_where m n w draws old (Some outcome.NoMemory) new h done = absurd (false≢true (sym h))
+done_where m n w draws old (Some outcome.Kept) new h done = done
+done_where m n w draws old (Some outcome.Exhausted) new h done = done
+done_where m n w draws old (Some outcome.Failed) new h done = done
+
+closing_is : (o : Option Outcome) → is_closing o ≡ true → o ≡ Some outcome.NoMemory
+closing_is None h = absurd (false≢true h)
+closing_is (Some outcome.NoMemory) h = refl
+closing_is (Some outcome.Kept) h = absurd (false≢true h)
+closing_is (Some outcome.Exhausted) h = absurd (false≢true h)
+closing_is (Some outcome.Failed) h = absurd (false≢true h)
+
+kept_is : (o : Option Outcome) → is_kept o ≡ true → o ≡ Some outcome.Kept
+kept_is None h = absurd (false≢true h)
+kept_is (Some outcome.NoMemory) h = absurd (false≢true h)
+kept_is (Some outcome.Kept) h = refl
+kept_is (Some outcome.Exhausted) h = absurd (false≢true h)
+kept_is (Some outcome.Failed) h = absurd (false≢true h)
+
+-- where it was kept, the same transactions wait
+pub kept_waits : {K : Type 0} (m n : ℕ) (w : Work) (draws : List Uuid) (old : Live K) (o : Option Outcome) (new : Live K) → is_kept o ≡ true → WorksWith m n w draws old o new → (new.waiting.untried ≡ old.waiting.untried) × (new.waiting ≡ old.waiting)
+kept_waits m n w draws old None new h done = absurd (false≢true h)
+kept_waits m n w draws old (Some outcome.NoMemory) new h done = absurd (false≢true h)
+kept_waits m n w draws old (Some outcome.Kept) new h done = (done.untried, done.kept refl)
+kept_waits m n w draws old (Some outcome.Exhausted) new h done = absurd (false≢true h)
+kept_waits m n w draws old (Some outcome.Failed) new h done = absurd (false≢true h)
+
+-- the work on a message, in which the live state went from one to another
+module _ {K : Type 0} (failed : K → ℕ) (m n : ℕ) (message : Message) (draws : List Uuid) (old mid : Live K) (there : machine.is_open (state_of old m) n ≡ true) (resting : old.waiting.untried ≡ []) where
+  abbrev work : Work
+  work = machine.work_of (state_of old m) n message
+
+  abbrev choice : List Attempt → machine.Choice
+  choice attempts = record { moment = m; draws = draws; outcomes = map attempt_view attempts }
+
+  -- memory was refused, and the session is closed
+  pub take_closes : (o : Option Outcome) (new : Live K) (attempts : List Attempt) → is_closing o ≡ true → attempts ≡ listed_by 1 o → new ≡ without_session n mid → WorksWith m n work draws old o mid
+      → AsksStore failed o old.database mid.database → failed old.database.keeper ≤ failed mid.database.keeper → mid.tries ≤ old.tries + 1 → ComesTo failed m (machine.Take n message) old draws attempts new
+  take_closes o new attempts closing listed is done asks counts tries =
+      let no_memory = closing_is o closing in
+      let (few, stays) = rw no_memory at done in
+      rw (listed, is, no_memory) (record {
+        sent = [];
+        happens = take_done (state_of old m) (choice (listed_by 1 (Some outcome.NoMemory))) n message (record { outcome = Some machine.NoMemory; others = [] }) (machine.closed (state_of old m) n) there refl
+            (rw (le-leb (length draws) (draws_for work) few) refl) refl refl
+            ∙ rw (stays.same, sessions_without n old.sessions.open_sessions) refl;
+        posts = posts_none old.outbox mid.outbox stays.frames;
+        asks = asks_one failed 1 (Some outcome.NoMemory) old.database mid.database (rw no_memory at asks) counts;
+        left = rw stays.same (still_others n old.sessions.open_sessions);
+        tries = omega (arith, tries);
+        untried = rw stays.same resting;
+      })
+
+  -- it was done, and nothing was kept
+  pub take_ends : (o : Option Outcome) (attempts : List Attempt) → is_closing o ≡ false → is_kept o ≡ false → attempts ≡ listed_by 1 o → WorksWith m n work draws old o mid
+      → AsksStore failed o old.database mid.database → failed old.database.keeper ≤ failed mid.database.keeper → mid.tries ≤ old.tries + 1 → ComesTo failed m (machine.Take n message) old draws attempts mid
+  take_ends o attempts open' same listed did asks counts tries =
+      let done = done_where m n work draws old o mid open' did in
+      rw listed (record {
+        sent = done.sent;
+        happens = take_done (state_of old m) (choice (listed_by 1 o)) n message (record { outcome = listed_of o; others = [] }) (record { state = state_of mid m; sent = done.sent }) there (listed_alone o) done.works (not_kept o same) refl;
+        posts = done.posts;
+        asks = asks_one failed 1 o old.database mid.database asks counts;
+        left = rw done.sessions (still_all old.sessions.open_sessions);
+        tries = omega (arith, tries);
+        untried = done.untried ∙ resting;
+      })
+
+  -- it was kept, and those that wait were settled
+  pub take_settles : (o : Option Outcome) (new : Live K) (before attempts : List Attempt) → is_closing o ≡ false → is_kept o ≡ true → before ≡ listed_by 1 o → WorksWith m n work draws old o mid
+      → AsksStore failed o old.database mid.database → failed old.database.keeper ≤ failed mid.database.keeper → mid.tries ≤ old.tries + 1
+      → Settles failed m 2 mid before new attempts → ComesTo failed m (machine.Take n message) old draws attempts new
+  take_settles o new before attempts open' kept listed did asks counts tries s =
+      let is = kept_is o kept in
+      let done = done_where m n work draws old o mid open' did in
+      let all : map attempt_view attempts ≡ map attempt_view (listed_by 1 (Some outcome.Kept)) ++ s.made = s.lists ∙ ap (λ (list : List Attempt). map attempt_view list ++ s.made) (listed ∙ ap (listed_by 1) is) in
+      let waits : mid.waiting ≡ old.waiting = done.kept kept in
+      let worked : works (state_of old m) n draws (Some machine.Committed) work ≡ Some (record { state = state_of mid m; sent = done.sent }) = subst (λ (v : Option Outcome). works (state_of old m) n draws (listed_of v) work ≡ Some (record { state = state_of mid m; sent = done.sent })) is done.works in
+      let asked = rw is at asks in
+      record {
+        sent = done.sent ++ s.sent;
+        happens = ap (λ (list : List machine.Attempt). machine.happens (state_of old m) (record { moment = m; draws = draws; outcomes = list }) (machine.Take n message)) all
+            ∙ take_settled (state_of old m) (record { moment = m; draws = draws; outcomes = map attempt_view (listed_by 1 (Some outcome.Kept)) ++ s.made }) n message (record { outcome = Some machine.Committed; others = s.made }) (record { state = state_of mid m; sent = done.sent })
+                there refl worked (record { tried = record { stepped = record { state = state_of new m; sent = s.sent }; others = [] }; next = s.next; has_changed = false }) refl s.settles refl;
+        posts = posts_then done.sent s.sent old.outbox mid.outbox new.outbox done.posts s.posts;
+        asks = rw all (asks_then failed (map attempt_view (listed_by 1 (Some outcome.Kept))) s.made old.database mid.database new.database (asks_one failed 1 (Some outcome.Kept) old.database mid.database asked counts) s.asks);
+        left = left_then old.sessions.open_sessions mid.sessions.open_sessions new.sessions.open_sessions (rw done.sessions (still_all old.sessions.open_sessions)) s.left;
+        tries = omega (arith, tries, s.tries, ap (λ (w : WaitingList). most_tries (length w.outstanding)) waits);
+        untried = s.untried;
+      }
+
+-- those that wait were settled as time passed
+pub tick_settles : {K : Type 0} (failed : K → ℕ) (m : ℕ) (old new : Live K) (before attempts : List Attempt) → before ≡ [] → Settles failed m 1 old before new attempts → ComesTo failed m machine.Tick old [] attempts new
+tick_settles failed m old new before attempts none s =
+    let all : map attempt_view attempts ≡ s.made = s.lists ∙ ap (λ (list : List Attempt). map attempt_view list ++ s.made) none in
+    record {
+      sent = s.sent;
+      happens = ap (λ (list : List machine.Attempt). machine.happens (state_of old m) (record { moment = m; draws = []; outcomes = list }) machine.Tick) all
+          ∙ tick_settled (state_of old m) (record { moment = m; draws = []; outcomes = s.made }) (record { tried = record { stepped = record { state = state_of new m; sent = s.sent }; others = [] }; next = s.next; has_changed = false }) refl s.settles refl;
+      posts = s.posts;
+      asks = rw all s.asks;
+      left = s.left;
+      tries = omega (arith, s.tries);
+      untried = s.untried;
+    }

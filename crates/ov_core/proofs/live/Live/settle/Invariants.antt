@@ -1,0 +1,14 @@
+use Rattle.std.proofs.Common.{◌+◌, ◌≤◌, length, vec_len, vec_capacity}
+use Rattle.ov_core.specs.Settling.{IsSettling, to_do}
+use Rattle.ov_core.specs.Waiting.{many, most_outstanding}
+use Rattle.ov_core.proofs.live.Live.settle.Given as goal
+
+abbrev pub invariant-tries : goal.invariant-tries
+invariant-tries g l = record {
+  settling : IsSettling g.K.Keeper.failed l.moment l.first l.fn.self l.fn.attempts.items l.self l.attempts.items l.number;
+  room : vec_len l.attempts + many l.self.waiting ≤ vec_capacity l.attempts;
+  most : length l.fn.self.waiting.outstanding ≤ most_outstanding;
+}
+
+abbrev pub decreases-tries : goal.decreases-tries
+decreases-tries g l = to_do l.self.waiting

@@ -1,0 +1,87 @@
+-- Settling, try by try, and what an event comes to with it. What names no source is our own.
+use Rattle.std.specs.Prelude.{◌≡◌, ℕ, ◌+◌, ◌*◌, ◌/◌, ◌≤◌, ◌++◌, List, [], map, length, false, Option, Some, None}
+use Rattle.std.specs.List.{filter}
+use Rattle.ov_specs.specs.machine.Machine as machine
+use Rattle.ov_specs.specs.machine.Machine.{State, Sent, of_others, settle, still_waiting}
+use Rattle.ov_specs.specs.values.Uuid.{Uuid}
+use Rattle.ov_specs.proofs.laws.SettlingOn.{Reaches}
+use Rattle.ov_core.specs.Entries.{attempt_view}
+use Rattle.ov_core.specs.Handling.{AsksAll}
+use Rattle.ov_core.specs.Outbox.{WaitingFrames, PostsSent}
+use Rattle.ov_core.specs.Sessions.{IsLeft, without_serial}
+use Rattle.ov_core.specs.States.{state_of}
+use Rattle.ov_core.specs.Waiting.{WaitingList, many}
+use Rattle.ov_core.specs.declared.event.Attempt.{Attempt}
+use Rattle.ov_core.specs.declared.event.Outcome.{Outcome}
+use Rattle.ov_core.specs.declared.event.Outcome.TheVariants as outcome
+use Rattle.ov_core.specs.declared.live.Live.{Live}
+
+-- the session is closed, and its transactions wait no more
+abbrev pub without_session : {K : Type 0} → ℕ → Live K → Live K
+without_session session live = record live {
+  sessions = record live.sessions { open_sessions = without_serial session live.sessions.open_sessions };
+  waiting = record live.waiting { outstanding = of_others session live.waiting.outstanding };
+}
+
+-- all that wait are tried from the first on
+abbrev pub tried_again : {K : Type 0} → Live K → Live K
+tried_again live = record live {
+  waiting = record {
+    untried = live.waiting.outstanding ++ filter (λ o. machine.is_open (state_of live 0) o.session) live.waiting.untried;
+    outstanding = [];
+  };
+}
+
+-- what a try that is over leads to: refused memory closes its session, and a kept change has all tried again
+abbrev pub after_try : {K : Type 0} → ℕ → Option Outcome → Live K → Live K
+after_try session (Some outcome.NoMemory) live = without_session session live
+after_try session (Some outcome.Kept) live = tried_again live
+after_try session (Some outcome.Exhausted) live = live
+after_try session (Some outcome.Failed) live = live
+after_try session None live = live
+
+-- What is left to do at most: it falls with each try.
+abbrev pub to_do : WaitingList → ℕ
+to_do w = length w.untried + many w * many w
+
+-- Settling has begun with the attempt of the number `first`, from these and with this listed, and is on its way: whatever comes
+-- behind, the machine's settling comes to what was sent and to the rest of settling from here.
+pub record IsSettling {K : Type 0} (failed : K → ℕ) (moment first : ℕ) (from : Live K) (before : List Attempt) (now : Live K) (listed : List Attempt) (number : ℕ) : Type 0 where
+  pub made : List machine.Attempt
+  pub lists : map attempt_view listed ≡ map attempt_view before ++ made
+  pub sent : List Sent
+  pub reaches : Reaches (state_of from moment) first made (state_of now moment) sent number now.waiting.untried
+  pub posts : PostsSent sent from.outbox now.outbox
+  pub asks : AsksAll failed made from.database now.database
+  pub left : IsLeft from.sessions.open_sessions now.sessions.open_sessions
+  pub tries : now.tries + first ≡ from.tries + number
+  -- so the number never passes that of a first try and one for each pair of those that waited
+  pub few : number + number + (length now.waiting.untried + length now.waiting.untried) + many now.waiting * many now.waiting
+      ≤ first + first + (length from.waiting.outstanding + length from.waiting.outstanding * length from.waiting.outstanding) + many now.waiting
+
+-- the most tries that it takes, for so many that wait
+abbrev pub most_tries : ℕ → ℕ
+most_tries waiting = waiting * (waiting + 1) / 2
+
+-- The transactions that wait are settled, beginning with the attempt of the number `first`.
+pub record Settles {K : Type 0} (failed : K → ℕ) (moment first : ℕ) (old : Live K) (before : List Attempt) (new : Live K) (listed : List Attempt) : Type 0 where
+  pub made : List machine.Attempt
+  pub lists : map attempt_view listed ≡ map attempt_view before ++ made
+  pub sent : List Sent
+  pub next : ℕ
+  pub settles : settle (state_of old moment) first made ≡ Some (record { tried = record { stepped = record { state = state_of new moment; sent = sent }; others = [] }; next = next; has_changed = false })
+  pub posts : PostsSent sent old.outbox new.outbox
+  pub asks : AsksAll failed made old.database new.database
+  pub left : IsLeft old.sessions.open_sessions new.sessions.open_sessions
+  pub tries : new.tries ≤ old.tries + most_tries (length old.waiting.outstanding)
+  pub untried : new.waiting.untried ≡ []
+
+-- The event came to this, at the moment, with these identifiers drawn and these attempts listed.
+pub record ComesTo {K : Type 0} (failed : K → ℕ) (moment : ℕ) (event : machine.Event) (old : Live K) (draws : List Uuid) (attempts : List Attempt) (new : Live K) : Type 0 where
+  pub sent : List Sent
+  pub happens : machine.happens (state_of old moment) (record { moment = moment; draws = draws; outcomes = map attempt_view attempts }) event ≡ Some (record { state = state_of new moment; sent = sent })
+  pub posts : PostsSent sent old.outbox new.outbox
+  pub asks : AsksAll failed (map attempt_view attempts) old.database new.database
+  pub left : IsLeft old.sessions.open_sessions new.sessions.open_sessions
+  pub tries : new.tries ≤ old.tries + 1 + most_tries (length old.waiting.outstanding)
+  pub untried : new.waiting.untried ≡ []

@@ -1,0 +1,121 @@
+ghost use Rattle.std.specs.Prelude.{◌≡◌, ℕ, ◌+◌, ◌-◌, ◌<◌, ◌≤◌, ◌^◌, List, [], length, vec_len, vec_capacity};
+ghost use Rattle.ov_specs.specs.operations.Transaction.{transaction};
+ghost use Rattle.ov_core.specs.Handling.{AsksStore, IsTrial, outcome_in};
+ghost use Rattle.ov_core.specs.Settling.{after_try, to_do, IsSettling, Settles};
+ghost use Rattle.ov_core.specs.Waiting.{many};
+ghost use Rattle.ov_core.specs.declared.event.Attempt.{Attempt as Listed};
+ghost use Rattle.ov_core.specs.declared.live.Live.{Live as Living};
+
+use crate::attempt::{Trial, try_once};
+use crate::entry::{is_closing, is_kept, list};
+use crate::event::{Attempt, Outcome};
+use crate::live::Live;
+use crate::outbox::Outbox;
+use crate::outstanding::Outstanding;
+use ov_db::Db;
+use ov_keeper::Keeper;
+use ov_txn::Tries;
+use std::alloc::Global;
+
+impl<K: Keeper + Drop> Live<K> {
+    /// Settles the transactions that wait: they are tried in order of arrival, and again from the first after each that changed the
+    /// database, until a whole pass changes nothing (our own, over RFC 7047, 4.1.3). The first try is the attempt of this number of
+    /// its event. A transaction waits no more once it is answered; where memory is refused for it, its session is closed. Where
+    /// none waits nothing is done.
+    pub fn settle(&mut self, alloc: Global, moment: u64, first: u64, attempts: &mut Vec<Attempt>)
+        requires untried { self.old.waiting.untried ≡ [] }
+        requires room { vec_len attempts.old + length self.old.waiting.outstanding ≤ vec_capacity attempts.old }
+        requires first { first ≤ 2 }
+        ensures { Settles K.failed moment first self.old attempts.old.items self.new attempts.new.items }
+    {
+        self.waiting.begin();
+        let mut number = first;
+        'tries: while self.waiting.is_any_untried() {
+            number = self.try_next(alloc, moment, number, attempts);
+        }
+    }
+
+    /// Tries the next of those that this pass has still to try; one whose session was closed on the way is dropped instead. Answers
+    /// the number of the next attempt.
+    fn try_next(
+        &mut self,
+        alloc: Global,
+        moment: u64,
+        number: u64,
+        attempts: &mut Vec<Attempt>,
+    ) -> u64
+        requires some { 0 < length self.old.waiting.untried }
+        requires room { vec_len attempts.old + many self.old.waiting ≤ vec_capacity attempts.old }
+        requires number { number < 2 ^ 63 }
+        ensures goes_on { (first : ℕ) (from : Living K) (before : List Listed) → IsSettling K.failed moment first from before self.old attempts.old.items number
+            → IsSettling K.failed moment first from before self.new attempts.new.items result }
+        ensures room { vec_len attempts.new + many self.new.waiting ≤ vec_capacity attempts.new }
+        ensures falls { to_do self.new.waiting < to_do self.old.waiting }
+    {
+        let Some(next) = self.waiting.next() else {
+            return number;
+        };
+        let session = next.session();
+        if !self.sessions.is_open(session) {
+            self.waiting.drop_next();
+            return number;
+        }
+        match try_again(
+            alloc,
+            &mut self.database,
+            &mut self.outbox,
+            &mut self.tries,
+            moment,
+            next,
+        ) {
+            Trial::Blocked(timeout) => {
+                self.waiting.wait_again(timeout);
+                number + 1
+            }
+            Trial::Done(outcome) => {
+                list(attempts, number, outcome);
+                self.waiting.drop_next();
+                self.after_try(session, outcome);
+                number + 1
+            }
+        }
+    }
+
+    /// What a try that is over leads to.
+    fn after_try(&mut self, session: u64, outcome: Option<Outcome>)
+        ensures { self.new ≡ after_try session outcome self.old }
+    {
+        if is_closing(outcome) {
+            self.close(session);
+        } else if is_kept(outcome) {
+            self.waiting.begin_again(&self.sessions);
+        }
+    }
+}
+
+/// Tries a transaction that waits, at the age that it has by now.
+fn try_again<K: Keeper + Drop>(
+    alloc: Global,
+    database: &mut Db<K>,
+    outbox: &mut Outbox,
+    tries: &mut Tries,
+    moment: u64,
+    waits: &Outstanding,
+) -> Trial
+    ensures tried { IsTrial waits.now.session waits.now.id (transaction database.old.schema database.old.committed waits.now.draws (moment - waits.now.arrival) waits.now.operations) database.old outbox.old result database.new outbox.new }
+    ensures asks { AsksStore K.failed (outcome_in result) database.old database.new }
+    ensures counts { K.failed database.old.keeper ≤ K.failed database.new.keeper }
+    ensures counted { tries.new ≡ tries.old + 1 }
+{
+    let age = waits.age(moment);
+    try_once(
+        alloc,
+        database,
+        outbox,
+        tries,
+        waits.session(),
+        waits.id(),
+        waits.txn(),
+        age,
+    )
+}
