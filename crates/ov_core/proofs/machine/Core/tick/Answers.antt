@@ -3,8 +3,8 @@ use Rattle.ov_core.proofs.Steps.{ticked, has_entered}
 use Rattle.ov_specs.specs.machine.Machine.{Tick}
 use Rattle.ov_core.proofs.machine.Core.tick.Goals as goal
 
-pub returns-in-Ok : goal.returns-in-Ok
-returns-in-Ok g c =
+pub returns : goal.returns
+returns g c =
     let low : c.self.inside.moment ≤ c.args.moment = search rules in
     rw (← c.self.view_is) (ticked g.K.Keeper.failed g.D.Draws.draws c.self.inside.live c.tick.new.self c.self.inside.moment c.args.moment c.tick.new.attempts.items c.self.inside.history c.push.new.self c.entry_with_choice.result c.self.inside.source
     c.tick.ensures low c.push.ensures (rw c.new.ensures.items at c.entry_with_choice.ensures))
