@@ -1,5 +1,5 @@
 -- What a message and a Tick come to, from the work and from settling.
-use Rattle.std.proofs.Common.{◌≡◌, ℕ, ◌+◌, ◌≤◌, List, [], ◌∷◌, ◌++◌, map, length, refl, sym, ap, subst, ◌∙◌, true, false, Option, Some, None, arith}
+use Rattle.std.proofs.Common.{◌≡◌, ℕ, ◌+◌, ◌≤◌, List, [], ◌++◌, map, length, refl, sym, ap, subst, ◌∙◌, true, false, Option, Some, None, arith}
 use Rattle.std.proofs.lemmas.Bool.{le-leb, false≢true}
 use Rattle.ov_specs.specs.machine.Machine as machine
 use Rattle.ov_specs.specs.machine.Machine.{State, Stepped, Passed, Work, works, draws_for}
@@ -118,7 +118,7 @@ module _ {K : Type 0} (failed : K → ℕ) (m n : ℕ) (message : Message) (draw
         sent = done.sent ++ s.sent;
         happens = ap (λ (list : List machine.Attempt). machine.happens (state_of old m) (record { moment = m; draws = draws; outcomes = list }) (machine.Take n message)) all
             ∙ take_settled (state_of old m) (record { moment = m; draws = draws; outcomes = map attempt_view (listed_by 1 (Some outcome.Kept)) ++ s.made }) n message (record { outcome = Some machine.Committed; others = s.made }) (record { state = state_of mid m; sent = done.sent })
-                there refl worked (record { tried = record { stepped = record { state = state_of new m; sent = s.sent }; others = [] }; next = s.next; has_changed = false }) refl s.settles refl;
+            there refl worked (record { tried = record { stepped = record { state = state_of new m; sent = s.sent }; others = [] }; next = s.next; has_changed = false }) refl s.settles refl;
         posts = posts_then done.sent s.sent old.outbox mid.outbox new.outbox done.posts s.posts;
         asks = rw all (asks_then failed (map attempt_view (listed_by 1 (Some outcome.Kept))) s.made old.database mid.database new.database (asks_one failed 1 (Some outcome.Kept) old.database mid.database asked counts) s.asks);
         left = left_then old.sessions.open_sessions mid.sessions.open_sessions new.sessions.open_sessions (rw done.sessions (still_all old.sessions.open_sessions)) s.left;

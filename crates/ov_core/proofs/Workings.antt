@@ -1,8 +1,8 @@
 -- What comes of a try of a transaction, and of the work on a message.
-use Rattle.std.proofs.Common.{◌≡◌, ℕ, ◌+◌, ◌≤◌, List, [], ◌∷◌, length, map, refl, sym, ap, ◌∙◌, eqb, true, false, Option, Some, None, arith, inl, inr}
+use Rattle.std.proofs.Common.{◌≡◌, ℕ, List, [], ◌∷◌, length, map, refl, sym, ap, ◌∙◌, eqb, true, false, Option, Some, None, arith, inl, inr}
 use Rattle.std.specs.Prelude.{option_to_list, codes, is_some}
 use Rattle.std.proofs.lemmas.List.{append-nil}
-use Rattle.std.proofs.lemmas.Bool.{eq-eqb, le-leb}
+use Rattle.std.proofs.lemmas.Bool.{eq-eqb}
 use Rattle.serde_json.specs.Data.{Data, Items}
 use Rattle.serde_json.specs.Written.{compact_text}
 use Rattle.ov_specs.specs.rows.Database.{Database, same_database}
@@ -21,15 +21,14 @@ use Rattle.ov_db.specs.declared.answer.StoreAnswer.TheVariants as store
 use Rattle.ov_txn.specs.Attempting.{IsAnswer, HasCause}
 use Rattle.ov_txn.specs.declared.tried.Tried.TheVariants.{Stored}
 use Rattle.ov_core.specs.declared.answer.Work.TheVariants as kinds
-use Rattle.ov_core.specs.declared.attempt.Trial.TheVariants.{Done, Blocked}
+use Rattle.ov_core.specs.declared.attempt.Trial.TheVariants.{Done}
 use Rattle.ov_core.specs.declared.event.Outcome.{Outcome}
 use Rattle.ov_core.specs.declared.event.Outcome.TheVariants as outcome
 use Rattle.ov_core.specs.declared.live.Live.{Live}
-use Rattle.ov_core.specs.Entries.{is_kept}
 use Rattle.ov_core.specs.Leaving.{LeavesItsOwn}
 use Rattle.ov_core.specs.Preparing.{outcome_after, results_after}
 use Rattle.ov_core.specs.Outbox.{WaitingFrames, waiting_for, PostsSent, HasSameFrames}
-use Rattle.ov_core.specs.Handling.{AsksStore, IsWork, PostsIfRoom, with_db, listed_of, IsCompleted, IsTrial, Stays, WorkIsDone, WorksWith, WaitsIfRoom, CancelsIfRoom}
+use Rattle.ov_core.specs.Handling.{AsksStore, IsWork, PostsIfRoom, with_db, listed_of, IsCompleted, IsTrial, WorkIsDone, WorksWith, WaitsIfRoom, CancelsIfRoom}
 use Rattle.ov_core.specs.States.{state_of}
 
 -- nothing is sent where the same frames wait

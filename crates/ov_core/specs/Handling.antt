@@ -1,5 +1,5 @@
 -- What comes of the work on a message, and of a try of a transaction: what the machine makes of it. What names no source is our own.
-use Rattle.std.specs.Prelude.{◌≡◌, ℕ, ◌≤◌, List, [], ◌∷◌, ◌++◌, length, map, filter, not, codes, Bool, true, false, is_some, Option, Some, None, option_map, option_to_list}
+use Rattle.std.specs.Prelude.{◌≡◌, ℕ, ◌≤◌, List, [], ◌∷◌, ◌++◌, length, map, filter, not, codes, true, false, is_some, Option, Some, None, option_map, option_to_list}
 use Rattle.serde_json.specs.Data.{Data, Items}
 use Rattle.serde_json.specs.Written.{compact_text}
 use Rattle.ov_specs.specs.wire.Frame.{frame, failure_tree}

@@ -7,7 +7,7 @@ use Rattle.ov_specs.specs.values.Uuid.{Uuid}
 use Rattle.ov_specs.proofs.laws.SettlingOn.{Reaches}
 use Rattle.ov_core.specs.Entries.{attempt_view}
 use Rattle.ov_core.specs.Handling.{AsksAll}
-use Rattle.ov_core.specs.Outbox.{WaitingFrames, PostsSent}
+use Rattle.ov_core.specs.Outbox.{PostsSent}
 use Rattle.ov_core.specs.Sessions.{IsLeft, without_serial}
 use Rattle.ov_core.specs.States.{state_of}
 use Rattle.ov_core.specs.Waiting.{WaitingList, many}

@@ -1,5 +1,5 @@
 use Rattle.std.proofs.Common.{◌≡◌, ◌≢◌, ◌∙◌, ℕ, List, [], ◌∷◌, get_or, length, refl, ap, sym, subst, arith}
-use Rattle.serde_json.specs.Data.{Data, Items, no_items, item, array}
+use Rattle.serde_json.specs.Data.{Items, no_items, item, array}
 use Rattle.serde_json.specs.View.{view, items_view}
 use Rattle.serde_json.specs.declared.value.Value.{Value}
 use Rattle.serde_json.proofs.Views.{view-Array}

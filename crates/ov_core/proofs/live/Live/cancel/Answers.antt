@@ -1,5 +1,5 @@
 use Rattle.std.proofs.Common.{List, ℕ, ◌∷◌, [], true, false, codes, refl, ap, sym, ◌≡◌, rules}
-use Rattle.std.specs.Prelude.{is_some, option_to_list}
+use Rattle.std.specs.Prelude.{is_some}
 use Rattle.ov_specs.specs.machine.Machine.{to_session}
 use Rattle.ov_specs.specs.wire.Frame.{failure_tree}
 use Rattle.ov_core.proofs.Workings.{cancel_refused, posted}

@@ -1,4 +1,4 @@
-use Rattle.std.proofs.Common.{◌≡◌, ◌+◌, ◌≤◌, ap, length, arith}
+use Rattle.std.proofs.Common.{ap, length, arith}
 use Rattle.ov_core.specs.Waiting.{WaitingList, many}
 use Rattle.ov_core.proofs.Counting.{number_below}
 use Rattle.ov_core.proofs.Settlings.{begun, ended}

@@ -1,4 +1,4 @@
-use Rattle.std.proofs.Common.{◌≡◌, ◌≤◌, refl, rules}
+use Rattle.std.proofs.Common.{◌≤◌, refl, rules}
 use Rattle.ov_core.proofs.Keying.{sessions_without, shut_without, still_others}
 use Rattle.ov_core.proofs.Steps.{closed, has_closed}
 use Rattle.ov_core.specs.Entries.{cause_view}

@@ -1,4 +1,4 @@
-use Rattle.std.proofs.Common.{◌≤◌, refl, rules}
+use Rattle.std.proofs.Common.{◌≤◌, rules}
 use Rattle.ov_core.proofs.Steps.{ticked, has_entered}
 use Rattle.ov_specs.specs.machine.Machine.{Tick}
 use Rattle.ov_core.proofs.machine.Core.tick.Goals as goal
