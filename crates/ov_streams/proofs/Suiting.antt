@@ -1,9 +1,10 @@
 -- Which lists of stream events suit after one event more.
 use Rattle.std.proofs.Common.{◌≡◌, ◌≢◌, ℕ, ◌+◌, ◌<◌, List, [], ◌∷◌, ◌++◌, refl, sym, ap, subst, ◌∙◌, cond, eqb, leb, max, Bool, true, false, Option, Some, None, zero, suc, inl, inr, length, arith, ◌-◌, append_assoc, take, get_or}
-use Rattle.std.specs.Prelude.{◌||◌, MatchBool, IsSomeAnd, slice_get}
+use Rattle.std.specs.Prelude.{◌||◌, MatchBool, IsSomeAnd, filter, slice_get}
 use Rattle.std.proofs.lemmas.List.{append-nil, take_more, map-append, get_or_default}
 use Rattle.std.proofs.lemmas.Option.{slice_get_cases}
-use Rattle.std.proofs.lemmas.Bool.{false≢true, cases_Bool, cases_eq, le-leb, lt-leb, eq-eqb, ne_eqb, MatchBool-at_true, MatchBool-at_false}
+use Rattle.std.proofs.lemmas.Bool.{false≢true, cases_Bool, cases_eq, le-leb, lt-leb, eq-eqb, eqb-true, ne_eqb, MatchBool-at_true, MatchBool-at_false}
+use Rattle.std.proofs.lemmas.Map.Entries.{lookup-filter-keys}
 use Rattle.std.specs.BTreeMap.{is_at}
 use Rattle.std.specs.Ordering.{nat_cmp}
 use Rattle.ov_specs.specs.wire.Message.{Message, asked}
@@ -15,7 +16,7 @@ use Rattle.ov_specs.specs.rows.Database.{Database}
 use Rattle.ov_specs.specs.machine.Streams as streams
 use Rattle.ov_specs.specs.machine.Streams.{Streams, no_streams, with_fed, Feeds, Expands}
 use Rattle.ov_specs.proofs.laws.Expanding.{one_more}
-use Rattle.ov_specs.proofs.laws.Turns.{turn_open, turn_tick, turn_close_other, turn_take_other}
+use Rattle.ov_specs.proofs.laws.Turns.{MayClose, turn_open, turn_tick, turn_close_other, turn_take_other}
 use Rattle.ov_laws.proofs.Requests.{asked_nothing, not_fed_yet}
 use Rattle.ov_cut.specs.CutterState.{CutterState, StandsFor}
 use Rattle.ov_core.specs.declared.event.Session.{Session}
@@ -50,6 +51,11 @@ at_false : (b : Bool) (P Q : Type 0) → b ≡ false → Q → MatchBool b P Q
 at_false true P Q h q = cc
 at_false false P Q h q = q
 
+-- a session that may have been closed, and is open, was open before
+open_before : (n : ℕ) (s : State) (e : Entry) (t : Stepped) (taken : List Message) → MayClose n s e t taken → is_open t.state n ≡ true → is_open s n ≡ true
+open_before n s e t taken (inl turn) there = sym turn.open_is ∙ there
+open_before n s e t taken (inr (was, turn)) there = was
+
 -- ---- time passes, a session ends
 
 pub passed : {K D : Type 0} (draws : D → Uuid → D → Type 0) (ms : ℕ) (old new : StreamsState K D) → new.cutters ≡ old.cutters → IsEntered draws (max ms old.core.state.moment) machine.Tick old.core answer.Done new.core → RunsEvents (streams.Passes ms ∷ []) old new
@@ -58,7 +64,7 @@ passed draws ms old new same e schema database list h given s =
       e.entry ∷ [],
       suits_more schema database list h given old new s (streams.Passes ms) (e.entry ∷ []) s.fed e.moves.follows
           (e.entry, t, refl, record { event = e.tells; moment = e.moment; step = e.moves.stepped }, refl, refl)
-          (λ n there. subst (HasCutter n (s.fed n)) (sym same) (s.cutters n (sym (turn_tick n old.core.state e.entry t e.moves.stepped e.tells).open_is ∙ there))),
+          (λ n there. subst (HasCutter n (s.fed n)) (sym same) (s.cutters n (open_before n old.core.state e.entry t [] (turn_tick n old.core.state e.entry t e.moves.stepped e.tells) there))),
     )
 
 module _ {K D : Type 0} (n : ℕ) (old new : StreamsState K D) where
@@ -129,6 +135,20 @@ pub forgotten : {K D : Type 0} (n : ℕ) (old : StreamsState K D) (cutters : Cut
 forgotten n old cutters updates away =
     with_cutters old cutters (λ schema database list h given s m there.
     has_kept n m (s.fed m) old.cutters cutters updates (λ is. false≢true (sym away ∙ (ap (is_open old.core.state) (sym is) ∙ there))) (s.cutters m there))
+
+-- those of closed sessions are not among these
+abbrev of_open : State → Cutters → Cutters
+of_open s cutters = filter (λ e. is_open s e.0) cutters
+
+-- an open session still has its own
+kept_open : (s : State) (n : ℕ) (cutters : Cutters) → is_open s n ≡ true → cutter_of n (of_open s cutters) ≡ cutter_of n cutters
+kept_open s n cutters there = lookup-filter-keys (is_at (nat_cmp n)) (is_open s) true (λ k at. ap (is_open s) (eqb-true k n (sym (same_serial n k) ∙ at)) ∙ there) cutters
+
+-- the cutters of all closed sessions were given up
+pub forgotten_closed : {K D : Type 0} (old : StreamsState K D) (cutters : Cutters) → cutters ≡ of_open old.core.state old.cutters → RunsEvents [] old (over old.core cutters)
+forgotten_closed old cutters is =
+    with_cutters old cutters (λ schema database list h given s m there.
+    subst (λ (o : Option CutterState). IsSomeAnd o (IsFed (s.fed m))) (sym (ap (cutter_of m) is ∙ kept_open old.core.state m old.cutters there)) (s.cutters m there))
 
 -- ---- a session opens
 
@@ -219,10 +239,10 @@ others_open at n m ne s [] true (e ∷ f ∷ entries) new h there = absurd h
 others_open at n m ne s (message ∷ ms) d [] new h there = absurd h
 others_open at n m ne s (message ∷ ms) d (e ∷ entries) new (t, inl (enters, none, same)) there = shut_aside at n m ne s machine.Memory e t new enters same there
 others_open at n m ne s (message ∷ ms) d (e ∷ entries) new (t, inr (enters, on)) there =
-    sym (turn_take_other n s e t enters.step m message ne enters.event).open_is ∙ elim (cases_Bool (is_open t.state m)) [
+    open_before n s e t [] (turn_take_other n s e t enters.step m message ne enters.event) (elim (cases_Bool (is_open t.state m)) [
       | inl still ↦ others_open at n m ne t.state ms d entries new (MatchBool-at_true (Feeds at t.state m ms d entries new) ((entries ≡ []) × (new ≡ t.state)) still on) there
       | inr shut ↦ ap (λ v. is_open v n) (sym (MatchBool-at_false (Feeds at t.state m ms d entries new) ((entries ≡ []) × (new ≡ t.state)) shut on).1) ∙ there
-    ]
+    ])
 
 pub fed_own : (x : Streams) (n : ℕ) (bytes : List ℕ) → with_fed x n bytes n ≡ x n ++ bytes
 fed_own x n bytes = ap (λ b. cond b (x n ++ bytes) (x n)) (eq-eqb n n refl)

@@ -125,7 +125,11 @@ impl<K: Keeper + Drop, D: Draws + Drop> Streams<K, D> {
                 self.forget(*session);
                 Ok(())
             }
-            StreamEvent::Tick(moment) => self.tick(alloc, *moment),
+            StreamEvent::Tick(moment) => {
+                self.tick(alloc, *moment)?;
+                self.forget_closed();
+                Ok(())
+            }
         }
     }
 
@@ -195,6 +199,15 @@ impl<K: Keeper + Drop, D: Draws + Drop> Streams<K, D> {
         if !self.core.is_open(session_of(session)) {
             self.cutters.remove(&session);
         }
+    }
+
+    /// Gives up the cutters of all closed sessions: a step of one session may close others, of which nothing may come any more.
+    fn forget_closed(&mut self)
+        ensures { RunsEvents [] self.old self.new }
+    {
+        let core = &self.core;
+        self.cutters
+            .retain(|serial, _| core.is_open(session_of(*serial)));
     }
 }
 

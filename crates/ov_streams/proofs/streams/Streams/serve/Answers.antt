@@ -11,5 +11,5 @@ returns-in-Feed g c = rw c.in-Feed.is (serves_more _ [] _ _ _ (rw c.as_slice.ens
 pub returns-in-Finish : goal.returns-in-Finish
 returns-in-Finish g c = rw c.in-Finish.is (serves_more _ [] _ _ _ c.finish.ensures c.forget-in-Finish.ensures)
 
-pub returns-in-Tick : goal.returns-in-Tick
-returns-in-Tick g c = rw c.in-Tick.is c.tick.ensures
+pub returns-in_ok-tick-in-Tick : goal.returns-in_ok-tick-in-Tick
+returns-in_ok-tick-in-Tick g c = rw c.in-Tick.is (serves_more _ [] _ _ _ c.in_ok-tick-in-Tick.ensures c.forget_closed.ensures)
