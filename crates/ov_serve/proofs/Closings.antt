@@ -8,7 +8,7 @@ use Rattle.ov_specs.specs.machine.History.{closed_by, closing_cause}
 use Rattle.std.specs.Option.{option_or}
 use Rattle.ov_specs.specs.machine.Streams.{IsEntryAt, Feeds}
 use Rattle.ov_specs.proofs.laws.Histories.{Leads, leads_more, closed_by_more}
-use Rattle.ov_specs.proofs.laws.Turns.{Turn, turn_close, turn_take}
+use Rattle.ov_specs.proofs.laws.Turns.{Turn, turn_close, turn_take, turn_tick}
 use Rattle.ov_serve.specs.Progress.{stream_cause, IsShut, StandsAfter}
 
 -- a session that is open, and was not closed
@@ -63,6 +63,15 @@ module _ (at n : ℕ) (before : State) where
   by_damage : (s : State) (h : List Entry) (e : Entry) (t : Stepped) → Leads before h s → closed_by before h n ≡ None → IsEntryAt at s (Close n Damaged) e t → StandsAfter n before (h ++ e ∷ []) t.state
   by_damage s h e t leads none enters = shut_by s h e t s.next [] Damaged leads enters.step (turn_close n s e t enters.step Damaged enters.event) (ap stream_cause enters.event) none
 
+  -- time passed, and may have closed it, as memory was refused for a transaction of it that waits
+  pub tick_stands : (s : State) (h : List Entry) (e : Entry) (t : Stepped) → Leads before h s → is_open s n ≡ true → closed_by before h n ≡ None → IsEntryAt at s Tick e t → StandsAfter n before (h ++ e ∷ []) t.state
+  tick_stands s h e t leads there none enters = elim (turn_tick n s e t enters.step enters.event) [
+    | inl turn ↦
+        stands_open n before (h ++ e ∷ []) t.state (leads_more before h s e t leads enters.step) (turn.open_is ∙ there)
+        (closed_by_more before h s e t n leads enters.step ∙ (ap (λ o. option_or o (closing_cause n s e.event t.state)) none ∙ turn.cause_is))
+    | inr (was, turn) ↦ shut_by s h e t s.next [] Memory leads enters.step turn (ap stream_cause enters.event) none
+  ]
+
   -- the entries of a piece
   pub feeds_stand : (s : State) (h : List Entry) (messages : List Message) (damaged : Bool) (entries : List Entry) (new : State) → Leads before h s → is_open s n ≡ true → closed_by before h n ≡ None
       → Feeds at s n messages damaged entries new → StandsAfter n before (h ++ entries) new
@@ -84,7 +93,7 @@ module _ (at n : ℕ) (before : State) where
             let on' : Feeds at t.state n messages damaged entries new = MatchBool-at_true (Feeds at t.state n messages damaged entries new) ((entries ≡ []) × (new ≡ t.state)) there' on in
             let none' : closed_by before (h ++ e ∷ []) n ≡ None = closed_by_more before h s e t n leads enters.step ∙ (ap (λ o. option_or o (closing_cause n s e.event t.state)) none ∙ turn.cause_is) in
             subst (λ (l : List Entry). StandsAfter n before l new) (append_assoc h (e ∷ []) entries) (feeds_stand t.state (h ++ e ∷ []) messages damaged entries new (leads_more before h s e t leads enters.step) there' none' on')
-        | inr turn ↦
+        | inr (was, turn) ↦
             let last : (entries ≡ []) × (new ≡ t.state) = MatchBool-at_false (Feeds at t.state n messages damaged entries new) ((entries ≡ []) × (new ≡ t.state)) turn.open_is on in
             subst (λ (v : State). StandsAfter n before (h ++ e ∷ entries) v) (sym last.1) (subst (λ (l : List Entry). StandsAfter n before (h ++ e ∷ l) t.state) (sym last.0)
             (shut_by s h e t s.next (message ∷ []) Memory leads enters.step turn (ap stream_cause enters.event) none))

@@ -1,18 +1,18 @@
 -- What was done of a session, one part after another.
 use Rattle.std.proofs.Common.{◌≡◌, ℕ, List, [], ◌∷◌, ◌++◌, Bool, true, false, refl, sym, map, cond, eqb, ap, subst, ◌∙◌, append_assoc, arith, ◌⊎◌, inl, inr}
 use Rattle.std.specs.Prelude.{◌≤◌, length, MatchBool, Option, Some}
-use Rattle.std.proofs.lemmas.List.{append-nil, map-append}
+use Rattle.std.specs.List.{flat_map}
+use Rattle.std.proofs.lemmas.List.{append-nil}
 use Rattle.std.proofs.lemmas.Grind.{flat_map-append}
 use Rattle.std.proofs.lemmas.List.Elements.{All-push}
 use Rattle.std.proofs.lemmas.Bool.{eq-eqb, false≢true}
-use Rattle.ov_specs.specs.wire.Message.{Message, asked}
 use Rattle.ov_specs.specs.machine.Machine as machine
 use Rattle.ov_specs.specs.machine.Machine.{State, Sent, is_open, opening}
 use Rattle.ov_specs.specs.schema.SchemaTypes.{Schema}
 use Rattle.ov_specs.specs.rows.Database.{Database}
 use Rattle.ov_specs.specs.machine.History.{joined, frames_to, closed_by}
-use Rattle.ov_specs.specs.machine.Streams.{StreamEvent, Opens, Feed, Streams, no_streams, with_fed, Feeds, Expands, ExpandsTimed}
-use Rattle.ov_specs.proofs.laws.Expanding.{one_after_another, one_event}
+use Rattle.ov_specs.specs.machine.Streams.{StreamEvent, Opens, no_streams, with_fed, ExpandsTimed}
+use Rattle.ov_specs.proofs.laws.Expanding.{one_after_another}
 use Rattle.ov_specs.proofs.laws.Histories.{closed_by_append}
 use Rattle.ov_specs.proofs.laws.Turns.{turn_close}
 use Rattle.std.specs.Option.{option_or}
@@ -25,30 +25,30 @@ use Rattle.ov_core.specs.Following.{CoreState, Follows, Extends, and_all_handed}
 use Rattle.ov_core.specs.History.{KeepsNewest}
 use Rattle.ov_core.specs.Stepping.{closing, Closes}
 use Rattle.ov_core.proofs.Histories.{keeps_last}
-use Rattle.ov_streams.specs.Feeding.{IsFed, EntersPiece}
-use Rattle.ov_serve.specs.Serving.{IoState, io_state, ExtendsHanding, Pieces, most_piece_bytes, bytes_of, events_of, TellsMoments, IsCauseIn, ClosesAfter, ClosesFor, is_written, EndsAs, Served, WritesOf}
-use Rattle.ov_serve.specs.Progress.{Sends, stream_cause, IsShut, StandsAfter, ServedSoFar, ServedAndFed}
+use Rattle.ov_streams.specs.Feeding.{IsFed}
+use Rattle.ov_serve.specs.Serving.{IoState, io_state, ExtendsHanding, Piece, Pieces, most_piece_bytes, bytes_of, piece_events, events_of, TellsMoments, IsCauseIn, ClosesAfter, ClosesFor, is_written, EndsAs, Served, WritesOf}
+use Rattle.ov_serve.specs.Progress.{Sends, stream_cause, IsShut, StandsAfter, ServesPiece, ServedSoFar, ServedAndFed}
 use Rattle.ov_serve.proofs.Unopened.{close_sends, close_of_open, next_is_unopened}
-use Rattle.ov_serve.proofs.Closings.{not_closed, is_shut, closed_by_closing, feeds_stand, stream_cause_is}
+use Rattle.ov_serve.proofs.Closings.{not_closed, is_shut, closed_by_closing, stream_cause_is}
+use Rattle.ov_serve.proofs.Fed.{piece_of, makes}
 use Rattle.ov_serve.proofs.Goings.{goes_on_entering, goes_on_handing, joined-append, writes_on}
 use Rattle.ov_streams.proofs.Entering.{enters_none}
 use Rattle.ov_streams.proofs.Suiting.{fed_own}
 
 -- one piece more
-pub bytes_of-more : (pieces : Pieces) (at : ℕ) (piece : List ℕ) → bytes_of (pieces ++ (at, piece) ∷ []) ≡ bytes_of pieces ++ piece
-bytes_of-more pieces at piece =
-    flat_map-append (λ (p : ℕ × List ℕ). p.1) pieces ((at, piece) ∷ []) ∙ ap (λ (bytes : List ℕ). bytes_of pieces ++ bytes) (append-nil piece)
+bytes_of-more : (pieces : Pieces) (p : Piece) → bytes_of (pieces ++ p ∷ []) ≡ bytes_of pieces ++ p.bytes
+bytes_of-more pieces p =
+    flat_map-append (λ (q : Piece). q.bytes) pieces (p ∷ []) ∙ ap (λ (bytes : List ℕ). bytes_of pieces ++ bytes) (append-nil p.bytes)
+
+events_of-more : (n : ℕ) (pieces : Pieces) (p : Piece) → events_of n (pieces ++ p ∷ []) ≡ events_of n pieces ++ piece_events n p
+events_of-more n pieces p =
+    ap (λ (l : List (ℕ × StreamEvent)). (0, Opens) ∷ l)
+    (flat_map-append (piece_events n) pieces (p ∷ []) ∙ ap (λ (l : List (ℕ × StreamEvent)). flat_map (piece_events n) pieces ++ l) (append-nil (piece_events n p)))
 
 -- one moment more
-pub told_more : {C : Type 0} (tells : C → ℕ → C → Type 0) (a b c : C) (pieces : Pieces) (at : ℕ) (piece : List ℕ) → TellsMoments tells a pieces b → tells b at c → TellsMoments tells a (pieces ++ (at, piece) ∷ []) c
-told_more tells a b c [] at piece same told = (c, subst (λ x. tells x at c) same told, refl)
-told_more tells a b c (p ∷ pieces) at piece (mid, first, others) told = (mid, first, told_more tells mid b c pieces at piece others told)
-
--- the streams of a piece that an open session is fed
-piece_expands : (at n : ℕ) (s new : State) (before : Streams) (stream piece : List ℕ) (messages : List Message) (entries : List machine.Entry) → is_open s n ≡ true → before n ≡ stream
-    → (asked (stream ++ piece)).messages ≡ (asked stream).messages ++ messages → Feeds at s n messages (asked (stream ++ piece)).damaged entries new
-    → Expands at s before (Feed n piece) entries new (with_fed before n piece)
-piece_expands at n s new before stream piece messages entries there is more feeds = rw there (messages, rw is more, rw is feeds, refl)
+told_more : {C : Type 0} (tells : C → ℕ → C → Type 0) (a b c : C) (pieces : Pieces) (p : Piece) → TellsMoments tells a pieces b → tells b p.moment c → TellsMoments tells a (pieces ++ p ∷ []) c
+told_more tells a b c [] p same told = (c, subst (λ x. tells x p.moment c) same told, refl)
+told_more tells a b c (q ∷ pieces) p (mid, first, others) told = (mid, first, told_more tells mid b c pieces p others told)
 
 -- nothing was given before the frames
 none_given_before : (n : ℕ) (given : ℕ → List (List ℕ)) (frames waits all : List (List ℕ)) → given n ≡ [] → all ≡ and_all_handed given n frames n ++ waits → all ≡ frames ++ waits
@@ -96,6 +96,7 @@ module _ {K D C : Type 0} (tells : C → ℕ → C → Type 0) (n : ℕ) (old : 
     written = subst (λ (bytes : List ℕ). WritesOf is_whole bytes from.written said) (sym (joined-append done.frames sends.frames)) (writes_on is_whole (joined done.frames) (joined sends.frames) from.written to.written said done.written sends.written);
     expands = subst (λ (s : State). ExpandsTimed old.state no_streams (events_of n done.pieces) done.entries s done.streams) (sym same) done.expands;
     stream = done.stream;
+    ticks = done.ticks;
     sizes = done.sizes;
     moments = done.moments;
     serial = done.serial;
@@ -111,33 +112,34 @@ module _ {K D C : Type 0} (tells : C → ℕ → C → Type 0) (n : ℕ) (old : 
     fed = λ there. on.fed (ap (λ (s : State). is_open s n) (sym same) ∙ there);
   }
 
-  -- a piece was read and entered
-  pub then_fed : (a b : CoreState K D) (to : IoState C) (at : ℕ) (piece heard : List ℕ) (clock : C) (cutter : CutterState) → is_open a.state n ≡ true → (done : ServedSoFar tells n true old from a to)
-      → length piece ≤ most_piece_bytes → heard ≡ to.read ++ piece → tells to.clock at clock → EntersPiece at n (bytes_of done.pieces) piece a b cutter
+  -- a piece was read and entered, and time passed behind it, or not
+  pub then_fed : (a b : CoreState K D) (to : IoState C) (piece heard : List ℕ) (clock : C) (is_all : Bool) (cutter : CutterState) → is_open a.state n ≡ true → (done : ServedSoFar tells n true old from a to)
+      → length piece ≤ most_piece_bytes → heard ≡ to.read ++ piece → ServesPiece tells n (bytes_of done.pieces) piece a to.clock is_all b clock cutter
       → ServedAndFed tells n old from b (io_state heard to.written clock) cutter
-  then_fed a b to at piece heard clock cutter there done short read told brings = record {
-    done = record {
-      entries = done.entries ++ brings.entries;
-      frames = done.frames;
-      pieces = done.pieces ++ (at, piece) ∷ [];
-      streams = with_fed done.streams n piece;
-      extends = goes_on_entering n old a b done.entries brings.entries done.frames done.extends brings.enters;
-      read = read ∙ (ap (λ (bytes : List ℕ). bytes ++ piece) done.read ∙ (append_assoc from.read (bytes_of done.pieces) piece ∙ ap (λ (bytes : List ℕ). from.read ++ bytes) (sym (bytes_of-more done.pieces at piece))));
-      written = done.written;
-      expands =
-          subst (λ (l : List (ℕ × StreamEvent)). ExpandsTimed old.state no_streams l (done.entries ++ brings.entries) b.state (with_fed done.streams n piece))
-          (ap (λ (l : List (ℕ × StreamEvent)). (0, Opens) ∷ l) (sym (map-append (λ (p : ℕ × List ℕ). (p.0, Feed n p.1)) done.pieces ((at, piece) ∷ []))))
-          (one_after_another old.state no_streams (events_of n done.pieces) done.entries a.state done.streams ((at, Feed n piece) ∷ []) brings.entries b.state (with_fed done.streams n piece) done.expands
-          (one_event at a.state done.streams (Feed n piece) brings.entries b.state (with_fed done.streams n piece)
-          (piece_expands at n a.state b.state done.streams (bytes_of done.pieces) piece brings.messages brings.entries there done.stream brings.more brings.feeds)));
-      stream = fed_own done.streams n piece ∙ (ap (λ (bytes : List ℕ). bytes ++ piece) done.stream ∙ sym (bytes_of-more done.pieces at piece));
-      sizes = All-push (λ (p : ℕ × List ℕ). length p.1 ≤ most_piece_bytes) done.pieces (at, piece) done.sizes short;
-      moments = told_more tells from.clock to.clock clock done.pieces at piece done.moments told;
-      serial = done.serial;
-      stands = feeds_stand at n old.state a.state done.entries brings.messages (asked (bytes_of done.pieces ++ piece)).damaged brings.entries b.state (done.stands.sent, done.stands.leads) there (not_closed n old.state done.entries a.state done.stands there) brings.feeds;
-    };
-    fed = λ open'. subst (λ (bytes : List ℕ). IsFed bytes cutter) (sym (bytes_of-more done.pieces at piece)) (brings.goes_on open');
-  }
+  then_fed a b to piece heard clock is_all cutter there done short read serves =
+      let p : Piece = piece_of serves.at piece serves.ticks in
+      let made = makes serves.at n old.state done.entries done.streams (bytes_of done.pieces) piece a serves.mid cutter there done.stream done.stands done.ticks serves.enters b serves.ticks serves.passes serves.still in
+      record {
+        done = record {
+          entries = done.entries ++ made.entries;
+          frames = done.frames;
+          pieces = done.pieces ++ p ∷ [];
+          streams = with_fed done.streams n piece;
+          extends = goes_on_entering n old a b done.entries made.entries done.frames done.extends made.enters;
+          read = read ∙ (ap (λ (bytes : List ℕ). bytes ++ piece) done.read ∙ (append_assoc from.read (bytes_of done.pieces) piece ∙ ap (λ (bytes : List ℕ). from.read ++ bytes) (sym (bytes_of-more done.pieces p))));
+          written = done.written;
+          expands =
+              subst (λ (l : List (ℕ × StreamEvent)). ExpandsTimed old.state no_streams l (done.entries ++ made.entries) b.state (with_fed done.streams n piece)) (sym (events_of-more n done.pieces p))
+              (one_after_another old.state no_streams (events_of n done.pieces) done.entries a.state done.streams (piece_events n p) made.entries b.state (with_fed done.streams n piece) done.expands made.expands);
+          stream = fed_own done.streams n piece ∙ (ap (λ (bytes : List ℕ). bytes ++ piece) done.stream ∙ sym (bytes_of-more done.pieces p));
+          ticks = made.passes;
+          sizes = All-push (λ (q : Piece). length q.bytes ≤ most_piece_bytes) done.pieces p done.sizes short;
+          moments = told_more tells from.clock to.clock clock done.pieces p done.moments serves.told;
+          serial = done.serial;
+          stands = made.stands;
+        };
+        fed = λ open'. subst (λ (bytes : List ℕ). IsFed bytes cutter) (sym (bytes_of-more done.pieces p)) (made.fed open');
+      }
 
   -- the session is closed, by a last entry or without one
   pub then_served : (a b : CoreState K D) (to : IoState C) (cause : Cause) (last : List machine.Entry) → (done : ServedSoFar tells n (is_written cause) old from a to) → Extends a last b → ClosesFor n cause a.state last b.state → is_open b.state n ≡ false
@@ -158,6 +160,7 @@ module _ {K D C : Type 0} (tells : C → ℕ → C → Type 0) (n : ℕ) (old : 
     parts = refl;
     expands = done.expands;
     stream = done.stream;
+    ticks = done.ticks;
     closes = closes;
     shut = shut;
     written = done.written;

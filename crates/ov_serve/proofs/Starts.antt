@@ -1,5 +1,5 @@
 -- What a session begins with.
-use Rattle.std.proofs.Common.{◌≡◌, ℕ, ◌≤◌, List, [], ◌∷◌, length, true, false, refl, sym, ◌∙◌, max, append-nil}
+use Rattle.std.proofs.Common.{◌≡◌, ℕ, ◌≤◌, [], ◌∷◌, length, true, false, refl, sym, ◌∙◌, max, append-nil}
 use Rattle.std.proofs.lemmas.List.Elements.{All-nil}
 use Rattle.std.proofs.lemmas.Bool.{eq-eqb}
 use Rattle.ov_specs.specs.wire.Cut.{cut}
@@ -18,7 +18,7 @@ use Rattle.ov_core.specs.declared.event.Stepped.TheVariants as answer
 use Rattle.ov_core.specs.Following.{CoreState}
 use Rattle.ov_core.specs.Stepping.{IsEntered}
 use Rattle.ov_streams.specs.Feeding.{IsFed}
-use Rattle.ov_serve.specs.Serving.{IoState, most_piece_bytes}
+use Rattle.ov_serve.specs.Serving.{IoState, Piece, most_piece_bytes}
 use Rattle.ov_serve.specs.Progress.{ServedAndFed}
 use Rattle.ov_serve.proofs.Closings.{stands_open}
 use Rattle.ov_serve.proofs.Goings.{goes_by_entries}
@@ -56,7 +56,8 @@ serving_opened {K} {D} {C} draws tells session old new from cutter stands entere
         written = sym (append-nil from.written);
         expands = one_event 0 old.state no_streams Opens (entered.entry ∷ []) new.state no_streams expands;
         stream = refl;
-        sizes = All-nil (λ (p : ℕ × List ℕ). length p.1 ≤ most_piece_bytes);
+        ticks = (λ is. let no : machine.Open ≡ machine.Tick = sym entered.tells.0 ∙ is in cc, λ u stepped. tt);
+        sizes = All-nil (λ (p : Piece). length p.bytes ≤ most_piece_bytes);
         moments = refl;
         serial = entered.tells.1;
         stands = stands_open session.serial old.state (entered.entry ∷ []) new.state (leads_more old.state [] old.state entered.entry t (leads_none old.state) entered.moves.stepped) there

@@ -1,21 +1,18 @@
 -- What a history does to sessions that are not open.
-use Rattle.std.proofs.Common.{◌≡◌, ◌≢◌, ℕ, ◌≤◌, List, [], ◌∷◌, ◌++◌, length, refl, sym, ap, ◌∙◌, cond, eqb, leb, Bool, true, false, Option, Some, None, inl, inr, arith}
-use Rattle.std.specs.Prelude.{◌&&◌, is_some}
+use Rattle.std.proofs.Common.{◌≡◌, ◌≢◌, ℕ, ◌≤◌, List, [], ◌∷◌, ◌++◌, refl, sym, ap, ◌∙◌, Bool, true, false, Option, Some, None, inl, inr, arith}
+use Rattle.std.specs.Prelude.{◌&&◌}
+use Rattle.std.specs.List.{list_all}
 use Rattle.std.proofs.lemmas.Bool.{cases_eq, and_parts, ne_eqb, false≢true}
-use Rattle.serde_json.specs.Data.{Data}
 use Rattle.ov_specs.specs.wire.Message.{Message}
-use Rattle.ov_specs.specs.machine.Machine.{State, Entry, Event, Open, Take, Close, Tick, Cause, Outcome, Listed, listed, ends, Stepped, step, takes, closed, when, is_open, is_without_choice, with_next_session, to_session, none_listed, opening, Work, work_of, works, results_of}
+use Rattle.ov_specs.specs.machine.Machine.{State, Entry, Event, Open, Take, Close, Tick, Cause, Sent, Stepped, step, closed, when, is_open, is_without_choice, with_next_session, opening}
 use Rattle.ov_specs.specs.rows.Database.{Database}
 use Rattle.ov_specs.specs.schema.SchemaTypes.{Schema}
-use Rattle.ov_specs.specs.operations.Transaction.{failed_results}
-use Rattle.ov_specs.specs.values.Uuid.{Uuid}
 use Rattle.ov_specs.specs.machine.History.{run, frames_to, closing_cause, closed_by}
 use Rattle.std.specs.Option.{option_or}
 use Rattle.ov_specs.proofs.laws.Histories.{run_parts, closed_by_first}
-use Rattle.ov_specs.proofs.laws.Works.{work_has}
-use Rattle.ov_specs.proofs.laws.Turns.{ends_tries, turn_open, turn_tick, turn_close, turn_close_other, turn_take, turn_take_other, stepped}
-use Rattle.ov_core.proofs.Answered.{frames_to-to_session}
-use Rattle.ov_core.proofs.Steps.{frames_to-append}
+use Rattle.ov_specs.proofs.laws.Settling.{IsWithin}
+use Rattle.ov_specs.proofs.laws.Turns.{MayClose, turn_open, turn_tick, turn_close, turn_close_other, turn_take, turn_take_other, take_within, tick_within, stepped}
+use Rattle.ov_core.proofs.Answered.{frames_to-append}
 use Rattle.std.proofs.lemmas.Option.{same_Some}
 
 -- ---- what a step sends
@@ -29,19 +26,13 @@ suits false o x h = cc
 abbrev now : State → Entry → State
 now s e = record s { moment = e.choice.moment }
 
--- another session is sent nothing
-abbrev IsAside : ℕ → Stepped → Type 0
-IsAside m x = (n : ℕ) → n ≢ m → frames_to n x.sent ≡ []
-
--- what is sent to one session is nothing to another
-sends_aside : (m : ℕ) (trees : List Data) (n : ℕ) → n ≢ m → frames_to n (to_session m trees) ≡ []
-sends_aside m trees n other = frames_to-to_session m n trees ∙ rw (ne_eqb n m other) refl
-
--- nor is what any work sends
-work_aside : (s : State) (m : ℕ) (draws : List Uuid) (o : Option Outcome) (w : Work) (t : Stepped) → works s m draws o w ≡ Some t → IsAside m t
-work_aside s m draws o w t h =
-    work_has (IsAside m) s m (λ trees. sends_aside m trees) draws o w t (λ n other. refl)
-    (λ id operations results database is completes. (sends_aside m (results_of id results), sends_aside m (results_of id (failed_results results)))) h
+-- where all is sent to open sessions, one that is not open is sent nothing
+none_sent : (s : State) (n : ℕ) (sent : List Sent) → list_all (λ x. is_open s x.session) sent ≡ true → is_open s n ≡ false → frames_to n sent ≡ []
+none_sent s n [] to_open away = refl
+none_sent s n (x ∷ sent) to_open away =
+    let parts = and_parts (is_open s x.session) (list_all (λ y. is_open s y.session) sent) to_open in
+    let other : x.session ≢ n = λ same. false≢true (sym away ∙ (ap (is_open s) (sym same) ∙ parts.0)) in
+    rw (ne_eqb x.session n other) (none_sent s n sent parts.1 away)
 
 module _ (s : State) (e : Entry) (t : Stepped) (h : step s e ≡ Some t) where
   -- an opening sends nothing
@@ -49,12 +40,6 @@ module _ (s : State) (e : Entry) (t : Stepped) (h : step s e ≡ Some t) where
   open_sends is =
       let x : Stepped = record { state = with_next_session (now s e); sent = [] } in
       ap (λ (v : Stepped). v.sent) (sym (same_Some x t (suits (is_without_choice e.choice) (Some x) t (stepped s e t Open is h)).1))
-
-  -- time sends nothing
-  tick_sends : e.event ≡ Tick → t.sent ≡ []
-  tick_sends is =
-      let x : Stepped = record { state = now s e; sent = [] } in
-      ap (λ (v : Stepped). v.sent) (sym (same_Some x t (suits (is_without_choice e.choice) (Some x) t (stepped s e t Tick is h)).1))
 
   -- what a closing makes, of an open session
   closing_makes : (m : ℕ) (cause : Cause) → e.event ≡ Close m cause → ((is_without_choice e.choice && is_open s m) ≡ true) × (Some (closed (now s e) m) ≡ Some t)
@@ -67,18 +52,6 @@ module _ (s : State) (e : Entry) (t : Stepped) (h : step s e ≡ Some t) where
   -- an open session is closed
   pub close_of_open : (m : ℕ) (cause : Cause) → e.event ≡ Close m cause → is_open s m ≡ true
   close_of_open m cause is = (and_parts (is_without_choice e.choice) (is_open s m) (closing_makes m cause is).0).1
-
-  -- what taking a message makes, of an open session
-  taking_makes : (m : ℕ) (message : Message) → e.event ≡ Take m message → (is_open s m ≡ true) × (ends (takes (now s e) e.choice m message) ≡ Some t)
-  taking_makes m message is = suits (is_open s m) (ends (takes (now s e) e.choice m message)) t (stepped s e t (Take m message) is h)
-
-  -- another session is sent nothing for a message
-  take_aside : (m : ℕ) (message : Message) → e.event ≡ Take m message → (n : ℕ) → n ≢ m → frames_to n t.sent ≡ []
-  take_aside m message is =
-      let first : Listed = listed 1 e.choice.outcomes in
-      let work : Option Outcome → Option Stepped = λ o. works (now s e) m e.choice.draws o (work_of (now s e) message) in
-      work_aside (now s e) m e.choice.draws first.outcome (work_of (now s e) message) t
-      (suits (none_listed first.others) (work first.outcome) t (sym (ends_tries work 1 e.choice.outcomes) ∙ (taking_makes m message is).1)).1
 
 -- ---- a session that is still to come
 
@@ -107,15 +80,20 @@ module _ (n : ℕ) (s : State) (e : Entry) (t : Stepped) (h : step s e ≡ Some 
         no_cause = λ low. turn.cause_is;
       }
 
-  awaits_tick : e.event ≡ Tick → Awaits n s e t
-  awaits_tick is =
-      let turn = turn_tick n s e t h is in
-      record {
-        grows = omega (arith, turn.next_is);
-        to_come = λ high. turn.open_is ∙ to_come (omega (arith, turn.next_is));
-        silent = λ low. ap (frames_to n) (tick_sends s e t h is);
-        no_cause = λ low. turn.cause_is;
-      }
+  -- what may close sessions, and sends to open ones alone
+  awaits_within : (taken : List Message) → MayClose n s e t taken → IsWithin (now s e) t.state t.sent → Awaits n s e t
+  awaits_within taken (inl turn) within = record {
+    grows = omega (arith, turn.next_is);
+    to_come = λ high. turn.open_is ∙ to_come (omega (arith, turn.next_is));
+    silent = λ low. none_sent (now s e) n t.sent within.1 (to_come low);
+    no_cause = λ low. turn.cause_is;
+  }
+  awaits_within taken (inr (was, turn)) within = record {
+    grows = omega (arith, turn.next_is);
+    to_come = λ high. turn.open_is;
+    silent = λ low. absurd (false≢true (sym (to_come low) ∙ was));
+    no_cause = λ low. absurd (false≢true (sym (to_come low) ∙ was));
+  }
 
   awaits_close_own : (cause : Cause) → e.event ≡ Close n cause → Awaits n s e t
   awaits_close_own cause is =
@@ -137,44 +115,16 @@ module _ (n : ℕ) (s : State) (e : Entry) (t : Stepped) (h : step s e ≡ Some 
         no_cause = λ low. turn.cause_is;
       }
 
-  awaits_take_own : (message : Message) → e.event ≡ Take n message → Awaits n s e t
-  awaits_take_own message is =
-      let there : is_open s n ≡ true = (taking_makes s e t h n message is).0 in
-      elim (turn_take n s e t h message is) [
-        | inl turn ↦ record {
-          grows = omega (arith, turn.next_is);
-          to_come = λ high. turn.open_is ∙ to_come (omega (arith, turn.next_is));
-          silent = λ low. absurd (false≢true (sym (to_come low) ∙ there));
-          no_cause = λ low. absurd (false≢true (sym (to_come low) ∙ there));
-        }
-        | inr turn ↦ record {
-          grows = omega (arith, turn.next_is);
-          to_come = λ high. turn.open_is;
-          silent = λ low. absurd (false≢true (sym (to_come low) ∙ there));
-          no_cause = λ low. absurd (false≢true (sym (to_come low) ∙ there));
-        }
-      ]
-
-  awaits_take_other : (m : ℕ) (message : Message) → m ≢ n → e.event ≡ Take m message → Awaits n s e t
-  awaits_take_other m message other is =
-      let turn = turn_take_other n s e t h m message other is in
-      record {
-        grows = omega (arith, turn.next_is);
-        to_come = λ high. turn.open_is ∙ to_come (omega (arith, turn.next_is));
-        silent = λ low. take_aside s e t h m message is n (λ same. other (sym same));
-        no_cause = λ low. turn.cause_is;
-      }
-
   awaits_by : (what : Event) → e.event ≡ what → Awaits n s e t
   awaits_by Open is = awaits_open is
-  awaits_by Tick is = awaits_tick is
+  awaits_by Tick is = awaits_within [] (turn_tick n s e t h is) (tick_within s e t h is)
   awaits_by (Close m cause) is = elim (cases_eq m n) [
     | inl same ↦ awaits_close_own cause (is ∙ ap (λ k. Close k cause) same)
     | inr other ↦ awaits_close_other m cause other is
   ]
   awaits_by (Take m message) is = elim (cases_eq m n) [
-    | inl same ↦ awaits_take_own message (is ∙ ap (λ k. Take k message) same)
-    | inr other ↦ awaits_take_other m message other is
+    | inl same ↦ awaits_within (message ∷ []) (turn_take n s e t h message (is ∙ ap (λ k. Take k message) same)) (take_within s e t h m message is)
+    | inr other ↦ awaits_within [] (turn_take_other n s e t h m message other is) (take_within s e t h m message is)
   ]
 
 -- ---- whole histories

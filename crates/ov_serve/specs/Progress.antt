@@ -3,13 +3,15 @@ use Rattle.std.specs.Prelude.{◌≡◌, ℕ, List, [], ◌∷◌, ◌++◌, Boo
 use Rattle.ov_specs.specs.machine.Machine as machine
 use Rattle.ov_specs.specs.machine.Machine.{State, Sent, is_open}
 use Rattle.ov_specs.specs.machine.History.{run, joined, closed_by}
+use Rattle.ov_specs.specs.machine.Streams as streams
 use Rattle.ov_specs.specs.machine.Streams.{Streams, no_streams, ExpandsTimed}
 use Rattle.ov_cut.specs.CutterState.{CutterState}
 use Rattle.ov_core.specs.Outbox.{waiting_for}
 use Rattle.ov_core.specs.Following.{CoreState}
-use Rattle.ov_streams.specs.Feeding.{IsFed}
+use Rattle.ov_streams.specs.Entering.{ExtendsByStep}
+use Rattle.ov_streams.specs.Feeding.{IsFed, EntersPiece}
 use Rattle.ov_serve.specs.Ends.{one_more}
-use Rattle.ov_serve.specs.Serving.{IoState, ExtendsHanding, WritesOf, Pieces, ArePieces, bytes_of, events_of, TellsMoments}
+use Rattle.ov_serve.specs.Serving.{IoState, ExtendsHanding, WritesOf, Pieces, ArePieces, bytes_of, events_of, TellsMoments, is_due, PassesWhereDue}
 
 -- ---- what is written
 
@@ -46,6 +48,33 @@ pub record StandsAfter (n : ℕ) (before : State) (entries : List machine.Entry)
   pub leads : run before entries ≡ Some (record { state = s; sent = sent })
   pub stands : MatchBool (is_open s n) (closed_by before entries n ≡ None) (IsShut n before entries)
 
+-- ---- a piece
+
+-- time passed to the moment, or to the last one if that is later, where a transaction is due by the moment
+pub record PassesDue {K D : Type 0} (at : ℕ) (old new : CoreState K D) : Type 0 where
+  pub is_due : is_due at old.state ≡ true
+  pub entry : machine.Entry
+  pub step : machine.Stepped
+  pub adds : ExtendsByStep old entry step new
+  pub is : streams.IsEntryAt at old.state machine.Tick entry step
+
+-- time passed so, or nothing was done
+abbrev pub PassesIf : {K D : Type 0} → Bool → ℕ → CoreState K D → CoreState K D → Type 0
+PassesIf true at old new = PassesDue at old new
+PassesIf false at old new = new ≡ old
+
+-- A piece of the session's stream was entered at the moment that the clock told. Then time passed to it, where the session is
+-- still open and a transaction is due; but for a passing that was refused, where not all was done.
+pub record ServesPiece {K D C : Type 0} (tells : C → ℕ → C → Type 0) (n : ℕ) (stream piece : List ℕ) (old : CoreState K D) (clock : C) (is_all : Bool) (new : CoreState K D) (clock' : C) (cutter : CutterState) : Type 0 where
+  pub at : ℕ
+  pub told : tells clock at clock'
+  pub mid : CoreState K D
+  pub enters : EntersPiece at n stream piece old mid cutter
+  pub ticks : Bool
+  pub passes : PassesIf ticks at mid new
+  pub still : ticks ≡ true → is_open mid.state n ≡ true
+  pub given : is_all ≡ true → is_open mid.state n ≡ true → ticks ≡ is_due at mid.state
+
 -- ---- a session
 
 -- What was done since the core was `old`: the session was opened, these pieces of it were read and entered, and all of these
@@ -60,6 +89,7 @@ pub record ServedSoFar {K D C : Type 0} (tells : C → ℕ → C → Type 0) (n 
   pub written : WritesOf is_whole (joined frames) from.written to.written
   pub expands : ExpandsTimed old.state no_streams (events_of n pieces) entries new.state streams
   pub stream : streams n ≡ bytes_of pieces
+  pub ticks : PassesWhereDue old.state entries
   pub sizes : ArePieces pieces
   pub moments : TellsMoments tells from.clock pieces to.clock
   pub serial : n ≡ old.state.next

@@ -1,13 +1,13 @@
 -- What a session's serving makes of a core and of what stands around it. What names no source is our own.
-use Rattle.std.specs.Prelude.{◌≡◌, ◌⊎◌, ◌≤◌, ℕ, List, [], ◌∷◌, ◌++◌, map, length, Bool, true, false, Option, Some}
+use Rattle.std.specs.Prelude.{◌≡◌, ◌⊎◌, ◌≤◌, ℕ, nat_le, List, [], ◌∷◌, ◌++◌, length, Bool, true, false, if◌then◌else◌, Option, Some, None}
 use Rattle.std.specs.List.{All, flat_map}
 use Rattle.ov_specs.specs.machine.Machine as machine
-use Rattle.ov_specs.specs.machine.Machine.{State, is_open, opening}
+use Rattle.ov_specs.specs.machine.Machine.{State, is_open, opening, due}
 use Rattle.ov_specs.specs.schema.SchemaTypes.{Schema}
 use Rattle.ov_specs.specs.rows.Database.{Database}
 use Rattle.ov_specs.specs.machine.History.{run, joined, out, closed_by}
 use Rattle.ov_specs.specs.machine.Streams as streams
-use Rattle.ov_specs.specs.machine.Streams.{StreamEvent, Opens, Feed, Streams, no_streams, ExpandsTimed}
+use Rattle.ov_specs.specs.machine.Streams.{StreamEvent, Opens, Feed, Passes, Streams, no_streams, ExpandsTimed}
 use Rattle.ov_core.specs.declared.event.Cause.{Cause}
 use Rattle.ov_core.specs.declared.event.Cause.TheVariants.{InputEnded, ReadFault, WriteFault, Damaged, Overrun, Memory}
 use Rattle.ov_core.specs.Outbox.{waiting_for}
@@ -45,9 +45,15 @@ WritesOf false bytes old new = (written : List ℕ) × (new ≡ old ++ written) 
 
 -- ---- what was read
 
--- pieces, each with the moment at which it came
+-- A piece: the moment at which it came, its bytes, and whether time then passed to that moment.
+pub record Piece : Type 0 where
+  pub moment : ℕ
+  pub bytes : List ℕ
+  pub ticks : Bool
+
+-- pieces, in the order in which they came
 abbrev pub Pieces : Type 0
-Pieces = List (ℕ × List ℕ)
+Pieces = List Piece
 
 -- the most bytes of a piece
 abbrev pub most_piece_bytes : ℕ
@@ -55,20 +61,42 @@ most_piece_bytes = 4096
 
 -- no piece is longer
 abbrev pub ArePieces : Pieces → Type 0
-ArePieces pieces = All (λ p. length p.1 ≤ most_piece_bytes) pieces
+ArePieces pieces = All (λ p. length p.bytes ≤ most_piece_bytes) pieces
 
 -- the bytes of the pieces
 abbrev pub bytes_of : Pieces → List ℕ
-bytes_of pieces = flat_map (λ p. p.1) pieces
+bytes_of pieces = flat_map (λ p. p.bytes) pieces
 
--- the stream events of a session: it opens at the last moment, and then its pieces come, each at its own
+-- the stream events of a piece: its bytes come at its moment, and then time passes to it, where it does
+abbrev pub piece_events : ℕ → Piece → List (ℕ × StreamEvent)
+piece_events n p = (p.moment, Feed n p.bytes) ∷ (if p.ticks then (p.moment, Passes p.moment) ∷ [] else [])
+
+-- the stream events of a session: it opens at the last moment, and then its pieces come
 abbrev pub events_of : ℕ → Pieces → List (ℕ × StreamEvent)
-events_of n pieces = (0, Opens) ∷ map (λ p. (p.0, Feed n p.1)) pieces
+events_of n pieces = (0, Opens) ∷ flat_map (piece_events n) pieces
 
 -- the clock told the moments of the pieces, one after another
 abbrev pub TellsMoments : {C : Type 0} → (C → ℕ → C → Type 0) → C → Pieces → C → Type 0
 TellsMoments tells old [] new = new ≡ old
-TellsMoments {C} tells old (p ∷ pieces) new = (mid : C) × tells old p.0 mid × TellsMoments tells mid pieces new
+TellsMoments {C} tells old (p ∷ pieces) new = (mid : C) × tells old p.moment mid × TellsMoments tells mid pieces new
+
+-- ---- when time passes
+
+-- this moment, if there is one, has come by that one
+abbrev pub has_come : ℕ → Option ℕ → Bool
+has_come at None = false
+has_come at (Some moment) = nat_le moment at
+
+-- a transaction that waits is due by the moment
+abbrev pub is_due : ℕ → State → Bool
+is_due at s = has_come at (due s)
+
+-- From this state on, time passes among the entries only where a transaction is due by then.
+abbrev pub PassesWhereDue : State → List machine.Entry → Type 0
+PassesWhereDue s [] = Unit {0}
+PassesWhereDue s (e ∷ entries) =
+    (e.event ≡ machine.Tick → is_due e.choice.moment s ≡ true)
+    × ((t : machine.Stepped) → machine.step s e ≡ Some t → PassesWhereDue t.state entries)
 
 -- ---- why a session was closed
 
@@ -119,7 +147,7 @@ pub record EndsAs (n : ℕ) (cause : Cause) (schema : Schema) (database : Databa
   pub written : WritesOf (is_written cause) (out n reached.sent) said said'
   pub told : IsCauseIn cause (closed_by (opening schema database) history n)
 
--- What was done from the opening of the session to its closing.
+-- What was done from the opening of the session to its closing. Time passes only where a transaction that waits is due.
 pub record Served {K D C : Type 0} (tells : C → ℕ → C → Type 0) (n : ℕ) (old : CoreState K D) (from : IoState C) (cause : Cause) (new : CoreState K D) (to : IoState C) : Type 0 where
   -- what the core entered, what it handed out, and what was read
   pub entries : List machine.Entry
@@ -137,6 +165,7 @@ pub record Served {K D C : Type 0} (tells : C → ℕ → C → Type 0) (n : ℕ
   pub parts : entries ≡ front ++ last
   pub expands : ExpandsTimed old.state no_streams (events_of n pieces) front mid streams
   pub stream : streams n ≡ bytes_of pieces
+  pub ticks : PassesWhereDue old.state front
   pub closes : ClosesFor n cause mid last new.state
   pub shut : is_open new.state n ≡ false
   -- the frames were written, and none is left waiting; or a beginning of them where a write failed

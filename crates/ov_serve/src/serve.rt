@@ -1,13 +1,13 @@
-ghost use Rattle.std.specs.Prelude.{◌≡◌, ◌⊎◌, ◌≤◌, ◌++◌, ℕ, List, [], ◌∷◌, map, length, true, IfOk, IfErr};
+ghost use Rattle.std.specs.Prelude.{◌≡◌, ◌⊎◌, ◌≤◌, ◌++◌, ℕ, List, [], ◌∷◌, map, length, true, is_ok, IfOk, IfErr};
 ghost use Rattle.std.specs.Io.KnownBytes.{IsAtEnd};
-ghost use Rattle.ov_specs.specs.machine.Machine.{is_open, Entry as SpecEntry, Open as SpecOpen};
+ghost use Rattle.ov_specs.specs.machine.Machine.{is_open, Entry as SpecEntry, Open as SpecOpen, Tick as SpecTick};
 ghost use Rattle.ov_core.specs.Entries.{cause_view, event_view, entry_view};
 ghost use Rattle.ov_core.specs.Following.{CoreState};
 ghost use Rattle.ov_core.specs.Stepping.{RefusesStep};
-ghost use Rattle.ov_streams.specs.Feeding.{IsFed, EntersPiece};
+ghost use Rattle.ov_streams.specs.Feeding.{IsFed};
 ghost use Rattle.ov_serve.specs.Ends.{KeepsInput, GivesWritten};
-ghost use Rattle.ov_serve.specs.Serving.{IoState, io_state, Served, is_written, CauseMatchesCounts, most_piece_bytes};
-ghost use Rattle.ov_serve.specs.Progress.{stream_cause, ServedAndFed};
+ghost use Rattle.ov_serve.specs.Serving.{IoState, io_state, Served, is_written, CauseMatchesCounts, is_due, most_piece_bytes};
+ghost use Rattle.ov_serve.specs.Progress.{stream_cause, PassesIf, ServedAndFed, ServesPiece};
 
 use crate::ends::{Clock, Sink, Source};
 use crate::send::write_waiting;
@@ -24,7 +24,8 @@ use std::sync::Wait;
 const PIECE_BYTES: usize = 4096;
 
 /// Serves one session: reads its stream in pieces of at most 4,096 bytes, each at the moment in milliseconds that the clock
-/// tells behind it, and writes what is sent to it before it reads on (our own, over RFC 7047, 4).
+/// tells behind it, and writes what is sent to it before it reads on (our own, over RFC 7047, 4). Behind a piece time passes to
+/// its moment, where a `wait` of a transaction that waits has run out by then (RFC 7047, 5.2.6); at no other time.
 ///
 /// It ends with the cause for which the history closed the session, and then all that was sent to it is written and flushed. With
 /// `WriteFault`, where the writer failed, a beginning of that is written, and the stream may have closed the session before.
@@ -91,7 +92,9 @@ fn serve_session<R: Wait, K: Keeper + Drop, D: Draws + Drop, S: Source, W: Sink,
                 let _ = core.close(session, Cause::InputEnded);
                 return Cause::InputEnded;
             }
-            Some(n) => serve_piece(core, alloc, session, cutter, clock, &piece[..n]),
+            Some(n) => {
+                let _ = serve_piece(core, alloc, session, cutter, clock, &piece[..n]);
+            }
             None => {
                 let _ = core.close(session, Cause::ReadFault);
                 return Cause::ReadFault;
@@ -101,7 +104,8 @@ fn serve_session<R: Wait, K: Keeper + Drop, D: Draws + Drop, S: Source, W: Sink,
     unreachable!()
 }
 
-/// Enters a piece of the open session's stream, at the moment that the clock tells.
+/// Enters a piece of the open session's stream at the moment that the clock tells, and then gives the transactions that are due
+/// their turn, unless the piece closed the session. An `Err` where memory is refused for that: they get it behind the next piece.
 fn serve_piece<K: Keeper + Drop, D: Draws + Drop, C: Clock>(
     core: &mut Core<K, D>,
     alloc: Global,
@@ -109,15 +113,39 @@ fn serve_piece<K: Keeper + Drop, D: Draws + Drop, C: Clock>(
     cutter: &mut Cutter,
     clock: &mut C,
     piece: &[u8],
-)
+) -> Result<(), StepFault>
     requires open { is_open core.old.state session.serial ≡ true }
     requires short { length piece.now ≤ most_piece_bytes }
     ensures short { length piece.now ≤ most_piece_bytes }
     ensures entered { (stream : List ℕ) → IsFed stream cutter.old
-        → (at : ℕ) × C.tells clock.old at clock.new × EntersPiece at session.serial stream piece.now core.old core.new cutter.new }
+        → ServesPiece C.tells session.serial stream piece.now core.old clock.old (is_ok result) core.new clock.new cutter.new }
 {
     let at = clock.now();
     feed_session(core, alloc, at, session, cutter, piece);
+    if core.is_open(session) {
+        pass_where_due(core, alloc, at)?;
+    }
+    Ok(())
+}
+
+/// Lets time pass to the moment, where a transaction that waits is due by it, and tells whether it did. A refusal changes nothing.
+fn pass_where_due<K: Keeper + Drop, D: Draws + Drop>(
+    core: &mut Core<K, D>,
+    alloc: Global,
+    at: u64,
+) -> Result<bool, StepFault>
+    ensures passes { IfOk result (λ ticks. PassesIf ticks at core.old core.new) }
+    ensures due { IfOk result (λ ticks. ticks ≡ is_due at core.old.state) }
+    ensures refused { IfErr result (λ fault. (core.new ≡ core.old) × (is_due at core.old.state ≡ true) × RefusesStep SpecTick core.old.state fault) }
+{
+    match core.due() {
+        Some(due) if due <= at => match core.step(alloc, at, Event::Tick) {
+            Stepped::Done => Ok(true),
+            Stepped::Refused(fault) => Err(fault),
+            Stepped::Opened(_) | Stepped::Closed => unreachable!(),
+        },
+        _ => Ok(false),
+    }
 }
 
 /// Why the session that was closed last was closed, where its stream closed it: by damage, or when out of memory.

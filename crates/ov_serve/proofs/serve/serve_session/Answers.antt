@@ -1,4 +1,5 @@
 use Rattle.std.proofs.Common.{rules, ◌≡◌, ℕ, ◌++◌, true, false, map, take, refl, sym, ap, ◌∙◌, arith, append-nil}
+use Rattle.std.specs.Prelude.{is_ok}
 use Rattle.ov_core.specs.declared.event.Cause.TheVariants.{InputEnded, ReadFault}
 use Rattle.ov_core.specs.Entries.{entry_view}
 use Rattle.ov_serve.specs.Serving.{io_state, bytes_of}
@@ -47,9 +48,9 @@ loop-preserved g c = (
       let on = c.loop.invariant.0 first from start in
       let sent = then_sent_on g.C.Clock.tells c.args.session.serial first from c.loop.core c.write_waiting.new.core to (g.W.Sink.bytes_written c.write_waiting.new.writer) c.loop.cutter on c.if-not-write_waiting.ensures.sends c.if-not-write_waiting.ensures.state in
       let there = sym c.if-not-is_open.ensures in
-      let brought = c.serve_piece.ensures.entered (bytes_of sent.done.pieces) (sent.fed there) in
+      let serves = c.serve_piece.ensures.entered (bytes_of sent.done.pieces) (sent.fed there) in
       then_fed g.C.Clock.tells c.args.session.serial first from c.write_waiting.new.core c.serve_piece.new.core (io_state (g.S.Source.bytes_read c.loop.reader) (g.W.Sink.bytes_written c.write_waiting.new.writer) c.loop.clock)
-      brought.0 (take c.in-Some-read.n c.read.new.piece) (g.S.Source.bytes_read c.read.new.self) c.serve_piece.new.clock c.serve_piece.new.cutter there sent.done c.serve_piece.ensures.short c.in-Some-read.ensures.trace brought.1 brought.2,
+      (take c.in-Some-read.n c.read.new.piece) (g.S.Source.bytes_read c.read.new.self) c.serve_piece.new.clock (is_ok c.serve_piece.result) c.serve_piece.new.cutter there sent.done c.serve_piece.ensures.short c.in-Some-read.ensures.trace serves,
   c.in-Some-read.ensures.good ∙ c.loop.invariant.1,
   c.if-not-write_waiting.ensures.faults ∙ c.loop.invariant.2,
   input-more (g.S.Source.bytes_read c.args.reader.now) (g.S.Source.bytes_read c.loop.reader) (g.S.Source.bytes_read c.read.new.self) (g.S.Source.remaining c.args.reader.now) (g.S.Source.remaining c.loop.reader) (g.S.Source.remaining c.read.new.self) c.loop.invariant.3 c.read.ensures.input,
