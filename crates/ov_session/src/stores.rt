@@ -1,25 +1,26 @@
-//! One session of a store, in memory or in a file.
+//! One session of a database in memory, or of the store in a file.
 
 ghost use Rattle.std.specs.Prelude.{Option, Result};
 ghost use Rattle.sqlite_wal.specs.Files.{image_at};
-ghost use Rattle.ov_session.specs.Chain.{EndsStore};
-ghost use Rattle.ov_session.specs.Stores.{IsNewInMemory, IsOfFiles};
+ghost use Rattle.ov_session.specs.Chain.{EndsOver, EndsStore};
+ghost use Rattle.ov_session.specs.Stores.{IsNewKeeper, IsOfFiles};
 
 use crate::clock::StillClock;
 use crate::session::{Ended, serve_over};
 use ov_base::Text;
 use ov_core::Schema;
 use ov_core::early::{Draws, KeepFault, Keeper};
+use ov_keeper::MapKeeper;
 use ov_serve::Clock;
-use ov_store::{MemoryDisk, Store, close_in_file, store_in_file, store_in_memory};
+use ov_store::{Store, close_in_file, store_in_file};
 use ov_words::{Ending, ending_of_keeping};
 use sqlite::{FileFrom, FileStore, Start};
 use std::alloc::Global;
 use std::io::{Read, Write};
 use std::sync::Wait;
 
-/// Serves one session of a new database in memory, as `serve_over` does. `text` is the schema's. Where no store could be made,
-/// nothing is read or written.
+/// Serves one session of a new database in memory, as `serve_over` does. `text` is the schema's. No device is below it, so what is
+/// promised of an honest one needs no premise here.
 pub fn serve_memory<R: Wait, D: Draws + Drop, I: Read + Drop, O: Write + Drop>(
     rt: &R,
     alloc: Global,
@@ -29,12 +30,13 @@ pub fn serve_memory<R: Wait, D: Draws + Drop, I: Read + Drop, O: Write + Drop>(
     input: I,
     output: O,
 ) -> Ending
-    ensures chain { (store : _) × (left : _) × IsNewInMemory text store
-        × EndsStore ⟦<Store<FileStore<MemoryDisk>> as Keeper>⟧ ⟦<StillClock as Clock>⟧.tells store schema draws
+    ensures chain { (keeper : _) × (left : _) × IsNewKeeper ⟦<MapKeeper as Keeper>⟧ text keeper
+        × EndsOver ⟦<MapKeeper as Keeper>⟧ ⟦<StillClock as Clock>⟧.tells keeper schema draws
         (I.remaining input) (O.contents output) result left }
+    ensures honest { (keeper : _) → ⟦<MapKeeper as Keeper>⟧.is_honest keeper }
 {
-    let store = store_in_memory(alloc, text);
-    serve_store(rt, alloc, store, schema, draws, input, output).ending
+    let keeper = MapKeeper::new(alloc, text);
+    serve_over(rt, alloc, keeper, schema, draws, input, output).ending
 }
 
 /// Serves one session of the database in the file at a path, as `serve_over` does. `text` is the schema's, and `start` stands for
