@@ -1,5 +1,5 @@
-//! Tests of what serves: rows, changes, stages, transactions and their commits, the machine, streams, and one session over a reader
-//! and a writer.
+//! Tests of what serves: rows, changes, stages, transactions and their commits, locks, monitors, the machine, streams, and one
+//! session over a reader and a writer.
 #![tactic(auto)]
 
 #[cfg(test)]
@@ -13,7 +13,11 @@ mod faults;
 #[cfg(test)]
 mod integrity;
 #[cfg(test)]
+mod locks;
+#[cfg(test)]
 mod machine;
+#[cfg(test)]
+mod monitors;
 #[cfg(test)]
 mod operations;
 #[cfg(test)]

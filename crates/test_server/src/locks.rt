@@ -1,0 +1,203 @@
+use ov_base::Bytes;
+use ov_locks::{LockFault, LockTable};
+use std::alloc::Global;
+use std::test::Fail;
+use test_support::{Scripted, agrees};
+
+/// The one that asks first is the owner. Who waits can't steal, and gives up waiting; nobody is told of that.
+const ONE_OWNER: &str = r#"owner L -> nobody
+lock 1 L -> locked
+lock 2 L -> waits
+lock 1 L -> lock already requested
+lock 2 L -> lock already requested
+owner L -> 1
+steal 2 L -> lock already requested
+unlock 2 L -> unlocked
+unlock 2 L -> lock not held
+unlock 3 L -> lock not held
+owner L -> 1
+unlock 1 L -> unlocked
+owner L -> nobody
+steal 2 L -> locked
+owner L -> 2"#;
+
+/// The former owner is told that it has lost the lock, and waits before all others. It is told again as it has it back. Where
+/// the lock is stolen twice, the last one that stole it gives it back to the one before.
+const STOLEN: &str = r#"lock 1 L -> locked
+lock 2 L -> waits
+steal 3 L -> 1 {"id":null,"method":"stolen","params":["L"]}
+owner L -> 3
+steal 3 L -> lock already requested
+steal 1 L -> lock already requested
+leave 3
+freed -> 1 {"id":null,"method":"locked","params":["L"]}
+freed
+owner L -> 1
+steal 4 L -> 1 {"id":null,"method":"stolen","params":["L"]}
+steal 3 L -> 4 {"id":null,"method":"stolen","params":["L"]}
+unlock 3 L -> 4 {"id":null,"method":"locked","params":["L"]}
+unlock 4 L -> 1 {"id":null,"method":"locked","params":["L"]}
+unlock 1 L -> 2 {"id":null,"method":"locked","params":["L"]}
+unlock 2 L -> unlocked
+owner L -> nobody"#;
+
+/// A session that leaves gives on all its locks, in ascending order of their names, and waits for none.
+const LEFT: &str = r#"lock 1 B -> locked
+lock 1 A -> locked
+lock 2 B -> waits
+lock 2 A -> waits
+lock 3 C -> locked
+lock 1 C -> waits
+leave 1
+leave 1
+freed -> 2 {"id":null,"method":"locked","params":["A"]}
+owner A -> 2
+owner B -> 2
+freed -> 2 {"id":null,"method":"locked","params":["B"]}
+freed
+unlock 3 C -> unlocked
+unlock 1 C -> lock not held
+leave 2
+freed
+owner A -> nobody"#;
+
+/// Locks behind a script. The commands are `lock SESSION NAME`, `steal SESSION NAME` and `unlock SESSION NAME`, answered with
+/// whom a frame is for, and the frame; `leave SESSION`; `freed`, the next one that is told of another's leaving; and `owner
+/// NAME`.
+#[derive(Drop)]
+struct Locks {
+    table: LockTable,
+}
+
+/// A session, and the frame that it is sent.
+fn sent(alloc: Global, session: u64, frame: Bytes) -> Result<String, Fail> {
+    let text = String::from_utf8(frame.into_vec())?;
+    Ok(format!(in alloc; "{session} {text}")?)
+}
+
+/// Whom a frame is for and the frame, if there is one, or why there is none.
+fn answered(
+    alloc: Global,
+    told: Result<Option<(u64, Bytes)>, LockFault>,
+    done: &str,
+) -> Result<String, Fail> {
+    match told {
+        Ok(Some((session, frame))) => sent(alloc, session, frame),
+        Ok(None) => Ok(String::from_str(alloc, done)?),
+        Err(fault) => Ok(format!(in alloc; "{fault}")?),
+    }
+}
+
+impl Locks {
+    fn lock(&mut self, alloc: Global, session: u64, name: &str) -> Result<String, Fail> {
+        match self.table.lock(alloc, session, name) {
+            Ok(true) => Ok(String::from_str(alloc, "locked")?),
+            Ok(false) => Ok(String::from_str(alloc, "waits")?),
+            Err(fault) => Ok(format!(in alloc; "{fault}")?),
+        }
+    }
+
+    fn freed(&mut self, alloc: Global) -> Result<String, Fail> {
+        match self.table.next_freed() {
+            Some((session, frame)) => sent(alloc, session, frame),
+            None => Ok(String::new(alloc)),
+        }
+    }
+
+    fn owner(&self, alloc: Global, name: &str) -> Result<String, Fail> {
+        match self.table.owner(name) {
+            Some(session) => Ok(format!(in alloc; "{session}")?),
+            None => Ok(String::from_str(alloc, "nobody")?),
+        }
+    }
+
+    /// What a session asks of the lock of this name.
+    fn asked(
+        &mut self,
+        alloc: Global,
+        word: &str,
+        session: u64,
+        name: &str,
+    ) -> Result<String, Fail> {
+        match word {
+            "lock" => self.lock(alloc, session, name),
+            "steal" => {
+                let told = self.table.steal(alloc, session, name);
+                answered(alloc, told, "locked")
+            }
+            _ => answered(alloc, self.table.unlock(session, name), "unlocked"),
+        }
+    }
+}
+
+impl Scripted for Locks {
+    fn answer(&mut self, alloc: Global, command: &str) -> Result<String, Fail> {
+        let (word, rest) = command.split_once(" ").unwrap_or((command, ""));
+        match word {
+            "freed" => self.freed(alloc),
+            "owner" => self.owner(alloc, rest),
+            "leave" => {
+                self.table.leave_all(rest.parse::<u64>()?);
+                Ok(String::new(alloc))
+            }
+            _ => {
+                let (session, name) = rest.split_once(" ").ok_or("no name")?;
+                self.asked(alloc, word, session.parse::<u64>()?, name)
+            }
+        }
+    }
+}
+
+/// Locks that nobody asked for do what the script says.
+fn ask(alloc: Global, script: &str) -> Result<(), Fail> {
+    let table = LockTable::new(alloc);
+    agrees(alloc, Locks { table }, script)
+}
+
+#[test]
+fn lock_has_one_owner(rt: HostRuntime) -> Result<(), Fail> {
+    ask(rt.alloc(), ONE_OWNER)
+}
+
+#[test]
+fn stolen_and_given_back(rt: HostRuntime) -> Result<(), Fail> {
+    ask(rt.alloc(), STOLEN)
+}
+
+#[test]
+fn locks_are_given_on_by_name(rt: HostRuntime) -> Result<(), Fail> {
+    ask(rt.alloc(), LEFT)
+}
+
+/// What comes of 256 requests and of one more: of every second lock the session waits for the other, which owns it.
+const TOO_MANY: &str = r#"lock 1 M -> resources exhausted
+steal 1 M -> resources exhausted
+lock 1 L7 -> lock already requested
+owner M -> nobody
+owner L254 -> 2
+owner L255 -> 1
+lock 2 M -> locked
+unlock 1 L254 -> unlocked
+lock 1 M -> waits
+lock 1 N -> resources exhausted
+leave 1
+lock 1 N -> locked"#;
+
+/// A session asks for 256 locks, of which it owns every second one.
+fn ask_for_many(alloc: Global, table: &mut LockTable) -> Result<(), Fail> {
+    for number in 0..256 {
+        let name = format!(in alloc; "L{number}")?;
+        if number % 2 == 0 {
+            table.lock(alloc, 2, name.as_str())?;
+        }
+        table.lock(alloc, 1, name.as_str())?;
+    }
+    Ok(())
+}
+
+#[test]
+fn a_session_asks_for_256_locks(rt: HostRuntime) -> Result<(), Fail> {
+    let mut table = LockTable::new(rt.alloc());
+    ask_for_many(rt.alloc(), &mut table)?;
+    agrees(rt.alloc(), Locks { table }, TOO_MANY)
+}

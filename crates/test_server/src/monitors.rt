@@ -1,0 +1,314 @@
+use ov_base::{Text, Trees};
+use ov_db::{Db, Delta, row_of};
+use ov_keeper::{Change, Line};
+use ov_rows::RowKey;
+use ov_stage::Stage;
+use ov_watch::Monitors;
+use serde_json::Value;
+use std::alloc::Global;
+use std::mem;
+use std::test::Fail;
+use test_support::{
+    Faults, NetKeeper, Scripted, agrees, compact, line_of, net, net_keeper, number, put_line,
+    remove_row, tree, value,
+};
+
+/// A row that comes, one whose name changes, and one that goes are told; a change of its load alone is not. Then the monitor is
+/// asked for again, and canceled twice.
+const ONE_COLUMN: &str = r#"monitor "m" {"Switch":[{"columns":["name"]}]} -> {}
+put 2 1 s1 0
+commit -> ["m",{"Switch":{"00000000-0000-0000-0000-000000000002":{"new":{"name":"s1"}}}}]
+put 2 3 s1 5
+commit
+put 2 4 s2 5
+commit -> ["m",{"Switch":{"00000000-0000-0000-0000-000000000002":{"new":{"name":"s2"},"old":{"name":"s1"}}}}]
+remove 2
+commit -> ["m",{"Switch":{"00000000-0000-0000-0000-000000000002":{"old":{"name":"s2"}}}}]
+monitor "m" {"Switch":[{"columns":["name"]}]} -> duplicate monitor id
+cancel "m" -> canceled
+cancel "m" -> unknown monitor
+put 2 5 s1 0
+commit"#;
+
+/// Of two requests for a table each tells of its columns at the kinds that it selects. A row that changes is told with all
+/// columns, and with the former values of those that have changed.
+const TWO_REQUESTS: &str = r#"put 2 1 s1 0
+commit
+monitor "m" {"Switch":[{"columns":["name"],"select":{"initial":false}},{"columns":["load"],"select":{"insert":false}}]} -> {"Switch":{"00000000-0000-0000-0000-000000000002":{"new":{"load":0}}}}
+put 4 3 s2 0
+commit -> ["m",{"Switch":{"00000000-0000-0000-0000-000000000004":{"new":{"name":"s2"}}}}]
+put 4 5 s2 5
+commit -> ["m",{"Switch":{"00000000-0000-0000-0000-000000000004":{"new":{"load":5,"name":"s2"},"old":{"load":0}}}}]
+put 2 6 s3 1
+remove 4
+commit -> ["m",{"Switch":{"00000000-0000-0000-0000-000000000002":{"new":{"load":1,"name":"s3"},"old":{"load":0,"name":"s1"}},"00000000-0000-0000-0000-000000000004":{"old":{"load":5,"name":"s2"}}}}]"#;
+
+/// What is selected at no kind is not told. A request without columns is about all but the identifier, and one of no columns
+/// tells that a row is there.
+const SELECTED: &str = r#"put 2 1 s1 0
+commit
+monitor 1 {"Switch":{"columns":["name"],"select":{"initial":false}}} -> {}
+monitor 2 {"Switch":{"select":{"insert":false,"delete":false,"modify":false}}} -> {"Switch":{"00000000-0000-0000-0000-000000000002":{"new":{"_version":["uuid","00000000-0000-0000-0000-000000000001"],"load":0,"main":["set",[]],"name":"s1","ports":["set",[]]}}}}
+monitor 3 {"Switch":{"columns":[]}} -> {"Switch":{"00000000-0000-0000-0000-000000000002":{"new":{}}}}
+monitor 4 {"Switch":[]} -> {}
+put 2 3 s2 0
+commit -> [1,{"Switch":{"00000000-0000-0000-0000-000000000002":{"new":{"name":"s2"},"old":{"name":"s1"}}}}]
+remove 2
+commit -> [1,{"Switch":{"00000000-0000-0000-0000-000000000002":{"old":{"name":"s2"}}}}] [3,{"Switch":{"00000000-0000-0000-0000-000000000002":{"old":{}}}}]"#;
+
+/// A row that comes and goes in one transaction, one that goes and comes as it was, and rows of other tables than those that
+/// are asked for.
+const UNTOLD: &str = r#"put 2 1 s1 0
+commit
+monitor 1 {"Switch":{"columns":["name"]},"Port":{}} -> {"Switch":{"00000000-0000-0000-0000-000000000002":{"new":{"name":"s1"}}}}
+monitor 2 {"Port":{}} -> {}
+monitor 3 {} -> {}
+put 5 4 s5 0
+remove 5
+commit
+remove 2
+put 2 6 s1 0
+commit
+commit
+put 3 7 s3 0
+commit -> [1,{"Switch":{"00000000-0000-0000-0000-000000000003":{"new":{"name":"s3"}}}}]"#;
+
+/// Any value names a monitor, and two are one where they are sent as the same text. Monitors are told in order of creation.
+const IDS: &str = r#"monitor null {"Switch":{"columns":["name"]}} -> {}
+monitor ["a",{"b":1,"a":2}] {"Switch":{"columns":["load"]}} -> {}
+monitor ["a",{"a":2,"b":1}] {} -> duplicate monitor id
+monitor "null" {} -> {}
+monitor null {} -> duplicate monitor id
+put 2 1 s1 0
+commit -> [null,{"Switch":{"00000000-0000-0000-0000-000000000002":{"new":{"name":"s1"}}}}] [["a",{"a":2,"b":1}],{"Switch":{"00000000-0000-0000-0000-000000000002":{"new":{"load":0}}}}]
+cancel null -> canceled
+monitor null {"Switch":{"columns":["name"],"select":{"initial":false}}} -> {}
+remove 2
+commit -> [["a",{"a":2,"b":1}],{"Switch":{"00000000-0000-0000-0000-000000000002":{"old":{"load":0}}}}] [null,{"Switch":{"00000000-0000-0000-0000-000000000002":{"old":{"name":"s1"}}}}]
+cancel ["a",{"a":2,"b":1}] -> canceled
+cancel "null" -> canceled
+cancel [null] -> unknown monitor"#;
+
+/// Requests that are built wrong are refused before a name that is in use, and this before tables and columns, which are
+/// looked at table by table.
+const REFUSED: &str = r#"monitor "m" {} -> {}
+monitor "m" {"Switch":{"columns":["name","name"]}} -> syntax error
+monitor "m" {"Switch":[{"columns":["name"]},{"columns":["load","name"]}]} -> syntax error
+monitor "m" {"Swich":[],"Switch":{"select":{"insert":1}}} -> syntax error
+monitor "m" {"Switch":{"columns":null}} -> syntax error
+monitor "m" [] -> syntax error
+monitor "m" {"Swich":[]} -> duplicate monitor id
+monitor "n" {"Swich":[],"Switch":{"columns":["nam"]}} -> unknown table
+monitor "n" {"Switch":{"columns":["nam"]},"Twitch":[]} -> unknown column
+cancel "n" -> unknown monitor"#;
+
+/// A database Net, and the monitors of a session, behind a script.
+///
+/// The commands are `monitor ID REQUESTS`, answered with what the monitor is told at first, or why there is none; `cancel ID`;
+/// the changes `put NUMBER VERSION NAME LOAD` and `remove NUMBER` of switches; and `commit`, answered with the params of each
+/// update that tells of these.
+#[derive(Drop)]
+struct Watching {
+    db: Db<NetKeeper>,
+    monitors: Monitors,
+    changes: Vec<Change>,
+}
+
+/// The line of a switch of this number, version, name and load.
+fn line_of_switch(alloc: Global, put: &str) -> Result<Line, Fail> {
+    let (number, rest) = put.split_once(" ").ok_or("no version")?;
+    let (version, rest) = rest.split_once(" ").ok_or("no name")?;
+    let (name, load) = rest.split_once(" ").ok_or("no load")?;
+    let body = format!(in alloc;
+        "{{\"load\":{load},\"main\":[\"set\",[]],\"name\":\"{name}\",\"ports\":[\"set\",[]]}}"
+    )?;
+    let text = format!(in alloc; "Switch {number} {version} {body}")?;
+    line_of(alloc, text.as_str())
+}
+
+/// The removal of the switch of this number.
+fn removal_of(alloc: Global, id: &str) -> Result<Change, Fail> {
+    let table = Text::from_str(alloc, "Switch")?;
+    let id = number(id)?;
+    Ok(Change::Remove { table, id })
+}
+
+/// Makes a change within a transaction.
+fn stage_change(
+    alloc: Global,
+    db: &Db<NetKeeper>,
+    stage: &mut Stage<'_>,
+    change: &Change,
+) -> Result<(), Fail> {
+    match change {
+        Change::Put(line) => {
+            let key = RowKey::new(alloc, line.table.as_str(), line.id)?;
+            let row = row_of(alloc, db.schema(), line)?;
+            stage.put(key, line.version, row.columns)?;
+        }
+        Change::Remove { table, id } => stage.remove(RowKey::new(alloc, table.as_str(), *id)?)?,
+    }
+    Ok(())
+}
+
+/// Commits a change.
+fn commit_change(alloc: Global, db: &mut Db<NetKeeper>, change: &Change) -> Result<(), Fail> {
+    match change {
+        Change::Put(line) => put_line(alloc, db, line)?,
+        Change::Remove { table, id } => remove_row(alloc, db, table.as_str(), *id)?,
+    };
+    Ok(())
+}
+
+/// Commits the changes, one after another.
+fn commit_each(alloc: Global, db: &mut Db<NetKeeper>, changes: &[Change]) -> Result<(), Fail> {
+    for change in changes {
+        commit_change(alloc, db, change)?;
+    }
+    Ok(())
+}
+
+/// The params of updates, with a space between them.
+fn text_of(alloc: Global, updates: Vec<Trees>) -> Result<String, Fail> {
+    let mut text = String::new(alloc);
+    for params in updates {
+        if !text.is_empty() {
+            text.push_str(" ")?;
+        }
+        text.push_str(compact(alloc, &params.into_tree())?.as_str())?;
+    }
+    Ok(text)
+}
+
+impl Watching {
+    /// Adds a monitor, and what it is told at first.
+    fn monitor(&mut self, alloc: Global, id: &str, requests: &str) -> Result<String, Fail> {
+        let id = tree(alloc, id)?;
+        let requests = value(alloc, requests)?;
+        let schema = self.db.schema();
+        if let Err(fault) = self.monitors.add(alloc, schema, id.copy()?, &requests) {
+            return Ok(String::from_str(alloc, fault.text())?);
+        }
+        match self.monitors.initial(alloc, &self.db, &id)? {
+            Some(told) => compact(alloc, &told),
+            None => Err(Fail::new("no monitor")),
+        }
+    }
+
+    fn cancel(&mut self, alloc: Global, id: &str) -> Result<String, Fail> {
+        let text = match self.monitors.cancel(alloc, &tree(alloc, id)?) {
+            Ok(()) => "canceled",
+            Err(fault) => fault.text(),
+        };
+        Ok(String::from_str(alloc, text)?)
+    }
+
+    /// The changes of a transaction that makes these.
+    fn delta(&self, alloc: Global) -> Result<Delta, Fail> {
+        let mut stage = Stage::new(alloc, self.db.rows());
+        for change in &self.changes {
+            stage_change(alloc, &self.db, &mut stage, change)?;
+        }
+        Ok(stage.into_delta())
+    }
+
+    /// What is told of the changes, which are committed.
+    fn commit(&mut self, alloc: Global) -> Result<String, Fail> {
+        let delta = self.delta(alloc)?;
+        let updates = self.monitors.updates(alloc, &self.db, &delta)?;
+        let changes = mem::replace(&mut self.changes, Vec::new(alloc));
+        commit_each(alloc, &mut self.db, changes.as_slice())?;
+        text_of(alloc, updates)
+    }
+}
+
+impl Scripted for Watching {
+    fn answer(&mut self, alloc: Global, command: &str) -> Result<String, Fail> {
+        let (word, rest) = command.split_once(" ").unwrap_or((command, ""));
+        match word {
+            "monitor" => {
+                let (id, requests) = rest.split_once(" ").ok_or("no requests")?;
+                return self.monitor(alloc, id, requests);
+            }
+            "cancel" => return self.cancel(alloc, rest),
+            "put" => self
+                .changes
+                .push(Change::Put(line_of_switch(alloc, rest)?))?,
+            "remove" => self.changes.push(removal_of(alloc, rest)?)?,
+            _ => return self.commit(alloc),
+        }
+        Ok(String::new(alloc))
+    }
+}
+
+/// A new database, and these monitors.
+fn watched_by(alloc: Global, monitors: Monitors) -> Result<Watching, Fail> {
+    let keeper = net_keeper(alloc, Faults::NONE)?;
+    Ok(Watching {
+        db: Db::open(alloc, keeper, net(alloc)?)?,
+        monitors,
+        changes: Vec::new(alloc),
+    })
+}
+
+/// The monitors of a new database tell what the script says.
+fn watches(alloc: Global, script: &str) -> Result<(), Fail> {
+    agrees(alloc, watched_by(alloc, Monitors::new(alloc))?, script)
+}
+
+#[test]
+fn a_monitor_tells_of_each_change(rt: HostRuntime) -> Result<(), Fail> {
+    watches(rt.alloc(), ONE_COLUMN)
+}
+
+#[test]
+fn each_request_tells_of_its_columns(rt: HostRuntime) -> Result<(), Fail> {
+    watches(rt.alloc(), TWO_REQUESTS)
+}
+
+#[test]
+fn what_is_not_selected_is_not_told(rt: HostRuntime) -> Result<(), Fail> {
+    watches(rt.alloc(), SELECTED)
+}
+
+#[test]
+fn what_is_undone_in_one_transaction_is_not_told(rt: HostRuntime) -> Result<(), Fail> {
+    watches(rt.alloc(), UNTOLD)
+}
+
+#[test]
+fn monitor_ids(rt: HostRuntime) -> Result<(), Fail> {
+    watches(rt.alloc(), IDS)
+}
+
+#[test]
+fn monitors_are_refused_in_order(rt: HostRuntime) -> Result<(), Fail> {
+    watches(rt.alloc(), REFUSED)
+}
+
+/// What comes of one monitor more than there may be.
+const TOO_MANY: &str = r#"monitor 64 {"Switch":1} -> syntax error
+monitor 63 {} -> duplicate monitor id
+monitor 64 {"Swich":[]} -> resources exhausted
+cancel 7 -> canceled
+monitor 64 {"Swich":[]} -> unknown table
+monitor 64 {} -> {}
+monitor 7 {} -> resources exhausted"#;
+
+/// As many monitors as a session may have.
+fn many(alloc: Global) -> Result<Monitors, Fail> {
+    let schema = net(alloc)?;
+    let nothing = Value::from_str(alloc, "{}")?;
+    let mut monitors = Monitors::new(alloc);
+    for number in 0..64 {
+        let id = format!(in alloc; "{number}")?;
+        monitors.add(alloc, &schema, tree(alloc, id.as_str())?, &nothing)?;
+    }
+    Ok(monitors)
+}
+
+#[test]
+fn a_session_has_64_monitors(rt: HostRuntime) -> Result<(), Fail> {
+    let monitors = many(rt.alloc())?;
+    agrees(rt.alloc(), watched_by(rt.alloc(), monitors)?, TOO_MANY)
+}
