@@ -13,12 +13,12 @@ use std::env;
 use std::env::Env;
 use std::io::{ErrorKind, Read, Write};
 use std::random::RandomSource;
-use std::rt::Files;
+use std::rt::{Clock, Files};
 use std::sync::Wait;
 
 /// Runs the program, and tells how it ends. Faults are looked for in the arguments, then in the schema, then in the database.
 /// `start` stands for what the database's file and its log hold.
-pub fn run<R: Wait + RandomSource, S: Start, I: Read + Drop, O: Write + Drop>(
+pub fn run<R: Wait + RandomSource + Clock, S: Start, I: Read + Drop, O: Write + Drop>(
     host: &HostRuntime,
     rt: &R,
     start: S,

@@ -1,13 +1,14 @@
 ghost use Rattle.std.specs.Prelude.{◌≢◌};
 ghost use Rattle.ov_session.specs.Chain.{EndsChain, EndsOver, EndsSession, ends, reader_state, writer_state};
 
-use crate::clock::StillClock;
+use crate::clock::MonotonicClock;
 use ov_core::early::{Draws, Keeper};
 use ov_core::{Core, Schema};
 use ov_serve::{Clock, Sink, Source, Watched, serve_one};
 use ov_words::{Ending, ending_of_cause, ending_of_open, ending_of_step};
 use std::alloc::Global;
 use std::io::{BufWriter, Read, Write};
+use std::rt::Clock as SystemClock;
 use std::sync::Wait;
 
 /// How a session ended, and the keeper of its database, given back.
@@ -18,19 +19,18 @@ pub struct Ended<K> {
 }
 
 /// Serves one session of the database that a keeper holds under a schema, over a reader and a writer of std's: what comes is
-/// what the reader had, and what is sent is what the writer was given. The clock stands still.
+/// what the reader had, and what is sent is what the writer was given. The moments are milliseconds from the call on.
 ///
 /// Where memory for the writer's buffer is refused, the database is not opened.
-pub fn serve_over<R: Wait, K: Keeper + Drop, D: Draws + Drop, I: Read + Drop, O: Write + Drop>(
-    rt: &R,
-    alloc: Global,
-    keeper: K,
-    schema: Schema,
-    draws: D,
-    input: I,
-    output: O,
-) -> Ended<K>
-    ensures chain { EndsOver K.Keeper ⟦<StillClock as Clock>⟧.tells keeper schema draws (I.remaining input) (O.contents output)
+pub fn serve_over<
+    'a,
+    R: Wait + SystemClock,
+    K: Keeper + Drop,
+    D: Draws + Drop,
+    I: Read + Drop,
+    O: Write + Drop,
+>(rt: &'a R, alloc: Global, keeper: K, schema: Schema, draws: D, input: I, output: O) -> Ended<K>
+    ensures chain { EndsOver K.Keeper ⟦<MonotonicClock<'a, R> as Clock>⟧.tells keeper schema draws (I.remaining input) (O.contents output)
         result.ending result.keeper }
     ensures kind { (result.ending ≢ Ending.Arguments) × (result.ending ≢ Ending.Schema) }
 {
@@ -50,7 +50,7 @@ pub fn serve_over<R: Wait, K: Keeper + Drop, D: Draws + Drop, I: Read + Drop, O:
         draws,
         &mut reader,
         &mut writer,
-        &mut StillClock,
+        &mut MonotonicClock::new(rt),
     )
 }
 

@@ -5,7 +5,7 @@ ghost use Rattle.sqlite_wal.specs.Files.{image_at};
 ghost use Rattle.ov_session.specs.Chain.{EndsOver, EndsStore};
 ghost use Rattle.ov_session.specs.Stores.{IsNewKeeper, IsOfFiles};
 
-use crate::clock::StillClock;
+use crate::clock::MonotonicClock;
 use crate::session::{Ended, serve_over};
 use ov_base::Text;
 use ov_core::Schema;
@@ -17,12 +17,13 @@ use ov_words::{Ending, ending_of_keeping};
 use sqlite::{FileFrom, FileStore, Start};
 use std::alloc::Global;
 use std::io::{Read, Write};
+use std::rt::Clock as SystemClock;
 use std::sync::Wait;
 
 /// Serves one session of a new database in memory, as `serve_over` does. `text` is the schema's. No device is below it, so what is
 /// promised of an honest one needs no premise here.
-pub fn serve_memory<R: Wait, D: Draws + Drop, I: Read + Drop, O: Write + Drop>(
-    rt: &R,
+pub fn serve_memory<'a, R: Wait + SystemClock, D: Draws + Drop, I: Read + Drop, O: Write + Drop>(
+    rt: &'a R,
     alloc: Global,
     text: Text,
     schema: Schema,
@@ -31,7 +32,7 @@ pub fn serve_memory<R: Wait, D: Draws + Drop, I: Read + Drop, O: Write + Drop>(
     output: O,
 ) -> Ending
     ensures chain { (keeper : _) × (left : _) × IsNewKeeper ⟦<MapKeeper as Keeper>⟧ text keeper
-        × EndsOver ⟦<MapKeeper as Keeper>⟧ ⟦<StillClock as Clock>⟧.tells keeper schema draws
+        × EndsOver ⟦<MapKeeper as Keeper>⟧ ⟦<MonotonicClock<'a, R> as Clock>⟧.tells keeper schema draws
         (I.remaining input) (O.contents output) result left }
     ensures honest { (keeper : _) → ⟦<MapKeeper as Keeper>⟧.is_honest keeper }
 {
@@ -42,9 +43,16 @@ pub fn serve_memory<R: Wait, D: Draws + Drop, I: Read + Drop, O: Write + Drop>(
 /// Serves one session of the database in the file at a path, as `serve_over` does. `text` is the schema's, and `start` stands for
 /// what the file and its log held. Where the session ended by its input or by its streams, the file is then closed: it has the
 /// whole, with no log beside it, unless the system refuses that. Where the file is refused, nothing is read or written.
-pub fn serve_file<R: Wait, S: Start, D: Draws + Drop, I: Read + Drop, O: Write + Drop>(
+pub fn serve_file<
+    'a,
+    R: Wait + SystemClock,
+    S: Start,
+    D: Draws + Drop,
+    I: Read + Drop,
+    O: Write + Drop,
+>(
     host: &HostRuntime,
-    rt: &R,
+    rt: &'a R,
     path: &str,
     start: S,
     text: Text,
@@ -54,7 +62,7 @@ pub fn serve_file<R: Wait, S: Start, D: Draws + Drop, I: Read + Drop, O: Write +
     output: O,
 ) -> Ending
     ensures chain { (store : _) × (left : _) × IsOfFiles (image_at S.Start) text store
-        × EndsStore ⟦<Store<FileStore<FileFrom<S>>> as Keeper>⟧ ⟦<StillClock as Clock>⟧.tells store schema draws
+        × EndsStore ⟦<Store<FileStore<FileFrom<S>>> as Keeper>⟧ ⟦<MonotonicClock<'a, R> as Clock>⟧.tells store schema draws
         (I.remaining input) (O.contents output) result left }
 {
     let store = store_in_file(host, path, text, start);
@@ -78,8 +86,15 @@ pub fn serve_file<R: Wait, S: Start, D: Draws + Drop, I: Read + Drop, O: Write +
 }
 
 /// Serves one session of a store, where it could be opened.
-fn serve_store<R: Wait, K: Keeper + Drop, D: Draws + Drop, I: Read + Drop, O: Write + Drop>(
-    rt: &R,
+fn serve_store<
+    'a,
+    R: Wait + SystemClock,
+    K: Keeper + Drop,
+    D: Draws + Drop,
+    I: Read + Drop,
+    O: Write + Drop,
+>(
+    rt: &'a R,
     alloc: Global,
     store: Result<K, KeepFault>,
     schema: Schema,
@@ -87,7 +102,7 @@ fn serve_store<R: Wait, K: Keeper + Drop, D: Draws + Drop, I: Read + Drop, O: Wr
     input: I,
     output: O,
 ) -> Ended<Option<K>>
-    ensures chain { EndsStore K.Keeper ⟦<StillClock as Clock>⟧.tells store schema draws (I.remaining input) (O.contents output)
+    ensures chain { EndsStore K.Keeper ⟦<MonotonicClock<'a, R> as Clock>⟧.tells store schema draws (I.remaining input) (O.contents output)
         result.ending result.keeper }
 {
     match store {
