@@ -33,4 +33,6 @@ mod transact;
 #[cfg(test)]
 mod values;
 #[cfg(test)]
+mod waits;
+#[cfg(test)]
 mod watched;
