@@ -1,14 +1,14 @@
 ghost use Rattle.std.specs.Prelude.{◌≡◌, [], true, false, is_some, IfOk, OnOk, OnErr, None};
 ghost use Rattle.std.specs.FinMap.{get, contains_key};
 ghost use Rattle.std.specs.Ordering.{eq_by_cmp};
-ghost use Rattle.ov_specs.specs.rows.Lines.{LineKey, Lines, line_cmp, after_changes};
-ghost use Rattle.ov_keeper.specs.Views.{change_view, changes_view};
+ghost use Rattle.ov_specs.specs.rows.Lines.{LineKey, Lines, line_cmp, after_change, after_changes};
+ghost use Rattle.ov_keeper.specs.Views.{change_view, changes_view, line_entry};
 ghost use Rattle.ov_keeper.specs.Changing.{applied, noted, with_line};
 ghost use Rattle.ov_keeper.specs.Placing.{IsPlaced, IsSameBeside, lent_keys, without_lines};
 
 use crate::key::PlaceKey;
 use crate::key_map::KeyMap;
-use crate::line::Change;
+use crate::line::{Change, Line};
 use crate::stored::Stored;
 use ov_base::Bytes;
 use std::alloc::{AllocError, Global};
@@ -16,6 +16,39 @@ use uuid::Uuid;
 
 /// Makes all changes, in order, or none. The time follows the changes: that of each grows with the logarithm of the size.
 pub(crate) fn make_all(
+    alloc: Global,
+    lines: &mut KeyMap<Stored>,
+    changes: &[Change],
+) -> Result<(), AllocError>
+    ensures ok { OnOk result (lines.new ≡ after_changes (changes_view changes.now) lines.old) }
+    ensures err { OnErr result (lines.new ≡ lines.old) }
+{
+    if changes.len() == 1 {
+        return make_only(alloc, lines, &changes[0]);
+    }
+    make_several(alloc, lines, changes)
+}
+
+/// Makes one change alone, which needs no room beforehand: nothing is changed where its own growth is refused.
+fn make_only(alloc: Global, lines: &mut KeyMap<Stored>, change: &Change) -> Result<(), AllocError>
+    ensures ok { OnOk result (lines.new ≡ after_change (change_view change.now) lines.old) }
+    ensures err { OnErr result (lines.new ≡ lines.old) }
+{
+    match change {
+        Change::Put(line) => {
+            let key = PlaceKey::new(alloc, line.table.as_str(), line.id)?;
+            lines.insert(key, stored_of(alloc, line)?)
+        }
+        Change::Remove { table, id } => {
+            let key = PlaceKey::new(alloc, table.as_str(), *id)?;
+            lines.remove(&key);
+            Ok(())
+        }
+    }
+}
+
+/// Makes all changes, in order, or none.
+fn make_several(
     alloc: Global,
     lines: &mut KeyMap<Stored>,
     changes: &[Change],
@@ -49,6 +82,16 @@ fn delta_of(alloc: Global, changes: &[Change]) -> Result<KeyMap<Option<Stored>>,
     Ok(delta)
 }
 
+/// What the line has beside its key.
+fn stored_of(alloc: Global, line: &Line) -> Result<Stored, AllocError>
+    ensures { IfOk result (λ stored. stored ≡ (line_entry line.now).1) }
+{
+    Ok(Stored {
+        version: line.version,
+        body: Bytes::from_slice(alloc, line.body.as_slice())?,
+    })
+}
+
 /// Notes a change in place of the one of its key.
 fn note(
     alloc: Global,
@@ -60,11 +103,7 @@ fn note(
     match change {
         Change::Put(line) => {
             let key = PlaceKey::new(alloc, line.table.as_str(), line.id)?;
-            let stored = Stored {
-                version: line.version,
-                body: Bytes::from_slice(alloc, line.body.as_slice())?,
-            };
-            delta.insert(key, Some(stored))
+            delta.insert(key, Some(stored_of(alloc, line)?))
         }
         Change::Remove { table, id } => {
             let key = PlaceKey::new(alloc, table.as_str(), *id)?;

@@ -1,6 +1,6 @@
 use Rattle.std.proofs.Common.{◌∙◌}
 use Rattle.ov_keeper.proofs.Places.{applied-same}
-use Rattle.ov_keeper.proofs.changing.make_all.Goals as goal
+use Rattle.ov_keeper.proofs.changing.make_several.Goals as goal
 
 pub returns-in-Ok-clause-ok : goal.returns-in-Ok-clause-ok
 returns-in-Ok-clause-ok c =
