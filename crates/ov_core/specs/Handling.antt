@@ -1,4 +1,5 @@
--- What comes of the work on a message, and of a try of a transaction: what the machine makes of it. What names no source is our own.
+-- What comes of the work on a message, and of a try of a transaction: what the machine makes of it. What names no source is our
+-- own.
 use Rattle.std.specs.Prelude.{◌≡◌, ℕ, ◌≤◌, List, [], ◌∷◌, ◌++◌, length, map, filter, not, codes, true, false, is_some, Option, Some, None, option_map, option_to_list}
 use Rattle.serde_json.specs.Data.{Data, Items}
 use Rattle.serde_json.specs.Written.{compact_text}
@@ -57,8 +58,8 @@ AsksStore failed (Some outcome.Exhausted) old new = new.sealed ≡ old.sealed
 AsksStore failed (Some outcome.NoMemory) old new = new ≡ old
 AsksStore failed None old new = new ≡ old
 
--- What attempts leave of it, by what is listed of them: without an answer of the store the keeper is as before, and that the store
--- failed, and that the database is sealed now and was not, has a cause.
+-- What attempts leave of it, by what is listed of them: without an answer of the store the keeper is as before, and that the
+-- store failed, and that the database is sealed now and was not, has a cause.
 pub record AsksAll {K : Type 0} (failed : K → ℕ) (attempts : List machine.Attempt) (old new : KeptDatabase K) : Type 0 where
   pub unasked : some_outcome is_of_store attempts ≡ false → new.keeper ≡ old.keeper
   pub failure : some_outcome is_failure attempts ≡ true → HasFailed (failed old.keeper) (failed new.keeper)
@@ -75,8 +76,8 @@ listed_of o = option_map outcome_view o
 abbrev pub with_db : {K : Type 0} → State → KeptDatabase K → State
 with_db s kept = record s { schema = kept.schema; database = kept.committed; sealed = kept.sealed }
 
--- A transaction that comes to this on the database completes: in every state over the database the machine comes to the state over
--- the database as it is now, and what it sends waits behind what waited.
+-- A transaction that comes to this on the database completes: in every state over the database the machine comes to the state
+-- over the database as it is now, and what it sends waits behind what waited.
 pub record IsCompleted {K : Type 0} (session : ℕ) (id : Data) (on : TransactionOutcome) (old : KeptDatabase K) (waited : WaitingFrames) (o : Option Outcome) (new : KeptDatabase K) (waits : WaitingFrames) : Type 0 where
   pub results : Items
   pub database : Database
@@ -104,8 +105,8 @@ pub record Stays {K : Type 0} (old new : Live K) : Type 0 where
   pub same : new ≡ record old { outbox = new.outbox; tries = new.tries }
   pub frames : HasSameFrames old.outbox new.outbox
 
--- The work was done, at the moment: it is what the machine does, and what it sends waits behind what waited. Where the store kept a
--- change, the same transactions wait.
+-- The work was done, at the moment: it is what the machine does, and what it sends waits behind what waited. Where the store kept
+-- a change, the same transactions wait.
 pub record WorkIsDone {K : Type 0} (moment session : ℕ) (work : Work) (draws : List Uuid) (old : Live K) (o : Option Outcome) (new : Live K) : Type 0 where
   pub sent : List Sent
   pub works : works (state_of old moment) session draws (listed_of o) work ≡ Some (record { state = state_of new moment; sent = sent })

@@ -84,7 +84,8 @@ StepIs draws at event old answer.Closed new = IsEntered draws at event old answe
 abbrev pub closing : ℕ → ℕ → machine.Cause → machine.Entry
 closing at session cause = record { event = machine.Close session cause; choice = record { moment = at; draws = []; outcomes = [] } }
 
--- The session was closed, nothing was drawn or tried, and the store was not asked. No queue is kept of it where nothing waits for it.
+-- The session was closed, nothing was drawn or tried, and the store was not asked. No queue is kept of it where nothing waits for
+-- it.
 pub record Closes {K D : Type 0} (at session : ℕ) (cause : machine.Cause) (old new : CoreState K D) : Type 0 where
   pub moves : EntersEntry old (closing at session cause) new
   pub shut : is_open new.state session ≡ false

@@ -85,8 +85,8 @@ fn only_tree(trees: Trees) -> Option<Tree>
     Some(Tree::new(items.remove(0)))
 }
 
-/// What a transaction on this database asks for: it is tried, unless one of its session with this id waits, or as many of its session
-/// as may. Where none waits this takes no memory.
+/// What a transaction on this database asks for: it is tried, unless one of its session with this id waits, or as many of its
+/// session as may. Where none waits this takes no memory.
 fn transact_work(
     alloc: Global,
     waiting: &Waiting,

@@ -63,8 +63,8 @@ pub(crate) fn try_once<K: Keeper + Drop>(
     }
 }
 
-/// Where the store did not keep the changes, puts the frame for its answer in place of that for a commit that is kept. It takes no
-/// memory.
+/// Where the store did not keep the changes, puts the frame for its answer in place of that for a commit that is kept. It takes
+/// no memory.
 fn after_store(
     outbox: &mut Outbox,
     session: u64,

@@ -13,8 +13,8 @@ pub(crate) fn entry_without_choice(alloc: Global, moment: u64, event: Event<Mess
     entry_with_choice(alloc, moment, event, Vec::new(alloc), Vec::new(alloc))
 }
 
-/// An entry with the identifiers that were drawn for it, and with what came of its attempts. Where none is listed it keeps no room
-/// for them.
+/// An entry with the identifiers that were drawn for it, and with what came of its attempts. Where none is listed it keeps no
+/// room for them.
 pub(crate) fn entry_with_choice(
     alloc: Global,
     moment: u64,

@@ -34,8 +34,8 @@ pub enum Cause {
 pub enum Event<M> {
     /// A session opens, with the next serial.
     Open,
-    /// A message of a session is taken, and answered at once if it is answered (RFC 7047, 4.1). Only a transaction that is blocked
-    /// waits; it is answered when another event settles it (4.1.3), or when it is canceled (4.1.4).
+    /// A message of a session is taken, and answered at once if it is answered (RFC 7047, 4.1). Only a transaction that is
+    /// blocked waits; it is answered when another event settles it (4.1.3), or when it is canceled (4.1.4).
     Take(Session, M),
     /// A session is closed, and with it go its transactions that wait. The frames that wait for it still wait.
     Close(Session, Cause),

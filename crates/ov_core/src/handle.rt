@@ -151,8 +151,8 @@ impl<K: Keeper + Drop> Live<K> {
         }
     }
 
-    /// Lets a transaction that is blocked as it arrives wait behind the others, where there is memory for it and for a copy of its
-    /// identifiers.
+    /// Lets a transaction that is blocked as it arrives wait behind the others, where there is memory for it and for a copy of
+    /// its identifiers.
     fn wait(
         &mut self,
         alloc: Global,

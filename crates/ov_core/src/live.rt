@@ -12,8 +12,8 @@ use ov_keeper::Keeper;
 use ov_txn::Tries;
 use std::alloc::Global;
 
-/// What an event changes beside the history: the database, the open sessions, the transactions that wait, the frames that wait, and
-/// how many attempts were made.
+/// What an event changes beside the history: the database, the open sessions, the transactions that wait, the frames that wait,
+/// and how many attempts were made.
 #[derive(Drop)]
 pub(crate) struct Live<K: Keeper> {
     pub database: Db<K>,

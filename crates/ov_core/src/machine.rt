@@ -126,15 +126,15 @@ impl<K: Keeper + Drop, D: Draws + Drop> Core<K, D> {
     ///
     /// A transaction that is blocked waits, behind those that wait already, until it can be answered (RFC 7047, 4.1.3, 5.2.6). At
     /// most 64 of a session wait, each with an id of its own; one more is answered `resources exhausted`, and one with an id that
-    /// waits `duplicate request id`, and neither is tried. After an attempt that changed the database, and at a `Tick`, those that
-    /// wait are tried in order of arrival, from the first again after each that changed it, until a whole pass changes nothing.
-    /// Where memory is refused for one of them, its session is closed. The note `cancel` answers the canceled one with `canceled`
-    /// (4.1.4). With n that wait, a step makes at most 1 + n(n+1)/2 attempts.
+    /// waits `duplicate request id`, and neither is tried. After an attempt that changed the database, and at a `Tick`, those
+    /// that wait are tried in order of arrival, from the first again after each that changed it, until a whole pass changes
+    /// nothing. Where memory is refused for one of them, its session is closed. The note `cancel` answers the canceled one with
+    /// `canceled` (4.1.4). With n that wait, a step makes at most 1 + n(n+1)/2 attempts.
     ///
-    /// An `Open` is refused as `TooMany` while 64 sessions are open and where no serial is left, else only as `Memory`; a `Take` or
-    /// a `Close` as `NotOpen` where its session is not open; a `Tick` only as `Memory`, and only while transactions wait. A `Take`
-    /// for which memory is refused closes its session. A refused step changes nothing. The history has room for the entry, and
-    /// keeps the message's text as it came.
+    /// An `Open` is refused as `TooMany` while 64 sessions are open and where no serial is left, else only as `Memory`; a `Take`
+    /// or a `Close` as `NotOpen` where its session is not open; a `Tick` only as `Memory`, and only while transactions wait. A
+    /// `Take` for which memory is refused closes its session. A refused step changes nothing. The history has room for the entry,
+    /// and keeps the message's text as it came.
     pub fn step(&mut self, alloc: Global, moment: u64, event: Event<Received>) -> Stepped
         ensures { StepIs D.draws (max moment self.old.state.moment) (event_view event) self.old result self.new }
     {
@@ -153,8 +153,8 @@ impl<K: Keeper + Drop, D: Draws + Drop> Core<K, D> {
         }
     }
 
-    /// Closes the session at the last moment, and drops its transactions that wait; false where it is not open, and then nothing is
-    /// changed. The frames that wait for it still wait. It takes no memory.
+    /// Closes the session at the last moment, and drops its transactions that wait; false where it is not open, and then nothing
+    /// is changed. The frames that wait for it still wait. It takes no memory.
     pub fn close(&mut self, session: Session, cause: Cause) -> bool
         ensures { MatchBool result
             (Closes self.old.state.moment session.serial (cause_view cause) self.old self.new)
@@ -193,9 +193,9 @@ impl<K: Keeper + Drop, D: Draws + Drop> Core<K, D> {
         self.live.sessions.next_serial()
     }
 
-    /// When the first of the transactions that wait times out, in milliseconds: the least sum of a moment of arrival and the timeout of
-    /// the wait that blocked the last try (RFC 7047, 5.2.6). None where none does; a sum beyond 2^64-1 is left out. A `Tick` at this
-    /// moment answers it. It takes no memory.
+    /// When the first of the transactions that wait times out, in milliseconds: the least sum of a moment of arrival and the
+    /// timeout of the wait that blocked the last try (RFC 7047, 5.2.6). None where none does; a sum beyond 2^64-1 is left out. A
+    /// `Tick` at this moment answers it. It takes no memory.
     pub fn due(&self) -> Option<u64>
         ensures { result ≡ due self.now.state }
     {

@@ -18,10 +18,10 @@ use ov_txn::Tries;
 use std::alloc::Global;
 
 impl<K: Keeper + Drop> Live<K> {
-    /// Settles the transactions that wait: they are tried in order of arrival, and again from the first after each that changed the
-    /// database, until a whole pass changes nothing (our own, over RFC 7047, 4.1.3). The first try is the attempt of this number of
-    /// its event. A transaction waits no more once it is answered; where memory is refused for it, its session is closed. Where
-    /// none waits nothing is done.
+    /// Settles the transactions that wait: they are tried in order of arrival, and again from the first after each that changed
+    /// the database, until a whole pass changes nothing (our own, over RFC 7047, 4.1.3). The first try is the attempt of this
+    /// number of its event. A transaction waits no more once it is answered; where memory is refused for it, its session is
+    /// closed. Where none waits nothing is done.
     pub fn settle(&mut self, alloc: Global, moment: u64, first: u64, attempts: &mut Vec<Attempt>)
         requires untried { self.old.waiting.untried ≡ [] }
         requires room { vec_len attempts.old + length self.old.waiting.outstanding ≤ vec_capacity attempts.old }
@@ -35,8 +35,8 @@ impl<K: Keeper + Drop> Live<K> {
         }
     }
 
-    /// Tries the next of those that this pass has still to try; one whose session was closed on the way is dropped instead. Answers
-    /// the number of the next attempt.
+    /// Tries the next of those that this pass has still to try; one whose session was closed on the way is dropped instead.
+    /// Answers the number of the next attempt.
     fn try_next(
         &mut self,
         alloc: Global,

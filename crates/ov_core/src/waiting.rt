@@ -16,8 +16,8 @@ use std::mem;
 /// The most transactions that wait: 64 of each of 64 sessions.
 const MOST_OUTSTANDING: usize = 4096;
 
-/// The transactions that wait, in order of arrival. While they are settled, those that the pass has still to try stand before them
-/// in a queue of their own. Each queue has room for all, so that settling takes no memory for them.
+/// The transactions that wait, in order of arrival. While they are settled, those that the pass has still to try stand before
+/// them in a queue of their own. Each queue has room for all, so that settling takes no memory for them.
 #[derive(Drop)]
 pub(crate) struct Waiting {
     untried: VecDeque<Outstanding>,
@@ -119,8 +119,8 @@ impl Waiting {
         mem::swap(&mut self.untried, &mut self.outstanding);
     }
 
-    /// A pass ends where it is, and the next one begins: those that it has not tried wait behind the others, if their sessions are
-    /// open, and then all are to be tried.
+    /// A pass ends where it is, and the next one begins: those that it has not tried wait behind the others, if their sessions
+    /// are open, and then all are to be tried.
     pub fn begin_again(&mut self, sessions: &Sessions)
         ensures { self.new ≡ record {
           untried = self.old.outstanding ++ filter (λ o. list_any (λ n. n.serial == o.session) (sessions_of sessions.now.open_sessions)) self.old.untried;
