@@ -33,6 +33,4 @@ mod transact;
 #[cfg(test)]
 mod values;
 #[cfg(test)]
-mod waits;
-#[cfg(test)]
 mod watched;

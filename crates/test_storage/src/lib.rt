@@ -10,8 +10,6 @@ mod files;
 #[cfg(test)]
 mod keepers;
 #[cfg(test)]
-mod maps;
-#[cfg(test)]
 mod opens;
 #[cfg(test)]
 mod refusals;
