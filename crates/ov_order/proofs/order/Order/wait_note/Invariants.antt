@@ -1,0 +1,6 @@
+use Rattle.std.proofs.Common.{◌≡◌}
+use Rattle.ov_order.proofs.order.Order.wait_note.Given as goal
+
+-- Until the note is in, the share is as it was.
+abbrev pub invariant-loop : goal.invariant-loop
+invariant-loop g l = (l.share.amount ≡ l.initial.share.amount) × (l.share.parts ≡ l.initial.share.parts)

@@ -1,0 +1,2 @@
+pub mod OrderBook
+pub mod Rings

@@ -1,0 +1,28 @@
+-- The order in which sessions are served. It is our own.
+use Rattle.std.specs.Prelude.{◌≡◌, ℕ, ◌+◌, ◌-◌, ◌^◌, ◌<◌, Bool, List, [], ◌∷◌, ◌++◌, length, Option}
+
+-- how many notes may wait
+abbrev pub note_limit : ℕ
+note_limit = 4160
+
+-- the serials noted and not yet taken, the oldest first; how many were taken; and whether the workers may begin, if that was said
+pub record OrderBook : Type 0 where
+  pub waiting : List ℕ
+  pub taken : ℕ
+  pub begun : Option Bool
+
+-- how many serials were noted
+abbrev pub noted : OrderBook → ℕ
+noted b = b.taken + length b.waiting
+
+-- a serial can be noted
+abbrev pub HasRoom : OrderBook → Type 0
+HasRoom b = (length b.waiting < note_limit) × (noted b < 2 ^ 64 - 1)
+
+-- the serial was noted
+abbrev pub NotesMore : ℕ → OrderBook → OrderBook → Type 0
+NotesMore serial b b' = b' ≡ record { waiting = b.waiting ++ serial ∷ []; taken = b.taken; begun = b.begun }
+
+-- the serial was taken, which was the oldest
+abbrev pub Takes : ℕ → OrderBook → OrderBook → Type 0
+Takes serial b b' = b ≡ record { waiting = serial ∷ b'.waiting; taken = b.taken; begun = b'.begun } × (b'.taken ≡ b.taken + 1)

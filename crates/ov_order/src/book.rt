@@ -1,0 +1,114 @@
+ghost use Rattle.std.specs.Prelude.{◌≡◌, ◌+◌, ◌<◌, ◌↔◌, [], ◌∷◌, ◌++◌, None, Some, IsTrue, IfOk, IfNone, IfSome, MatchBool};
+ghost use Rattle.ov_order.specs.OrderBook.{noted, HasRoom, NotesMore, Takes};
+
+use std::alloc::{AllocError, Global};
+use std::collections::VecDeque;
+use std::marker::Model;
+use std::sync::ledger::{Book, Ledger, Share};
+
+/// How many notes may wait: one for each of 64 items in 65 rings, those of 64 sessions and one of accepted connections.
+const NOTE_LIMIT: usize = 4_160;
+
+/// The notes of the workers, the oldest first, and whether the workers may begin. Contracts see the notes that wait, how many
+/// were taken, and what was said of the beginning.
+///
+/// The number noted is the number taken and the number waiting together. It is also the total of the ledger `L`: each worker
+/// that notes holds a share of it, so the shares of all of them together add up to the number noted.
+#[derive(Drop)]
+pub struct OrderBook<L: Ledger> {
+    waiting: VecDeque<u64>,
+    taken: u64,
+    noted: u64,
+    begun: Option<bool>,
+    ledger: Book<L>,
+}
+
+impl<L: Ledger> Model for OrderBook<L> {
+    ghost use Rattle.std.specs.Prelude.{◌≡◌, ◌+◌, ◌≤◌, length};
+    ghost use Rattle.std.specs.VecDeque.{deque_capacity};
+    ghost use Rattle.ov_order.specs.OrderBook as book;
+    ghost use Rattle.ov_order.specs.OrderBook.{note_limit};
+
+    ghost Value = { book.OrderBook };
+
+    ghost view = { λ b. record { waiting = b.waiting.items; taken = b.taken; begun = b.begun } };
+
+    ghost invariant = { λ b. (b.noted ≡ b.taken + length b.waiting.items) × (b.noted ≡ b.ledger.total) × (note_limit ≤ deque_capacity b.waiting) };
+}
+
+impl<L: Ledger> OrderBook<L> {
+    /// Nothing is noted, and nothing said of the beginning. Takes the room for all notes that may wait.
+    pub fn new(alloc: Global, ledger: Book<L>) -> Result<OrderBook<L>, AllocError>
+        requires { ledger.total ≡ 0 }
+        ensures { IfOk result (λ b. b ≡ record { waiting = []; taken = 0; begun = None }) }
+    {
+        let waiting = VecDeque::with_capacity(alloc, NOTE_LIMIT)?;
+        Ok(OrderBook {
+            waiting,
+            taken: 0,
+            noted: 0,
+            begun: None,
+            ledger,
+        })
+    }
+
+    /// Notes a serial, behind all that wait. Refused where 4,160 notes wait or 2^64-1 serials were noted.
+    pub fn note(&mut self, share: &mut Share<L>, serial: u64) -> bool
+        requires { 0 < share.old.parts }
+        ensures room { IsTrue result ↔ HasRoom self.old }
+        ensures book { MatchBool result (NotesMore serial self.old self.new) (self.new ≡ self.old) }
+        ensures amount { MatchBool result (share.new.amount ≡ share.old.amount + 1) (share.new.amount ≡ share.old.amount) }
+        ensures parts { share.new.parts ≡ share.old.parts }
+    {
+        if self.waiting.len() >= NOTE_LIMIT || self.noted == u64::MAX {
+            return false;
+        }
+        self.waiting.push_back_reserved(serial);
+        self.noted += 1;
+        self.ledger.add(share, 1);
+        true
+    }
+
+    /// Takes the oldest note.
+    pub fn next(&mut self) -> Option<u64>
+        ensures some { IfSome result (λ serial. Takes serial self.old self.new) }
+        ensures none { IfNone result ((self.old.waiting ≡ []) × (self.new ≡ self.old)) }
+    {
+        let serial = self.waiting.pop_front()?;
+        self.taken += 1;
+        Some(serial)
+    }
+
+    /// Whether no note waits.
+    pub(crate) fn is_empty(&self) -> bool
+        ensures { IsTrue result ↔ (self.now.waiting ≡ []) }
+    {
+        self.waiting.is_empty()
+    }
+
+    /// How many serials were noted. `all` is the share that all workers' shares were merged into.
+    pub fn noted(&mut self, all: &mut Share<L>) -> u64
+        requires { all.old.parts ≡ L.parts }
+        ensures noted { result ≡ noted self.old }
+        ensures amount { result ≡ all.old.amount }
+        ensures book { self.new ≡ self.old }
+        ensures share { (all.new.amount ≡ all.old.amount) × (all.new.parts ≡ all.old.parts) }
+    {
+        self.ledger.audit(all);
+        self.noted
+    }
+
+    /// Says whether the workers may begin.
+    pub fn begin(&mut self, go: bool)
+        ensures { self.new ≡ record { waiting = self.old.waiting; taken = self.old.taken; begun = Some go } }
+    {
+        self.begun = Some(go);
+    }
+
+    /// Whether the workers may begin, if that was said.
+    pub fn begun(&self) -> Option<bool>
+        ensures { result ≡ self.now.begun }
+    {
+        self.begun
+    }
+}

@@ -1,0 +1,76 @@
+ghost use Rattle.std.specs.Prelude.{◌≡◌, ◌+◌, ◌<◌};
+
+use crate::book::OrderBook;
+use std::alloc::{AllocError, Global};
+use std::sync::ledger::{Book, Ledger, Share};
+use std::sync::{Condvar, Mutex, MutexGuard, Wait};
+use std::thread;
+
+/// An order book that the desk and all workers share. Whoever changes the book under its lock wakes those that wait for a change.
+#[derive(Drop)]
+pub struct Order<L: Ledger> {
+    book: Mutex<OrderBook<L>>,
+    changed: Condvar,
+}
+
+impl<L: Ledger> Order<L> {
+    /// The book begins with nothing noted, and nothing said of the beginning. Takes the room for all notes that may wait.
+    pub fn new(alloc: Global, ledger: Book<L>) -> Result<Order<L>, AllocError>
+        requires { ledger.total ≡ 0 }
+    {
+        let book = OrderBook::new(alloc, ledger)?;
+        Ok(Order {
+            book: Mutex::new(book),
+            changed: Condvar::new(),
+        })
+    }
+
+    /// The book, once nobody else has it. It is given back where the guard is dropped.
+    pub fn lock<R: Wait>(&self, rt: &R) -> MutexGuard<'_, OrderBook<L>> {
+        self.book.lock(rt)
+    }
+
+    /// Wakes all that wait for a change of the book. Call it behind each `note` and `begin`, and best without the lock.
+    pub fn wake(&self) {
+        self.changed.notify_all();
+    }
+
+    /// Notes a serial once there is room for the note, and wakes all that wait.
+    pub fn wait_note<R: Wait>(&self, rt: &R, share: &mut Share<L>, serial: u64)
+        requires { 0 < share.old.parts }
+        ensures amount { share.new.amount ≡ share.old.amount + 1 }
+        ensures parts { share.new.parts ≡ share.old.parts }
+    {
+        for _ in rt.forever() {
+            let is_noted = self.lock(rt).note(share, serial);
+            if is_noted {
+                self.wake();
+                return;
+            }
+            thread::yield_now();
+        }
+        unreachable!()
+    }
+
+    /// Takes the oldest note, once there is one.
+    pub fn wait_next<R: Wait>(&self, rt: &R) -> u64 {
+        let guard = self.lock(rt);
+        let mut book = self.changed.wait_while(rt, guard, |book| book.is_empty());
+        let Some(serial) = book.next() else {
+            unreachable!()
+        };
+        serial
+    }
+
+    /// Whether the workers may begin, once that was said.
+    pub fn wait_begin<R: Wait>(&self, rt: &R) -> bool {
+        let guard = self.lock(rt);
+        let book = self
+            .changed
+            .wait_while(rt, guard, |book| book.begun().is_none());
+        let Some(go) = book.begun() else {
+            unreachable!()
+        };
+        go
+    }
+}

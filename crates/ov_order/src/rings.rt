@@ -1,0 +1,28 @@
+ghost use Rattle.std.specs.Prelude.{IfOk};
+ghost use Rattle.ov_order.specs.Rings.{IsNewRing};
+
+use crate::items::{Brought, Sent};
+use rtrb::{Consumer, Producer, RingBuffer};
+use std::alloc::{AllocError, Global};
+
+/// How many items that its reader has brought may wait for a session.
+const INBOUND_CAPACITY: usize = 64;
+
+/// How many frames may wait for a session's writer, and the end mark behind them.
+const OUTBOUND_CAPACITY: usize = 1_024 + 1;
+
+/// A ring from a reader to the desk. It has room for 64 items.
+pub fn inbound_ring<M: Drop, C: Drop>(
+    alloc: Global,
+) -> Result<(Producer<Brought<M, C>>, Consumer<Brought<M, C>>), AllocError>
+    ensures { IfOk result (λ ring. IsNewRing 64 ring.0 ring.1) }
+{
+    RingBuffer::new(alloc, INBOUND_CAPACITY)
+}
+
+/// A ring from the desk to a writer. It has room for 1,024 frames, and the last place is for the end mark.
+pub fn outbound_ring(alloc: Global) -> Result<(Producer<Sent>, Consumer<Sent>), AllocError>
+    ensures { IfOk result (λ ring. IsNewRing 1025 ring.0 ring.1) }
+{
+    RingBuffer::new(alloc, OUTBOUND_CAPACITY)
+}
