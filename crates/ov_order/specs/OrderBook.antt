@@ -1,5 +1,5 @@
 -- The order in which sessions are served. It is our own.
-use Rattle.std.specs.Prelude.{◌≡◌, ℕ, ◌+◌, ◌-◌, ◌^◌, ◌<◌, Bool, List, [], ◌∷◌, ◌++◌, length, Option}
+use Rattle.std.specs.Prelude.{◌≡◌, ℕ, ◌+◌, ◌-◌, ◌^◌, ◌<◌, Bool, List, [], ◌∷◌, ◌++◌, length, Option, Some}
 
 -- how many notes may wait
 abbrev pub note_limit : ℕ
@@ -19,10 +19,14 @@ noted b = b.taken + length b.waiting
 abbrev pub HasRoom : OrderBook → Type 0
 HasRoom b = (length b.waiting < note_limit) × (noted b < 2 ^ 64 - 1)
 
--- the serial was noted
-abbrev pub NotesMore : ℕ → OrderBook → OrderBook → Type 0
-NotesMore serial b b' = b' ≡ record { waiting = b.waiting ++ serial ∷ []; taken = b.taken; begun = b.begun }
+-- the serial was noted, behind all that wait
+abbrev pub Notes : ℕ → OrderBook → OrderBook → Type 0
+Notes serial b b' = (b'.waiting ≡ b.waiting ++ serial ∷ []) × (b'.taken ≡ b.taken) × (b'.begun ≡ b.begun)
 
 -- the serial was taken, which was the oldest
 abbrev pub Takes : ℕ → OrderBook → OrderBook → Type 0
-Takes serial b b' = b ≡ record { waiting = serial ∷ b'.waiting; taken = b.taken; begun = b'.begun } × (b'.taken ≡ b.taken + 1)
+Takes serial b b' = (b.waiting ≡ serial ∷ b'.waiting) × (b'.taken ≡ b.taken + 1) × (b'.begun ≡ b.begun)
+
+-- it was said whether the workers may begin
+abbrev pub Says : Bool → OrderBook → OrderBook → Type 0
+Says go b b' = (b'.waiting ≡ b.waiting) × (b'.taken ≡ b.taken) × (b'.begun ≡ Some go)

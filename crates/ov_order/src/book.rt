@@ -1,5 +1,5 @@
-ghost use Rattle.std.specs.Prelude.{◌≡◌, ◌+◌, ◌<◌, ◌↔◌, [], ◌∷◌, ◌++◌, None, Some, IsTrue, IfOk, IfNone, IfSome, MatchBool};
-ghost use Rattle.ov_order.specs.OrderBook.{noted, HasRoom, NotesMore, Takes};
+ghost use Rattle.std.specs.Prelude.{◌≡◌, ◌+◌, ◌<◌, ◌↔◌, [], None, IsTrue, IfOk, IfNone, IfSome, MatchBool};
+ghost use Rattle.ov_order.specs.OrderBook.{noted, HasRoom, Notes, Takes, Says};
 
 use std::alloc::{AllocError, Global};
 use std::collections::VecDeque;
@@ -56,7 +56,7 @@ impl<L: Ledger> OrderBook<L> {
     pub fn note(&mut self, share: &mut Share<L>, serial: u64) -> bool
         requires { 0 < share.old.parts }
         ensures room { IsTrue result ↔ HasRoom self.old }
-        ensures book { MatchBool result (NotesMore serial self.old self.new) (self.new ≡ self.old) }
+        ensures book { MatchBool result (Notes serial self.old self.new) (self.new ≡ self.old) }
         ensures amount { MatchBool result (share.new.amount ≡ share.old.amount + 1) (share.new.amount ≡ share.old.amount) }
         ensures parts { share.new.parts ≡ share.old.parts }
     {
@@ -100,7 +100,7 @@ impl<L: Ledger> OrderBook<L> {
 
     /// Says whether the workers may begin.
     pub fn begin(&mut self, go: bool)
-        ensures { self.new ≡ record { waiting = self.old.waiting; taken = self.old.taken; begun = Some go } }
+        ensures { Says go self.old self.new }
     {
         self.begun = Some(go);
     }

@@ -1,6 +1,9 @@
-ghost use Rattle.std.specs.Prelude.{◌≡◌, ◌+◌, ◌<◌};
+ghost use Rattle.std.specs.Prelude.{◌≡◌, ◌+◌, ◌<◌, [], ◌∷◌, ◌++◌};
+ghost use Rattle.rtrb.specs.Ring.{sent, SameProducer};
 
 use crate::book::OrderBook;
+use crate::rings::wait_push;
+use rtrb::Producer;
 use std::alloc::{AllocError, Global};
 use std::sync::ledger::{Book, Ledger, Share};
 use std::sync::{Condvar, Mutex, MutexGuard, Wait};
@@ -36,7 +39,7 @@ impl<L: Ledger> Order<L> {
     }
 
     /// Notes a serial once there is room for the note, and wakes all that wait.
-    pub fn wait_note<R: Wait>(&self, rt: &R, share: &mut Share<L>, serial: u64)
+    fn wait_note<R: Wait>(&self, rt: &R, share: &mut Share<L>, serial: u64)
         requires { 0 < share.old.parts }
         ensures amount { share.new.amount ≡ share.old.amount + 1 }
         ensures parts { share.new.parts ≡ share.old.parts }
@@ -50,6 +53,26 @@ impl<L: Ledger> Order<L> {
             thread::yield_now();
         }
         unreachable!()
+    }
+
+    /// Brings the desk an item: pushes it into the ring once there is room, and then notes the serial. Each is done once, so a
+    /// worker that brings all its items so has as many notes in its share as items in its ring.
+    pub fn bring<R: Wait, T: Drop>(
+        &self,
+        rt: &R,
+        ring: &mut Producer<T>,
+        share: &mut Share<L>,
+        serial: u64,
+        item: T,
+    )
+        requires { 0 < share.old.parts }
+        ensures ring { SameProducer ring.old ring.new }
+        ensures sent { sent ring.new ≡ sent ring.old ++ item ∷ [] }
+        ensures amount { share.new.amount ≡ share.old.amount + 1 }
+        ensures parts { share.new.parts ≡ share.old.parts }
+    {
+        wait_push(rt, ring, item);
+        self.wait_note(rt, share, serial);
     }
 
     /// Takes the oldest note, once there is one.

@@ -1,9 +1,12 @@
-ghost use Rattle.std.specs.Prelude.{IfOk};
+ghost use Rattle.std.specs.Prelude.{◌≡◌, [], ◌∷◌, ◌++◌, IfOk};
+ghost use Rattle.rtrb.specs.Ring.{sent, SameProducer};
 ghost use Rattle.ov_order.specs.Rings.{IsNewRing};
 
 use crate::items::{Brought, Sent};
-use rtrb::{Consumer, Producer, RingBuffer};
+use rtrb::{Consumer, Producer, PushError, RingBuffer};
 use std::alloc::{AllocError, Global};
+use std::sync::Wait;
+use std::thread;
 
 /// How many items that its reader has brought may wait for a session.
 const INBOUND_CAPACITY: usize = 64;
@@ -25,4 +28,20 @@ pub fn outbound_ring(alloc: Global) -> Result<(Producer<Sent>, Consumer<Sent>), 
     ensures { IfOk result (λ ring. IsNewRing 1025 ring.0 ring.1) }
 {
     RingBuffer::new(alloc, OUTBOUND_CAPACITY)
+}
+
+/// Pushes the item once there is room for it. That is never where the ring is full and its other end is gone.
+pub(crate) fn wait_push<R: Wait, T: Drop>(rt: &R, ring: &mut Producer<T>, item: T)
+    ensures ring { SameProducer ring.old ring.new }
+    ensures sent { sent ring.new ≡ sent ring.old ++ item ∷ [] }
+{
+    let mut item = item;
+    for _ in rt.forever() {
+        match ring.push(item) {
+            Ok(()) => return,
+            Err(PushError::Full(back)) => item = back,
+        }
+        thread::yield_now();
+    }
+    unreachable!()
 }
