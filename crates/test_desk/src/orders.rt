@@ -1,0 +1,169 @@
+ghost use Rattle.std.specs.Prelude.{◌≡◌, [], ◌∷◌, IfOk};
+ghost use Rattle.rtrb.specs.Ring.{sent, SameProducer};
+ghost use Rattle.ov_order.specs.declared.items.Brought.TheVariants.{Message, End};
+
+use ov_base::Bytes;
+use ov_order::{Brought, Order, OrderBook, Sent, inbound_ring, outbound_ring};
+use rtrb::Producer;
+use std::alloc::Global;
+use std::marker::Brand;
+use std::sync::Wait;
+use std::sync::ledger::{Blank, Ledger, Share};
+use std::test::Fail;
+use std::thread;
+use std::thread::Threads;
+
+/// What a book answers, in the order of the calls: two workers note, the desk takes, and the shares are put together again.
+fn book_answers<L: Ledger>(alloc: Global, blank: Blank) -> Result<String, Fail>
+    requires name { blank.name ≡ L.name }
+    requires parts { (blank.parts ≡ L.parts) × (blank.parts ≡ 2) }
+{
+    let (ledger, mut first) = blank.open::<L>();
+    let mut second = first.split_off(1, 0);
+    let mut book = OrderBook::new(alloc, ledger)?;
+    let unsaid = book.begun();
+    book.begin(true);
+    let said = book.begun();
+    let notes = [
+        book.note(&mut first, 7),
+        book.note(&mut second, 9),
+        book.note(&mut first, 7),
+    ];
+    let taken = [book.next(), book.next()];
+    first.merge(second);
+    let noted = book.noted(&mut first);
+    let rest = [book.next(), book.next()];
+    Ok(format!(in alloc; "{unsaid:?} {said:?} {notes:?} {taken:?} {noted} {rest:?}")?)
+}
+
+#[test]
+fn notes_are_taken_in_order_and_counted(rt: HostRuntime) -> Result<(), Fail> {
+    let answers = book_answers::<Brand>(rt.alloc(), Blank::new(2))?;
+    let wanted = "None Some(true) [true, true, true] [Some(7), Some(9)] 3 [Some(7), None]";
+    assert_eq!(rt; answers.as_str(), wanted);
+    Ok(())
+}
+
+/// What an order answers where nobody has to wait: a worker brings a message and notes once more, and the desk takes both notes.
+fn order_answers<R: Wait, L: Ledger>(rt: &R, alloc: Global, blank: Blank) -> Result<String, Fail>
+    requires name { blank.name ≡ L.name }
+    requires parts { (blank.parts ≡ L.parts) × (blank.parts ≡ 1) }
+{
+    let (ledger, mut share) = blank.open::<L>();
+    let (mut reader, _desk) = inbound_ring::<u64, u8>(alloc)?;
+    let order = Order::new(alloc, ledger)?;
+    order.lock(rt).begin(false);
+    order.wake();
+    let go = order.wait_begin(rt);
+    order.bring(rt, &mut reader, &mut share, 5, Brought::Message(1));
+    let is_noted = order.lock(rt).note(&mut share, 6);
+    let serial = order.wait_next(rt);
+    let next = order.lock(rt).next();
+    let noted = order.lock(rt).noted(&mut share);
+    Ok(format!(in alloc; "{go} {is_noted} {serial} {next:?} {noted}")?)
+}
+
+#[test]
+fn an_order_answers_where_nobody_has_to_wait(rt: HostRuntime) -> Result<(), Fail> {
+    let answers = order_answers::<HostRuntime, Brand>(&rt, rt.alloc(), Blank::new(1))?;
+    assert_eq!(rt; answers.as_str(), "false true 5 Some(6) 2");
+    Ok(())
+}
+
+#[test]
+fn a_message_and_the_end_are_brought(rt: HostRuntime) -> Result<(), Fail> {
+    let (mut reader, mut desk) = inbound_ring::<u64, u8>(rt.alloc())?;
+    reader.push_reserved(Brought::Message(3));
+    reader.push_reserved(Brought::End(1));
+    assert_eq!(rt; reader.slots_beside(&mut desk), 62);
+    assert!(rt; matches!(desk.pop(), Ok(Brought::Message(3))));
+    assert!(rt; matches!(desk.pop(), Ok(Brought::End(1))));
+    Ok(())
+}
+
+#[test]
+fn a_frame_and_the_end_are_sent(rt: HostRuntime) -> Result<(), Fail> {
+    let alloc = rt.alloc();
+    let (mut desk, mut writer) = outbound_ring(alloc)?;
+    desk.push_reserved(Sent::Frame(Bytes::from_slice(alloc, b"{}")?));
+    desk.push_reserved(Sent::End);
+    assert_eq!(rt; desk.slots_beside(&mut writer), 1_023);
+    let Ok(Sent::Frame(frame)) = writer.pop() else {
+        return Err("no frame")?;
+    };
+    assert!(rt; frame.as_slice() == b"{}".as_slice());
+    assert!(rt; matches!(writer.pop(), Ok(Sent::End)));
+    Ok(())
+}
+
+/// What a worker hands back: its end of the ring, and its share.
+#[derive(Drop)]
+struct Worked<L: Ledger> {
+    ring: Producer<Brought<u64, u8>>,
+    share: Share<L>,
+}
+
+/// A worker that brings two messages and the end, once it may begin.
+fn work<R: Wait, L: Ledger>(
+    rt: &R,
+    order: &Order<L>,
+    ring: Producer<Brought<u64, u8>>,
+    share: Share<L>,
+) -> Worked<L>
+    requires { (share.parts ≡ 1) × (share.amount ≡ 0) × (sent ring ≡ []) }
+    ensures share { (result.share.parts ≡ 1) × (result.share.amount ≡ 3) }
+    ensures sent { sent result.ring ≡ Message 1 ∷ Message 2 ∷ End 0 ∷ [] }
+    ensures ring { SameProducer ring result.ring }
+{
+    let mut ring = ring;
+    let mut share = share;
+    let _may_begin = order.wait_begin(rt);
+    order.bring(rt, &mut ring, &mut share, 7, Brought::Message(1));
+    order.bring(rt, &mut ring, &mut share, 7, Brought::Message(2));
+    order.bring(rt, &mut ring, &mut share, 7, Brought::End(0));
+    Worked { ring, share }
+}
+
+/// The serials that a desk takes, which lets the worker begin.
+fn take<R: Wait, L: Ledger>(rt: &R, order: &Order<L>) -> (u64, u64, u64) {
+    order.lock(rt).begin(true);
+    order.wake();
+    (
+        order.wait_next(rt),
+        order.wait_next(rt),
+        order.wait_next(rt),
+    )
+}
+
+/// What the desk took, and the number noted.
+fn across_threads<R: Threads + Wait + Sync, L: Ledger + Send + Sync>(
+    rt: &R,
+    alloc: Global,
+    blank: Blank,
+) -> Result<((u64, u64, u64), u64), Fail>
+    requires name { blank.name ≡ L.name }
+    requires parts { (blank.parts ≡ L.parts) × (blank.parts ≡ 1) }
+    ensures { IfOk result (λ r. r.1 ≡ 3) }
+{
+    let (ledger, share) = blank.open::<L>();
+    let (ring, _desk) = inbound_ring::<u64, u8>(alloc)?;
+    let order = Order::new(alloc, ledger)?;
+    let shared = &order;
+    let worker = move || -> Worked<L>
+        requires { (share.parts ≡ 1) × (share.amount ≡ 0) × (sent ring ≡ []) }
+        ensures { (result.share.parts ≡ 1) × (result.share.amount ≡ 3) }
+    { work(rt, shared, ring, share) };
+    let (worked, taken) = thread::join(rt, worker, move || take(rt, shared));
+    let Worked { ring: _, share } = worked;
+    let mut all = share;
+    let noted = order.lock(rt).noted(&mut all);
+    Ok((taken, noted))
+}
+
+#[test]
+fn a_worker_brings_while_the_desk_takes(rt: HostRuntime) -> Result<(), Fail> {
+    let (taken, noted) = across_threads::<HostRuntime, Brand>(&rt, rt.alloc(), Blank::new(1))?;
+    assert_eq!(rt; taken, (7, 7, 7));
+    assert_eq!(rt; noted, 3);
+    Ok(())
+}
