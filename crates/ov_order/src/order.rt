@@ -10,6 +10,9 @@ use std::sync::{Condvar, Mutex, MutexGuard, Wait};
 use std::thread;
 
 /// An order book that the desk and all workers share. Whoever changes the book under its lock wakes those that wait for a change.
+///
+/// No contract can say what another thread finds in the book. So of the calls here none says which serial it notes or takes: that
+/// is said by `OrderBook`, of which each of them makes one call.
 #[derive(Drop)]
 pub struct Order<L: Ledger> {
     book: Mutex<OrderBook<L>>,
