@@ -1,32 +1,121 @@
--- The frames that are made before the store is asked, as those of the results that are sent.
-use Rattle.std.proofs.Common.{◌≡◌, ℕ, refl}
+-- What is prepared before the store is asked, as what is sent behind its answer.
+use Rattle.std.proofs.Common.{◌≡◌, ℕ, ◌+◌, ◌≤◌, List, [], ◌∷◌, ◌++◌, map, refl, sym, ap, subst, ◌∙◌, true, inl, inr, Option, Some, arith}
+use Rattle.std.proofs.lemmas.List.{map-append}
 use Rattle.serde_json.specs.Data.{Data, Items, array}
+use Rattle.ov_db.specs.Changing.{Delta, applied}
+use Rattle.ov_db.specs.KeptDatabase.{KeptDatabase}
 use Rattle.ov_db.specs.declared.answer.StoreAnswer.{StoreAnswer}
 use Rattle.ov_db.specs.declared.answer.StoreAnswer.TheVariants as store
-use Rattle.ov_specs.specs.operations.Transaction.{exhausted_results, failed_results}
+use Rattle.ov_outbox.specs.Frames.{WaitingFrames, HasSameFrames, PostsSent, TakesPlaces, waiting_for, places_for, count_of, posted}
+use Rattle.ov_outbox.specs.Waits.{HasRoom}
+use Rattle.ov_specs.specs.locks.Queues.{Queues}
+use Rattle.ov_specs.specs.machine.Machine as machine
+use Rattle.ov_specs.specs.machine.Machine.{Sent, results_to, updates_sent}
+use Rattle.ov_specs.specs.operations.Transaction.{TransactionOutcome, Waits, exhausted_results, failed_results}
 use Rattle.ov_specs.specs.wire.Frame.{frame, reply_tree}
+use Rattle.ov_txn.specs.Attempting.{IsTried}
 use Rattle.ov_txn.specs.Replying.{replies_with}
-use Rattle.ov_core.specs.Outbox.{WaitingFrames, PostsFrame}
-use Rattle.ov_core.specs.Preparing.{IsPrepared, results_after, frame_after}
+use Rattle.ov_txn.specs.declared.tried.Tried.{Tried}
+use Rattle.ov_txn.specs.declared.tried.Tried.TheVariants.{Answer, Stored, Blocked, NoMemory}
+use Rattle.ov_core.specs.Handling.{PostsIfRoom, IsTrial}
+use Rattle.ov_core.specs.Preparing.{IsPrepared, Prepares, SendsPrepared, outcome_after}
+use Rattle.ov_core.specs.States.{sessions_of}
+use Rattle.ov_core.specs.declared.attempt.Trial.TheVariants.{Done}
+use Rattle.ov_core.specs.declared.event.Outcome.{Outcome}
 use Rattle.ov_core.specs.declared.replying.Replying.{Replying}
+use Rattle.ov_outbox.proofs.Answered.{sends_results, posts_after}
+use Rattle.ov_core.proofs.Workings.{answers, posts_from, sent_after, stored}
 
--- what was made ready for a transaction of this session and id, over the frames that waited
-pub record PreparesFor (n : ℕ) (id : Data) (results : Items) (waited : WaitingFrames) (ready : Replying) : Type 0 where
-  pub kept : PostsFrame n (frame (reply_tree id (array results))) waited ready.outbox
-  pub exhausted : ready.exhausted ≡ frame (reply_tree id (array (exhausted_results results)))
-  pub failed : ready.failed ≡ frame (reply_tree id (array (failed_results results)))
+-- ---- what an attempt leaves of what was prepared
 
-pub prepares_for : (n : ℕ) (id : Data) (results : Items) (waited : WaitingFrames) (before ready : Replying) → before.session ≡ n → before.id.now ≡ id → before.outbox ≡ waited → IsPrepared before (replies_with results) ready
-    → PreparesFor n id results waited ready
-prepares_for n id results waited before ready session_is id_is outbox_is prepared = record {
-  kept = rw (session_is, id_is, outbox_is) at prepared.kept;
-  exhausted = rw id_is at prepared.exhausted;
-  failed = rw id_is at prepared.failed;
-}
+module _ {K : Type 0} (outcome : TransactionOutcome) (old : KeptDatabase K) (was : Replying) (none : was.prepared ≡ []) where
+  more_places : (is : Replying) (other : ℕ) → ((base : ℕ) → places_for other was.queues ≡ base + count_of other was.prepared → places_for other is.queues ≡ base + count_of other is.prepared)
+      → places_for other is.queues ≡ places_for other was.queues + count_of other is.prepared
+  more_places is other h = h (places_for other was.queues) (omega (arith, ap (count_of other) none))
 
--- the frame that waits behind the store's answer is that of the results which are sent
-pub frames_are : (n : ℕ) (id : Data) (results : Items) (waited : WaitingFrames) (ready : Replying) (answer : StoreAnswer) → PreparesFor n id results waited ready
-    → frame_after answer (frame (reply_tree id (array results))) ready.exhausted ready.failed ≡ frame (reply_tree id (array (results_after answer results)))
-frames_are n id results waited ready store.Kept prepares = refl
-frames_are n id results waited ready store.Exhausted prepares = prepares.exhausted
-frames_are n id results waited ready store.Failed prepares = prepares.failed
+  same_places : (is : Replying) (other : ℕ) → is ≡ was → places_for other is.queues ≡ places_for other was.queues + count_of other is.prepared
+  same_places is other same = rw same (omega (arith, ap (count_of other) none))
+
+  -- a place more for each frame that is prepared
+  pub tried_places : (tried : Tried) (new : KeptDatabase K) (is : Replying) → IsTried Prepares outcome old was tried new is → (other : ℕ) → places_for other is.queues ≡ places_for other was.queues + count_of other is.prepared
+  tried_places (Answer results) new is (same, still, answer) other = same_places is other still
+  tried_places (Stored answer) new is (made, commits) other = more_places is other (made.made.places other)
+  tried_places (Blocked timeout) new is (same, still, waits) other = same_places is other still
+  tried_places NoMemory new is (same, inl still) other = same_places is other still
+  tried_places NoMemory new is (same, inr made) other = more_places is other (made.made.places other)
+
+  -- so that there is one for each of them
+  pub tried_room : (tried : Tried) (new : KeptDatabase K) (is : Replying) → IsTried Prepares outcome old was tried new is → (other : ℕ) → count_of other is.prepared ≤ places_for other is.queues
+  tried_room tried new is h other = omega (arith, tried_places tried new is h other)
+
+  -- and behind them the places that were kept before
+  pub tried_keeps : (tried : Tried) (new : KeptDatabase K) (is : Replying) → IsTried Prepares outcome old was tried new is → (queues : Queues) (left : WaitingFrames) → HasRoom was.queues queues → TakesPlaces is.prepared is.queues left → HasRoom left queues
+  tried_keeps tried new is h queues left room takes session = omega (arith, tried_places tried new is h session, takes session, room session)
+
+  -- and the same frames wait
+  pub tried_waits : (tried : Tried) (new : KeptDatabase K) (is : Replying) → IsTried Prepares outcome old was tried new is → HasSameFrames was.queues is.queues
+  tried_waits (Answer results) new is (same, still, answer) = rw still (λ other. refl)
+  tried_waits (Stored answer) new is (made, commits) = made.made.waits
+  tried_waits (Blocked timeout) new is (same, still, waits) = rw still (λ other. refl)
+  tried_waits NoMemory new is (same, inl still) = rw still (λ other. refl)
+  tried_waits NoMemory new is (same, inr made) = made.made.waits
+
+-- ---- what is sent by the store's answer
+
+module _ {K : Type 0} (ms : List machine.Session) (n : ℕ) (id : Data) (results : Items) (old : KeptDatabase K) (delta : Delta) (was is : Replying) (waits : WaitingFrames)
+    (none : was.prepared ≡ []) (session : was.session ≡ n) (id_is : was.id.now ≡ id) (sessions : sessions_of was.audience.watchers.now was.audience.sessions.now.open_sessions ≡ ms)
+    (prepared : IsPrepared was old delta (replies_with results) is) where
+  abbrev updates : List Sent
+  updates = updates_sent old.committed (applied delta old.committed) ms
+
+  -- the frames that were prepared
+  frames_are : is.prepared ≡ map posted updates ++ (n, frame (reply_tree id (array results))) ∷ []
+  frames_are = prepared.prepared ∙ rw (none, session, id_is, sessions) refl
+
+  pub sent_by : (answer : StoreAnswer) → SendsPrepared (Stored answer) is.prepared is.exhausted is.failed is.queues waits → PostsSent (sent_after answer ms n id results old delta) is.queues waits
+  sent_by store.Kept sends = sends (updates ++ results_to n id results) (frames_are ∙ sym (map-append posted updates (results_to n id results)))
+  sent_by store.Exhausted sends =
+      sends_results n id (exhausted_results results) is.exhausted is.queues waits (prepared.exhausted ∙ rw id_is refl) (sends (map posted updates) n (frame (reply_tree id (array results))) frames_are)
+  sent_by store.Failed sends =
+      sends_results n id (failed_results results) is.failed is.queues waits (prepared.failed ∙ rw id_is refl) (sends (map posted updates) n (frame (reply_tree id (array results))) frames_are)
+
+-- ---- the try as a whole
+
+-- A transaction that is tried with these locks: what an attempt leaves, as it was prepared, is sent, and waits then.
+module _ {K : Type 0} (ms : List machine.Session) (n : ℕ) (id : Data) (to : Queues → TransactionOutcome) (queues locks : Queues) (old new : KeptDatabase K) (was is : Replying) (tried : Tried) (waited left between : WaitingFrames)
+    (locks_are : locks ≡ queues) (waited_is : was.queues ≡ waited) (left_is : between ≡ left)
+    (was_tried : IsTried Prepares (to locks) old was tried new is) (sends : SendsPrepared tried is.prepared is.exhausted is.failed is.queues left) where
+  tried_as : (t : Tried) → tried ≡ t → IsTried Prepares (to queues) old was t new is
+  tried_as t same =
+      subst (λ (u : Tried). IsTried Prepares (to queues) old was u new is) same (subst (λ (q : Queues). IsTried Prepares (to q) old was tried new is) locks_are was_tried)
+
+  sends_as : (t : Tried) → tried ≡ t → SendsPrepared t is.prepared is.exhausted is.failed is.queues between
+  sends_as t same =
+      subst (λ (u : Tried). SendsPrepared u is.prepared is.exhausted is.failed is.queues between) same (subst (λ (w : WaitingFrames). SendsPrepared tried is.prepared is.exhausted is.failed is.queues w) (sym left_is) sends)
+
+  waits_still : is ≡ was → HasSameFrames is.queues between → HasSameFrames waited between
+  waits_still still same other = same other ∙ (ap (λ (r : Replying). waiting_for other r.queues) still ∙ ap (λ (w : WaitingFrames). waiting_for other w) waited_is)
+
+  pub trial_answered : (results : Items) (o : Option Outcome) (waits : WaitingFrames) → tried ≡ Answer results → PostsIfRoom (results_to n id results) between o waits → IsTrial ms n id (to queues) old waited (Done o) new waits
+  trial_answered results o waits same posts =
+      let t = tried_as (Answer results) same in
+      let from = posts_from (results_to n id results) waited between o waits (waits_still t.1 (sends_as (Answer results) same)) posts in
+      subst (λ (k : KeptDatabase K). IsTrial ms n id (to queues) old waited (Done o) k waits) (sym t.0) (answers ms n id (to queues) results old o waited waits t.2 from)
+
+  pub trial_stored : (answer : StoreAnswer) (o : Outcome) → tried ≡ Stored answer → o ≡ outcome_after answer → was.prepared ≡ [] → was.session ≡ n → was.id.now ≡ id
+      → sessions_of was.audience.watchers.now was.audience.sessions.now.open_sessions ≡ ms → IsTrial ms n id (to queues) old waited (Done (Some o)) new between
+  trial_stored answer o same o_is none session id_is sessions =
+      let t = tried_as (Stored answer) same in
+      let made = t.0 in
+      let ready : Prepares was old made.delta (replies_with made.results) true is = made.made in
+      let sent : PostsSent (sent_after answer ms n id made.results old made.delta) is.queues between =
+      sent_by ms n id made.results old made.delta was is between none session id_is sessions ready.prepared answer (sends_as (Stored answer) same) in
+      let waits : HasSameFrames waited is.queues = λ other. ready.waits other ∙ ap (λ (w : WaitingFrames). waiting_for other w) waited_is in
+      subst (λ (u : Outcome). IsTrial ms n id (to queues) old waited (Done (Some u)) new between) (sym o_is)
+      (stored ms n id (to queues) made.results old new made.delta waited between made.completes made.changes made.unsealed answer t.1
+      (posts_after (sent_after answer ms n id made.results old made.delta) waited is.queues between waits sent))
+
+  pub trial_blocked : (timeout : Option ℕ) → tried ≡ Blocked timeout → (to queues ≡ Waits timeout) × (new ≡ old) × HasSameFrames waited between
+  trial_blocked timeout same =
+      let t = tried_as (Blocked timeout) same in
+      (t.2, t.0, waits_still t.1 (sends_as (Blocked timeout) same))

@@ -1,14 +1,23 @@
 -- Settling on its way, try by try, as its loop goes on.
 use Rattle.std.proofs.Common.{◌≡◌, ℕ, ◌+◌, ◌-◌, ◌*◌, ◌<◌, ◌≤◌, List, [], ◌∷◌, ◌++◌, map, length, refl, sym, ap, subst, ◌∙◌, Bool, true, false, cond, eqb, Option, Some, None, append_assoc, arith}
 use Rattle.std.specs.Prelude.{not}
-use Rattle.std.specs.List.{filter}
+use Rattle.std.specs.List.{filter, list_any}
 use Rattle.std.proofs.lemmas.List.{append-nil, map-append, length-append}
 use Rattle.std.proofs.lemmas.Bool.{false≢true}
+use Rattle.ov_specs.specs.locks.Queues.{Queues, owns, told_of_leaving}
+use Rattle.ov_specs.specs.machine.History.{frames_to}
 use Rattle.ov_specs.specs.machine.Machine as machine
-use Rattle.ov_specs.specs.machine.Machine.{State, Sent, Stepped, Outstanding, tries_again, settle, waits_behind}
+use Rattle.ov_specs.specs.machine.Machine.{State, Sent, Stepped, Outstanding, tries_again, settle, waits_behind, told}
 use Rattle.ov_specs.specs.operations.Transaction.{TransactionOutcome, Waits, transaction}
 use Rattle.ov_specs.proofs.laws.SettlingOn.{Reaches, made_by, reaches_first, reaches_skip, reaches_next, reaches_again, reaches_last}
 use Rattle.ov_db.specs.KeptDatabase.{KeptDatabase}
+use Rattle.ov_outbox.specs.Frames.{WaitingFrames, waiting_for, PostsSent, HasSameFrames}
+use Rattle.ov_outbox.specs.Outbox.{Outbox}
+use Rattle.ov_sessions.specs.Sessions.{IsLeft, has_serial, without_serial}
+use Rattle.ov_txn.specs.Waiting.{WaitingList, many}
+use Rattle.ov_watch.specs.Watching.{Watching}
+use Rattle.ov_sessions.specs.declared.session.Session.{Session}
+use Rattle.ov_sessions.proofs.Keying.{still_all, still_others, left_then}
 use Rattle.ov_core.specs.declared.attempt.Trial.TheVariants.{Done}
 use Rattle.ov_core.specs.declared.event.Attempt.{Attempt}
 use Rattle.ov_core.specs.declared.event.Outcome.{Outcome}
@@ -16,15 +25,13 @@ use Rattle.ov_core.specs.declared.event.Outcome.TheVariants as outcome
 use Rattle.ov_core.specs.declared.live.Live.{Live}
 use Rattle.ov_core.specs.Entries.{attempt_view, listed_by, is_closing, is_kept}
 use Rattle.ov_core.specs.Handling.{AsksStore, AsksAll, IsCompleted, IsTrial, listed_of, with_db}
-use Rattle.ov_core.specs.Outbox.{WaitingFrames, PostsSent}
-use Rattle.ov_core.specs.Sessions.{IsLeft}
-use Rattle.ov_core.specs.States.{state_of}
-use Rattle.ov_core.specs.Settling.{IsSettling, Settles, after_try, without_session, tried_again, to_do, most_tries}
-use Rattle.ov_core.specs.Waiting.{WaitingList, many}
-use Rattle.ov_core.proofs.Answered.{posts_then}
+use Rattle.ov_core.specs.Sessions.{ClosesSession}
+use Rattle.ov_core.specs.States.{state_of, sessions_of}
+use Rattle.ov_core.specs.Settling.{IsSettling, Settles, AfterTry, tried_again, to_do, most_tries}
+use Rattle.ov_outbox.proofs.Answered.{posts_then}
 use Rattle.ov_core.proofs.Asking.{asks_none, asks_one, asks_then}
 use Rattle.ov_core.proofs.Counting.{few_dropped, few_blocked, few_done, few_again, falls_dropped, falls_again, tries_within}
-use Rattle.ov_core.proofs.Keying.{still_all, still_others, left_then, sessions_without}
+use Rattle.ov_core.proofs.Watching.{any-serial, filter-same, sessions-without}
 use Rattle.ov_core.proofs.Workings.{posts_none}
 
 -- ---- lists
@@ -50,46 +57,67 @@ listed_few number (Some o) = omega arith
 
 -- ---- what a try leads to
 
+-- the state that a closing leaves
+pub closed_state : {K : Type 0} (m n : ℕ) (old new : Live K) → ClosesSession n old new → state_of new m ≡ (machine.closed (state_of old m) n).state
+closed_state m n old new c = rw (c.same, c.queues, sessions-without n old.watchers new.watchers c.watching old.sessions.open_sessions) refl
+
 -- a try that is over leaves no more that wait
-pub after_few : {K : Type 0} (n : ℕ) (o : Option Outcome) (live : Live K) → many (after_try n o live).waiting ≤ many live.waiting
-after_few n (Some outcome.NoMemory) live = omega (arith, length-kept (λ (w : Outstanding). not (eqb w.session n)) live.waiting.outstanding)
-after_few n (Some outcome.Kept) live = omega (arith, length-append live.waiting.outstanding (filter (λ w. machine.is_open (state_of live 0) w.session) live.waiting.untried), length-kept (λ (w : Outstanding). machine.is_open (state_of live 0) w.session) live.waiting.untried)
-after_few n (Some outcome.Exhausted) live = omega arith
-after_few n (Some outcome.Failed) live = omega arith
-after_few n None live = omega arith
+pub after_few : {K : Type 0} (n : ℕ) (o : Option Outcome) (live new : Live K) → AfterTry n o live new → many new.waiting ≤ many live.waiting
+after_few n (Some outcome.NoMemory) live new c = rw c.same (omega (arith, length-kept (λ (w : Outstanding). not (eqb w.session n)) live.waiting.outstanding))
+after_few n (Some outcome.Kept) live new is =
+    rw is (omega (arith, length-append live.waiting.outstanding (filter (λ w. has_serial w.session live.sessions.open_sessions) live.waiting.untried), length-kept (λ (w : Outstanding). has_serial w.session live.sessions.open_sessions) live.waiting.untried))
+after_few n (Some outcome.Exhausted) live new is = rw is (omega arith)
+after_few n (Some outcome.Failed) live new is = rw is (omega arith)
+after_few n None live new is = rw is (omega arith)
+
+-- and as many that the pass has still to try, or none of them where all are tried again
+pub after_untried : {K : Type 0} (n : ℕ) (o : Option Outcome) (live new : Live K) → machine.is_kept (listed_of o) ≡ false → AfterTry n o live new → new.waiting.untried ≡ live.waiting.untried
+after_untried {K} n (Some outcome.NoMemory) live new h c = ap (λ (l : Live K). l.waiting.untried) c.same
+after_untried n (Some outcome.Kept) live new h is = absurd (false≢true (sym h))
+after_untried {K} n (Some outcome.Exhausted) live new h is = ap (λ (l : Live K). l.waiting.untried) is
+after_untried {K} n (Some outcome.Failed) live new h is = ap (λ (l : Live K). l.waiting.untried) is
+after_untried {K} n None live new h is = ap (λ (l : Live K). l.waiting.untried) is
 
 -- and less to do
-pub after_falls : {K : Type 0} (n : ℕ) (o : Option Outcome) (live : Live K) (left all : ℕ) → length live.waiting.untried + 1 ≡ left → many live.waiting + 1 ≡ all → to_do (after_try n o live).waiting < left + all * all
-after_falls n (Some outcome.NoMemory) live left all one fewer = falls_dropped left all (length live.waiting.untried) (many (after_try n (Some outcome.NoMemory) live).waiting) one (omega (arith, fewer, after_few n (Some outcome.NoMemory) live))
-after_falls n (Some outcome.Kept) live left all one fewer =
-    let few = after_few n (Some outcome.Kept) live in
-    let falls = falls_again left all (many (after_try n (Some outcome.Kept) live).waiting) (omega (arith, one)) (omega (arith, fewer, few)) in
-    omega (arith, falls)
-after_falls n (Some outcome.Exhausted) live left all one fewer = falls_dropped left all (length live.waiting.untried) (many live.waiting) one (omega (arith, fewer))
-after_falls n (Some outcome.Failed) live left all one fewer = falls_dropped left all (length live.waiting.untried) (many live.waiting) one (omega (arith, fewer))
-after_falls n None live left all one fewer = falls_dropped left all (length live.waiting.untried) (many live.waiting) one (omega (arith, fewer))
+pub after_falls : {K : Type 0} (n : ℕ) (o : Option Outcome) (live new : Live K) (left all : ℕ) → AfterTry n o live new → length live.waiting.untried + 1 ≡ left → many live.waiting + 1 ≡ all → to_do new.waiting < left + all * all
+after_falls {K} n (Some outcome.Kept) live new left all is one fewer =
+    let few = after_few n (Some outcome.Kept) live new is in
+    let falls = falls_again left all (many new.waiting) (omega (arith, one)) (omega (arith, fewer, few)) in
+    rw is (omega (arith, rw is at falls))
+after_falls n (Some outcome.NoMemory) live new left all c one fewer =
+    falls_dropped left all (length new.waiting.untried) (many new.waiting) (ap (λ ws. length ws + 1) (after_untried n (Some outcome.NoMemory) live new refl c) ∙ one) (omega (arith, fewer, after_few n (Some outcome.NoMemory) live new c))
+after_falls n (Some outcome.Exhausted) live new left all is one fewer =
+    falls_dropped left all (length new.waiting.untried) (many new.waiting) (ap (λ ws. length ws + 1) (after_untried n (Some outcome.Exhausted) live new refl is) ∙ one) (omega (arith, fewer, after_few n (Some outcome.Exhausted) live new is))
+after_falls n (Some outcome.Failed) live new left all is one fewer =
+    falls_dropped left all (length new.waiting.untried) (many new.waiting) (ap (λ ws. length ws + 1) (after_untried n (Some outcome.Failed) live new refl is) ∙ one) (omega (arith, fewer, after_few n (Some outcome.Failed) live new is))
+after_falls n None live new left all is one fewer =
+    falls_dropped left all (length new.waiting.untried) (many new.waiting) (ap (λ ws. length ws + 1) (after_untried n None live new refl is) ∙ one) (omega (arith, fewer, after_few n None live new is))
 
 -- by what is asked of its outcome
-pub after_closing : {K : Type 0} (n : ℕ) (o : Option Outcome) (live : Live K) → is_closing o ≡ true → without_session n live ≡ after_try n o live
-after_closing n None live h = absurd (false≢true h)
-after_closing n (Some outcome.NoMemory) live h = refl
-after_closing n (Some outcome.Kept) live h = absurd (false≢true h)
-after_closing n (Some outcome.Exhausted) live h = absurd (false≢true h)
-after_closing n (Some outcome.Failed) live h = absurd (false≢true h)
+pub after_closing : {K : Type 0} (n : ℕ) (o : Option Outcome) (live new : Live K) → is_closing o ≡ true → ClosesSession n live new → AfterTry n o live new
+after_closing n None live new h c = absurd (false≢true h)
+after_closing n (Some outcome.NoMemory) live new h c = c
+after_closing n (Some outcome.Kept) live new h c = absurd (false≢true h)
+after_closing n (Some outcome.Exhausted) live new h c = absurd (false≢true h)
+after_closing n (Some outcome.Failed) live new h c = absurd (false≢true h)
 
-pub after_kept : {K : Type 0} (n : ℕ) (o : Option Outcome) (live : Live K) → is_kept o ≡ true → tried_again live ≡ after_try n o live
-after_kept n None live h = absurd (false≢true h)
-after_kept n (Some outcome.NoMemory) live h = absurd (false≢true h)
-after_kept n (Some outcome.Kept) live h = refl
-after_kept n (Some outcome.Exhausted) live h = absurd (false≢true h)
-after_kept n (Some outcome.Failed) live h = absurd (false≢true h)
+pub after_kept : {K : Type 0} (n : ℕ) (o : Option Outcome) (live new : Live K) → is_kept o ≡ true → new ≡ tried_again live → AfterTry n o live new
+after_kept n None live new h is = absurd (false≢true h)
+after_kept n (Some outcome.NoMemory) live new h is = absurd (false≢true h)
+after_kept n (Some outcome.Kept) live new h is = is
+after_kept n (Some outcome.Exhausted) live new h is = absurd (false≢true h)
+after_kept n (Some outcome.Failed) live new h is = absurd (false≢true h)
 
-pub after_other : {K : Type 0} (n : ℕ) (o : Option Outcome) (live : Live K) → is_closing o ≡ false → is_kept o ≡ false → live ≡ after_try n o live
+pub after_other : {K : Type 0} (n : ℕ) (o : Option Outcome) (live : Live K) → is_closing o ≡ false → is_kept o ≡ false → AfterTry n o live live
 after_other n None live h k = refl
 after_other n (Some outcome.NoMemory) live h k = absurd (false≢true (sym h))
 after_other n (Some outcome.Kept) live h k = absurd (false≢true (sym k))
 after_other n (Some outcome.Exhausted) live h k = refl
 after_other n (Some outcome.Failed) live h k = refl
+
+-- those whose sessions are open, by the serials of the code
+still-same : (watching : Watching) (sessions : List Session) (waiting : List Outstanding) → filter (λ (o : Outstanding). list_any (λ (n : machine.Session). eqb n.serial o.session) (sessions_of watching sessions)) waiting ≡ filter (λ (o : Outstanding). has_serial o.session sessions) waiting
+still-same watching sessions waiting = filter-same _ _ (λ o. any-serial watching o.session sessions) waiting
 
 -- ---- from one try to the next
 
@@ -103,7 +131,7 @@ module _ {K : Type 0} (failed : K → ℕ) (m first : ℕ) (from : Live K) (befo
   -- one attempt more
   one_more : (x : IsSettling failed m first from before now listed number) (o : Option Outcome) (sent : List Sent) (new : Live K) (more : List Attempt) → more ≡ listed ++ listed_by number o
       → Reaches (state_of from m) first (x.made ++ made_by number (listed_of o)) (state_of new m) (x.sent ++ sent) (number + 1) new.waiting.untried
-      → PostsSent sent now.outbox new.outbox → AsksStore failed o now.database new.database → failed now.database.keeper ≤ failed new.database.keeper
+      → PostsSent sent now.outbox.frames new.outbox.frames → AsksStore failed o now.database new.database → failed now.database.keeper ≤ failed new.database.keeper
       → IsLeft now.sessions.open_sessions new.sessions.open_sessions → new.tries ≡ now.tries + 1 → Few (number + 1) new.waiting → IsSettling failed m first from before new more (number + 1)
   one_more x o sent new more is reaches posts asks counts left tries few = record {
     made = x.made ++ made_by number (listed_of o);
@@ -111,7 +139,7 @@ module _ {K : Type 0} (failed : K → ℕ) (m first : ℕ) (from : Live K) (befo
         ∙ (ap (λ (list : List machine.Attempt). (map attempt_view before ++ x.made) ++ list) (made_same number o) ∙ append_assoc (map attempt_view before) x.made (made_by number (listed_of o)))));
     sent = x.sent ++ sent;
     reaches = reaches;
-    posts = posts_then x.sent sent from.outbox now.outbox new.outbox x.posts posts;
+    posts = posts_then x.sent sent from.outbox.frames now.outbox.frames new.outbox.frames x.posts posts;
     asks = asks_then failed x.made (made_by number (listed_of o)) from.database now.database new.database x.asks (subst (λ (list : List machine.Attempt). AsksAll failed list now.database new.database) (made_same number o) (asks_one failed number o now.database new.database asks counts));
     left = left_then from.sessions.open_sessions now.sessions.open_sessions new.sessions.open_sessions x.left left;
     tries = omega (arith, x.tries, tries);
@@ -126,12 +154,12 @@ module _ {K : Type 0} (failed : K → ℕ) (m first : ℕ) (from : Live K) (befo
     one = omega (arith, ap (λ (ws : List Outstanding). length ws) next)
 
     -- one whose session was closed is not tried
-    pub skipped : machine.is_open (state_of now m) w.session ≡ false → IsSettling failed m first from before (record now { waiting = record now.waiting { untried = rest } }) listed number
+    pub skipped : has_serial w.session now.sessions.open_sessions ≡ false → IsSettling failed m first from before (record now { waiting = record now.waiting { untried = rest } }) listed number
     skipped away = record {
       made = x.made;
       lists = x.lists;
       sent = x.sent;
-      reaches = reaches_skip (state_of from m) first x.made (state_of now m) x.sent number w rest here away;
+      reaches = reaches_skip (state_of from m) first x.made (state_of now m) x.sent number w rest here (any-serial now.watchers w.session now.sessions.open_sessions ∙ away);
       posts = x.posts;
       asks = x.asks;
       left = x.left;
@@ -139,11 +167,18 @@ module _ {K : Type 0} (failed : K → ℕ) (m first : ℕ) (from : Live K) (befo
       few = few_dropped number (first + first + (length from.waiting.outstanding + length from.waiting.outstanding * length from.waiting.outstanding)) (length now.waiting.untried) (many now.waiting) x.few (length rest) (length rest + length now.waiting.outstanding) one (omega (arith, one));
     }
 
-    module _ (there : machine.is_open (state_of now m) w.session ≡ true) where
+    module _ (open' : has_serial w.session now.sessions.open_sessions ≡ true) where
+      there : machine.is_open (state_of now m) w.session ≡ true
+      there = any-serial now.watchers w.session now.sessions.open_sessions ∙ open'
+
+      -- what it comes to
+      abbrev on : TransactionOutcome
+      on = transaction now.database.schema now.database.committed (owns now.outbox.queues w.session) w.draws (m - w.arrival) w.operations
+
       -- one that changed nothing that was kept
       next_one : (o : Option Outcome) → machine.is_kept (listed_of o) ≡ false → (sent : List Sent) (new : Live K) (more : List Attempt) → more ≡ listed ++ listed_by number o
           → tries_again (state_of now m) w (listed_of o) ≡ Some (record { state = state_of new m; sent = sent }) → new.waiting.untried ≡ rest
-          → PostsSent sent now.outbox new.outbox → AsksStore failed o now.database new.database → failed now.database.keeper ≤ failed new.database.keeper
+          → PostsSent sent now.outbox.frames new.outbox.frames → AsksStore failed o now.database new.database → failed now.database.keeper ≤ failed new.database.keeper
           → IsLeft now.sessions.open_sessions new.sessions.open_sessions → new.tries ≡ now.tries + 1 → Few (number + 1) new.waiting → IsSettling failed m first from before new more (number + 1)
       next_one o not_kept sent new more is again untried posts asks counts left tries few =
           one_more x o sent new more is
@@ -151,51 +186,73 @@ module _ {K : Type 0} (failed : K → ℕ) (m first : ℕ) (from : Live K) (befo
           (reaches_next (state_of from m) first x.made (state_of now m) x.sent number w rest here (listed_of o) (record { state = state_of new m; sent = sent }) there again not_kept))
           posts asks counts left tries few
 
-      -- one that is blocked again
-      pub blocked : (timeout : Option ℕ) → transaction now.database.schema now.database.committed w.draws (m - w.arrival) w.operations ≡ Waits timeout
-          → IsSettling failed m first from before (record now { tries = now.tries + 1; waiting = record { untried = rest; outstanding = now.waiting.outstanding ++ record w { timeout = timeout } ∷ [] } }) listed (number + 1)
-      blocked timeout waits =
-          next_one None refl [] (record now { tries = now.tries + 1; waiting = record { untried = rest; outstanding = now.waiting.outstanding ++ record w { timeout = timeout } ∷ [] } }) listed (sym (append-nil listed))
-          (rw waits refl) refl (posts_none now.outbox now.outbox (λ other. refl)) refl (omega arith) (still_all now.sessions.open_sessions) refl
+      -- one that is blocked again, which leaves what waits in the outbox as it is
+      pub blocked : (outbox : Outbox) (timeout : Option ℕ) → outbox.queues ≡ now.outbox.queues → HasSameFrames now.outbox.frames outbox.frames → on ≡ Waits timeout
+          → IsSettling failed m first from before (record now { outbox = outbox; tries = now.tries + 1; waiting = record { untried = rest; outstanding = now.waiting.outstanding ++ record w { timeout = timeout } ∷ [] } }) listed (number + 1)
+      blocked outbox timeout queues silent waits =
+          next_one None refl [] (record now { outbox = outbox; tries = now.tries + 1; waiting = record { untried = rest; outstanding = now.waiting.outstanding ++ record w { timeout = timeout } ∷ [] } }) listed (sym (append-nil listed))
+          (rw (waits, queues) refl) refl (posts_none now.outbox.frames outbox.frames silent) refl (omega arith) (still_all now.sessions.open_sessions) refl
           (let same : length rest + length (now.waiting.outstanding ++ record w { timeout = timeout } ∷ []) ≡ many now.waiting = omega (arith, one, length-append now.waiting.outstanding (record w { timeout = timeout } ∷ [])) in
           rw same (few_blocked number (first + first + (length from.waiting.outstanding + length from.waiting.outstanding * length from.waiting.outstanding)) (length now.waiting.untried) (many now.waiting) x.few (length rest) one))
 
       -- one that is done
-      module _ (db : KeptDatabase K) (outbox : WaitingFrames) where
+      module _ (db : KeptDatabase K) (outbox : Outbox) (queues : outbox.queues ≡ now.outbox.queues) where
         abbrev mid : Live K
         mid = record now { database = db; outbox = outbox; tries = now.tries + 1; waiting = record now.waiting { untried = rest } }
 
-        few_after : (o : Option Outcome) → length (after_try w.session o mid).waiting.untried ≡ length rest → Few (number + 1) (after_try w.session o mid).waiting
-        few_after o same =
+        few_after : (o : Option Outcome) (new : Live K) → AfterTry w.session o mid new → machine.is_kept (listed_of o) ≡ false → Few (number + 1) new.waiting
+        few_after o new after h =
             few_done number (first + first + (length from.waiting.outstanding + length from.waiting.outstanding * length from.waiting.outstanding)) (length now.waiting.untried) (many now.waiting) x.few
-            (length (after_try w.session o mid).waiting.untried) (many (after_try w.session o mid).waiting) (omega (arith, same, one)) (omega (arith, one, after_few w.session o mid))
+            (length new.waiting.untried) (many new.waiting) (omega (arith, ap (λ (ws : List Outstanding). length ws) (after_untried w.session o mid new h after), one)) (omega (arith, one, after_few w.session o mid new after))
 
         -- what is tried again comes to what completes
-        completes_again : (o : Option Outcome) (c : IsCompleted w.session w.id (transaction now.database.schema now.database.committed w.draws (m - w.arrival) w.operations) now.database now.outbox o db outbox)
-            → tries_again (state_of now m) w (listed_of o) ≡ machine.attempt (state_of now m) w (transaction now.database.schema now.database.committed w.draws (m - w.arrival) w.operations) (listed_of o)
+        completes_again : (o : Option Outcome) (c : IsCompleted (sessions_of now.watchers now.sessions.open_sessions) w.session w.id on now.database now.outbox.frames o db outbox.frames)
+            → tries_again (state_of now m) w (listed_of o) ≡ machine.attempt (state_of now m) w on (listed_of o)
             → tries_again (state_of now m) w (listed_of o) ≡ Some (record { state = with_db (state_of now m) db; sent = c.sent })
-        completes_again o c is = is ∙ (ap (λ (t : TransactionOutcome). machine.attempt (state_of now m) w t (listed_of o)) c.is ∙ c.comes (state_of now m))
+        completes_again o c is = is ∙ (ap (λ (t : TransactionOutcome). machine.attempt (state_of now m) w t (listed_of o)) c.is ∙ c.comes (state_of now m) refl)
 
-        pub done : (o : Option Outcome) (more : List Attempt) → more ≡ listed ++ listed_by number o
-            → IsTrial w.session w.id (transaction now.database.schema now.database.committed w.draws (m - w.arrival) w.operations) now.database now.outbox (Done o) db outbox
-            → AsksStore failed o now.database db → failed now.database.keeper ≤ failed db.keeper → IsSettling failed m first from before (after_try w.session o mid) more (number + 1)
-        done (Some outcome.NoMemory) more is (same, silent) asks counts =
-            next_one (Some outcome.NoMemory) refl [] (after_try w.session (Some outcome.NoMemory) mid) more is
-            (rw (same, sessions_without w.session now.sessions.open_sessions) refl) refl (posts_none now.outbox outbox silent) asks counts (still_others w.session now.sessions.open_sessions) refl (few_after (Some outcome.NoMemory) refl)
-        done None more is c asks counts =
-            next_one None refl c.sent mid more is (completes_again None c refl) refl c.posts asks counts (still_all now.sessions.open_sessions) refl (few_after None refl)
-        done (Some outcome.Exhausted) more is c asks counts =
-            next_one (Some outcome.Exhausted) refl c.sent mid more is (completes_again (Some outcome.Exhausted) c refl) refl c.posts asks counts (still_all now.sessions.open_sessions) refl (few_after (Some outcome.Exhausted) refl)
-        done (Some outcome.Failed) more is c asks counts =
-            next_one (Some outcome.Failed) refl c.sent mid more is (completes_again (Some outcome.Failed) c refl) refl c.posts asks counts (still_all now.sessions.open_sessions) refl (few_after (Some outcome.Failed) refl)
-        done (Some outcome.Kept) more is c asks counts =
-            one_more x (Some outcome.Kept) c.sent (tried_again mid) more is
-            (reaches_again (state_of from m) first x.made (state_of now m) x.sent number w rest here (Some machine.Committed) (record { state = with_db (state_of now m) db; sent = c.sent }) there (completes_again (Some outcome.Kept) c refl) refl)
+        -- the state over the database is that of what lives
+        state_is : state_of mid m ≡ with_db (state_of now m) db
+        state_is = rw queues refl
+
+        unkept : (o : Option Outcome) (new : Live K) (more : List Attempt) → more ≡ listed ++ listed_by number o → machine.is_kept (listed_of o) ≡ false → AfterTry w.session o mid new → new ≡ mid
+            → tries_again (state_of now m) w (listed_of o) ≡ machine.attempt (state_of now m) w on (listed_of o)
+            → IsCompleted (sessions_of now.watchers now.sessions.open_sessions) w.session w.id on now.database now.outbox.frames o db outbox.frames
+            → AsksStore failed o now.database db → failed now.database.keeper ≤ failed db.keeper → IsSettling failed m first from before new more (number + 1)
+        unkept o new more is h after same tries c asks counts =
+            let few = few_after o new after h in
+            rw same (next_one o h c.sent mid more is (completes_again o c tries ∙ ap (λ (s : State). Some (record { state = s; sent = c.sent })) (sym state_is)) refl c.posts asks counts (still_all now.sessions.open_sessions) refl (rw same at few))
+
+        pub done : (o : Option Outcome) (new : Live K) (more : List Attempt) → more ≡ listed ++ listed_by number o → AfterTry w.session o mid new
+            → IsTrial (sessions_of now.watchers now.sessions.open_sessions) w.session w.id on now.database now.outbox.frames (Done o) db outbox.frames
+            → AsksStore failed o now.database db → failed now.database.keeper ≤ failed db.keeper → IsSettling failed m first from before new more (number + 1)
+        done (Some outcome.NoMemory) new more is c (same, silent) asks counts =
+            let sent = (machine.closed (state_of now m) w.session).sent in
+            let few = few_after (Some outcome.NoMemory) new c refl in
+            next_one (Some outcome.NoMemory) refl sent new more is
+            (rw (closed_state m w.session mid new c, queues, same) refl)
+            (ap (λ (l : Live K). l.waiting.untried) c.same)
+            (λ s. c.posts s ∙ (ap (λ (fs : List (List ℕ)). fs ++ frames_to s (told (told_of_leaving w.session outbox.queues))) (silent s) ∙ ap (λ (qs : Queues). waiting_for s now.outbox.frames ++ frames_to s (told (told_of_leaving w.session qs))) queues))
+            (ap (λ (l : Live K). l.database) c.same ∙ same)
+            (omega (arith, counts, ap (λ (l : Live K). failed l.database.keeper) c.same))
+            (rw c.same (still_others w.session now.sessions.open_sessions))
+            (ap (λ (l : Live K). l.tries) c.same) few
+        done None new more is after c asks counts = unkept None new more is refl after after refl c asks counts
+        done (Some outcome.Exhausted) new more is after c asks counts = unkept (Some outcome.Exhausted) new more is refl after after refl c asks counts
+        done (Some outcome.Failed) new more is after c asks counts = unkept (Some outcome.Failed) new more is refl after after refl c asks counts
+        done (Some outcome.Kept) new more is after c asks counts =
+            rw after (one_more x (Some outcome.Kept) c.sent (tried_again mid) more is
+            (again c)
             c.posts asks counts (still_all now.sessions.open_sessions) refl
-            (let all = many (tried_again mid).waiting in
-            let fewer = after_few w.session (Some outcome.Kept) mid in
-            let few = few_again number (first + first + (length from.waiting.outstanding + length from.waiting.outstanding * length from.waiting.outstanding)) (length now.waiting.untried) (many now.waiting) x.few all (omega (arith, one)) (omega (arith, one, fewer)) in
-            omega (arith, few))
+            (let fewer = after_few w.session (Some outcome.Kept) mid (tried_again mid) refl in
+            let few = few_again number (first + first + (length from.waiting.outstanding + length from.waiting.outstanding * length from.waiting.outstanding)) (length now.waiting.untried) (many now.waiting) x.few (many (tried_again mid).waiting) (omega (arith, one)) (omega (arith, one, fewer)) in
+            omega (arith, few)))
+          where
+            again : (c : IsCompleted (sessions_of now.watchers now.sessions.open_sessions) w.session w.id on now.database now.outbox.frames (Some outcome.Kept) db outbox.frames)
+                → Reaches (state_of from m) first (x.made ++ made_by number (listed_of (Some outcome.Kept))) (state_of (tried_again mid) m) (x.sent ++ c.sent) (number + 1) (tried_again mid).waiting.untried
+            again c =
+                let reached = reaches_again (state_of from m) first x.made (state_of now m) x.sent number w rest here (Some machine.Committed) (record { state = with_db (state_of now m) db; sent = c.sent }) there (completes_again (Some outcome.Kept) c refl) refl in
+                rw (queues, ← still-same now.watchers now.sessions.open_sessions rest) reached
 
 -- ---- the first and the last
 
@@ -207,7 +264,7 @@ begun failed m first old listed none = rw none (record {
   lists = sym (append-nil (map attempt_view listed));
   sent = [];
   reaches = reaches_first (state_of old m) first;
-  posts = posts_none old.outbox old.outbox (λ other. refl);
+  posts = posts_none old.outbox.frames old.outbox.frames (λ other. refl);
   asks = asks_none failed old.database;
   left = still_all old.sessions.open_sessions;
   tries = refl;

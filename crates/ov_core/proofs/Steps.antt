@@ -13,22 +13,26 @@ use Rattle.ov_specs.specs.wire.Message.{Message}
 use Rattle.ov_specs.specs.schema.SchemaTypes.{Schema}
 use Rattle.ov_specs.specs.rows.Database.{Database}
 use Rattle.ov_db.specs.KeptDatabase.{KeptDatabase}
+use Rattle.ov_outbox.specs.Frames.{WaitingFrames, waiting_for, has_queue, PostsSent, HasSameFrames}
+use Rattle.ov_sessions.specs.Sessions.{OpenSessions}
+use Rattle.ov_sessions.specs.declared.session.Session.{Session}
+use Rattle.ov_sessions.proofs.Keying.{shut_without, still_others}
 use Rattle.ov_txn.specs.Drawing.{DrawsFrom}
 use Rattle.ov_core.specs.declared.event.Attempt.{Attempt}
 use Rattle.ov_core.specs.declared.event.Entry.{Entry}
-use Rattle.ov_core.specs.declared.event.Session.{Session}
 use Rattle.ov_core.specs.declared.event.Stepped.TheVariants as answer
 use Rattle.ov_core.specs.declared.live.Live.{Live}
 use Rattle.ov_core.specs.Entries.{attempt_view, entry_view, is_failure}
-use Rattle.ov_core.specs.Outbox.{WaitingFrames, waiting_for, PostsSent, HasSameFrames}
-use Rattle.ov_core.specs.Sessions.{OpenSessions}
+use Rattle.ov_core.specs.Sessions.{ClosesSession, OpensLive}
 use Rattle.ov_core.specs.States.{state_of}
 use Rattle.ov_core.specs.Settling.{ComesTo}
 use Rattle.ov_core.specs.Following.{CoreState, EntersEntry, Follows, none_given}
 use Rattle.ov_core.specs.History.{newest, HasHistory}
 use Rattle.ov_core.specs.Stepping.{closing, AsksKeeper, Closes, HasSameKeeper, IsEntered, has_outcome}
-use Rattle.ov_core.proofs.Answered.{frames_to-append}
+use Rattle.ov_outbox.proofs.Answered.{frames_to-append}
 use Rattle.ov_core.proofs.Histories.{entered_behind, keeps_more, has_more}
+use Rattle.ov_core.proofs.Settlings.{closed_state}
+use Rattle.ov_core.proofs.Watching.{any-serial, left-open, sessions-opened}
 
 -- ---- what a step of the code leaves
 
@@ -67,26 +71,6 @@ nothing_chosen m = record { moment = m; draws = []; outcomes = [] }
 abbrev pub entry_of : machine.Event → machine.Choice → machine.Entry
 entry_of event choice = record { event = event; choice = choice }
 
-pub opened : {K D : Type 0} (old : CoreState K D) (m : ℕ) (x : Entry) (kept : List Entry) (sessions : List machine.Session) (keyed : List Session) → old.state.moment ≤ m → kept ≡ newest (old.kept ++ x ∷ []) → entry_view x ≡ entry_of machine.Open (nothing_chosen m)
-    → sessions ≡ old.state.sessions ++ record { serial = old.state.next } ∷ []
-    → EntersEntry old (entry_of machine.Open (nothing_chosen m)) (record old { state = record old.state { moment = m; sessions = sessions; next = old.state.next + 1 }; open_sessions = keyed; kept = kept })
-opened old m x kept sessions keyed low added is grown = moves_silent old _ _ x (step_at old.state machine.Open (nothing_chosen m) low ∙ rw grown refl) added is (λ s. refl)
-
-pub has_opened : (s : State) (m : ℕ) (x : Entry) (old new : List Entry) (sessions : List machine.Session) → s.moment ≤ m → new ≡ newest (old ++ x ∷ []) → entry_view x ≡ entry_of machine.Open (nothing_chosen m) → sessions ≡ s.sessions ++ record { serial = s.next } ∷ [] → HasHistory s old
-    → HasHistory (record s { moment = m; sessions = sessions; next = s.next + 1 }) new
-has_opened s m x old new sessions low added is grown has =
-    has_more s (record s { moment = m; sessions = sessions; next = s.next + 1 }) old new (entry_of machine.Open (nothing_chosen m)) [] (step_at s machine.Open (nothing_chosen m) low ∙ rw grown refl) (entered_behind old new x _ added is) has
-
-pub closed : {K D : Type 0} (old : CoreState K D) (m : ℕ) (s : ℕ) (cause : machine.Cause) (x : Entry) (kept : List Entry) (sessions : List machine.Session) (keyed : List Session) (outbox : WaitingFrames) → old.state.moment ≤ m → machine.is_open old.state s ≡ true → kept ≡ newest (old.kept ++ x ∷ []) → entry_view x ≡ closing m s cause
-    → sessions ≡ (machine.without_session s old.state).sessions → HasSameFrames old.outbox outbox
-    → EntersEntry old (closing m s cause) (record old { state = record old.state { moment = m; sessions = sessions; outstanding = machine.of_others s old.state.outstanding }; open_sessions = keyed; kept = kept; outbox = outbox })
-closed old m s cause x kept sessions keyed outbox low there added is left same = moves_silent old _ _ x (step_at old.state (machine.Close s cause) (nothing_chosen m) low ∙ rw (there, left) refl) added is same
-
-pub has_closed : (st : State) (m s : ℕ) (cause : machine.Cause) (x : Entry) (old new : List Entry) (sessions : List machine.Session) → st.moment ≤ m → machine.is_open st s ≡ true → new ≡ newest (old ++ x ∷ []) → entry_view x ≡ closing m s cause
-    → sessions ≡ (machine.without_session s st).sessions → HasHistory st old → HasHistory (record st { moment = m; sessions = sessions; outstanding = machine.of_others s st.outstanding }) new
-has_closed st m s cause x old new sessions low there added is left has =
-    has_more st (record st { moment = m; sessions = sessions; outstanding = machine.of_others s st.outstanding }) old new (closing m s cause) [] (step_at st (machine.Close s cause) (nothing_chosen m) low ∙ rw (there, left) refl) (entered_behind old new x _ added is) has
-
 -- ---- a message that was taken, and a Tick
 
 -- the entry of the code is the machine's
@@ -101,12 +85,52 @@ core_of failed live m entries source = record {
   state = state_of live m;
   open_sessions = live.sessions.open_sessions;
   kept = entries;
-  outbox = live.outbox;
+  outbox = live.outbox.frames;
   keeper = live.database.keeper;
   failures = failed live.database.keeper;
   source = source;
   tries = live.tries;
 }
+
+-- a session that was opened
+module _ {K : Type 0} (failed : K → ℕ) (session : Session) (old new : Live K) (before m : ℕ) (opens : OpensLive old session new) where
+  opened_state : (machine.with_next_session (state_of old m)) ≡ state_of new m
+  opened_state = sym (rw (opens.same, opens.opens.sessions, sessions-opened session old.sessions.next old.watchers new.watchers opens.opens.serial opens.watching old.sessions.open_sessions opens.opens.fresh) refl)
+
+  is_opening : before ≤ m → step (state_of old before) (entry_of machine.Open (nothing_chosen m)) ≡ Some (record { state = state_of new m; sent = [] })
+  is_opening low = step_at (state_of old before) machine.Open (nothing_chosen m) low ∙ ap (λ (s : State). Some (record { state = s; sent = [] })) opened_state
+
+  pub opened : {D : Type 0} (was is : List Entry) (x : Entry) (source : D) → before ≤ m → is ≡ newest (was ++ x ∷ []) → entry_view x ≡ entry_of machine.Open (nothing_chosen m)
+      → EntersEntry (core_of failed old before was source) (entry_of machine.Open (nothing_chosen m)) (core_of failed new m is source)
+  opened was is x source low added same =
+      moves_silent (core_of failed old before was source) (core_of failed new m is source) (entry_of machine.Open (nothing_chosen m)) x (is_opening low) added same (λ s. ap (λ (l : Live K). waiting_for s l.outbox.frames) opens.same)
+
+  pub has_opened : (was is : List Entry) (x : Entry) → before ≤ m → is ≡ newest (was ++ x ∷ []) → entry_view x ≡ entry_of machine.Open (nothing_chosen m) → HasHistory (state_of old before) was → HasHistory (state_of new m) is
+  has_opened was is x low added same has = has_more (state_of old before) (state_of new m) was is (entry_of machine.Open (nothing_chosen m)) [] (is_opening low) (entered_behind was is x _ added same) has
+
+-- a session that was closed
+module _ {K : Type 0} (failed : K → ℕ) (n : ℕ) (cause : machine.Cause) (old new : Live K) (before m : ℕ) (closes : ClosesSession n old new) where
+  abbrev sent : List Sent
+  sent = (machine.closed (state_of old m) n).sent
+
+  is_closing_of : before ≤ m → machine.is_open (state_of old before) n ≡ true → step (state_of old before) (closing m n cause) ≡ Some (record { state = state_of new m; sent = sent })
+  is_closing_of low there =
+      step_at (state_of old before) (machine.Close n cause) (nothing_chosen m) low ∙ (rw there refl ∙ ap (λ (s : State). Some (record { state = s; sent = sent })) (sym (closed_state m n old new closes)))
+
+  pub closed : {D : Type 0} (was is : List Entry) (x : Entry) (source : D) → before ≤ m → machine.is_open (state_of old before) n ≡ true → is ≡ newest (was ++ x ∷ []) → entry_view x ≡ closing m n cause
+      → Closes m n cause (core_of failed old before was source) (core_of failed new m is source)
+  closed was is x source low there added same = record {
+    moves = moves_with (core_of failed old before was source) (core_of failed new m is source) (closing m n cause) x sent (is_closing_of low there) added same closes.posts;
+    shut = any-serial new.watchers n new.sessions.open_sessions ∙ rw closes.same (shut_without n old.sessions.open_sessions);
+    keys = left-open (state_of new m) new.watchers old.sessions.open_sessions new.sessions.open_sessions refl (rw closes.same (still_others n old.sessions.open_sessions));
+    drawn = refl;
+    asks = (ap (λ (l : Live K). l.database.keeper) closes.same, ap (λ (l : Live K). failed l.database.keeper) closes.same);
+    tries = ap (λ (l : Live K). l.tries) closes.same;
+    forgotten = closes.forgotten;
+  }
+
+  pub has_closed : (was is : List Entry) (x : Entry) → before ≤ m → machine.is_open (state_of old before) n ≡ true → is ≡ newest (was ++ x ∷ []) → entry_view x ≡ closing m n cause → HasHistory (state_of old before) was → HasHistory (state_of new m) is
+  has_closed was is x low there added same has = has_more (state_of old before) (state_of new m) was is (closing m n cause) sent (is_closing_of low there) (entered_behind was is x _ added same) has
 
 -- what an event came to, as it was entered
 module _ {K : Type 0} (failed : K → ℕ) (event : machine.Event) (old new : Live K) (before m : ℕ) (draws : List Uuid) (attempts : List Attempt) (comes : ComesTo failed m event old draws attempts new) where
@@ -138,7 +162,7 @@ pub took : {K D : Type 0} (failed : K → ℕ) (draws : D → Uuid → D → Typ
 took failed draws n message old new before m drawn attempts was is x source after true comes low added same from there = record {
   entry = entered failed (machine.Take n message) old new before m drawn attempts comes;
   tells = (refl, there);
-  keys = comes.left;
+  keys = left-open (state_of new m) new.watchers old.sessions.open_sessions new.sessions.open_sessions refl comes.left;
   moment = refl;
   drawn = from;
   moves = enters failed (machine.Take n message) old new before m drawn attempts comes was is x source after low added same;
@@ -148,7 +172,7 @@ took failed draws n message old new before m drawn attempts was is x source afte
 took failed draws n message old new before m drawn attempts was is x source after false comes low added same from away = record {
   entry = entered failed (machine.Take n message) old new before m drawn attempts comes;
   tells = (inl refl, away);
-  keys = comes.left;
+  keys = left-open (state_of new m) new.watchers old.sessions.open_sessions new.sessions.open_sessions refl comes.left;
   moment = refl;
   drawn = from;
   moves = enters failed (machine.Take n message) old new before m drawn attempts comes was is x source after low added same;
@@ -163,7 +187,7 @@ pub ticked : {K D : Type 0} (failed : K → ℕ) (draws : D → Uuid → D → T
 ticked failed draws old new before m attempts was is x source comes low added same = record {
   entry = entered failed machine.Tick old new before m [] attempts comes;
   tells = refl;
-  keys = comes.left;
+  keys = left-open (state_of new m) new.watchers old.sessions.open_sessions new.sessions.open_sessions refl comes.left;
   moment = refl;
   drawn = refl;
   moves = enters failed machine.Tick old new before m [] attempts comes was is x source source low added same;
@@ -206,11 +230,11 @@ none_open = record { open_sessions = []; next = 1 }
 
 -- what lives over a database that was opened
 abbrev pub opened_over : {K : Type 0} → KeptDatabase K → Live K
-opened_over d = record { database = d; sessions = none_open; waiting = record { untried = []; outstanding = [] }; outbox = []; tries = 0 }
+opened_over d = record { database = d; sessions = none_open; watchers = []; waiting = record { untried = []; outstanding = [] }; outbox = record { frames = []; queues = [] }; tries = 0 }
 
 -- its state
-opened_state : {K : Type 0} (schema : Schema) (d : KeptDatabase K) → d.schema ≡ schema → d.sealed ≡ None → state_of (opened_over d) 0 ≡ machine.opening schema d.committed
-opened_state schema d same unsealed =
+opened_over_state : {K : Type 0} (schema : Schema) (d : KeptDatabase K) → d.schema ≡ schema → d.sealed ≡ None → state_of (opened_over d) 0 ≡ machine.opening schema d.committed
+opened_over_state schema d same unsealed =
     ap (λ (v : Schema). record (state_of (opened_over d) 0) { schema = v }) same ∙ ap (λ (v : Option Database). record (machine.opening schema d.committed) { sealed = v }) unsealed
 
 -- the empty history is legal
@@ -220,7 +244,7 @@ has_none d kept unsealed none = record {
   database = d.committed;
   history = [];
   sent = [];
-  legal = ap (λ (s : State). Some (record { state = s; sent = [] })) (sym (opened_state d.schema d refl unsealed));
+  legal = ap (λ (s : State). Some (record { state = s; sent = [] })) (sym (opened_over_state d.schema d refl unsealed));
   ends = ap (map entry_view) none;
 }
 
@@ -228,7 +252,7 @@ has_none d kept unsealed none = record {
 pub follows_none : {K D : Type 0} (schema : Schema) (d : KeptDatabase K) (core : CoreState K D) → d.schema ≡ schema → d.sealed ≡ None → core.state ≡ state_of (opened_over d) 0 → core.kept ≡ [] → core.outbox ≡ [] → Follows (machine.opening schema d.committed) [] none_given core
 follows_none schema d core same unsealed is none nothing = record {
   sent = [];
-  legal = ap (λ (s : State). Some (record { state = s; sent = [] })) (sym (is ∙ opened_state schema d same unsealed));
+  legal = ap (λ (s : State). Some (record { state = s; sent = [] })) (sym (is ∙ opened_over_state schema d same unsealed));
   kept = ([], ap (map entry_view) none);
   issued = λ s. ap (λ (waits : WaitingFrames). waiting_for s waits) (sym nothing);
 }

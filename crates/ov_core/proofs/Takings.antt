@@ -1,24 +1,30 @@
 -- What a message and a Tick come to, from the work and from settling.
-use Rattle.std.proofs.Common.{◌≡◌, ℕ, ◌+◌, ◌≤◌, List, [], ◌++◌, map, length, refl, sym, ap, subst, ◌∙◌, true, false, Option, Some, None, arith}
+use Rattle.std.proofs.Common.{◌≡◌, ℕ, ◌+◌, ◌≤◌, List, [], ◌++◌, map, length, refl, sym, ap, subst, ◌∙◌, cond, eqb, Bool, true, false, Option, Some, None, arith}
 use Rattle.std.proofs.lemmas.Bool.{le-leb, false≢true}
+use Rattle.ov_specs.specs.locks.Queues.{Queues, leave, told_of_leaving}
+use Rattle.ov_specs.specs.machine.History.{frames_to}
 use Rattle.ov_specs.specs.machine.Machine as machine
-use Rattle.ov_specs.specs.machine.Machine.{State, Stepped, Passed, Work, works, draws_for}
+use Rattle.ov_specs.specs.machine.Machine.{State, Stepped, Passed, Work, works, draws_for, told}
 use Rattle.ov_specs.specs.values.Uuid.{Uuid}
 use Rattle.ov_specs.specs.wire.Message.{Message}
 use Rattle.ov_specs.proofs.laws.Happening.{take_done, take_settled, tick_settled}
+use Rattle.ov_outbox.specs.Frames.{waiting_for}
+use Rattle.ov_sessions.specs.Sessions.{without_serial}
+use Rattle.ov_txn.specs.Waiting.{WaitingList}
+use Rattle.ov_watch.specs.Watching.{monitors_at}
+use Rattle.ov_sessions.proofs.Keying.{still_all, still_others, left_then}
 use Rattle.ov_core.specs.declared.event.Attempt.{Attempt}
 use Rattle.ov_core.specs.declared.event.Outcome.{Outcome}
 use Rattle.ov_core.specs.declared.event.Outcome.TheVariants as outcome
 use Rattle.ov_core.specs.declared.live.Live.{Live}
 use Rattle.ov_core.specs.Entries.{attempt_view, listed_by, is_kept, is_closing}
-use Rattle.ov_core.specs.Handling.{AsksStore, WorkIsDone, WorksWith, listed_of}
-use Rattle.ov_core.specs.Settling.{ComesTo, Settles, without_session, most_tries}
-use Rattle.ov_core.specs.Waiting.{WaitingList}
+use Rattle.ov_core.specs.Handling.{AsksStore, Stays, WorkIsDone, WorksWith, listed_of}
+use Rattle.ov_core.specs.Sessions.{ClosesSession}
+use Rattle.ov_core.specs.Settling.{ComesTo, Settles, most_tries}
 use Rattle.ov_core.specs.States.{state_of}
-use Rattle.ov_core.proofs.Answered.{posts_then}
+use Rattle.ov_outbox.proofs.Answered.{posts_then}
 use Rattle.ov_core.proofs.Asking.{asks_one, asks_then}
-use Rattle.ov_core.proofs.Keying.{still_all, still_others, sessions_without, left_then}
-use Rattle.ov_core.proofs.Workings.{posts_none}
+use Rattle.ov_core.proofs.Settlings.{closed_state}
 
 -- what is listed of attempt 1, and no more
 listed_alone : (o : Option Outcome) → machine.listed 1 (map attempt_view (listed_by 1 o)) ≡ record { outcome = listed_of o; others = [] }
@@ -62,6 +68,25 @@ kept_waits m n w draws old (Some outcome.Kept) new h done = (done.untried, done.
 kept_waits m n w draws old (Some outcome.Exhausted) new h done = absurd (false≢true h)
 kept_waits m n w draws old (Some outcome.Failed) new h done = absurd (false≢true h)
 
+-- a closing behind work for which memory was refused is one of what lived before
+closes_from : {K : Type 0} (n : ℕ) (old mid new : Live K) → Stays n old mid → ClosesSession n mid new → ClosesSession n (record old { tries = mid.tries }) new
+closes_from {K} n old mid new stays c = record {
+  same = c.same ∙ ap (λ (l : Live K). record l {
+    sessions = record l.sessions { open_sessions = without_serial n l.sessions.open_sessions };
+    watchers = new.watchers;
+    waiting = record l.waiting { outstanding = machine.of_others n l.waiting.outstanding };
+    outbox = new.outbox;
+  }) stays.same;
+  watching = λ other. c.watching other ∙ by other (eqb other n) refl;
+  queues = c.queues ∙ ap (leave n) stays.queues;
+  forgotten = λ h. c.forgotten (stays.frames n ∙ h);
+  posts = λ s. c.posts s ∙ (ap (λ (fs : List (List ℕ)). fs ++ frames_to s (told (told_of_leaving n mid.outbox.queues))) (stays.frames s) ∙ ap (λ (qs : Queues). waiting_for s old.outbox.frames ++ frames_to s (told (told_of_leaving n qs))) stays.queues);
+}
+  where
+    by : (other : ℕ) (b : Bool) → eqb other n ≡ b → cond b [] (monitors_at other mid.watchers) ≡ cond b [] (monitors_at other old.watchers)
+    by other true is = refl
+    by other false is = stays.watching other is
+
 -- the work on a message, in which the live state went from one to another
 module _ {K : Type 0} (failed : K → ℕ) (m n : ℕ) (message : Message) (draws : List Uuid) (old mid : Live K) (there : machine.is_open (state_of old m) n ≡ true) (resting : old.waiting.untried ≡ []) where
   abbrev work : Work
@@ -71,21 +96,23 @@ module _ {K : Type 0} (failed : K → ℕ) (m n : ℕ) (message : Message) (draw
   choice attempts = record { moment = m; draws = draws; outcomes = map attempt_view attempts }
 
   -- memory was refused, and the session is closed
-  pub take_closes : (o : Option Outcome) (new : Live K) (attempts : List Attempt) → is_closing o ≡ true → attempts ≡ listed_by 1 o → new ≡ without_session n mid → WorksWith m n work draws old o mid
+  pub take_closes : (o : Option Outcome) (new : Live K) (attempts : List Attempt) → is_closing o ≡ true → attempts ≡ listed_by 1 o → ClosesSession n mid new → WorksWith m n work draws old o mid
       → AsksStore failed o old.database mid.database → failed old.database.keeper ≤ failed mid.database.keeper → mid.tries ≤ old.tries + 1 → ComesTo failed m (machine.Take n message) old draws attempts new
-  take_closes o new attempts closing listed is done asks counts tries =
+  take_closes o new attempts closing listed closes done asks counts tries =
       let no_memory = closing_is o closing in
       let (few, stays) = rw no_memory at done in
-      rw (listed, is, no_memory) (record {
-        sent = [];
+      let c = closes_from n old mid new stays closes in
+      let database : new.database ≡ mid.database = ap (λ (l : Live K). l.database) closes.same in
+      rw (listed, no_memory) (record {
+        sent = (machine.closed (state_of old m) n).sent;
         happens = take_done (state_of old m) (choice (listed_by 1 (Some outcome.NoMemory))) n message (record { outcome = Some machine.NoMemory; others = [] }) (machine.closed (state_of old m) n) there refl
             (rw (le-leb (length draws) (draws_for work) few) refl) refl refl
-            ∙ rw (stays.same, sessions_without n old.sessions.open_sessions) refl;
-        posts = posts_none old.outbox mid.outbox stays.frames;
-        asks = asks_one failed 1 (Some outcome.NoMemory) old.database mid.database (rw no_memory at asks) counts;
-        left = rw stays.same (still_others n old.sessions.open_sessions);
-        tries = omega (arith, tries);
-        untried = rw stays.same resting;
+            ∙ ap (λ (s : State). Some (record { state = s; sent = (machine.closed (state_of old m) n).sent })) (sym (closed_state m n (record old { tries = mid.tries }) new c));
+        posts = c.posts;
+        asks = rw database (asks_one failed 1 (Some outcome.NoMemory) old.database mid.database (rw no_memory at asks) counts);
+        left = rw c.same (still_others n old.sessions.open_sessions);
+        tries = omega (arith, tries, ap (λ (l : Live K). l.tries) closes.same);
+        untried = ap (λ (l : Live K). l.waiting.untried) c.same ∙ resting;
       })
 
   -- it was done, and nothing was kept
@@ -119,7 +146,7 @@ module _ {K : Type 0} (failed : K → ℕ) (m n : ℕ) (message : Message) (draw
         happens = ap (λ (list : List machine.Attempt). machine.happens (state_of old m) (record { moment = m; draws = draws; outcomes = list }) (machine.Take n message)) all
             ∙ take_settled (state_of old m) (record { moment = m; draws = draws; outcomes = map attempt_view (listed_by 1 (Some outcome.Kept)) ++ s.made }) n message (record { outcome = Some machine.Committed; others = s.made }) (record { state = state_of mid m; sent = done.sent })
             there refl worked (record { tried = record { stepped = record { state = state_of new m; sent = s.sent }; others = [] }; next = s.next; has_changed = false }) refl s.settles refl;
-        posts = posts_then done.sent s.sent old.outbox mid.outbox new.outbox done.posts s.posts;
+        posts = posts_then done.sent s.sent old.outbox.frames mid.outbox.frames new.outbox.frames done.posts s.posts;
         asks = rw all (asks_then failed (map attempt_view (listed_by 1 (Some outcome.Kept))) s.made old.database mid.database new.database (asks_one failed 1 (Some outcome.Kept) old.database mid.database asked counts) s.asks);
         left = left_then old.sessions.open_sessions mid.sessions.open_sessions new.sessions.open_sessions (rw done.sessions (still_all old.sessions.open_sessions)) s.left;
         tries = omega (arith, tries, s.tries, ap (λ (w : WaitingList). most_tries (length w.outstanding)) waits);

@@ -1,20 +1,25 @@
 -- What comes of the work on a message, and of a try of a transaction: what the machine makes of it. What names no source is our
 -- own.
-use Rattle.std.specs.Prelude.{◌≡◌, ℕ, ◌≤◌, List, [], ◌∷◌, ◌++◌, length, map, filter, not, codes, true, false, is_some, Option, Some, None, option_map, option_to_list}
+use Rattle.std.specs.Prelude.{◌≡◌, ◌⊎◌, ◌==◌, ℕ, ◌≤◌, List, [], ◌∷◌, ◌++◌, length, map, filter, not, codes, true, false, is_some, Option, Some, None, option_map, option_to_list}
 use Rattle.serde_json.specs.Data.{Data, Items}
 use Rattle.serde_json.specs.Written.{compact_text}
 use Rattle.ov_specs.specs.wire.Frame.{frame, failure_tree}
 use Rattle.ov_specs.specs.machine.Machine as machine
-use Rattle.ov_specs.specs.machine.Machine.{State, Sent, Stepped, Work, Answers, Transact, Cancels, works, draws_for, completes, to_session}
+use Rattle.ov_specs.specs.locks.Queues.{call_refusal}
+use Rattle.ov_specs.specs.machine.Machine.{State, Session, Sent, Stepped, Work, Answers, Transact, Cancels, Locks, works, draws_for, completes, to_session, unless_refused, monitors_of, monitor_work, monitor_cancel_work}
+use Rattle.ov_specs.specs.monitors.Monitors.{added, canceled}
 use Rattle.ov_specs.specs.operations.Transaction.{TransactionOutcome, Completes, Waits}
 use Rattle.ov_specs.specs.rows.Database.{Database}
 use Rattle.ov_specs.specs.values.Uuid.{Uuid}
 use Rattle.ov_db.specs.KeptDatabase.{KeptDatabase}
 use Rattle.ov_keeper.specs.Keeping.{HasFailed}
+use Rattle.ov_locks.specs.Calls.{lock_call_view}
+use Rattle.ov_outbox.specs.Frames.{WaitingFrames, PostsSent, HasSameFrames}
+use Rattle.ov_outbox.specs.Outbox.{Outbox}
+use Rattle.ov_txn.specs.Waiting.{has_text}
+use Rattle.ov_watch.specs.Watching.{monitors_at}
 use Rattle.ov_core.specs.Entries.{outcome_view, is_kept, is_of_store, is_failure, some_outcome}
-use Rattle.ov_core.specs.Outbox.{WaitingFrames, PostsSent, HasSameFrames}
 use Rattle.ov_core.specs.States.{state_of}
-use Rattle.ov_core.specs.Waiting.{has_text}
 use Rattle.ov_core.specs.declared.answer.Work as code
 use Rattle.ov_core.specs.declared.answer.Work.TheVariants as kinds
 use Rattle.ov_core.specs.declared.attempt.Trial.{Trial}
@@ -24,18 +29,21 @@ use Rattle.ov_core.specs.declared.event.Outcome.TheVariants as outcome
 use Rattle.ov_core.specs.declared.handle.Handled.{Handled}
 use Rattle.ov_core.specs.declared.live.Live.{Live}
 
--- The work of the code is that of the machine: its frame is the machine's answer, or it is the same transaction, or to cancel the
--- one with the same id.
-abbrev pub IsWork : Work → code.Work → Type 0
-IsWork (Answers trees) (kinds.Answer bytes) = map frame trees ≡ option_to_list bytes
-IsWork (Transact id operations) (kinds.Transact i o) = (i ≡ id) × (o ≡ operations)
-IsWork (Cancels id) (kinds.Cancel i text) = (i ≡ id) × (text ≡ compact_text id)
-IsWork (Answers trees) (kinds.Transact i o) = ⊥
-IsWork (Answers trees) (kinds.Cancel i text) = ⊥
-IsWork (Transact id operations) (kinds.Answer bytes) = ⊥
-IsWork (Transact id operations) (kinds.Cancel i text) = ⊥
-IsWork (Cancels id) (kinds.Answer bytes) = ⊥
-IsWork (Cancels id) (kinds.Transact i o) = ⊥
+-- The work of the code, of a session in a state, is what the machine is asked for: its frame is the machine's answer, or it is the same
+-- transaction, or to cancel the one with the same id; what is asked of a lock or of a monitor is refused where the machine refuses it.
+abbrev pub IsWork : State → ℕ → Work → code.Work → Type 0
+IsWork s session (Answers trees) (kinds.Answer bytes) = map frame trees ≡ option_to_list bytes
+IsWork s session asked (kinds.Answer bytes) = ⊥
+IsWork s session asked (kinds.Transact id operations) = asked ≡ Transact id operations
+IsWork s session asked (kinds.Cancel id text) = (asked ≡ Cancels id) × (text ≡ compact_text id)
+IsWork s session asked (kinds.Lock call id name) = asked ≡ unless_refused id (call_refusal (lock_call_view call) name session s.queues) (Locks (lock_call_view call) id name)
+IsWork s session asked (kinds.Monitor id name requests) = asked ≡ monitor_work s id name (added s.schema (monitors_of session s) name requests)
+IsWork s session asked (kinds.CancelMonitor id name) = asked ≡ monitor_cancel_work id (canceled (monitors_of session s) name)
+
+-- nothing is drawn for it
+abbrev pub IsWithoutDraws : code.Work → Type 0
+IsWithoutDraws (kinds.Transact id operations) = ⊥
+IsWithoutDraws work = Unit {0}
 
 -- ---- what waits
 
@@ -76,22 +84,22 @@ listed_of o = option_map outcome_view o
 abbrev pub with_db : {K : Type 0} → State → KeptDatabase K → State
 with_db s kept = record s { schema = kept.schema; database = kept.committed; sealed = kept.sealed }
 
--- A transaction that comes to this on the database completes: in every state over the database the machine comes to the state
--- over the database as it is now, and what it sends waits behind what waited.
-pub record IsCompleted {K : Type 0} (session : ℕ) (id : Data) (on : TransactionOutcome) (old : KeptDatabase K) (waited : WaitingFrames) (o : Option Outcome) (new : KeptDatabase K) (waits : WaitingFrames) : Type 0 where
+-- A transaction that comes to this on the database completes: in every state over the database with these sessions the machine comes
+-- to the state over the database as it is now, and what it sends waits behind what waited.
+pub record IsCompleted {K : Type 0} (sessions : List Session) (session : ℕ) (id : Data) (on : TransactionOutcome) (old : KeptDatabase K) (waited : WaitingFrames) (o : Option Outcome) (new : KeptDatabase K) (waits : WaitingFrames) : Type 0 where
   pub results : Items
   pub database : Database
   pub is : on ≡ Completes results database
   pub sent : List Sent
-  pub comes : (s : State) → completes (with_db s old) session id results database (listed_of o) ≡ Some (record { state = with_db s new; sent = sent })
+  pub comes : (s : State) → s.sessions ≡ sessions → completes (with_db s old) session id results database (listed_of o) ≡ Some (record { state = with_db s new; sent = sent })
   pub posts : PostsSent sent waited waits
 
 -- A try of a transaction that comes to this on the database: it completes, or it is blocked and nothing is changed, or memory was
 -- refused and nothing is changed.
-abbrev pub IsTrial : {K : Type 0} → ℕ → Data → TransactionOutcome → KeptDatabase K → WaitingFrames → Trial → KeptDatabase K → WaitingFrames → Type 0
-IsTrial session id on old waited (Done (Some outcome.NoMemory)) new waits = (new ≡ old) × HasSameFrames waited waits
-IsTrial session id on old waited (Done o) new waits = IsCompleted session id on old waited o new waits
-IsTrial session id on old waited (Blocked timeout) new waits = (on ≡ Waits timeout) × (new ≡ old) × (waits ≡ waited)
+abbrev pub IsTrial : {K : Type 0} → List Session → ℕ → Data → TransactionOutcome → KeptDatabase K → WaitingFrames → Trial → KeptDatabase K → WaitingFrames → Type 0
+IsTrial sessions session id on old waited (Done (Some outcome.NoMemory)) new waits = (new ≡ old) × HasSameFrames waited waits
+IsTrial sessions session id on old waited (Done o) new waits = IsCompleted sessions session id on old waited o new waits
+IsTrial sessions session id on old waited (Blocked timeout) new waits = (on ≡ Waits timeout) × (new ≡ old) × HasSameFrames waited waits
 
 -- what is listed of it
 abbrev pub outcome_in : Trial → Option Outcome
@@ -100,24 +108,26 @@ outcome_in (Blocked timeout) = None
 
 -- ---- the work on a message
 
--- nothing is changed but the count of attempts, and the same frames wait
-pub record Stays {K : Type 0} (old new : Live K) : Type 0 where
-  pub same : new ≡ record old { outbox = new.outbox; tries = new.tries }
-  pub frames : HasSameFrames old.outbox new.outbox
+-- Nothing is changed but the count of attempts and what this session watches, and the same frames wait.
+pub record Stays {K : Type 0} (session : ℕ) (old new : Live K) : Type 0 where
+  pub same : new ≡ record old { watchers = new.watchers; outbox = new.outbox; tries = new.tries }
+  pub watching : (other : ℕ) → (other == session) ≡ false → monitors_at other new.watchers ≡ monitors_at other old.watchers
+  pub queues : new.outbox.queues ≡ old.outbox.queues
+  pub frames : HasSameFrames old.outbox.frames new.outbox.frames
 
 -- The work was done, at the moment: it is what the machine does, and what it sends waits behind what waited. Where the store kept
 -- a change, the same transactions wait.
 pub record WorkIsDone {K : Type 0} (moment session : ℕ) (work : Work) (draws : List Uuid) (old : Live K) (o : Option Outcome) (new : Live K) : Type 0 where
   pub sent : List Sent
   pub works : works (state_of old moment) session draws (listed_of o) work ≡ Some (record { state = state_of new moment; sent = sent })
-  pub posts : PostsSent sent old.outbox new.outbox
+  pub posts : PostsSent sent old.outbox.frames new.outbox.frames
   pub sessions : new.sessions ≡ old.sessions
   pub untried : new.waiting.untried ≡ old.waiting.untried
   pub kept : is_kept o ≡ true → new.waiting ≡ old.waiting
 
--- It was done, or memory was refused, with no more drawn than it wants, and nothing is changed.
+-- It was done, or memory was refused, with no more drawn than it wants, and nothing else is changed.
 abbrev pub WorksWith : {K : Type 0} → ℕ → ℕ → Work → List Uuid → Live K → Option Outcome → Live K → Type 0
-WorksWith moment session work draws old (Some outcome.NoMemory) new = (length draws ≤ draws_for work) × Stays old new
+WorksWith moment session work draws old (Some outcome.NoMemory) new = (length draws ≤ draws_for work) × Stays session old new
 WorksWith moment session work draws old o new = WorkIsDone moment session work draws old o new
 
 -- the same of what came of it in the code
@@ -125,6 +135,16 @@ abbrev pub Works : {K : Type 0} → ℕ → ℕ → Work → Live K → Handled 
 Works moment session work old handled new = WorksWith moment session work handled.draws.items old handled.outcome new
 
 -- ---- its parts
+
+-- the store was not asked
+abbrev pub IsUnasked : Option Outcome → Type 0
+IsUnasked o = (o ≡ None) ⊎ (o ≡ Some outcome.NoMemory)
+
+-- the database and the count of attempts are as before, and the store was not asked
+pub record HasSameRest {K : Type 0} (old : Live K) (o : Option Outcome) (new : Live K) : Type 0 where
+  pub database : new.database ≡ old.database
+  pub tries : new.tries ≡ old.tries
+  pub unasked : IsUnasked o
 
 -- Blocked as it arrived, it waits behind the others with this timeout, or memory was refused.
 abbrev pub WaitsIfRoom : {K : Type 0} → machine.Outstanding → Option ℕ → Live K → Option Outcome → Live K → Type 0
@@ -134,14 +154,15 @@ WaitsIfRoom o timeout old (Some outcome.Kept) new = ⊥
 WaitsIfRoom o timeout old (Some outcome.Exhausted) new = ⊥
 WaitsIfRoom o timeout old (Some outcome.Failed) new = ⊥
 
--- the live state with the frames that wait now, and without the one of the session whose id has this text
-abbrev pub without_text : {K : Type 0} → ℕ → List ℕ → WaitingFrames → Live K → Live K
-without_text session text waits live = record live { outbox = waits; waiting = record live.waiting { outstanding = filter (λ o. not (has_text session text o)) live.waiting.outstanding } }
+-- the live state with what waits in the outbox now, and without the transaction of the session whose id has this text
+abbrev pub without_text : {K : Type 0} → ℕ → List ℕ → Outbox → Live K → Live K
+without_text session text outbox live = record live { outbox = outbox; waiting = record live.waiting { outstanding = filter (λ o. not (has_text session text o)) live.waiting.outstanding } }
 
 -- The one with this text is canceled: its answer is sent and it waits no more, or memory was refused.
 abbrev pub CancelsIfRoom : {K : Type 0} → ℕ → Data → List ℕ → Live K → Option Outcome → Live K → Type 0
-CancelsIfRoom session id text old None new = PostsSent (to_session session (failure_tree id (codes "canceled") ∷ [])) old.outbox new.outbox × (new ≡ without_text session text new.outbox old)
-CancelsIfRoom session id text old (Some outcome.NoMemory) new = HasSameFrames old.outbox new.outbox × (new ≡ record old { outbox = new.outbox })
+CancelsIfRoom session id text old None new =
+    PostsSent (to_session session (failure_tree id (codes "canceled") ∷ [])) old.outbox.frames new.outbox.frames × (new.outbox.queues ≡ old.outbox.queues) × (new ≡ without_text session text new.outbox old)
+CancelsIfRoom session id text old (Some outcome.NoMemory) new = HasSameFrames old.outbox.frames new.outbox.frames × (new.outbox.queues ≡ old.outbox.queues) × (new ≡ record old { outbox = new.outbox })
 CancelsIfRoom session id text old (Some outcome.Kept) new = ⊥
 CancelsIfRoom session id text old (Some outcome.Exhausted) new = ⊥
 CancelsIfRoom session id text old (Some outcome.Failed) new = ⊥

@@ -1,9 +1,8 @@
 pub mod Entries
 pub mod History
-pub mod Sessions
-pub mod Waiting
+pub mod Params
 pub mod States
-pub mod Outbox
+pub mod Sessions
 pub mod Handling
 pub mod Settling
 pub mod Preparing

@@ -1,14 +1,22 @@
--- The frames that are made before the store is asked. What names no source is our own.
-use Rattle.std.specs.Prelude.{◌≡◌, ℕ, List, Bool, true, false}
+-- What is prepared before the store is asked. What names no source is our own.
+use Rattle.std.specs.Prelude.{◌≡◌, ℕ, ◌+◌, List, [], ◌∷◌, ◌++◌, map, Bool, true, false}
+use Rattle.std.specs.List.{flat_map}
 use Rattle.serde_json.specs.Data.{Data, Items, array}
-use Rattle.ov_db.specs.Changing.{Delta}
+use Rattle.ov_db.specs.Changing.{Delta, applied}
 use Rattle.ov_db.specs.KeptDatabase.{KeptDatabase}
 use Rattle.ov_db.specs.declared.answer.StoreAnswer.{StoreAnswer}
 use Rattle.ov_db.specs.declared.answer.StoreAnswer.TheVariants as store
+use Rattle.ov_outbox.specs.Frames.{WaitingFrames, PostsFrame, PostsSent, HasSameFrames, places_for, count_of, posted}
 use Rattle.ov_specs.specs.wire.Frame.{frame, reply_tree}
+use Rattle.ov_specs.specs.machine.Machine.{Sent, to_session, updates_sent}
+use Rattle.ov_specs.specs.monitors.Updates.{all_updates, update_note}
+use Rattle.ov_specs.specs.rows.Database.{Database}
+use Rattle.ov_watch.specs.Watching.{Watching, monitors_at}
 use Rattle.ov_specs.specs.operations.Transaction.{and_item, exhausted_results, failed_results}
 use Rattle.ov_txn.specs.declared.ready.Replies.{Replies}
-use Rattle.ov_core.specs.Outbox.{PostsFrame, HasSameFrames}
+use Rattle.ov_txn.specs.declared.tried.Tried.{Tried}
+use Rattle.ov_txn.specs.declared.tried.Tried.TheVariants.{Answer, Stored, Blocked, NoMemory}
+use Rattle.ov_core.specs.States.{sessions_of}
 use Rattle.ov_core.specs.declared.event.Outcome.{Outcome}
 use Rattle.ov_core.specs.declared.event.Outcome.TheVariants as outcome
 use Rattle.ov_core.specs.declared.frames.Frames.{Frames}
@@ -20,16 +28,51 @@ pub record AreFrames (id : Data) (replies : Replies) (frames : Frames) : Type 0 
   pub exhausted : frames.exhausted ≡ frame (reply_tree id (array (and_item replies.kept replies.exhausted)))
   pub failed : frames.failed ≡ frame (reply_tree id (array (and_item replies.kept replies.failed)))
 
--- the frame for a commit that is kept waits, and the others are at hand
-pub record IsPrepared (old : Replying) (replies : Replies) (new : Replying) : Type 0 where
-  pub kept : PostsFrame old.session (frame (reply_tree old.id.now (array replies.kept))) old.outbox new.outbox
+-- these frames are prepared behind the others, or memory was refused
+abbrev pub HasPrepared : List (ℕ × List ℕ) → Replying → Bool → Replying → Type 0
+HasPrepared frames old true new = new.prepared ≡ old.prepared ++ frames
+HasPrepared frames old false new = Unit {0}
+
+-- The same; the same frames wait, and a place is kept for each that is prepared.
+pub record PreparesFrames (frames : List (ℕ × List ℕ)) (old : Replying) (ready : Bool) (new : Replying) : Type 0 where
+  pub prepared : HasPrepared frames old ready new
+  pub waits : HasSameFrames old.queues new.queues
+  pub places : (other base : ℕ) → places_for other old.queues ≡ base + count_of other old.prepared → places_for other new.queues ≡ base + count_of other new.prepared
+  pub same : new ≡ record old { queues = new.queues; prepared = new.prepared }
+
+-- the frames of what is to be sent are prepared, or memory was refused
+abbrev pub PreparesMore : List Sent → Replying → Bool → Replying → Type 0
+PreparesMore sent old ready new = PreparesFrames (map posted sent) old ready new
+
+-- what the monitors of one session are told, and those of several, by their serials
+abbrev pub updates_to_one : Database → Database → Watching → ℕ → List Sent
+updates_to_one before after watching serial = to_session serial (map update_note (all_updates before after (monitors_at serial watching)))
+
+abbrev pub updates_to : Database → Database → Watching → List ℕ → List Sent
+updates_to before after watching serials = flat_map (updates_to_one before after watching) serials
+
+-- what is sent where a commit is kept: the updates, and behind them the reply
+abbrev pub frames_of_commit : {K : Type 0} → Replying → KeptDatabase K → Delta → Items → List (ℕ × List ℕ)
+frames_of_commit old db delta results =
+    map posted (updates_sent db.committed (applied delta db.committed) (sessions_of old.audience.watchers.now old.audience.sessions.now.open_sessions))
+    ++ (old.session, frame (reply_tree old.id.now (array results))) ∷ []
+
+-- all of it is prepared, and the other replies are at hand
+pub record IsPrepared {K : Type 0} (old : Replying) (db : KeptDatabase K) (delta : Delta) (replies : Replies) (new : Replying) : Type 0 where
+  pub prepared : new.prepared ≡ old.prepared ++ frames_of_commit old db delta replies.kept
   pub exhausted : new.exhausted ≡ frame (reply_tree old.id.now (array (and_item replies.kept replies.exhausted)))
   pub failed : new.failed ≡ frame (reply_tree old.id.now (array (and_item replies.kept replies.failed)))
 
--- all is ready, or memory was refused and nothing more waits
-abbrev pub Prepares : {K : Type 0} → Replying → KeptDatabase K → Delta → Replies → Bool → Replying → Type 0
-Prepares old db delta replies true new = IsPrepared old replies new
-Prepares old db delta replies false new = HasSameFrames old.outbox new.outbox
+-- all is ready, or memory was refused
+abbrev pub IsPreparedWhere : {K : Type 0} → Replying → KeptDatabase K → Delta → Replies → Bool → Replying → Type 0
+IsPreparedWhere old db delta replies true new = IsPrepared old db delta replies new
+IsPreparedWhere old db delta replies false new = Unit {0}
+
+-- The same; the same frames wait, and a place is kept for each that is prepared.
+pub record Prepares {K : Type 0} (old : Replying) (db : KeptDatabase K) (delta : Delta) (replies : Replies) (ready : Bool) (new : Replying) : Type 0 where
+  pub prepared : IsPreparedWhere old db delta replies ready new
+  pub waits : HasSameFrames old.queues new.queues
+  pub places : (other base : ℕ) → places_for other old.queues ≡ base + count_of other old.prepared → places_for other new.queues ≡ base + count_of other new.prepared
 
 -- ---- what an answer of the store leads to
 
@@ -39,14 +82,15 @@ outcome_after store.Kept = outcome.Kept
 outcome_after store.Exhausted = outcome.Exhausted
 outcome_after store.Failed = outcome.Failed
 
--- the results that are sent
-abbrev pub results_after : StoreAnswer → Items → Items
-results_after store.Kept results = results
-results_after store.Exhausted results = exhausted_results results
-results_after store.Failed results = failed_results results
+-- The last of what was prepared is sent with this frame in its place, and nothing else.
+abbrev pub SendsInstead : List (ℕ × List ℕ) → List ℕ → WaitingFrames → WaitingFrames → Type 0
+SendsInstead prepared frame old new = (front : List (ℕ × List ℕ)) (session : ℕ) (former : List ℕ) → prepared ≡ front ++ (session, former) ∷ [] → PostsFrame session frame old new
 
--- the frame of these three that waits
-abbrev pub frame_after : StoreAnswer → List ℕ → List ℕ → List ℕ → List ℕ
-frame_after store.Kept kept exhausted failed = kept
-frame_after store.Exhausted kept exhausted failed = exhausted
-frame_after store.Failed kept exhausted failed = failed
+-- By the store's answer all that was prepared is sent, or one of these frames in place of the last; where it was not asked, nothing.
+abbrev pub SendsPrepared : Tried → List (ℕ × List ℕ) → List ℕ → List ℕ → WaitingFrames → WaitingFrames → Type 0
+SendsPrepared (Stored store.Kept) prepared exhausted failed old new = (sent : List Sent) → prepared ≡ map posted sent → PostsSent sent old new
+SendsPrepared (Stored store.Exhausted) prepared exhausted failed old new = SendsInstead prepared exhausted old new
+SendsPrepared (Stored store.Failed) prepared exhausted failed old new = SendsInstead prepared failed old new
+SendsPrepared (Answer results) prepared exhausted failed old new = HasSameFrames old new
+SendsPrepared (Blocked timeout) prepared exhausted failed old new = HasSameFrames old new
+SendsPrepared NoMemory prepared exhausted failed old new = HasSameFrames old new

@@ -1,73 +1,30 @@
--- The open sessions: their serials and their keys. What names no source is our own.
-use Rattle.std.specs.Prelude.{◌≡◌, ◌≢◌, ℕ, ◌+◌, ◌-◌, ◌^◌, ◌<◌, ◌≤◌, ◌==◌, ◌||◌, nat_le, not, List, [], ◌∷◌, ◌++◌, map, filter, length, Bool, Option, Some, None, if◌then◌else◌, refl}
-use Rattle.std.specs.List.{All, AllByRecursion, list_any}
-use Rattle.std.specs.Coded.{Coded, code_by, coded×, coded_ℕ, coded_list}
-use Rattle.slab.specs.Slab.{Slab, get, slab_len}
-use Rattle.ov_specs.specs.machine.Machine as machine
-use Rattle.ov_core.specs.declared.event.Session.{Session}
+-- How sessions come and go in what lives. What names no source is our own.
+use Rattle.std.specs.Prelude.{◌≡◌, ℕ, [], false}
+use Rattle.ov_outbox.specs.Frames.{waiting_for, has_queue, PostsSent}
+use Rattle.ov_sessions.specs.Sessions.{OpensSession, without_serial}
+use Rattle.ov_watch.specs.Watching.{WatchesWith}
+use Rattle.ov_sessions.specs.declared.session.Session.{Session}
+use Rattle.ov_specs.specs.locks.Queues.{leave, told_of_leaving}
+use Rattle.ov_specs.specs.machine.Machine.{of_others, told}
+use Rattle.ov_core.specs.declared.live.Live.{Live}
 
--- how many sessions may be open
-abbrev pub most_sessions : ℕ
-most_sessions = 64
+-- the session was opened, and watches nothing
+pub record OpensLive {K : Type 0} (old : Live K) (session : Session) (new : Live K) : Type 0 where
+  pub opens : OpensSession old.sessions session new.sessions
+  pub watching : WatchesWith session.serial [] old.watchers new.watchers
+  pub same : new ≡ record old { sessions = new.sessions; watchers = new.watchers }
 
--- the number that is no serial any more: the last serial is the one before it
-abbrev pub beyond_serials : ℕ
-beyond_serials = 2 ^ 64 - 1
-
--- what contracts see of the open sessions: they with their keys, in order of opening, and the serial of the next
-pub record OpenSessions : Type 0 where
-  pub open_sessions : List Session
-  pub next : ℕ
-
--- the open sessions as those of the machine, which knows no keys
-abbrev pub sessions_of : List Session → List machine.Session
-sessions_of sessions = map (λ n. record { serial = n.serial }) sessions
-
--- no place is left for a session, or no serial
-abbrev pub has_no_room : List machine.Session → ℕ → Bool
-has_no_room sessions next = nat_le most_sessions (length sessions) || nat_le beyond_serials next
-
--- the next serial, where one is left
-abbrev pub serial_left : ℕ → Option ℕ
-serial_left next = if nat_le beyond_serials next then None else Some next
-
--- these of the sessions are open in a state
-abbrev pub still_open : machine.State → List Session → List Session
-still_open s sessions = filter (λ n. machine.is_open s n.serial) sessions
-
--- the sessions but for the one of a serial
-abbrev pub without_serial : ℕ → List Session → List Session
-without_serial serial sessions = filter (λ n. not (n.serial == serial)) sessions
-
--- no session was opened: these are those that are left of the others
-abbrev pub IsLeft : List Session → List Session → Type 0
-IsLeft old new = new ≡ filter (λ n. list_any (λ m. m.serial == n.serial) (sessions_of new)) old
-
--- no session has this key
-abbrev pub IsFreeKey : ℕ → List Session → Type 0
-IsFreeKey key sessions = All (λ n. n.key ≢ key) sessions
-
--- The session was opened: it comes last, with the serial that was the next one and with a key that was free.
-pub record OpensSession (old : OpenSessions) (session : Session) (new : OpenSessions) : Type 0 where
-  pub sessions : new ≡ record { open_sessions = old.open_sessions ++ session ∷ []; next = old.next + 1 }
-  pub serial : session.serial ≡ old.next
-  pub key : session.key < most_sessions
-  pub free : IsFreeKey session.key old.open_sessions
-
--- ---- how the code keeps them
-
--- a serial with its key, as a session
-abbrev pub session_at : ℕ × ℕ → Session
-session_at entry = record { key = entry.1; serial = entry.0 }
-
--- The slab has the serial of each open session at its key, and no other. Each serial is below the next.
-pub record AreTied (serials : Slab ℕ) (keys : List (ℕ × ℕ)) (next : ℕ) : Type 0 where
-  pub room : serials.capacity ≡ most_sessions
-  pub few : length keys ≤ most_sessions
-  pub many : slab_len serials ≡ length keys
-  pub held : AllByRecursion (λ e. get serials e.1 ≡ Some e.0) keys
-  pub below : AllByRecursion (λ e. e.0 < next) keys
-
--- how a model stores the open sessions, where a session is stored so
-abbrev pub open_sessions_code : Coded Session → Coded OpenSessions
-open_sessions_code code = code_by (List Session × ℕ) (coded× (coded_list code) coded_ℕ) (λ s. (s.open_sessions, s.next)) (λ p. record { open_sessions = p.0; next = p.1 }) (λ _. refl)
+-- The session is closed: it watches nothing, its transactions wait no more, and it stands in the queue of no lock. Those that become
+-- the owners of its locks are told so.
+pub record ClosesSession {K : Type 0} (session : ℕ) (old new : Live K) : Type 0 where
+  pub same : new ≡ record old {
+    sessions = record old.sessions { open_sessions = without_serial session old.sessions.open_sessions };
+    watchers = new.watchers;
+    waiting = record old.waiting { outstanding = of_others session old.waiting.outstanding };
+    outbox = new.outbox;
+  }
+  pub watching : WatchesWith session [] old.watchers new.watchers
+  pub queues : new.outbox.queues ≡ leave session old.outbox.queues
+  pub posts : PostsSent (told (told_of_leaving session old.outbox.queues)) old.outbox.frames new.outbox.frames
+  -- no queue of frames is kept of it where nothing waits for it
+  pub forgotten : waiting_for session old.outbox.frames ≡ [] → has_queue session new.outbox.frames ≡ false

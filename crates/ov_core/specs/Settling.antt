@@ -2,43 +2,37 @@
 use Rattle.std.specs.Prelude.{◌≡◌, ℕ, ◌+◌, ◌*◌, ◌/◌, ◌≤◌, ◌++◌, List, [], map, length, false, Option, Some, None}
 use Rattle.std.specs.List.{filter}
 use Rattle.ov_specs.specs.machine.Machine as machine
-use Rattle.ov_specs.specs.machine.Machine.{State, Sent, of_others, settle, still_waiting}
+use Rattle.ov_specs.specs.machine.Machine.{State, Sent, settle}
 use Rattle.ov_specs.specs.values.Uuid.{Uuid}
 use Rattle.ov_specs.proofs.laws.SettlingOn.{Reaches}
+use Rattle.ov_outbox.specs.Frames.{PostsSent}
+use Rattle.ov_sessions.specs.Sessions.{IsLeft, has_serial}
+use Rattle.ov_txn.specs.Waiting.{WaitingList, many}
 use Rattle.ov_core.specs.Entries.{attempt_view}
 use Rattle.ov_core.specs.Handling.{AsksAll}
-use Rattle.ov_core.specs.Outbox.{PostsSent}
-use Rattle.ov_core.specs.Sessions.{IsLeft, without_serial}
+use Rattle.ov_core.specs.Sessions.{ClosesSession}
 use Rattle.ov_core.specs.States.{state_of}
-use Rattle.ov_core.specs.Waiting.{WaitingList, many}
 use Rattle.ov_core.specs.declared.event.Attempt.{Attempt}
 use Rattle.ov_core.specs.declared.event.Outcome.{Outcome}
 use Rattle.ov_core.specs.declared.event.Outcome.TheVariants as outcome
 use Rattle.ov_core.specs.declared.live.Live.{Live}
 
--- the session is closed, and its transactions wait no more
-abbrev pub without_session : {K : Type 0} → ℕ → Live K → Live K
-without_session session live = record live {
-  sessions = record live.sessions { open_sessions = without_serial session live.sessions.open_sessions };
-  waiting = record live.waiting { outstanding = of_others session live.waiting.outstanding };
-}
-
 -- all that wait are tried from the first on
 abbrev pub tried_again : {K : Type 0} → Live K → Live K
 tried_again live = record live {
   waiting = record {
-    untried = live.waiting.outstanding ++ filter (λ o. machine.is_open (state_of live 0) o.session) live.waiting.untried;
+    untried = live.waiting.outstanding ++ filter (λ o. has_serial o.session live.sessions.open_sessions) live.waiting.untried;
     outstanding = [];
   };
 }
 
 -- what a try that is over leads to: refused memory closes its session, and a kept change has all tried again
-abbrev pub after_try : {K : Type 0} → ℕ → Option Outcome → Live K → Live K
-after_try session (Some outcome.NoMemory) live = without_session session live
-after_try session (Some outcome.Kept) live = tried_again live
-after_try session (Some outcome.Exhausted) live = live
-after_try session (Some outcome.Failed) live = live
-after_try session None live = live
+abbrev pub AfterTry : {K : Type 0} → ℕ → Option Outcome → Live K → Live K → Type 0
+AfterTry session (Some outcome.NoMemory) old new = ClosesSession session old new
+AfterTry session (Some outcome.Kept) old new = new ≡ tried_again old
+AfterTry session (Some outcome.Exhausted) old new = new ≡ old
+AfterTry session (Some outcome.Failed) old new = new ≡ old
+AfterTry session None old new = new ≡ old
 
 -- What is left to do at most: it falls with each try.
 abbrev pub to_do : WaitingList → ℕ
@@ -51,7 +45,7 @@ pub record IsSettling {K : Type 0} (failed : K → ℕ) (moment first : ℕ) (fr
   pub lists : map attempt_view listed ≡ map attempt_view before ++ made
   pub sent : List Sent
   pub reaches : Reaches (state_of from moment) first made (state_of now moment) sent number now.waiting.untried
-  pub posts : PostsSent sent from.outbox now.outbox
+  pub posts : PostsSent sent from.outbox.frames now.outbox.frames
   pub asks : AsksAll failed made from.database now.database
   pub left : IsLeft from.sessions.open_sessions now.sessions.open_sessions
   pub tries : now.tries + first ≡ from.tries + number
@@ -70,7 +64,7 @@ pub record Settles {K : Type 0} (failed : K → ℕ) (moment first : ℕ) (old :
   pub sent : List Sent
   pub next : ℕ
   pub settles : settle (state_of old moment) first made ≡ Some (record { tried = record { stepped = record { state = state_of new moment; sent = sent }; others = [] }; next = next; has_changed = false })
-  pub posts : PostsSent sent old.outbox new.outbox
+  pub posts : PostsSent sent old.outbox.frames new.outbox.frames
   pub asks : AsksAll failed made old.database new.database
   pub left : IsLeft old.sessions.open_sessions new.sessions.open_sessions
   pub tries : new.tries ≤ old.tries + most_tries (length old.waiting.outstanding)
@@ -80,7 +74,7 @@ pub record Settles {K : Type 0} (failed : K → ℕ) (moment first : ℕ) (old :
 pub record ComesTo {K : Type 0} (failed : K → ℕ) (moment : ℕ) (event : machine.Event) (old : Live K) (draws : List Uuid) (attempts : List Attempt) (new : Live K) : Type 0 where
   pub sent : List Sent
   pub happens : machine.happens (state_of old moment) (record { moment = moment; draws = draws; outcomes = map attempt_view attempts }) event ≡ Some (record { state = state_of new moment; sent = sent })
-  pub posts : PostsSent sent old.outbox new.outbox
+  pub posts : PostsSent sent old.outbox.frames new.outbox.frames
   pub asks : AsksAll failed (map attempt_view attempts) old.database new.database
   pub left : IsLeft old.sessions.open_sessions new.sessions.open_sessions
   pub tries : new.tries ≤ old.tries + 1 + most_tries (length old.waiting.outstanding)

@@ -1,8 +1,19 @@
 -- The state of a core as that of the machine. What names no source is our own.
-use Rattle.std.specs.Prelude.{ℕ}
+use Rattle.std.specs.Prelude.{ℕ, List, map}
+use Rattle.std.specs.List.{filter}
+use Rattle.ov_watch.specs.Watching.{Watching, monitors_at}
+use Rattle.ov_sessions.specs.declared.session.Session.{Session}
+use Rattle.ov_specs.specs.machine.Machine as machine
 use Rattle.ov_specs.specs.machine.Machine.{State}
-use Rattle.ov_core.specs.Sessions.{sessions_of}
 use Rattle.ov_core.specs.declared.live.Live.{Live}
+
+-- the open sessions as those of the machine, which knows no keys, each with its monitors
+abbrev pub sessions_of : Watching → List Session → List machine.Session
+sessions_of watching sessions = map (λ n. record { serial = n.serial; monitors = monitors_at n.serial watching }) sessions
+
+-- these of the sessions are open in a state
+abbrev pub still_open : State → List Session → List Session
+still_open s sessions = filter (λ n. machine.is_open s n.serial) sessions
 
 -- the state of what lives, at a moment
 abbrev pub state_of : {K : Type 0} → Live K → ℕ → State
@@ -11,7 +22,8 @@ state_of live moment =
       schema = live.database.schema;
       database = live.database.committed;
       sealed = live.database.sealed;
-      sessions = sessions_of live.sessions.open_sessions;
+      sessions = sessions_of live.watchers live.sessions.open_sessions;
+      queues = live.outbox.queues;
       outstanding = live.waiting.outstanding;
       next = live.sessions.next;
       moment = moment;

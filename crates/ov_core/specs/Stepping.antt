@@ -10,14 +10,15 @@ use Rattle.ov_core.specs.declared.event.StepFault.{StepFault}
 use Rattle.ov_core.specs.declared.event.StepFault.TheVariants as fault
 use Rattle.ov_core.specs.declared.event.Stepped.{Stepped}
 use Rattle.ov_core.specs.declared.event.Stepped.TheVariants as answer
-use Rattle.ov_core.specs.Sessions.{most_sessions, has_no_room, IsFreeKey, still_open}
+use Rattle.ov_sessions.specs.Sessions.{most_sessions, has_no_room, IsFreeKey}
+use Rattle.ov_core.specs.States.{still_open}
 use Rattle.ov_core.specs.Following.{CoreState, EntersEntry}
-use Rattle.ov_core.specs.Outbox.{waiting_for, has_queue}
+use Rattle.ov_outbox.specs.Frames.{waiting_for, has_queue}
 use Rattle.ov_core.specs.Settling.{most_tries}
 
 -- no place is left for a session, or no serial
 abbrev pub is_full : State → Bool
-is_full s = has_no_room s.sessions s.next
+is_full s = has_no_room (length s.sessions) s.next
 
 -- The answer, by the event, the state before, the entry, and the state after. A `Take` may be entered as a closing when out of
 -- memory, and it is `Closed` exactly where its session is not open after it.

@@ -1,17 +1,21 @@
-ghost use Rattle.std.specs.Prelude.{◌≡◌, ◌≤◌, ◌+◌, ℕ, List};
+ghost use Rattle.std.specs.Prelude.{◌≡◌, ◌≤◌, ◌+◌, ℕ};
+ghost use Rattle.ov_outbox.specs.Frames.{TakesPlaces, places_for, count_of};
+ghost use Rattle.ov_specs.specs.locks.Queues.{owns};
 ghost use Rattle.ov_specs.specs.machine.Machine.{results_to};
 ghost use Rattle.ov_specs.specs.operations.Transaction.{transaction};
 ghost use Rattle.ov_core.specs.Handling.{AsksStore, IsTrial, PostsIfRoom, outcome_in};
-ghost use Rattle.ov_core.specs.Outbox.{WaitingFrames, PostsFrame};
-ghost use Rattle.ov_core.specs.Preparing.{outcome_after, frame_after};
+ghost use Rattle.ov_core.specs.Preparing.{SendsPrepared, outcome_after};
+ghost use Rattle.ov_core.specs.States.{sessions_of};
 
 use crate::event::Outcome;
 use crate::frames::reply_of;
-use crate::outbox::{Outbox, send};
-use crate::replying::Replying;
+use crate::owner::Owner;
+use crate::replying::{Audience, Replying};
+use crate::send::send;
 use ov_base::{Bytes, Tree, Trees};
 use ov_db::{Db, StoreAnswer};
 use ov_keeper::Keeper;
+use ov_outbox::{FrameQueues, Outbox, Prepared};
 use ov_txn::{Tried, Tries, Txn, attempt};
 use std::alloc::Global;
 use std::mem;
@@ -25,66 +29,92 @@ pub(crate) enum Trial {
     Blocked(Option<u64>),
 }
 
-/// Tries a transaction of this age in milliseconds, and lets its reply wait. Where memory is refused nothing is changed.
+/// A transaction that is tried: of which session, the id that it is answered under, and how old it is in milliseconds.
+#[derive(Clone, Copy)]
+pub(crate) struct Asked<'a> {
+    pub session: u64,
+    pub id: &'a Tree,
+    pub txn: &'a Txn,
+    pub age: u64,
+}
+
+/// Tries a transaction, with the locks that its session owns by now. Where it is kept, the monitors of the audience are told of it,
+/// and then its reply waits. Where memory is refused nothing is changed.
 pub(crate) fn try_once<K: Keeper + Drop>(
     alloc: Global,
     db: &mut Db<K>,
     outbox: &mut Outbox,
     tries: &mut Tries,
-    session: u64,
-    id: &Tree,
-    txn: &Txn,
-    age: u64,
+    audience: Audience<'_>,
+    asked: Asked<'_>,
 ) -> Trial
-    ensures tried { IsTrial session id.now (transaction db.old.schema db.old.committed txn.now.draws age txn.now.operations) db.old outbox.old result db.new outbox.new }
+    ensures tried { IsTrial (sessions_of audience.entry.watchers.now audience.entry.sessions.now.open_sessions) asked.entry.session asked.entry.id.now (transaction db.old.schema db.old.committed (owns outbox.old.queues asked.entry.session) asked.entry.txn.now.draws asked.entry.age asked.entry.txn.now.operations) db.old outbox.old.frames result db.new outbox.new.frames }
+    ensures queues { outbox.new.queues ≡ outbox.old.queues }
     ensures asks { AsksStore K.failed (outcome_in result) db.old db.new }
     ensures counts { K.failed db.old.keeper ≤ K.failed db.new.keeper }
     ensures counted { tries.new ≡ tries.old + 1 }
 {
-    let waiting = mem::replace(outbox, Outbox::new(alloc));
-    let mut replying = Replying::new(alloc, session, id, waiting);
-    let tried = attempt(alloc, db, txn, age, tries, &mut replying);
-    let Replying {
-        alloc: _,
-        session: _,
-        id: _,
-        outbox: waiting,
-        exhausted,
-        failed,
-    } = replying;
-    *outbox = waiting;
+    let (queues, locks) = mem::replace(outbox, Outbox::new(alloc)).into_parts();
+    let owner = Owner {
+        locks: &locks,
+        session: asked.session,
+    };
+    let mut replying = Replying::new(alloc, audience, asked.session, asked.id, queues);
+    let tried = attempt(
+        alloc,
+        db,
+        asked.txn,
+        &owner,
+        asked.age,
+        tries,
+        &mut replying,
+    );
+    let queues = send_prepared(replying, &tried);
+    *outbox = Outbox::from_parts(queues, locks);
     match tried {
-        Tried::Answer(results) => Trial::Done(answer(alloc, outbox, session, id, results)),
-        Tried::Stored(answer) => {
-            Trial::Done(Some(after_store(outbox, session, answer, exhausted, failed)))
+        Tried::Answer(results) => {
+            Trial::Done(answer(alloc, outbox, asked.session, asked.id, results))
         }
+        Tried::Stored(answer) => Trial::Done(Some(outcome_of(answer))),
         Tried::Blocked(timeout) => Trial::Blocked(timeout),
         Tried::NoMemory => Trial::Done(Some(Outcome::NoMemory)),
     }
 }
 
-/// Where the store did not keep the changes, puts the frame for its answer in place of that for a commit that is kept. It takes
-/// no memory.
-fn after_store(
-    outbox: &mut Outbox,
-    session: u64,
-    answer: StoreAnswer,
-    exhausted: Bytes,
-    failed: Bytes,
-) -> Outcome
-    ensures outcome { result ≡ outcome_after answer }
-    ensures posts { (before : WaitingFrames) (kept : List ℕ) → PostsFrame session kept before outbox.old → PostsFrame session (frame_after answer kept exhausted failed) before outbox.new }
+/// What was prepared is sent by the store's answer, where it was asked, and else given up. It takes no memory.
+fn send_prepared(replying: Replying<'_>, tried: &Tried) -> FrameQueues
+    requires room { (other : ℕ) → count_of other replying.prepared ≤ places_for other replying.queues }
+    ensures places { TakesPlaces replying.entry.prepared replying.entry.queues result }
+    ensures sent { SendsPrepared tried.now replying.entry.prepared replying.entry.exhausted replying.entry.failed replying.entry.queues result }
+{
+    let Replying {
+        alloc: _,
+        audience: _,
+        session: _,
+        id: _,
+        queues,
+        prepared,
+        exhausted,
+        failed,
+    } = replying;
+    let mut queues = queues;
+    match tried {
+        Tried::Stored(StoreAnswer::Kept) => prepared.release(&mut queues),
+        Tried::Stored(StoreAnswer::Exhausted) => prepared.release_instead(&mut queues, exhausted),
+        Tried::Stored(StoreAnswer::Failed) => prepared.release_instead(&mut queues, failed),
+        Tried::Answer(_) | Tried::Blocked(_) | Tried::NoMemory => prepared.give_up(&mut queues),
+    }
+    queues
+}
+
+/// What is listed where the store answered so.
+fn outcome_of(answer: StoreAnswer) -> Outcome
+    ensures { result ≡ outcome_after answer }
 {
     match answer {
         StoreAnswer::Kept => Outcome::Kept,
-        StoreAnswer::Exhausted => {
-            outbox.replace_newest(session, exhausted);
-            Outcome::Exhausted
-        }
-        StoreAnswer::Failed => {
-            outbox.replace_newest(session, failed);
-            Outcome::Failed
-        }
+        StoreAnswer::Exhausted => Outcome::Exhausted,
+        StoreAnswer::Failed => Outcome::Failed,
     }
 }
 
@@ -96,7 +126,8 @@ fn answer(
     id: &Tree,
     results: Trees,
 ) -> Option<Outcome>
-    ensures { PostsIfRoom (results_to session id.now results) outbox.old result outbox.new }
+    ensures posts { PostsIfRoom (results_to session id.now results) outbox.old.frames result outbox.new.frames }
+    ensures queues { outbox.new.queues ≡ outbox.old.queues }
 {
     match reply_of(alloc, id, results) {
         Ok(frame) => send(alloc, outbox, session, Some(frame)),

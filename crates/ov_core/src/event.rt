@@ -1,15 +1,7 @@
 use ov_rpc::MessageText;
+use ov_sessions::Session;
 use thiserror::Error;
 use uuid::Uuid;
-
-/// A session.
-#[derive(Clone, Copy, Debug, PartialEq, Eq)]
-pub struct Session {
-    /// Its place in the core, below 64. It is given again once the session is closed.
-    pub key: usize,
-    /// From 1 on, in the order of opening. It is never used again.
-    pub serial: u64,
-}
 
 /// Why a session is closed.
 #[derive(Clone, Copy, Debug, PartialEq, Eq)]
@@ -37,7 +29,8 @@ pub enum Event<M> {
     /// A message of a session is taken, and answered at once if it is answered (RFC 7047, 4.1). Only a transaction that is
     /// blocked waits; it is answered when another event settles it (4.1.3), or when it is canceled (4.1.4).
     Take(Session, M),
-    /// A session is closed, and with it go its transactions that wait. The frames that wait for it still wait.
+    /// A session is closed, and with it go its monitors, its places in the queues of locks and its transactions that wait. The
+    /// frames that wait for it still wait.
     Close(Session, Cause),
     /// Time has come to the moment. The transactions that wait are tried, since a timeout may have passed (RFC 7047, 5.2.6).
     Tick,

@@ -1,23 +1,24 @@
-ghost use Rattle.std.specs.Prelude.{◌≡◌, ◌≤◌, ◌<◌, ◌+◌, [], length, Some, None, IfOk, true, codes, vec_capacity};
+ghost use Rattle.std.specs.Prelude.{◌≡◌, ◌≤◌, ◌<◌, ◌+◌, ℕ, [], length, Some, IfOk, true, codes, vec_capacity};
 ghost use Rattle.ov_rpc.specs.Message.{message_view};
 ghost use Rattle.ov_specs.specs.machine.Machine as spec;
 ghost use Rattle.ov_specs.specs.wire.Frame.{frame, failure_tree};
 ghost use Rattle.ov_txn.specs.Drawing.{DrawsFrom};
-ghost use Rattle.ov_core.specs.Handling.{AsksStore, Works, WaitsIfRoom, CancelsIfRoom};
+ghost use Rattle.ov_sessions.specs.Sessions.{has_serial};
+ghost use Rattle.ov_core.specs.Handling.{AsksStore, IsWork, IsWithoutDraws, Works, WorksWith, HasSameRest, WaitsIfRoom, CancelsIfRoom};
 ghost use Rattle.ov_core.specs.Settling.{ComesTo};
 ghost use Rattle.ov_core.specs.States.{state_of};
 
 use crate::answer::{Work, work_of};
-use crate::attempt::{Trial, try_once};
+use crate::attempt::{Asked, Trial, try_once};
 use crate::entry::{is_closing, is_kept, list};
 use crate::event::{Attempt, Outcome};
 use crate::live::Live;
-use crate::outbox::send;
-use crate::outstanding::Outstanding;
+use crate::replying::Audience;
+use crate::send::send;
 use ov_base::{Bytes, Tree, Trees};
 use ov_keeper::Keeper;
 use ov_rpc::{Message, failure};
-use ov_txn::{Draws, Txn};
+use ov_txn::{Draws, Outstanding, Txn};
 use std::alloc::{AllocError, Global};
 use uuid::Uuid;
 
@@ -35,6 +36,17 @@ fn out_of_memory(draws: Vec<Uuid>) -> Handled
     Handled {
         draws,
         outcome: Some(Outcome::NoMemory),
+    }
+}
+
+/// Nothing was drawn.
+fn without_draws(alloc: Global, outcome: Option<Outcome>) -> Handled
+    ensures outcome { result.outcome ≡ outcome }
+    ensures none { result.draws.items ≡ [] }
+{
+    Handled {
+        draws: Vec::new(alloc),
+        outcome,
     }
 }
 
@@ -77,7 +89,8 @@ impl<K: Keeper + Drop> Live<K> {
         draws
     }
 
-    /// The work on a message of a session, which is the first attempt of its event. Where memory is refused nothing is changed.
+    /// The work on a message of an open session, which is the first attempt of its event. Where memory is refused nothing is
+    /// changed but what the session watches.
     fn handle<D: Draws>(
         &mut self,
         alloc: Global,
@@ -86,31 +99,41 @@ impl<K: Keeper + Drop> Live<K> {
         message: Message,
         source: &mut D,
     ) -> Handled
+        requires open { spec.is_open (state_of self.old moment) session ≡ true }
         ensures works { Works moment session (spec.work_of (state_of self.old moment) session (message_view message)) self.old result self.new }
         ensures asks { AsksStore K.failed result.outcome self.old.database self.new.database }
         ensures counts { K.failed self.old.database.keeper ≤ K.failed self.new.database.keeper }
         ensures drawn { DrawsFrom D.draws source.old result.draws.items source.new }
         ensures tries { self.new.tries ≤ self.old.tries + 1 }
     {
-        match work_of(
-            alloc,
-            self.database.schema(),
-            &self.waiting,
-            session,
-            message,
-        ) {
-            Err(_) => out_of_memory(Vec::new(alloc)),
-            Ok(Work::Answer(frame)) => Handled {
-                draws: Vec::new(alloc),
-                outcome: send(alloc, &mut self.outbox, session, frame),
-            },
-            Ok(Work::Transact(id, operations)) => {
+        let schema = self.database.schema();
+        let Ok(work) = work_of(alloc, schema, &self.waiting, session, message) else {
+            return out_of_memory(Vec::new(alloc));
+        };
+        match work {
+            Work::Transact(id, operations) => {
                 self.transact(alloc, moment, session, id, operations, source)
             }
-            Ok(Work::Cancel(id, text)) => Handled {
-                draws: Vec::new(alloc),
-                outcome: self.cancel(alloc, session, id, text),
-            },
+            work => without_draws(alloc, self.at_once(alloc, session, work)),
+        }
+    }
+
+    /// Work of an open session for which nothing is drawn and the store is not asked.
+    fn at_once(&mut self, alloc: Global, session: u64, work: Work) -> Option<Outcome>
+        requires open { has_serial session self.old.sessions.open_sessions ≡ true }
+        requires undrawn { IsWithoutDraws work }
+        ensures works { (moment : ℕ) (asked : spec.Work) → IsWork (state_of self.old moment) session asked work → WorksWith moment session asked [] self.old result self.new }
+        ensures rest { HasSameRest self.old result self.new }
+    {
+        match work {
+            Work::Answer(frame) => send(alloc, &mut self.outbox, session, frame),
+            Work::Transact(_, _) => None,
+            Work::Cancel(id, text) => self.cancel(alloc, session, id, text),
+            Work::Lock(call, id, name) => self.ask_lock(alloc, session, call, id, name.as_str()),
+            Work::Monitor(id, name, requests) => {
+                self.monitor(alloc, session, id, &name, &requests)
+            }
+            Work::CancelMonitor(id, name) => self.cancel_monitor(alloc, session, id, &name),
         }
     }
 
@@ -133,15 +156,23 @@ impl<K: Keeper + Drop> Live<K> {
         let Ok(txn) = Txn::read(alloc, operations, source) else {
             return out_of_memory(Vec::new(alloc));
         };
+        let audience = Audience {
+            sessions: &self.sessions,
+            watchers: &self.watchers,
+        };
+        let asked = Asked {
+            session,
+            id: &id,
+            txn: &txn,
+            age: 0,
+        };
         match try_once(
             alloc,
             &mut self.database,
             &mut self.outbox,
             &mut self.tries,
-            session,
-            &id,
-            &txn,
-            0,
+            audience,
+            asked,
         ) {
             Trial::Done(outcome) => Handled {
                 draws: txn.into_draws(),

@@ -1,51 +1,68 @@
-ghost use Rattle.std.specs.Prelude.{◌≡◌, ◌≤◌, [], length, vec_capacity};
-ghost use Rattle.ov_specs.specs.machine.Machine.{of_others, Tick};
-ghost use Rattle.ov_core.specs.Sessions.{without_serial};
+ghost use Rattle.std.specs.Prelude.{◌≡◌, ◌≤◌, [], length, vec_capacity, false, IfOk, OnErr};
+ghost use Rattle.ov_specs.specs.machine.Machine.{Tick};
+ghost use Rattle.ov_sessions.specs.Sessions.{has_no_room};
+ghost use Rattle.ov_core.specs.Sessions.{ClosesSession, OpensLive};
 ghost use Rattle.ov_core.specs.Settling.{ComesTo};
 
 use crate::event::Attempt;
-use crate::outbox::Outbox;
-use crate::sessions::Sessions;
-use crate::waiting::Waiting;
 use ov_db::Db;
 use ov_keeper::Keeper;
-use ov_txn::Tries;
-use std::alloc::Global;
+use ov_outbox::Outbox;
+use ov_sessions::{Session, Sessions};
+use ov_txn::{Tries, Waiting};
+use ov_watch::Watchers;
+use std::alloc::{AllocError, Global};
 
-/// What an event changes beside the history: the database, the open sessions, the transactions that wait, the frames that wait,
-/// and how many attempts were made.
+/// What an event changes beside the history: the database, the open sessions, their monitors, the transactions that wait, the
+/// frames that wait with the queues of the locks, and how many attempts were made.
 #[derive(Drop)]
 pub(crate) struct Live<K: Keeper> {
     pub database: Db<K>,
     pub sessions: Sessions,
+    pub watchers: Watchers,
     pub waiting: Waiting,
     pub outbox: Outbox,
     pub tries: Tries,
 }
 
 impl<K: Keeper + Drop> Live<K> {
-    /// Nothing waits, and no attempt was made.
+    /// Nothing waits, no lock is asked for, nobody watches, and no attempt was made.
     pub fn new(alloc: Global, database: Db<K>, sessions: Sessions) -> Live<K>
-        ensures { result ≡ record { database = database; sessions = sessions; waiting = record { untried = []; outstanding = [] }; outbox = []; tries = 0 } }
+        ensures { result ≡ record { database = database; sessions = sessions; watchers = []; waiting = record { untried = []; outstanding = [] }; outbox = record { frames = []; queues = [] }; tries = 0 } }
     {
         Live {
             database,
             sessions,
+            watchers: Watchers::new(alloc),
             waiting: Waiting::new(alloc),
             outbox: Outbox::new(alloc),
             tries: Tries::new(),
         }
     }
 
-    /// Closes the session, and drops its transactions that wait. It takes no memory.
+    /// Opens a session, with the next serial and without monitors. Where memory is refused nothing is changed.
+    pub fn open(&mut self) -> Result<Session, AllocError>
+        requires { has_no_room (length self.old.sessions.open_sessions) self.old.sessions.next ≡ false }
+        ensures opened { IfOk result (λ session. OpensLive self.old session self.new) }
+        ensures refused { OnErr result (self.new ≡ self.old) }
+    {
+        let session = self.sessions.open()?;
+        // Nobody watched under a serial that is new; that no monitor is kept of one is not a fact of the types.
+        self.watchers.leave(session.serial);
+        Ok(session)
+    }
+
+    /// Closes the session. Its monitors and its transactions that wait are dropped, and it leaves the queues of all locks, whose
+    /// next owners are told so (RFC 7047, 4.1.9). No queue of frames is kept of it where nothing waits for it. It takes no memory.
     pub fn close(&mut self, session: u64)
-        ensures { self.new ≡ record self.old {
-          sessions = record self.old.sessions { open_sessions = without_serial session self.old.sessions.open_sessions };
-          waiting = record self.old.waiting { outstanding = of_others session self.old.waiting.outstanding };
-        } }
+        ensures { ClosesSession session self.old self.new }
     {
         self.sessions.close(session);
+        self.watchers.leave(session);
         self.waiting.leave(session);
+        self.outbox.in_order();
+        self.outbox.leave(session);
+        self.outbox.forget(session);
     }
 
     /// Time has come to the moment: the transactions that wait are settled.
@@ -65,6 +82,7 @@ impl<K: Keeper + Drop> Live<K> {
         let Live {
             database,
             sessions: _,
+            watchers: _,
             waiting: _,
             outbox: _,
             tries: _,

@@ -8,24 +8,24 @@ ghost use Rattle.ov_keeper.specs.declared.fault.KeepFault.TheVariants.{Device};
 ghost use Rattle.ov_db.specs.Opening.{CanOpen, IsOpenFault, RefusesOpen};
 ghost use Rattle.ov_db.specs.declared.fault.OpenFault.TheVariants.{Keeping};
 ghost use Rattle.ov_core.specs.Entries.{event_view, cause_view};
-ghost use Rattle.ov_core.specs.Outbox.{waiting_for, has_queue};
+ghost use Rattle.ov_outbox.specs.Frames.{waiting_for, has_queue};
 ghost use Rattle.ov_core.specs.History.{HasHistory};
 ghost use Rattle.ov_core.specs.Following.{Follows, none_given, and_handed, and_all_handed};
-ghost use Rattle.ov_core.specs.Sessions.{most_sessions, serial_left};
+ghost use Rattle.ov_sessions.specs.Sessions.{most_sessions, serial_left};
 ghost use Rattle.ov_core.specs.Stepping.{StepIs, Closes};
 ghost use Rattle.ov_core.specs.Leaving.{LeavesItsOwn};
 ghost use Rattle.ov_db.specs.Committing.{MayFind};
 
 use crate::entry::{entry_with_choice, entry_without_choice};
-use crate::event::{Cause, Entry, Event, Session, StepFault, Stepped};
+use crate::event::{Cause, Entry, Event, StepFault, Stepped};
 use crate::history::History;
 use crate::live::Live;
-use crate::sessions::Sessions;
 use ov_base::Bytes;
 use ov_db::{Db, OpenFault, RefusedOpen};
 use ov_keeper::{KeepFault, Keeper};
 use ov_rpc::Received;
 use ov_schema::Schema;
+use ov_sessions::{Session, Sessions};
 use ov_txn::Draws;
 use std::alloc::{AllocError, Global};
 use std::collections::VecDeque;
@@ -47,6 +47,7 @@ impl<K: Keeper, D> Model for Core<K, D> {
     ghost use Rattle.std.specs.Coded.{codes};
     ghost use Rattle.ov_specs.specs.codes.TreeCode.{tree_code, items_code};
     ghost use Rattle.ov_specs.specs.codes.SchemaCode.{schema_code};
+    ghost use Rattle.ov_specs.specs.monitors.MonitorCode.{monitor_code};
     ghost use Rattle.ov_rows.specs.Resident.{database_code};
     ghost use Rattle.ov_core.specs.Following.{CoreState};
     ghost use Rattle.ov_core.specs.History.{HasHistory};
@@ -54,13 +55,13 @@ impl<K: Keeper, D> Model for Core<K, D> {
 
     ghost Value = { CoreState K D };
 
-    ghost coded = { Prim.hlevel (codes, schema_code, database_code, tree_code, items_code, K.code, D.code) };
+    ghost coded = { Prim.hlevel (codes, schema_code, database_code, tree_code, items_code, monitor_code, K.code, D.code) };
 
     ghost view = { λ c. record {
       state = state_of c.live c.moment;
       open_sessions = c.live.sessions.open_sessions;
       kept = c.history;
-      outbox = c.live.outbox;
+      outbox = c.live.outbox.frames;
       keeper = c.live.database.keeper;
       failures = K.Keeper.failed c.live.database.keeper;
       source = c.source;
@@ -153,8 +154,9 @@ impl<K: Keeper + Drop, D: Draws + Drop> Core<K, D> {
         }
     }
 
-    /// Closes the session at the last moment, and drops its transactions that wait; false where it is not open, and then nothing
-    /// is changed. The frames that wait for it still wait. It takes no memory.
+    /// Closes the session at the last moment, and drops its monitors, its transactions that wait and its requests for locks, whose
+    /// next owners are told so; false where it is not open, and then nothing is changed. The frames that wait for it still wait.
+    /// It takes no memory.
     pub fn close(&mut self, session: Session, cause: Cause) -> bool
         ensures { MatchBool result
             (Closes self.old.state.moment session.serial (cause_view cause) self.old self.new)
@@ -301,7 +303,7 @@ impl<K: Keeper + Drop, D: Draws + Drop> Core<K, D> {
         if self.live.sessions.is_full() {
             return Stepped::Refused(StepFault::TooMany);
         }
-        let Ok(session) = self.live.sessions.open() else {
+        let Ok(session) = self.live.open() else {
             return Stepped::Refused(StepFault::Memory);
         };
         self.history
@@ -350,7 +352,6 @@ impl<K: Keeper + Drop, D: Draws + Drop> Core<K, D> {
         self.history.push(entry_without_choice(self.alloc, moment, Event::Close(session, cause)));
         self.live.close(session.serial);
         self.moment = moment;
-        self.live.outbox.forget(session.serial);
     }
 
     /// A message is taken. Where memory is refused for what is to be listed of its attempts, its session is closed instead.

@@ -1,52 +1,135 @@
-ghost use Rattle.std.specs.Prelude.{◌≡◌};
+ghost use Rattle.std.specs.Prelude.{◌≡◌, [], ◌∷◌};
+ghost use Rattle.ov_db.specs.Changing.{applied};
+ghost use Rattle.ov_specs.specs.machine.Machine.{updates_sent, to_session};
+ghost use Rattle.ov_specs.specs.monitors.Updates.{update_note};
+ghost use Rattle.ov_core.specs.Preparing.{PreparesFrames, PreparesMore, updates_to_one};
+ghost use Rattle.ov_core.specs.States.{sessions_of};
 
 use crate::frames::Frames;
-use crate::outbox::Outbox;
-use ov_base::{Bytes, Tree};
+use ov_base::{Bytes, Tree, Trees};
 use ov_db::{Db, Delta};
 use ov_keeper::Keeper;
+use ov_outbox::{FrameQueues, Prepared};
+use ov_rpc::note;
+use ov_sessions::Sessions;
 use ov_txn::{Ready, Replies};
+use ov_watch::Watchers;
 use std::alloc::Global;
 
-/// The reply to a transaction of a session, as it is made ready for each answer of the store. It has the frames that wait while
-/// the transaction is tried.
+/// The open sessions and their monitors, which are told of a commit.
+#[derive(Clone, Copy)]
+pub(crate) struct Audience<'a> {
+    pub sessions: &'a Sessions,
+    pub watchers: &'a Watchers,
+}
+
+/// What follows a commit, as it is made ready for each answer of the store: what the monitors are told, and the reply. It has the
+/// frames that wait while the transaction is tried.
 #[derive(Drop)]
 pub(crate) struct Replying<'a> {
     pub alloc: Global,
+    pub audience: Audience<'a>,
     pub session: u64,
     pub id: &'a Tree,
-    pub outbox: Outbox,
-    /// The frame where the store has no room, once all is ready.
+    pub queues: FrameQueues,
+    /// What is sent where the store keeps the changes: the updates, and behind them the reply.
+    pub prepared: Prepared,
+    /// The reply where the store has no room, once all is ready.
     pub exhausted: Bytes,
-    /// The frame where the store fails, once all is ready.
+    /// The reply where the store fails, once all is ready.
     pub failed: Bytes,
 }
 
 impl<'a> Replying<'a> {
     /// Nothing is ready yet. This takes no memory.
-    pub fn new(alloc: Global, session: u64, id: &'a Tree, outbox: Outbox) -> Replying<'a>
+    pub fn new(
+        alloc: Global,
+        audience: Audience<'a>,
+        session: u64,
+        id: &'a Tree,
+        queues: FrameQueues,
+    ) -> Replying<'a>
+        ensures audience { result.audience ≡ audience.entry }
         ensures session { result.session ≡ session }
         ensures id { result.id.now ≡ id.now }
-        ensures outbox { result.outbox ≡ outbox }
+        ensures queues { result.queues ≡ queues }
+        ensures prepared { result.prepared ≡ [] }
     {
         Replying {
             alloc,
+            audience,
             session,
             id,
-            outbox,
+            queues,
+            prepared: Prepared::new(alloc),
             exhausted: Bytes::from_vec(Vec::new(alloc)),
             failed: Bytes::from_vec(Vec::new(alloc)),
         }
     }
+
+    /// Prepares a frame for a session; false where memory is refused.
+    fn prepare(&mut self, session: u64, frame: Bytes) -> bool
+        ensures { PreparesFrames ((session, frame) ∷ []) self.old result self.new }
+    {
+        self.prepared
+            .prepare(self.alloc, &mut self.queues, session, frame)
+    }
+
+    /// Prepares one update for a session, of these params; false where memory is refused.
+    fn prepare_update(&mut self, session: u64, params: Trees) -> bool
+        ensures { PreparesMore (to_session session (update_note params ∷ [])) self.old result self.new }
+    {
+        let Ok(frame) = note(self.alloc, "update", params) else {
+            return false;
+        };
+        self.prepare(session, frame)
+    }
+
+    /// Prepares what the monitors of one session are told of these changes; false where memory is refused.
+    fn prepare_updates_of<K: Keeper + Drop>(
+        &mut self,
+        session: u64,
+        db: &Db<K>,
+        delta: &Delta,
+    ) -> bool
+        ensures { PreparesMore (updates_to_one db.now.committed (applied delta.now db.now.committed) self.old.audience.watchers.now session) self.old result self.new }
+    {
+        let Ok(updates) = self
+            .audience
+            .watchers
+            .updates(self.alloc, db, delta, session)
+        else {
+            return false;
+        };
+        for params in updates {
+            if !self.prepare_update(session, params) {
+                return false;
+            }
+        }
+        true
+    }
+
+    /// Prepares what the monitors of all sessions are told of these changes, session by session in order of opening; false where
+    /// memory is refused (RFC 7047, 4.1.6; the order is our own).
+    fn prepare_updates<K: Keeper + Drop>(&mut self, db: &Db<K>, delta: &Delta) -> bool
+        ensures { PreparesMore (updates_sent db.now.committed (applied delta.now db.now.committed) (sessions_of self.old.audience.watchers.now self.old.audience.sessions.now.open_sessions)) self.old result self.new }
+    {
+        for session in self.audience.sessions.serials() {
+            if !self.prepare_updates_of(*session, db, delta) {
+                return false;
+            }
+        }
+        true
+    }
 }
 
-impl<'a, K: Keeper> Ready<K> for Replying<'a> {
+impl<'a, K: Keeper + Drop> Ready<K> for Replying<'a> {
     ghost use Rattle.ov_core.specs.Preparing.{Prepares};
 
     ghost readies = { λ old db delta replies ready new. Prepares old db delta replies ready new };
 
-    /// The frame of a commit that is kept waits from here on, and gives way to another where the store refuses.
-    fn ready(&mut self, _db: &Db<K>, _delta: &Delta, replies: Replies) -> bool {
+    /// The updates and the reply of a commit that is kept are prepared, each with a place for its frame.
+    fn ready(&mut self, db: &Db<K>, delta: &Delta, replies: Replies) -> bool {
         let Ok(frames) = Frames::new(self.alloc, self.id, replies) else {
             return false;
         };
@@ -55,11 +138,9 @@ impl<'a, K: Keeper> Ready<K> for Replying<'a> {
             exhausted,
             failed,
         } = frames;
-        if !self.outbox.push(self.alloc, self.session, kept) {
-            return false;
-        }
         self.exhausted = exhausted;
         self.failed = failed;
-        true
+        let session = self.session;
+        self.prepare_updates(db, delta) && self.prepare(session, kept)
     }
 }

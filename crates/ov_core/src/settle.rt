@@ -1,20 +1,22 @@
 ghost use Rattle.std.specs.Prelude.{◌≡◌, ℕ, ◌+◌, ◌-◌, ◌<◌, ◌≤◌, ◌^◌, List, [], length, vec_len, vec_capacity};
+ghost use Rattle.ov_specs.specs.locks.Queues.{owns};
 ghost use Rattle.ov_specs.specs.operations.Transaction.{transaction};
+ghost use Rattle.ov_txn.specs.Waiting.{many};
 ghost use Rattle.ov_core.specs.Handling.{AsksStore, IsTrial, outcome_in};
-ghost use Rattle.ov_core.specs.Settling.{after_try, to_do, IsSettling, Settles};
-ghost use Rattle.ov_core.specs.Waiting.{many};
+ghost use Rattle.ov_core.specs.Settling.{AfterTry, to_do, IsSettling, Settles};
+ghost use Rattle.ov_core.specs.States.{sessions_of};
 ghost use Rattle.ov_core.specs.declared.event.Attempt.{Attempt as Listed};
 ghost use Rattle.ov_core.specs.declared.live.Live.{Live as Living};
 
-use crate::attempt::{Trial, try_once};
+use crate::attempt::{Asked, Trial, try_once};
 use crate::entry::{is_closing, is_kept, list};
 use crate::event::{Attempt, Outcome};
 use crate::live::Live;
-use crate::outbox::Outbox;
-use crate::outstanding::Outstanding;
+use crate::replying::Audience;
 use ov_db::Db;
 use ov_keeper::Keeper;
-use ov_txn::Tries;
+use ov_outbox::Outbox;
+use ov_txn::{Outstanding, Tries};
 use std::alloc::Global;
 
 impl<K: Keeper + Drop> Live<K> {
@@ -60,11 +62,16 @@ impl<K: Keeper + Drop> Live<K> {
             self.waiting.drop_next();
             return number;
         }
+        let audience = Audience {
+            sessions: &self.sessions,
+            watchers: &self.watchers,
+        };
         match try_again(
             alloc,
             &mut self.database,
             &mut self.outbox,
             &mut self.tries,
+            audience,
             moment,
             next,
         ) {
@@ -83,7 +90,7 @@ impl<K: Keeper + Drop> Live<K> {
 
     /// What a try that is over leads to.
     fn after_try(&mut self, session: u64, outcome: Option<Outcome>)
-        ensures { self.new ≡ after_try session outcome self.old }
+        ensures { AfterTry session outcome self.old self.new }
     {
         if is_closing(outcome) {
             self.close(session);
@@ -93,29 +100,27 @@ impl<K: Keeper + Drop> Live<K> {
     }
 }
 
-/// Tries a transaction that waits, at the age that it has by now.
+/// Tries a transaction that waits, at the age that it has by now and with the locks that its session owns by now.
 fn try_again<K: Keeper + Drop>(
     alloc: Global,
     database: &mut Db<K>,
     outbox: &mut Outbox,
     tries: &mut Tries,
+    audience: Audience<'_>,
     moment: u64,
     waits: &Outstanding,
 ) -> Trial
-    ensures tried { IsTrial waits.now.session waits.now.id (transaction database.old.schema database.old.committed waits.now.draws (moment - waits.now.arrival) waits.now.operations) database.old outbox.old result database.new outbox.new }
+    ensures tried { IsTrial (sessions_of audience.entry.watchers.now audience.entry.sessions.now.open_sessions) waits.now.session waits.now.id (transaction database.old.schema database.old.committed (owns outbox.old.queues waits.now.session) waits.now.draws (moment - waits.now.arrival) waits.now.operations) database.old outbox.old.frames result database.new outbox.new.frames }
+    ensures queues { outbox.new.queues ≡ outbox.old.queues }
     ensures asks { AsksStore K.failed (outcome_in result) database.old database.new }
     ensures counts { K.failed database.old.keeper ≤ K.failed database.new.keeper }
     ensures counted { tries.new ≡ tries.old + 1 }
 {
-    let age = waits.age(moment);
-    try_once(
-        alloc,
-        database,
-        outbox,
-        tries,
-        waits.session(),
-        waits.id(),
-        waits.txn(),
-        age,
-    )
+    let asked = Asked {
+        session: waits.session(),
+        id: waits.id(),
+        txn: waits.txn(),
+        age: waits.age(moment),
+    };
+    try_once(alloc, database, outbox, tries, audience, asked)
 }

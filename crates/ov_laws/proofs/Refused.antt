@@ -1,35 +1,24 @@
 -- A refused transaction changes nothing.
-use Rattle.std.proofs.Common.{◌≡◌, ℕ, List, [], ◌∷◌, refl, ap, subst, ◌∙◌, true, Option, Some, None}
-use Rattle.std.specs.Prelude.{codes, option_and_then}
-use Rattle.std.proofs.lemmas.Option.{same_Some}
+use Rattle.std.proofs.Common.{◌≡◌, ℕ, List, ◌++◌, refl, ap, subst, ◌∙◌, true, Option, Some}
 use Rattle.serde_json.specs.Data.{Data, Items}
-use Rattle.serde_json.specs.Find.{as_array}
-use Rattle.serde_json.specs.Find as find
-use Rattle.ov_specs.specs.machine.Machine.{State, Sent, Stepped, Outcome, Transact, works, to_session, results_of}
+use Rattle.ov_specs.specs.locks.Queues.{owns}
+use Rattle.ov_specs.specs.machine.Machine.{State, Sent, Stepped, Outcome, Transact, works, results_to, updates_sent}
 use Rattle.ov_specs.specs.operations.Transaction.{Completes, transaction, has_error}
 use Rattle.ov_specs.specs.rows.Database.{Database}
 use Rattle.ov_specs.specs.values.Uuid.{Uuid}
 use Rattle.ov_specs.proofs.laws.RefusedOutcome.{LeavesIfError, refused_leaves}
 use Rattle.ov_specs.proofs.laws.Works.{keeping, work_has}
+use Rattle.ov_laws.proofs.Replies.{same_results}
 
--- the results of the first reply that is sent
-abbrev first_results : List Sent → Option Items
-first_results [] = None
-first_results (x ∷ xs) = option_and_then as_array (find.get (codes "result") x.tree)
-
--- a reply has one array of results
-same_results : (n : ℕ) (i j : Data) (a b : Items) → to_session n (results_of i a) ≡ to_session n (results_of j b) → a ≡ b
-same_results n i j a b h = same_Some a b (ap first_results h)
-
-module _ (s : State) (n : ℕ) (id : Data) (results : Items) (error : has_error results ≡ true) where
-  -- where these results are sent, the database is as before
+module _ (s : State) (n : ℕ) (id : Data) (before : List Sent) (results : Items) (error : has_error results ≡ true) where
+  -- where these results are sent at the end, the database is as before
   abbrev Leaves : Stepped → Type 0
-  Leaves x = x.sent ≡ to_session n (results_of id results) → x.state.database ≡ s.database
+  Leaves x = x.sent ≡ before ++ results_to n id results → x.state.database ≡ s.database
 
   -- a commit that has an error in its reply was not kept
-  kept_leaves : (draws : List Uuid) (i : Data) (operations kept : Items) (database : Database) → transaction s.schema s.database draws 0 operations ≡ Completes kept database → Leaves (keeping s n i kept database)
+  kept_leaves : (draws : List Uuid) (i : Data) (operations kept : Items) (database : Database) → transaction s.schema s.database (owns s.queues n) draws 0 operations ≡ Completes kept database → Leaves (keeping s n i kept database)
   kept_leaves draws i operations kept database completes sent =
-      subst (LeavesIfError s.database) completes (refused_leaves s.schema s.database draws 0 operations) (ap has_error (same_results n i id kept results sent) ∙ error)
+      subst (LeavesIfError s.database) completes (refused_leaves s.schema s.database (owns s.queues n) draws 0 operations) (ap has_error (same_results (updates_sent s.database database s.sessions) before n n i id kept results sent) ∙ error)
 
   works_leaves : (draws : List Uuid) (o : Option Outcome) (operations : Items) (t : Stepped) → works s n draws o (Transact id operations) ≡ Some t → Leaves t
   works_leaves draws o operations t h =
@@ -42,9 +31,11 @@ module _ (s : State) (n : ℕ) (id : Data) (results : Items) (error : has_error 
           waits = λ timeout waits sent. refl;
         };
         cancels = λ i is sent. refl;
+        locks = λ call i name is sent. refl;
+        watches = λ i result monitors is sent. refl;
       }) h
 
 -- a reply with an error among its results leaves the database
-pub changes_nothing : (s : State) (n : ℕ) (draws : List Uuid) (o : Option Outcome) (id : Data) (operations results : Items) (t : Stepped) → works s n draws o (Transact id operations) ≡ Some t
-    → t.sent ≡ to_session n (results_of id results) → has_error results ≡ true → t.state.database ≡ s.database
-changes_nothing s n draws o id operations results t h sent error = works_leaves s n id results error draws o operations t h sent
+pub changes_nothing : (s : State) (n : ℕ) (draws : List Uuid) (o : Option Outcome) (id : Data) (operations results : Items) (before : List Sent) (t : Stepped) → works s n draws o (Transact id operations) ≡ Some t
+    → t.sent ≡ before ++ results_to n id results → has_error results ≡ true → t.state.database ≡ s.database
+changes_nothing s n draws o id operations results before t h sent error = works_leaves s n id before results error draws o operations t h sent

@@ -2,11 +2,13 @@
 #![tactic(auto)]
 
 ghost use Rattle.std.specs.List.{list_all};
-ghost use Rattle.std.specs.Prelude.{◌≡◌, ◌↔◌, ◌++◌, ◌+◌, ◌-◌, ◌*◌, ◌<◌, ◌≤◌, ℕ, List, [], Option, Some, None, is_some, not, true, false, length, Ok};
+ghost use Rattle.std.specs.Prelude.{◌≡◌, ◌≢◌, ◌⊎◌, ◌↔◌, ◌++◌, ◌+◌, ◌-◌, ◌*◌, ◌<◌, ◌≤◌, ℕ, List, [], Option, Some, None, is_some, not, true, false, length, Ok};
 ghost use Rattle.serde_json.specs.Data.{Data, Items};
 ghost use Rattle.ov_specs.specs.wire.Cut.{Cut, cut, cut_from, IsCut, continue_cut, with_messages, max_message};
 ghost use Rattle.ov_specs.specs.wire.Message.{asked};
-ghost use Rattle.ov_specs.specs.machine.Machine.{State, is_open, Entry, Stepped, Outcome, Attempt, Passed, Transact, step, works, settle, to_session, results_of, opening};
+ghost use Rattle.ov_specs.specs.locks.Queues.{Queues, DoQueuesAscend, HasNoRepeats, queue_of, owner, owns, has_requested};
+ghost use Rattle.ov_specs.specs.machine.Machine.{State, is_open, Entry, Sent, Stepped, Outcome, Committed, NoMemory, Attempt, Outstanding, Passed, Transact, step, works, tries_again, is_kept, settle, results_to, updates_sent, opening};
+ghost use Rattle.ov_specs.specs.operations.OpOutcome.{empty_result};
 ghost use Rattle.ov_specs.specs.operations.Transaction.{has_error};
 ghost use Rattle.ov_specs.specs.machine.Blocked.{AreBlocked};
 ghost use Rattle.ov_specs.specs.machine.Suiting.{SuitsState, IsWholeState, draws_uuids};
@@ -19,6 +21,7 @@ ghost use Rattle.ov_specs.specs.rows.Database.{Database};
 ghost use Rattle.ov_specs.specs.machine.History.{run, requests, closed_by};
 ghost use Rattle.ov_specs.specs.machine.Streams.{StreamEvent, Streams, ExpandsTimed};
 ghost use Rattle.ov_specs.specs.values.Uuid.{Uuid, is_uuid};
+ghost use Rattle.ov_laws.specs.Asserting.{item_at, Asserts};
 ghost use Rattle.ov_laws.specs.Requests.{AreAskedFor};
 
 /// The relation and the program tell of the same cuts, of every stream.
@@ -61,9 +64,51 @@ pub fn sessions_are_closed_for_a_cause()
 /// A refused transaction changes nothing (RFC 7047, 4.1.3): whatever was drawn and whatever the store answered, where the
 /// reply has an error among its results, the database is as before.
 pub fn a_refused_transaction_changes_nothing()
-    ensures { (s : State) (session : ℕ) (draws : List Uuid) (outcome : Option Outcome) (id : Data) (operations results : Items) (stepped : Stepped)
+    ensures { (s : State) (session : ℕ) (draws : List Uuid) (outcome : Option Outcome) (id : Data) (operations results : Items) (before : List Sent) (stepped : Stepped)
         → works s session draws outcome (Transact id operations) ≡ Some stepped
-        → stepped.sent ≡ to_session session (results_of id results) → has_error results ≡ true → stepped.state.database ≡ s.database }
+        → stepped.sent ≡ before ++ results_to session id results → has_error results ≡ true → stepped.state.database ≡ s.database }
+{}
+
+/// Where the store keeps what a transaction has changed, the monitors are told of the change before the reply: session by session
+/// and monitor by monitor what differs between the database before and the one after (RFC 7047, 4.1.6; the order is our own). Where
+/// it keeps nothing, they are told nothing: the reply alone is sent, or nothing of a transaction that waits.
+pub fn updates_come_before_the_reply()
+    ensures arrived { (s : State) (session : ℕ) (draws : List Uuid) (id : Data) (operations : Items) (stepped : Stepped) → works s session draws (Some Committed) (Transact id operations) ≡ Some stepped
+        → (results : Items) × (stepped.sent ≡ updates_sent s.database stepped.state.database s.sessions ++ results_to session id results) }
+    ensures later { (s : State) (waiting : Outstanding) (stepped : Stepped) → tries_again s waiting (Some Committed) ≡ Some stepped
+        → (results : Items) × (stepped.sent ≡ updates_sent s.database stepped.state.database s.sessions ++ results_to waiting.session waiting.id results) }
+    ensures arrived_unkept { (s : State) (session : ℕ) (draws : List Uuid) (outcome : Option Outcome) (id : Data) (operations : Items) (stepped : Stepped) → works s session draws outcome (Transact id operations) ≡ Some stepped
+        → is_kept outcome ≡ false → outcome ≢ Some NoMemory → (stepped.sent ≡ []) ⊎ ((results : Items) × (stepped.sent ≡ results_to session id results)) }
+    ensures later_unkept { (s : State) (waiting : Outstanding) (outcome : Option Outcome) (stepped : Stepped) → tries_again s waiting outcome ≡ Some stepped
+        → is_kept outcome ≡ false → outcome ≢ Some NoMemory → (stepped.sent ≡ []) ⊎ ((results : Items) × (stepped.sent ≡ results_to waiting.session waiting.id results)) }
+{}
+
+/// An `assert` passes only for the session that is first in the queue of the lock (RFC 7047, 5.2.10): where its transaction is
+/// tried as it arrives, and at each later try.
+pub fn assert_passes_only_for_the_owner()
+    ensures arrived { (s : State) (session : ℕ) (draws : List Uuid) (outcome : Option Outcome) (id : Data) (operations results : Items) (before : List Sent) (stepped : Stepped) (place : ℕ) (operation : Data) (name : List ℕ)
+        → works s session draws outcome (Transact id operations) ≡ Some stepped → stepped.sent ≡ before ++ results_to session id results
+        → item_at place operations ≡ Some operation → Asserts name operation → item_at place results ≡ Some empty_result → owner name s.queues ≡ Some session }
+    ensures later { (s : State) (waiting : Outstanding) (outcome : Option Outcome) (results : Items) (before : List Sent) (stepped : Stepped) (place : ℕ) (operation : Data) (name : List ℕ)
+        → tries_again s waiting outcome ≡ Some stepped → stepped.sent ≡ before ++ results_to waiting.session waiting.id results
+        → item_at place waiting.operations ≡ Some operation → Asserts name operation → item_at place results ≡ Some empty_result → owner name s.queues ≡ Some waiting.session }
+{}
+
+/// A lock has one owner at most; and in each state that a run from an opening leads to the queues ascend by the names of their
+/// locks, nobody stands in one twice, and a session that is not open stands in none (RFC 7047, 4.1.8).
+pub fn queues_of_locks_are_in_order()
+    ensures owner { (queues : Queues) (name : List ℕ) (one other : ℕ) → owns queues one name ≡ true → owns queues other name ≡ true → one ≡ other }
+    ensures ascend { (schema : Schema) (database : Database) (history : List Entry) (stepped : Stepped) → run (opening schema database) history ≡ Some stepped → DoQueuesAscend stepped.state.queues }
+    ensures once { (schema : Schema) (database : Database) (history : List Entry) (stepped : Stepped)
+        → run (opening schema database) history ≡ Some stepped → (name : List ℕ) → HasNoRepeats (queue_of name stepped.state.queues) }
+    ensures shut { (schema : Schema) (database : Database) (history : List Entry) (stepped : Stepped)
+        → run (opening schema database) history ≡ Some stepped → (session : ℕ) (name : List ℕ) → is_open stepped.state session ≡ false → has_requested session name stepped.state.queues ≡ false }
+{}
+
+/// In each state that a run from an opening leads to, what a step sends is sent to sessions that are open before it.
+pub fn only_open_sessions_are_sent_to()
+    ensures { (schema : Schema) (database : Database) (history : List Entry) (before after : Stepped) (entry : Entry)
+        → run (opening schema database) history ≡ Some before → step before.state entry ≡ Some after → list_all (λ sent. is_open before.state sent.session) after.sent ≡ true }
 {}
 
 /// Settling n transactions that wait takes at most n · (n + 1) / 2 attempts.

@@ -2,3 +2,4 @@ pub mod Queued
 pub mod Held
 pub mod Freeing
 pub mod Refusing
+pub mod Calls

@@ -1,8 +1,8 @@
 -- When a session is refused a lock.
-use Rattle.std.specs.Prelude.{◌≡◌, ℕ, nat_le, List, if◌then◌else◌, Bool, Option, Some, None, Result, Ok, Err}
+use Rattle.std.specs.Prelude.{◌≡◌, ℕ, nat_le, List, if◌then◌else◌, codes, Bool, Option, Some, None, Result, Ok, Err}
 use Rattle.ov_specs.specs.locks.Queues.{Queues, has_requested, requests_of, lock_limit}
 use Rattle.ov_locks.specs.declared.fault.LockFault.{LockFault}
-use Rattle.ov_locks.specs.declared.fault.LockFault.TheVariants.{AlreadyRequested, Limit, Memory}
+use Rattle.ov_locks.specs.declared.fault.LockFault.TheVariants.{AlreadyRequested, NotHeld, Limit, Memory}
 
 -- what refuses a lock or a steal to a session that asked for this many locks, where it asked for this one, or not (RFC 7047,
 -- 4.1.8; the limit is our own)
@@ -17,3 +17,10 @@ abbrev pub RefusesFor : {A : Type 0} → Option LockFault → Result A LockFault
 RefusesFor (Some fault) result = result ≡ Err fault
 RefusesFor None (Ok a) = Unit {0}
 RefusesFor None (Err fault) = fault ≡ Memory
+
+-- what the client is told of a fault, where it is told
+abbrev pub fault_text : LockFault → Option (List ℕ)
+fault_text AlreadyRequested = Some (codes "lock already requested")
+fault_text NotHeld = Some (codes "lock not held")
+fault_text Limit = Some (codes "resources exhausted")
+fault_text Memory = None

@@ -1,3 +1,6 @@
+ghost use Rattle.std.specs.Prelude.{◌≡◌, IfSome};
+ghost use Rattle.ov_locks.specs.Refusing.{fault_text};
+
 use std::alloc::AllocError;
 use thiserror::Error;
 
@@ -16,6 +19,21 @@ pub enum LockFault {
     /// A growth was refused.
     #[error("out of memory")]
     Memory,
+}
+
+impl LockFault {
+    /// The text that the client is sent; `Memory` is told in another way. It is not derived, so that the contract can say which
+    /// it is.
+    pub fn text(self) -> &'static str
+        ensures { IfSome (fault_text self) (λ text. result.now ≡ text) }
+    {
+        match self {
+            LockFault::AlreadyRequested => "lock already requested",
+            LockFault::NotHeld => "lock not held",
+            LockFault::Limit => "resources exhausted",
+            LockFault::Memory => "out of memory",
+        }
+    }
 }
 
 impl From<AllocError> for LockFault {

@@ -3,7 +3,7 @@ ghost use Rattle.std.specs.BTreeMap.{is_at};
 ghost use Rattle.std.specs.BTreeSet.{insert_key};
 ghost use Rattle.std.specs.List.{list_any};
 ghost use Rattle.std.specs.Set.{remove_key};
-ghost use Rattle.ov_specs.specs.locks.Queues.{owner, has_requested, lock, steal, unlock, next_owner, leave, freed, stolen_note};
+ghost use Rattle.ov_specs.specs.locks.Queues.{owner, has_requested, lock, steal, unlock, next_owner, leave, freed, stolen_note, requests_of, DoQueuesAscend};
 ghost use Rattle.ov_specs.specs.schema.SchemaTypes.{name_cmp};
 ghost use Rattle.ov_specs.specs.wire.Frame.{frame};
 ghost use Rattle.ov_locks.specs.Freeing.{told, told_all, unlock_all, freed_all};
@@ -64,6 +64,20 @@ impl LockTable {
         ensures { result ≡ owner name.now self.now.0 }
     {
         self.queues.owner(name)
+    }
+
+    /// How many locks the session asked for, as their owner or as one that waits.
+    pub fn requests(&self, session: u64) -> usize
+        ensures { result ≡ requests_of session self.now.0 }
+    {
+        self.held.count(session)
+    }
+
+    /// The queues ascend by the names of their locks, which each table keeps true of itself. It does nothing.
+    pub fn in_order(&self)
+        ensures { DoQueuesAscend self.now.0 }
+    {
+        let _ = &self.queues;
     }
 
     /// The session asks for the lock, and goes to the back of its queue. Whether it is the owner now (RFC 7047, 4.1.8).

@@ -2,7 +2,7 @@
 use Rattle.std.specs.Prelude.{◌≡◌, Result, Ok, Err}
 use Rattle.serde_json.specs.Data.{Data}
 use Rattle.ov_specs.specs.operations.OpOutcome as spec
-use Rattle.ov_specs.specs.operations.OpOutcome.{OpContext}
+use Rattle.ov_specs.specs.operations.OpOutcome.{Owns, OpContext}
 use Rattle.ov_specs.specs.rows.Database.{Database}
 use Rattle.ov_ops.specs.declared.context.OpCtx.{OpCtx}
 use Rattle.ov_ops.specs.declared.outcome.OpOutcome.{OpOutcome}
@@ -11,11 +11,12 @@ use Rattle.ov_stage.specs.declared.fault.OpFault.{OpFault}
 use Rattle.ov_stage.specs.declared.fault.OpFault.TheVariants.{Refused, Memory}
 use Rattle.ov_stage.specs.Errors.{error_view}
 
--- the transaction that an operation is one of, on the database as it was before
-abbrev pub context_of : OpCtx → Database → OpContext
-context_of ctx before = record {
+-- the transaction that an operation is one of, on the database as it was before, where this tells what its session owns
+abbrev pub context_of : {O : Type 0} → (O → Owns) → OpCtx O → Database → OpContext
+context_of owned ctx before = record {
   schema = ctx.schema.now;
   before = before;
+  owns = owned ctx.owns.now;
   version = ctx.version;
   ids = ctx.inserts.now.ids;
   operations = ctx.inserts.now.operations;

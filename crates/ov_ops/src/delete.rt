@@ -7,6 +7,7 @@ ghost use Rattle.ov_ops.specs.Outcomes.{context_of, IsDone};
 use crate::context::OpCtx;
 use crate::count::count_result;
 use crate::members::{conditions_at, table_at};
+use crate::owns::Owns;
 use ov_base::Tree;
 use ov_conds::Condition;
 use ov_rows::RowKey;
@@ -43,13 +44,13 @@ fn remove_rows(stage: &mut Stage<'_>, keys: Vec<RowKey>) -> Result<(), AllocErro
 }
 
 /// The rows that match go, and are counted (RFC 7047, 5.2.5).
-pub(crate) fn delete<'a>(
+pub(crate) fn delete<'a, O: Owns>(
     alloc: Global,
     stage: &mut Stage<'_>,
-    ctx: &OpCtx<'a, '_, '_>,
+    ctx: &OpCtx<'a, '_, '_, '_, O>,
     operation: &'a Value,
 ) -> Result<Tree, OpFault>
-    ensures done { IsDone (spec.delete_outcome (context_of ctx.now stage.old.before) stage.old.now (view operation.now)) result stage.new.now }
+    ensures done { IsDone (spec.delete_outcome (context_of O.owned ctx.now stage.old.before) stage.old.now (view operation.now)) result stage.new.now }
     ensures frame { stage.new.before ≡ stage.old.before }
 {
     let (name, table) = table_at(ctx, operation)?;

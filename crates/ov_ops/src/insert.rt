@@ -7,6 +7,7 @@ ghost use Rattle.ov_ops.specs.Outcomes.{context_of, IsDone};
 
 use crate::context::OpCtx;
 use crate::members::table_at;
+use crate::owns::Owns;
 use ov_base::Tree;
 use ov_given::{name_fault, new_row};
 use ov_rows::{Columns, RowKey};
@@ -38,15 +39,15 @@ pub fn insert_result(alloc: Global, id: Uuid) -> Result<Tree, AllocError>
 }
 
 /// The row under its identifier, which no row of the table may have.
-fn put_new(
+fn put_new<O: Owns>(
     alloc: Global,
     stage: &mut Stage<'_>,
-    ctx: &OpCtx<'_, '_, '_>,
+    ctx: &OpCtx<'_, '_, '_, '_, O>,
     table: &str,
     columns: Columns,
     id: Option<Uuid>,
 ) -> Result<Tree, OpFault>
-    ensures done { IsDone (spec.put_new (context_of ctx.now stage.old.before) stage.old.now table.now columns id) result stage.new.now }
+    ensures done { IsDone (spec.put_new (context_of O.owned ctx.now stage.old.before) stage.old.now table.now columns id) result stage.new.now }
     ensures frame { stage.new.before ≡ stage.old.before }
 {
     let Some(id) = id else {
@@ -63,14 +64,14 @@ fn put_new(
 
 /// The insert at this place of the transaction: a row is made of `row` and put under the identifier that was drawn for it. Its
 /// identifier can't be chosen (RFC 7047, 5.2.1).
-pub(crate) fn insert<'a>(
+pub(crate) fn insert<'a, O: Owns>(
     alloc: Global,
     stage: &mut Stage<'_>,
-    ctx: &OpCtx<'a, '_, '_>,
+    ctx: &OpCtx<'a, '_, '_, '_, O>,
     place: usize,
     operation: &'a Value,
 ) -> Result<Tree, OpFault>
-    ensures done { IsDone (spec.insert_outcome (context_of ctx.now stage.old.before) place stage.old.now (view operation.now)) result stage.new.now }
+    ensures done { IsDone (spec.insert_outcome (context_of O.owned ctx.now stage.old.before) place stage.old.now (view operation.now)) result stage.new.now }
     ensures frame { stage.new.before ≡ stage.old.before }
 {
     let (name, table) = table_at(ctx, operation)?;

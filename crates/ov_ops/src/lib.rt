@@ -1,8 +1,9 @@
 //! The operations of a transaction, one file each: what an operation makes of the rows that those before it left, and its result
-//! (RFC 7047, 5.2). `assert` is still unknown. What names no source is our own.
+//! (RFC 7047, 5.2). What names no source is our own.
 #![tactic(auto)]
 
 mod abort;
+mod assert;
 mod changed;
 mod comment;
 mod commit;
@@ -15,6 +16,7 @@ mod members;
 mod mutate;
 mod operation;
 mod outcome;
+mod owns;
 mod select;
 mod update;
 mod wait;
@@ -23,4 +25,5 @@ pub use context::OpCtx;
 pub use insert::insert_result;
 pub use operation::run_op;
 pub use outcome::OpOutcome;
+pub use owns::Owns;
 pub use select::select_result;

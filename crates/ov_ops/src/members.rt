@@ -8,6 +8,7 @@ ghost use Rattle.ov_specs.specs.schema.SchemaTypes.{Table as table};
 ghost use Rattle.ov_ops.specs.Outcomes.{context_of, GoesOn};
 
 use crate::context::OpCtx;
+use crate::owns::Owns;
 use ov_conds::Condition;
 use ov_schema::Table;
 use ov_stage::{OpError, OpFault, conditions_of, text_at};
@@ -15,12 +16,12 @@ use serde_json::Value;
 use std::alloc::Global;
 
 /// The table that the operation names, with its name (RFC 7047, 5.2).
-pub(crate) fn table_at<'a>(
-    ctx: &OpCtx<'a, '_, '_>,
+pub(crate) fn table_at<'a, O: Owns>(
+    ctx: &OpCtx<'a, '_, '_, '_, O>,
     operation: &'a Value,
 ) -> Result<(&'a str, &'a Table), OpFault>
     ensures { (before : Database) (next : List ℕ → table → spec.OpOutcome)
-        → GoesOn (spec.on_table (context_of ctx.now before) (view operation.now) next) (λ t. next t.0.now t.1.now) result }
+        → GoesOn (spec.on_table (context_of O.owned ctx.now before) (view operation.now) next) (λ t. next t.0.now t.1.now) result }
 {
     let Some(name) = text_at(operation, "table") else {
         return Err(OpFault::Refused(OpError::Syntax));
@@ -32,14 +33,14 @@ pub(crate) fn table_at<'a>(
 }
 
 /// The conditions of `where` on rows of the table (RFC 7047, 5.2.2).
-pub(crate) fn conditions_at(
+pub(crate) fn conditions_at<O: Owns>(
     alloc: Global,
-    ctx: &OpCtx<'_, '_, '_>,
+    ctx: &OpCtx<'_, '_, '_, '_, O>,
     table: &Table,
     operation: &Value,
 ) -> Result<Vec<Condition>, OpFault>
     ensures { (before : Database) (next : List condition → spec.OpOutcome)
-        → GoesOn (on_conditions (context_of ctx.now before) table.now (view operation.now) next) (λ v. next v.items) result }
+        → GoesOn (on_conditions (context_of O.owned ctx.now before) table.now (view operation.now) next) (λ v. next v.items) result }
 {
     let Some(items) = operation.get("where").and_then(Value::as_array) else {
         return Err(OpFault::Refused(OpError::Syntax));

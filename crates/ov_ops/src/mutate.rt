@@ -9,6 +9,7 @@ use crate::changed::put_rows;
 use crate::context::OpCtx;
 use crate::count::count_result;
 use crate::members::{conditions_at, table_at};
+use crate::owns::Owns;
 use ov_base::Tree;
 use ov_conds::Condition;
 use ov_given::{mutated_columns, mutations_of};
@@ -42,13 +43,13 @@ fn mutated_rows(
 }
 
 /// The mutations are applied to the rows that match, which are counted (RFC 7047, 5.2.4).
-pub(crate) fn mutate<'a>(
+pub(crate) fn mutate<'a, O: Owns>(
     alloc: Global,
     stage: &mut Stage<'_>,
-    ctx: &OpCtx<'a, '_, '_>,
+    ctx: &OpCtx<'a, '_, '_, '_, O>,
     operation: &'a Value,
 ) -> Result<Tree, OpFault>
-    ensures done { IsDone (spec.mutate_outcome (context_of ctx.now stage.old.before) stage.old.now (view operation.now)) result stage.new.now }
+    ensures done { IsDone (spec.mutate_outcome (context_of O.owned ctx.now stage.old.before) stage.old.now (view operation.now)) result stage.new.now }
     ensures frame { stage.new.before ≡ stage.old.before }
 {
     let (name, table) = table_at(ctx, operation)?;

@@ -4,6 +4,7 @@ ghost use Rattle.ov_specs.specs.operations.Operation as spec;
 ghost use Rattle.ov_ops.specs.Outcomes.{context_of, IsOutcome};
 
 use crate::abort::abort;
+use crate::assert::assert_owner;
 use crate::comment::comment;
 use crate::commit::commit;
 use crate::context::OpCtx;
@@ -11,6 +12,7 @@ use crate::delete::delete;
 use crate::insert::insert;
 use crate::mutate::mutate;
 use crate::outcome::OpOutcome;
+use crate::owns::Owns;
 use crate::select::select;
 use crate::update::update;
 use crate::wait::wait;
@@ -18,36 +20,37 @@ use ov_stage::{OpError, Stage, text_at};
 use serde_json::Value;
 use std::alloc::Global;
 
-/// An operation that touches no row, and steers its transaction (RFC 7047, 5.2.6 to 5.2.9).
-fn run_control<'a>(
+/// An operation that touches no row, and steers its transaction (RFC 7047, 5.2.6 to 5.2.10).
+fn run_control<'a, O: Owns>(
     alloc: Global,
     stage: &Stage<'_>,
-    ctx: &OpCtx<'a, '_, '_>,
+    ctx: &OpCtx<'a, '_, '_, '_, O>,
     op: &str,
     operation: &'a Value,
 ) -> OpOutcome
-    ensures { IsOutcome (spec.control_outcome (context_of ctx.now stage.now.before) stage.now.now (view operation.now) op.now) result stage.now.now }
+    ensures { IsOutcome (spec.control_outcome (context_of O.owned ctx.now stage.now.before) stage.now.now (view operation.now) op.now) result stage.now.now }
 {
     match op {
         "wait" => wait(alloc, stage, ctx, operation),
         "commit" => commit(alloc, operation),
         "abort" => abort(),
         "comment" => comment(alloc, operation),
+        "assert" => assert_owner(alloc, ctx, operation),
         _ => OpOutcome::Fault(OpError::UnknownOperation),
     }
 }
 
 /// The operation at this place of the transaction, on the rows that those before it left (RFC 7047, 5.2). Its members are looked
-/// at in the order in which the section of the operation names them. `assert`, as every other word, is an unknown operation. After
-/// another outcome than `Done` the stage is to be dropped.
-pub fn run_op<'a>(
+/// at in the order in which the section of the operation names them. After another outcome than `Done` the stage is to be
+/// dropped.
+pub fn run_op<'a, O: Owns>(
     alloc: Global,
     stage: &mut Stage<'_>,
-    ctx: &OpCtx<'a, '_, '_>,
+    ctx: &OpCtx<'a, '_, '_, '_, O>,
     place: usize,
     operation: &'a Value,
 ) -> OpOutcome
-    ensures done { IsOutcome (spec.outcome_of (context_of ctx.now stage.old.before) place stage.old.now (view operation.now)) result stage.new.now }
+    ensures done { IsOutcome (spec.outcome_of (context_of O.owned ctx.now stage.old.before) place stage.old.now (view operation.now)) result stage.new.now }
     ensures frame { stage.new.before ≡ stage.old.before }
 {
     match text_at(operation, "op") {

@@ -11,6 +11,7 @@ ghost use Rattle.ov_ops.specs.Outcomes.{context_of, IsDone};
 
 use crate::context::OpCtx;
 use crate::members::{conditions_at, table_at};
+use crate::owns::Owns;
 use ov_base::{Text, Tree};
 use ov_conds::Condition;
 use ov_stage::{OpFault, ShownRow, Stage, chosen_columns, is_among};
@@ -101,13 +102,13 @@ pub fn select_result(
 }
 
 /// The chosen columns of the rows that match (RFC 7047, 5.2.2).
-pub(crate) fn select<'a>(
+pub(crate) fn select<'a, O: Owns>(
     alloc: Global,
     stage: &Stage<'_>,
-    ctx: &OpCtx<'a, '_, '_>,
+    ctx: &OpCtx<'a, '_, '_, '_, O>,
     operation: &'a Value,
 ) -> Result<Tree, OpFault>
-    ensures { IsDone (spec.select_outcome (context_of ctx.now stage.now.before) stage.now.now (view operation.now)) result stage.now.now }
+    ensures { IsDone (spec.select_outcome (context_of O.owned ctx.now stage.now.before) stage.now.now (view operation.now)) result stage.now.now }
 {
     let (name, table) = table_at(ctx, operation)?;
     let conditions = conditions_at(alloc, ctx, table, operation)?;

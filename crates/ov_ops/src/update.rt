@@ -8,6 +8,7 @@ use crate::changed::put_rows;
 use crate::context::OpCtx;
 use crate::count::count_result;
 use crate::members::{conditions_at, table_at};
+use crate::owns::Owns;
 use ov_base::Tree;
 use ov_conds::Condition;
 use ov_given::{GivenRow, given_over, given_values};
@@ -37,13 +38,13 @@ fn updated_rows(
 }
 
 /// The rows that match are given these values, and are counted, changed or not (RFC 7047, 5.2.3).
-pub(crate) fn update<'a>(
+pub(crate) fn update<'a, O: Owns>(
     alloc: Global,
     stage: &mut Stage<'_>,
-    ctx: &OpCtx<'a, '_, '_>,
+    ctx: &OpCtx<'a, '_, '_, '_, O>,
     operation: &'a Value,
 ) -> Result<Tree, OpFault>
-    ensures done { IsDone (spec.update_outcome (context_of ctx.now stage.old.before) stage.old.now (view operation.now)) result stage.new.now }
+    ensures done { IsDone (spec.update_outcome (context_of O.owned ctx.now stage.old.before) stage.old.now (view operation.now)) result stage.new.now }
     ensures frame { stage.new.before ≡ stage.old.before }
 {
     let (name, table) = table_at(ctx, operation)?;

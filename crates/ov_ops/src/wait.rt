@@ -12,6 +12,7 @@ use crate::context::OpCtx;
 use crate::empty::empty_result;
 use crate::members::{conditions_at, table_at};
 use crate::outcome::OpOutcome;
+use crate::owns::Owns;
 use crate::select::shown_rows;
 use ov_base::Text;
 use ov_conds::Condition;
@@ -33,13 +34,13 @@ struct Waited<'a> {
 
 impl<'a> Waited<'a> {
     /// The members in their order (RFC 7047, 5.2.6).
-    fn read(
+    fn read<O: Owns>(
         alloc: Global,
-        ctx: &OpCtx<'a, '_, '_>,
+        ctx: &OpCtx<'a, '_, '_, '_, O>,
         operation: &'a Value,
     ) -> Result<Waited<'a>, OpFault>
-        ensures { (before rows : Database) → GoesOn (spec.wait_outcome (context_of ctx.now before) rows (view operation.now))
-            (λ w. spec.waits (context_of ctx.now before) w.timeout (spec.is_met (until_view w.until) (map (projection w.compared.items) (matching rows w.table.now w.conditions.items)) w.told.items) rows) result }
+        ensures { (before rows : Database) → GoesOn (spec.wait_outcome (context_of O.owned ctx.now before) rows (view operation.now))
+            (λ w. spec.waits (context_of O.owned ctx.now before) w.timeout (spec.is_met (until_view w.until) (map (projection w.compared.items) (matching rows w.table.now w.conditions.items)) w.told.items) rows) result }
     {
         let (name, table) = table_at(ctx, operation)?;
         let timeout = timeout_of(operation.get("timeout"))?;
@@ -95,13 +96,13 @@ fn come(alloc: Global, timeout: Option<u64>, age: u64, has_come: bool) -> OpOutc
 }
 
 /// Waits until the rows that match are, or are not, those that are told (RFC 7047, 5.2.6).
-pub(crate) fn wait<'a>(
+pub(crate) fn wait<'a, O: Owns>(
     alloc: Global,
     stage: &Stage<'_>,
-    ctx: &OpCtx<'a, '_, '_>,
+    ctx: &OpCtx<'a, '_, '_, '_, O>,
     operation: &'a Value,
 ) -> OpOutcome
-    ensures { IsOutcome (spec.wait_outcome (context_of ctx.now stage.now.before) stage.now.now (view operation.now)) result stage.now.now }
+    ensures { IsOutcome (spec.wait_outcome (context_of O.owned ctx.now stage.now.before) stage.now.now (view operation.now)) result stage.now.now }
 {
     let waited = match Waited::read(alloc, ctx, operation) {
         Ok(waited) => waited,

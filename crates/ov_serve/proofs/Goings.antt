@@ -6,10 +6,11 @@ use Rattle.std.proofs.lemmas.Grind.{flat_map-append}
 use Rattle.ov_specs.specs.machine.Machine.{State, Entry}
 use Rattle.ov_specs.specs.machine.History.{joined}
 use Rattle.ov_core.specs.Entries.{entry_view}
-use Rattle.ov_core.specs.Outbox.{waiting_for}
+use Rattle.ov_outbox.specs.Frames.{waiting_for}
 use Rattle.ov_core.specs.Following.{CoreState, Follows, Extends, and_handed, and_all_handed}
 use Rattle.ov_core.proofs.Histories.{keeps_on}
-use Rattle.ov_serve.specs.Serving.{ExtendsHanding, WritesOf}
+use Rattle.ov_ends.specs.Writing.{WritesOf}
+use Rattle.ov_serve.specs.Serving.{ExtendsHanding}
 use Rattle.ov_serve.specs.Progress.{Sends}
 
 -- the same frames were given

@@ -5,4 +5,3 @@ pub mod Passings
 pub mod Fed
 pub mod Servings
 pub mod Starts
-pub mod Tellings

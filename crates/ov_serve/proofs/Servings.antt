@@ -20,15 +20,16 @@ use Rattle.ov_cut.specs.CutterState.{CutterState}
 use Rattle.ov_core.specs.declared.event.Cause.{Cause}
 use Rattle.ov_core.specs.declared.event.Cause.TheVariants.{WriteFault, Damaged, Memory}
 use Rattle.ov_core.specs.Entries.{cause_view, entry_view}
-use Rattle.ov_core.specs.Outbox.{waiting_for}
+use Rattle.ov_outbox.specs.Frames.{waiting_for}
 use Rattle.ov_core.specs.Following.{CoreState, Follows, Extends, and_all_handed}
 use Rattle.ov_core.specs.History.{KeepsNewest}
 use Rattle.ov_core.specs.Stepping.{closing, Closes}
 use Rattle.ov_core.proofs.Histories.{keeps_last}
 use Rattle.ov_streams.specs.Feeding.{IsFed}
-use Rattle.ov_serve.specs.Serving.{IoState, io_state, ExtendsHanding, Piece, Pieces, most_piece_bytes, bytes_of, piece_events, events_of, TellsMoments, IsCauseIn, ClosesAfter, ClosesFor, is_written, EndsAs, Served, WritesOf}
+use Rattle.ov_serve.specs.Serving.{IoState, io_state, ExtendsHanding, Piece, Pieces, most_piece_bytes, bytes_of, piece_events, events_of, TellsMoments, IsCauseIn, ClosesAfter, ClosesFor, is_written, EndsAs, Served}
+use Rattle.ov_ends.specs.Writing.{WritesOf}
 use Rattle.ov_serve.specs.Progress.{Sends, stream_cause, IsShut, StandsAfter, ServesPiece, ServedSoFar, ServedAndFed}
-use Rattle.ov_serve.proofs.Unopened.{close_sends, close_of_open, next_is_unopened}
+use Rattle.ov_serve.proofs.Unopened.{close_spares, close_of_open, next_is_unopened}
 use Rattle.ov_serve.proofs.Closings.{not_closed, is_shut, closed_by_closing, stream_cause_is}
 use Rattle.ov_serve.proofs.Fed.{piece_of, makes}
 use Rattle.ov_serve.proofs.Goings.{goes_on_entering, goes_on_handing, joined-append, writes_on}
@@ -180,11 +181,11 @@ closes_after n cause a b k = (
   refl,
 )
 
--- a closing leaves as much waiting as waited before
+-- a closing leaves as much waiting for its session as waited before
 waits_as_before : {K D : Type 0} (at n : ℕ) (cause : machine.Cause) (a b : CoreState K D) → Closes at n cause a b → waiting_for n b.outbox ≡ waiting_for n a.outbox
 waits_as_before at n cause a b k =
-    let none : k.moves.sent ≡ [] = close_sends a.state (closing at n cause) (record { state = b.state; sent = k.moves.sent }) k.moves.stepped n cause refl in
-    k.moves.waits n ∙ (ap (λ (sent : List Sent). waiting_for n a.outbox ++ frames_to n sent) none ∙ append-nil (waiting_for n a.outbox))
+    let none = close_spares a.state (closing at n cause) (record { state = b.state; sent = k.moves.sent }) k.moves.stepped n cause refl in
+    k.moves.waits n ∙ (ap (λ (fs : List (List ℕ)). waiting_for n a.outbox ++ fs) none ∙ append-nil (waiting_for n a.outbox))
 
 -- the closing of an open session is its cause
 closed_at_last : {K D : Type 0} (at n : ℕ) (cause : machine.Cause) (before : State) (h : List machine.Entry) (a b : CoreState K D) → StandsAfter n before h a.state → is_open a.state n ≡ true → Closes at n cause a b

@@ -2,7 +2,9 @@
 use Rattle.std.proofs.Common.{◌≡◌, ◌≢◌, ℕ, ◌≤◌, List, [], ◌∷◌, ◌++◌, refl, sym, ap, ◌∙◌, Bool, true, false, Option, Some, None, inl, inr, arith}
 use Rattle.std.specs.Prelude.{◌&&◌}
 use Rattle.std.specs.List.{list_all}
+use Rattle.std.specs.List.Sorted.{IsStrictlySortedBy}
 use Rattle.std.proofs.lemmas.Bool.{cases_eq, and_parts, ne_eqb, false≢true}
+use Rattle.ov_specs.specs.locks.Queues.{DoQueuesAscend}
 use Rattle.ov_specs.specs.wire.Message.{Message}
 use Rattle.ov_specs.specs.machine.Machine.{State, Entry, Event, Open, Take, Close, Tick, Cause, Sent, Stepped, step, closed, when, is_open, is_without_choice, with_next_session, opening}
 use Rattle.ov_specs.specs.rows.Database.{Database}
@@ -10,9 +12,10 @@ use Rattle.ov_specs.specs.schema.SchemaTypes.{Schema}
 use Rattle.ov_specs.specs.machine.History.{run, frames_to, closing_cause, closed_by}
 use Rattle.std.specs.Option.{option_or}
 use Rattle.ov_specs.proofs.laws.Histories.{run_parts, closed_by_first}
-use Rattle.ov_specs.proofs.laws.Settling.{IsWithin}
-use Rattle.ov_specs.proofs.laws.Turns.{MayClose, turn_open, turn_tick, turn_close, turn_close_other, turn_take, turn_take_other, take_within, tick_within, stepped}
-use Rattle.ov_core.proofs.Answered.{frames_to-append}
+use Rattle.ov_specs.proofs.laws.Queueing.{InOrder, step_in_order, step_sends_open}
+use Rattle.ov_specs.proofs.laws.Turns.{MayClose, turn_open, turn_tick, turn_close, turn_close_other, turn_take, turn_take_other, stepped}
+use Rattle.ov_outbox.proofs.Answered.{frames_to-append}
+use Rattle.ov_core.proofs.Leaves.{leaving_silent}
 use Rattle.std.proofs.lemmas.Option.{same_Some}
 
 -- ---- what a step sends
@@ -35,29 +38,28 @@ none_sent s n (x ∷ sent) to_open away =
     rw (ne_eqb x.session n other) (none_sent s n sent parts.1 away)
 
 module _ (s : State) (e : Entry) (t : Stepped) (h : step s e ≡ Some t) where
-  -- an opening sends nothing
-  open_sends : e.event ≡ Open → t.sent ≡ []
-  open_sends is =
-      let x : Stepped = record { state = with_next_session (now s e); sent = [] } in
-      ap (λ (v : Stepped). v.sent) (sym (same_Some x t (suits (is_without_choice e.choice) (Some x) t (stepped s e t Open is h)).1))
-
   -- what a closing makes, of an open session
   closing_makes : (m : ℕ) (cause : Cause) → e.event ≡ Close m cause → ((is_without_choice e.choice && is_open s m) ≡ true) × (Some (closed (now s e) m) ≡ Some t)
   closing_makes m cause is = suits (is_without_choice e.choice && is_open s m) (Some (closed (now s e) m)) t (stepped s e t (Close m cause) is h)
 
-  -- a closing sends nothing
-  pub close_sends : (m : ℕ) (cause : Cause) → e.event ≡ Close m cause → t.sent ≡ []
-  close_sends m cause is = ap (λ (v : Stepped). v.sent) (sym (same_Some (closed (now s e) m) t (closing_makes m cause is).1))
+  -- a closing sends its session nothing
+  pub close_spares : (m : ℕ) (cause : Cause) → e.event ≡ Close m cause → frames_to m t.sent ≡ []
+  close_spares m cause is = ap (λ (v : Stepped). frames_to m v.sent) (sym (same_Some (closed (now s e) m) t (closing_makes m cause is).1)) ∙ leaving_silent m s.queues
 
   -- an open session is closed
   pub close_of_open : (m : ℕ) (cause : Cause) → e.event ≡ Close m cause → is_open s m ≡ true
   close_of_open m cause is = (and_parts (is_without_choice e.choice) (is_open s m) (closing_makes m cause is).0).1
 
+-- one that is not open is sent nothing by a step
+pub away_silent : (n : ℕ) (s : State) (e : Entry) (t : Stepped) → step s e ≡ Some t → InOrder s → is_open s n ≡ false → frames_to n t.sent ≡ []
+away_silent n s e t h order away = none_sent s n t.sent (step_sends_open s e t h order) away
+
 -- ---- a session that is still to come
 
--- a session whose serial is still to come is not open
-abbrev pub ToCome : ℕ → State → Type 0
-ToCome n s = s.next ≤ n → is_open s n ≡ false
+-- A session whose serial is still to come is not open. Those that are told of locks are open, since the queues are in order.
+pub record ToCome (n : ℕ) (s : State) : Type 0 where
+  pub away : s.next ≤ n → is_open s n ≡ false
+  pub order : InOrder s
 
 -- What a step leaves of a session that may be still to come. Where it is after the step, nothing was done to it.
 pub record Awaits (n : ℕ) (s : State) (e : Entry) (t : Stepped) : Type 0 where
@@ -67,64 +69,50 @@ pub record Awaits (n : ℕ) (s : State) (e : Entry) (t : Stepped) : Type 0 where
   pub no_cause : s.next ≤ n → closing_cause n s e.event t.state ≡ None
 
 module _ (n : ℕ) (s : State) (e : Entry) (t : Stepped) (h : step s e ≡ Some t) (to_come : ToCome n s) where
+  -- by what becomes of the session, and by what closes it
+  awaits : s.next ≤ t.state.next → (t.state.next ≤ n → is_open t.state n ≡ false) → (s.next ≤ n → closing_cause n s e.event t.state ≡ None) → Awaits n s e t
+  awaits grows away no_cause = record {
+    grows = grows;
+    to_come = record { away = away; order = step_in_order s e t h to_come.order };
+    silent = λ low. away_silent n s e t h to_come.order (to_come.away low);
+    no_cause = no_cause;
+  }
+
   awaits_open : e.event ≡ Open → Awaits n s e t
   awaits_open is =
       let turn = turn_open n s e t h is in
-      record {
-        grows = omega (arith, turn.next_is);
-        to_come = λ high.
-            let low : s.next ≤ n = omega (arith, turn.next_is) in
-            let other : s.next ≢ n = λ same. omega (arith, turn.next_is) in
-            turn.open_is ∙ rw (to_come low, ne_eqb s.next n other) refl;
-        silent = λ low. ap (frames_to n) (open_sends s e t h is);
-        no_cause = λ low. turn.cause_is;
-      }
+      awaits (omega (arith, turn.next_is))
+      (λ high.
+      let low : s.next ≤ n = omega (arith, turn.next_is) in
+      let other : s.next ≢ n = λ same. omega (arith, turn.next_is) in
+      turn.open_is ∙ rw (to_come.away low, ne_eqb s.next n other) refl)
+      (λ low. turn.cause_is)
 
-  -- what may close sessions, and sends to open ones alone
-  awaits_within : (taken : List Message) → MayClose n s e t taken → IsWithin (now s e) t.state t.sent → Awaits n s e t
-  awaits_within taken (inl turn) within = record {
-    grows = omega (arith, turn.next_is);
-    to_come = λ high. turn.open_is ∙ to_come (omega (arith, turn.next_is));
-    silent = λ low. none_sent (now s e) n t.sent within.1 (to_come low);
-    no_cause = λ low. turn.cause_is;
-  }
-  awaits_within taken (inr (was, turn)) within = record {
-    grows = omega (arith, turn.next_is);
-    to_come = λ high. turn.open_is;
-    silent = λ low. absurd (false≢true (sym (to_come low) ∙ was));
-    no_cause = λ low. absurd (false≢true (sym (to_come low) ∙ was));
-  }
+  -- what may close sessions
+  awaits_within : (taken : List Message) → MayClose n s e t taken → Awaits n s e t
+  awaits_within taken (inl turn) = awaits (omega (arith, turn.next_is)) (λ high. turn.open_is ∙ to_come.away (omega (arith, turn.next_is))) (λ low. turn.cause_is)
+  awaits_within taken (inr (was, turn)) = awaits (omega (arith, turn.next_is)) (λ high. turn.open_is) (λ low. absurd (false≢true (sym (to_come.away low) ∙ was)))
 
   awaits_close_own : (cause : Cause) → e.event ≡ Close n cause → Awaits n s e t
   awaits_close_own cause is =
       let turn = turn_close n s e t h cause is in
-      record {
-        grows = omega (arith, turn.next_is);
-        to_come = λ high. turn.open_is;
-        silent = λ low. ap (frames_to n) (close_sends s e t h n cause is);
-        no_cause = λ low. absurd (false≢true (sym (to_come low) ∙ close_of_open s e t h n cause is));
-      }
+      awaits (omega (arith, turn.next_is)) (λ high. turn.open_is) (λ low. absurd (false≢true (sym (to_come.away low) ∙ close_of_open s e t h n cause is)))
 
   awaits_close_other : (m : ℕ) (cause : Cause) → m ≢ n → e.event ≡ Close m cause → Awaits n s e t
   awaits_close_other m cause other is =
       let turn = turn_close_other n s e t h m cause other is in
-      record {
-        grows = omega (arith, turn.next_is);
-        to_come = λ high. turn.open_is ∙ to_come (omega (arith, turn.next_is));
-        silent = λ low. ap (frames_to n) (close_sends s e t h m cause is);
-        no_cause = λ low. turn.cause_is;
-      }
+      awaits (omega (arith, turn.next_is)) (λ high. turn.open_is ∙ to_come.away (omega (arith, turn.next_is))) (λ low. turn.cause_is)
 
   awaits_by : (what : Event) → e.event ≡ what → Awaits n s e t
   awaits_by Open is = awaits_open is
-  awaits_by Tick is = awaits_within [] (turn_tick n s e t h is) (tick_within s e t h is)
+  awaits_by Tick is = awaits_within [] (turn_tick n s e t h is)
   awaits_by (Close m cause) is = elim (cases_eq m n) [
     | inl same ↦ awaits_close_own cause (is ∙ ap (λ k. Close k cause) same)
     | inr other ↦ awaits_close_other m cause other is
   ]
   awaits_by (Take m message) is = elim (cases_eq m n) [
-    | inl same ↦ awaits_within (message ∷ []) (turn_take n s e t h message (is ∙ ap (λ k. Take k message) same)) (take_within s e t h m message is)
-    | inr other ↦ awaits_within [] (turn_take_other n s e t h m message other is) (take_within s e t h m message is)
+    | inl same ↦ awaits_within (message ∷ []) (turn_take n s e t h message (is ∙ ap (λ k. Take k message) same))
+    | inr other ↦ awaits_within [] (turn_take_other n s e t h m message other is)
   ]
 
 -- ---- whole histories
@@ -152,6 +140,14 @@ unopened n s (e ∷ h) t to_come r high =
       no_cause = closed_by_first s e h n parts.first parts.stepped ∙ (ap (λ (o : Option Cause). option_or o (closed_by parts.first.state h n)) (one.no_cause low) ∙ others.no_cause);
     }
 
+-- at an opening no lock is asked for
+none_sorted : DoQueuesAscend []
+unfolding IsStrictlySortedBy
+none_sorted = tt
+
+opening_in_order : (schema : Schema) (database : Database) → InOrder (opening schema database)
+opening_in_order schema database = ((none_sorted, tt), tt)
+
 -- a history from its opening says nothing of the next session
 pub next_is_unopened : (schema : Schema) (database : Database) (h : List Entry) (t : Stepped) (n : ℕ) → n ≡ t.state.next → run (opening schema database) h ≡ Some t → Unopened n (opening schema database) h t
-next_is_unopened schema database h t n is r = unopened n (opening schema database) h t (λ low. refl) r (omega arith)
+next_is_unopened schema database h t n is r = unopened n (opening schema database) h t (record { away = λ low. refl; order = opening_in_order schema database }) r (omega arith)

@@ -6,19 +6,14 @@ use Rattle.ov_specs.specs.machine.History.{run, joined, closed_by}
 use Rattle.ov_specs.specs.machine.Streams as streams
 use Rattle.ov_specs.specs.machine.Streams.{Streams, no_streams, ExpandsTimed}
 use Rattle.ov_cut.specs.CutterState.{CutterState}
-use Rattle.ov_core.specs.Outbox.{waiting_for}
+use Rattle.ov_outbox.specs.Frames.{waiting_for}
 use Rattle.ov_core.specs.Following.{CoreState}
 use Rattle.ov_streams.specs.Entering.{ExtendsByStep}
 use Rattle.ov_streams.specs.Feeding.{IsFed, EntersPiece}
-use Rattle.ov_serve.specs.Ends.{one_more}
-use Rattle.ov_serve.specs.Serving.{IoState, ExtendsHanding, WritesOf, Pieces, ArePieces, bytes_of, events_of, TellsMoments, is_due, PassesWhereDue}
+use Rattle.ov_ends.specs.Writing.{WritesOf}
+use Rattle.ov_serve.specs.Serving.{IoState, ExtendsHanding, Pieces, ArePieces, bytes_of, events_of, TellsMoments, is_due, PassesWhereDue}
 
 -- ---- what is written
-
--- failures were counted: one where the call failed
-abbrev pub CountsFailures : Bool → ℕ → ℕ → Type 0
-CountsFailures true old new = new ≡ old
-CountsFailures false old new = new ≡ one_more old
 
 -- These frames were handed out of the session and written, and no other waits; or a beginning of them was written.
 pub record Sends {K D : Type 0} (n : ℕ) (is_whole : Bool) (old new : CoreState K D) (said said' : List ℕ) : Type 0 where

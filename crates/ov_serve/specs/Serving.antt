@@ -10,10 +10,11 @@ use Rattle.ov_specs.specs.machine.Streams as streams
 use Rattle.ov_specs.specs.machine.Streams.{StreamEvent, Opens, Feed, Passes, Streams, no_streams, ExpandsTimed}
 use Rattle.ov_core.specs.declared.event.Cause.{Cause}
 use Rattle.ov_core.specs.declared.event.Cause.TheVariants.{InputEnded, ReadFault, WriteFault, Damaged, Overrun, Memory}
-use Rattle.ov_core.specs.Outbox.{waiting_for}
+use Rattle.ov_outbox.specs.Frames.{waiting_for}
 use Rattle.ov_core.specs.Following.{CoreState, Follows, and_all_handed}
 use Rattle.ov_core.specs.History.{KeepsNewest}
-use Rattle.ov_serve.specs.Ends.{one_more}
+use Rattle.ov_ends.specs.Ends.{one_more}
+use Rattle.ov_ends.specs.Writing.{WritesOf}
 
 -- what stands around a core: the bytes that were read and written so far, and the clock
 pub record IoState (C : Type 0) : Type 0 where
@@ -33,15 +34,6 @@ pub record ExtendsHanding {K D : Type 0} (n : ℕ) (old : CoreState K D) (entrie
   pub follows : (before : State) (history : List machine.Entry) (given : ℕ → List (List ℕ)) → Follows before history given old
       → Follows before (history ++ entries) (and_all_handed given n frames) new
   pub keeps : KeepsNewest old.kept entries new.kept
-
--- the bytes are the first of those, and others may follow
-abbrev pub BeginsAs : List ℕ → List ℕ → Type 0
-BeginsAs some all = (others : List ℕ) × (some ++ others ≡ all)
-
--- all of the bytes were written, or a beginning of them
-abbrev pub WritesOf : Bool → List ℕ → List ℕ → List ℕ → Type 0
-WritesOf true bytes old new = new ≡ old ++ bytes
-WritesOf false bytes old new = (written : List ℕ) × (new ≡ old ++ written) × BeginsAs written bytes
 
 -- ---- what was read
 

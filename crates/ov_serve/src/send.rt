@@ -1,11 +1,11 @@
 ghost use Rattle.std.specs.Prelude.{◌≡◌, true};
-ghost use Rattle.ov_serve.specs.Serving.{WritesOf};
-ghost use Rattle.ov_serve.specs.Progress.{CountsFailures, Sends};
-ghost use Rattle.ov_serve.specs.Ends.{GivesWritten};
+ghost use Rattle.ov_ends.specs.Ends.{GivesWritten};
+ghost use Rattle.ov_ends.specs.Writing.{CountsFailures};
+ghost use Rattle.ov_serve.specs.Progress.{Sends};
 
-use crate::ends::Sink;
 use ov_core::early::{Draws, Keeper};
 use ov_core::{Core, Session};
+use ov_ends::{Sink, write_frame};
 
 /// Writes all that waits for the session, oldest first, and hands it on. False where the writer failed.
 pub(crate) fn write_waiting<K: Keeper + Drop, D: Draws + Drop, W: Sink>(
@@ -25,20 +25,4 @@ pub(crate) fn write_waiting<K: Keeper + Drop, D: Draws + Drop, W: Sink>(
         }
     }
     writer.flush()
-}
-
-/// Writes the bytes whole, in as many writes as it takes. False where the writer failed.
-fn write_frame<W: Sink>(writer: &mut W, bytes: &[u8]) -> bool
-    ensures written { WritesOf result bytes.now (W.bytes_written writer.old) (W.bytes_written writer.new) }
-    ensures given { GivesWritten (W.bytes_written writer.old) (W.contents writer.old) (W.bytes_written writer.new) (W.contents writer.new) }
-    ensures faults { CountsFailures result (W.faults writer.old) (W.faults writer.new) }
-{
-    let mut rest = bytes;
-    while !rest.is_empty() {
-        match writer.write(rest) {
-            Some(n) => rest = &rest[n..],
-            None => return false,
-        }
-    }
-    true
 }

@@ -5,15 +5,15 @@ ghost use Rattle.ov_core.specs.Entries.{cause_view, event_view, entry_view};
 ghost use Rattle.ov_core.specs.Following.{CoreState};
 ghost use Rattle.ov_core.specs.Stepping.{RefusesStep};
 ghost use Rattle.ov_streams.specs.Feeding.{IsFed};
-ghost use Rattle.ov_serve.specs.Ends.{KeepsInput, GivesWritten};
+ghost use Rattle.ov_ends.specs.Ends.{KeepsInput, GivesWritten};
 ghost use Rattle.ov_serve.specs.Serving.{IoState, io_state, Served, is_written, CauseMatchesCounts, is_due, most_piece_bytes};
 ghost use Rattle.ov_serve.specs.Progress.{stream_cause, PassesIf, ServedAndFed, ServesPiece};
 
-use crate::ends::{Clock, Sink, Source};
 use crate::send::write_waiting;
 use ov_core::early::{Draws, Keeper};
 use ov_core::{Cause, Core, Entry, Event, Session, StepFault, Stepped};
 use ov_cut::Cutter;
+use ov_ends::{Clock, Sink, Source};
 use ov_rpc::MessageText;
 use ov_streams::feed_session;
 use std::alloc::Global;

@@ -18,7 +18,7 @@ use Rattle.ov_core.specs.declared.event.StepFault.{StepFault}
 use Rattle.ov_core.specs.Following.{CoreState, Follows, none_given}
 use Rattle.ov_core.specs.Stepping.{RefusesStep}
 use Rattle.ov_core.specs.Leaving.{LeavesItsOwn}
-use Rattle.ov_serve.specs.Ends.{KeepsInput, GivesWritten}
+use Rattle.ov_ends.specs.Ends.{KeepsInput, GivesWritten}
 use Rattle.ov_serve.specs.Serving.{IoState, io_state, Served, is_written, CauseMatchesCounts}
 use Rattle.ov_words.specs.declared.ending.Ending.{Ending}
 use Rattle.ov_words.specs.declared.ending.Ending.TheVariants as ending

@@ -1,4 +1,4 @@
-use ov_serve::Clock;
+use ov_ends::Clock;
 use std::rt::Clock as SystemClock;
 use std::time::Instant;
 

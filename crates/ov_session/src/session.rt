@@ -4,7 +4,8 @@ ghost use Rattle.ov_session.specs.Chain.{EndsChain, EndsOver, EndsSession, ends,
 use crate::clock::MonotonicClock;
 use ov_core::early::{Draws, Keeper};
 use ov_core::{Core, Schema};
-use ov_serve::{Clock, Sink, Source, Watched, serve_one};
+use ov_ends::{Clock, Sink, Source, Watched};
+use ov_serve::serve_one;
 use ov_words::{Ending, ending_of_cause, ending_of_open, ending_of_step};
 use std::alloc::Global;
 use std::io::{BufWriter, Read, Write};

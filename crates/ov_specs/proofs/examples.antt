@@ -18,3 +18,4 @@ mod TransactionRows
 mod IntegrityRows
 mod LockRows
 mod MonitorRows
+mod UpdateRows

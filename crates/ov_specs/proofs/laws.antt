@@ -19,6 +19,7 @@ pub mod Settling
 pub mod SettlingOn
 pub mod Happening
 pub mod Turns
+pub mod Queueing
 pub mod LineKeys
 pub mod Truths
 pub mod Lists
@@ -32,6 +33,7 @@ pub mod StepKeeping
 pub mod StepSuiting
 pub mod StepWhole
 pub mod RefusedOutcome
+pub mod Owning
 pub mod Nesting
 pub mod Bodies
 pub mod Printing

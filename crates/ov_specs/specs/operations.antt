@@ -15,6 +15,7 @@ pub mod Delete
 pub mod Wait
 pub mod Commit
 pub mod Abort
+pub mod Assert
 pub mod Comment
 pub mod Operation
 pub mod Transaction

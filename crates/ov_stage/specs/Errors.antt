@@ -21,6 +21,7 @@ error_view error.Domain = spec.DomainError
 error_view error.Range = spec.RangeError
 error_view error.TimedOut = spec.TimedOut
 error_view error.Aborted = spec.Aborted
+error_view error.NotOwner = spec.NotOwner
 error_view error.ReferentialIntegrity = spec.ReferentialIntegrity
 error_view error.ResourcesExhausted = spec.ResourcesExhausted
 error_view error.InputOutput = spec.InputOutput

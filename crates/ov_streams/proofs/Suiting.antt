@@ -19,13 +19,13 @@ use Rattle.ov_specs.proofs.laws.Expanding.{one_more}
 use Rattle.ov_specs.proofs.laws.Turns.{MayClose, turn_open, turn_tick, turn_close_other, turn_take_other}
 use Rattle.ov_laws.proofs.Requests.{asked_nothing, not_fed_yet}
 use Rattle.ov_cut.specs.CutterState.{CutterState, StandsFor}
-use Rattle.ov_core.specs.declared.event.Session.{Session}
+use Rattle.ov_sessions.specs.declared.session.Session.{Session}
 use Rattle.ov_core.specs.declared.event.Stepped.TheVariants as answer
 use Rattle.ov_streams.specs.declared.event.StreamEvent.{StreamEvent}
 use Rattle.ov_core.specs.Following.{CoreState, Extends}
-use Rattle.ov_core.specs.Sessions.{most_sessions, beyond_serials, serial_left}
+use Rattle.ov_sessions.specs.Sessions.{most_sessions, beyond_serials, serial_left}
 use Rattle.ov_core.specs.Stepping.{IsEntered, Closes, is_full, closing}
-use Rattle.ov_core.proofs.Keying.{same_serial}
+use Rattle.ov_sessions.proofs.Keying.{same_serial}
 use Rattle.ov_streams.specs.Feeding.{IsFed, EntersPiece}
 use Rattle.ov_streams.specs.Running.{StreamsState, FollowsEvents, RunsEvents, HasCutter, cutter_of, stream_event_view, stream_events_view}
 use Rattle.ov_streams.proofs.Entering.{enters_none}

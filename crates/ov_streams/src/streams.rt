@@ -5,7 +5,7 @@ ghost use Rattle.ov_specs.specs.rows.Database.{Database};
 ghost use Rattle.ov_specs.specs.machine.History.{joined};
 ghost use Rattle.ov_specs.specs.machine.Streams.{StreamEvent as SpecEvent};
 ghost use Rattle.ov_core.specs.Following.{Follows, none_given, and_all_handed};
-ghost use Rattle.ov_core.specs.Outbox.{waiting_for};
+ghost use Rattle.ov_outbox.specs.Frames.{waiting_for};
 ghost use Rattle.ov_core.specs.Stepping.{RefusesStep};
 ghost use Rattle.ov_streams.specs.Running.{FollowsEvents, RunsEvents, RefusesEvent, stream_event_view, stream_events_view};
 

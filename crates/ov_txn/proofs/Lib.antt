@@ -4,3 +4,4 @@ pub mod Performing
 pub mod Ending
 pub mod Suiting
 pub mod Storing
+pub mod Earliest

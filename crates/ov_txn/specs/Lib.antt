@@ -4,3 +4,4 @@ pub mod Results
 pub mod Performing
 pub mod Replying
 pub mod Attempting
+pub mod Waiting

@@ -22,7 +22,7 @@ use ov_db::Delta;
 use ov_given::NamedRows;
 use ov_index::Indexes;
 use ov_integrity::{Finished, finish};
-use ov_ops::{OpCtx, OpOutcome, run_op};
+use ov_ops::{OpCtx, OpOutcome, Owns, run_op};
 use ov_refs::Links;
 use ov_rows::Rows;
 use ov_schema::Schema;
@@ -89,13 +89,14 @@ fn end(
 }
 
 /// The operations of a transaction in order, on a stage over the rows, and their commit.
-fn perform_operations(
+fn perform_operations<O: Owns>(
     alloc: Global,
     schema: &Schema,
     rows: &Rows,
     links: &Links,
     indexes: &Indexes,
     txn: &Txn,
+    owns: &O,
     age: u64,
 ) -> Result<Performed, AllocError>
     requires drawn { list_all is_uuid txn.now.draws ≡ true }
@@ -103,7 +104,7 @@ fn perform_operations(
     requires whole { is_whole schema.now rows.now ≡ true }
     requires linked { AreLinksOf schema.now rows.now links.now }
     requires indexed { AreIndexesOf schema.now rows.now indexes.now }
-    ensures { IfOk result (IsPerformed (transaction schema.now rows.now txn.now.draws age txn.now.operations) rows.now) }
+    ensures { IfOk result (IsPerformed (transaction schema.now rows.now (O.owned owns.now) txn.now.draws age txn.now.operations) rows.now) }
 {
     let mut results = Results::new(alloc);
     let mut stage = Stage::with_indexes(alloc, schema, rows, indexes);
@@ -114,6 +115,7 @@ fn perform_operations(
     let ctx = OpCtx {
         schema,
         inserts: &inserts,
+        owns,
         version: *version,
         age,
     };
@@ -133,20 +135,21 @@ fn perform_operations(
     end(alloc, schema, *version, links, indexes, results, stage)
 }
 
-/// The operations of a transaction of this age in milliseconds, in order, each on the rows that those before it left (RFC 7047,
-/// 4.1.3), and then its commit. That refuses strong references to rows that are not there, takes out the rows that nothing keeps
-/// and weak references to rows that are gone, and refuses what then breaks a limit (3.2). Where it refuses, one result more tells
-/// the error (4.1.3).
+/// The operations of a transaction of this age in milliseconds, of a session that owns these locks, in order, each on the rows
+/// that those before it left (RFC 7047, 4.1.3), and then its commit. That refuses strong references to rows that are not there,
+/// takes out the rows that nothing keeps and weak references to rows that are gone, and refuses what then breaks a limit (3.2).
+/// Where it refuses, one result more tells the error (4.1.3).
 ///
 /// The rows are not touched. What is to be changed is empty exactly where that is nothing. The rows, to which the links belong,
 /// are whole rows of the schema, and whole rows of the schema are made of them.
-pub(crate) fn perform(
+pub(crate) fn perform<O: Owns>(
     alloc: Global,
     schema: &Schema,
     rows: &Rows,
     links: &Links,
     indexes: &Indexes,
     txn: &Txn,
+    owns: &O,
     age: u64,
 ) -> Result<Performed, AllocError>
     requires accepted { IsAccepted schema.now }
@@ -154,10 +157,10 @@ pub(crate) fn perform(
     requires whole { is_whole schema.now rows.now ≡ true }
     requires linked { AreLinksOf schema.now rows.now links.now }
     requires indexed { AreIndexesOf schema.now rows.now indexes.now }
-    ensures performed { IfOk result (IsPerformed (transaction schema.now rows.now txn.now.draws age txn.now.operations) rows.now) }
+    ensures performed { IfOk result (IsPerformed (transaction schema.now rows.now (O.owned owns.now) txn.now.draws age txn.now.operations) rows.now) }
     ensures suits { IfOk result (SuitsPerformed schema.now) }
     ensures whole { IfOk result (WholePerformed schema.now rows.now) }
 {
     are_uuids(txn.draws());
-    perform_operations(alloc, schema, rows, links, indexes, txn, age)
+    perform_operations(alloc, schema, rows, links, indexes, txn, owns, age)
 }

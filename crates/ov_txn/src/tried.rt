@@ -13,6 +13,7 @@ use crate::txn::Txn;
 use ov_base::Trees;
 use ov_db::{Db, Delta, StoreAnswer};
 use ov_keeper::Keeper;
+use ov_ops::Owns;
 use ov_stage::OpError;
 use std::alloc::{AllocError, Global};
 
@@ -30,44 +31,55 @@ pub enum Tried {
     NoMemory,
 }
 
-/// What a transaction of this age in milliseconds comes to on the database as it is.
-fn perform_on<K: Keeper + Drop>(
+/// What a transaction of this age in milliseconds comes to on the database as it is, where its session owns these locks.
+fn perform_on<K: Keeper + Drop, O: Owns>(
     alloc: Global,
     db: &Db<K>,
     txn: &Txn,
+    owns: &O,
     age: u64,
 ) -> Result<Performed, AllocError>
-    ensures performed { IfOk result (IsPerformed (transaction db.now.schema db.now.committed txn.now.draws age txn.now.operations) db.now.committed) }
+    ensures performed { IfOk result (IsPerformed (transaction db.now.schema db.now.committed (O.owned owns.now) txn.now.draws age txn.now.operations) db.now.committed) }
     ensures suits { IfOk result (SuitsPerformed db.now.schema) }
     ensures whole { IfOk result (WholePerformed db.now.schema db.now.committed) }
 {
     db.kept();
     let schema = db.schema();
     schema.accepted();
-    perform(alloc, schema, db.rows(), db.links(), db.indexes(), txn, age)
+    perform(
+        alloc,
+        schema,
+        db.rows(),
+        db.links(),
+        db.indexes(),
+        txn,
+        owns,
+        age,
+    )
 }
 
-/// Tries a transaction of this age in milliseconds, and counts the attempt.
+/// Tries a transaction of this age in milliseconds, whose session owns these locks, and counts the attempt.
 ///
 /// It has its operations done in order, and is committed by the rules for references, unreferenced rows and limits (RFC 7047,
 /// 3.2). Where that changes the database, all that follows the commit is made ready, and then the store is asked, once and last
 /// of all. A database that is sealed is not asked any more: such a transaction is answered as where the store fails. Where
 /// nothing is changed, and where an operation or the commit fails, the store is not asked either (4.1.3).
-pub fn attempt<K: Keeper + Drop, R: Ready<K>>(
+pub fn attempt<K: Keeper + Drop, O: Owns, R: Ready<K>>(
     alloc: Global,
     db: &mut Db<K>,
     txn: &Txn,
+    owns: &O,
     age: u64,
     tries: &mut Tries,
     ready: &mut R,
 ) -> Tried
-    ensures tried { IsTried R.readies (transaction db.old.schema db.old.committed txn.now.draws age txn.now.operations) db.old ready.old result db.new ready.new }
+    ensures tried { IsTried R.readies (transaction db.old.schema db.old.committed (O.owned owns.now) txn.now.draws age txn.now.operations) db.old ready.old result db.new ready.new }
     ensures cause { HasCause K.failed result db.old db.new }
     ensures counts { K.failed db.old.keeper ≤ K.failed db.new.keeper }
     ensures counted { tries.new ≡ tries.old + 1 }
 {
     tries.add();
-    match perform_on(alloc, db, txn, age) {
+    match perform_on(alloc, db, txn, owns, age) {
         Err(_) => Tried::NoMemory,
         Ok(Performed::Blocked(timeout)) => Tried::Blocked(timeout),
         Ok(Performed::Completed(results, delta)) => {

@@ -6,3 +6,4 @@ pub mod Modified
 pub mod Names
 pub mod Kept
 pub mod Adding
+pub mod Watched

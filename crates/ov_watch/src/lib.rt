@@ -14,6 +14,8 @@ mod row_update;
 mod select;
 mod table;
 mod table_update;
+mod watchers;
 
 pub use fault::WatchFault;
 pub use monitors::Monitors;
+pub use watchers::Watchers;

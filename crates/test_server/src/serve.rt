@@ -1,5 +1,6 @@
 use ov_core::Cause;
-use ov_serve::{Clock, Source, Watched, serve_one};
+use ov_ends::{Clock, Source, Watched};
+use ov_serve::serve_one;
 use std::alloc::Global;
 use std::cell::Cell;
 use std::io;
@@ -49,28 +50,32 @@ fn writer_of(alloc: Global) -> SlowWriter {
     }
 }
 
-/// What comes of a session, and its reader and writer behind it.
+/// What comes of a session by a clock, and its reader and writer behind it.
+fn served_by<H: Wait, R: Read + Drop, W: Write + Drop, C: Clock>(
+    rt: &H,
+    alloc: Global,
+    reader: R,
+    writer: W,
+    clock: &mut C,
+) -> Result<(Cause, R, W), Fail> {
+    let mut core = net_core(alloc, Faults::NONE)?;
+    let mut reader = Watched::new(reader);
+    let mut writer = Watched::new(writer);
+    let cause = serve_one(rt, &mut core, alloc, &mut reader, &mut writer, clock)?;
+    if reader.ended() != (cause == Cause::InputEnded) {
+        return Err(Fail::new("an end that is no end"));
+    }
+    Ok((cause, reader.into_inner(), writer.into_inner()))
+}
+
+/// The same by a clock that stands still.
 fn served<H: Wait, R: Read + Drop, W: Write + Drop>(
     rt: &H,
     alloc: Global,
     reader: R,
     writer: W,
 ) -> Result<(Cause, R, W), Fail> {
-    let mut core = net_core(alloc, Faults::NONE)?;
-    let mut reader = Watched::new(reader);
-    let mut writer = Watched::new(writer);
-    let cause = serve_one(
-        rt,
-        &mut core,
-        alloc,
-        &mut reader,
-        &mut writer,
-        &mut StillClock,
-    )?;
-    if reader.ended() != (cause == Cause::InputEnded) {
-        return Err(Fail::new("an end that is no end"));
-    }
-    Ok((cause, reader.into_inner(), writer.into_inner()))
+    served_by(rt, alloc, reader, writer, &mut StillClock)
 }
 
 /// What comes of a session, and what was written.
@@ -212,5 +217,70 @@ fn answers_are_handed_on_before_more_is_read(rt: HostRuntime) -> Result<(), Fail
     let (cause, reader, _) = served(&rt, rt.alloc(), reader, writer)?;
     assert_eq!(rt; cause, Cause::InputEnded);
     assert_eq!(rt; (reader.calls, reader.early), (3, 0));
+    Ok(())
+}
+
+/// A reader that gives one piece a call, and then none.
+#[derive(Drop)]
+struct PieceReader<'a> {
+    first: &'a [u8],
+    second: &'a [u8],
+}
+
+impl Read for PieceReader<'_> {
+    fn read(&mut self, buf: &mut [u8]) -> io::Result<usize> {
+        let piece = self.first;
+        let n = piece.len().min(buf.len());
+        buf[..n].copy_from_slice(&piece[..n]);
+        self.first = self.second;
+        self.second = b"";
+        Ok(n)
+    }
+}
+
+/// A clock that tells 0, and then this moment.
+#[derive(Drop)]
+struct LeapingClock {
+    later: u64,
+    told: bool,
+}
+
+impl Clock for LeapingClock {
+    ghost tells = { λ _ _ _. Unit {0} };
+
+    fn now(&mut self) -> u64 {
+        if self.told {
+            return self.later;
+        }
+        self.told = true;
+        0
+    }
+}
+
+/// A transaction that waits 50 milliseconds for a switch.
+const WAIT: &[u8] =
+    b"{\"id\":1,\"method\":\"transact\",\"params\":[\"Net\",{\"op\":\"wait\",\"table\":\"Switch\",\"timeout\":50,\"where\":[[\"name\",\"==\",\"s9\"]],\"columns\":[\"name\"],\"until\":\"==\",\"rows\":[{\"name\":\"s9\"}]}]}";
+
+const TIMED_OUT: &[u8] = b"{\"error\":null,\"id\":1,\"result\":[{\"error\":\"timed out\"}]}";
+
+/// What is written of a session whose second piece comes at a moment.
+fn told_at<H: Wait>(rt: &H, alloc: Global, later: u64) -> Result<Vec<u8>, Fail> {
+    let reader = PieceReader {
+        first: WAIT,
+        second: REQUEST,
+    };
+    let mut clock = LeapingClock { later, told: false };
+    let (_, _, writer) = served_by(rt, alloc, reader, writer_of(alloc), &mut clock)?;
+    Ok(writer.taken)
+}
+
+/// Behind the piece that comes where a wait runs out, time passes. It does not before.
+#[test]
+fn ticks_are_given(rt: HostRuntime) -> Result<(), Fail> {
+    let told = told_at(&rt, rt.alloc(), 49)?;
+    assert_eq!(rt; told.as_slice(), REPLY);
+    let told = told_at(&rt, rt.alloc(), 50)?;
+    assert_eq!(rt; &told[..REPLY.len().min(told.len())], REPLY);
+    assert_eq!(rt; &told[REPLY.len().min(told.len())..], TIMED_OUT);
     Ok(())
 }

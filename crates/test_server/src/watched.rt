@@ -1,4 +1,4 @@
-use ov_serve::{Sink, Source, Watched};
+use ov_ends::{Sink, Source, Watched};
 use std::io;
 use std::io::{ErrorKind, Read, Write};
 

@@ -1,4 +1,5 @@
 use ov_base::Text;
+use ov_keeper::Keeper;
 use ov_store::{MemoryDisk, Store, store_in_memory};
 use sqlite::{Alter, Connection, Files, Options};
 use std::alloc::Global;
@@ -49,13 +50,9 @@ remove Port 1
 commit -> made
 lines -> Switch 1 1 one again;";
 
-/// Runs a script over a store, and gives it back.
-pub(crate) fn kept<S: Alter + Drop>(
-    alloc: Global,
-    store: Store<S>,
-    script: &str,
-) -> Result<Store<S>, Fail> {
-    let mut keeping = Keeping::new(alloc, store);
+/// Runs a script over a keeper, and gives it back.
+pub(crate) fn kept<K: Keeper + Drop>(alloc: Global, keeper: K, script: &str) -> Result<K, Fail> {
+    let mut keeping = Keeping::new(alloc, keeper);
     follows(alloc, &mut keeping, script)?;
     Ok(keeping.into_keeper())
 }

@@ -5,6 +5,7 @@
 //! What runs a script has no contract, so that a test's own proof stays small.
 #![tactic(auto)]
 
+mod callers;
 mod changes;
 mod counter;
 mod failing_keeper;
@@ -14,6 +15,7 @@ mod lines;
 mod looked;
 mod lookups;
 mod machine;
+mod owning;
 mod readers;
 mod rows;
 mod schemas;
@@ -22,6 +24,7 @@ mod server;
 mod tree_texts;
 mod writers;
 
+pub use callers::{calls, calls_over};
 pub use changes::{commit_nothing, put_line, remove_row};
 pub use counter::Counter;
 pub use failing_keeper::FailingKeeper;
@@ -30,6 +33,7 @@ pub use keeping::Keeping;
 pub use lines::{change_of, line_of, number, text_of_line};
 pub use looked::{Looked, looks};
 pub use machine::{NetCore, net_core, steps};
+pub use owning::OwnsOne;
 pub use readers::SlowReader;
 pub use rows::switch;
 pub use schemas::{NET, net, schema_of_text};

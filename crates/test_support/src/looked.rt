@@ -1,6 +1,7 @@
 use crate::counter::Counter;
 use crate::keepers::{Faults, NetKeeper, new_keeper};
 use crate::lookups::{Lookups, opened_from};
+use crate::owning::OwnsOne;
 use crate::schemas::schema_of_text;
 use crate::tree_texts::trees;
 use ov_db::{Db, Delta};
@@ -45,7 +46,16 @@ impl Looked {
     fn attempt(&mut self, alloc: Global, operations: &str) -> Result<(), Fail> {
         let txn = Txn::read(alloc, trees(alloc, operations)?, &mut self.draws)?;
         let mut tries = Tries::new();
-        attempt(alloc, &mut self.db, &txn, 0, &mut tries, &mut Unprepared);
+        let owns = OwnsOne { lock: "mine" };
+        attempt(
+            alloc,
+            &mut self.db,
+            &txn,
+            &owns,
+            0,
+            &mut tries,
+            &mut Unprepared,
+        );
         Ok(())
     }
 

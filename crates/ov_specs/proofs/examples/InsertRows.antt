@@ -30,6 +30,7 @@ use Rattle.std.specs.List.{list_any}
 use Rattle.ov_specs.proofs.laws.Committing.{enough_committed}
 use Rattle.ov_specs.proofs.laws.Order.{atom_cmp_total, atom_cmp-IsAntisymmetric}
 use Rattle.ov_specs.proofs.examples.ConditionRows.{len-one}
+use Rattle.ov_specs.proofs.examples.NetRows.{owns_none}
 use Rattle.std.proofs.lemmas.List.{nil_from_length}
 
 -- ---- maps made of a list
@@ -51,7 +52,7 @@ module _ {K X : Type 0} {R : K → K → Ordering} (o : IsTotalOrder R) (same : 
 
 -- ---- the schema Net with one table, Switch, of the columns load and name
 
-abbrev scalar : AtomKind → Column
+abbrev pub scalar : AtomKind → Column
 scalar kind = record {
   type_of = record {
     key = record { kind = kind; choices = None; least = None; greatest = None; shortest = None; longest = None; refers = None };
@@ -63,13 +64,13 @@ scalar kind = record {
   is_mutable = true;
 }
 
-abbrev listed : List (List ℕ × Column)
+abbrev pub listed : List (List ℕ × Column)
 listed = (codes "_uuid", scalar Uuids) ∷ (codes "_version", scalar Uuids) ∷ (codes "load", scalar Integers) ∷ (codes "name", scalar Texts) ∷ []
 
 pub columns : FinMap name_cmp Column
 columns = from_entries listed
 
-entries-columns : entries columns ≡ listed
+pub entries-columns : entries columns ≡ listed
 unfolding columns
 entries-columns = entries-from_entries name_cmp_total name_cmp-IsAntisymmetric listed tt
 
@@ -77,17 +78,17 @@ load_column : get columns (codes "load") ≡ Some (scalar Integers)
 unfolding columns
 load_column = get-from_entries name_cmp_total listed (codes "load")
 
-name_column : get columns (codes "name") ≡ Some (scalar Texts)
+pub name_column : get columns (codes "name") ≡ Some (scalar Texts)
 unfolding columns
 name_column = get-from_entries name_cmp_total listed (codes "name")
 
-abbrev switch : Table
+abbrev pub switch : Table
 switch = record { columns = columns; max_rows = None; is_root = true; indexes = [] }
 
 pub tables : FinMap name_cmp Table
 tables = from_entries ((codes "Switch", switch) ∷ [])
 
-switch_table : get tables (codes "Switch") ≡ Some switch
+pub switch_table : get tables (codes "Switch") ≡ Some switch
 unfolding tables
 switch_table = get-from_entries name_cmp_total ((codes "Switch", switch) ∷ []) (codes "Switch")
 
@@ -99,18 +100,18 @@ entries-tables : entries tables ≡ (codes "Switch", switch) ∷ []
 unfolding tables
 entries-tables = entries-from_entries name_cmp_total name_cmp-IsAntisymmetric ((codes "Switch", switch) ∷ []) tt
 
-abbrev net0 : Schema
+abbrev pub net0 : Schema
 net0 = record { name = codes "Net"; version = None; tables = tables; tree = null }
 
 -- ---- one row
 
-abbrev numbered : ℕ → uuid.Uuid
+abbrev pub numbered : ℕ → uuid.Uuid
 numbered n = 0 ∷ 0 ∷ 0 ∷ 0 ∷ 0 ∷ 0 ∷ 0 ∷ 0 ∷ 0 ∷ 0 ∷ 0 ∷ 0 ∷ 0 ∷ 0 ∷ 0 ∷ n ∷ []
 
-abbrev one : Atom → Datum
+abbrev pub one : Atom → Datum
 one a = Atoms (set_of (a ∷ []))
 
-entries-one : (a : Atom) → entries (set_of (a ∷ [])) ≡ (a, tt) ∷ []
+pub entries-one : (a : Atom) → entries (set_of (a ∷ [])) ≡ (a, tt) ∷ []
 entries-one a = entries-from_entries atom_cmp_total atom_cmp-IsAntisymmetric ((a, tt) ∷ []) tt
 
 fits-integer : fits (scalar Integers).type_of (one (Integer (pos 4))) ≡ true
@@ -121,22 +122,22 @@ fits-text = rw (len-one (Text (codes "s1")), entries-one (Text (codes "s1"))) re
 
 -- ---- the insert
 
-abbrev insert_members : Data → Data
+abbrev pub insert_members : Data → Data
 insert_members row = object (member (codes "op") (string (codes "insert")) (member (codes "row") row (member (codes "table") (string (codes "Switch")) no_members)))
 
-abbrev insert_s1 : Data
+abbrev pub insert_s1 : Data
 insert_s1 = insert_members (object (member (codes "load") (number (unsigned 4)) (member (codes "name") (string (codes "s1")) no_members)))
 
 abbrev insert_s2 : Data
 insert_s2 = insert_members (object (member (codes "load") (number (unsigned 4)) (member (codes "name") (string (codes "s2")) no_members)))
 
-abbrev s1_columns : Columns
+abbrev pub s1_columns : Columns
 s1_columns = insert (insert empty (codes "load") (one (Integer (pos 4)))) (codes "name") (one (Text (codes "s1")))
 
-abbrev s1 : Row
+abbrev pub s1 : Row
 s1 = record { version = numbered 1; columns = s1_columns }
 
-abbrev with_s1 : Database
+abbrev pub with_s1 : Database
 with_s1 = insert empty (codes "Switch", numbered 2) s1
 
 text-s1 : is_utf8 (codes "s1") ≡ true
@@ -153,7 +154,7 @@ load-given =
     get-insert name_cmp_total (insert empty (codes "load") (one (Integer (pos 4)))) (codes "name") (one (Text (codes "s1"))) (codes "load")
     ∙ get-insert name_cmp_total empty (codes "load") (one (Integer (pos 4))) (codes "load")
 
-name-given : get s1_columns (codes "name") ≡ Some (one (Text (codes "s1")))
+pub name-given : get s1_columns (codes "name") ≡ Some (one (Text (codes "s1")))
 name-given = get-insert name_cmp_total (insert empty (codes "load") (one (Integer (pos 4)))) (codes "name") (one (Text (codes "s1"))) (codes "name")
 
 s1-complete : with_defaults (entries columns) s1_columns ≡ Ok s1_columns
@@ -164,14 +165,17 @@ s1-new names = rw (s1-given names) s1-complete
 
 -- a transaction of these operations on no rows, with draws from 1 on
 abbrev in_these : Items → List uuid.Uuid → OpContext
-in_these operations ids = record { schema = net0; before = empty; version = numbered 1; ids = ids; operations = operations; age = 0 }
+in_these operations ids = record { schema = net0; before = empty; owns = owns_none; version = numbered 1; ids = ids; operations = operations; age = 0 }
 
 -- the row is put, and its identifier is the first that was drawn behind the version
 insert-does : (others : Items) (ids : List uuid.Uuid) → outcome_of (in_these (item insert_s1 others) (numbered 2 ∷ ids)) 0 empty insert_s1 ≡ Done (insert_result (numbered 2)) with_s1
 insert-does others ids = rw switch_table (rw (s1-new (names_in (in_these (item insert_s1 others) (numbered 2 ∷ ids)))) (rw (get-empty line_cmp (codes "Switch", numbered 2)) refl))
 
-entries-with_s1 : entries with_s1 ≡ ((codes "Switch", numbered 2), s1) ∷ []
-entries-with_s1 = entries-insert line_cmp_total empty (codes "Switch", numbered 2) s1 ∙ ap (put line_cmp (codes "Switch", numbered 2) s1) (nil_from_length _ (sym (len-entries empty) ∙ len-empty line_cmp Row))
+pub entries-nothing : entries (empty {X = Row} {R = line_cmp}) ≡ []
+entries-nothing = nil_from_length _ (sym (len-entries empty) ∙ len-empty line_cmp Row)
+
+pub entries-with_s1 : entries with_s1 ≡ ((codes "Switch", numbered 2), s1) ∷ []
+entries-with_s1 = entries-insert line_cmp_total empty (codes "Switch", numbered 2) s1 ∙ ap (put line_cmp (codes "Switch", numbered 2) s1) entries-nothing
 
 entries-s1 : entries s1_columns ≡ (codes "load", one (Integer (pos 4))) ∷ (codes "name", one (Text (codes "s1"))) ∷ []
 entries-s1 =
@@ -189,7 +193,7 @@ s1-whole = rw (entries-with_s1, entries-tables) (rw switch_table (rw entries-s1 
 s1-committed : committed net0 empty (numbered 1) with_s1 ≡ Ok with_s1
 s1-committed = enough_committed net0 empty (numbered 1) with_s1 s1-enough s1-whole
 
-pub insert_one : transaction net0 empty (numbered 1 ∷ numbered 2 ∷ []) 0 (item insert_s1 no_items) ≡ Completes (item (insert_result (numbered 2)) no_items) with_s1
+pub insert_one : transaction net0 empty owns_none (numbered 1 ∷ numbered 2 ∷ []) 0 (item insert_s1 no_items) ≡ Completes (item (insert_result (numbered 2)) no_items) with_s1
 insert_one = rw (insert-does no_items []) (rw s1-committed refl)
 
 pub insert_is_answered : Some (array (item (insert_result (numbered 2)) no_items)) ≡ read (codes "[{\"uuid\":[\"uuid\",\"00000000-0000-0000-0000-000000000002\"]}]")
@@ -219,7 +223,7 @@ both = item insert_s1 (item (select_of (codes "Switch")) no_items)
 select-does : outcome_of (in_these both (numbered 2 ∷ [])) 1 with_s1 (select_of (codes "Switch")) ≡ Done rows_tree with_s1
 select-does = rw switch_table (rw (entries-columns, entries-with_s1) (ap (λ d. Done (object (member (codes "rows") (array (item d no_items)) no_members)) with_s1) shown-s1))
 
-pub insert_then_select : transaction net0 empty (numbered 1 ∷ numbered 2 ∷ []) 0 both ≡ Completes (item (insert_result (numbered 2)) (item rows_tree no_items)) with_s1
+pub insert_then_select : transaction net0 empty owns_none (numbered 1 ∷ numbered 2 ∷ []) 0 both ≡ Completes (item (insert_result (numbered 2)) (item rows_tree no_items)) with_s1
 insert_then_select = rw (insert-does (item (select_of (codes "Switch")) no_items) []) (rw select-does (rw s1-committed refl))
 
 pub select_is_answered : Some rows_tree ≡ read (codes "{\"rows\":[{\"_uuid\":[\"uuid\",\"00000000-0000-0000-0000-000000000002\"],\"_version\":[\"uuid\",\"00000000-0000-0000-0000-000000000001\"],\"load\":4,\"name\":\"s1\"}]}")
@@ -229,7 +233,7 @@ select_is_answered = refl
 -- ---- a transaction that is refused
 
 -- the insert before it is undone, and the one behind it is not tried
-pub refused_changes_nothing : transaction net0 empty (numbered 1 ∷ numbered 2 ∷ numbered 3 ∷ []) 0 (item insert_s1 (item (select_of (codes "Swich")) (item insert_s2 no_items)))
+pub refused_changes_nothing : transaction net0 empty owns_none (numbered 1 ∷ numbered 2 ∷ numbered 3 ∷ []) 0 (item insert_s1 (item (select_of (codes "Swich")) (item insert_s2 no_items)))
     ≡ Completes (item (insert_result (numbered 2)) (item (error_tree UnknownTable) (item null no_items))) empty
 refused_changes_nothing = rw (insert-does (item (select_of (codes "Swich")) (item insert_s2 no_items)) (numbered 3 ∷ [])) (rw no_other_table refl)
 

@@ -24,7 +24,7 @@ use Rattle.ov_specs.proofs.laws.LineKeys.{key_total, key_exact, tied_same}
 use Rattle.ov_specs.proofs.laws.Names.{name_cmp_total}
 use Rattle.ov_specs.proofs.laws.PrunedValues.{is_sorted-filter}
 use Rattle.ov_specs.proofs.examples.ConditionRows.{len-one}
-use Rattle.ov_specs.proofs.examples.NetRows.{entries-named, numbered, own, text}
+use Rattle.ov_specs.proofs.examples.NetRows.{entries-named, numbered, owns_none, own, text}
 use Rattle.ov_specs.proofs.examples.TwoSwitches.{one, entries-one, entries-none, len-none, entries-given, text_s1}
 
 -- ---- a switch has strong references to ports, and a weak one to its main port; a port may have a strong one to its peer
@@ -409,7 +409,7 @@ one_name_of_two before version = rw twins_refer (rw twins_kept (rw (twins_pruned
 
 -- what the transaction of a text comes to, where version 9 is drawn, and then these identifiers
 abbrev transacted : Database → List Uuid → List ℕ → Option TransactionOutcome
-transacted before ids text = option_map (transaction wired before (numbered 9 ∷ ids) 0) (option_and_then as_array (read text))
+transacted before ids text = option_map (transaction wired before owns_none (numbered 9 ∷ ids) 0) (option_and_then as_array (read text))
 
 -- the results, as they are sent, and the database
 abbrev completes : List ℕ → Database → Option TransactionOutcome

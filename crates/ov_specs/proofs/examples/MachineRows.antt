@@ -11,18 +11,18 @@ use Rattle.ov_specs.specs.machine.Machine.{State, Event, Open, Take, Close, Tick
 use Rattle.ov_specs.specs.machine.History.{run, out, requests, closed_by}
 
 -- a schema of this name, without tables
-abbrev net_schema : Schema
+abbrev pub net_schema : Schema
 net_schema = record { name = codes "Net"; version = None; tables = empty; tree = null }
 
 -- before any event, without rows
-abbrev net : State
+abbrev pub net : State
 net = opening net_schema empty
 
 -- with session 1 open
 abbrev with_session : State
-with_session = record net { sessions = record { serial = 1 } ∷ []; next = 2 }
+with_session = record net { sessions = record { serial = 1; monitors = [] } ∷ []; next = 2 }
 
-abbrev at : ℕ → Event → Entry
+abbrev pub at : ℕ → Event → Entry
 at moment event = record { event = event; choice = record { moment = moment; draws = []; outcomes = [] } }
 
 -- attempt 1 was refused memory
@@ -100,7 +100,7 @@ unfolding digits serde_json_on_literals
 other_methods_are_unknown = refl
 
 -- a session that is opened again has a new serial
-pub serials_are_not_used_again : option_map (λ t. t.state.sessions) (run net (at 0 Open ∷ at 0 (Close 1 InputEnded) ∷ at 0 Open ∷ [])) ≡ Some (record { serial = 2 } ∷ [])
+pub serials_are_not_used_again : option_map (λ t. t.state.sessions) (run net (at 0 Open ∷ at 0 (Close 1 InputEnded) ∷ at 0 Open ∷ [])) ≡ Some (record { serial = 2; monitors = [] } ∷ [])
 serials_are_not_used_again = refl
 
 pub requests_of_a_history : requests (at 0 Open ∷ at 0 (Take 1 list_dbs) ∷ at 0 (Take 2 echo) ∷ at 0 (Take 1 echo) ∷ []) 1 ≡ list_dbs ∷ echo ∷ []

@@ -5,7 +5,7 @@ use Rattle.std.specs.FinMap.{FinMap, entries, is_sorted, find, get, same_map, fr
 use Rattle.serde_json.specs.Data.{null, no_items}
 use Rattle.serde_json.specs.Read.{read}
 use Rattle.ov_specs.specs.operations.Operation.{outcome_of}
-use Rattle.ov_specs.specs.operations.OpOutcome.{OpContext, OpOutcome}
+use Rattle.ov_specs.specs.operations.OpOutcome.{Owns, OpContext, OpOutcome}
 use Rattle.ov_specs.specs.rows.Database.{Database}
 use Rattle.ov_specs.specs.schema.SchemaTypes.{BaseType, Column, Table, Schema, name_cmp}
 use Rattle.ov_specs.specs.values.Uuid.{Uuid}
@@ -100,9 +100,13 @@ net = record { name = codes "Net"; version = None; tables = tables; tree = null 
 abbrev pub numbered : ℕ → Uuid
 numbered n = 0 ∷ 0 ∷ 0 ∷ 0 ∷ 0 ∷ 0 ∷ 0 ∷ 0 ∷ 0 ∷ 0 ∷ 0 ∷ 0 ∷ 0 ∷ 0 ∷ 0 ∷ n ∷ []
 
+-- of a session that owns no lock
+abbrev pub owns_none : Owns
+owns_none name = false
+
 -- an operation by itself, in a transaction of this age that declares no names
 abbrev pub alone : Database → ℕ → OpContext
-alone before age = record { schema = net; before = before; version = numbered 1; ids = numbered 2 ∷ []; operations = no_items; age = age }
+alone before age = record { schema = net; before = before; owns = owns_none; version = numbered 1; ids = numbered 2 ∷ []; operations = no_items; age = age }
 
 -- what it comes to on these rows, which are as they were before the transaction
 abbrev pub done_at : ℕ → Database → List ℕ → Option OpOutcome

@@ -2,7 +2,7 @@
 -- one that is looked for first.
 use Rattle.std.proofs.Common.{◌≡◌, ℕ, List, Some, refl, codes}
 use Rattle.serde_json.proofs.OnLiterals.{serde_json_on_literals}
-use Rattle.ov_specs.specs.operations.Errors.{OpError, SyntaxError, UnknownTable, UnknownColumn, UnknownOperation, ConstraintViolation, Aborted}
+use Rattle.ov_specs.specs.operations.Errors.{OpError, SyntaxError, UnknownTable, UnknownColumn, UnknownOperation, NotOwner, ConstraintViolation, Aborted}
 use Rattle.ov_specs.specs.operations.OpOutcome.{Fault}
 use Rattle.ov_specs.specs.rows.Database.{Database}
 use Rattle.ov_specs.proofs.examples.NetRows.{table_is, on_switch, entries-switch, on_port, done_on}
@@ -30,10 +30,20 @@ pub unknown_op : Refused (codes "{\"op\":\"erase\"}") UnknownOperation
 unfolding serde_json_on_literals
 unknown_op rows = refl
 
--- until there are locks
-pub assert_is_unknown : Refused (codes "{\"op\":\"assert\",\"lock\":\"L\"}") UnknownOperation
+-- ---- assert
+
+pub assert_without_lock : Refused (codes "{\"op\":\"assert\"}") SyntaxError
 unfolding serde_json_on_literals
-assert_is_unknown rows = refl
+assert_without_lock rows = refl
+
+pub assert_lock_no_id : Refused (codes "{\"lock\":\"a b\",\"op\":\"assert\"}") SyntaxError
+unfolding serde_json_on_literals
+assert_lock_no_id rows = refl
+
+-- the session owns no lock
+pub assert_by_nobody : Refused (codes "{\"lock\":\"L\",\"op\":\"assert\"}") NotOwner
+unfolding serde_json_on_literals
+assert_by_nobody rows = refl
 
 -- ---- insert
 

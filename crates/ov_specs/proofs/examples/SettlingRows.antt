@@ -7,7 +7,7 @@ use Rattle.serde_json.specs.Data.{Data, number, unsigned, string, array, object,
 use Rattle.serde_json.proofs.OnLiterals.{serde_json_on_literals}
 use Rattle.ov_specs.specs.machine.Machine.{State, Outstanding, Event, Take, Close, Tick, InputEnded, Entry, NoMemory, Committed, Stepped, opening, step, due, refused, Transact, work_of, last_moment}
 use Rattle.ov_specs.specs.integrity.Committed.{committed}
-use Rattle.ov_specs.specs.operations.Errors.{TimedOut, error_tree}
+use Rattle.ov_specs.specs.operations.Errors.{TimedOut, NotOwner, error_tree}
 use Rattle.ov_specs.specs.operations.MatchingRows.{count_result}
 use Rattle.ov_specs.specs.operations.OpOutcome.{empty_result}
 use Rattle.ov_specs.specs.operations.Transaction.{Completes, Waits, transaction}
@@ -20,7 +20,7 @@ use Rattle.ov_specs.proofs.laws.LineKeys.{key_total, key_exact, tied_same}
 use Rattle.ov_specs.proofs.examples.ConditionRows.{len-one}
 use Rattle.ov_specs.specs.wire.Frame.{reply_tree, failure_tree}
 use Rattle.ov_specs.specs.wire.Message.{Message, Call, Note}
-use Rattle.ov_specs.proofs.examples.NetRows.{net, numbered, table_is, on_switch, entries-tables}
+use Rattle.ov_specs.proofs.examples.NetRows.{net, numbered, owns_none, table_is, on_switch, entries-tables}
 use Rattle.ov_specs.proofs.examples.TwoSwitches.{one, rows, row, key, columns_1, len-none, entries-one, entries-none, entries-columns_1, entries-put, entries-rows, entries-deleted, entries-empty}
 
 -- ---- a transaction that waits for a switch, in a database without rows
@@ -50,7 +50,7 @@ waits n arrival timeout operations = record { session = 1; id = id n; draws = nu
 
 -- sessions 1 and 2 are open, and these wait
 abbrev with_waiting : List Outstanding → State
-with_waiting waiting = record (opening net empty) { sessions = record { serial = 1 } ∷ record { serial = 2 } ∷ []; outstanding = waiting; next = 3 }
+with_waiting waiting = record (opening net empty) { sessions = record { serial = 1; monitors = [] } ∷ record { serial = 2; monitors = [] } ∷ []; outstanding = waiting; next = 3 }
 
 abbrev at : ℕ → Event → Entry
 at moment event = record { event = event; choice = record { moment = moment; draws = []; outcomes = [] } }
@@ -83,7 +83,7 @@ pub cancel_is_no_call : work_of (with_waiting (waits 1 0 None wait ∷ [])) 1 (C
 unfolding digits serde_json_on_literals
 cancel_is_no_call = refl
 
-pub closing_drops_what_waits : step (with_waiting (waits 1 0 None wait ∷ [])) (at 0 (Close 1 InputEnded)) ≡ Some (record { state = record (with_waiting []) { sessions = record { serial = 2 } ∷ [] }; sent = [] })
+pub closing_drops_what_waits : step (with_waiting (waits 1 0 None wait ∷ [])) (at 0 (Close 1 InputEnded)) ≡ Some (record { state = record (with_waiting []) { sessions = record { serial = 2; monitors = [] } ∷ [] }; sent = [] })
 closing_drops_what_waits = refl
 
 -- ---- as many as may wait
@@ -131,7 +131,7 @@ timed_out_at_tick = rw (table_is (codes "Switch")) (rw entries-empty (rw entries
 
 -- memory that is refused to a try closes the session of its transaction
 pub memory_in_a_try : step (with_waiting (waits 1 0 None wait ∷ [])) (record { event = Tick; choice = record { moment = 7; draws = []; outcomes = record { number = 1; outcome = NoMemory } ∷ [] } })
-    ≡ Some (record { state = record (with_waiting []) { sessions = record { serial = 2 } ∷ []; moment = 7 }; sent = [] })
+    ≡ Some (record { state = record (with_waiting []) { sessions = record { serial = 2; monitors = [] } ∷ []; moment = 7 }; sent = [] })
 memory_in_a_try = refl
 
 -- ---- a wait that is blocked
@@ -163,11 +163,11 @@ committed-none : (before : Database) (version : Uuid) → committed net before v
 committed-none before version = enough_committed net before version no_switches (rw entries-deleted refl) (rw (entries-deleted, entries-tables) refl)
 
 -- both are deleted
-deleted : transaction net rows (numbered 2 ∷ []) 0 (item (delete_all (codes "Switch")) no_items) ≡ Completes (item (count_result 2) no_items) no_switches
+deleted : transaction net rows owns_none (numbered 2 ∷ []) 0 (item (delete_all (codes "Switch")) no_items) ≡ Completes (item (count_result 2) no_items) no_switches
 deleted = rw (table_is (codes "Switch")) (rw entries-rows (rw (committed-none rows (numbered 2)) refl))
 
 -- so the wait is met
-met : transaction net no_switches (numbered 1 ∷ []) 7 (item (until_gone (codes "Switch")) no_items) ≡ Completes (item empty_result no_items) no_switches
+met : transaction net no_switches owns_none (numbered 1 ∷ []) 7 (item (until_gone (codes "Switch")) no_items) ≡ Completes (item empty_result no_items) no_switches
 met = rw (table_is (codes "Switch")) (rw entries-deleted (rw (committed-none no_switches (numbered 1)) refl))
 
 others : same_database rows no_switches ≡ false
@@ -198,6 +198,34 @@ pub all_that_waited_are_answered : step (record (with_waiting (waits 1 0 None (i
     })
 unfolding digits serde_json_on_literals
 all_that_waited_are_answered = rw deleted (rw others (rw met (rw same (rw met (rw same refl)))))
+
+-- ---- an "assert" behind a wait
+
+abbrev then_assert : Items
+then_assert = item (until_gone (codes "Switch")) (item (object (member (codes "lock") (string (codes "L")) (member (codes "op") (string (codes "assert")) no_members))) no_items)
+
+-- the transaction of session 1 waits, and these stand in the queue of L as session 2 deletes the switches
+abbrev with_queue_of_l : List ℕ → State
+with_queue_of_l queue = record (with_waiting (waits 1 0 None then_assert ∷ [])) { database = rows; queues = (codes "L", queue) ∷ [] }
+
+abbrev deletes : Entry
+deletes = record { event = Take 2 (transact 1 (item (delete_all (codes "Switch")) no_items)); choice = record { moment = 7; draws = numbered 2 ∷ []; outcomes = record { number = 1; outcome = Committed } ∷ [] } }
+
+abbrev answered_with : List ℕ → Items → Option Stepped
+answered_with queue results = Some (record {
+  state = record (with_queue_of_l queue) { database = no_switches; outstanding = []; moment = 7 };
+  sent = record { session = 2; tree = reply_tree (id 1) (array (item (count_result 2) no_items)) } ∷ record { session = 1; tree = reply_tree (id 1) (array results) } ∷ [];
+})
+
+pub assert_by_the_owner_behind_a_wait : step (with_queue_of_l (1 ∷ 2 ∷ [])) deletes ≡ answered_with (1 ∷ 2 ∷ []) (item empty_result (item empty_result no_items))
+unfolding digits serde_json_on_literals
+assert_by_the_owner_behind_a_wait =
+    rw deleted (rw others (rw (table_is (codes "Switch")) (rw entries-deleted (rw (committed-none no_switches (numbered 1)) (rw same refl)))))
+
+-- the lock was stolen while it waited
+pub assert_behind_a_wait_by_former_owner : step (with_queue_of_l (2 ∷ 1 ∷ [])) deletes ≡ answered_with (2 ∷ 1 ∷ []) (item empty_result (item (error_tree NotOwner) no_items))
+unfolding digits serde_json_on_literals
+assert_behind_a_wait_by_former_owner = rw deleted (rw others (rw (table_is (codes "Switch")) (rw entries-deleted (rw same refl))))
 
 -- ---- one that waits for what another that waits does
 
@@ -277,16 +305,16 @@ second = item (until_gone (codes "Port")) (item (delete_all (codes "Switch")) no
 abbrev third : Items
 third = item (delete_all (codes "Port")) no_items
 
-third_does : transaction net both (numbered 3 ∷ []) 0 third ≡ Completes (item (count_result 1) no_items) port_gone
+third_does : transaction net both owns_none (numbered 3 ∷ []) 0 third ≡ Completes (item (count_result 1) no_items) port_gone
 third_does = rw (table_is (codes "Port")) (rw entries-both (rw committed-port_gone refl))
 
-first_waits : transaction net port_gone (numbered 1 ∷ []) 7 first ≡ Waits None
+first_waits : transaction net port_gone owns_none (numbered 1 ∷ []) 7 first ≡ Waits None
 first_waits = rw (table_is (codes "Switch")) (rw entries-port_gone refl)
 
-second_does : transaction net port_gone (numbered 1 ∷ []) 7 second ≡ Completes (item empty_result (item (count_result 1) no_items)) both_gone
+second_does : transaction net port_gone owns_none (numbered 1 ∷ []) 7 second ≡ Completes (item empty_result (item (count_result 1) no_items)) both_gone
 second_does = rw (table_is (codes "Port")) (rw entries-port_gone (rw (table_is (codes "Switch")) (rw entries-port_gone (rw (committed-both_gone port_gone (numbered 1)) refl))))
 
-first_does : transaction net both_gone (numbered 1 ∷ []) 7 first ≡ Completes (item empty_result no_items) both_gone
+first_does : transaction net both_gone owns_none (numbered 1 ∷ []) 7 first ≡ Completes (item empty_result no_items) both_gone
 first_does = rw (table_is (codes "Switch")) (rw entries-both_gone (rw (committed-both_gone both_gone (numbered 1)) refl))
 
 differ_1 : same_database both port_gone ≡ false

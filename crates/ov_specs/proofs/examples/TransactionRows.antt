@@ -28,12 +28,12 @@ use Rattle.ov_specs.proofs.laws.LineKeys.{key_total}
 use Rattle.ov_specs.proofs.laws.Names.{name_cmp_total}
 use Rattle.ov_specs.proofs.examples.ConditionRows.{len-one}
 use Rattle.ov_specs.proofs.examples.NetRows as net_rows
-use Rattle.ov_specs.proofs.examples.NetRows.{numbered, net, table_of, table_is, entries-tables, switch_columns, on_switch, on_port, entries-switch, entries-port}
+use Rattle.ov_specs.proofs.examples.NetRows.{numbered, owns_none, net, table_of, table_is, entries-tables, switch_columns, on_switch, on_port, entries-switch, entries-port}
 use Rattle.ov_specs.proofs.examples.TwoSwitches.{one, entries-one, entries-none, len-none, key, row, columns_1, entries-columns_1, entries-1, entries-again, entries-given, entries-given_all, rows, entries-rows, entries-put, entries-deleted, given, given_load, given_name, given_ports, text_s1}
 
 -- what the transaction of a text comes to, with draws from 1 on
 abbrev transacted : Database → ℕ → List ℕ → Option TransactionOutcome
-transacted before age text = option_map (transaction net before (numbered 1 ∷ numbered 2 ∷ numbered 3 ∷ []) age) (option_and_then as_array (read text))
+transacted before age text = option_map (transaction net before owns_none (numbered 1 ∷ numbered 2 ∷ numbered 3 ∷ []) age) (option_and_then as_array (read text))
 
 -- the results, as they are sent, and the database
 abbrev completes : List ℕ → Database → Option TransactionOutcome
@@ -122,14 +122,14 @@ abbrev twice : Items
 twice = item insert_named (item (insert_of null (table_members (codes "Switch") (named (codes "p")))) no_items)
 
 abbrev in_twice : OpContext
-in_twice = record { schema = net; before = empty; version = numbered 1; ids = numbered 2 ∷ numbered 3 ∷ []; operations = twice; age = 0 }
+in_twice = record { schema = net; before = empty; owns = owns_none; version = numbered 1; ids = numbered 2 ∷ numbered 3 ∷ []; operations = twice; age = 0 }
 
 -- a switch that is a port of its own, by its name
 named_does : outcome_of in_twice 0 empty insert_named ≡ Done (insert_result (numbered 2)) (insert empty (codes "Switch", numbered 2) (record { version = numbered 1; columns = given (one (Uuid (numbered 2))) }))
 named_does = rw (table_is (codes "Switch")) (rw (new_ports (names_in in_twice) (numbered 2) refl) (rw (get-empty line_cmp (codes "Switch", numbered 2)) refl))
 
 -- the second is refused, before its row is looked at, and the first is undone
-pub two_inserts_with_one_name : transaction net empty (numbered 1 ∷ numbered 2 ∷ numbered 3 ∷ []) 0 twice ≡ Completes (item (insert_result (numbered 2)) (item (error_tree DuplicateName) no_items)) empty
+pub two_inserts_with_one_name : transaction net empty owns_none (numbered 1 ∷ numbered 2 ∷ numbered 3 ∷ []) 0 twice ≡ Completes (item (insert_result (numbered 2)) (item (error_tree DuplicateName) no_items)) empty
 two_inserts_with_one_name = rw named_does (rw (table_is (codes "Switch")) refl)
 
 -- ---- a name that is used before the insert that declares it
@@ -152,7 +152,7 @@ abbrev before_declared : Items
 before_declared = item insert_switch (item insert_port (item select_ports no_items))
 
 abbrev in_before : OpContext
-in_before = record { schema = net; before = empty; version = numbered 1; ids = numbered 2 ∷ numbered 3 ∷ []; operations = before_declared; age = 0 }
+in_before = record { schema = net; before = empty; owns = owns_none; version = numbered 1; ids = numbered 2 ∷ numbered 3 ∷ []; operations = before_declared; age = 0 }
 
 abbrev new_switch : Row
 new_switch = record { version = numbered 1; columns = given (one (Uuid (numbered 3))) }
@@ -223,7 +223,7 @@ both-whole =
 both-committed : committed net empty (numbered 1) both_rows ≡ Ok both_rows
 both-committed = enough_committed net empty (numbered 1) both_rows both-enough both-whole
 
-pub named_uuid_used_before : transaction net empty (numbered 1 ∷ numbered 2 ∷ numbered 3 ∷ []) 0 before_declared
+pub named_uuid_used_before : transaction net empty owns_none (numbered 1 ∷ numbered 2 ∷ numbered 3 ∷ []) 0 before_declared
     ≡ Completes (item (insert_result (numbered 2)) (item (insert_result (numbered 3)) (item ports_shown no_items))) both_rows
 named_uuid_used_before = rw switch_does (rw port_does (rw select_does (rw both-committed refl)))
 
@@ -262,7 +262,7 @@ abbrev lone : Database
 lone = insert empty (key 7) (row columns_1)
 
 abbrev in_edges : OpContext
-in_edges = record { schema = net; before = lone; version = numbered 1; ids = []; operations = edges; age = 0 }
+in_edges = record { schema = net; before = lone; owns = owns_none; version = numbered 1; ids = []; operations = edges; age = 0 }
 
 abbrev seven_row : Row
 seven_row = record { version = numbered 1; columns = insert columns_1 (codes "load") (one seven) }
@@ -320,7 +320,7 @@ left-whole =
 left-committed : committed net lone (numbered 1) left_rows ≡ Ok left_rows
 left-committed = enough_committed net lone (numbered 1) left_rows left-enough left-whole
 
-pub arithmetic_edges : transaction net lone (numbered 1 ∷ []) 0 edges ≡ Completes (item (count_result 1) (item (count_result 1) (item load_shown no_items))) left_rows
+pub arithmetic_edges : transaction net lone owns_none (numbered 1 ∷ []) 0 edges ≡ Completes (item (count_result 1) (item (count_result 1) (item load_shown no_items))) left_rows
 arithmetic_edges = rw update_does (rw mutate_does (rw load_does (rw left-committed refl)))
 
 pub edges_are_answered : Some (array (item (count_result 1) (item (count_result 1) (item load_shown no_items)))) ≡ read (codes "[{\"count\":1},{\"count\":1},{\"rows\":[{\"load\":-1}]}]")

@@ -73,6 +73,8 @@ kept_leaves s n draws o w t h kept =
       sends = λ trees no. cc;
       transacts = λ id operations is. record { sends = λ trees no. cc; commits = λ results database is'. (λ yes. refl, λ no. cc); waits = λ timeout is' no. cc };
       cancels = λ id is no. cc;
+      locks = λ call id name is no. cc;
+      watches = λ id result monitors is no. cc;
     }) h kept
 
 -- so nothing is tried behind it

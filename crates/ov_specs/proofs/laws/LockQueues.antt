@@ -16,13 +16,10 @@ use Rattle.std.specs.Ordering.{is_eq, match_ordering, ordering_reverse}
 use Rattle.std.specs.Prelude.{unwrap_or}
 use Rattle.std.specs.Set.{remove_key}
 use Rattle.ov_specs.specs.locks.Queues.{Queues, queue_of, stands_in, has_requested, names_of, with_queue, lock, steal, without, unlock, queue_before, leave}
+pub use Rattle.ov_specs.specs.locks.Queues.{DoQueuesAscend}
 use Rattle.ov_specs.specs.schema.SchemaTypes.{name_cmp}
 use Rattle.ov_specs.proofs.laws.Names.{name_cmp_total, name_exact, same_name-itself}
 use Rattle.ov_specs.proofs.laws.Truths.{equal_is, or_nothing, or_truth}
-
--- the locks ascend by name
-abbrev pub DoQueuesAscend : Queues → Type 0
-DoQueuesAscend queues = IsStrictlySortedBy name_cmp (keys_of queues)
 
 -- ---- names in ascending order
 

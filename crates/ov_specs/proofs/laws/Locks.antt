@@ -1,21 +1,37 @@
 -- What holds of the queues of locks, whatever is asked: one owner at most, nobody twice, and nobody left behind.
-use Rattle.std.proofs.Common.{◌≡◌, ℕ, List, [], ◌∷◌, ◌++◌, Bool, true, false, cond, not, eqb, Some, refl, sym, ap, ◌∙◌, Ordering, Less, Equal, Greater}
-use Rattle.std.proofs.lemmas.Bool.{eq-eqb, or_parts}
+use Rattle.std.proofs.Common.{◌≡◌, ℕ, List, [], ◌∷◌, ◌++◌, map, Bool, true, false, cond, not, ◌&&◌, ◌||◌, eqb, Option, Some, None, option_map, refl, sym, ap, ◌∙◌, Ordering, Less, Equal, Greater}
+use Rattle.std.proofs.lemmas.Bool.{eq-eqb, eqb-true, or_parts, and_parts, and_from, false≢true}
+use Rattle.std.proofs.lemmas.List.Folds.{list_all-append}
 use Rattle.std.proofs.lemmas.Option.{same_Some}
 use Rattle.std.proofs.lemmas.Map.Keys.{IsDistinct-cons}
 use Rattle.std.specs.BTreeMap.{is_at, insert_entry}
-use Rattle.std.specs.List.{AllByRecursion, IsDistinct, filter, list_any}
+use Rattle.std.specs.List.{AllByRecursion, IsDistinct, filter, list_any, list_all}
 use Rattle.std.specs.Map.{lookup, remove_entry}
 use Rattle.std.specs.Ordering.{match_ordering}
-use Rattle.std.specs.Prelude.{unwrap_or}
-use Rattle.ov_specs.specs.locks.Queues.{Queues, queue_of, owner, stands_in, has_requested, names_of, with_queue, lock, steal, without, unlock, queue_before, leave}
+use Rattle.std.specs.Prelude.{unwrap_or, option_to_list}
+use Rattle.serde_json.specs.Data.{Data}
+use Rattle.ov_specs.specs.locks.Queues.{Queues, LockCall, Lock, Steal, Unlock, HasNoRepeats, queue_of, first_of, owner, owns, stands_in, has_requested, names_of, with_queue, lock, steal, without, next_in, unlock, next_owner, queue_before, leave, freed_before, freed, after_call, told_of_call, told_of_leaving, locked_note, stolen_note}
+use Rattle.ov_specs.specs.schema.Schema.{is_some_and}
 use Rattle.ov_specs.specs.schema.SchemaTypes.{name_cmp}
+use Rattle.ov_specs.proofs.laws.Lists.{all-filter}
 use Rattle.ov_specs.proofs.laws.LockQueues.{DoQueuesAscend, apart_back, requested-names, names-leave, leave-ascends}
 
 -- ---- one owner
 
-pub one_owner : (name : List ℕ) (queues : Queues) (a b : ℕ) → owner name queues ≡ Some a → owner name queues ≡ Some b → a ≡ b
-one_owner name queues a b is also = same_Some a b (sym is ∙ also)
+-- the session is the first of a queue
+abbrev stands_first : ℕ → List ℕ → Bool
+stands_first session queue = is_some_and (λ first. eqb first session) (first_of queue)
+
+-- who owns a lock is its owner
+pub owns-owner : (name : List ℕ) (queues : Queues) (session : ℕ) → owns queues session name ≡ true → owner name queues ≡ Some session
+owns-owner name queues session own = by (queue_of name queues) own
+  where
+    by : (queue : List ℕ) → stands_first session queue ≡ true → first_of queue ≡ Some session
+    by [] own = absurd (false≢true own)
+    by (first ∷ queue) own = ap (λ (n : ℕ). Some n) (eqb-true first session own)
+
+pub one_owner : (name : List ℕ) (queues : Queues) (a b : ℕ) → owns queues a name ≡ true → owns queues b name ≡ true → a ≡ b
+one_owner name queues a b own also = same_Some a b (sym (owns-owner name queues a own) ∙ owns-owner name queues b also)
 
 -- ---- nobody stays behind
 
@@ -27,47 +43,70 @@ none_left session name queues ascend =
     itself : (session : ℕ) → eqb session session ≡ true
     itself session = eq-eqb session session refl
 
+-- ---- what holds of each queue
+
+-- it holds of each of the queues
+abbrev pub EachQueue : (List ℕ → Type 0) → Queues → Type 0
+EachQueue P queues = AllByRecursion (λ e. P e.1) queues
+
+module _ (P : List ℕ → Type 0) where
+  -- so it holds of that of a lock, where it holds of a queue of nobody
+  pub queue-has : (name : List ℕ) (queues : Queues) → P [] → EachQueue P queues → P (queue_of name queues)
+  queue-has name [] none all = none
+  queue-has name (e ∷ queues) none all = by (queue-has name queues none all.1) (is_at (name_cmp name) e.0)
+    where
+      by : P (queue_of name queues) → (b : Bool) → P (unwrap_or (cond b (Some e.1) (lookup (is_at (name_cmp name)) queues)) [])
+      by later true = all.0
+      by later false = later
+
+  put-has : (name queue : List ℕ) (queues : Queues) → EachQueue P queues → P queue → EachQueue P (insert_entry name_cmp queues name queue)
+  put-has name queue [] all new = (new, tt)
+  put-has name queue (e ∷ queues) all new = by (put-has name queue queues all.1 new) (name_cmp name e.0)
+    where
+      by : EachQueue P (insert_entry name_cmp queues name queue) → (o : Ordering)
+          → EachQueue P (match_ordering o ((name, queue) ∷ e ∷ queues) ((e.0, queue) ∷ queues) (e ∷ insert_entry name_cmp queues name queue))
+      by later Less = (new, all)
+      by later Equal = (new, all.1)
+      by later Greater = (all.0, later)
+
+  out-has : (name : List ℕ) (queues : Queues) → EachQueue P queues → EachQueue P (remove_entry (is_at (name_cmp name)) queues)
+  out-has name [] all = tt
+  out-has name (e ∷ queues) all = by (out-has name queues all.1) (is_at (name_cmp name) e.0)
+    where
+      by : EachQueue P (remove_entry (is_at (name_cmp name)) queues) → (b : Bool) → EachQueue P (cond b queues (e ∷ remove_entry (is_at (name_cmp name)) queues))
+      by later true = all.1
+      by later false = (all.0, later)
+
+  -- another queue of a lock, of which it holds
+  pub with-has : (name queue : List ℕ) (queues : Queues) → EachQueue P queues → P queue → EachQueue P (with_queue name queue queues)
+  with-has name [] queues all new = out-has name queues all
+  with-has name (session ∷ queue) queues all new = put-has name (session ∷ queue) queues all new
+
+  before-has : (name queue : List ℕ) (queues : Queues) → P queue → EachQueue P queues → EachQueue P (queue_before name queue queues)
+  before-has name [] queues new all = all
+  before-has name (session ∷ queue) queues new all = (new, all)
+
+-- what holds of the queues behind a leaving session, of those that it stood in and of the others
+pub leave-has : (P Q : List ℕ → Type 0) (session : ℕ) → ((queue : List ℕ) → P queue → Q (without session queue)) → ((queue : List ℕ) → stands_in session queue ≡ false → P queue → Q queue)
+    → (queues : Queues) → EachQueue P queues → EachQueue Q (leave session queues)
+leave-has P Q session left stays [] all = tt
+leave-has P Q session left stays (e ∷ queues) all = by (leave-has P Q session left stays queues all.1) (stands_in session e.1) refl
+  where
+    by : EachQueue Q (leave session queues) → (b : Bool) → stands_in session e.1 ≡ b → EachQueue Q (cond b (queue_before e.0 (without session e.1) (leave session queues)) (e ∷ leave session queues))
+    by later true is = before-has Q e.0 (without session e.1) (leave session queues) (left e.1 all.0) later
+    by later false is = (stays e.1 is all.0, later)
+
 -- ---- nobody stands in a queue twice
 
-abbrev pub HasNoRepeats : List ℕ → Type 0
-HasNoRepeats queue = IsDistinct eqb queue
-
 abbrev pub HaveNoRepeats : Queues → Type 0
-HaveNoRepeats queues = AllByRecursion (λ e. HasNoRepeats e.1) queues
+HaveNoRepeats queues = EachQueue HasNoRepeats queues
 
 none_of : HasNoRepeats []
 unfolding IsDistinct
 none_of = tt
 
-queue-distinct : (name : List ℕ) (queues : Queues) → HaveNoRepeats queues → HasNoRepeats (queue_of name queues)
-queue-distinct name [] once = none_of
-queue-distinct name (e ∷ queues) once = by (queue-distinct name queues once.1) (is_at (name_cmp name) e.0)
-  where
-    by : HasNoRepeats (queue_of name queues) → (b : Bool) → HasNoRepeats (unwrap_or (cond b (Some e.1) (lookup (is_at (name_cmp name)) queues)) [])
-    by later true = once.0
-    by later false = later
-
-put-distinct : (name queue : List ℕ) (queues : Queues) → HaveNoRepeats queues → HasNoRepeats queue → HaveNoRepeats (insert_entry name_cmp queues name queue)
-put-distinct name queue [] once new = (new, tt)
-put-distinct name queue (e ∷ queues) once new = by (put-distinct name queue queues once.1 new) (name_cmp name e.0)
-  where
-    by : HaveNoRepeats (insert_entry name_cmp queues name queue) → (o : Ordering)
-        → HaveNoRepeats (match_ordering o ((name, queue) ∷ e ∷ queues) ((e.0, queue) ∷ queues) (e ∷ insert_entry name_cmp queues name queue))
-    by later Less = (new, once)
-    by later Equal = (new, once.1)
-    by later Greater = (once.0, later)
-
-out-distinct : (name : List ℕ) (queues : Queues) → HaveNoRepeats queues → HaveNoRepeats (remove_entry (is_at (name_cmp name)) queues)
-out-distinct name [] once = tt
-out-distinct name (e ∷ queues) once = by (out-distinct name queues once.1) (is_at (name_cmp name) e.0)
-  where
-    by : HaveNoRepeats (remove_entry (is_at (name_cmp name)) queues) → (b : Bool) → HaveNoRepeats (cond b queues (e ∷ remove_entry (is_at (name_cmp name)) queues))
-    by later true = once.1
-    by later false = (once.0, later)
-
-with-distinct : (name queue : List ℕ) (queues : Queues) → HaveNoRepeats queues → HasNoRepeats queue → HaveNoRepeats (with_queue name queue queues)
-with-distinct name [] queues once new = out-distinct name queues once
-with-distinct name (session ∷ queue) queues once new = put-distinct name (session ∷ queue) queues once new
+pub queue-distinct : (name : List ℕ) (queues : Queues) → HaveNoRepeats queues → HasNoRepeats (queue_of name queues)
+queue-distinct name queues once = queue-has HasNoRepeats name queues none_of once
 
 -- who stands not in a queue is none of those who do
 none_is : (session : ℕ) (queue : List ℕ) → stands_in session queue ≡ false → AllByRecursion (λ other. eqb session other ≡ false) queue
@@ -105,25 +144,145 @@ kept-distinct test (other ∷ queue) once = by (kept-distinct test queue once.1)
     by later apart false = later
 
 module _ (name : List ℕ) (session : ℕ) (queues : Queues) (once : HaveNoRepeats queues) where
+  abbrev queue : List ℕ
+  queue = queue_of name queues
+
   pub lock-once : has_requested session name queues ≡ false → HaveNoRepeats (lock name session queues)
-  lock-once out = with-distinct name (queue_of name queues ++ session ∷ []) queues once (back-distinct (queue_of name queues) session (queue-distinct name queues once) out)
+  lock-once out = with-has HasNoRepeats name (queue ++ session ∷ []) queues once (back-distinct queue session (queue-distinct name queues once) out)
 
   pub steal-once : has_requested session name queues ≡ false → HaveNoRepeats (steal name session queues)
-  steal-once out =
-      with-distinct name (session ∷ queue_of name queues) queues once
-      (IsDistinct-cons eqb session (queue_of name queues) (none_is session (queue_of name queues) out) (queue-distinct name queues once))
+  steal-once out = with-has HasNoRepeats name (session ∷ queue) queues once (IsDistinct-cons eqb session queue (none_is session queue out) (queue-distinct name queues once))
 
   pub unlock-once : HaveNoRepeats (unlock name session queues)
-  unlock-once = with-distinct name (without session (queue_of name queues)) queues once (kept-distinct (λ other. not (eqb other session)) (queue_of name queues) (queue-distinct name queues once))
-
-before-distinct : (name queue : List ℕ) (queues : Queues) → HasNoRepeats queue → HaveNoRepeats queues → HaveNoRepeats (queue_before name queue queues)
-before-distinct name [] queues new once = once
-before-distinct name (session ∷ queue) queues new once = (new, once)
+  unlock-once = with-has HasNoRepeats name (without session queue) queues once (kept-distinct (λ other. not (eqb other session)) queue (queue-distinct name queues once))
 
 pub leave-once : (session : ℕ) (queues : Queues) → HaveNoRepeats queues → HaveNoRepeats (leave session queues)
-leave-once session [] once = tt
-leave-once session (e ∷ queues) once = by (leave-once session queues once.1) (stands_in session e.1)
+leave-once session queues once =
+    leave-has HasNoRepeats HasNoRepeats session (λ queue one. kept-distinct (λ other. not (eqb other session)) queue one) (λ queue out one. one) queues once
+
+-- ---- who stands in a queue passes a test
+
+abbrev pub AllPass : (ℕ → Bool) → List ℕ → Type 0
+AllPass test queue = list_all test queue ≡ true
+
+module _ (test : ℕ → Bool) where
+  stands-passes : (session : ℕ) (queue : List ℕ) → AllPass test queue → stands_in session queue ≡ true → test session ≡ true
+  stands-passes session [] all stands = absurd (false≢true stands)
+  stands-passes session (other ∷ queue) all stands = by parts.0 (stands-passes session queue parts.1) (eqb other session) refl stands
+    where
+      parts : (test other ≡ true) × AllPass test queue
+      parts = and_parts (test other) (list_all test queue) all
+
+      by : test other ≡ true → (stands_in session queue ≡ true → test session ≡ true) → (b : Bool) → eqb other session ≡ b → (b || stands_in session queue) ≡ true → test session ≡ true
+      by own later true is stands = ap test (sym (eqb-true other session is)) ∙ own
+      by own later false is stands = later stands
+
+  -- so does who asked for a lock
+  pub requested-passes : (session : ℕ) (name : List ℕ) (queues : Queues) → EachQueue (AllPass test) queues → has_requested session name queues ≡ true → test session ≡ true
+  requested-passes session name queues all stands = stands-passes session (queue_of name queues) (queue-has (AllPass test) name queues refl all) stands
+
+  first-passes : (queue : List ℕ) (session : ℕ) → AllPass test queue → first_of queue ≡ Some session → test session ≡ true
+  first-passes [] session all is = cc
+  first-passes (first ∷ queue) session all is = ap test (sym (same_Some first session is)) ∙ (and_parts (test first) (list_all test queue) all).0
+
+  next-passes : (queue : List ℕ) (session next : ℕ) → AllPass test queue → next_in session queue ≡ Some next → test next ≡ true
+  next-passes [] session next all is = cc
+  next-passes (first ∷ queue) session next all is = by (eqb first session) is
+    where
+      by : (b : Bool) → cond b (first_of (without session queue)) None ≡ Some next → test next ≡ true
+      by true is = first-passes (without session queue) next (all-filter (λ other. not (eqb other session)) test queue (and_parts (test first) (list_all test queue) all).1) is
+      by false is = cc
+
+  -- who is told of a session's leaving
+  pub leaving-passes : (session : ℕ) (queues : Queues) → EachQueue (AllPass test) queues → list_all (λ (note : ℕ × Data). test note.0) (told_of_leaving session queues) ≡ true
+  leaving-passes session [] all = refl
+  leaving-passes session (e ∷ queues) all = by (leaving-passes session queues all.1) (next_in session e.1) refl
+    where
+      by : list_all (λ (note : ℕ × Data). test note.0) (told_of_leaving session queues) ≡ true → (next : Option ℕ) → next_in session e.1 ≡ next
+          → list_all (λ (note : ℕ × Data). test note.0) (map (λ f. (f.0, locked_note f.1)) (freed_before next e.0 (freed session queues))) ≡ true
+      by later None is = later
+      by later (Some next) is = and_from (test next) (list_all (λ (note : ℕ × Data). test note.0) (told_of_leaving session queues)) (next-passes e.1 session next all.0 is) later
+
+  module _ (session : ℕ) (name : List ℕ) (queues : Queues) (all : EachQueue (AllPass test) queues) where
+    abbrev its : List ℕ
+    its = queue_of name queues
+
+    passes : AllPass test its
+    passes = queue-has (AllPass test) name queues refl all
+
+    told-passes : (o : Option ℕ) (note : Data) → ((other : ℕ) → o ≡ Some other → test other ≡ true) → list_all (λ (note : ℕ × Data). test note.0) (option_to_list (option_map (λ other. (other, note)) o)) ≡ true
+    told-passes None note h = refl
+    told-passes (Some other) note h = and_from (test other) true (h other refl) refl
+
+    -- who is told of a call
+    pub call-passes : (call : LockCall) → list_all (λ (note : ℕ × Data). test note.0) (option_to_list (told_of_call call name session queues)) ≡ true
+    call-passes Lock = refl
+    call-passes Steal = told-passes (owner name queues) (stolen_note name) (λ other is. first-passes its other passes is)
+    call-passes Unlock = told-passes (next_owner name session queues) (locked_note name) (λ other is. next-passes its session other passes is)
+
+    -- who stands in a queue after it, where the session passes
+    pub after-passes : (call : LockCall) → test session ≡ true → EachQueue (AllPass test) (after_call call name session queues)
+    after-passes Lock own =
+        with-has (AllPass test) name (its ++ session ∷ []) queues all (list_all-append test its (session ∷ []) ∙ and_from (list_all test its) (test session && true) passes (and_from (test session) true own refl))
+    after-passes Steal own = with-has (AllPass test) name (session ∷ its) queues all (and_from (test session) (list_all test its) own passes)
+    after-passes Unlock own = with-has (AllPass test) name (without session its) queues all (all-filter (λ other. not (eqb other session)) test its passes)
+
+-- what passes one test passes another
+pub each-so : (one other : ℕ → Bool) → ((n : ℕ) → one n ≡ true → other n ≡ true) → (queues : Queues) → EachQueue (AllPass one) queues → EachQueue (AllPass other) queues
+each-so one other so [] all = tt
+each-so one other so (e ∷ queues) all = (pass e.1 all.0, each-so one other so queues all.1)
   where
-    by : HaveNoRepeats (leave session queues) → (b : Bool) → HaveNoRepeats (cond b (queue_before e.0 (without session e.1) (leave session queues)) (e ∷ leave session queues))
-    by later true = before-distinct e.0 (without session e.1) (leave session queues) (kept-distinct (λ other. not (eqb other session)) e.1 once.0) later
-    by later false = (once.0, later)
+    pass : (queue : List ℕ) → AllPass one queue → AllPass other queue
+    pass [] own = refl
+    pass (n ∷ queue) own =
+        let parts = and_parts (one n) (list_all one queue) own in
+        and_from (other n) (list_all other queue) (so n parts.0) (pass queue parts.1)
+
+-- who stands in a queue behind a leaving session passes another test, where the others that passed the first pass it
+module _ (one other : ℕ → Bool) (session : ℕ) (so : (n : ℕ) → one n ≡ true → eqb n session ≡ false → other n ≡ true) where
+  left-passes : (queue : List ℕ) → AllPass one queue → AllPass other (without session queue)
+  left-passes [] all = refl
+  left-passes (n ∷ queue) all = by (left-passes queue parts.1) (eqb n session) refl
+    where
+      parts : (one n ≡ true) × AllPass one queue
+      parts = and_parts (one n) (list_all one queue) all
+
+      by : AllPass other (without session queue) → (b : Bool) → eqb n session ≡ b → AllPass other (cond (not b) (n ∷ without session queue) (without session queue))
+      by later true is = later
+      by later false is = and_from (other n) (list_all other (without session queue)) (so n parts.0 is) later
+
+  stay-passes : (queue : List ℕ) → stands_in session queue ≡ false → AllPass one queue → AllPass other queue
+  stay-passes [] out all = refl
+  stay-passes (n ∷ queue) out all =
+      let parts = and_parts (one n) (list_all one queue) all in
+      let apart = or_parts (eqb n session) (stands_in session queue) out in
+      and_from (other n) (list_all other queue) (so n parts.0 apart.0) (stay-passes queue apart.1 parts.1)
+
+  pub leave-passes : (queues : Queues) → EachQueue (AllPass one) queues → EachQueue (AllPass other) (leave session queues)
+  leave-passes queues all = leave-has (AllPass one) (AllPass other) session left-passes stay-passes queues all
+
+-- ---- an owner stays the owner while others leave
+
+module _ (session other : ℕ) (apart : eqb session other ≡ false) (name : List ℕ) where
+  first-stays : (at queue : List ℕ) (queues : Queues) → is_at (name_cmp name) at ≡ true → stands_first session queue ≡ true → owns (queue_before at (without other queue) queues) session name ≡ true
+  first-stays at [] queues here first = absurd (false≢true first)
+  first-stays at (n ∷ queue) queues here first =
+      let stays : eqb n other ≡ false = ap (λ k. eqb k other) (eqb-true n session first) ∙ apart in
+      ap (λ b. owns (queue_before at (cond (not b) (n ∷ without other queue) (without other queue)) queues) session name) stays
+      ∙ (ap (λ b. stands_first session (unwrap_or (cond b (Some (n ∷ without other queue)) (lookup (is_at (name_cmp name)) queues)) [])) here ∙ first)
+
+  passed-by : (at queue : List ℕ) (queues : Queues) → is_at (name_cmp name) at ≡ false → queue_of name (queue_before at queue queues) ≡ queue_of name queues
+  passed-by at [] queues away = refl
+  passed-by at (n ∷ queue) queues away = ap (λ b. unwrap_or (cond b (Some (n ∷ queue)) (lookup (is_at (name_cmp name)) queues)) []) away
+
+  pub owner-stays : (queues : Queues) → owns queues session name ≡ true → owns (leave other queues) session name ≡ true
+  owner-stays [] own = own
+  owner-stays (e ∷ queues) own = by (owner-stays queues) (is_at (name_cmp name) e.0) refl own (stands_in other e.1)
+    where
+      by : (owns queues session name ≡ true → owns (leave other queues) session name ≡ true) → (b : Bool) → is_at (name_cmp name) e.0 ≡ b
+          → stands_first session (unwrap_or (cond b (Some e.1) (lookup (is_at (name_cmp name)) queues)) []) ≡ true → (c : Bool)
+          → owns (cond c (queue_before e.0 (without other e.1) (leave other queues)) (e ∷ leave other queues)) session name ≡ true
+      by later true is own true = first-stays e.0 e.1 (leave other queues) is own
+      by later true is own false = ap (λ b. stands_first session (unwrap_or (cond b (Some e.1) (lookup (is_at (name_cmp name)) (leave other queues))) [])) is ∙ own
+      by later false is own true = ap (stands_first session) (passed-by e.0 (without other e.1) (leave other queues) is) ∙ later own
+      by later false is own false = ap (λ b. stands_first session (unwrap_or (cond b (Some e.1) (lookup (is_at (name_cmp name)) (leave other queues))) [])) is ∙ later own

@@ -12,6 +12,7 @@ use Rattle.ov_specs.specs.wire.Message.{has_member}
 use Rattle.ov_specs.specs.integrity.Committed.{committed}
 use Rattle.ov_specs.specs.operations.Operation.{outcome_of}
 use Rattle.ov_specs.specs.operations.Transaction.{TransactionOutcome, Completes, Waits, and_result, after, ended, performed, transaction}
+use Rattle.ov_specs.specs.operations.Assert.{asserted_lock}
 use Rattle.ov_specs.specs.operations.Delete.{delete_outcome}
 use Rattle.ov_specs.specs.operations.Conditions.{Condition}
 use Rattle.ov_specs.specs.operations.Errors.{OpError, SyntaxError, UnknownTable}
@@ -21,7 +22,7 @@ use Rattle.ov_specs.specs.operations.MatchingRows.{on_conditions, matching, cond
 use Rattle.ov_specs.specs.operations.Mutate.{mutations_read, mutated_rows, mutate_outcome}
 use Rattle.ov_specs.specs.operations.NamedUuids.{id_at, inserts_before}
 use Rattle.ov_specs.specs.operations.Members.{text_at, array_at, object_at}
-use Rattle.ov_specs.specs.operations.OpOutcome.{OpContext, OpOutcome, Done, Fault, Blocked, some_or_fault, ok_or_fault, unless_fault, names_in, on_table}
+use Rattle.ov_specs.specs.operations.OpOutcome.{Owns, OpContext, OpOutcome, Done, Fault, Blocked, some_or_fault, ok_or_fault, unless_fault, names_in, on_table}
 use Rattle.ov_specs.specs.operations.Select.{select_outcome, projection, selected_columns}
 use Rattle.ov_specs.specs.operations.Update.{updated_row, update_outcome}
 use Rattle.ov_specs.specs.operations.Wait.{timeout_read, compared_columns, until_of, told_rows, is_met, unmet, wait_outcome}
@@ -156,7 +157,8 @@ module _ (c : OpContext) (all : Suits c.schema c.before) (is_version : is_uuid c
         (if_suits c.schema (bytes_eq op (codes "wait")) _ _ (wait_suits d)
         (if_suits c.schema (bytes_eq op (codes "commit")) _ _ (some_suits c.schema (option_and_then as_bool (find.get (codes "durable") d)) SyntaxError _ (λ durable _. suits))
         (if_suits c.schema (bytes_eq op (codes "abort")) _ _ tt
-        (if_suits c.schema (bytes_eq op (codes "comment")) _ _ (some_suits c.schema (text_at (codes "comment") d) SyntaxError _ (λ text _. suits)) tt)))))))))
+        (if_suits c.schema (bytes_eq op (codes "comment")) _ _ (some_suits c.schema (text_at (codes "comment") d) SyntaxError _ (λ text _. suits))
+        (if_suits c.schema (bytes_eq op (codes "assert")) _ _ (some_suits c.schema (asserted_lock d) SyntaxError _ (λ name _. if_suits c.schema (c.owns name) _ _ suits tt)) tt))))))))))
 
   -- ---- transactions
 
@@ -171,9 +173,9 @@ module _ (c : OpContext) (all : Suits c.schema c.before) (is_version : is_uuid c
       after_suits c.schema c.before all (outcome_of c place rows d) operations (performed c (place + 1) operations) (outcome_suits rows suits place d) (λ left left_suits. performed_suits (place + 1) operations left left_suits)
 
 -- a transaction keeps the rows those of the schema
-pub transaction_suits : (schema : Schema) (before : Database) (draws : List Uuid) (age : ℕ) (operations : Items) → list_all is_uuid draws ≡ true → Suits schema before
-    → SuitsTransaction schema (transaction schema before draws age operations)
-transaction_suits schema before [] age operations drawn suits = suits
-transaction_suits schema before (version ∷ ids) age operations drawn suits =
+pub transaction_suits : (schema : Schema) (before : Database) (owns : Owns) (draws : List Uuid) (age : ℕ) (operations : Items) → list_all is_uuid draws ≡ true → Suits schema before
+    → SuitsTransaction schema (transaction schema before owns draws age operations)
+transaction_suits schema before owns [] age operations drawn suits = suits
+transaction_suits schema before owns (version ∷ ids) age operations drawn suits =
     let parts = and_parts (is_uuid version) (list_all is_uuid ids) drawn in
-    performed_suits (record { schema = schema; before = before; version = version; ids = ids; operations = operations; age = age }) suits parts.0 parts.1 0 operations before suits
+    performed_suits (record { schema = schema; before = before; owns = owns; version = version; ids = ids; operations = operations; age = age }) suits parts.0 parts.1 0 operations before suits

@@ -9,6 +9,7 @@ use Rattle.serde_json.specs.Find.{as_bool}
 use Rattle.ov_specs.specs.integrity.Committed.{committed}
 use Rattle.ov_specs.specs.operations.Operation.{outcome_of}
 use Rattle.ov_specs.specs.operations.Transaction.{TransactionOutcome, Completes, Waits, and_result, after, ended, performed, transaction, has_error}
+use Rattle.ov_specs.specs.operations.Assert.{asserted_lock}
 use Rattle.ov_specs.specs.operations.Conditions.{Condition}
 use Rattle.ov_specs.specs.operations.Delete.{delete_outcome}
 use Rattle.ov_specs.specs.operations.Errors.{OpError, SyntaxError, UnknownTable}
@@ -18,7 +19,7 @@ use Rattle.ov_specs.specs.operations.MatchingRows.{on_conditions, matching, cond
 use Rattle.ov_specs.specs.operations.Mutate.{mutations_read, mutated_rows, mutate_outcome}
 use Rattle.ov_specs.specs.operations.NamedUuids.{id_at}
 use Rattle.ov_specs.specs.operations.Members.{text_at, array_at, object_at}
-use Rattle.ov_specs.specs.operations.OpOutcome.{OpContext, OpOutcome, Done, Fault, Blocked, some_or_fault, ok_or_fault, unless_fault, names_in, on_table}
+use Rattle.ov_specs.specs.operations.OpOutcome.{Owns, OpContext, OpOutcome, Done, Fault, Blocked, some_or_fault, ok_or_fault, unless_fault, names_in, on_table}
 use Rattle.ov_specs.specs.operations.Select.{select_outcome, projection, selected_columns}
 use Rattle.ov_specs.specs.operations.Update.{update_outcome}
 use Rattle.ov_specs.specs.operations.Wait.{timeout_read, compared_columns, until_of, told_rows, is_met, unmet, wait_outcome}
@@ -108,7 +109,8 @@ module _ (c : OpContext) where
       (plain_if (bytes_eq op (codes "wait")) _ _ (plain_wait rows d)
       (plain_if (bytes_eq op (codes "commit")) _ _ (plain_some (option_and_then as_bool (find.get (codes "durable") d)) SyntaxError _ (λ durable. refl))
       (plain_if (bytes_eq op (codes "abort")) _ _ refl
-      (plain_if (bytes_eq op (codes "comment")) _ _ (plain_some (text_at (codes "comment") d) SyntaxError _ (λ text. refl)) refl)))))))))
+      (plain_if (bytes_eq op (codes "comment")) _ _ (plain_some (text_at (codes "comment") d) SyntaxError _ (λ text. refl))
+      (plain_if (bytes_eq op (codes "assert")) _ _ (plain_some (asserted_lock d) SyntaxError _ (λ name. plain_if (c.owns name) _ _ refl refl)) refl))))))))))
 
 -- ---- a transaction with an error among its results
 
@@ -143,7 +145,7 @@ performed_leaves c place (item d operations) rows =
     leaves_after c.before (outcome_of c place rows d) operations (performed c (place + 1) operations) (plain_outcome c place rows d) (λ left. performed_leaves c (place + 1) operations left)
 
 -- a transaction with an error among its results leaves the database as it was
-pub refused_leaves : (schema : Schema) (before : Database) (draws : List Uuid) (age : ℕ) (operations : Items) → LeavesIfError before (transaction schema before draws age operations)
-refused_leaves schema before [] age operations = λ h. refl
-refused_leaves schema before (version ∷ ids) age operations =
-    performed_leaves (record { schema = schema; before = before; version = version; ids = ids; operations = operations; age = age }) 0 operations before
+pub refused_leaves : (schema : Schema) (before : Database) (owns : Owns) (draws : List Uuid) (age : ℕ) (operations : Items) → LeavesIfError before (transaction schema before owns draws age operations)
+refused_leaves schema before owns [] age operations = λ h. refl
+refused_leaves schema before owns (version ∷ ids) age operations =
+    performed_leaves (record { schema = schema; before = before; owns = owns; version = version; ids = ids; operations = operations; age = age }) 0 operations before

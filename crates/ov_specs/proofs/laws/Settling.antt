@@ -1,18 +1,24 @@
 -- Settling: it leaves schema, moment and serials; at most it closes sessions, and it sends to open ones alone; it takes few tries;
 -- and each transaction that is left is blocked.
-use Rattle.std.proofs.Common.{◌≡◌, ℕ, zero, suc, ◌+◌, ◌-◌, ◌*◌, ◌≤◌, List, [], ◌∷◌, ◌++◌, Bool, true, false, cond, eqb, Option, Some, inl, inr, length, filter, refl, sym, ap, subst, ◌∙◌, arith}
+use Rattle.std.proofs.Common.{◌≡◌, ℕ, zero, suc, ◌+◌, ◌-◌, ◌*◌, ◌≤◌, List, [], ◌∷◌, ◌++◌, Bool, true, false, cond, eqb, Option, Some, inl, inr, length, map, filter, refl, sym, ap, subst, ◌∙◌, arith}
 use Rattle.std.specs.Prelude.{not, ◌||◌}
-use Rattle.std.specs.List.{list_all, list_any}
-use Rattle.std.proofs.lemmas.Bool.{and_parts, and_from, false≢true}
+use Rattle.std.specs.List.{All, list_all, list_any}
+use Rattle.std.proofs.lemmas.Bool.{and_parts, and_from, eq-eqb, eqb-true, false≢true}
 use Rattle.std.proofs.lemmas.List.{length-append}
-use Rattle.std.proofs.lemmas.List.Elements.{All-nil, All-cons, All-append, All-filter}
+use Rattle.std.proofs.lemmas.List.Elements.{All-nil, All-cons, All-head, All-tail, All-append}
+use Rattle.std.proofs.lemmas.Map.Views.{any-filter_same}
 use Rattle.std.proofs.lemmas.List.Folds.{list_all-append}
 use Rattle.std.proofs.lemmas.Nat.{mul-le}
 use Rattle.std.proofs.lemmas.Option.{same_Some}
-use Rattle.serde_json.specs.Data.{Data}
-use Rattle.ov_specs.specs.machine.Machine.{State, Session, Outcome, Attempt, Outstanding, Sent, Stepped, Passed, listed, tries_again, is_kept, is_open, passed, passes_behind, still_waiting, waits_behind, waits_on, pass, settle_within, settle, to_session, results_of, closed}
+use Rattle.serde_json.specs.Data.{Data, Items}
+use Rattle.ov_specs.specs.locks.Queues.{owns, leave, told_of_leaving}
+use Rattle.ov_specs.specs.machine.Machine.{State, Session, Outcome, Attempt, Outstanding, Sent, Stepped, Passed, listed, tries_again, is_kept, is_open, passed, passes_behind, still_waiting, waits_behind, waits_on, pass, settle_within, settle, to_session, results_of, results_to, updates_sent, told, of_others, closed}
 use Rattle.ov_specs.specs.machine.Blocked.{IsBlocked, AreBlocked}
+use Rattle.ov_specs.specs.monitors.Updates.{all_updates, update_note}
+use Rattle.ov_specs.specs.rows.Database.{Database}
 use Rattle.ov_specs.specs.operations.Transaction.{TransactionOutcome, transaction, failed_results}
+use Rattle.ov_specs.proofs.laws.Locks.{EachQueue, AllPass, leaving-passes, leave-passes, owner-stays}
+use Rattle.ov_specs.proofs.laws.Owning.{waits_owning}
 use Rattle.ov_specs.proofs.laws.Tries.{left_by, sent_by, emptied, pass_first, settle_first, IsKeptByTries, settle_keeps}
 use Rattle.ov_specs.proofs.laws.Truths.{or_truth}
 use Rattle.ov_specs.proofs.laws.Works.{OfOutcome, try_has}
@@ -62,25 +68,69 @@ pub record IsNoMore (s t : State) : Type 0 where
   pub next : t.next ≡ s.next
   pub still_open : (n : ℕ) → is_open t n ≡ true → is_open s n ≡ true
 
--- and these are sent to sessions that were open
+-- these are sent to sessions that were open
 abbrev pub AreToOpen : State → List Sent → Type 0
 AreToOpen s sent = list_all (λ x. is_open s x.session) sent ≡ true
 
+-- who stands in a queue of a lock is open
+abbrev pub StandOpen : State → Type 0
+StandOpen s = EachQueue (AllPass (is_open s)) s.queues
+
+-- No session is opened; and where those that stood in queues were open, so are those that stand in them then, and what is sent is
+-- sent to sessions that were open.
 abbrev pub IsWithin : State → State → List Sent → Type 0
-IsWithin s t sent = IsNoMore s t × AreToOpen s sent
+IsWithin s t sent = IsNoMore s t × (StandOpen s → StandOpen t × AreToOpen s sent)
 
 no_more-then : (s t u : State) → IsNoMore s t → IsNoMore t u → IsNoMore s u
 no_more-then s t u a b = record { schema = b.schema ∙ a.schema; moment = b.moment ∙ a.moment; next = b.next ∙ a.next; still_open = λ n there. a.still_open n (b.still_open n there) }
 
 pub within-then : (s t u : State) (sent more : List Sent) → IsWithin s t sent → IsWithin t u more → IsWithin s u (sent ++ more)
-within-then s t u sent more a b =
-    let to_open : AreToOpen s more = all-so (λ x. is_open t x.session) (λ x. is_open s x.session) (λ x there. a.0.still_open x.session there) more b.1 in
-    (no_more-then s t u a.0 b.0, list_all-append (λ x. is_open s x.session) sent more ∙ and_from (list_all (λ x. is_open s x.session) sent) (list_all (λ x. is_open s x.session) more) a.1 to_open)
+within-then s t u sent more a b = (
+  no_more-then s t u a.0 b.0,
+  λ stand.
+      let first = a.1 stand in
+      let then = b.1 first.0 in
+      let to_open : AreToOpen s more = all-so (λ x. is_open t x.session) (λ x. is_open s x.session) (λ x there. a.0.still_open x.session there) more then.1 in
+      (then.0, list_all-append (λ x. is_open s x.session) sent more ∙ and_from (list_all (λ x. is_open s x.session) sent) (list_all (λ x. is_open s x.session) more) first.1 to_open),
+)
 
 -- what one session is sent, which is open
 pub to_open : (s : State) (n : ℕ) (trees : List Data) → is_open s n ≡ true → AreToOpen s (to_session n trees)
 to_open s n [] there = refl
 to_open s n (tree ∷ trees) there = and_from (is_open s n) (list_all (λ x. is_open s x.session) (to_session n trees)) there (to_open s n trees there)
+
+-- and what is told, where those that are told are open
+pub told_open : (s : State) (notes : List (ℕ × Data)) → list_all (λ (note : ℕ × Data). is_open s note.0) notes ≡ true → AreToOpen s (told notes)
+told_open s [] all = refl
+told_open s (note ∷ notes) all =
+    let parts = and_parts (is_open s note.0) (list_all (λ (n : ℕ × Data). is_open s n.0) notes) all in
+    and_from (is_open s note.0) (list_all (λ x. is_open s x.session) (told notes)) parts.0 (told_open s notes parts.1)
+
+-- what monitors are told, where their sessions are open
+updates_open : (s : State) (after : Database) (sessions : List Session) → list_all (λ (n : Session). is_open s n.serial) sessions ≡ true → AreToOpen s (updates_sent s.database after sessions)
+updates_open s after [] all = refl
+updates_open s after (n ∷ sessions) all =
+    let parts = and_parts (is_open s n.serial) (list_all (λ (x : Session). is_open s x.serial) sessions) all in
+    let its : List Data = map update_note (all_updates s.database after n.monitors) in
+    list_all-append (λ x. is_open s x.session) (to_session n.serial its) (updates_sent s.database after sessions)
+    ∙ and_from (list_all (λ x. is_open s x.session) (to_session n.serial its)) (list_all (λ x. is_open s x.session) (updates_sent s.database after sessions))
+    (to_open s n.serial its parts.0) (updates_open s after sessions parts.1)
+
+-- as those of the state are
+all_open : (sessions : List Session) → list_all (λ (n : Session). list_any (λ (k : Session). eqb k.serial n.serial) sessions) sessions ≡ true
+all_open [] = refl
+all_open (n ∷ sessions) =
+    and_from (eqb n.serial n.serial || list_any (λ (k : Session). eqb k.serial n.serial) sessions) (list_all (λ (x : Session). eqb n.serial x.serial || list_any (λ (k : Session). eqb k.serial x.serial) sessions) sessions)
+    (ap (λ b. b || list_any (λ (k : Session). eqb k.serial n.serial) sessions) (eq-eqb n.serial n.serial refl))
+    (all-so (λ (x : Session). list_any (λ (k : Session). eqb k.serial x.serial) sessions) (λ (x : Session). eqb n.serial x.serial || list_any (λ (k : Session). eqb k.serial x.serial) sessions)
+    (λ x there. ap (λ b. eqb n.serial x.serial || b) there ∙ or_truth (eqb n.serial x.serial)) sessions (all_open sessions))
+
+-- they, and the reply to a session that is open
+kept_open : (s : State) (after : Database) (o : Outstanding) (results : Items) → is_open s o.session ≡ true → AreToOpen s (updates_sent s.database after s.sessions ++ results_to o.session o.id results)
+kept_open s after o results there =
+    list_all-append (λ x. is_open s x.session) (updates_sent s.database after s.sessions) (results_to o.session o.id results)
+    ∙ and_from (list_all (λ x. is_open s x.session) (updates_sent s.database after s.sessions)) (list_all (λ x. is_open s x.session) (results_to o.session o.id results))
+    (updates_open s after s.sessions (all_open s.sessions)) (to_open s o.session (results_of o.id results) there)
 
 -- the same sessions are open
 pub no_more-same : (s t : State) → t.schema ≡ s.schema → t.moment ≡ s.moment → t.next ≡ s.next → t.sessions ≡ s.sessions → IsNoMore s t
@@ -90,20 +140,35 @@ no_more-same s t schema moment next sessions = record { schema = schema; moment 
 pub no_more-closed : (s : State) (n : ℕ) → IsNoMore s (closed s n).state
 no_more-closed s n = record { schema = refl; moment = refl; next = refl; still_open = λ m there. any-kept (λ (k : Session). eqb k.serial m) (λ k. not (eqb k.serial n)) s.sessions there }
 
+-- the others stay open
+pub others_open : (s : State) (n m : ℕ) → eqb m n ≡ false → is_open (closed s n).state m ≡ is_open s m
+others_open s n m apart =
+    any-filter_same (λ (k : Session). eqb k.serial m) (λ k. not (eqb k.serial n)) true (λ k is. ap (λ x. not (eqb x n)) (eqb-true k.serial m is) ∙ ap not apart) s.sessions
+
+-- those that become owners are told so
+pub closed_within : (s : State) (n : ℕ) → IsWithin s (closed s n).state (closed s n).sent
+closed_within s n = (
+  no_more-closed s n,
+  λ stand. (
+    leave-passes (is_open s) (is_open (closed s n).state) n (λ m there apart. others_open s n m apart ∙ there) s.queues stand,
+    told_open s (told_of_leaving n s.queues) (leaving-passes (is_open s) n s.queues stand),
+  ),
+)
+
 -- whatever comes of a transaction
 pub outcome_within : (s : State) (o : Outstanding) (r : TransactionOutcome) → is_open s o.session ≡ true → OfOutcome (λ kept x. IsWithin s x.state x.sent) s o r
 outcome_within s o r there = record {
-  sends = λ trees. (no_more-same s s refl refl refl refl, to_open s o.session trees there);
+  sends = λ trees. (no_more-same s s refl refl refl refl, λ stand. (stand, to_open s o.session trees there));
   commits = λ results database is. (
-    (no_more-same s (record s { database = database }) refl refl refl refl, to_open s o.session (results_of o.id results) there),
-    (no_more-same s (record s { sealed = Some database }) refl refl refl refl, to_open s o.session (results_of o.id (failed_results results)) there),
+    (no_more-same s (record s { database = database }) refl refl refl refl, λ stand. (stand, kept_open s database o results there)),
+    (no_more-same s (record s { sealed = Some database }) refl refl refl refl, λ stand. (stand, to_open s o.session (results_of o.id (failed_results results)) there)),
   );
-  waits = λ timeout is. (no_more-same s (waits_on s o timeout) refl refl refl refl, refl);
+  waits = λ timeout is. (no_more-same s (waits_on s o timeout) refl refl refl refl, λ stand. (stand, refl));
 }
 
 try_within : (s : State) (o : Outstanding) (outcome : Option Outcome) (t : Stepped) → is_open s o.session ≡ true → tries_again s o outcome ≡ Some t → IsWithin s t.state t.sent
 try_within s o outcome t there h =
-    try_has (λ kept x. IsWithin s x.state x.sent) s o outcome t (no_more-closed s o.session, refl) (outcome_within s o (transaction s.schema s.database o.draws (s.moment - o.arrival) o.operations) there) h
+    try_has (λ kept x. IsWithin s x.state x.sent) s o outcome t (closed_within s o.session) (outcome_within s o (transaction s.schema s.database (owns s.queues o.session) o.draws (s.moment - o.arrival) o.operations) there) h
 
 within_kept : (s : State) → IsKeptByTries (IsWithin s) (λ o. true)
 within_kept s = record {
@@ -112,9 +177,10 @@ within_kept s = record {
   tries = λ t sent o outcome u h all there again. within-then s t u.state sent u.sent h (try_within t o outcome u there again);
 }
 
--- settling opens no session, leaves schema, moment and serials, and sends to sessions that were open
+-- settling opens no session and leaves schema, moment and serials; and it sends to sessions that were open, where only they stood in
+-- queues
 pub settle_within_open : (s : State) (number : ℕ) (attempts : List Attempt) (p : Passed) → settle s number attempts ≡ Some p → IsWithin s (left_by p) (sent_by p)
-settle_within_open s number attempts p h = settle_keeps (IsWithin s) (λ o. true) (within_kept s) s number attempts p (no_more-same s s refl refl refl refl, refl) h
+settle_within_open s number attempts p h = settle_keeps (IsWithin s) (λ o. true) (within_kept s) s number attempts p (no_more-same s s refl refl refl refl, λ stand. (stand, refl)) h
 
 -- ---- how many tries it takes
 
@@ -203,10 +269,23 @@ settle_counts s number attempts p h = settle_within_counts (waiting s) s number 
 
 -- ---- what is left
 
+-- those of other sessions are blocked still, when a session is closed: what they own they own still
+left_blocked : (s : State) (n : ℕ) (os : List Outstanding) → All (IsBlocked s) os → All (IsBlocked (closed s n).state) (of_others n os)
+left_blocked s n [] all = All-nil (IsBlocked (closed s n).state)
+left_blocked s n (o ∷ os) all = by (left_blocked s n os (All-tail (IsBlocked s) o os all)) (eqb o.session n) refl
+  where
+    by : All (IsBlocked (closed s n).state) (of_others n os) → (b : Bool) → eqb o.session n ≡ b → All (IsBlocked (closed s n).state) (cond (not b) (o ∷ of_others n os) (of_others n os))
+    by rest true is = rest
+    by rest false is =
+        All-cons (IsBlocked (closed s n).state) o (of_others n os)
+        (waits_owning s.schema s.database (owns s.queues o.session) (owns (leave n s.queues) o.session) o.draws (s.moment - o.arrival) o.operations o.timeout
+        (λ name own. owner-stays o.session n is name s.queues own) (All-head (IsBlocked s) o os all))
+        rest
+
 -- a try that changes nothing
 try_blocks : (s : State) (o : Outstanding) (outcome : Option Outcome) (t : Stepped) → tries_again s o outcome ≡ Some t → is_kept outcome ≡ false → AreBlocked s → AreBlocked t.state
 try_blocks s o outcome t h same before =
-    try_has (λ kept x. kept ≡ false → AreBlocked x.state) s o outcome t (λ no. All-filter (λ (k : Outstanding). not (eqb k.session o.session)) (IsBlocked s) s.outstanding before) (record {
+    try_has (λ kept x. kept ≡ false → AreBlocked x.state) s o outcome t (λ no. left_blocked s o.session s.outstanding before) (record {
       sends = λ trees no. before;
       commits = λ results database is. (λ no. cc, λ no. before);
       waits = λ timeout is no.

@@ -6,8 +6,10 @@ use Rattle.std.proofs.lemmas.Bool.{and_parts, and_from}
 use Rattle.std.proofs.lemmas.List.Folds.{list_all-append}
 use Rattle.std.proofs.lemmas.Option.{same_Some}
 use Rattle.serde_json.specs.Data.{Items}
+use Rattle.ov_specs.specs.locks.Queues.{owns}
 use Rattle.ov_specs.specs.machine.History.{run}
 use Rattle.ov_specs.specs.machine.Machine.{State, Entry, Attempt, Choice, Event, Open, Take, Close, Tick, Outcome, Outstanding, Listed, listed, Stepped, Passed, step, happens, works, takes_and_settles, tries_again, settle, waits_behind, still_waiting, closed, is_open, is_request, is_without_choice, none_drawn, with_next_session, ends, arrived, Work, work_of, opening}
+use Rattle.ov_specs.specs.operations.OpOutcome.{Owns}
 use Rattle.ov_specs.specs.operations.Transaction.{Completes, transaction}
 use Rattle.ov_specs.specs.rows.Database.{Database}
 use Rattle.ov_specs.specs.schema.SchemaTypes.{Schema}
@@ -28,8 +30,8 @@ pub record Holds (P : Schema → Database → Type 0) (are_drawn : List Uuid →
 -- each transaction keeps it, at any age, where what is drawn passes the test
 abbrev pub IsKept : (Schema → Database → Type 0) → (List Uuid → Bool) → Type 0
 IsKept P are_drawn =
-    (schema : Schema) (before database : Database) (draws : List Uuid) (age : ℕ) (operations results : Items) → are_drawn draws ≡ true → P schema before
-    → transaction schema before draws age operations ≡ Completes results database → P schema database
+    (schema : Schema) (before database : Database) (owns : Owns) (draws : List Uuid) (age : ℕ) (operations results : Items) → are_drawn draws ≡ true → P schema before
+    → transaction schema before owns draws age operations ≡ Completes results database → P schema database
 
 -- before any event nothing is sealed, and nothing waits
 pub opening_holds : (P : Schema → Database → Type 0) (are_drawn : List Uuid → Bool) (schema : Schema) (database : Database) → P schema database → Holds P are_drawn (opening schema database)
@@ -56,10 +58,10 @@ module _ (P : Schema → Database → Type 0) (are_drawn : List Uuid → Bool) (
     (refl, record { committed = holds.committed; sealed = λ d same. subst (P s.schema) (same_Some database d same) new; drawn = holds.drawn }),
   )
 
-  outcome_stays : (s : State) (o : Outstanding) (age : ℕ) → are_drawn o.draws ≡ true → Holds P are_drawn s → OfOutcome (λ own x. Stays s.schema x.state) s o (transaction s.schema s.database o.draws age o.operations)
-  outcome_stays s o age are holds = record {
+  outcome_stays : (s : State) (o : Outstanding) (owns : Owns) (age : ℕ) → are_drawn o.draws ≡ true → Holds P are_drawn s → OfOutcome (λ own x. Stays s.schema x.state) s o (transaction s.schema s.database owns o.draws age o.operations)
+  outcome_stays s o owns age are holds = record {
     sends = λ trees. (refl, holds);
-    commits = λ results database completes. commit_stays s holds database (kept s.schema s.database database o.draws age o.operations results are holds.committed completes);
+    commits = λ results database completes. commit_stays s holds database (kept s.schema s.database database owns o.draws age o.operations results are holds.committed completes);
     waits = λ timeout is. (
       refl,
       record {
@@ -82,14 +84,16 @@ module _ (P : Schema → Database → Type 0) (are_drawn : List Uuid → Bool) (
       work_has (λ own x. Stays s.schema x.state) s n draws o w t (record {
         closes = closed_stays s n holds;
         sends = λ trees. (refl, holds);
-        transacts = λ id operations is. outcome_stays s (arrived s n id draws operations) 0 are holds;
+        transacts = λ id operations is. outcome_stays s (arrived s n id draws operations) (owns s.queues n) 0 are holds;
         cancels = λ id is. (refl, record { committed = holds.committed; sealed = holds.sealed; drawn = some_stays s (λ o. not (is_request n id o)) holds });
+        locks = λ call id name is. (refl, record { committed = holds.committed; sealed = holds.sealed; drawn = holds.drawn });
+        watches = λ id result monitors is. (refl, record { committed = holds.committed; sealed = holds.sealed; drawn = holds.drawn });
       }) h
 
   -- ---- settling
 
   try_stays : (s : State) (o : Outstanding) (outcome : Option Outcome) (t : Stepped) → are_drawn o.draws ≡ true → Holds P are_drawn s → tries_again s o outcome ≡ Some t → Stays s.schema t.state
-  try_stays s o outcome t are holds h = try_has (λ own x. Stays s.schema x.state) s o outcome t (closed_stays s o.session holds) (outcome_stays s o (s.moment - o.arrival) are holds) h
+  try_stays s o outcome t are holds h = try_has (λ own x. Stays s.schema x.state) s o outcome t (closed_stays s o.session holds) (outcome_stays s o (owns s.queues o.session) (s.moment - o.arrival) are holds) h
 
   back_stays : (s : State) (waiting : List Outstanding) → Holds P are_drawn s → list_all is_drawn waiting ≡ true → Holds P are_drawn (waits_behind s waiting)
   back_stays s waiting holds are = record {

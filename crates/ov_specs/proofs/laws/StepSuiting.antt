@@ -18,7 +18,7 @@ to_suits : (s : State) → Holds Suits (list_all is_uuid) s → SuitsState s
 to_suits s holds = record { committed = holds.committed; sealed = holds.sealed; drawn = holds.drawn }
 
 suits_kept : IsKept Suits (list_all is_uuid)
-suits_kept schema before database draws age operations results are suits completes = subst (SuitsTransaction schema) completes (transaction_suits schema before draws age operations are suits)
+suits_kept schema before database owns draws age operations results are suits completes = subst (SuitsTransaction schema) completes (transaction_suits schema before owns draws age operations are suits)
 
 -- a step keeps the schema, and the rows those of the schema
 pub step_suits : (s : State) (e : Entry) (t : Stepped) → step s e ≡ Some t → draws_uuids e ≡ true → SuitsState s → (t.state.schema ≡ s.schema) × SuitsState t.state

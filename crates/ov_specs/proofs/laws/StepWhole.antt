@@ -7,7 +7,7 @@ use Rattle.ov_specs.specs.machine.Machine.{State, Entry, Stepped, step, opening}
 use Rattle.ov_specs.specs.machine.Suiting.{IsWholeState}
 use Rattle.ov_specs.specs.operations.Errors.{OpError}
 use Rattle.ov_specs.specs.operations.Operation.{outcome_of}
-use Rattle.ov_specs.specs.operations.OpOutcome.{OpContext, OpOutcome, Done, Fault, Blocked}
+use Rattle.ov_specs.specs.operations.OpOutcome.{Owns, OpContext, OpOutcome, Done, Fault, Blocked}
 use Rattle.ov_specs.specs.operations.Transaction.{TransactionOutcome, Completes, Waits, and_result, after, ended, performed, transaction}
 use Rattle.ov_specs.specs.rows.Database.{Database}
 use Rattle.ov_specs.specs.schema.Schema.{IsAccepted}
@@ -46,11 +46,11 @@ module _ (c : OpContext) (accepted : IsAccepted c.schema) (whole : is_whole c.sc
       after_whole c.schema c.before whole (outcome_of c place rows d) operations (performed c (place + 1) operations) (λ left. performed_whole (place + 1) operations left)
 
 -- a transaction keeps whole rows whole, whatever was drawn for it
-pub transaction_whole : (schema : Schema) (before : Database) (draws : List Uuid) (age : ℕ) (operations : Items) → IsAccepted schema → is_whole schema before ≡ true
-    → WholeTransaction schema (transaction schema before draws age operations)
-transaction_whole schema before [] age operations accepted whole = whole
-transaction_whole schema before (version ∷ ids) age operations accepted whole =
-    performed_whole (record { schema = schema; before = before; version = version; ids = ids; operations = operations; age = age }) accepted whole 0 operations before
+pub transaction_whole : (schema : Schema) (before : Database) (owns : Owns) (draws : List Uuid) (age : ℕ) (operations : Items) → IsAccepted schema → is_whole schema before ≡ true
+    → WholeTransaction schema (transaction schema before owns draws age operations)
+transaction_whole schema before owns [] age operations accepted whole = whole
+transaction_whole schema before owns (version ∷ ids) age operations accepted whole =
+    performed_whole (record { schema = schema; before = before; owns = owns; version = version; ids = ids; operations = operations; age = age }) accepted whole 0 operations before
 
 -- ---- steps and runs
 
@@ -65,8 +65,8 @@ to_whole : (s : State) → IsAccepted s.schema → Holds IsWholeUnder (λ draws.
 to_whole s accepted holds = record { committed = holds.committed accepted; sealed = λ database is. holds.sealed database is accepted }
 
 whole_kept : IsKept IsWholeUnder (λ draws. true)
-whole_kept schema before database draws age operations results are whole completes accepted =
-    subst (WholeTransaction schema) completes (transaction_whole schema before draws age operations accepted (whole accepted))
+whole_kept schema before database owns draws age operations results are whole completes accepted =
+    subst (WholeTransaction schema) completes (transaction_whole schema before owns draws age operations accepted (whole accepted))
 
 -- a step keeps the schema, and the rows whole
 pub step_whole : (s : State) (e : Entry) (t : Stepped) → step s e ≡ Some t → IsAccepted s.schema → IsWholeState s → (t.state.schema ≡ s.schema) × IsWholeState t.state

@@ -1,27 +1,35 @@
 -- What one entry makes of one session.
 use Rattle.std.proofs.Common.{◌≡◌, ◌≢◌, ℕ, ◌+◌, List, [], ◌∷◌, ◌++◌, refl, sym, ap, subst, ◌∙◌, cond, eqb, leb, Bool, true, false, Option, Some, None, ◌⊎◌, inl, inr}
-use Rattle.std.specs.Prelude.{not, ◌||◌, ◌&&◌, filter, option_map, codes}
-use Rattle.std.specs.List.{list_any}
-use Rattle.std.proofs.lemmas.List.Folds.{list_any-append}
+use Rattle.std.specs.Prelude.{not, ◌||◌, ◌&&◌, filter, option_map, option_to_list, codes}
+use Rattle.std.specs.List.{list_any, list_all}
+use Rattle.std.proofs.lemmas.List.Folds.{list_any-append, list_all-append}
 use Rattle.std.proofs.lemmas.Map.Views.{any-filter_same}
-use Rattle.std.proofs.lemmas.Bool.{cases_Bool, eq-eqb, eqb-true, ne_eqb, not_from_true, not_from_false, and_parts}
+use Rattle.std.proofs.lemmas.Bool.{cases_Bool, eq-eqb, eqb-true, ne_eqb, not_from_true, not_from_false, and_parts, and_from}
 use Rattle.ov_specs.specs.wire.Message.{Message}
 use Rattle.ov_specs.specs.values.Uuid.{Uuid}
-use Rattle.ov_specs.specs.machine.Machine.{State, Entry, Event, Open, Take, Close, Tick, Cause, Memory, Outcome, Attempt, Listed, listed, tries, ends, Session, Stepped, step, happens, takes_and_settles, settle, closed, when, is_open, is_without_choice, none_drawn, with_next_session, without_request, none_listed, arrived, Work, work_of, works}
+use Rattle.serde_json.specs.Data.{Data}
+use Rattle.ov_specs.specs.locks.Queues.{LockCall, owns, call_result, told_of_call}
+use Rattle.ov_specs.specs.machine.Machine.{State, Entry, Event, Open, Take, Close, Tick, Cause, Memory, Outcome, Attempt, Listed, listed, tries, ends, Session, Stepped, step, happens, takes_and_settles, settle, to_session, told, closed, locks, when, is_open, is_without_choice, none_drawn, with_next_session, session_watching, with_monitors, without_request, none_listed, arrived, Work, work_of, works}
 use Rattle.ov_specs.specs.machine.History.{taken_by, cause_in, closing_cause}
+use Rattle.ov_specs.specs.monitors.Monitors.{Monitor}
 use Rattle.ov_specs.specs.operations.Transaction.{transaction}
-use Rattle.ov_specs.specs.wire.Frame.{failure_tree}
-use Rattle.ov_specs.proofs.laws.Settling.{IsNoMore, IsWithin, no_more-same, no_more-closed, to_open, within-then, outcome_within, settle_within_open}
+use Rattle.ov_specs.specs.wire.Frame.{reply_tree, failure_tree}
+use Rattle.ov_specs.proofs.laws.Lists.{any-map}
+use Rattle.ov_specs.proofs.laws.Locks.{each-so, after-passes, call-passes}
+use Rattle.ov_specs.proofs.laws.Settling.{IsNoMore, IsWithin, no_more-same, to_open, told_open, closed_within, within-then, outcome_within, settle_within_open}
 use Rattle.ov_specs.proofs.laws.Tries.{left_by, sent_by, takes_first, tick_first}
 use Rattle.ov_specs.proofs.laws.Truths.{or_nothing}
-use Rattle.ov_specs.proofs.laws.Works.{when_is, when_suits, work_has}
+use Rattle.ov_specs.proofs.laws.Works.{watching, when_is, when_suits, work_has}
 use Rattle.std.proofs.lemmas.Option.{same_Some}
 
 -- ---- the open sessions
 
 -- one session more
-any_push : (n x : ℕ) (xs : List Session) → list_any (λ k. eqb k.serial n) (xs ++ record { serial = x } ∷ []) ≡ (list_any (λ k. eqb k.serial n) xs || eqb x n)
-any_push n x xs = list_any-append (λ (k : Session). eqb k.serial n) xs (record { serial = x } ∷ []) ∙ ap (λ b. list_any (λ (k : Session). eqb k.serial n) xs || b) (or_nothing (eqb x n))
+any_push : (n x : ℕ) (xs : List Session) → list_any (λ k. eqb k.serial n) (xs ++ record { serial = x; monitors = [] } ∷ []) ≡ (list_any (λ k. eqb k.serial n) xs || eqb x n)
+any_push n x xs = list_any-append (λ (k : Session). eqb k.serial n) xs (record { serial = x; monitors = [] } ∷ []) ∙ ap (λ b. list_any (λ (k : Session). eqb k.serial n) xs || b) (or_nothing (eqb x n))
+
+pub is_open-more : (s : State) (n : ℕ) → is_open (with_next_session s) n ≡ (is_open s n || eqb s.next n)
+is_open-more s n = any_push n s.next s.sessions
 
 -- a session that was taken out is not among them
 none_left : (n : ℕ) (xs : List Session) → list_any (λ k. eqb k.serial n) (filter (λ k. not (eqb k.serial n)) xs) ≡ false
@@ -31,6 +39,10 @@ none_left n xs = any-filter_same (λ (k : Session). eqb k.serial n) (λ k. not (
 others_left : (n m : ℕ) (xs : List Session) → m ≢ n → list_any (λ k. eqb k.serial n) (filter (λ k. not (eqb k.serial m)) xs) ≡ list_any (λ k. eqb k.serial n) xs
 others_left n m xs ne =
     any-filter_same (λ (k : Session). eqb k.serial n) (λ k. not (eqb k.serial m)) true (λ k e. not_from_false (eqb k.serial m) (ne_eqb k.serial m (λ same. ne (sym same ∙ eqb-true k.serial n e)))) xs
+
+-- other monitors of a session change nothing of who is open
+pub same_open : (s : State) (m : ℕ) (monitors : List Monitor) (n : ℕ) → is_open (with_monitors m monitors s) n ≡ is_open s n
+same_open s m monitors n = any-map (λ (k : Session). eqb k.serial n) (session_watching m monitors) s.sessions
 
 -- ---- causes
 
@@ -152,14 +164,42 @@ may_close n s e t taken taken_is cause no_more = elim (cases_Bool (is_open t.sta
   ]
 ]
 
+-- a session asks for a lock, or gives one up
+locks_within : (s : State) (m : ℕ) → is_open s m ≡ true → (call : LockCall) (id : Data) (name : List ℕ) → IsWithin s (locks s m call id name).state (locks s m call id name).sent
+locks_within s m there call id name = (
+  no_more-same s (locks s m call id name).state refl refl refl refl,
+  λ stand. (
+    after-passes (is_open s) m name s.queues stand call there,
+    list_all-append (λ x. is_open s x.session) (to_session m (reply ∷ [])) (told notes)
+        ∙ and_from (list_all (λ x. is_open s x.session) (to_session m (reply ∷ []))) (list_all (λ x. is_open s x.session) (told notes)) (to_open s m (reply ∷ []) there) (told_open s notes (call-passes (is_open s) m name s.queues stand call)),
+  ),
+)
+  where
+    reply : Data
+    reply = reply_tree id (call_result call name s.queues)
+
+    notes : List (ℕ × Data)
+    notes = option_to_list (told_of_call call name m s.queues)
+
+-- and has other monitors
+watching_within : (s : State) (m : ℕ) → is_open s m ≡ true → (id result : Data) (monitors : List Monitor) → IsWithin s (watching s m id result monitors).state (watching s m id result monitors).sent
+watching_within s m there id result monitors =
+    let same : (n : ℕ) → is_open (with_monitors m monitors s) n ≡ is_open s n = λ n. same_open s m monitors n in (
+      record { schema = refl; moment = refl; next = refl; still_open = λ n open'. sym (same n) ∙ open' },
+      λ stand.
+          (each-so (is_open s) (is_open (with_monitors m monitors s)) (λ n open'. same n ∙ open') s.queues stand, to_open s m (reply_tree id result ∷ []) there),
+    )
+
 -- the work on a message of an open session
 work_within : (s : State) (m : ℕ) (draws : List Uuid) (o : Option Outcome) (w : Work) (t : Stepped) → is_open s m ≡ true → works s m draws o w ≡ Some t → IsWithin s t.state t.sent
 work_within s m draws o w t there h =
     work_has (λ kept x. IsWithin s x.state x.sent) s m draws o w t (record {
-      closes = (no_more-closed s m, refl);
-      sends = λ trees. (no_more-same s s refl refl refl refl, to_open s m trees there);
-      transacts = λ id operations is. outcome_within s (arrived s m id draws operations) (transaction s.schema s.database draws 0 operations) there;
-      cancels = λ id is. (no_more-same s (without_request m id s) refl refl refl refl, to_open s m (failure_tree id (codes "canceled") ∷ []) there);
+      closes = closed_within s m;
+      sends = λ trees. (no_more-same s s refl refl refl refl, λ stand. (stand, to_open s m trees there));
+      transacts = λ id operations is. outcome_within s (arrived s m id draws operations) (transaction s.schema s.database (owns s.queues m) draws 0 operations) there;
+      cancels = λ id is. (no_more-same s (without_request m id s) refl refl refl refl, λ stand. (stand, to_open s m (failure_tree id (codes "canceled") ∷ []) there));
+      locks = λ call id name is. locks_within s m there call id name;
+      watches = λ id result monitors is. watching_within s m there id result monitors;
     }) h
 
 module _ (s : State) (e : Entry) (t : Stepped) (h : step s e ≡ Some t) where

@@ -1,13 +1,15 @@
 -- What the work on a message comes to, and a try of a transaction that waits, case by case: what holds in each case holds of it.
-use Rattle.std.proofs.Common.{◌≡◌, ℕ, ◌-◌, List, [], ◌∷◌, Bool, true, false, cond, Option, Some, None, length, eqb, leb, refl, subst}
+use Rattle.std.proofs.Common.{◌≡◌, ℕ, ◌-◌, List, [], ◌∷◌, Bool, true, false, cond, ◌++◌, Option, Some, None, length, eqb, leb, refl, subst}
 use Rattle.std.specs.Prelude.{codes, is_some}
 use Rattle.std.proofs.lemmas.Option.{same_Some}
 use Rattle.serde_json.specs.Data.{Data, Items}
-use Rattle.ov_specs.specs.machine.Machine.{State, Outcome, NoMemory, Committed, Exhausted, Failed, Stepped, Outstanding, Work, Answers, Transact, Cancels, works, does, draws_for, arrived, attempt, tries_again, is_kept, commits, sends_at_once, closed, without_request, when, to_session, results_of, results_to, waits_on}
+use Rattle.ov_specs.specs.locks.Queues.{LockCall, owns}
+use Rattle.ov_specs.specs.machine.Machine.{State, Outcome, NoMemory, Committed, Exhausted, Failed, Stepped, Outstanding, Work, Answers, Transact, Cancels, Locks, Watches, works, does, draws_for, arrived, attempt, tries_again, is_kept, commits, sends_at_once, closed, locks, without_request, when, to_session, results_of, results_to, updates_sent, with_monitors, waits_on}
+use Rattle.ov_specs.specs.monitors.Monitors.{Monitor}
 use Rattle.ov_specs.specs.operations.Transaction.{TransactionOutcome, Completes, Waits, transaction, exhausted_results, failed_results}
 use Rattle.ov_specs.specs.rows.Database.{Database, same_database}
 use Rattle.ov_specs.specs.values.Uuid.{Uuid}
-use Rattle.ov_specs.specs.wire.Frame.{failure_tree}
+use Rattle.ov_specs.specs.wire.Frame.{reply_tree, failure_tree}
 
 -- a choice that suits
 pub when_is : {A : Type 0} (b : Bool) (o : Option A) (x : A) → when b o ≡ Some x → o ≡ Some x
@@ -24,7 +26,7 @@ sending s n trees = record { state = s; sent = to_session n trees }
 
 -- the store keeps the database
 abbrev pub keeping : State → ℕ → Data → Items → Database → Stepped
-keeping s n id results database = record { state = record s { database = database }; sent = results_to n id results }
+keeping s n id results database = record { state = record s { database = database }; sent = updates_sent s.database database s.sessions ++ results_to n id results }
 
 -- the store fails
 abbrev pub sealing : State → ℕ → Data → Items → Database → Stepped
@@ -37,6 +39,10 @@ blocked s o timeout = record { state = waits_on s o timeout; sent = [] }
 -- one that waits is canceled
 abbrev pub canceling : State → ℕ → Data → Stepped
 canceling s n id = record { state = without_request n id s; sent = to_session n (failure_tree id (codes "canceled") ∷ []) }
+
+-- the session has other monitors
+abbrev pub watching : State → ℕ → Data → Data → List Monitor → Stepped
+watching s n id result monitors = record { state = with_monitors n monitors s; sent = to_session n (reply_tree id result ∷ []) }
 
 -- these are sent at once
 sent_at_once : (P : Stepped → Type 0) (t : Stepped) → P t → (o : Option Outcome) (u : Stepped) → sends_at_once t.state t.sent o ≡ Some u → P u
@@ -82,16 +88,18 @@ module _ (P : Bool → Stepped → Type 0) (s : State) where
   attempt_has o (Waits timeout) outcome t of h = waited o timeout (of.waits timeout refl) outcome t h
 
   -- what a try of a transaction that waits comes to
-  pub try_has : (o : Outstanding) (outcome : Option Outcome) (t : Stepped) → P false (closed s o.session) → OfOutcome P s o (transaction s.schema s.database o.draws (s.moment - o.arrival) o.operations) → tries_again s o outcome ≡ Some t → P (is_kept outcome) t
+  pub try_has : (o : Outstanding) (outcome : Option Outcome) (t : Stepped) → P false (closed s o.session) → OfOutcome P s o (transaction s.schema s.database (owns s.queues o.session) o.draws (s.moment - o.arrival) o.operations) → tries_again s o outcome ≡ Some t → P (is_kept outcome) t
   try_has o (Some NoMemory) t closes of h = subst (P false) (same_Some (closed s o.session) t h) closes
-  try_has o outcome t closes of h = attempt_has o (transaction s.schema s.database o.draws (s.moment - o.arrival) o.operations) outcome t of h
+  try_has o outcome t closes of h = attempt_has o (transaction s.schema s.database (owns s.queues o.session) o.draws (s.moment - o.arrival) o.operations) outcome t of h
 
 -- it holds in each case of this work
 pub record OfWork (P : Bool → Stepped → Type 0) (s : State) (n : ℕ) (draws : List Uuid) (w : Work) : Type 0 where
   pub closes : P false (closed s n)
   pub sends : (trees : List Data) → P false (sending s n trees)
-  pub transacts : (id : Data) (operations : Items) → w ≡ Transact id operations → OfOutcome P s (arrived s n id draws operations) (transaction s.schema s.database draws 0 operations)
+  pub transacts : (id : Data) (operations : Items) → w ≡ Transact id operations → OfOutcome P s (arrived s n id draws operations) (transaction s.schema s.database (owns s.queues n) draws 0 operations)
   pub cancels : (id : Data) → w ≡ Cancels id → P false (canceling s n id)
+  pub locks : (call : LockCall) (id : Data) (name : List ℕ) → w ≡ Locks call id name → P false (locks s n call id name)
+  pub watches : (id result : Data) (monitors : List Monitor) → w ≡ Watches id result monitors → P false (watching s n id result monitors)
 
 module _ (P : Bool → Stepped → Type 0) (s : State) (n : ℕ) where
   answered_has : (trees : List Data) (o : Option Outcome) (t : Stepped) → P false (sending s n trees) → sends_at_once s (to_session n trees) o ≡ Some t → P (is_kept o) t
@@ -102,10 +110,20 @@ module _ (P : Bool → Stepped → Type 0) (s : State) (n : ℕ) where
   canceled_has id None t p h = sent_at_once (P false) (canceling s n id) p None t h
   canceled_has id (Some outcome) t p h = cc
 
+  locked_has : (call : LockCall) (id : Data) (name : List ℕ) (o : Option Outcome) (t : Stepped) → P false (locks s n call id name) → sends_at_once (locks s n call id name).state (locks s n call id name).sent o ≡ Some t → P (is_kept o) t
+  locked_has call id name None t p h = sent_at_once (P false) (locks s n call id name) p None t h
+  locked_has call id name (Some outcome) t p h = cc
+
+  watched_has : (id result : Data) (monitors : List Monitor) (o : Option Outcome) (t : Stepped) → P false (watching s n id result monitors) → sends_at_once (with_monitors n monitors s) (to_session n (reply_tree id result ∷ [])) o ≡ Some t → P (is_kept o) t
+  watched_has id result monitors None t p h = sent_at_once (P false) (watching s n id result monitors) p None t h
+  watched_has id result monitors (Some outcome) t p h = cc
+
   done_has : (draws : List Uuid) (o : Option Outcome) (w : Work) (t : Stepped) → OfWork P s n draws w → does s n draws o w ≡ Some t → P (is_kept o) t
   done_has draws o (Answers trees) t of h = answered_has trees o t (of.sends trees) h
-  done_has draws o (Transact id operations) t of h = attempt_has P s (arrived s n id draws operations) (transaction s.schema s.database draws 0 operations) o t (of.transacts id operations refl) h
+  done_has draws o (Transact id operations) t of h = attempt_has P s (arrived s n id draws operations) (transaction s.schema s.database (owns s.queues n) draws 0 operations) o t (of.transacts id operations refl) h
   done_has draws o (Cancels id) t of h = canceled_has id o t (of.cancels id refl) h
+  done_has draws o (Locks call id name) t of h = locked_has call id name o t (of.locks call id name refl) h
+  done_has draws o (Watches id result monitors) t of h = watched_has id result monitors o t (of.watches id result monitors refl) h
 
   -- what the work on a message comes to
   pub work_has : (draws : List Uuid) (o : Option Outcome) (w : Work) (t : Stepped) → OfWork P s n draws w → works s n draws o w ≡ Some t → P (is_kept o) t

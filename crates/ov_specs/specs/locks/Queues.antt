@@ -1,10 +1,12 @@
 -- Named locks, each with a queue of the sessions that asked for it (RFC 7047, 4.1.8). That there is one queue, and where a
 -- steal puts its session, is our own: the owner is the first of the queue, whether it came by lock or by steal.
-use Rattle.std.specs.Prelude.{◌==◌, ℕ, List, [], ◌∷◌, ◌++◌, length, codes, Bool, not, if◌then◌else◌, Option, Some, None, unwrap_or}
+use Rattle.std.specs.Prelude.{◌==◌, ℕ, nat_le, List, [], ◌∷◌, ◌++◌, length, map, codes, Bool, true, not, if◌then◌else◌, Option, Some, None, is_some, option_map, unwrap_or}
 use Rattle.std.specs.BTreeMap.{is_at, insert_entry}
-use Rattle.std.specs.List.{filter, list_any}
-use Rattle.std.specs.Map.{lookup, remove_entry}
+use Rattle.std.specs.List.{IsDistinct, filter, list_any}
+use Rattle.std.specs.List.Sorted.{IsStrictlySortedBy}
+use Rattle.std.specs.Map.{keys_of, lookup, remove_entry}
 use Rattle.serde_json.specs.Data.{Data, boolean, string, object, no_members, member, item, no_items}
+use Rattle.ov_specs.specs.schema.Schema.{is_some_and}
 use Rattle.ov_specs.specs.schema.SchemaTypes.{name_cmp}
 use Rattle.ov_specs.specs.values.Uuid.{is_id}
 use Rattle.ov_specs.specs.wire.Frame.{note_tree}
@@ -13,9 +15,18 @@ use Rattle.ov_specs.specs.wire.Frame.{note_tree}
 abbrev pub Queues : Type 0
 Queues = List (List ℕ × List ℕ)
 
+-- they ascend so
+abbrev pub DoQueuesAscend : Queues → Type 0
+DoQueuesAscend queues = IsStrictlySortedBy name_cmp (keys_of queues)
+
 -- what names a lock: an <id> (RFC 7047, 4.1.8)
 abbrev pub is_lock_name : List ℕ → Bool
 is_lock_name = is_id
+
+-- the lock that a text names, if there is one
+abbrev pub lock_name : Option (List ℕ) → Option (List ℕ)
+lock_name None = None
+lock_name (Some name) = if is_lock_name name then Some name else None
 
 -- ---- who asked for what
 
@@ -31,6 +42,14 @@ first_of (session ∷ queue) = Some session
 -- the owner of the lock
 abbrev pub owner : List ℕ → Queues → Option ℕ
 owner name queues = first_of (queue_of name queues)
+
+-- the session is the owner of the lock
+abbrev pub owns : Queues → ℕ → List ℕ → Bool
+owns queues session name = is_some_and (λ first. first == session) (owner name queues)
+
+-- nobody stands in the queue twice
+abbrev pub HasNoRepeats : List ℕ → Type 0
+HasNoRepeats queue = IsDistinct (λ a b. a == b) queue
 
 -- the session stands in the queue
 abbrev pub stands_in : ℕ → List ℕ → Bool
@@ -108,6 +127,35 @@ freed session (e ∷ queues) = freed_before (next_in session e.1) e.0 (freed ses
 
 -- ---- what is answered and told
 
+-- what is asked of a lock (RFC 7047, 4.1.8)
+pub data LockCall : Type 0 where
+  Lock : LockCall
+  Steal : LockCall
+  Unlock : LockCall
+
+-- Why a lock is not given to the session, as it is told: it has asked for it already, or for as many as it may (RFC 7047, 4.1.8; the
+-- texts and the limit are our own).
+abbrev pub lock_refusal : List ℕ → ℕ → Queues → Option (List ℕ)
+lock_refusal name session queues =
+    if has_requested session name queues then Some (codes "lock already requested")
+    else (if nat_le lock_limit (requests_of session queues) then Some (codes "resources exhausted") else None)
+
+-- why it is not given up: it was not asked for (RFC 7047, 4.1.8; the text is our own)
+abbrev pub unlock_refusal : List ℕ → ℕ → Queues → Option (List ℕ)
+unlock_refusal name session queues = if has_requested session name queues then None else Some (codes "lock not held")
+
+-- why a call is refused
+abbrev pub call_refusal : LockCall → List ℕ → ℕ → Queues → Option (List ℕ)
+call_refusal Lock name session queues = lock_refusal name session queues
+call_refusal Steal name session queues = lock_refusal name session queues
+call_refusal Unlock name session queues = unlock_refusal name session queues
+
+-- the queues after a call
+abbrev pub after_call : LockCall → List ℕ → ℕ → Queues → Queues
+after_call Lock name session queues = lock name session queues
+after_call Steal name session queues = steal name session queues
+after_call Unlock name session queues = unlock name session queues
+
 -- the result of lock: whether the session is the owner now; that of steal is the same with true (RFC 7047, 4.1.8)
 abbrev pub lock_result : Bool → Data
 lock_result is_owner = object (member (codes "locked") (boolean is_owner) no_members)
@@ -119,3 +167,20 @@ locked_note name = note_tree (codes "locked") (item (string name) no_items)
 -- to a session that another has stolen the lock from (RFC 7047, 4.1.10)
 abbrev pub stolen_note : List ℕ → Data
 stolen_note name = note_tree (codes "stolen") (item (string name) no_items)
+
+-- the result of a call (RFC 7047, 4.1.8)
+abbrev pub call_result : LockCall → List ℕ → Queues → Data
+call_result Lock name queues = lock_result (not (is_some (owner name queues)))
+call_result Steal name queues = lock_result true
+call_result Unlock name queues = object no_members
+
+-- who is told of a call, and what: the former owner that the lock is stolen, or the next one that it is given on (RFC 7047, 4.1.9,
+-- 4.1.10)
+abbrev pub told_of_call : LockCall → List ℕ → ℕ → Queues → Option (ℕ × Data)
+told_of_call Lock name session queues = None
+told_of_call Steal name session queues = option_map (λ former. (former, stolen_note name)) (owner name queues)
+told_of_call Unlock name session queues = option_map (λ next. (next, locked_note name)) (next_owner name session queues)
+
+-- who is told of a session's leaving, and what, in ascending order of the locks' names (RFC 7047, 4.1.9)
+abbrev pub told_of_leaving : ℕ → Queues → List (ℕ × Data)
+told_of_leaving session queues = map (λ f. (f.0, locked_note f.1)) (freed session queues)

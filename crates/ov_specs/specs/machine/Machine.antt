@@ -1,10 +1,14 @@
 -- The machine: what one event makes of its state and what it sends, given what the outside chose (our own, over RFC 7047, 4).
 -- What names no source is our own.
-use Rattle.std.specs.Prelude.{◌≡◌, ◌⊎◌, ℕ, zero, suc, ◌+◌, ◌-◌, ◌==◌, ◌&&◌, not, nat_le, min, List, [], ◌∷◌, ◌++◌, length, map, filter, Bool, true, false, if◌then◌else◌, Option, Some, None, is_some, option_map, option_and_then, codes}
-use Rattle.std.specs.List.{list_any, filter_map}
-use Rattle.serde_json.specs.Data.{Data, array, Items, no_items, item}
-use Rattle.serde_json.specs.Find.{as_str}
+use Rattle.std.specs.Prelude.{◌≡◌, ◌⊎◌, ℕ, zero, suc, ◌+◌, ◌-◌, ◌==◌, ◌&&◌, not, nat_le, min, List, [], ◌∷◌, ◌++◌, length, map, filter, Bool, true, false, if◌then◌else◌, Option, Some, None, is_some, option_map, option_and_then, option_to_list, unwrap_or, codes, Result, Ok, Err}
+use Rattle.std.specs.List.{list_any, find, filter_map, flat_map}
+use Rattle.serde_json.specs.Data.{Data, array, object, no_members, Items, no_items, item}
+use Rattle.serde_json.specs.Find.{as_str, as_object}
 use Rattle.serde_json.specs.Written.{compact_text}
+use Rattle.ov_specs.specs.locks.Queues.{Queues, LockCall, Lock, Steal, Unlock, lock_name, owns, leave, call_refusal, after_call, call_result, told_of_call, told_of_leaving}
+use Rattle.ov_specs.specs.monitors.Monitors.{Monitor, added, canceled}
+use Rattle.ov_specs.specs.monitors.Requests.{MonitorFault, monitor_fault_text}
+use Rattle.ov_specs.specs.monitors.Updates.{initial_of, all_updates, update_note}
 use Rattle.ov_specs.specs.rows.Database.{Database, same_database}
 use Rattle.ov_specs.specs.wire.Message.{Message, Call, Note, Answer, Bad}
 use Rattle.ov_specs.specs.wire.Frame.{reply_tree, failure_tree}
@@ -62,6 +66,7 @@ pub record Entry : Type 0 where
 -- an open session
 pub record Session : Type 0 where
   pub serial : ℕ
+  pub monitors : List Monitor  -- in order of creation
 
 -- A transaction that waits: of which session, the id that it is answered under, what was drawn for it, its operations, the moment
 -- of its arrival, and the timeout, if any, of the wait that blocked its last try (RFC 7047, 4.1.3, 5.2.6).
@@ -79,13 +84,14 @@ pub record State : Type 0 where
   pub database : Database  -- as it was committed
   pub sealed : Option Database  -- after a commit that failed, the database that it would have made: nothing is committed any more
   pub sessions : List Session  -- the open ones, in order of opening
+  pub queues : Queues  -- of the locks that sessions asked for
   pub outstanding : List Outstanding  -- the transactions that wait, in order of arrival
   pub next : ℕ  -- the serial of the next session
   pub moment : ℕ  -- the last one
 
--- before any event: the database as it was opened, no session is open, serials begin with 1
+-- before any event: the database as it was opened, no session is open, no lock is asked for, serials begin with 1
 abbrev pub opening : Schema → Database → State
-opening schema database = record { schema = schema; database = database; sealed = None; sessions = []; outstanding = []; next = 1; moment = 0 }
+opening schema database = record { schema = schema; database = database; sealed = None; sessions = []; queues = []; outstanding = []; next = 1; moment = 0 }
 
 -- What a crash may leave: the database as it was committed, or the one that a failed commit would have made.
 abbrev pub Left : State → Database → Type 0
@@ -97,7 +103,19 @@ is_open s session = list_any (λ n. n.serial == session) s.sessions
 
 -- the state with one session more, which has the next serial
 abbrev pub with_next_session : State → State
-with_next_session s = record s { sessions = s.sessions ++ record { serial = s.next } ∷ []; next = s.next + 1 }
+with_next_session s = record s { sessions = s.sessions ++ record { serial = s.next; monitors = [] } ∷ []; next = s.next + 1 }
+
+-- the monitors of the session
+abbrev pub monitors_of : ℕ → State → List Monitor
+monitors_of session s = unwrap_or (option_map (λ n. n.monitors) (find (λ n. n.serial == session) s.sessions)) []
+
+-- a session, with these monitors if it is this one
+abbrev pub session_watching : ℕ → List Monitor → Session → Session
+session_watching session monitors n = record n { monitors = if n.serial == session then monitors else n.monitors }
+
+-- the state where the session has these monitors
+abbrev pub with_monitors : ℕ → List Monitor → State → State
+with_monitors session monitors s = record s { sessions = map (session_watching session monitors) s.sessions }
 
 -- these without the ones of the session
 abbrev pub of_others : ℕ → List Outstanding → List Outstanding
@@ -105,7 +123,11 @@ of_others session waiting = filter (λ o. not (o.session == session)) waiting
 
 -- the state without the session, and without what it asked for
 abbrev pub without_session : ℕ → State → State
-without_session session s = record s { sessions = filter (λ n. not (n.serial == session)) s.sessions; outstanding = of_others session s.outstanding }
+without_session session s = record s {
+  sessions = filter (λ n. not (n.serial == session)) s.sessions;
+  queues = leave session s.queues;
+  outstanding = of_others session s.outstanding;
+}
 
 -- Two ids are the same where their texts are (our own).
 abbrev pub same_id : Data → Data → Bool
@@ -165,11 +187,14 @@ pub record Stepped : Type 0 where
 
 -- ---- the work on a message
 
--- what a message asks for: to be answered at once, a transaction, or to cancel one that waits (RFC 7047, 4.1)
+-- what a message asks for: to be answered at once, a transaction, to cancel one that waits, a lock, or with this result that the
+-- monitors of its session are these (RFC 7047, 4.1)
 pub data Work : Type 0 where
   Answers : (trees : List Data) → Work
   Transact : (id : Data) (operations : Items) → Work
   Cancels : (id : Data) → Work
+  Locks : (call : LockCall) (id : Data) (name : List ℕ) → Work
+  Watches : (id result : Data) (monitors : List Monitor) → Work
 
 -- a result, at once (JSON-RPC 1.0, 1.2)
 abbrev pub answered : Data → Data → Work
@@ -207,14 +232,64 @@ schema_call s id no_items = refused id (codes "syntax error")
 schema_call s id (item d no_items) = schema_call_on s id (as_str d)
 schema_call s id (item d (item e items)) = refused id (codes "syntax error")
 
--- what a call asks for, method by method; no other is known (RFC 7047, 4.1.1, 4.1.2, 4.1.3, 4.1.11; the last is our own)
+-- what is asked for, unless it is refused with a text
+abbrev pub unless_refused : Data → Option (List ℕ) → Work → Work
+unless_refused id None work = work
+unless_refused id (Some text) work = refused id text
+
+-- what is asked of the lock that is named (RFC 7047, 4.1.8)
+abbrev pub lock_call_on : State → ℕ → Data → LockCall → Option (List ℕ) → Work
+lock_call_on s session id call None = refused id (codes "syntax error")
+lock_call_on s session id call (Some name) = unless_refused id (call_refusal call name session s.queues) (Locks call id name)
+
+-- the params of "lock", "steal" and "unlock": the name of a lock, and no more (RFC 7047, 4.1.8)
+abbrev pub lock_call : State → ℕ → Data → LockCall → Items → Work
+lock_call s session id call no_items = refused id (codes "syntax error")
+lock_call s session id call (item d no_items) = lock_call_on s session id call (lock_name (as_str d))
+lock_call s session id call (item d (item e items)) = refused id (codes "syntax error")
+
+-- the monitors with one of this name more, and what it is told at first (RFC 7047, 4.1.5)
+abbrev pub monitor_work : State → Data → Data → Result (List Monitor) MonitorFault → Work
+monitor_work s id name (Ok monitors) = Watches id (initial_of s.database name monitors) monitors
+monitor_work s id name (Err fault) = refused id (monitor_fault_text fault)
+
+-- a monitor of the database that is named, which is the one that is served (RFC 7047, 4.1.5)
+abbrev pub monitor_call_on : State → ℕ → Data → Option (List ℕ) → Data → Data → Work
+monitor_call_on s session id None name requests = refused id (codes "syntax error")
+monitor_call_on s session id (Some database) name requests =
+    if bytes_eq database s.schema.name then monitor_work s id name (added s.schema (monitors_of session s) name requests) else refused id (codes "unknown database")
+
+-- the params of "monitor": the name of a database, that of the monitor, and an object of requests (RFC 7047, 4.1.5)
+abbrev pub monitor_call : State → ℕ → Data → Items → Work
+monitor_call s session id (item d (item name (item requests no_items))) =
+    if is_some (as_object requests) then monitor_call_on s session id (as_str d) name requests else refused id (codes "syntax error")
+monitor_call s session id params = refused id (codes "syntax error")
+
+-- the monitors without one (RFC 7047, 4.1.7)
+abbrev pub monitor_cancel_work : Data → Result (List Monitor) MonitorFault → Work
+monitor_cancel_work id (Ok monitors) = Watches id (object no_members) monitors
+monitor_cancel_work id (Err fault) = refused id (monitor_fault_text fault)
+
+-- the params of "monitor_cancel": the name of a monitor, and no more (RFC 7047, 4.1.7)
+abbrev pub monitor_cancel_call : State → ℕ → Data → Items → Work
+monitor_cancel_call s session id no_items = refused id (codes "syntax error")
+monitor_cancel_call s session id (item name no_items) = monitor_cancel_work id (canceled (monitors_of session s) name)
+monitor_cancel_call s session id (item name (item d items)) = refused id (codes "syntax error")
+
+-- what a call asks for, method by method; no other is known (RFC 7047, 4.1.1 to 4.1.3, 4.1.5, 4.1.7, 4.1.8, 4.1.11; the last is our
+-- own)
 abbrev pub call_of : State → ℕ → Data → List ℕ → Items → Work
 call_of s session id method params =
     if bytes_eq method (codes "list_dbs") then answered id (database_names s.schema.name)
     else (if bytes_eq method (codes "get_schema") then schema_call s id params
     else (if bytes_eq method (codes "transact") then transact_call s session id params
     else (if bytes_eq method (codes "echo") then answered id (array params)
-    else refused id (codes "unknown method"))))
+    else (if bytes_eq method (codes "lock") then lock_call s session id Lock params
+    else (if bytes_eq method (codes "steal") then lock_call s session id Steal params
+    else (if bytes_eq method (codes "unlock") then lock_call s session id Unlock params
+    else (if bytes_eq method (codes "monitor") then monitor_call s session id params
+    else (if bytes_eq method (codes "monitor_cancel") then monitor_cancel_call s session id params
+    else refused id (codes "unknown method")))))))))
 
 -- the params of "cancel": the id of a transaction of the session that waits; others do nothing (RFC 7047, 4.1.4)
 abbrev pub cancel_note : State → ℕ → Items → Work
@@ -237,9 +312,13 @@ work_of s session (Bad id kind) = refused id (bad_text kind)
 abbrev pub to_session : ℕ → List Data → List Sent
 to_session session trees = map (λ tree. record { session = session; tree = tree }) trees
 
--- the session is closed, and is sent nothing
+-- notifications, each to whom it is for
+abbrev pub told : List (ℕ × Data) → List Sent
+told notes = map (λ note. record { session = note.0; tree = note.1 }) notes
+
+-- The session is closed, and is sent nothing. Those that become the owners of its locks are told so (RFC 7047, 4.1.9).
 abbrev pub closed : State → ℕ → Stepped
-closed s session = record { state = without_session session s; sent = [] }
+closed s session = record { state = without_session session s; sent = told (told_of_leaving session s.queues) }
 
 -- These are sent, and the store is not asked: so it answers nothing.
 abbrev pub sends_at_once : State → List Sent → Option Outcome → Option Stepped
@@ -256,10 +335,15 @@ results_of id results = reply_tree id (array results) ∷ []
 abbrev pub results_to : ℕ → Data → Items → List Sent
 results_to session id results = to_session session (results_of id results)
 
--- What comes of the store's answer: where it keeps the change, the database is the new one; where it has no room, nothing is
--- changed; where it fails, the database stays and is sealed.
+-- what the monitors are told of a change of the database, session by session in order of opening, and monitor by monitor in order of
+-- creation (RFC 7047, 4.1.6; the order is our own)
+abbrev pub updates_sent : Database → Database → List Session → List Sent
+updates_sent before after sessions = flat_map (λ n. to_session n.serial (map update_note (all_updates before after n.monitors))) sessions
+
+-- What comes of the store's answer: where it keeps the change, the database is the new one, and the monitors are told of it before
+-- the reply; where it has no room, nothing is changed; where it fails, the database stays and is sealed.
 abbrev pub commits : State → ℕ → Data → Items → Database → Option Outcome → Option Stepped
-commits s session id results database (Some Committed) = Some (record { state = record s { database = database }; sent = results_to session id results })
+commits s session id results database (Some Committed) = Some (record { state = record s { database = database }; sent = updates_sent s.database database s.sessions ++ results_to session id results })
 commits s session id results database (Some Exhausted) = Some (record { state = s; sent = results_to session id (exhausted_results results) })
 commits s session id results database (Some Failed) = Some (record { state = record s { sealed = Some database }; sent = results_to session id (failed_results results) })
 commits s session id results database outcome = None
@@ -322,10 +406,11 @@ ends (Some tried) = when (none_listed tried.others) (Some tried.stepped)
 
 -- ---- settling: the transactions that wait are tried again
 
--- The transaction is tried again, at the age that it has by now. Where memory was refused, its session is closed in its place.
+-- The transaction is tried again, at the age that it has by now, with the locks that its session owns by now. Where memory was
+-- refused, its session is closed in its place.
 abbrev pub tries_again : State → Outstanding → Option Outcome → Option Stepped
 tries_again s o (Some NoMemory) = Some (closed s o.session)
-tries_again s o outcome = attempt s o (transaction s.schema s.database o.draws (s.moment - o.arrival) o.operations) outcome
+tries_again s o outcome = attempt s o (transaction s.schema s.database (owns s.queues o.session) o.draws (s.moment - o.arrival) o.operations) outcome
 
 -- the store kept the changes: so the database is another
 abbrev pub is_kept : Option Outcome → Bool
@@ -398,12 +483,23 @@ abbrev pub draws_for : Work → ℕ
 draws_for (Answers trees) = 0
 draws_for (Transact id operations) = draws_wanted operations
 draws_for (Cancels id) = 0
+draws_for (Locks call id name) = 0
+draws_for (Watches id result monitors) = 0
+
+-- the queues of locks are changed: the session is answered, and another may be told of it (RFC 7047, 4.1.8)
+abbrev pub locks : State → ℕ → LockCall → Data → List ℕ → Stepped
+locks s session call id name = record {
+  state = record s { queues = after_call call name session s.queues };
+  sent = to_session session (reply_tree id (call_result call name s.queues) ∷ []) ++ told (option_to_list (told_of_call call name session s.queues));
+}
 
 -- the work, done with the identifiers that were drawn for it, and with the store's answer where it was asked
 abbrev pub does : State → ℕ → List Uuid → Option Outcome → Work → Option Stepped
 does s session draws outcome (Answers trees) = sends_at_once s (to_session session trees) outcome
-does s session draws outcome (Transact id operations) = attempt s (arrived s session id draws operations) (transaction s.schema s.database draws 0 operations) outcome
+does s session draws outcome (Transact id operations) = attempt s (arrived s session id draws operations) (transaction s.schema s.database (owns s.queues session) draws 0 operations) outcome
 does s session draws outcome (Cancels id) = sends_at_once (without_request session id s) (to_session session (failure_tree id (codes "canceled") ∷ [])) outcome
+does s session draws outcome (Locks call id name) = sends_at_once (locks s session call id name).state (locks s session call id name).sent outcome
+does s session draws outcome (Watches id result monitors) = sends_at_once (with_monitors session monitors s) (to_session session (reply_tree id result ∷ [])) outcome
 
 -- The work, with the identifiers that were drawn for it and what is listed of it. Where memory was refused, at most as many
 -- were drawn as are wanted, and the session is closed; else just so many were drawn, and the work is done.

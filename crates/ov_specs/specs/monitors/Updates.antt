@@ -1,13 +1,13 @@
 -- What a monitor is told: the rows at first, and then what changes in them (RFC 7047, 4.1.5 and 4.1.6). What names no source is our
 -- own.
-use Rattle.std.specs.Prelude.{ℕ, not, List, [], ◌∷◌, ◌++◌, filter, Bool, Option, Some, None, option_map, option_and_then, codes}
-use Rattle.std.specs.List.{filter_map}
+use Rattle.std.specs.Prelude.{ℕ, not, List, [], ◌∷◌, ◌++◌, filter, Bool, Option, Some, None, option_map, option_and_then, unwrap_or, codes}
+use Rattle.std.specs.List.{find, filter_map}
 use Rattle.std.specs.FinMap.{get, keys, entries, from_entries}
 use Rattle.std.specs.Str.{bytes_eq}
-use Rattle.serde_json.specs.Data.{Data, object, Items, no_items, item, no_members, member}
+use Rattle.serde_json.specs.Data.{Data, null, object, Items, no_items, item, no_members, member}
 use Rattle.uuid.specs.Text.{hyphenated_text, lower}
 use Rattle.ov_specs.specs.integrity.Limits.{is_same_value, rows_of}
-use Rattle.ov_specs.specs.monitors.Monitors.{Monitor}
+use Rattle.ov_specs.specs.monitors.Monitors.{Monitor, is_named}
 use Rattle.ov_specs.specs.monitors.Requests.{MonitoredTable}
 use Rattle.ov_specs.specs.operations.Conditions.{entry_value}
 use Rattle.ov_specs.specs.operations.Select.{projection, written_row}
@@ -87,6 +87,10 @@ table_updates rows m = filter_map (λ t. under_table t.table (rows t)) m.tables
 -- what the monitor is told at first: the result of "monitor" (RFC 7047, 4.1.5)
 abbrev pub initial : Database → Monitor → Data
 initial database m = object_of (table_updates (initial_rows database) m)
+
+-- what the monitor of this name is told at first; there is one
+abbrev pub initial_of : Database → Data → List Monitor → Data
+initial_of database id monitors = unwrap_or (option_map (initial database) (find (is_named id) monitors)) null
 
 -- nothing is sent where nothing is told of
 abbrev pub unless_nothing : List (List ℕ × Data) → Option Data

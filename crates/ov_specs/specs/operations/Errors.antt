@@ -16,6 +16,7 @@ pub data OpError : Type 0 where
   RangeError : OpError
   TimedOut : OpError
   Aborted : OpError
+  NotOwner : OpError
   ReferentialIntegrity : OpError
   ResourcesExhausted : OpError
   InputOutput : OpError
@@ -33,6 +34,7 @@ error_text DomainError = codes "domain error"
 error_text RangeError = codes "range error"
 error_text TimedOut = codes "timed out"
 error_text Aborted = codes "aborted"
+error_text NotOwner = codes "not owner"
 error_text ReferentialIntegrity = codes "referential integrity violation"
 error_text ResourcesExhausted = codes "resources exhausted"
 error_text InputOutput = codes "I/O error"

@@ -1,5 +1,5 @@
 -- What an operation is done in, and what it comes to (RFC 7047, 4.1.3 and 5.2).
-use Rattle.std.specs.Prelude.{ℕ, List, Option, Some, None, codes, Result, Ok, Err}
+use Rattle.std.specs.Prelude.{ℕ, List, Bool, Option, Some, None, codes, Result, Ok, Err}
 use Rattle.std.specs.FinMap.{get}
 use Rattle.serde_json.specs.Data.{Data, object, Items, no_members}
 use Rattle.ov_specs.specs.operations.Errors.{OpError, SyntaxError, UnknownTable}
@@ -9,10 +9,16 @@ use Rattle.ov_specs.specs.rows.Database.{Database}
 use Rattle.ov_specs.specs.schema.SchemaTypes.{Table, Schema}
 use Rattle.ov_specs.specs.values.Uuid.{Uuid, Names}
 
--- The transaction that an operation is one of: on which database, which identifiers were drawn for it, and how old it is.
+-- of each lock, by its name, whether the session that asks owns it (RFC 7047, 4.1.8)
+abbrev pub Owns : Type 0
+Owns = List ℕ → Bool
+
+-- The transaction that an operation is one of: on which database, what its session owns, which identifiers were drawn for it, and
+-- how old it is.
 pub record OpContext : Type 0 where
   pub schema : Schema
   pub before : Database  -- as it was before the transaction
+  pub owns : Owns  -- as it is tried
   pub version : Uuid  -- of the rows that the transaction changes
   pub ids : List Uuid  -- of the rows that it inserts, in order
   pub operations : Items  -- all of them

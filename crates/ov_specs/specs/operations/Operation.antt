@@ -3,6 +3,7 @@ use Rattle.std.specs.Prelude.{ℕ, List, if◌then◌else◌, codes}
 use Rattle.std.specs.Str.{bytes_eq}
 use Rattle.serde_json.specs.Data.{Data}
 use Rattle.ov_specs.specs.operations.Abort.{abort_outcome}
+use Rattle.ov_specs.specs.operations.Assert.{assert_outcome}
 use Rattle.ov_specs.specs.operations.Comment.{comment_outcome}
 use Rattle.ov_specs.specs.operations.Commit.{commit_outcome}
 use Rattle.ov_specs.specs.operations.Delete.{delete_outcome}
@@ -16,15 +17,16 @@ use Rattle.ov_specs.specs.operations.Update.{update_outcome}
 use Rattle.ov_specs.specs.operations.Wait.{wait_outcome}
 use Rattle.ov_specs.specs.rows.Database.{Database}
 
--- An operation of this name that touches no row, and steers its transaction (RFC 7047, 5.2.6 to 5.2.9). "assert" (5.2.10) is still
--- unknown, as every other text is.
+-- An operation of this name that touches no row, and steers its transaction; every other name is unknown (RFC 7047, 5.2.6 to 5.2.10;
+-- the last is our own).
 abbrev pub control_outcome : OpContext → Database → Data → List ℕ → OpOutcome
 control_outcome c rows d op =
     if bytes_eq op (codes "wait") then wait_outcome c rows d
     else (if bytes_eq op (codes "commit") then commit_outcome rows d
     else (if bytes_eq op (codes "abort") then abort_outcome
     else (if bytes_eq op (codes "comment") then comment_outcome rows d
-    else Fault UnknownOperation)))
+    else (if bytes_eq op (codes "assert") then assert_outcome c rows d
+    else Fault UnknownOperation))))
 
 -- What the operation at this place of the transaction comes to, on the rows that those before it left. It is an object, and "op" is
 -- a text (a syntax error).

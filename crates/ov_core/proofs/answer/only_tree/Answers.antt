@@ -1,19 +1,19 @@
-use Rattle.std.proofs.Common.{◌≡◌, ◌≢◌, ◌∙◌, ℕ, List, [], ◌∷◌, get_or, length, refl, ap, sym, subst, arith}
+use Rattle.std.proofs.Common.{◌≡◌, ◌≢◌, ◌∙◌, List, [], ◌∷◌, get_or, length, refl, ap, sym, subst, arith, false}
 use Rattle.serde_json.specs.Data.{Items, no_items, item, array}
 use Rattle.serde_json.specs.View.{view, items_view}
 use Rattle.serde_json.specs.declared.value.Value.{Value}
 use Rattle.serde_json.proofs.Views.{view-Array}
-use Rattle.ov_specs.specs.machine.Machine.{State, Answers, cancel_note}
+use Rattle.ov_core.specs.Params.{is_one}
 use Rattle.ov_core.proofs.answer.only_tree.Goals as goal
 
 same_items : (a b : Items) → array a ≡ array b → a ≡ b
 same_items a b h = cc
 
 -- none, or more than one
-not_one : (items : List Value) (trees : Items) → items_view items ≡ trees → length items ≢ 1 → (s : State) (n : ℕ) → cancel_note s n trees ≡ Answers []
-not_one [] trees is other s n = subst (λ (t : Items). cancel_note s n t ≡ Answers []) is refl
-not_one (v ∷ []) trees is other s n = absurd (other refl)
-not_one (v ∷ w ∷ items) trees is other s n = subst (λ (t : Items). cancel_note s n t ≡ Answers []) is refl
+not_one : (items : List Value) (trees : Items) → items_view items ≡ trees → length items ≢ 1 → is_one trees ≡ false
+not_one [] trees is other = subst (λ (t : Items). is_one t ≡ false) is refl
+not_one (v ∷ []) trees is other = absurd (other refl)
+not_one (v ∷ w ∷ items) trees is other = subst (λ (t : Items). is_one t ≡ false) is refl
 
 -- one
 the_one : (items : List Value) (trees : Items) (v : Value) → items_view items ≡ trees → length items ≡ 1 → v ≡ get_or items 0 v → trees ≡ item (view v) no_items

@@ -3,5 +3,5 @@ use Rattle.serde_json.specs.Data.{array}
 use Rattle.ov_specs.specs.wire.Frame.{reply_tree}
 use Rattle.ov_core.proofs.attempt.answer.Goals as goal
 
-pub returns-in-Ok : goal.returns-in-Ok
-returns-in-Ok c = c.send.ensures (reply_tree c.args.id.now (array c.args.results) ∷ []) (ap (λ (bytes : List ℕ). bytes ∷ []) (sym c.in-Ok.ensures))
+pub returns-in-Ok-clause-posts : goal.returns-in-Ok-clause-posts
+returns-in-Ok-clause-posts c = c.send.ensures.posts (reply_tree c.args.id.now (array c.args.results) ∷ []) (ap (λ (bytes : List ℕ). bytes ∷ []) (sym c.in-Ok.ensures))

@@ -1,40 +1,54 @@
-use Rattle.std.proofs.Common.{◌≡◌, ◌∙◌, ap}
-use Rattle.serde_json.specs.Data.{array}
-use Rattle.ov_specs.specs.operations.Transaction.{transaction}
-use Rattle.ov_specs.specs.wire.Frame.{frame, reply_tree}
-use Rattle.ov_core.specs.Preparing.{results_after, frame_after}
-use Rattle.ov_core.specs.declared.replying.Replying.{Replying}
-use Rattle.ov_core.proofs.Answered.{sends_results}
-use Rattle.ov_core.proofs.Prepared.{prepares_for, frames_are}
-use Rattle.ov_core.proofs.Workings.{answers, stored, asks_stored}
+use Rattle.std.proofs.Common.{ap, sym, subst, ◌∙◌}
+use Rattle.ov_outbox.specs.Frames.{WaitingFrames}
+use Rattle.ov_outbox.specs.Outbox.{Outbox}
+use Rattle.ov_outbox.specs.Waits.{HasRoom}
+use Rattle.ov_specs.specs.locks.Queues.{Queues, owns}
+use Rattle.ov_specs.specs.operations.Transaction.{TransactionOutcome, transaction}
+use Rattle.ov_core.specs.States.{sessions_of}
+use Rattle.ov_core.specs.declared.replying.Audience.{Audience}
+use Rattle.ov_core.proofs.Prepared.{tried_room, tried_keeps, trial_answered, trial_stored, trial_blocked}
 use Rattle.ov_core.proofs.attempt.try_once.Goals as goal
+
+pub send_prepared-queues-requires : goal.send_prepared-queues-requires
+send_prepared-queues-requires g c =
+    let to : Queues → TransactionOutcome = λ q. transaction c.args.db.now.schema c.args.db.now.committed (owns q c.args.asked.session) c.args.asked.txn.now.draws c.args.asked.age c.args.asked.txn.now.operations in
+    record {
+      room = tried_room (to c.into_parts-queues.result.1.0) c.args.db.now c.new-replying.result c.new-replying.ensures.prepared c.attempt-tried.result c.attempt-tried.new.db c.attempt-tried.new.ready c.attempt-tried.ensures.tried;
+    }
+
+pub from_parts-requires-clause-room : goal.from_parts-requires-clause-room
+from_parts-requires-clause-room g c =
+    let to : Queues → TransactionOutcome = λ q. transaction c.args.db.now.schema c.args.db.now.committed (owns q c.args.asked.session) c.args.asked.txn.now.draws c.args.asked.age c.args.asked.txn.now.operations in
+    tried_keeps (to c.into_parts-queues.result.1.0) c.args.db.now c.new-replying.result c.new-replying.ensures.prepared c.attempt-tried.result c.attempt-tried.new.db c.attempt-tried.new.ready c.attempt-tried.ensures.tried
+    c.into_parts-queues.result.1.0 c.send_prepared-queues.result (subst (λ (w : WaitingFrames). HasRoom w c.into_parts-queues.result.1.0) (sym c.new-replying.ensures.queues) c.into_parts-queues.ensures.room) c.send_prepared-queues.ensures.places
 
 pub returns-in-Answer-clause-tried : goal.returns-in-Answer-clause-tried
 returns-in-Answer-clause-tried g c =
-    let tried = c.in-Answer.ensures.tried in
-    let same : c.attempt-tried.new.ready.outbox ≡ c.args.outbox.now = ap (λ (r : Replying). r.outbox) tried.1 ∙ c.new-replying.ensures.outbox ∙ c.replace-waiting.ensures.value in
-    rw tried.0 (answers c.args.session c.args.id.now (transaction c.args.db.now.schema c.args.db.now.committed c.args.txn.now.draws c.args.age c.args.txn.now.operations) c.in-Answer.results c.args.db.now c.answer.result c.args.outbox.now c.answer.new.outbox tried.2 (rw same at c.answer.ensures))
-
-pub returns-in-Blocked-clause-tried : goal.returns-in-Blocked-clause-tried
-returns-in-Blocked-clause-tried g c =
-    let tried = c.in-Blocked.ensures.tried in
-    let same : c.attempt-tried.new.ready.outbox ≡ c.args.outbox.now = ap (λ (r : Replying). r.outbox) tried.1 ∙ c.new-replying.ensures.outbox ∙ c.replace-waiting.ensures.value in
-    (tried.2, tried.0, same)
+    let to : Queues → TransactionOutcome = λ q. transaction c.args.db.now.schema c.args.db.now.committed (owns q c.args.asked.session) c.args.asked.txn.now.draws c.args.asked.age c.args.asked.txn.now.operations in
+    trial_answered (sessions_of c.args.audience.watchers.now c.args.audience.sessions.now.open_sessions) c.args.asked.session c.args.asked.id.now to c.args.outbox.now.queues c.into_parts-queues.result.1.0
+    c.args.db.now c.attempt-tried.new.db c.new-replying.result c.attempt-tried.new.ready c.attempt-tried.result c.args.outbox.now.frames c.send_prepared-queues.result c.from_parts.result.frames
+    (c.into_parts-queues.ensures.queues ∙ ap (λ (o : Outbox). o.queues) c.replace.ensures.value)
+    (c.new-replying.ensures.queues ∙ (c.into_parts-queues.ensures.frames ∙ ap (λ (o : Outbox). o.frames) c.replace.ensures.value))
+    (ap (λ (o : Outbox). o.frames) c.from_parts.ensures) c.attempt-tried.ensures.tried c.send_prepared-queues.ensures.sent
+    c.in-Answer.results c.answer.result c.answer.new.outbox.frames c.in-Answer.is c.answer.ensures.posts
 
 pub returns-in-Stored-clause-tried : goal.returns-in-Stored-clause-tried
 returns-in-Stored-clause-tried g c =
-    let tried = c.in-Stored.ensures.tried in
-    let results = tried.0.results in
-    let kept = frame (reply_tree c.args.id.now (array results)) in
-    let waited = c.new-replying.ensures.outbox ∙ c.replace-waiting.ensures.value in
-    let prepares = prepares_for c.args.session c.args.id.now results c.args.outbox.now c.new-replying.result c.attempt-tried.new.ready c.new-replying.ensures.session c.new-replying.ensures.id waited tried.0.made in
-    let ready = c.attempt-tried.new.ready in
-    rw c.after_store.ensures.outcome (stored c.args.session c.args.id.now (transaction c.args.db.now.schema c.args.db.now.committed c.args.txn.now.draws c.args.age c.args.txn.now.operations) results c.args.db.now c.attempt-tried.new.db tried.0.delta c.args.outbox.now c.after_store.new.outbox
-    tried.0.completes tried.0.changes tried.0.unsealed c.in-Stored.answer tried.1
-    (sends_results c.args.session c.args.id.now (results_after c.in-Stored.answer results) (frame_after c.in-Stored.answer kept ready.exhausted ready.failed) c.args.outbox.now c.after_store.new.outbox
-    (frames_are c.args.session c.args.id.now results c.args.outbox.now ready c.in-Stored.answer prepares) (c.after_store.ensures.posts c.args.outbox.now kept prepares.kept)))
+    let to : Queues → TransactionOutcome = λ q. transaction c.args.db.now.schema c.args.db.now.committed (owns q c.args.asked.session) c.args.asked.txn.now.draws c.args.asked.age c.args.asked.txn.now.operations in
+    trial_stored (sessions_of c.args.audience.watchers.now c.args.audience.sessions.now.open_sessions) c.args.asked.session c.args.asked.id.now to c.args.outbox.now.queues c.into_parts-queues.result.1.0
+    c.args.db.now c.attempt-tried.new.db c.new-replying.result c.attempt-tried.new.ready c.attempt-tried.result c.args.outbox.now.frames c.send_prepared-queues.result c.from_parts.result.frames
+    (c.into_parts-queues.ensures.queues ∙ ap (λ (o : Outbox). o.queues) c.replace.ensures.value)
+    (c.new-replying.ensures.queues ∙ (c.into_parts-queues.ensures.frames ∙ ap (λ (o : Outbox). o.frames) c.replace.ensures.value))
+    (ap (λ (o : Outbox). o.frames) c.from_parts.ensures) c.attempt-tried.ensures.tried c.send_prepared-queues.ensures.sent
+    c.in-Stored.answer c.outcome_of.result c.in-Stored.is c.outcome_of.ensures c.new-replying.ensures.prepared c.new-replying.ensures.session c.new-replying.ensures.id
+    (ap (λ (a : Audience). sessions_of a.watchers.now a.sessions.now.open_sessions) c.new-replying.ensures.audience)
 
-pub returns-in-Stored-clause-asks : goal.returns-in-Stored-clause-asks
-returns-in-Stored-clause-asks g c =
-    let tried = c.in-Stored.ensures.tried in
-    rw c.after_store.ensures.outcome (asks_stored g.K.Keeper.failed tried.0.delta c.args.db.now c.attempt-tried.new.db c.in-Stored.answer c.in-Stored.ensures.cause tried.1)
+pub returns-in-Blocked-clause-tried : goal.returns-in-Blocked-clause-tried
+returns-in-Blocked-clause-tried g c =
+    let to : Queues → TransactionOutcome = λ q. transaction c.args.db.now.schema c.args.db.now.committed (owns q c.args.asked.session) c.args.asked.txn.now.draws c.args.asked.age c.args.asked.txn.now.operations in
+    trial_blocked (sessions_of c.args.audience.watchers.now c.args.audience.sessions.now.open_sessions) c.args.asked.session c.args.asked.id.now to c.args.outbox.now.queues c.into_parts-queues.result.1.0
+    c.args.db.now c.attempt-tried.new.db c.new-replying.result c.attempt-tried.new.ready c.attempt-tried.result c.args.outbox.now.frames c.send_prepared-queues.result c.from_parts.result.frames
+    (c.into_parts-queues.ensures.queues ∙ ap (λ (o : Outbox). o.queues) c.replace.ensures.value)
+    (c.new-replying.ensures.queues ∙ (c.into_parts-queues.ensures.frames ∙ ap (λ (o : Outbox). o.frames) c.replace.ensures.value))
+    (ap (λ (o : Outbox). o.frames) c.from_parts.ensures) c.attempt-tried.ensures.tried c.send_prepared-queues.ensures.sent
+    c.in-Blocked.timeout c.in-Blocked.is

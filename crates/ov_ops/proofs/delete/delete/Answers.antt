@@ -20,17 +20,17 @@ abbrev from_table : OpContext → Database → Data → List ℕ → Table → O
 from_table t rows d name table = on_conditions t table d (from_conditions t rows d name table)
 
 pub returns-in_err-name-clause-done : goal.returns-in_err-name-clause-done
-returns-in_err-name-clause-done c =
-    let t = context_of c.args.ctx.now c.args.stage.now.before in
+returns-in_err-name-clause-done g c =
+    let t = context_of g.O.Owns.owned c.args.ctx.now c.args.stage.now.before in
     let rows = c.args.stage.now.now in
     let d = view c.args.operation.now in
     let p = err_from_is_err_and c.from_residual.result c.from_residual.ensures.1 in
     rw (p.1, p.2) (stops _ _ c.in_err-name.field-0.0 rows refl (c.in_err-name.ensures c.args.stage.now.before (from_table t rows d)))
 
 pub returns-in_err-conditions-clause-done : goal.returns-in_err-conditions-clause-done
-returns-in_err-conditions-clause-done c =
+returns-in_err-conditions-clause-done g c =
     let before = c.args.stage.now.before in
-    let t = context_of c.args.ctx.now before in
+    let t = context_of g.O.Owns.owned c.args.ctx.now before in
     let rows = c.args.stage.now.now in
     let d = view c.args.operation.now in
     let p = err_from_is_err_and c.from_residual-in_err-conditions.result c.from_residual-in_err-conditions.ensures.1 in

@@ -32,18 +32,18 @@ from_table t place rows d name table =
     else unless_fault (name_fault t place (find.get (codes "uuid-name") d)) (from_row t place rows d name table)
 
 pub returns-in_err-name-clause-done : goal.returns-in_err-name-clause-done
-returns-in_err-name-clause-done c =
+returns-in_err-name-clause-done g c =
     let before = c.args.stage.now.before in
-    let t = context_of c.args.ctx.now before in
+    let t = context_of g.O.Owns.owned c.args.ctx.now before in
     let rows = c.args.stage.now.now in
     let d = view c.args.operation.now in
     let p = err_from_is_err_and c.from_residual.result c.from_residual.ensures.1 in
     rw (p.1, p.2) (stops _ _ c.in_err-name.field-0.0 rows refl (c.in_err-name.ensures before (from_table t c.args.place rows d)))
 
 pub returns-in-Some-clause-done : goal.returns-in-Some-clause-done
-returns-in-Some-clause-done c =
+returns-in-Some-clause-done g c =
     let before = c.args.stage.now.before in
-    let t = context_of c.args.ctx.now before in
+    let t = context_of g.O.Owns.owned c.args.ctx.now before in
     let place = c.args.place in
     let rows = c.args.stage.now.now in
     let d = view c.args.operation.now in
@@ -57,9 +57,9 @@ returns-in-Some-clause-done c =
     ∙ ap (λ (o : Option OpError). unless_fault o (from_row t place rows d name table)) faulty
 
 pub returns-in_err-columns-clause-done : goal.returns-in_err-columns-clause-done
-returns-in_err-columns-clause-done c =
+returns-in_err-columns-clause-done g c =
     let before = c.args.stage.now.before in
-    let t = context_of c.args.ctx.now before in
+    let t = context_of g.O.Owns.owned c.args.ctx.now before in
     let place = c.args.place in
     let rows = c.args.stage.now.now in
     let d = view c.args.operation.now in
@@ -78,9 +78,9 @@ returns-in_err-columns-clause-done c =
     rw (p.1, p.2) (stops _ _ c.in_err-columns.field-0.0 rows e (refuses (new_row (names_in t) table members) (λ (x : Columns). x) (from_columns t place rows name) c.in_err-columns.field-0.0 c.in_err-columns.ensures))
 
 pub returns-clause-done : goal.returns-clause-done
-returns-clause-done c =
+returns-clause-done g c =
     let before = c.args.stage.now.before in
-    let t = context_of c.args.ctx.now before in
+    let t = context_of g.O.Owns.owned c.args.ctx.now before in
     let place = c.args.place in
     let rows = c.args.stage.now.now in
     let d = view c.args.operation.now in

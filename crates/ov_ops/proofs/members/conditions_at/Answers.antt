@@ -14,7 +14,7 @@ use Rattle.std.proofs.Common.{codes, Vec, Global}
 use Rattle.ov_conds.specs.declared.condition.Condition.{Condition}
 
 pub returns : goal.returns
-returns c before next =
+returns g c before next =
     let table = c.args.table.now in
     let names = names_of c.args.ctx.now.inserts.now.ids c.args.ctx.now.inserts.now.operations in
     let items = items_view c.as_slice.result.now in

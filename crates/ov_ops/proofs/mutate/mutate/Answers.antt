@@ -30,17 +30,17 @@ abbrev from_table : OpContext → Database → Data → List ℕ → Table → O
 from_table t rows d name table = on_conditions t table d (from_conditions t rows d name table)
 
 pub returns-in_err-name-clause-done : goal.returns-in_err-name-clause-done
-returns-in_err-name-clause-done c =
-    let t = context_of c.args.ctx.now c.args.stage.now.before in
+returns-in_err-name-clause-done g c =
+    let t = context_of g.O.Owns.owned c.args.ctx.now c.args.stage.now.before in
     let rows = c.args.stage.now.now in
     let d = view c.args.operation.now in
     let p = err_from_is_err_and c.from_residual.result c.from_residual.ensures.1 in
     rw (p.1, p.2) (stops _ _ c.in_err-name.field-0.0 rows refl (c.in_err-name.ensures c.args.stage.now.before (from_table t rows d)))
 
 pub returns-in_err-conditions-clause-done : goal.returns-in_err-conditions-clause-done
-returns-in_err-conditions-clause-done c =
+returns-in_err-conditions-clause-done g c =
     let before = c.args.stage.now.before in
-    let t = context_of c.args.ctx.now before in
+    let t = context_of g.O.Owns.owned c.args.ctx.now before in
     let rows = c.args.stage.now.now in
     let d = view c.args.operation.now in
     let p = err_from_is_err_and c.from_residual-in_err-conditions.result c.from_residual-in_err-conditions.ensures.1 in
@@ -54,9 +54,9 @@ abbrev from_rows : OpContext → Database → List ℕ → List Condition → Li
 from_rows t rows name conditions changed = Done (count_result (length (matching rows name conditions))) (put_rows t changed rows)
 
 pub returns-in_err-mutations-clause-done : goal.returns-in_err-mutations-clause-done
-returns-in_err-mutations-clause-done c =
+returns-in_err-mutations-clause-done g c =
     let before = c.args.stage.now.before in
-    let t = context_of c.args.ctx.now before in
+    let t = context_of g.O.Owns.owned c.args.ctx.now before in
     let rows = c.args.stage.now.now in
     let d = view c.args.operation.now in
     let name = c.in_ok-name.name.now in
@@ -71,9 +71,9 @@ returns-in_err-mutations-clause-done c =
     rw (p.1, p.2) (stops _ _ c.in_err-mutations.field-0.0 rows e (refuses (mutations_read (names_in t) table items) (λ (v : Vec Mutation Global). v.items) next c.in_err-mutations.field-0.0 c.in_err-mutations.ensures))
 
 pub returns-in_err-changed-clause-done : goal.returns-in_err-changed-clause-done
-returns-in_err-changed-clause-done c =
+returns-in_err-changed-clause-done g c =
     let before = c.args.stage.now.before in
-    let t = context_of c.args.ctx.now before in
+    let t = context_of g.O.Owns.owned c.args.ctx.now before in
     let rows = c.args.stage.now.now in
     let d = view c.args.operation.now in
     let name = c.in_ok-name.name.now in
@@ -90,9 +90,9 @@ returns-in_err-changed-clause-done c =
     rw (p.1, p.2) (stops _ _ c.in_err-changed.field-0.0 rows e (refuses (mutated_rows c.as_slice-3.result.now (matching rows name c.as_slice-2.result.now)) (λ (v : Vec (LineKey × Columns) Global). v.items) (from_rows t rows name conditions) c.in_err-changed.field-0.0 c.in_err-changed.ensures))
 
 pub returns-clause-done : goal.returns-clause-done
-returns-clause-done c =
+returns-clause-done g c =
     let before = c.args.stage.now.before in
-    let t = context_of c.args.ctx.now before in
+    let t = context_of g.O.Owns.owned c.args.ctx.now before in
     let rows = c.args.stage.now.now in
     let d = view c.args.operation.now in
     let name = c.in_ok-name.name.now in

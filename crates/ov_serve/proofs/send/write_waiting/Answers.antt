@@ -2,7 +2,7 @@ use Rattle.std.proofs.Common.{true, false, [], ◌∷◌, ◌++◌, append-nil, 
 use Rattle.std.proofs.lemmas.Bool.{false≢true}
 use Rattle.ov_core.specs.Following.{CoreState}
 use Rattle.ov_serve.proofs.Goings.{goes_nowhere, extends-more, writes-more, sends-last}
-use Rattle.ov_serve.proofs.Tellings.{given-more, given-same}
+use Rattle.ov_ends.proofs.Tellings.{given-more, given-same}
 use Rattle.ov_serve.proofs.send.write_waiting.Goals as goal
 
 pub loop-frame-init : goal.loop-frame-init

@@ -1,8 +1,8 @@
 use Rattle.std.proofs.Common.{◌≡◌, ℕ, List, [], ◌++◌, length}
 use Rattle.ov_specs.specs.machine.History.{joined}
-use Rattle.ov_core.specs.Outbox.{waiting_for}
+use Rattle.ov_outbox.specs.Frames.{waiting_for}
 use Rattle.ov_serve.specs.Serving.{ExtendsHanding}
-use Rattle.ov_serve.specs.Ends.{GivesWritten}
+use Rattle.ov_ends.specs.Ends.{GivesWritten}
 use Rattle.ov_serve.proofs.send.write_waiting.Given as goal
 
 abbrev pub invariant-loop-frame : goal.invariant-loop-frame

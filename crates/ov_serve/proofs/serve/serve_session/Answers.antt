@@ -4,7 +4,7 @@ use Rattle.ov_core.specs.declared.event.Cause.TheVariants.{InputEnded, ReadFault
 use Rattle.ov_core.specs.Entries.{entry_view}
 use Rattle.ov_serve.specs.Serving.{io_state, bytes_of}
 use Rattle.ov_serve.proofs.Servings.{then_sent, then_sent_on, then_fed, by_reader, by_writer, by_stream}
-use Rattle.ov_serve.proofs.Tellings.{input-more, given-more}
+use Rattle.ov_ends.proofs.Tellings.{input-more, given-more}
 use Rattle.ov_serve.proofs.serve.serve_session.Goals as goal
 
 pub returns-then-not-write_waiting-clause-served :

@@ -1,7 +1,7 @@
 use Rattle.std.proofs.Common.{◌≡◌}
 use Rattle.ov_core.specs.Following.{CoreState}
 use Rattle.ov_serve.specs.Serving.{IoState, io_state}
-use Rattle.ov_serve.specs.Ends.{KeepsInput, GivesWritten}
+use Rattle.ov_ends.specs.Ends.{KeepsInput, GivesWritten}
 use Rattle.ov_serve.specs.Progress.{ServedAndFed}
 use Rattle.ov_serve.proofs.serve.serve_session.Given as goal
 

@@ -23,7 +23,7 @@ use Rattle.ov_txn.proofs.Performing.{prefixed_none, items_at, at_does, at_fails,
 use Rattle.ov_txn.proofs.perform.perform_operations.Goals as goal
 
 pub loop-place-init : goal.loop-place-init
-loop-place-init c =
+loop-place-init g c =
     let version = c.in-Some.version.now in
     let draws : c.args.txn.now.draws ≡ version ∷ c.in-Some.ids.now = sym c.draws.ensures ∙ c.in-Some.ensures.cases.0 in
     let drawn = subst (λ (xs : List Uuid). list_all is_uuid xs ≡ true) draws c.requires.drawn in
@@ -35,31 +35,31 @@ loop-place-init c =
     }
 
 pub returns-in-Fault : goal.returns-in-Fault
-returns-in-Fault c =
+returns-in-Fault g c =
     let before = c.args.rows.now in
     let rows = c.loop-place.stage.now in
     let trees = c.as_slice-operations.result.now in
     let i = c.loop-place.place in
     let within : i < length trees = c.loop-place-test.true in
     let tree = c.index-operations-place.result in
-    let context : Database → OpContext = λ db. record { schema = c.args.schema.now; before = db; version = c.in-Some.version.now; ids = c.in_ok-inserts.inserts.ids; operations = c.in_ok-inserts.inserts.operations; age = c.args.age } in
+    let context : Database → OpContext = λ db. record { schema = c.args.schema.now; before = db; owns = g.O.Owns.owned c.args.owns.now; version = c.in-Some.version.now; ids = c.in_ok-inserts.inserts.ids; operations = c.in_ok-inserts.inserts.operations; age = c.args.age } in
     let error = error_view c.in-Fault.error in
-    let all : TransactionOutcome = transaction c.args.schema.now before c.args.txn.now.draws c.args.age c.args.txn.now.operations in
+    let all : TransactionOutcome = transaction c.args.schema.now before (g.O.Owns.owned c.args.owns.now) c.args.txn.now.draws c.args.age c.args.txn.now.operations in
     let fails : outcome_of (context before) i rows (view tree) ≡ Fault error = ap (λ (db : Database). outcome_of (context db) i rows (view tree)) (sym c.loop-place.invariant.before) ∙ c.in-Fault.ensures.done in
     let ends = at_fails (context before) all i rows (items_view (drop i trees)) c.loop-place.results c.loop-place.invariant.going (view tree) error (items_view (drop (i + 1) trees)) (items_at trees i tree within c.index-operations-place.is) fails in
     let given = c.in_ok-results-in-Fault.ensures ∙ ap (λ vs. nulls_after (and_item c.loop-place.results (error_tree error)) (items_view vs)) c.split_at.ensures.back in
     unchanged all before c.in_ok-results-in-Fault.results c.new-in-Fault.result c.new-in-Fault.ensures (ends ∙ ap (λ rs. Completes rs before) (sym given))
 
 pub loop-place-preserved : goal.loop-place-preserved
-loop-place-preserved c =
+loop-place-preserved g c =
     let before = c.args.rows.now in
     let rows = c.loop-place.stage.now in
     let trees = c.as_slice-operations.result.now in
     let i = c.loop-place.place in
     let within : i < length trees = c.loop-place-test.true in
     let tree = c.index-operations-place.result in
-    let context : Database → OpContext = λ db. record { schema = c.args.schema.now; before = db; version = c.in-Some.version.now; ids = c.in_ok-inserts.inserts.ids; operations = c.in_ok-inserts.inserts.operations; age = c.args.age } in
-    let all : TransactionOutcome = transaction c.args.schema.now before c.args.txn.now.draws c.args.age c.args.txn.now.operations in
+    let context : Database → OpContext = λ db. record { schema = c.args.schema.now; before = db; owns = g.O.Owns.owned c.args.owns.now; version = c.in-Some.version.now; ids = c.in_ok-inserts.inserts.ids; operations = c.in_ok-inserts.inserts.operations; age = c.args.age } in
+    let all : TransactionOutcome = transaction c.args.schema.now before (g.O.Owns.owned c.args.owns.now) c.args.txn.now.draws c.args.age c.args.txn.now.operations in
     let does : outcome_of (context before) i rows (view tree) ≡ Done c.in-Done.result c.run_op.new.stage.now =
     ap (λ (db : Database). outcome_of (context db) i rows (view tree)) (sym c.loop-place.invariant.before) ∙ c.in-Done.ensures.done in
     let drawn = and_parts (is_uuid c.in-Some.version.now) (list_all is_uuid c.in_ok-inserts.inserts.ids) c.loop-place.invariant.drawn in
@@ -73,18 +73,18 @@ loop-place-preserved c =
     }
 
 pub end-requires-clause-whole : goal.end-requires-clause-whole
-end-requires-clause-whole c = subst (λ (db : Database). is_whole c.args.schema.now db ≡ true) (sym c.loop-place.invariant.before) c.requires.whole
+end-requires-clause-whole g c = subst (λ (db : Database). is_whole c.args.schema.now db ≡ true) (sym c.loop-place.invariant.before) c.requires.whole
 
 pub end-requires-clause-linked : goal.end-requires-clause-linked
-end-requires-clause-linked c = subst (λ (db : Database). AreLinksOf c.args.schema.now db c.args.links.now) (sym c.loop-place.invariant.before) c.requires.linked
+end-requires-clause-linked g c = subst (λ (db : Database). AreLinksOf c.args.schema.now db c.args.links.now) (sym c.loop-place.invariant.before) c.requires.linked
 
 pub returns : goal.returns
-returns c =
+returns g c =
     let before = c.args.rows.now in
     let trees = c.as_slice-operations.result.now in
     let i = c.loop-place.place in
     let version = c.in-Some.version.now in
-    let context : OpContext = record { schema = c.args.schema.now; before = before; version = version; ids = c.in_ok-inserts.inserts.ids; operations = c.in_ok-inserts.inserts.operations; age = c.args.age } in
-    let all : TransactionOutcome = transaction c.args.schema.now before c.args.txn.now.draws c.args.age c.args.txn.now.operations in
+    let context : OpContext = record { schema = c.args.schema.now; before = before; owns = g.O.Owns.owned c.args.owns.now; version = version; ids = c.in_ok-inserts.inserts.ids; operations = c.in_ok-inserts.inserts.operations; age = c.args.age } in
+    let all : TransactionOutcome = transaction c.args.schema.now before (g.O.Owns.owned c.args.owns.now) c.args.txn.now.draws c.args.age c.args.txn.now.operations in
     let ends = at_end context all i c.loop-place.stage.now (items_view (drop i trees)) c.loop-place.results c.loop-place.invariant.going (ap items_view (drop_all i trees (omega arith))) in
     IfOk-weaker c.end.result _ _ (λ p h. ends_as c.args.schema.now version c.loop-place.stage.before c.loop-place.stage.now before c.loop-place.results all p c.loop-place.invariant.before ends h) c.end.ensures

@@ -9,9 +9,9 @@ use Rattle.ov_txn.specs.Results.{prefixed}
 use Rattle.ov_txn.proofs.perform.perform_operations.Given as goal
 
 abbrev pub invariant-loop-place : goal.invariant-loop-place
-invariant-loop-place l = record {
-  going : spec.transaction l.schema l.rows l.txn.draws l.age l.txn.operations
-      ≡ prefixed l.results (spec.performed (context_of l.ctx l.rows) l.place (items_view (drop l.place l.operations)) l.stage.now);
+invariant-loop-place g l = record {
+  going : spec.transaction l.schema l.rows (g.O.Owns.owned l.owns) l.txn.draws l.age l.txn.operations
+      ≡ prefixed l.results (spec.performed (context_of g.O.Owns.owned l.ctx l.rows) l.place (items_view (drop l.place l.operations)) l.stage.now);
   before : l.stage.before ≡ l.rows;
   drawn : list_all is_uuid (l.ctx.version ∷ l.ctx.inserts.now.ids) ≡ true;
   suits : Suits l.schema l.stage.now;

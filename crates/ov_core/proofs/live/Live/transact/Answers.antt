@@ -1,8 +1,9 @@
 use Rattle.std.proofs.Common.{subst}
 use Rattle.serde_json.specs.Data.{Items}
+use Rattle.ov_specs.specs.locks.Queues.{owns}
 use Rattle.ov_specs.specs.operations.Transaction.{transaction}
 use Rattle.ov_core.specs.Handling.{IsTrial}
-use Rattle.ov_core.specs.States.{state_of}
+use Rattle.ov_core.specs.States.{state_of, sessions_of}
 use Rattle.ov_core.specs.declared.attempt.Trial.TheVariants.{Done}
 use Rattle.ov_specs.specs.machine.Machine as spec
 use Rattle.ov_core.proofs.Workings.{nothing_drawn, trial_works, wait_works, wait_asks}
@@ -14,15 +15,18 @@ returns-in_default-clause-works g c =
 
 pub returns-in-Done-clause-works : goal.returns-in-Done-clause-works
 returns-in-Done-clause-works g c =
-    let d = c.args.self.now.database in
-    let tried = subst (λ (ops : Items). IsTrial c.args.session c.args.id (transaction d.schema d.committed c.in-Ok.txn.draws 0 ops) d c.args.self.now.outbox (Done c.in-Done.outcome) c.try_once.new.db c.try_once.new.outbox) c.in-Ok.ensures.operations c.in-Done.ensures.tried in
-    rw c.into_draws.ensures (trial_works c.args.moment c.args.session c.args.id c.in-Ok.txn.draws c.args.operations c.args.self.now c.in-Ok.ensures.count c.try_once.new.db c.try_once.new.outbox c.try_once.new.tries c.in-Done.outcome tried)
+    let old = c.args.self.now in
+    let tried = subst (λ (ops : Items). IsTrial (sessions_of old.watchers old.sessions.open_sessions) c.args.session c.args.id (transaction old.database.schema old.database.committed (owns old.outbox.queues c.args.session) c.in-Ok.txn.draws 0 ops) old.database old.outbox.frames
+    (Done c.in-Done.outcome) c.try_once.new.db c.try_once.new.outbox.frames) c.in-Ok.ensures.operations c.in-Done.ensures.tried in
+    rw c.into_draws.ensures (trial_works c.args.moment c.args.session c.args.id c.in-Ok.txn.draws c.args.operations old c.in-Ok.ensures.count c.try_once.new.db c.try_once.new.outbox c.try_once.new.tries c.in-Done.ensures.queues c.in-Done.outcome tried)
 
 pub returns-in-Blocked-clause-works : goal.returns-in-Blocked-clause-works
 returns-in-Blocked-clause-works g c =
-    let tried = rw c.in-Ok.ensures.operations at c.in-Blocked.ensures.tried in
-    let waits = rw (tried.1, tried.2, c.in-Ok.ensures.operations) at c.wait.ensures.waits in
-    rw c.wait.ensures.draws (wait_works c.args.moment c.args.session c.args.id c.in-Ok.txn.draws c.args.operations c.args.self.now c.in-Ok.ensures.count c.try_once.new.tries c.in-Blocked.timeout c.wait.result.outcome c.wait.new.self tried.0 waits)
+    let e = c.in-Blocked.ensures in
+    let tried = rw c.in-Ok.ensures.operations at e.tried in
+    let waits = rw (tried.1, c.in-Ok.ensures.operations) at c.wait.ensures.waits in
+    rw c.wait.ensures.draws (wait_works c.args.moment c.args.session c.args.id c.in-Ok.txn.draws c.args.operations c.args.self.now c.in-Ok.ensures.count c.try_once.new.outbox c.try_once.new.tries c.in-Blocked.timeout c.wait.result.outcome c.wait.new.self
+    e.queues tried.2 tried.0 waits)
 
 pub returns-in-Blocked-clause-asks : goal.returns-in-Blocked-clause-asks
 returns-in-Blocked-clause-asks g c = rw (← c.in-Blocked.ensures.tried.1) (wait_asks g.K.Keeper.failed (spec.arrived (state_of (record c.args.self.now { database = c.try_once.new.db; outbox = c.try_once.new.outbox; tries = c.try_once.new.tries }) c.args.moment) c.args.session c.args.id c.in-Ok.txn.draws c.in-Ok.txn.operations) c.in-Blocked.timeout

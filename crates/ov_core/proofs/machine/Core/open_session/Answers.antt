@@ -1,30 +1,32 @@
-use Rattle.std.proofs.Common.{◌≤◌, ◌∙◌, refl, rules, sym, arith}
-use Rattle.ov_core.proofs.Keying.{sessions_opened}
+use Rattle.std.proofs.Common.{◌≡◌, ◌≤◌, ◌∙◌, refl, rules, sym, ap, arith}
+use Rattle.ov_sessions.specs.Sessions.{has_no_room}
 use Rattle.ov_core.proofs.Steps.{asks_nothing, opened, has_opened, nothing_chosen, entry_of}
+use Rattle.ov_core.proofs.Watching.{length-sessions}
 use Rattle.ov_specs.specs.machine.Machine.{Open}
 use Rattle.ov_core.proofs.machine.Core.open_session.Goals as goal
 
 pub returns : goal.returns
 returns g c =
     let low : c.self.inside.moment ≤ c.args.moment = search rules in
-    let opens = c.in-Ok.ensures.opened in
-    let place = sym c.is_full.ensures ∙ c.if-is_full.false in
-    rw (← c.self.view_is, opens.sessions) (record {
+    let live = c.self.inside.live in
+    let o = c.in-Ok.ensures.opened in
+    let place = ap (λ n. has_no_room n live.sessions.next) (length-sessions live.watchers live.sessions.open_sessions) ∙ (sym c.is_full.ensures ∙ c.if-is_full.false) in
+    rw (← c.self.view_is) (record {
       entry = entry_of Open (nothing_chosen c.args.moment);
-      tells = (refl, opens.serial, opens.key, place);
-      keys = (opens.free, refl);
+      tells = (refl, o.opens.serial, o.opens.key, place);
+      keys = (o.opens.free, rw o.opens.sessions refl);
       moment = refl;
       drawn = refl;
-      moves = opened _ c.args.moment c.entry_without_choice.result _ _ _ low c.push.ensures c.entry_without_choice.ensures (sessions_opened c.in-Ok.session c.self.inside.live.sessions.next c.self.inside.live.sessions.open_sessions opens.serial);
-      asks = asks_nothing _ _ _ refl (refl, refl) refl;
-      tries = omega arith;
+      moves = opened g.K.Keeper.failed c.in-Ok.session live c.open.new.self c.self.inside.moment c.args.moment o c.self.inside.history c.push.new.self c.entry_without_choice.result c.self.inside.source low c.push.ensures c.entry_without_choice.ensures;
+      asks = asks_nothing _ _ _ refl (rw o.same refl, rw o.same refl) (rw o.same refl);
+      tries = rw o.same (omega arith);
     })
 
 pub invariant_of-self-2 : goal.invariant_of-self-2
 invariant_of-self-2 g c =
     let low : c.self.inside.moment ≤ c.args.moment = search rules in
-    let opens = c.in-Ok.ensures.opened in
-    rw opens.sessions (
-      has_opened _ c.args.moment c.entry_without_choice.result _ _ _ low c.push.ensures c.entry_without_choice.ensures (sessions_opened c.in-Ok.session c.self.inside.live.sessions.next c.self.inside.live.sessions.open_sessions opens.serial) c.self.invariant.0,
-      c.self.invariant.1,
+    let live = c.self.inside.live in
+    let o = c.in-Ok.ensures.opened in (
+      has_opened g.K.Keeper.failed c.in-Ok.session live c.open.new.self c.self.inside.moment c.args.moment o c.self.inside.history c.push.new.self c.entry_without_choice.result low c.push.ensures c.entry_without_choice.ensures c.self.invariant.0,
+      rw o.same c.self.invariant.1,
     )

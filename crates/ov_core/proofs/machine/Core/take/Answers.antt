@@ -1,6 +1,7 @@
 use Rattle.std.proofs.Common.{◌≤◌, ◌∙◌, true, false, rules, sym}
 use Rattle.ov_specs.specs.machine.Machine.{Take}
 use Rattle.ov_core.proofs.Steps.{took, has_entered, entered_as}
+use Rattle.ov_core.proofs.Watching.{any-serial}
 use Rattle.ov_core.proofs.machine.Core.take.Goals as goal
 use Rattle.ov_core.proofs.machine.Core.take.Goals.{then-is_open, else-is_open}
 
@@ -12,10 +13,10 @@ returns g c =
     elim c.if-is_open.branch [
       | then-is_open w ↦ rw (w.result-is, ← c.self.view_is)
           (took g.K.Keeper.failed g.D.Draws.draws c.args.session.serial c.args.received c.self.inside.live c.take-draws.new.self c.self.inside.moment c.args.moment c.take-draws.result.items c.take-draws.new.attempts.items c.self.inside.history c.push.new.self c.entry_with_choice.result
-          c.self.inside.source c.take-draws.new.source true comes low c.push.ensures entry c.take-draws.ensures.drawn (sym c.is_open-2.ensures ∙ w.if-is_open.true))
+          c.self.inside.source c.take-draws.new.source true comes low c.push.ensures entry c.take-draws.ensures.drawn (any-serial c.take-draws.new.self.watchers c.args.session.serial c.take-draws.new.self.sessions.open_sessions ∙ (sym c.is_open-2.ensures ∙ w.if-is_open.true)))
       | else-is_open w ↦ rw (w.result-is, ← c.self.view_is)
           (took g.K.Keeper.failed g.D.Draws.draws c.args.session.serial c.args.received c.self.inside.live c.take-draws.new.self c.self.inside.moment c.args.moment c.take-draws.result.items c.take-draws.new.attempts.items c.self.inside.history c.push.new.self c.entry_with_choice.result
-          c.self.inside.source c.take-draws.new.source false comes low c.push.ensures entry c.take-draws.ensures.drawn (sym c.is_open-2.ensures ∙ w.if-is_open.false))
+          c.self.inside.source c.take-draws.new.source false comes low c.push.ensures entry c.take-draws.ensures.drawn (any-serial c.take-draws.new.self.watchers c.args.session.serial c.take-draws.new.self.sessions.open_sessions ∙ (sym c.is_open-2.ensures ∙ w.if-is_open.false)))
     ]
 
 pub invariant_of-self : goal.invariant_of-self

@@ -15,15 +15,15 @@ use Rattle.ov_ops.proofs.Awaiting.{from_table, from_conditions, from_compared, f
 use Rattle.ov_ops.proofs.wait.Waited.read.Goals as goal
 
 pub returns-in_err-name : goal.returns-in_err-name
-returns-in_err-name c before rows =
-    let t = context_of c.args.ctx.now before in
+returns-in_err-name g c before rows =
+    let t = context_of g.O.Owns.owned c.args.ctx.now before in
     let d = view c.args.operation.now in
     let p = err_from_is_err_and c.from_residual.result c.from_residual.ensures.1 in
     rw (p.1, p.2) (c.in_err-name.ensures before (from_table t rows d))
 
 pub returns-in_err-conditions : goal.returns-in_err-conditions
-returns-in_err-conditions c before rows =
-    let t = context_of c.args.ctx.now before in
+returns-in_err-conditions g c before rows =
+    let t = context_of g.O.Owns.owned c.args.ctx.now before in
     let d = view c.args.operation.now in
     let name = c.in_ok-name.name.now in
     let table = c.in_ok-name.table.now in
@@ -35,8 +35,8 @@ returns-in_err-conditions c before rows =
     rw (p.1, p.2) (refused_by _ _ c.in_err-conditions.field-0.0 (to_timeout t rows d name table (wait_outcome t rows d) timeout begins timed) (c.in_err-conditions.ensures before (from_conditions t rows d name table timeout)))
 
 pub returns-in_err-compared : goal.returns-in_err-compared
-returns-in_err-compared c before rows =
-    let t = context_of c.args.ctx.now before in
+returns-in_err-compared g c before rows =
+    let t = context_of g.O.Owns.owned c.args.ctx.now before in
     let d = view c.args.operation.now in
     let name = c.in_ok-name.name.now in
     let table = c.in_ok-name.table.now in
@@ -54,8 +54,8 @@ returns-in_err-compared c before rows =
     (refuses (compared_columns table (option_map view (option_copied c.get-2.result))) (λ (v : Vec (List ℕ) Global). v.items) next c.in_err-compared.field-0.0 c.in_err-compared.ensures))
 
 pub returns-in_default : goal.returns-in_default
-returns-in_default c before rows =
-    let t = context_of c.args.ctx.now before in
+returns-in_default g c before rows =
+    let t = context_of g.O.Owns.owned c.args.ctx.now before in
     let d = view c.args.operation.now in
     let name = c.in_ok-name.name.now in
     let table = c.in_ok-name.table.now in
@@ -73,8 +73,8 @@ returns-in_default c before rows =
     steps asked
 
 pub returns-in_default-until_of : goal.returns-in_default-until_of
-returns-in_default-until_of c before rows =
-    let t = context_of c.args.ctx.now before in
+returns-in_default-until_of g c before rows =
+    let t = context_of g.O.Owns.owned c.args.ctx.now before in
     let d = view c.args.operation.now in
     let name = c.in_ok-name.name.now in
     let table = c.in_ok-name.table.now in
@@ -92,8 +92,8 @@ returns-in_default-until_of c before rows =
     steps asked
 
 pub returns-in_default-and_then : goal.returns-in_default-and_then
-returns-in_default-and_then c before rows =
-    let t = context_of c.args.ctx.now before in
+returns-in_default-and_then g c before rows =
+    let t = context_of g.O.Owns.owned c.args.ctx.now before in
     let d = view c.args.operation.now in
     let name = c.in_ok-name.name.now in
     let table = c.in_ok-name.table.now in
@@ -113,8 +113,8 @@ returns-in_default-and_then c before rows =
     to_no_rows t rows d name table (wait_outcome t rows d) timeout begins timed conditions read compared chosen until asked none
 
 pub returns-in_err-told : goal.returns-in_err-told
-returns-in_err-told c before rows =
-    let t = context_of c.args.ctx.now before in
+returns-in_err-told g c before rows =
+    let t = context_of g.O.Owns.owned c.args.ctx.now before in
     let d = view c.args.operation.now in
     let name = c.in_ok-name.name.now in
     let table = c.in_ok-name.table.now in
@@ -139,8 +139,8 @@ returns-in_err-told c before rows =
     (refuses (told_rows (names_in t) table c.as_slice.result.now items) (λ (v : Vec (List (List ℕ × Datum)) Global). v.items) next c.in_err-told.field-0.0 c.in_err-told.ensures))
 
 pub returns : goal.returns
-returns c before rows =
-    let t = context_of c.args.ctx.now before in
+returns g c before rows =
+    let t = context_of g.O.Owns.owned c.args.ctx.now before in
     let d = view c.args.operation.now in
     let name = c.in_ok-name.name.now in
     let table = c.in_ok-name.table.now in

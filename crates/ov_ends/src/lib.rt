@@ -1,0 +1,12 @@
+//! The two ends of a session, a reader and a writer, and the clock beside them, whose bytes and moments contracts name.
+//!
+//! This crate knows of no session and no protocol. It makes such ends of std's readers and writers, and writes frames whole.
+#![tactic(auto)]
+
+mod ends;
+mod watched;
+mod write;
+
+pub use ends::{Clock, Sink, Source};
+pub use watched::Watched;
+pub use write::write_frame;

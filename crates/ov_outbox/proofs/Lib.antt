@@ -1,0 +1,4 @@
+pub mod Releasing
+pub mod Waiting
+pub mod Rooms
+pub mod Answered

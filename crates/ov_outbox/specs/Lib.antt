@@ -1,0 +1,4 @@
+pub mod Frames
+pub mod Waits
+pub mod Outbox
+pub mod Asking

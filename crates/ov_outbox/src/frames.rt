@@ -1,0 +1,177 @@
+ghost use Rattle.std.specs.Prelude.{◌≡◌, ◌==◌, ◌≢◌, ◌++◌, ◌<◌, ℕ, [], length, false, IfOk, IfNone, OnOk, MatchBool, option_to_list};
+ghost use Rattle.ov_specs.specs.machine.History.{joined};
+ghost use Rattle.ov_outbox.specs.Frames.{waiting_for, places_for, has_queue, PostsFrame, HasSameFrames, HasSamePlaces, ClearsSession, KeepsPlace, GivesUpPlace, GivesUpPlaces};
+
+use crate::queue::Queue;
+use ov_base::Bytes;
+use std::alloc::{AllocError, Global};
+use std::collections::BTreeMap;
+use std::marker::Model;
+
+/// The frames that wait for sessions, each session's oldest first, and the places that are kept for more.
+#[derive(Drop)]
+pub struct FrameQueues {
+    queues: BTreeMap<u64, Queue>,
+}
+
+impl Model for FrameQueues {
+    ghost use Rattle.ov_outbox.specs.Frames.{WaitingFrames};
+
+    ghost Value = { WaitingFrames };
+
+    ghost view = { λ w. w.queues.entries };
+}
+
+impl FrameQueues {
+    /// Nothing waits, and no place is kept.
+    pub fn new(alloc: Global) -> FrameQueues
+        ensures { result ≡ [] }
+    {
+        FrameQueues {
+            queues: BTreeMap::new(alloc),
+        }
+    }
+
+    /// Puts a frame behind those of its session, where there is memory for it. The places that are kept are left as they are.
+    pub fn push(&mut self, alloc: Global, session: u64, frame: Bytes) -> bool
+        ensures frames { MatchBool result (PostsFrame session frame self.old self.new) (HasSameFrames self.old self.new) }
+        ensures places { HasSamePlaces self.old self.new }
+    {
+        if !self.opens(alloc, session) {
+            return false;
+        }
+        match self.queues.get_mut(&session) {
+            Some(queue) => queue.push(frame),
+            None => false,
+        }
+    }
+
+    /// Keeps one place more for the session, where there is memory for it: `push_kept` takes it, or `give_up_place`.
+    pub fn keep_place(&mut self, alloc: Global, session: u64) -> bool
+        ensures frames { HasSameFrames self.old self.new }
+        ensures places { MatchBool result (KeepsPlace session self.old self.new) (HasSamePlaces self.old self.new) }
+    {
+        if !self.opens(alloc, session) {
+            return false;
+        }
+        match self.queues.get_mut(&session) {
+            Some(queue) => queue.keep_place(),
+            None => false,
+        }
+    }
+
+    /// The session has a queue from now on, be it an empty one, where there is memory for it.
+    fn opens(&mut self, alloc: Global, session: u64) -> bool
+        ensures frames { HasSameFrames self.old self.new }
+        ensures places { HasSamePlaces self.old self.new }
+    {
+        if self.queues.contains_key(&session) {
+            return true;
+        }
+        self.queues.insert(session, Queue::new(alloc)).is_ok()
+    }
+
+    /// Keeps one place less for the session, if there is one. It takes no memory.
+    pub fn give_up_place(&mut self, session: u64)
+        ensures frames { HasSameFrames self.old self.new }
+        ensures places { GivesUpPlace session self.old self.new }
+    {
+        if let Some(queue) = self.queues.get_mut(&session) {
+            queue.give_up_place();
+        }
+    }
+
+    /// Keeps no place for the session. It takes no memory.
+    pub fn give_up_places(&mut self, session: u64)
+        ensures frames { HasSameFrames self.old self.new }
+        ensures places { GivesUpPlaces session self.old self.new }
+    {
+        if let Some(queue) = self.queues.get_mut(&session) {
+            queue.give_up_places();
+        }
+    }
+
+    /// Puts a frame behind those of its session, in a place that was kept for it. It takes no memory.
+    pub fn push_kept(&mut self, session: u64, frame: Bytes)
+        requires { 0 < places_for session self.old }
+        ensures frames { PostsFrame session frame self.old self.new }
+        ensures places { GivesUpPlace session self.old self.new }
+    {
+        if let Some(queue) = self.queues.get_mut(&session) {
+            queue.push_kept(frame);
+        }
+    }
+
+    /// Takes out the oldest frame of the session.
+    pub fn pop(&mut self, session: u64) -> Option<Bytes>
+        ensures session { waiting_for session self.old ≡ option_to_list result ++ waiting_for session self.new }
+        ensures others { (other : ℕ) → other ≢ session → waiting_for other self.new ≡ waiting_for other self.old }
+        ensures none { IfNone result (waiting_for session self.old ≡ []) }
+        ensures places { HasSamePlaces self.old self.new }
+    {
+        match self.queues.get_mut(&session) {
+            Some(queue) => queue.pop(),
+            None => None,
+        }
+    }
+
+    /// A copy of the session's frames, one behind the other.
+    pub fn joined_for(&self, alloc: Global, session: u64) -> Result<Bytes, AllocError>
+        ensures { IfOk result (λ b. b ≡ joined (waiting_for session self.now)) }
+    {
+        match self.queues.get(&session) {
+            Some(queue) => join(alloc, queue),
+            None => Ok(Bytes::from_vec(Vec::new(alloc))),
+        }
+    }
+
+    /// Whether nothing waits for the session.
+    pub fn is_empty(&self, session: u64) -> bool
+        ensures { result ≡ (length (waiting_for session self.now) == 0) }
+    {
+        match self.queues.get(&session) {
+            Some(queue) => queue.is_empty(),
+            None => true,
+        }
+    }
+
+    /// Takes out all frames of the session. The places that are kept are left as they are.
+    pub fn clear(&mut self, session: u64)
+        ensures frames { ClearsSession session self.old self.new }
+        ensures places { HasSamePlaces self.old self.new }
+    {
+        if let Some(queue) = self.queues.get_mut(&session) {
+            queue.clear();
+        }
+    }
+
+    /// Takes out the queue of the session, with its frames and its places. It takes no memory.
+    pub fn drop_queue(&mut self, session: u64)
+        ensures frames { ClearsSession session self.old self.new }
+        ensures places { GivesUpPlaces session self.old self.new }
+        ensures gone { has_queue session self.new ≡ false }
+    {
+        self.queues.remove(&session);
+    }
+}
+
+/// A copy of the frames, one behind the other.
+fn join(alloc: Global, queue: &Queue) -> Result<Bytes, AllocError>
+    ensures { IfOk result (λ b. b ≡ joined queue.now.0) }
+{
+    let mut out = Vec::new(alloc);
+    let (older, newer) = queue.as_slices();
+    append(&mut out, older)?;
+    append(&mut out, newer)?;
+    Ok(Bytes::from_vec(out))
+}
+
+/// Puts the frames behind the bytes.
+fn append(out: &mut Vec<u8>, frames: &[Bytes]) -> Result<(), AllocError>
+    ensures { OnOk result (out.new.items ≡ out.old.items ++ joined frames.now) }
+{
+    for frame in frames {
+        out.extend_from_slice(frame.as_slice())?;
+    }
+    Ok(())
+}

@@ -1,0 +1,103 @@
+ghost use Rattle.std.specs.Prelude.{◌≡◌, ◌≤◌, ◌+◌, ◌++◌, ℕ, List, [], ◌∷◌, map, MatchBool};
+ghost use Rattle.ov_specs.specs.machine.Machine.{Sent};
+ghost use Rattle.ov_outbox.specs.Frames.{places_for, HasSameFrames, PostsFrame, PostsSent, posted, count_of, TakesPlaces};
+
+use crate::frames::FrameQueues;
+use ov_base::Bytes;
+use std::alloc::Global;
+use std::collections::VecDeque;
+use std::marker::Model;
+
+/// Frames that are ready to be sent, in order, each with its session: for each of them its session's queue keeps a place, so
+/// that they can be sent without memory.
+#[derive(Drop)]
+pub struct Prepared {
+    frames: VecDeque<(u64, Bytes)>,
+}
+
+impl Model for Prepared {
+    ghost use Rattle.std.specs.Prelude.{ℕ, List};
+
+    ghost Value = { List (ℕ × List ℕ) };
+
+    ghost view = { λ p. p.frames.items };
+}
+
+impl Prepared {
+    /// No frame.
+    pub fn new(alloc: Global) -> Prepared
+        ensures { result ≡ [] }
+    {
+        Prepared {
+            frames: VecDeque::new(alloc),
+        }
+    }
+
+    /// One frame more, behind the others, with a place of its own, where there is memory for both.
+    pub fn prepare(
+        &mut self,
+        alloc: Global,
+        queues: &mut FrameQueues,
+        session: u64,
+        frame: Bytes,
+    ) -> bool
+        ensures prepared { MatchBool result (self.new ≡ self.old ++ (session, frame) ∷ []) (self.new ≡ self.old) }
+        ensures frames { HasSameFrames queues.old queues.new }
+        ensures places { (other base : ℕ) → places_for other queues.old ≡ base + count_of other self.old → places_for other queues.new ≡ base + count_of other self.new }
+    {
+        if !queues.keep_place(alloc, session) {
+            return false;
+        }
+        if self.frames.push_back((session, frame)).is_err() {
+            queues.give_up_place(session);
+            return false;
+        }
+        true
+    }
+
+    /// All of them are sent, in order. It takes no memory.
+    pub fn release(self, queues: &mut FrameQueues)
+        requires { (other : ℕ) → count_of other self ≤ places_for other queues.old }
+        ensures posts { (sent : List Sent) → self ≡ map posted sent → PostsSent sent queues.old queues.new }
+        ensures places { TakesPlaces self queues.old queues.new }
+    {
+        let mut frames = self.frames;
+        while let Some((session, frame)) = frames.pop_front() {
+            queues.push_kept(session, frame);
+        }
+    }
+
+    /// The last of them is sent with this frame in its place, and the others are given up. It takes no memory.
+    pub fn release_instead(self, queues: &mut FrameQueues, frame: Bytes)
+        requires { (other : ℕ) → count_of other self ≤ places_for other queues.old }
+        ensures posts { (front : List (ℕ × List ℕ)) (session : ℕ) (former : List ℕ) → self ≡ front ++ (session, former) ∷ [] → PostsFrame session frame queues.old queues.new }
+        ensures places { TakesPlaces self queues.old queues.new }
+    {
+        let mut frames = self.frames;
+        let Some((session, _)) = frames.pop_back() else {
+            return;
+        };
+        queues.push_kept(session, frame);
+        give_up_each(frames, queues);
+    }
+
+    /// None of them is sent. It takes no memory.
+    pub fn give_up(self, queues: &mut FrameQueues)
+        requires { (other : ℕ) → count_of other self ≤ places_for other queues.old }
+        ensures frames { HasSameFrames queues.old queues.new }
+        ensures places { TakesPlaces self queues.old queues.new }
+    {
+        give_up_each(self.frames, queues);
+    }
+}
+
+/// Gives up the places of these frames.
+fn give_up_each(mut frames: VecDeque<(u64, Bytes)>, queues: &mut FrameQueues)
+    requires { (other : ℕ) → count_of other frames.items ≤ places_for other queues.old }
+    ensures frames { HasSameFrames queues.old queues.new }
+    ensures places { TakesPlaces frames.items queues.old queues.new }
+{
+    while let Some((session, _)) = frames.pop_front() {
+        queues.give_up_place(session);
+    }
+}

@@ -1,0 +1,121 @@
+ghost use Rattle.std.specs.Prelude.{◌≡◌, ◌-◌, ℕ, [], map, length, false, IfOk, OnErr};
+ghost use Rattle.std.specs.Map.Iter.{ShowsInOrder, deref};
+ghost use Rattle.ov_sessions.specs.Sessions.{OpensSession, most_sessions, has_serial, has_no_room, serial_left, without_serial};
+
+use crate::session::Session;
+use slab::Slab;
+use std::alloc::{AllocError, Global};
+use std::collections::BTreeMap;
+use std::collections::btree_map::Keys;
+use std::marker::Model;
+
+/// The most sessions that may be open.
+const MOST_SESSIONS: usize = 64;
+
+/// The open sessions, each with a key below 64 that is its own while it is open. Serials only rise, so in their order the
+/// sessions stand in order of opening.
+#[derive(Drop)]
+pub struct Sessions {
+    /// The serial of each open session, at its key.
+    serials: Slab<u64>,
+    /// The key of each open session, by its serial.
+    keys: BTreeMap<u64, usize>,
+    /// The serial of the next session.
+    next: u64,
+}
+
+impl Model for Sessions {
+    ghost use Rattle.std.specs.Prelude.{map};
+    ghost use Rattle.std.specs.Coded.{codes};
+    ghost use Rattle.ov_sessions.specs.Sessions.{OpenSessions, AreTied, session_at, open_sessions_code};
+
+    ghost Value = { OpenSessions };
+
+    ghost coded = { Prim.hlevel (codes, open_sessions_code) };
+
+    ghost view = { λ s. record { open_sessions = map session_at s.keys.entries; next = s.next } };
+
+    ghost invariant = { λ s. AreTied s.serials s.keys.entries s.next };
+}
+
+impl Sessions {
+    /// No session is open, and the next serial is 1. The room for all serials is taken here.
+    pub fn new(alloc: Global) -> Result<Sessions, AllocError>
+        ensures { IfOk result (λ s. s ≡ record { open_sessions = []; next = 1 }) }
+    {
+        let serials = Slab::with_capacity(alloc, MOST_SESSIONS)?;
+        // Its keys are below its capacity, so it must have no more room than it was asked for.
+        if serials.capacity() != MOST_SESSIONS {
+            return Err(AllocError);
+        }
+        Ok(Sessions {
+            serials,
+            keys: BTreeMap::new(alloc),
+            next: 1,
+        })
+    }
+
+    /// How many sessions more may be open.
+    pub fn free_places(&self) -> usize
+        ensures { result ≡ most_sessions - length self.now.open_sessions }
+    {
+        MOST_SESSIONS - self.keys.len()
+    }
+
+    /// The next serial; None where none is left.
+    pub fn next_serial(&self) -> Option<u64>
+        ensures { result ≡ serial_left self.now.next }
+    {
+        if self.next == u64::MAX {
+            None
+        } else {
+            Some(self.next)
+        }
+    }
+
+    /// Whether no place is left, or no serial.
+    pub fn is_full(&self) -> bool
+        ensures { result ≡ has_no_room (length self.now.open_sessions) self.now.next }
+    {
+        self.keys.len() == MOST_SESSIONS || self.next == u64::MAX
+    }
+
+    /// Whether the session of this serial is open.
+    pub fn is_open(&self, serial: u64) -> bool
+        ensures { result ≡ has_serial serial self.now.open_sessions }
+    {
+        self.keys.contains_key(&serial)
+    }
+
+    /// The serials of the open sessions, in order of opening.
+    #[tactic(auto, using(crate::proofs::Keying::serials_by_keys))]
+    pub fn serials(&self) -> Keys<'_, u64, usize>
+        ensures serials { result ≡ map (λ n. n.serial) self.now.open_sessions }
+        ensures runs { ShowsInOrder (deref {X = ℕ}) }
+    {
+        self.keys.keys()
+    }
+
+    /// Opens a session, with the next serial. Where memory is refused nothing is changed.
+    pub fn open(&mut self) -> Result<Session, AllocError>
+        requires { has_no_room (length self.old.open_sessions) self.old.next ≡ false }
+        ensures opened { IfOk result (λ session. OpensSession self.old session self.new) }
+        ensures refused { OnErr result (self.new ≡ self.old) }
+    {
+        let serial = self.next;
+        let key = self.serials.vacant_key();
+        self.keys.insert(serial, key)?;
+        let key = self.serials.insert_reserved(serial);
+        self.next = serial + 1;
+        Ok(Session { key, serial })
+    }
+
+    /// Closes the session of this serial, if it is open. It takes no memory.
+    pub fn close(&mut self, serial: u64)
+        ensures { self.new ≡ record self.old { open_sessions = without_serial serial self.old.open_sessions } }
+    {
+        if let Some(key) = self.keys.remove(&serial) {
+            let _ = self.serials.try_remove(key);
+        }
+    }
+}

@@ -1,0 +1,240 @@
+use ov_db::{Db, Delta, StoreAnswer};
+use ov_keeper::Keeper;
+use ov_schema::Schema;
+use ov_txn::{Draws, Ready, Replies, Tried, Tries, Txn, attempt};
+use std::alloc::Global;
+use std::test::Fail;
+use test_support::{
+    Counter, Faults, NetKeeper, OwnsOne, Scripted, agrees, compact, net, new_keeper,
+    schema_of_text, trees,
+};
+use uuid::Uuid;
+
+/// What follows a commit, in tests: the replies that are made ready, and how many rows are changed.
+#[derive(Drop)]
+struct Prepared {
+    /// Whether memory is refused.
+    is_refused: bool,
+    replies: Option<Replies>,
+    changes: usize,
+}
+
+impl<K: Keeper> Ready<K> for Prepared {
+    ghost readies = { λ old db delta replies ready new. Unit {0} };
+
+    fn ready(&mut self, _db: &Db<K>, delta: &Delta, replies: Replies) -> bool {
+        self.replies = Some(replies);
+        self.changes = delta.map().len();
+        !self.is_refused
+    }
+}
+
+/// Attempts of transactions on a database, each with an age and its operations. What is told of one are the results that it is
+/// answered with; or the store's answer, the results that were made ready, how many rows they change, and what stands behind
+/// them; or how long it waits. `refuse` refuses memory to what is made ready from then on.
+#[derive(Drop)]
+pub(crate) struct Attempts<D> {
+    db: Db<NetKeeper>,
+    draws: D,
+    prepared: Prepared,
+}
+
+/// What is told of a store's answer.
+fn told_stored(
+    alloc: Global,
+    answer: StoreAnswer,
+    prepared: &mut Prepared,
+) -> Result<String, Fail> {
+    let replies = prepared.replies.take().ok_or("nothing is ready")?;
+    let Replies {
+        kept,
+        exhausted,
+        failed,
+    } = replies;
+    let results = compact(alloc, &kept.into_tree())?;
+    let exhausted = compact(alloc, &exhausted)?;
+    let failed = compact(alloc, &failed)?;
+    let changes = prepared.changes;
+    match answer {
+        StoreAnswer::Kept => Ok(format!(in alloc; "kept {results} {changes}")?),
+        StoreAnswer::Exhausted => Ok(format!(in alloc; "exhausted {results} {exhausted}")?),
+        StoreAnswer::Failed => Ok(format!(in alloc; "failed {results} {failed}")?),
+    }
+}
+
+/// What is told of an attempt.
+fn told(alloc: Global, tried: Tried, prepared: &mut Prepared) -> Result<String, Fail> {
+    match tried {
+        Tried::Answer(results) => compact(alloc, &results.into_tree()),
+        Tried::Stored(answer) => told_stored(alloc, answer, prepared),
+        Tried::Blocked(Some(timeout)) => Ok(format!(in alloc; "waits {timeout}")?),
+        Tried::Blocked(None) => Ok(String::from_str(alloc, "waits")?),
+        Tried::NoMemory => Ok(String::from_str(alloc, "no memory")?),
+    }
+}
+
+impl<D: Draws> Attempts<D> {
+    fn attempt(&mut self, alloc: Global, age: u64, operations: &str) -> Result<String, Fail> {
+        let txn = Txn::read(alloc, trees(alloc, operations)?, &mut self.draws)?;
+        let mut tries = Tries::new();
+        let tried = attempt(
+            alloc,
+            &mut self.db,
+            &txn,
+            &OwnsOne { lock: "mine" },
+            age,
+            &mut tries,
+            &mut self.prepared,
+        );
+        told(alloc, tried, &mut self.prepared)
+    }
+}
+
+impl<D: Draws> Scripted for Attempts<D> {
+    fn answer(&mut self, alloc: Global, command: &str) -> Result<String, Fail> {
+        let Some((age, operations)) = command.split_once(" ") else {
+            self.prepared.is_refused = true;
+            return Ok(String::new(alloc));
+        };
+        self.attempt(alloc, age.parse::<u64>()?, operations)
+    }
+}
+
+/// Attempts on a new database of this schema, over a keeper that fails as it is told.
+fn new_attempts<D: Draws + Drop>(
+    alloc: Global,
+    schema: Schema,
+    draws: D,
+    faults: Faults,
+) -> Result<Attempts<D>, Fail> {
+    let keeper = new_keeper(alloc, &schema, faults)?;
+    Ok(Attempts {
+        db: Db::open(alloc, keeper, schema)?,
+        draws,
+        prepared: Prepared {
+            is_refused: false,
+            replies: None,
+            changes: 0,
+        },
+    })
+}
+
+/// Attempts on a new database of the schema of a text, with draws that are counted.
+pub(crate) fn attempts_on(alloc: Global, schema: &str) -> Result<Attempts<Counter>, Fail> {
+    let schema = schema_of_text(alloc, schema)?;
+    new_attempts(alloc, schema, Counter::new(), Faults::NONE)
+}
+
+/// The attempts of a script come to what it says, on a new database Net over a keeper that fails as it is told.
+fn attempts_with<D: Draws + Drop>(
+    alloc: Global,
+    draws: D,
+    faults: Faults,
+    script: &str,
+) -> Result<(), Fail> {
+    let attempts = new_attempts(alloc, net(alloc)?, draws, faults)?;
+    agrees(alloc, attempts, script)
+}
+
+/// The same with draws that are counted.
+fn attempts_over(alloc: Global, faults: Faults, script: &str) -> Result<(), Fail> {
+    attempts_with(alloc, Counter::new(), faults, script)
+}
+
+/// Draws the same identifier again and again.
+#[derive(Drop)]
+struct Same;
+
+impl Draws for Same {
+    ghost draws = { λ _ _ _. Unit {0} };
+
+    fn draw(&mut self) -> Uuid {
+        Uuid::from_u128(2)
+    }
+}
+
+/// Rows that are shown alike are one, and columns without a value have their defaults.
+const MERGED: &str =
+    r#"0 [{"op":"insert","table":"Switch","row":{}},{"op":"insert","table":"Switch","row":{"name":"s1"}},{"op":"select","table":"Switch","where":[],"columns":["main","load","main"]},{"op":"select","table":"Switch","where":[],"columns":["name"]}] -> kept [{"uuid":["uuid","00000000-0000-4000-8000-000000000002"]},{"uuid":["uuid","00000000-0000-4000-8000-000000000003"]},{"rows":[{"load":0,"main":["set",[]]}]},{"rows":[{"name":""},{"name":"s1"}]}] 2"#;
+
+#[test]
+fn repeats_merge_and_defaults_are_given(rt: HostRuntime) -> Result<(), Fail> {
+    attempts_over(rt.alloc(), Faults::NONE, MERGED)
+}
+
+const DRAWN_TWICE: &str =
+    r#"0 [{"op":"insert","table":"Switch","row":{"name":"s1"}},{"op":"insert","table":"Switch","row":{"name":"s1"}}] -> [{"uuid":["uuid","00000000-0000-0000-0000-000000000002"]},{"error":"duplicate uuid"}]"#;
+
+#[test]
+fn identifiers_are_not_used_twice(rt: HostRuntime) -> Result<(), Fail> {
+    attempts_with(rt.alloc(), Same, Faults::NONE, DRAWN_TWICE)
+}
+
+/// What changes nothing is not stored: a select, a failure, an update to what there is, an insert that is undone.
+const ATTEMPTS: &str =
+    r#"0 [{"op":"insert","table":"Switch","row":{"name":"s1"}},{"op":"insert","table":"Switch","row":{"name":"s2"}}] -> kept [{"uuid":["uuid","00000000-0000-4000-8000-000000000002"]},{"uuid":["uuid","00000000-0000-4000-8000-000000000003"]}] 2
+0 [{"op":"select","table":"Switch","where":[],"columns":["name"]}] -> [{"rows":[{"name":"s1"},{"name":"s2"}]}]
+0 [{"op":"insert","table":"Switch","row":{"name":"s3"}},{"op":"erase"},{"op":"comment"}] -> [{"uuid":["uuid","00000000-0000-4000-8000-000000000006"]},{"error":"unknown operation"},null]
+0 [{"op":"update","table":"Switch","where":[["name","==","s1"]],"row":{"name":"s1"}}] -> [{"count":1}]
+0 [{"op":"insert","table":"Port","uuid-name":"p","row":{}},{"op":"delete","table":"Port","where":[["_uuid","==",["named-uuid","p"]]]}] -> [{"uuid":["uuid","00000000-0000-4000-8000-000000000009"]},{"count":1}]
+0 [{"op":"mutate","table":"Switch","where":[["name","==","s2"]],"mutations":[["load","+=",1]]},{"op":"delete","table":"Switch","where":[["name","==","s1"]]}] -> kept [{"count":1},{"count":1}] 2
+0 [] -> []"#;
+
+#[test]
+fn what_changes_nothing_is_not_stored(rt: HostRuntime) -> Result<(), Fail> {
+    attempts_over(rt.alloc(), Faults::NONE, ATTEMPTS)
+}
+
+/// A transaction that waits changes nothing, whatever its operations did; it is given up at its age.
+const WAITS: &str =
+    r#"0 [{"op":"insert","table":"Switch","row":{"name":"s1"}}] -> kept [{"uuid":["uuid","00000000-0000-4000-8000-000000000002"]}] 1
+49 [{"op":"delete","table":"Switch","where":[]},{"op":"wait","table":"Switch","timeout":50,"where":[],"until":"!=","rows":[]}] -> waits 50
+0 [{"op":"wait","table":"Switch","where":[],"until":"==","rows":[]}] -> waits
+50 [{"op":"delete","table":"Switch","where":[]},{"op":"wait","table":"Switch","timeout":50,"where":[],"until":"!=","rows":[]}] -> [{"count":1},{"error":"timed out"}]
+0 [{"op":"wait","table":"Switch","where":[],"columns":["name"],"until":"==","rows":[{"name":"s1"}]},{"op":"select","table":"Switch","where":[],"columns":["name"]}] -> [{},{"rows":[{"name":"s1"}]}]"#;
+
+#[test]
+fn a_wait_that_is_not_met_changes_nothing(rt: HostRuntime) -> Result<(), Fail> {
+    attempts_over(rt.alloc(), Faults::NONE, WAITS)
+}
+
+/// Where memory is refused to what is made ready, nothing is stored.
+const UNREADY: &str = r#"refuse
+0 [{"op":"insert","table":"Switch","row":{"name":"s1"}}] -> no memory
+0 [{"op":"select","table":"Switch","where":[],"columns":["name"]}] -> [{"rows":[]}]"#;
+
+#[test]
+fn nothing_is_stored_before_all_is_ready(rt: HostRuntime) -> Result<(), Fail> {
+    attempts_over(rt.alloc(), Faults::NONE, UNREADY)
+}
+
+/// The store has no room for the first commit, and makes the second.
+const NO_ROOM: &str =
+    r#"0 [{"op":"insert","table":"Switch","row":{"name":"s1"}}] -> exhausted [{"uuid":["uuid","00000000-0000-4000-8000-000000000002"]}] {"error":"resources exhausted"}
+0 [{"op":"insert","table":"Switch","row":{"name":"s1"}}] -> kept [{"uuid":["uuid","00000000-0000-4000-8000-000000000004"]}] 1"#;
+
+#[test]
+fn a_store_without_room_keeps_nothing(rt: HostRuntime) -> Result<(), Fail> {
+    let faults = Faults {
+        is_too_large: true,
+        good: 0,
+        bad: 0,
+    };
+    attempts_over(rt.alloc(), faults, NO_ROOM)
+}
+
+/// After a failure the store is not asked any more.
+const FAILED: &str =
+    r#"0 [{"op":"insert","table":"Switch","row":{"name":"s1"}}] -> failed [{"uuid":["uuid","00000000-0000-4000-8000-000000000002"]}] {"error":"I/O error"}
+0 [{"op":"insert","table":"Switch","row":{"name":"s2"}}] -> [{"uuid":["uuid","00000000-0000-4000-8000-000000000004"]},{"error":"I/O error"}]
+0 [{"op":"select","table":"Switch","where":[],"columns":["name"]}] -> [{"rows":[]}]"#;
+
+#[test]
+fn a_sealed_database_is_not_stored(rt: HostRuntime) -> Result<(), Fail> {
+    let faults = Faults {
+        is_too_large: false,
+        good: 0,
+        bad: 1,
+    };
+    attempts_over(rt.alloc(), faults, FAILED)
+}

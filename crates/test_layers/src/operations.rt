@@ -1,0 +1,235 @@
+use crate::rows::Standing;
+use ov_base::Trees;
+use ov_given::NamedRows;
+use ov_ops::{OpCtx, OpOutcome, run_op};
+use ov_rows::Rows;
+use ov_schema::Schema;
+use ov_stage::Stage;
+use ov_txn::Txn;
+use std::alloc::{AllocError, Global};
+use std::test::Fail;
+use test_support::{Counter, OwnsOne, Scripted, agrees, compact, follows, net, trees};
+
+/// Operations on the rows of a database Net, as those of a transaction of this age. What comes of them are their results, and then
+/// how many rows they change; or the error of the last one, or how long it waits.
+#[derive(Drop)]
+struct Operations {
+    schema: Schema,
+    rows: Rows,
+    age: u64,
+}
+
+/// The results so far, with what comes of one operation more, and whether the next one is tried.
+fn told(alloc: Global, results: String, outcome: OpOutcome) -> Result<(String, bool), Fail> {
+    match outcome {
+        OpOutcome::Done(result) => {
+            let result = compact(alloc, &result)?;
+            Ok((format!(in alloc; "{results}{result} ")?, true))
+        }
+        OpOutcome::Fault(error) => {
+            let error = error.text();
+            Ok((format!(in alloc; "{results}{error}")?, false))
+        }
+        OpOutcome::Blocked(Some(timeout)) => {
+            Ok((format!(in alloc; "{results}waits {timeout}")?, false))
+        }
+        OpOutcome::Blocked(None) => Ok((format!(in alloc; "{results}waits")?, false)),
+        OpOutcome::NoMemory => Err(AllocError.into()),
+    }
+}
+
+impl Operations {
+    fn run<'a>(
+        &self,
+        alloc: Global,
+        ctx: &OpCtx<'a, '_, '_, '_, OwnsOne>,
+        operations: &'a Trees,
+    ) -> Result<String, Fail> {
+        let mut stage = Stage::new(alloc, &self.rows);
+        let mut results = String::new(alloc);
+        let trees = operations.as_slice();
+        for place in 0..trees.len() {
+            let outcome = run_op(alloc, &mut stage, ctx, place, &trees[place]);
+            let (more, goes_on) = told(alloc, results, outcome)?;
+            if !goes_on {
+                return Ok(more);
+            }
+            results = more;
+        }
+        let changes = stage.into_delta().map().len();
+        Ok(format!(in alloc; "{results}{changes}")?)
+    }
+}
+
+impl Scripted for Operations {
+    fn answer(&mut self, alloc: Global, command: &str) -> Result<String, Fail> {
+        let operations = trees(alloc, command)?;
+        let txn = Txn::read(alloc, trees(alloc, command)?, &mut Counter::new())?;
+        let (version, ids) = txn.draws().split_at(1);
+        let inserts = NamedRows::new(alloc, ids, &operations)?;
+        let ctx = OpCtx {
+            schema: &self.schema,
+            inserts: &inserts,
+            owns: &OwnsOne { lock: "mine" },
+            version: version[0],
+            age: self.age,
+        };
+        self.run(alloc, &ctx, &operations)
+    }
+}
+
+/// The operations of each line come to what it says, on the rows that a script puts.
+fn run_over(alloc: Global, rows: &str, age: u64, script: &str) -> Result<(), Fail> {
+    let schema = net(alloc)?;
+    let mut standing = Standing {
+        rows: Rows::new(alloc),
+    };
+    follows(alloc, &mut standing, rows)?;
+    let Standing { rows } = standing;
+    agrees(alloc, Operations { schema, rows, age }, script)
+}
+
+/// The same on no row of a database of this schema.
+pub(crate) fn run_without_rows(alloc: Global, schema: Schema, script: &str) -> Result<(), Fail> {
+    let rows = Rows::new(alloc);
+    let operations = Operations {
+        schema,
+        rows,
+        age: 0,
+    };
+    agrees(alloc, operations, script)
+}
+
+/// A name stands for its row before the insert that declares it, and in conditions.
+const NAMED: &str =
+    r#"[{"op":"insert","table":"Switch","row":{"name":"s1","ports":["named-uuid","p"]}},{"op":"insert","table":"Port","uuid-name":"p","row":{"name":"p1"}},{"op":"select","table":"Switch","where":[["ports","includes",["named-uuid","p"]]],"columns":["ports"]}] -> {"uuid":["uuid","00000000-0000-4000-8000-000000000002"]} {"uuid":["uuid","00000000-0000-4000-8000-000000000003"]} {"rows":[{"ports":["uuid","00000000-0000-4000-8000-000000000003"]}]} 2
+[{"op":"insert","table":"Port","uuid-name":"p","row":{}},{"op":"delete","table":"Port","where":[["_uuid","==",["named-uuid","p"]]]}] -> {"uuid":["uuid","00000000-0000-4000-8000-000000000002"]} {"count":1} 0
+[{"op":"insert","table":"Port","uuid-name":"p","row":{}},{"op":"insert","table":"Port","uuid-name":"p","row":{}}] -> {"uuid":["uuid","00000000-0000-4000-8000-000000000002"]} duplicate uuid-name
+[{"op":"comment","comment":"c","uuid-name":"p"},{"op":"insert","table":"Port","uuid-name":"p","row":{}}] -> {} {"uuid":["uuid","00000000-0000-4000-8000-000000000002"]} 1
+[{"op":"insert","table":"Port","uuid-name":"1p","row":{}}] -> syntax error
+[{"op":"insert","table":"Port","uuid-name":null,"row":{}}] -> syntax error
+[{"op":"insert","table":"Port","row":{"peer":["named-uuid","q"]}}] -> syntax error"#;
+
+#[test]
+fn named_uuid_used_before(rt: HostRuntime) -> Result<(), Fail> {
+    run_over(rt.alloc(), "", 0, NAMED)
+}
+
+/// Two switches that were committed, and a port.
+const COMMITTED: &str = "put Switch 9
+put Port 4
+put Switch 3";
+
+/// No row, one, and all of them; a row that is as it was before is no change.
+const CHANGED: &str =
+    r#"[{"op":"update","table":"Switch","where":[["name","==","s9"]],"row":{"load":5}}] -> {"count":0} 0
+[{"op":"update","table":"Switch","where":[["_uuid","==",["uuid","00000000-0000-0000-0000-000000000003"]]],"row":{"load":5}},{"op":"select","table":"Switch","where":[["load","==",5]],"columns":["_uuid","_version"]}] -> {"count":1} {"rows":[{"_uuid":["uuid","00000000-0000-0000-0000-000000000003"],"_version":["uuid","00000000-0000-4000-8000-000000000001"]}]} 1
+[{"op":"update","table":"Switch","where":[],"row":{"load":5,"name":"n"}},{"op":"select","table":"Switch","where":[],"columns":["load","name"]}] -> {"count":2} {"rows":[{"load":5,"name":"n"}]} 2
+[{"op":"update","table":"Switch","where":[],"row":{"load":5}},{"op":"update","table":"Switch","where":[],"row":{"load":4}},{"op":"select","table":"Switch","where":[],"columns":["_version"]}] -> {"count":2} {"count":2} {"rows":[{"_version":["uuid","00000000-0000-0000-0000-000000000001"]}]} 0
+[{"op":"update","table":"Switch","where":[],"row":{}}] -> {"count":2} 0
+[{"op":"update","table":"Switch","where":[],"row":{"_uuid":["uuid","00000000-0000-0000-0000-000000000001"]}}] -> constraint violation
+[{"op":"update","table":"Switch","where":[],"row":{"_version":1}}] -> constraint violation
+[{"op":"update","table":"Switch","where":[],"row":{"load":["set",[]]}}] -> constraint violation
+[{"op":"update","table":"Switch","where":[],"row":{"load":true}}] -> syntax error
+[{"op":"update","table":"Switch","where":[],"row":{"colour":1,"load":true}}] -> unknown column
+[{"op":"update","table":"Switch","where":[]}] -> syntax error
+[{"op":"update","table":"Switch","row":{"colour":1}}] -> syntax error
+[{"op":"update","table":"Switch","where":[["colour","==",1]],"row":7}] -> unknown column
+[{"op":"update","table":"Swich","where":7}] -> unknown table
+[{"op":"update"}] -> syntax error"#;
+
+#[test]
+fn rows_are_updated(rt: HostRuntime) -> Result<(), Fail> {
+    run_over(rt.alloc(), COMMITTED, 0, CHANGED)
+}
+
+/// Arithmetic over 64 bits, rounded to zero; sets grow and shrink; the first fault of the first row is told.
+const MUTATED: &str =
+    r#"[{"op":"update","table":"Switch","where":[],"row":{"load":9223372036854775807}},{"op":"mutate","table":"Switch","where":[],"mutations":[["load","+=",1]]}] -> {"count":2} range error
+[{"op":"mutate","table":"Switch","where":[],"mutations":[["load","/=",0]]}] -> domain error
+[{"op":"mutate","table":"Switch","where":[["load","==",7]],"mutations":[["load","/=",0]]}] -> {"count":0} 0
+[{"op":"update","table":"Switch","where":[],"row":{"load":-7}},{"op":"mutate","table":"Switch","where":[],"mutations":[["load","%=",2]]},{"op":"select","table":"Switch","where":[],"columns":["load"]}] -> {"count":2} {"count":2} {"rows":[{"load":-1}]} 2
+[{"op":"mutate","table":"Switch","where":[],"mutations":[["load","*=",3],["load","-=",2],["load","/=",4]]},{"op":"select","table":"Switch","where":[],"columns":["load"]}] -> {"count":2} {"rows":[{"load":2}]} 2
+[{"op":"mutate","table":"Switch","where":[],"mutations":[]}] -> {"count":2} 0
+[{"op":"mutate","table":"Switch","where":[],"mutations":[["ports","insert",["uuid","00000000-0000-0000-0000-000000000004"]],["ports","delete",["uuid","00000000-0000-0000-0000-000000000004"]]]}] -> {"count":2} 0
+[{"op":"insert","table":"Port","row":{}},{"op":"mutate","table":"Port","where":[["name","==",""]],"mutations":[["tag","insert",4095]]},{"op":"select","table":"Port","where":[["name","==",""]],"columns":["tag"]}] -> {"uuid":["uuid","00000000-0000-4000-8000-000000000002"]} {"count":1} {"rows":[{"tag":4095}]} 1
+[{"op":"insert","table":"Port","row":{}},{"op":"mutate","table":"Port","where":[["name","==",""]],"mutations":[["tag","insert",4096]]}] -> {"uuid":["uuid","00000000-0000-4000-8000-000000000002"]} constraint violation
+[{"op":"mutate","table":"Switch","where":[],"mutations":[["load","+=",1],["name","+=",1]]}] -> syntax error
+[{"op":"mutate","table":"Switch","where":[],"mutations":[["_uuid","insert",1]]}] -> constraint violation
+[{"op":"mutate","table":"Switch","where":[],"mutations":[["colour","+=",1]]}] -> unknown column
+[{"op":"mutate","table":"Switch","where":[],"mutations":{}}] -> syntax error
+[{"op":"mutate","table":"Switch","where":[["colour","==",1]],"mutations":7}] -> unknown column
+[{"op":"mutate","table":"Switch","mutations":[]}] -> syntax error
+[{"op":"mutate","table":"Swich"}] -> unknown table"#;
+
+#[test]
+fn arithmetic_edges(rt: HostRuntime) -> Result<(), Fail> {
+    run_over(rt.alloc(), COMMITTED, 0, MUTATED)
+}
+
+/// Rows go, are counted, and may come again in the same transaction.
+const DELETED: &str =
+    r#"[{"op":"delete","table":"Switch","where":[["load","==",7]]}] -> {"count":0} 0
+[{"op":"delete","table":"Switch","where":[["_uuid","==",["uuid","00000000-0000-0000-0000-000000000009"]]]},{"op":"select","table":"Switch","where":[],"columns":["_uuid"]}] -> {"count":1} {"rows":[{"_uuid":["uuid","00000000-0000-0000-0000-000000000003"]}]} 1
+[{"op":"delete","table":"Switch","where":[]},{"op":"insert","table":"Switch","row":{"name":"s1"}},{"op":"select","table":"Switch","where":[],"columns":["_uuid","name"]}] -> {"count":2} {"uuid":["uuid","00000000-0000-4000-8000-000000000002"]} {"rows":[{"_uuid":["uuid","00000000-0000-4000-8000-000000000002"],"name":"s1"}]} 3
+[{"op":"insert","table":"Port","row":{}},{"op":"delete","table":"Port","where":[["name","==",""]]},{"op":"delete","table":"Port","where":[]}] -> {"uuid":["uuid","00000000-0000-4000-8000-000000000002"]} {"count":1} {"count":1} 1
+[{"op":"delete","table":"Switch","where":[["load","==",true]]}] -> syntax error
+[{"op":"delete","table":"Switch","where":null}] -> syntax error
+[{"op":"delete","table":7,"where":null}] -> syntax error
+[{"op":"delete","table":"Swich","where":null}] -> unknown table"#;
+
+#[test]
+fn rows_are_deleted(rt: HostRuntime) -> Result<(), Fail> {
+    run_over(rt.alloc(), COMMITTED, 0, DELETED)
+}
+
+/// A wait whose rows are, or are not, those that match, in any order and with repeats.
+const WAITED: &str =
+    r#"[{"op":"wait","table":"Switch","where":[],"columns":["load"],"until":"==","rows":[{"load":4}]}] -> {} 0
+[{"op":"wait","table":"Switch","where":[],"columns":["load"],"until":"==","rows":[{"load":4},{"load":4},{"load":4}]}] -> {} 0
+[{"op":"wait","table":"Switch","where":[],"columns":["load"],"until":"!=","rows":[{"load":4}]}] -> waits
+[{"op":"wait","table":"Switch","timeout":50,"where":[],"columns":["load"],"until":"!=","rows":[{"load":4}]}] -> waits 50
+[{"op":"wait","table":"Switch","timeout":49,"where":[],"columns":["load"],"until":"!=","rows":[{"load":4}]}] -> timed out
+[{"op":"wait","table":"Switch","timeout":0,"where":[["name","==","s9"]],"columns":["name"],"until":"==","rows":[{"name":"s9"}]}] -> timed out
+[{"op":"wait","table":"Switch","where":[["load","==",7]],"until":"==","rows":[]}] -> {} 0
+[{"op":"wait","table":"Switch","where":[],"until":"!=","rows":[]}] -> {} 0
+[{"op":"wait","table":"Switch","where":[],"columns":[],"until":"==","rows":[{}]}] -> {} 0
+[{"op":"wait","table":"Switch","where":[],"columns":["_uuid"],"until":"==","rows":[{"_uuid":["uuid","00000000-0000-0000-0000-000000000009"]},{"_uuid":["uuid","00000000-0000-0000-0000-000000000003"]}]}] -> {} 0
+[{"op":"wait","table":"Switch","where":[],"columns":["_uuid"],"until":"!=","rows":[{}]}] -> {} 0
+[{"op":"insert","table":"Switch","row":{"name":"s9"}},{"op":"wait","table":"Switch","where":[["name","==","s9"]],"columns":["name","ports"],"until":"==","rows":[{"name":"s9"}]}] -> {"uuid":["uuid","00000000-0000-4000-8000-000000000002"]} {} 1
+[{"op":"wait","table":"Switch","where":[],"columns":["load"],"until":"==","rows":[{"name":"s9"}]}] -> syntax error
+[{"op":"wait","table":"Switch","where":[],"columns":["load"],"until":"==","rows":[{"load":"s9"}]}] -> syntax error
+[{"op":"wait","table":"Switch","where":[],"columns":["load"],"until":"==","rows":7}] -> syntax error
+[{"op":"wait","table":"Switch","where":[],"columns":["load"],"until":"=","rows":[]}] -> syntax error
+[{"op":"wait","table":"Switch","where":[],"columns":["colour"],"until":"="}] -> unknown column
+[{"op":"wait","table":"Switch","where":[],"columns":7,"until":"=="}] -> syntax error
+[{"op":"wait","table":"Switch","where":[["colour","==",1]],"columns":7}] -> unknown column
+[{"op":"wait","table":"Switch","timeout":-1,"where":[["colour","==",1]]}] -> syntax error
+[{"op":"wait","table":"Switch","timeout":null,"where":[["colour","==",1]]}] -> syntax error
+[{"op":"wait","table":"Swich","timeout":-1}] -> unknown table"#;
+
+#[test]
+fn wait_is_met_or_times_out(rt: HostRuntime) -> Result<(), Fail> {
+    run_over(rt.alloc(), COMMITTED, 49, WAITED)
+}
+
+/// The operations that change no row, and those that are none.
+const OTHERS: &str =
+    r#"[{"op":"commit","durable":false},{"op":"commit","durable":true},{"op":"comment","comment":""}] -> {} {} {} 0
+[{"op":"commit"}] -> syntax error
+[{"op":"commit","durable":1}] -> syntax error
+[{"op":"comment"}] -> syntax error
+[{"op":"abort","why":1}] -> aborted
+[{"op":"erase"}] -> unknown operation
+[{"op":"assert","lock":"mine"}] -> {} 0
+[{"op":"assert","lock":"min"}] -> not owner
+[{"op":"assert","lock":"1"}] -> syntax error
+[{"op":"assert","lock":1}] -> syntax error
+[{"op":"assert"}] -> syntax error
+[{"op":1}] -> syntax error
+[7] -> syntax error"#;
+
+#[test]
+fn unknown_names(rt: HostRuntime) -> Result<(), Fail> {
+    run_over(rt.alloc(), "", 0, OTHERS)
+}

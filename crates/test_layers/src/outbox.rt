@@ -1,0 +1,322 @@
+//! The frames that wait for sessions, those that are prepared, and the locks that sessions are told of, call by call.
+
+ghost use Rattle.std.specs.Prelude.{◌≡◌, ◌≤◌, ◌+◌, ℕ, IfOk};
+ghost use Rattle.ov_outbox.specs.Frames.{count_of, places_for};
+
+use ov_base::Bytes;
+use ov_locks::LockCall;
+use ov_outbox::{FrameQueues, Outbox, Prepared};
+use std::alloc::{AllocError, Global};
+use std::mem;
+use std::test::Fail;
+use test_support::{Scripted, agrees, tree};
+
+/// The text of a frame, if there is one.
+fn text_of(alloc: Global, frame: Option<Bytes>) -> Result<String, Fail> {
+    match frame {
+        Some(frame) => Ok(String::from_utf8(frame.into_vec())?),
+        None => Ok(String::from_str(alloc, "none")?),
+    }
+}
+
+/// The frame of a text.
+fn frame_of(alloc: Global, text: &str) -> Result<Bytes, AllocError> {
+    Bytes::from_slice(alloc, text.as_bytes())
+}
+
+/// Frames behind a script.
+///
+/// The commands are `push SESSION FRAME`, `keep SESSION`, `kept SESSION FRAME` for a frame in a place that is kept for it,
+/// `give_up SESSION` and `give_up_all SESSION` for places, `pop SESSION`, `joined SESSION`, `empty SESSION`, `clear SESSION` and
+/// `drop SESSION`. The others prepare the frames x for session 1, y for session 2 and z for session 1: `release` sends them,
+/// `instead 1 FRAME` sends this frame in the place of z, and `withdraw` sends none.
+#[derive(Drop)]
+struct Frames {
+    queues: FrameQueues,
+}
+
+/// Prepares a frame.
+fn prepare(
+    alloc: Global,
+    queues: &mut FrameQueues,
+    prepared: &mut Prepared,
+    session: u64,
+    text: &str,
+) -> Result<(), Fail>
+    ensures { (other base : ℕ) → places_for other queues.old ≡ base + count_of other prepared.old → places_for other queues.new ≡ base + count_of other prepared.new }
+{
+    let frame = frame_of(alloc, text)?;
+    if prepared.prepare(alloc, queues, session, frame) {
+        Ok(())
+    } else {
+        Err(AllocError.into())
+    }
+}
+
+/// Prepares the three frames.
+fn prepare_three(alloc: Global, queues: &mut FrameQueues) -> Result<Prepared, Fail>
+    ensures { IfOk result (λ p. (other : ℕ) → count_of other p ≤ places_for other queues.new) }
+{
+    let mut prepared = Prepared::new(alloc);
+    prepare(alloc, queues, &mut prepared, 1, "x")?;
+    prepare(alloc, queues, &mut prepared, 2, "y")?;
+    prepare(alloc, queues, &mut prepared, 1, "z")?;
+    Ok(prepared)
+}
+
+impl Frames {
+    /// Puts a frame in a place that is kept for it; false where there is no memory for the place.
+    fn kept(&mut self, alloc: Global, session: u64, text: &str) -> Result<bool, Fail> {
+        let frame = frame_of(alloc, text)?;
+        if !self.queues.keep_place(alloc, session) {
+            return Ok(false);
+        }
+        self.queues.push_kept(session, frame);
+        Ok(true)
+    }
+
+    /// Sends what is prepared.
+    fn release(&mut self, alloc: Global) -> Result<(), Fail> {
+        let prepared = prepare_three(alloc, &mut self.queues)?;
+        prepared.release(&mut self.queues);
+        Ok(())
+    }
+
+    /// Sends a frame in the place of the last one that is prepared.
+    fn release_instead(&mut self, alloc: Global, text: &str) -> Result<(), Fail> {
+        let frame = frame_of(alloc, text)?;
+        let prepared = prepare_three(alloc, &mut self.queues)?;
+        prepared.release_instead(&mut self.queues, frame);
+        Ok(())
+    }
+
+    /// Sends nothing of what is prepared.
+    fn withdraw(&mut self, alloc: Global) -> Result<(), Fail> {
+        let prepared = prepare_three(alloc, &mut self.queues)?;
+        prepared.give_up(&mut self.queues);
+        Ok(())
+    }
+
+    /// What is told of a session, by a command that tells.
+    fn tell(
+        &mut self,
+        alloc: Global,
+        word: &str,
+        session: u64,
+        text: &str,
+    ) -> Result<String, Fail> {
+        match word {
+            "push" => {
+                let is_sent = self.queues.push(alloc, session, frame_of(alloc, text)?);
+                Ok(format!(in alloc; "{is_sent}")?)
+            }
+            "keep" => {
+                let is_kept = self.queues.keep_place(alloc, session);
+                Ok(format!(in alloc; "{is_kept}")?)
+            }
+            "kept" => {
+                let is_sent = self.kept(alloc, session, text)?;
+                Ok(format!(in alloc; "{is_sent}")?)
+            }
+            "pop" => text_of(alloc, self.queues.pop(session)),
+            "joined" => text_of(alloc, Some(self.queues.joined_for(alloc, session)?)),
+            "empty" => Ok(format!(in alloc; "{}", self.queues.is_empty(session))?),
+            _ => Err(Fail::new("no command")),
+        }
+    }
+}
+
+impl Scripted for Frames {
+    fn answer(&mut self, alloc: Global, command: &str) -> Result<String, Fail> {
+        let (word, rest) = command.split_once(" ").unwrap_or((command, "0"));
+        let (session, text) = rest.split_once(" ").unwrap_or((rest, ""));
+        let session = session.parse::<u64>()?;
+        match word {
+            "give_up" => self.queues.give_up_place(session),
+            "give_up_all" => self.queues.give_up_places(session),
+            "clear" => self.queues.clear(session),
+            "drop" => self.queues.drop_queue(session),
+            "release" => self.release(alloc)?,
+            "instead" => self.release_instead(alloc, text)?,
+            "withdraw" => self.withdraw(alloc)?,
+            _ => return self.tell(alloc, word, session, text),
+        }
+        Ok(String::new(alloc))
+    }
+}
+
+/// Frames wait each for its session, oldest first, also those that are put in places that were kept for them.
+const WAITING: &str = "push 1 a -> true
+push 2 b -> true
+kept 1 c -> true
+empty 1 -> false
+empty 3 -> true
+joined 1 -> ac
+pop 1 -> a
+pop 1 -> c
+pop 1 -> none
+keep 3 -> true
+keep 3 -> true
+give_up 3
+give_up 9
+empty 3 -> true
+push 3 d -> true
+clear 3
+joined 3
+give_up_all 3
+kept 3 e -> true
+joined 3 -> e
+drop 3
+pop 3 -> none
+joined 2 -> b";
+
+/// What is prepared is sent in order, or its last frame is replaced and the others are not sent, or none is.
+const PREPARED: &str = "push 1 a -> true
+release
+joined 1 -> axz
+joined 2 -> y
+instead 1 w
+joined 1 -> axzw
+joined 2 -> y
+withdraw
+joined 1 -> axzw
+pop 2 -> y
+pop 2 -> none";
+
+#[test]
+fn frames_wait_for_their_sessions(rt: HostRuntime) -> Result<(), Fail> {
+    for script in [WAITING, PREPARED] {
+        let queues = FrameQueues::new(rt.alloc());
+        agrees(rt.alloc(), Frames { queues }, script)?;
+    }
+    Ok(())
+}
+
+/// An outbox behind a script.
+///
+/// The commands are `lock SESSION ID NAME`, `steal SESSION ID NAME` and `unlock SESSION ID NAME`, which tell why they are
+/// refused, `owns SESSION NAME` and `leave SESSION`; `push SESSION FRAME`, `pop SESSION`, `joined SESSION`, `clear SESSION` and
+/// `forget SESSION`; and `apart SESSION`, which takes the frames and the locks apart and puts them together, whatever the
+/// session.
+#[derive(Drop)]
+struct Sending {
+    outbox: Outbox,
+}
+
+/// Takes an outbox apart, and puts it together.
+fn taken_apart(outbox: Outbox) -> Outbox {
+    outbox.in_order();
+    let (frames, locks) = outbox.into_parts();
+    Outbox::from_parts(frames, locks)
+}
+
+impl Sending {
+    /// What a session asks of a lock, under an id.
+    fn ask(
+        &mut self,
+        alloc: Global,
+        call: LockCall,
+        session: u64,
+        text: &str,
+    ) -> Result<String, Fail> {
+        let (id, name) = text.split_once(" ").ok_or("no name")?;
+        let id = tree(alloc, id)?;
+        match self.outbox.ask(alloc, call, session, &id, name) {
+            Ok(()) => Ok(String::new(alloc)),
+            Err(fault) => Ok(String::from_str(alloc, fault.text())?),
+        }
+    }
+
+    /// What is told of a session, by a command that tells.
+    fn tell(
+        &mut self,
+        alloc: Global,
+        word: &str,
+        session: u64,
+        text: &str,
+    ) -> Result<String, Fail> {
+        match word {
+            "lock" => self.ask(alloc, LockCall::Lock, session, text),
+            "steal" => self.ask(alloc, LockCall::Steal, session, text),
+            "unlock" => self.ask(alloc, LockCall::Unlock, session, text),
+            "owns" => Ok(format!(in alloc; "{}", self.outbox.owns(session, text))?),
+            "push" => {
+                let is_sent = self.outbox.push(alloc, session, frame_of(alloc, text)?);
+                Ok(format!(in alloc; "{is_sent}")?)
+            }
+            "pop" => text_of(alloc, self.outbox.pop(session)),
+            "joined" => text_of(alloc, Some(self.outbox.joined_for(alloc, session)?)),
+            _ => Err(Fail::new("no command")),
+        }
+    }
+}
+
+impl Scripted for Sending {
+    fn answer(&mut self, alloc: Global, command: &str) -> Result<String, Fail> {
+        let (word, rest) = command.split_once(" ").ok_or("no session")?;
+        let (session, text) = rest.split_once(" ").unwrap_or((rest, ""));
+        let session = session.parse::<u64>()?;
+        match word {
+            "leave" => self.outbox.leave(session),
+            "clear" => self.outbox.clear(session),
+            "forget" => self.outbox.forget(session),
+            "apart" => {
+                let outbox = mem::replace(&mut self.outbox, Outbox::new(alloc));
+                self.outbox = taken_apart(outbox);
+            }
+            _ => return self.tell(alloc, word, session, text),
+        }
+        Ok(String::new(alloc))
+    }
+}
+
+/// Calls are answered, and who loses a lock or becomes its owner is told so, also after its frames were cleared.
+const TOLD: &str = r#"lock 1 1 L
+lock 2 1 L
+joined 2 -> {"error":null,"id":1,"result":{"locked":false}}
+owns 1 L -> true
+owns 2 L -> false
+owns 1 M -> false
+steal 2 2 L -> lock already requested
+steal 3 "x" L
+pop 1 -> {"error":null,"id":1,"result":{"locked":true}}
+pop 1 -> {"id":null,"method":"stolen","params":["L"]}
+pop 1 -> none
+joined 3 -> {"error":null,"id":"x","result":{"locked":true}}
+clear 2
+apart 0
+owns 3 L -> true
+forget 1
+leave 3
+owns 1 L -> true
+pop 1 -> {"id":null,"method":"locked","params":["L"]}
+unlock 1 2 L
+pop 1 -> {"error":null,"id":2,"result":{}}
+pop 2 -> {"id":null,"method":"locked","params":["L"]}
+unlock 1 3 L -> lock not held
+pop 1 -> none"#;
+
+/// Frames wait as they are put, and a queue that is forgotten has none.
+const PUT: &str = "push 1 a -> true
+push 1 b -> true
+push 2 c -> true
+forget 1
+joined 1 -> ab
+pop 1 -> a
+clear 1
+joined 1
+pop 2 -> c
+forget 2
+pop 2 -> none
+apart 0
+push 2 d -> true
+joined 2 -> d";
+
+#[test]
+fn sessions_are_told_of_locks(rt: HostRuntime) -> Result<(), Fail> {
+    for script in [TOLD, PUT] {
+        let outbox = Outbox::new(rt.alloc());
+        agrees(rt.alloc(), Sending { outbox }, script)?;
+    }
+    Ok(())
+}

@@ -1,0 +1,349 @@
+use ov_base::Bytes;
+use ov_core::{Cause, Event, Session, Stepped};
+use ov_rpc::Received;
+use std::alloc::Global;
+use std::test::Fail;
+use test_support::{Faults, NetCore, Scripted, agrees, net_core};
+
+/// A machine behind a script, for transactions that wait.
+///
+/// `wait SERIAL ID NAME` is a transaction that waits for a switch of the name, with a timeout in milliseconds behind it or without
+/// one, `insert SERIAL ID NAME` one that inserts it, and `chain SERIAL ID NAME OTHER` one that waits for the first and inserts the
+/// other. `waits SERIAL FIRST BEYOND` takes waits for s9 with the ids from the first up to below the second, and `cancel SERIAL ID`
+/// the note that cancels one. `open`, `tick MOMENT` and `finish SERIAL` are the other events. `got SERIAL` tells what a session was
+/// sent since then, `outcomes` the attempts that the last entry lists, and `due` when the first of the transactions times out.
+#[derive(Drop)]
+struct Waits {
+    core: NetCore,
+}
+
+/// The session of a serial's text.
+fn session_of(serial: &str) -> Result<Session, Fail> {
+    Ok(Session {
+        key: 0,
+        serial: serial.parse::<u64>()?,
+    })
+}
+
+/// The operation that waits for a switch of a name.
+fn wait_for(alloc: Global, name: &str, timeout: &str) -> Result<String, Fail> {
+    Ok(format!(in alloc;
+        "{{\"op\":\"wait\",\"table\":\"Switch\",{timeout}\"where\":[[\"name\",\"==\",\"{name}\"]],\"columns\":[\"name\"],\"until\":\"==\",\"rows\":[{{\"name\":\"{name}\"}}]}}"
+    )?)
+}
+
+/// The operation that inserts a switch of a name.
+fn insert_of(alloc: Global, name: &str) -> Result<String, Fail> {
+    Ok(format!(in alloc;
+        "{{\"op\":\"insert\",\"table\":\"Switch\",\"row\":{{\"name\":\"{name}\"}}}}"
+    )?)
+}
+
+impl Waits {
+    /// Enters an event at a moment.
+    fn step(&mut self, alloc: Global, moment: u64, event: Event<Received>) -> Result<String, Fail> {
+        match self.core.step(alloc, moment, event) {
+            Stepped::Opened(session) => Ok(format!(in alloc; "{}", session.serial)?),
+            Stepped::Done => Ok(String::new(alloc)),
+            stepped => Ok(format!(in alloc; "{stepped:?}")?),
+        }
+    }
+
+    /// Takes a message of a session.
+    fn take(&mut self, alloc: Global, serial: &str, text: &str) -> Result<String, Fail> {
+        let received = Received::read(alloc, Bytes::from_slice(alloc, text.as_bytes())?)?;
+        self.step(alloc, 0, Event::Take(session_of(serial)?, received))
+    }
+
+    /// Takes a transaction of a session.
+    fn transact(
+        &mut self,
+        alloc: Global,
+        serial: &str,
+        id: &str,
+        operations: &str,
+    ) -> Result<String, Fail> {
+        let text = format!(in alloc;
+            "{{\"id\":{id},\"method\":\"transact\",\"params\":[\"Net\",{operations}]}}"
+        )?;
+        self.take(alloc, serial, text.as_str())
+    }
+
+    /// Takes the note that cancels a transaction.
+    fn cancel(&mut self, alloc: Global, serial: &str, id: &str) -> Result<String, Fail> {
+        let text = format!(in alloc; "{{\"id\":null,\"method\":\"cancel\",\"params\":[{id}]}}")?;
+        self.take(alloc, serial, text.as_str())
+    }
+
+    /// Takes a transaction that waits for one switch and inserts another.
+    fn chain(
+        &mut self,
+        alloc: Global,
+        serial: &str,
+        id: &str,
+        names: &str,
+    ) -> Result<String, Fail> {
+        let (name, other) = names.split_once(" ").ok_or("no name")?;
+        let wait = wait_for(alloc, name, "")?;
+        let insert = insert_of(alloc, other)?;
+        let operations = format!(in alloc; "{wait},{insert}")?;
+        self.transact(alloc, serial, id, operations.as_str())
+    }
+
+    /// Takes a transaction that waits for a switch.
+    fn wait(&mut self, alloc: Global, serial: &str, id: &str, rest: &str) -> Result<String, Fail> {
+        let operation = match rest.split_once(" ") {
+            Some((name, timeout)) => {
+                let timeout = format!(in alloc; "\"timeout\":{timeout},")?;
+                wait_for(alloc, name, timeout.as_str())?
+            }
+            None => wait_for(alloc, rest, "")?,
+        };
+        self.transact(alloc, serial, id, operation.as_str())
+    }
+
+    /// Takes waits for s9 of a session, by their ids.
+    fn waits(
+        &mut self,
+        alloc: Global,
+        serial: &str,
+        first: &str,
+        beyond: &str,
+    ) -> Result<String, Fail> {
+        for id in first.parse::<u64>()?..beyond.parse::<u64>()? {
+            let id = format!(in alloc; "{id}")?;
+            self.wait(alloc, serial, id.as_str(), "s9")?;
+        }
+        Ok(String::new(alloc))
+    }
+
+    /// What a session was sent.
+    fn got(&mut self, alloc: Global, serial: &str) -> Result<String, Fail> {
+        let output = self.core.take_output(alloc, session_of(serial)?)?;
+        Ok(String::from_utf8(output.into_vec())?)
+    }
+
+    /// The attempts that the last entry lists.
+    fn outcomes(&self, alloc: Global) -> Result<String, Fail> {
+        let entry = self.core.history().back().ok_or("no entry")?;
+        let mut text = String::new(alloc);
+        for attempt in &entry.choice.outcomes {
+            text.push_str(format!(in alloc;
+                "{} {:?};",
+                attempt.number, attempt.outcome
+            )?.as_str())?;
+        }
+        Ok(text)
+    }
+
+    /// When the first of the transactions times out.
+    fn due(&self, alloc: Global) -> Result<String, Fail> {
+        match self.core.due() {
+            Some(due) => Ok(format!(in alloc; "{due}")?),
+            None => Ok(String::from_str(alloc, "none")?),
+        }
+    }
+
+    /// What comes of a transaction of a session.
+    fn act(&mut self, alloc: Global, word: &str, serial: &str, rest: &str) -> Result<String, Fail> {
+        let (id, rest) = rest.split_once(" ").unwrap_or((rest, ""));
+        match word {
+            "wait" => self.wait(alloc, serial, id, rest),
+            "waits" => self.waits(alloc, serial, id, rest),
+            "chain" => self.chain(alloc, serial, id, rest),
+            "cancel" => self.cancel(alloc, serial, id),
+            "insert" => {
+                let operation = insert_of(alloc, rest)?;
+                self.transact(alloc, serial, id, operation.as_str())
+            }
+            _ => Err(Fail::new("no command")),
+        }
+    }
+}
+
+impl Scripted for Waits {
+    fn answer(&mut self, alloc: Global, command: &str) -> Result<String, Fail> {
+        let (word, rest) = command.split_once(" ").unwrap_or((command, ""));
+        let (serial, others) = rest.split_once(" ").unwrap_or((rest, ""));
+        match word {
+            "open" => self.step(alloc, 0, Event::Open),
+            "tick" => self.step(alloc, rest.parse::<u64>()?, Event::Tick),
+            "finish" => {
+                let session = session_of(serial)?;
+                self.step(alloc, 0, Event::Close(session, Cause::InputEnded))
+            }
+            "got" => self.got(alloc, serial),
+            "outcomes" => self.outcomes(alloc),
+            "due" => self.due(alloc),
+            _ => self.act(alloc, word, serial, others),
+        }
+    }
+}
+
+/// Runs a script of commands to a new machine, whose keeper fails as it is told.
+fn waits_over(alloc: Global, faults: Faults, script: &str) -> Result<(), Fail> {
+    let core = net_core(alloc, faults)?;
+    agrees(alloc, Waits { core }, script)
+}
+
+/// An insert of another session meets a wait. A second transaction with the id of one that waits is refused, and draws nothing.
+const MET: &str = r#"open -> 1
+open -> 2
+wait 1 1 s9
+got 1
+outcomes
+wait 1 1 s9
+got 1 -> {"error":"duplicate request id","id":1,"result":null}
+insert 2 1 s9
+got 2 -> {"error":null,"id":1,"result":[{"uuid":["uuid","00000000-0000-4000-8000-000000000003"]}]}
+got 1 -> {"error":null,"id":1,"result":[{}]}
+outcomes -> 1 Kept;
+insert 2 2 s8
+got 1"#;
+
+#[test]
+fn wait_is_met_by_another(rt: HostRuntime) -> Result<(), Fail> {
+    waits_over(rt.alloc(), Faults::NONE, MET)
+}
+
+/// A wait times out where its timeout has passed since it arrived, whatever was tried since then; or it is canceled.
+const TIMED_OUT: &str = r#"open -> 1
+wait 1 1 s9 0
+got 1 -> {"error":null,"id":1,"result":[{"error":"timed out"}]}
+tick 1000
+wait 1 1 s9 50
+wait 1 2 s9 70
+due -> 1050
+tick 1049
+got 1
+insert 1 3 s1
+got 1 -> {"error":null,"id":3,"result":[{"uuid":["uuid","00000000-0000-4000-8000-000000000005"]}]}
+tick 1050
+got 1 -> {"error":null,"id":1,"result":[{"error":"timed out"}]}
+due -> 1070
+tick 1070
+got 1 -> {"error":null,"id":2,"result":[{"error":"timed out"}]}
+due -> none
+wait 1 4 s9
+due -> none
+cancel 1 4
+got 1 -> {"error":"canceled","id":4,"result":null}
+outcomes"#;
+
+#[test]
+fn wait_times_out(rt: HostRuntime) -> Result<(), Fail> {
+    waits_over(rt.alloc(), Faults::NONE, TIMED_OUT)
+}
+
+/// A try that changes the database begins the tries anew with the first: attempt 2 leaves 1 waiting, 3 answers 2, and 4 answers 1.
+const AGAIN: &str = r#"open -> 1
+open -> 2
+wait 1 1 s10
+chain 1 2 s9 s10
+got 1
+insert 2 1 s9
+got 2 -> {"error":null,"id":1,"result":[{"uuid":["uuid","00000000-0000-4000-8000-000000000005"]}]}
+got 1 -> {"error":null,"id":2,"result":[{},{"uuid":["uuid","00000000-0000-4000-8000-000000000003"]}]}{"error":null,"id":1,"result":[{}]}
+outcomes -> 1 Kept;3 Kept;"#;
+
+#[test]
+fn settling_starts_again(rt: HostRuntime) -> Result<(), Fail> {
+    waits_over(rt.alloc(), Faults::NONE, AGAIN)
+}
+
+/// Up to 64 transactions of a session wait. The others of what is sent to session 1 stand behind these lines.
+const SIXTY_FOUR: &str = r#"open -> 1
+open -> 2
+waits 1 1 65
+got 1
+insert 1 65 s9
+got 1 -> {"error":"resources exhausted","id":65,"result":null}
+wait 2 65 s8
+got 2
+cancel 1 1
+got 1 -> {"error":"canceled","id":1,"result":null}
+insert 1 65 s9
+got 2
+got 1 -> {"error":null,"id":65,"result":[{"uuid":["uuid","00000000-0000-4000-8000-000000000043"]}]}"#;
+
+#[test]
+fn sixty_four_wait_at_most(rt: HostRuntime) -> Result<(), Fail> {
+    let mut script = String::from_str(rt.alloc(), SIXTY_FOUR)?;
+    for id in 2..65 {
+        let reply = format!(in rt.alloc(); "{{\"error\":null,\"id\":{id},\"result\":[{{}}]}}")?;
+        script.push_str(reply.as_str())?;
+    }
+    waits_over(rt.alloc(), Faults::NONE, script.as_str())
+}
+
+/// What a closed session asked for is dropped. A cancel of an id that does not wait, or that waits for another session, does nothing.
+const DROPPED: &str = r#"open -> 1
+open -> 2
+wait 1 1 s9 50
+wait 2 1 s9 60
+cancel 2 2
+cancel 1 "1"
+got 1
+got 2
+due -> 50
+finish 1
+due -> 60
+cancel 2 1
+got 2 -> {"error":"canceled","id":1,"result":null}
+due -> none
+cancel 2 1
+got 2
+insert 2 1 s9
+got 1
+got 2 -> {"error":null,"id":1,"result":[{"uuid":["uuid","00000000-0000-4000-8000-000000000004"]}]}"#;
+
+#[test]
+fn a_closed_session_waits_for_nothing(rt: HostRuntime) -> Result<(), Fail> {
+    waits_over(rt.alloc(), Faults::NONE, DROPPED)
+}
+
+/// The last moment is 2^64-1. What would time out behind it never does.
+const LATE: &str = r#"open -> 1
+tick 9223372036854775808
+wait 1 1 s9 9223372036854775807
+due -> 18446744073709551615
+cancel 1 1
+got 1 -> {"error":"canceled","id":1,"result":null}
+tick 9223372036854775809
+wait 1 2 s9 9223372036854775807
+due -> none
+tick 18446744073709551615
+got 1
+insert 1 3 s9
+got 1 -> {"error":null,"id":3,"result":[{"uuid":["uuid","00000000-0000-4000-8000-000000000004"]}]}{"error":null,"id":2,"result":[{}]}"#;
+
+#[test]
+fn what_is_due_behind_the_last_moment_never_is(rt: HostRuntime) -> Result<(), Fail> {
+    waits_over(rt.alloc(), Faults::NONE, LATE)
+}
+
+/// The device fails at the second commit, which is that of a later try: its session is told, and the database is sealed. What
+/// waits still waits, and times out.
+const SEALED: &str = r#"open -> 1
+open -> 2
+chain 1 1 s9 s10
+wait 1 2 s10 50
+insert 2 1 s9
+got 2 -> {"error":null,"id":1,"result":[{"uuid":["uuid","00000000-0000-4000-8000-000000000005"]}]}
+got 1 -> {"error":null,"id":1,"result":[{},{"uuid":["uuid","00000000-0000-4000-8000-000000000002"]},{"error":"I/O error"}]}
+outcomes -> 1 Kept;2 Failed;
+insert 2 2 s10
+got 2 -> {"error":null,"id":2,"result":[{"uuid":["uuid","00000000-0000-4000-8000-000000000007"]},{"error":"I/O error"}]}
+got 1
+tick 50
+got 1 -> {"error":null,"id":2,"result":[{"error":"timed out"}]}"#;
+
+#[test]
+fn a_later_try_may_fail(rt: HostRuntime) -> Result<(), Fail> {
+    let faults = Faults {
+        is_too_large: false,
+        good: 1,
+        bad: 1,
+    };
+    waits_over(rt.alloc(), faults, SEALED)
+}

@@ -1,0 +1,117 @@
+use crate::keepers::Faults;
+use crate::machine::{NetCore, net_core};
+use crate::scripts::{Scripted, agrees};
+use ov_base::Bytes;
+use ov_core::{Cause, Event, Session, Stepped};
+use ov_rpc::Received;
+use std::alloc::Global;
+use std::test::Fail;
+
+/// A machine behind a script, for calls of several sessions.
+///
+/// `call SERIAL ID METHOD PARAMS` is a call, answered with all that its session was sent since it was last looked at, and `got
+/// SERIAL` tells the same without a call. With the id `null` it is a notification. The other events are `open COUNT` for so many
+/// sessions, which tells their serials, `end SERIAL` and `tick MOMENT`; `close SERIAL` closes a session that did not take what
+/// was sent to it.
+#[derive(Drop)]
+struct Callers {
+    core: NetCore,
+}
+
+/// The session of a serial's text. Its key is not known here, and the machine goes by serials.
+fn session_of(serial: &str) -> Result<Session, Fail> {
+    Ok(Session {
+        key: 0,
+        serial: serial.parse::<u64>()?,
+    })
+}
+
+/// The message of a call: its id, its method and its params.
+fn message_of(alloc: Global, call: &str) -> Result<Received, Fail> {
+    let (id, rest) = call.split_once(" ").ok_or("no method")?;
+    let (method, params) = rest.split_once(" ").ok_or("no params")?;
+    let text = format!(in alloc; "{{\"id\":{id},\"method\":\"{method}\",\"params\":{params}}}")?;
+    Ok(Received::read(alloc, Bytes::from_slice(alloc, text.as_bytes())?)?)
+}
+
+impl Callers {
+    /// Enters an event.
+    fn step(&mut self, alloc: Global, moment: u64, event: Event<Received>) -> Result<String, Fail> {
+        match self.core.step(alloc, moment, event) {
+            Stepped::Opened(session) => Ok(format!(in alloc; "{}", session.serial)?),
+            Stepped::Done => Ok(String::new(alloc)),
+            stepped => Ok(format!(in alloc; "{stepped:?}")?),
+        }
+    }
+
+    /// Opens so many sessions, and tells their serials.
+    fn open(&mut self, alloc: Global, count: u64) -> Result<String, Fail> {
+        let mut serials = String::new(alloc);
+        for _ in 0..count {
+            let serial = self.step(alloc, 0, Event::Open)?;
+            serials.push_str(serial.as_str())?;
+            serials.push_str(";")?;
+        }
+        Ok(serials)
+    }
+
+    /// What a session was sent.
+    fn got(&mut self, alloc: Global, session: Session) -> Result<String, Fail> {
+        let output = self.core.take_output(alloc, session)?;
+        Ok(String::from_utf8(output.into_vec())?)
+    }
+
+    /// Takes a call of a session.
+    fn call(&mut self, alloc: Global, session: Session, call: &str) -> Result<String, Fail> {
+        let message = message_of(alloc, call)?;
+        let stepped = self.step(alloc, 0, Event::Take(session, message))?;
+        if stepped.is_empty() {
+            self.got(alloc, session)
+        } else {
+            Ok(stepped)
+        }
+    }
+
+    /// What comes of a command for a session.
+    fn act(
+        &mut self,
+        alloc: Global,
+        word: &str,
+        session: Session,
+        rest: &str,
+    ) -> Result<String, Fail> {
+        match word {
+            "call" => self.call(alloc, session, rest),
+            "got" => self.got(alloc, session),
+            "end" => self.step(alloc, 0, Event::Close(session, Cause::InputEnded)),
+            "close" => {
+                let is_closed = self.core.close(session, Cause::Overrun);
+                Ok(format!(in alloc; "{is_closed}")?)
+            }
+            _ => Err(Fail::new("no command")),
+        }
+    }
+}
+
+impl Scripted for Callers {
+    fn answer(&mut self, alloc: Global, command: &str) -> Result<String, Fail> {
+        let (word, rest) = command.split_once(" ").unwrap_or((command, ""));
+        let (number, rest) = rest.split_once(" ").unwrap_or((rest, ""));
+        match word {
+            "open" => self.open(alloc, number.parse::<u64>()?),
+            "tick" => self.step(alloc, number.parse::<u64>()?, Event::Tick),
+            _ => self.act(alloc, word, session_of(number)?, rest),
+        }
+    }
+}
+
+/// Runs a script of commands to a new machine, whose keeper fails as it is told.
+pub fn calls_over(alloc: Global, faults: Faults, script: &str) -> Result<(), Fail> {
+    let core = net_core(alloc, faults)?;
+    agrees(alloc, Callers { core }, script)
+}
+
+/// The same over a keeper that keeps all.
+pub fn calls(alloc: Global, script: &str) -> Result<(), Fail> {
+    calls_over(alloc, Faults::NONE, script)
+}
