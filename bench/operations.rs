@@ -9,23 +9,14 @@ mod systems;
 mod turns;
 
 use std::process::ExitCode;
-use std::time::{Duration, Instant};
-use systems::{Exchange, Measured, Outcome, Server, System, inserts, say, transact};
-use turns::Bench;
+use systems::{Exchange, Measured, Outcome, Server, System, by_identifier, inserts, say, transact};
+use turns::{Bench, STEP};
 
 /// The tables, by their rows.
 const TABLES: [usize; 3] = [1_000, 10_000, 100_000];
 
 /// How many rows one of the long transactions inserts.
 const INSERTS: usize = 1_000;
-
-/// A turn has so many requests, or as many as begin in this time.
-const REQUESTS_IN_A_TURN: usize = 100;
-const LONGEST_TURN: Duration = Duration::from_millis(50);
-
-/// How many rows stand between two that are asked for one after the other. It has no divisor with the tables' sizes in common,
-/// so all rows have their turn.
-const STEP: usize = 7_919;
 
 /// No row has this identifier.
 const NO_ROW: &str = "00000000-0000-0000-0000-000000000000";
@@ -88,10 +79,6 @@ impl Key {
     }
 }
 
-fn by_identifier(identifier: &str) -> String {
-    format!("[\"_uuid\",\"==\",[\"uuid\",\"{identifier}\"]]")
-}
-
 /// A row as it must be in a server's table. Its name tells its number.
 struct Row {
     identifier: String,
@@ -108,14 +95,9 @@ struct Table {
 impl Table {
     /// Brings a server's empty table to so many rows.
     fn fill(mut server: Server, rows: usize) -> Outcome<Table> {
-        let mut all = Vec::new();
-        while all.len() < rows {
-            let exchange = inserts(server.system, all.len() as u64, INSERTS.min(rows - all.len()));
-            let identifiers = server.ask_for_identifiers(&exchange)?;
-            all.extend((all.len()..).zip(identifiers).map(|(load, identifier)| Row { identifier, load }));
-        }
-        server.rows = rows as u64;
-        Ok(Table { server, rows: all, last: 0 })
+        let identifiers = server.fill(rows)?;
+        let rows = (0..).zip(identifiers).map(|(load, identifier)| Row { identifier, load }).collect();
+        Ok(Table { server, rows, last: 0 })
     }
 
     /// An operation on the row of a number, which must be there once.
@@ -152,25 +134,19 @@ impl Table {
             return self.read_back(&identifier, Some(load));
         }
         self.read_back(&identifier, None)?;
-        let drawn = self.server.ask_for_identifiers(&inserts(self.server.system, n as u64, 1))?;
-        let identifier = drawn.into_iter().next().ok_or("an insert without an identifier")?;
+        let identifier = self.server.ask_for_identifier(&inserts(self.server.system, n as u64, 1))?;
         self.rows[n] = Row { identifier, load: n };
         Ok(())
     }
 
-    /// A turn of one operation: the next one when the last one is answered.
+    /// A turn of one operation.
     fn turn(&mut self, operation: Operation, key: Key, measured: &mut Measured) -> Outcome<()> {
-        let begin = Instant::now();
-        for _ in 0..REQUESTS_IN_A_TURN {
-            if begin.elapsed() > LONGEST_TURN {
-                break;
-            }
+        turns::turn(|| {
             self.last = (self.last + STEP) % self.rows.len();
             let exchange = self.exchange(operation, key, self.last);
             measured.time(|| self.server.ask(&exchange))?;
-            self.settle(operation, self.last)?;
-        }
-        Ok(())
+            self.settle(operation, self.last)
+        })
     }
 }
 

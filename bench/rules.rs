@@ -1,35 +1,24 @@
-//! A driver for commits by the rules of RFC 7047, 3.2, in memory beside Open vSwitch's ovsdb-server: an insert into a table with an
-//! index, an update of an indexed column, a delete that takes a referenced row with it, and a select by an indexed name, in
-//! tables of three sizes.
+//! A driver for commits by the rules of RFC 7047, 3.2, in memory beside Open vSwitch's ovsdb-server: an insert into a table
+//! with an index, an update of an indexed column, a delete that takes a referenced row with it, and a select by an indexed
+//! name, in tables of three sizes.
 //!
 //! Each switch has one port, which goes with it. Each reply is compared with the one that is wanted, byte by byte; where an
-//! identifier is drawn, any one will do. What a transaction did is looked at, and undone, outside the clock. Plain Rust, std only;
-//! `bench/run` builds and starts it.
+//! identifier is drawn, any one will do. What a transaction did is looked at, and undone, outside the clock. Plain Rust, std
+//! only; `bench/run` builds and starts it.
 
 mod systems;
 mod turns;
 
 use std::process::ExitCode;
-use std::time::{Duration, Instant};
-use systems::{Exchange, Measured, Outcome, Server, System, transact};
-use turns::Bench;
+use std::time::Instant;
+use systems::{Exchange, Measured, Outcome, Server, System, by_identifier, deletion, inserted, transact};
+use turns::{Bench, STEP};
 
 /// The tables, by their switches.
 const TABLES: [usize; 3] = [1_000, 10_000, 100_000];
 
 /// How many switches one transaction inserts while a table is filled.
 const FILLED_AT_ONCE: usize = 500;
-
-/// A turn has so many requests, or as many as begin in this time.
-const REQUESTS_IN_A_TURN: usize = 100;
-const LONGEST_TURN: Duration = Duration::from_millis(50);
-
-/// How many switches stand between two that are asked for one after the other. It has no divisor with the tables' sizes in
-/// common, so all have their turn.
-const STEP: usize = 7_919;
-
-/// Stands in a wanted reply for an identifier that the server draws.
-const DRAWN: &str = "\0\0\0\0\0\0\0\0\0\0\0\0\0\0\0\0\0\0\0\0\0\0\0\0\0\0\0\0\0\0\0\0\0\0\0\0";
 
 /// What is measured.
 #[derive(Clone, Copy, PartialEq)]
@@ -60,17 +49,6 @@ struct Switch {
     name: String,
 }
 
-fn by_identifier(identifier: &str) -> String {
-    format!("[\"_uuid\",\"==\",[\"uuid\",\"{identifier}\"]]")
-}
-
-/// A delete of the switch of an identifier, which must be there.
-fn deletion(n: usize, identifier: &str) -> Exchange {
-    let condition = by_identifier(identifier);
-    let operation = format!(",{{\"op\":\"delete\",\"table\":\"Switch\",\"where\":[{condition}]}}");
-    transact(n as u64, &operation, "[{\"count\":1}]".into())
-}
-
 /// One transaction that inserts switches of the numbers from `first` on, each with its port.
 fn with_ports(first: usize, switches: usize) -> Exchange {
     let operations: String = (first..first + switches)
@@ -82,7 +60,7 @@ fn with_ports(first: usize, switches: usize) -> Exchange {
             )
         })
         .collect();
-    let results = vec![format!("{{\"uuid\":[\"uuid\",\"{DRAWN}\"]}}"); 2 * switches];
+    let results = vec![inserted(); 2 * switches];
     transact(first as u64, &operations, format!("[{}]", results.join(",")))
 }
 
@@ -128,13 +106,12 @@ impl Table {
     /// One insert of a switch without a port. It is deleted again outside the clock.
     fn insert(&mut self, n: usize, measured: &mut Measured) -> Outcome<()> {
         let operation = format!(",{{\"op\":\"insert\",\"table\":\"Switch\",\"row\":{{\"load\":{n},\"name\":\"new {n}\"}}}}");
-        let exchange = transact(n as u64, &operation, format!("[{{\"uuid\":[\"uuid\",\"{DRAWN}\"]}}]"));
+        let exchange = transact(n as u64, &operation, format!("[{}]", inserted()));
         let begin = Instant::now();
-        let drawn = self.server.ask_for_identifiers(&exchange)?;
+        let identifier = self.server.ask_for_identifier(&exchange)?;
         measured.add(begin.elapsed());
-        let identifier = drawn.first().ok_or("an insert without an identifier")?;
-        self.read_back("Switch", identifier, Some(&format!("new {n}")))?;
-        self.server.ask(&deletion(n, identifier))
+        self.read_back("Switch", &identifier, Some(&format!("new {n}")))?;
+        self.server.ask(&deletion(n as u64, &identifier))
     }
 
     /// One update of the name of a switch, which has two names in turn.
@@ -153,7 +130,7 @@ impl Table {
     /// One delete of a switch. Its port must be gone then; both are inserted again outside the clock.
     fn delete(&mut self, n: usize, measured: &mut Measured) -> Outcome<()> {
         let Switch { identifier, port, .. } = &self.switches[n];
-        let (exchange, identifier, port) = (deletion(n, identifier), identifier.clone(), port.clone());
+        let (exchange, identifier, port) = (deletion(n as u64, identifier), identifier.clone(), port.clone());
         measured.time(|| self.server.ask(&exchange))?;
         self.read_back("Switch", &identifier, None)?;
         self.read_back("Port", &port, None)?;
@@ -172,13 +149,9 @@ impl Table {
         measured.time(|| self.server.ask(&exchange))
     }
 
-    /// A turn of one figure: the next request when the last one is answered.
+    /// A turn of one figure.
     fn turn(&mut self, figure: Figure, measured: &mut Measured) -> Outcome<()> {
-        let begin = Instant::now();
-        for _ in 0..REQUESTS_IN_A_TURN {
-            if begin.elapsed() > LONGEST_TURN {
-                break;
-            }
+        turns::turn(|| {
             self.last = (self.last + STEP) % self.switches.len();
             let n = self.last;
             match figure {
@@ -186,9 +159,8 @@ impl Table {
                 Figure::Rename => self.rename(n, measured),
                 Figure::Delete => self.delete(n, measured),
                 Figure::Select => self.select(n, measured),
-            }?;
-        }
-        Ok(())
+            }
+        })
     }
 }
 

@@ -20,7 +20,7 @@ pub type Outcome<T> = Result<T, String>;
 const SCHEMA: &str = r#"{"name":"Net","tables":{"Port":{"columns":{"name":{"type":"string"},"peer":{"type":{"key":{"refTable":"Port","type":"uuid"},"max":1,"min":0}},"tag":{"type":{"key":{"maxInteger":4095,"minInteger":0,"type":"integer"},"max":1,"min":0}}}},"Switch":{"columns":{"load":{"type":"integer"},"main":{"type":{"key":{"refTable":"Port","refType":"weak","type":"uuid"},"max":1,"min":0}},"name":{"type":"string"},"ports":{"type":{"key":{"refTable":"Port","type":"uuid"},"max":"unlimited","min":0}}},"indexes":[["name"]],"isRoot":true}},"version":"1.0.0"}"#;
 
 /// Stands in a wanted reply for each byte of an identifier that the server draws.
-const DRAWN: u8 = 0;
+const DRAWN: char = '\0';
 
 /// How many bytes an identifier has.
 const IDENTIFIER: usize = 36;
@@ -94,6 +94,22 @@ pub fn transact(id: u64, operations: &str, result: String) -> Exchange {
     Exchange { id, request: format!("{{\"id\":{id},\"method\":\"transact\",\"params\":[\"Net\"{operations}]}}"), result }
 }
 
+pub fn by_identifier(identifier: &str) -> String {
+    format!("[\"_uuid\",\"==\",[\"uuid\",\"{identifier}\"]]")
+}
+
+/// The result of an insert, whose identifier the server draws.
+pub fn inserted() -> String {
+    format!("{{\"uuid\":[\"uuid\",\"{}\"]}}", String::from(DRAWN).repeat(IDENTIFIER))
+}
+
+/// A delete of the switch of an identifier, which must be there.
+pub fn deletion(id: u64, identifier: &str) -> Exchange {
+    let condition = by_identifier(identifier);
+    let operation = format!(",{{\"op\":\"delete\",\"table\":\"Switch\",\"where\":[{condition}]}}");
+    transact(id, &operation, "[{\"count\":1}]".into())
+}
+
 /// One transaction that inserts rows of the numbers from `first` on. The peer is told that it must be on the disk before
 /// the reply (RFC 7047, 5.2.7); ours always is.
 pub fn inserts(system: System, first: u64, rows: usize) -> Exchange {
@@ -101,8 +117,7 @@ pub fn inserts(system: System, first: u64, rows: usize) -> Exchange {
         .take(rows)
         .map(|n| format!(",{{\"op\":\"insert\",\"table\":\"Switch\",\"row\":{{\"load\":{n},\"name\":\"switch {n}\"}}}}"))
         .collect();
-    let drawn = String::from(char::from(DRAWN)).repeat(IDENTIFIER);
-    let mut results = vec![format!("{{\"uuid\":[\"uuid\",\"{drawn}\"]}}"); rows];
+    let mut results = vec![inserted(); rows];
     if system == System::DurablePeer {
         operations.push_str(",{\"op\":\"commit\",\"durable\":true}");
         results.push("{}".into());
@@ -120,7 +135,7 @@ pub fn search(n: u64) -> Exchange {
 
 fn is_wanted(seen: &[u8], wanted: &[u8]) -> bool {
     let is_of_an_id = |byte: u8| byte == b'-' || byte.is_ascii_hexdigit();
-    seen.iter().zip(wanted).all(|(&s, &w)| s == w || w == DRAWN && is_of_an_id(s))
+    seen.iter().zip(wanted).all(|(&s, &w)| s == w || char::from(w) == DRAWN && is_of_an_id(s))
 }
 
 /// A process that is killed where it has not ended.
@@ -174,11 +189,33 @@ impl Server {
 
     /// Reads as many bytes as the wanted reply has, and gives them.
     pub fn take(&mut self, exchange: &Exchange) -> Outcome<String> {
-        let length = exchange.reply(self.order).len();
+        self.take_bytes(exchange.reply(self.order).len())
+    }
+
+    /// Reads so many bytes, and gives them.
+    pub fn take_bytes(&mut self, length: usize) -> Outcome<String> {
         while self.unread.len() < length {
             self.read()?;
         }
         String::from_utf8(self.unread.drain(..length).collect()).map_err(|e| format!("a reply: {e}"))
+    }
+
+    /// Reads until a text that stands before a reply is whole, and compares it.
+    pub fn receive_before(&mut self, text: &str) -> Outcome<()> {
+        let text = text.as_bytes();
+        while self.unread.len() < text.len() && (self.unread.last() != Some(&b'}') || text.starts_with(&self.unread)) {
+            self.read()?;
+        }
+        if !self.unread.starts_with(text) {
+            return Err(self.wrong(&self.unread));
+        }
+        self.unread.drain(..text.len());
+        Ok(())
+    }
+
+    fn wrong(&self, seen: &[u8]) -> String {
+        let seen = String::from_utf8_lossy(&seen[..seen.len().min(300)]);
+        format!("a wrong reply of {}: {seen}", self.system.name())
     }
 
     /// Reads until the wanted reply is whole, and compares it.
@@ -205,10 +242,7 @@ impl Server {
     /// The order in which the wanted reply begins with these bytes.
     fn fitting(&self, seen: &[u8], exchange: &Exchange, orders: &[Order]) -> Outcome<Order> {
         let order = orders.iter().find(|&&order| is_wanted(seen, &exchange.reply(order)));
-        order.copied().ok_or_else(|| {
-            let seen = String::from_utf8_lossy(&seen[..seen.len().min(300)]);
-            format!("a wrong reply of {}: {seen}", self.system.name())
-        })
+        order.copied().ok_or_else(|| self.wrong(seen))
     }
 
     /// Sends a request whole before it reads the reply: a server answers a message only when it has all of it.
@@ -224,6 +258,12 @@ impl Server {
         let reply: Vec<u8> = self.unread.drain(..length).collect();
         let parts = reply.split(|&byte| byte == b'"').filter(|part| part.len() == IDENTIFIER);
         Ok(parts.map(|part| String::from_utf8_lossy(part).into_owned()).collect())
+    }
+
+    /// Asks for an insert of one row, and gives its identifier.
+    pub fn ask_for_identifier(&mut self, exchange: &Exchange) -> Outcome<String> {
+        let drawn = self.ask_for_identifiers(exchange)?;
+        drawn.into_iter().next().ok_or("an insert without an identifier".into())
     }
 
     /// Asks, and tells whether the reply is the wanted one; a transaction whose one operation is unknown to the server
@@ -248,15 +288,16 @@ impl Server {
         Ok(())
     }
 
-    /// Brings the table to so many rows.
-    pub fn fill(&mut self, rows: usize) -> Outcome<()> {
+    /// Brings the table to so many rows, and gives the identifiers of the new ones.
+    pub fn fill(&mut self, rows: usize) -> Outcome<Vec<String>> {
+        let mut identifiers = Vec::new();
         while self.rows < rows as u64 {
             let count = FILLED_AT_ONCE.min(rows - self.rows as usize);
             let exchange = inserts(self.system, self.rows, count);
-            self.ask(&exchange)?;
+            identifiers.extend(self.ask_for_identifiers(&exchange)?);
             self.rows += count as u64;
         }
-        Ok(())
+        Ok(identifiers)
     }
 
     /// Resident memory in KiB.

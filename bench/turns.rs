@@ -9,10 +9,24 @@
 use crate::systems::{Folder, Measured, Outcome, Server, System, Systems, say};
 use std::path::{Path, PathBuf};
 use std::process::ExitCode;
-use std::time::Duration;
+use std::time::{Duration, Instant};
+
+/// A turn has so many requests, or as many as begin in this time.
+const REQUESTS_IN_A_TURN: usize = 100;
+const LONGEST_TURN: Duration = Duration::from_millis(50);
+
+/// How many rows stand between two that are asked for one after the other. It has no divisor with the tables' sizes in common,
+/// so all rows have their turn.
+pub const STEP: usize = 7_919;
 
 /// What is compared. The peer writes a file without a sync, since it has no database in memory alone.
 const SYSTEMS: [System; 2] = [System::Memory, System::Peer];
+
+/// A turn: this is done again and again, each time when the last one is answered.
+pub fn turn(mut request: impl FnMut() -> Outcome<()>) -> Outcome<()> {
+    let begin = Instant::now();
+    (0..REQUESTS_IN_A_TURN).take_while(|_| begin.elapsed() <= LONGEST_TURN).try_for_each(|_| request())
+}
 
 /// The driver: the systems that are there, where the peer's files lie, and the time for one figure of a system.
 pub struct Bench {
@@ -51,9 +65,22 @@ impl Bench {
         rows: usize,
         turn: impl FnMut(&mut Server, &mut Measured) -> Outcome<()>,
     ) -> Outcome<Vec<(System, Measured)>> {
+        self.made_ready(rows, Ok, turn, Ok)
+    }
+
+    /// Measures one figure: the systems are started anew, each is made ready, they take turns, and each is looked at in the
+    /// end. It gives what was measured of each.
+    pub fn made_ready<S>(
+        &self,
+        rows: usize,
+        ready: impl FnMut(Server) -> Outcome<S>,
+        turn: impl FnMut(&mut S, &mut Measured) -> Outcome<()>,
+        end: impl FnMut(S) -> Outcome<Server>,
+    ) -> Outcome<Vec<(System, Measured)>> {
         let folder = self.folder()?;
-        let mut servers = self.started(&folder, rows)?;
-        let measured = self.take_turns(&mut servers, turn)?;
+        let mut all: Vec<S> = self.started(&folder, rows)?.into_iter().map(ready).collect::<Outcome<_>>()?;
+        let measured = self.take_turns(&mut all, turn)?;
+        let servers: Vec<Server> = all.into_iter().map(end).collect::<Outcome<_>>()?;
         let systems: Vec<System> = servers.iter().map(|server| server.system).collect();
         servers.into_iter().try_for_each(Server::finish)?;
         Ok(systems.into_iter().zip(measured).collect())
