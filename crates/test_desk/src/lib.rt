@@ -1,5 +1,13 @@
-//! Tests of what crosses threads: the order of notes, and the rings between workers and the desk.
+//! Tests of what crosses threads: the order of notes, the rings between workers and the desk, and the workers.
 #![tactic(auto)]
 
 #[cfg(test)]
+mod gates;
+#[cfg(test)]
 mod orders;
+#[cfg(test)]
+mod readers;
+#[cfg(test)]
+mod threads;
+#[cfg(test)]
+mod writers;

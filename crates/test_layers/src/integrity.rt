@@ -360,13 +360,29 @@ Switch index 0 00000000-0000-4000-8000-000000000003
 ",
 ];
 
+/// What is told after a step.
+fn told_after(alloc: Global, looked: &mut Looked, step: &str) -> Result<String, Fail> {
+    looked.look(alloc, step)?;
+    looked.told(alloc)
+}
+
+/// What is told after each of the two steps.
+fn told_after_both(alloc: Global, looked: &mut Looked) -> Result<(String, String), Fail> {
+    let first = told_after(alloc, looked, HELD[0])?;
+    let second = told_after(alloc, looked, HELD[1])?;
+    Ok((first, second))
+}
+
+/// The same of a new database.
+fn told_of_held(alloc: Global) -> Result<(String, String), Fail> {
+    let mut looked = Looked::new(alloc, NET)?;
+    told_after_both(alloc, &mut looked)
+}
+
 #[test]
 fn holders_and_the_row_of_an_index_are_told(rt: HostRuntime) -> Result<(), Fail> {
-    let alloc = rt.alloc();
-    let mut looked = Looked::new(alloc, NET)?;
-    looked.look(alloc, HELD[0])?;
-    assert_eq!(rt; looked.told(alloc)?.as_str(), HELD_TOLD[0]);
-    looked.look(alloc, HELD[1])?;
-    assert_eq!(rt; looked.told(alloc)?.as_str(), HELD_TOLD[1]);
+    let (first, second) = told_of_held(rt.alloc())?;
+    assert_eq!(rt; first.as_str(), HELD_TOLD[0]);
+    assert_eq!(rt; second.as_str(), HELD_TOLD[1]);
     Ok(())
 }

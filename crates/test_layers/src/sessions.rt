@@ -94,7 +94,6 @@ fn sessions_are_opened_and_closed(rt: HostRuntime) -> Result<(), Fail> {
 #[derive(Drop)]
 struct Watching {
     db: Db<NetKeeper>,
-    delta: Delta,
     watchers: Watchers,
 }
 
@@ -140,9 +139,8 @@ impl Watching {
 
     /// What the monitors of a session are told of the change.
     fn updates(&self, alloc: Global, session: u64) -> Result<String, Fail> {
-        let updates = self
-            .watchers
-            .updates(alloc, &self.db, &self.delta, session)?;
+        let delta = one_switch(alloc)?;
+        let updates = self.watchers.updates(alloc, &self.db, &delta, session)?;
         text_of(alloc, updates)
     }
 }
@@ -204,7 +202,6 @@ fn sessions_have_monitors_of_their_own(rt: HostRuntime) -> Result<(), Fail> {
     let alloc = rt.alloc();
     let watching = Watching {
         db: Db::open(alloc, net_keeper(alloc, Faults::NONE)?, net(alloc)?)?,
-        delta: one_switch(alloc)?,
         watchers: Watchers::new(alloc),
     };
     agrees(alloc, watching, WATCHED)

@@ -39,14 +39,29 @@ fn insert_of(alloc: Global, name: &str) -> Result<String, Fail> {
     )?)
 }
 
+/// The text of a number.
+fn number_text(alloc: Global, number: u64) -> Result<String, Fail> {
+    Ok(format!(in alloc; "{number}")?)
+}
+
+/// What comes of an event, in the words of the code.
+fn word_of(alloc: Global, stepped: Stepped) -> Result<String, Fail> {
+    Ok(format!(in alloc; "{stepped:?}")?)
+}
+
+/// What comes of an event: the serial of the session that was opened, nothing where the event is done, and else a word.
+fn told(alloc: Global, stepped: Stepped) -> Result<String, Fail> {
+    match stepped {
+        Stepped::Opened(session) => number_text(alloc, session.serial),
+        Stepped::Done => Ok(String::new(alloc)),
+        stepped => word_of(alloc, stepped),
+    }
+}
+
 impl Waits {
     /// Enters an event at a moment.
     fn step(&mut self, alloc: Global, moment: u64, event: Event<Received>) -> Result<String, Fail> {
-        match self.core.step(alloc, moment, event) {
-            Stepped::Opened(session) => Ok(format!(in alloc; "{}", session.serial)?),
-            Stepped::Done => Ok(String::new(alloc)),
-            stepped => Ok(format!(in alloc; "{stepped:?}")?),
-        }
+        told(alloc, self.core.step(alloc, moment, event))
     }
 
     /// Takes a message of a session.

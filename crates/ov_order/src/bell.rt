@@ -1,0 +1,38 @@
+use std::sync::{Condvar, Mutex, Wait};
+
+/// A bell that the desk rings for a writer after it pushed something into the writer's ring. A ring is kept until it was waited
+/// for, so none is lost that comes before the wait; several that come before it are one.
+///
+/// No contract can say what another thread finds under the lock. So none of the calls here says whether the bell was rung:
+/// whoever waits looks into its ring again, and finds something there or waits once more.
+#[derive(Drop)]
+pub struct Bell {
+    rung: Mutex<bool>,
+    changed: Condvar,
+}
+
+impl Bell {
+    /// It was not rung yet.
+    pub fn new() -> Bell {
+        Bell {
+            rung: Mutex::new(false),
+            changed: Condvar::new(),
+        }
+    }
+
+    /// Rings it, and wakes who waits for it. Call it behind each push into the ring, the end mark's too.
+    pub fn ring<R: Wait>(&self, rt: &R) {
+        {
+            let mut rung = self.rung.lock(rt);
+            *rung = true;
+        }
+        self.changed.notify_all();
+    }
+
+    /// Waits until it was rung since the last wait, and takes that back.
+    pub fn wait<R: Wait>(&self, rt: &R) {
+        let guard = self.rung.lock(rt);
+        let mut rung = self.changed.wait_while(rt, guard, |rung| !*rung);
+        *rung = false;
+    }
+}

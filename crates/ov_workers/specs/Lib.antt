@@ -1,0 +1,4 @@
+pub mod Stream
+pub mod Reading
+pub mod Writing
+pub mod Bringing

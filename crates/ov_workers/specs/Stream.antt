@@ -1,0 +1,17 @@
+-- What a stream that came to an end asked for.
+use Rattle.std.specs.Prelude.{◌≡◌, ◌++◌, List, true, false}
+use Rattle.ov_specs.specs.wire.Message.{Message, Asked}
+use Rattle.ov_workers.specs.declared.cause.ReadCause.{ReadCause}
+use Rattle.ov_workers.specs.declared.cause.ReadCause.TheVariants.{InputEnded, ReadFault, Damaged, Memory}
+
+-- the messages are the first of those, and others may follow
+abbrev pub BeginsAs : List Message → List Message → Type 0
+BeginsAs some all = (others : List Message) × (some ++ others ≡ all)
+
+-- The messages are what the stream asked for, where it ended for this cause: all of it, behind which the stream is damaged where
+-- that is the cause, and else is not. Where memory was refused, some may be missing at the end.
+abbrev pub AreAskedFor : ReadCause → List Message → Asked → Type 0
+AreAskedFor InputEnded messages a = a ≡ record { messages = messages; damaged = false }
+AreAskedFor ReadFault messages a = a ≡ record { messages = messages; damaged = false }
+AreAskedFor Damaged messages a = a ≡ record { messages = messages; damaged = true }
+AreAskedFor Memory messages a = BeginsAs messages a.messages

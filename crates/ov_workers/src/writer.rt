@@ -1,0 +1,149 @@
+ghost use Rattle.std.specs.Prelude.{◌≡◌, ◌++◌, ◌∷◌, [], ℕ, List, map, true, false, not, is_some, MatchBool, MatchOption};
+ghost use Rattle.rtrb.specs.Ring.{received, SameConsumer};
+ghost use Rattle.ov_ends.specs.Ends.{GivesWritten};
+ghost use Rattle.ov_ends.specs.Writing.{CountsFailures};
+ghost use Rattle.ov_order.specs.declared.items.Sent.TheVariants.{Frame, End};
+ghost use Rattle.ov_workers.specs.Writing.{sink_state, Writes};
+
+use crate::gate::{Gate, Point};
+use ov_ends::{Sink, write_frame};
+use ov_order::{Bell, Order, Sent};
+use rtrb::Consumer;
+use std::sync::Wait;
+use std::sync::ledger::Ledger;
+
+/// What a writer's worker hands back.
+#[derive(Drop)]
+pub struct WriteEnd<W> {
+    /// The writer, behind the last write.
+    pub writer: W,
+    /// The worker's end of the ring, out of which it took the end mark last.
+    pub ring: Consumer<Sent>,
+    /// Whether it might begin. Where it might not, it took nothing out of the ring and wrote nothing.
+    pub begun: bool,
+    /// Whether a write or a flush failed, once, behind which it dropped what it took.
+    pub failed: bool,
+}
+
+/// Waits until it is said whether the workers may begin. Where they may, it takes what is in its ring and writes each frame
+/// whole, with nothing between two of them, until it takes the end mark, and flushes then. Where the ring is empty before that,
+/// it flushes what it wrote and waits for its bell. Once the writer has failed it is asked for nothing more, and the frames that
+/// are taken are dropped. Where the workers may not begin it takes nothing and writes nothing.
+///
+/// It waits without an end where no end mark comes, or where the bell is not rung behind it.
+pub fn write_worker<R: Wait, L: Ledger, G: Gate, W: Sink>(
+    rt: &R,
+    order: &Order<L>,
+    bell: &Bell,
+    gate: &G,
+    serial: u64,
+    writer: W,
+    ring: Consumer<Sent>,
+) -> WriteEnd<W>
+    requires { received ring ≡ [] }
+    ensures ring { SameConsumer ring result.ring }
+    ensures wrote { MatchBool result.begun
+        (Writes (not result.failed) (sink_state (W.bytes_written writer) (W.contents writer) (W.is_flushed writer) (W.faults writer))
+        (sink_state (W.bytes_written result.writer) (W.contents result.writer) (W.is_flushed result.writer) (W.faults result.writer)) (received result.ring))
+        ((received result.ring ≡ []) × (result.writer ≡ writer) × (result.failed ≡ false)) }
+{
+    let mut writer = writer;
+    let mut ring = ring;
+    let begun = order.wait_begin(rt);
+    let failed = begun && !write_all(rt, bell, gate, serial, &mut writer, &mut ring);
+    WriteEnd {
+        writer,
+        ring,
+        begun,
+        failed,
+    }
+}
+
+/// Writes the frames of the ring up to the end mark. False where the writer failed, and then they are taken all the same.
+fn write_all<R: Wait, G: Gate, W: Sink>(
+    rt: &R,
+    bell: &Bell,
+    gate: &G,
+    serial: u64,
+    writer: &mut W,
+    ring: &mut Consumer<Sent>,
+) -> bool
+    requires { received ring.old ≡ [] }
+    ensures ring { SameConsumer ring.old ring.new }
+    ensures wrote { Writes result (sink_state (W.bytes_written writer.old) (W.contents writer.old) (W.is_flushed writer.old) (W.faults writer.old))
+        (sink_state (W.bytes_written writer.new) (W.contents writer.new) (W.is_flushed writer.new) (W.faults writer.new)) (received ring.new) }
+{
+    let mut is_held = false;
+    for _ in rt.forever() {
+        match next_item(rt, bell, is_held, writer, ring) {
+            Some(Sent::End) => return writer.flush(),
+            Some(Sent::Frame(frame)) => {
+                gate.pass(serial, Point::BeforeWrite);
+                if !write_frame(writer, frame.as_slice()) {
+                    drop_frames(rt, bell, ring);
+                    return false;
+                }
+            }
+            None => {
+                drop_frames(rt, bell, ring);
+                return false;
+            }
+        }
+        is_held = true;
+    }
+    unreachable!()
+}
+
+/// Takes the next item. Before it waits for one it flushes, where something was written since the last flush; None where that
+/// failed, and then nothing is taken.
+fn next_item<R: Wait, W: Sink>(
+    rt: &R,
+    bell: &Bell,
+    is_held: bool,
+    writer: &mut W,
+    ring: &mut Consumer<Sent>,
+) -> Option<Sent>
+    ensures ring { SameConsumer ring.old ring.new }
+    ensures taken { MatchOption result (received ring.new ≡ received ring.old) (λ item. received ring.new ≡ received ring.old ++ item ∷ []) }
+    ensures written { W.bytes_written writer.new ≡ W.bytes_written writer.old }
+    ensures given { GivesWritten (W.bytes_written writer.old) (W.contents writer.old) (W.bytes_written writer.new) (W.contents writer.new) }
+    ensures faults { CountsFailures (is_some result) (W.faults writer.old) (W.faults writer.new) }
+{
+    match ring.pop() {
+        Ok(item) => Some(item),
+        Err(_) => {
+            if is_held && !writer.flush() {
+                return None;
+            }
+            Some(wait_item(rt, bell, ring))
+        }
+    }
+}
+
+/// Takes the next item, and waits for the bell where there is none.
+fn wait_item<R: Wait>(rt: &R, bell: &Bell, ring: &mut Consumer<Sent>) -> Sent
+    ensures ring { SameConsumer ring.old ring.new }
+    ensures taken { received ring.new ≡ received ring.old ++ result ∷ [] }
+{
+    for _ in rt.forever() {
+        if let Ok(item) = ring.pop() {
+            return item;
+        }
+        bell.wait(rt);
+    }
+    unreachable!()
+}
+
+/// Takes frames and drops them, up to the end mark.
+fn drop_frames<R: Wait>(rt: &R, bell: &Bell, ring: &mut Consumer<Sent>)
+    ensures ring { SameConsumer ring.old ring.new }
+    ensures taken { (frames : List (List ℕ)) × (received ring.new ≡ received ring.old ++ (map Frame frames ++ End ∷ [])) }
+{
+    for _ in rt.forever() {
+        match wait_item(rt, bell, ring) {
+            Sent::End => return,
+            Sent::Frame(_frame) => {}
+        }
+    }
+    unreachable!()
+}

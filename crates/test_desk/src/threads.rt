@@ -1,0 +1,175 @@
+ghost use Rattle.std.specs.Prelude.{◌≡◌, ◌<◌, []};
+ghost use Rattle.rtrb.specs.Ring.{sent, received};
+
+use crate::gates::CountingGate;
+use crate::readers::{PieceReader, STREAM, reader_of};
+use ov_base::Bytes;
+use ov_ends::Watched;
+use ov_order::{Bell, Brought, Order, Sent, inbound_ring, outbound_ring};
+use ov_rpc::Received;
+use ov_workers::{FreeGate, Point, ReadCause, start_reader, start_writer};
+use rtrb::{Consumer, Producer};
+use std::alloc::Global;
+use std::io::Write;
+use std::marker::Brand;
+use std::sync::Wait;
+use std::sync::ledger::{Blank, Ledger, Share};
+use std::test::Fail;
+use std::thread::{Scope, Threads};
+use std::{io, thread};
+
+/// A writer that keeps what it is given, and rings a bell at each flush.
+#[derive(Drop)]
+struct RingingWriter<'a, R: Wait> {
+    rt: &'a R,
+    flushed: &'a Bell,
+    taken: Vec<u8>,
+}
+
+impl<R: Wait> Write for RingingWriter<'_, R> {
+    fn write(&mut self, buf: &[u8]) -> io::Result<usize> {
+        self.taken.extend_from_slice(buf)?;
+        Ok(buf.len())
+    }
+
+    fn flush(&mut self) -> io::Result<()> {
+        self.flushed.ring(self.rt);
+        Ok(())
+    }
+}
+
+/// What the two workers of a session are given.
+#[derive(Drop)]
+struct Ends<'a, R: Wait, L: Ledger> {
+    reader: Watched<PieceReader<'static>>,
+    to_desk: Producer<Brought<Received, ReadCause>>,
+    share: Share<L>,
+    writer: Watched<RingingWriter<'a, R>>,
+    to_writer: Consumer<Sent>,
+}
+
+/// What a desk makes of a session: it sends these frames, each once the writer has handed on the one before, and joins the
+/// workers. It tells the reader's cause, and what was written.
+fn serve_in<'s, E, R: Threads + Wait + Sync, L: Ledger + Send + Sync + 's>(
+    rt: &'s R,
+    alloc: Global,
+    scope: &Scope<'s, E>,
+    order: &'s Order<L>,
+    bell: &'s Bell,
+    flushed: &'s Bell,
+    gate: &'s CountingGate,
+    ends: Ends<'s, R, L>,
+    out: Producer<Sent>,
+    frames: Vec<Bytes>,
+) -> Result<(Option<ReadCause>, Vec<u8>), Fail>
+    requires reader { (0 < ends.share.parts) × (sent ends.to_desk ≡ []) × (ends.share.amount ≡ 0) }
+    requires writer { received ends.to_writer ≡ [] }
+{
+    let Ends {
+        reader,
+        to_desk,
+        share,
+        writer,
+        to_writer,
+    } = ends;
+    let mut out = out;
+    let Ok(reads) = start_reader(
+        rt, alloc, scope, order, &FreeGate, 7, reader, to_desk, share,
+    ) else {
+        return Err("no thread for the reader")?;
+    };
+    let Ok(writes) = start_writer(rt, scope, order, bell, gate, 7, writer, to_writer) else {
+        return Err("no thread for the writer")?;
+    };
+    order.lock(rt).begin(true);
+    order.wake();
+    for frame in frames {
+        let _ = out.push(Sent::Frame(frame));
+        bell.ring(rt);
+        flushed.wait(rt);
+    }
+    let _ = out.push(Sent::End);
+    bell.ring(rt);
+    let read = reads.join(rt);
+    let written = writes.join(rt);
+    Ok((read.cause, written.writer.into_inner().taken))
+}
+
+/// The same, in a scope of its own.
+fn in_scope<'a, R: Threads + Wait + Sync, L: Ledger + Send + Sync>(
+    rt: &'a R,
+    alloc: Global,
+    order: &'a Order<L>,
+    bell: &'a Bell,
+    flushed: &'a Bell,
+    gate: &'a CountingGate,
+    ends: Ends<'a, R, L>,
+    out: Producer<Sent>,
+    frames: Vec<Bytes>,
+) -> Result<(Option<ReadCause>, Vec<u8>), Fail>
+    requires reader { (0 < ends.share.parts) × (sent ends.to_desk ≡ []) × (ends.share.amount ≡ 0) }
+    requires writer { received ends.to_writer ≡ [] }
+{
+    thread::scope(
+        thread::scope_env(),
+        rt,
+        move |scope| -> Result<(Option<ReadCause>, Vec<u8>), Fail>
+            requires reader { (0 < ends.share.parts) × (sent ends.to_desk ≡ []) × (ends.share.amount ≡ 0) }
+            requires writer { received ends.to_writer ≡ [] }
+        {
+            serve_in(
+                rt, alloc, scope, order, bell, flushed, gate, ends, out, frames,
+            )
+        },
+    )
+}
+
+/// The same, of a ledger and an order of its own, then the first serial that was noted, and how often the writer passed the gate.
+fn serve<R: Threads + Wait + Sync, L: Ledger + Send + Sync>(
+    rt: &R,
+    alloc: Global,
+    blank: Blank,
+) -> Result<(Option<ReadCause>, Vec<u8>, Option<u64>, u64), Fail>
+    requires name { blank.name ≡ L.name }
+    requires parts { (blank.parts ≡ L.parts) × (blank.parts ≡ 1) }
+{
+    let (ledger, share) = blank.open::<L>();
+    let (to_desk, _desk) = inbound_ring(alloc)?;
+    let (out, to_writer) = outbound_ring(alloc)?;
+    let order = Order::new(alloc, ledger)?;
+    let mut frames = Vec::new(alloc);
+    for text in [b"[1]".as_slice(), b"[2]".as_slice(), b"[3]".as_slice()] {
+        frames.push(Bytes::from_slice(alloc, text)?)?;
+    }
+    let flushed = Bell::new();
+    let writer = RingingWriter {
+        rt,
+        flushed: &flushed,
+        taken: Vec::new(alloc),
+    };
+    let ends = Ends {
+        reader: Watched::new(reader_of(STREAM, 7)),
+        to_desk,
+        share,
+        writer: Watched::new(writer),
+        to_writer,
+    };
+    let gate = CountingGate::new(Point::BeforeWrite);
+    let bell = Bell::new();
+    let (cause, written) = in_scope(rt, alloc, &order, &bell, &flushed, &gate, ends, out, frames)?;
+    let first = order.lock(rt).next();
+    Ok((cause, written, first, gate.passed()))
+}
+
+#[test]
+fn both_workers_of_a_session_run_in_threads(rt: HostRuntime) -> Result<(), Fail> {
+    let (cause, written, first, passed) = serve::<HostRuntime, Brand>(
+        &rt,
+        rt.alloc(),
+        Blank::new(1),
+    )?;
+    assert_eq!(rt; cause, Some(ReadCause::InputEnded));
+    assert_eq!(rt; written.as_slice(), b"[1][2][3]".as_slice());
+    assert_eq!(rt; (first, passed), (Some(7), 3));
+    Ok(())
+}
