@@ -10,6 +10,8 @@ mod files;
 #[cfg(test)]
 mod keepers;
 #[cfg(test)]
+mod maps;
+#[cfg(test)]
 mod opens;
 #[cfg(test)]
 mod refusals;
