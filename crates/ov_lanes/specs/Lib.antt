@@ -1,0 +1,5 @@
+pub mod Courses
+pub mod Since
+pub mod Fitting
+pub mod Lanes
+pub mod Moving

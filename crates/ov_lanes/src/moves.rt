@@ -1,0 +1,181 @@
+ghost use Rattle.std.specs.Prelude.{◌≡◌, ◌<◌, ◌≤◌, ◌++◌, [], ◌∷◌, true, false, length, max, Some, unwrap_or, MatchBool};
+ghost use Rattle.rtrb.specs.Ring.{sent, received, SameProducer};
+ghost use Rattle.ov_order.specs.declared.items.Brought.{Brought as SpecBrought};
+ghost use Rattle.ov_order.specs.declared.items.Sent.TheVariants.{End};
+ghost use Rattle.ov_specs.specs.machine.Machine as machine;
+ghost use Rattle.ov_specs.specs.wire.Message.{Message};
+ghost use Rattle.ov_workers.specs.declared.cause.ReadCause.{ReadCause as SpecReadCause};
+ghost use Rattle.ov_core.specs.Entries.{cause_view};
+ghost use Rattle.ov_core.specs.Following.{CoreState};
+ghost use Rattle.ov_core.specs.declared.event.Cause.TheVariants.{Memory};
+ghost use Rattle.ov_lanes.specs.Since.{Since};
+ghost use Rattle.ov_lanes.specs.Fitting.{end_cause};
+ghost use Rattle.ov_lanes.specs.Lanes.{LaneFits, Moves, Settles, SameLane};
+ghost use Rattle.ov_lanes.specs.Moving.{ClosesOnce, MovesFrames, GivesUp, TakesItem, SameInbound};
+ghost use Rattle.ov_core.specs.Stepping.{StepIs};
+ghost use Rattle.ov_core.specs.declared.event.Stepped.{Stepped as SpecStepped};
+
+use crate::lane::Lane;
+use ov_core::early::{Draws, Keeper};
+use ov_core::{Cause, Core, Event, Session};
+use ov_order::{Brought, Sent};
+use ov_rpc::Received;
+use ov_workers::ReadCause;
+use std::alloc::Global;
+
+/// Puts the frames that wait for the session into its ring, oldest first. False where there was no room for one of them, which is
+/// dropped: the last place is kept for the end mark.
+fn move_frames<K: Keeper + Drop, D: Draws + Drop>(core: &mut Core<K, D>, lane: &mut Lane) -> bool
+    requires { lane.old.marked ≡ false }
+    ensures moves { MovesFrames lane.old.session.serial result core.old core.new (sent lane.old.outbound) (sent lane.new.outbound) }
+    ensures inbound { SameInbound lane.old lane.new }
+    ensures cause { lane.new.cause ≡ lane.old.cause }
+    ensures unmarked { lane.new.marked ≡ false }
+{
+    loop {
+        let has_room = lane.outbound.slots() >= 2;
+        let Some(frame) = core.next_frame(lane.session) else {
+            return true;
+        };
+        if !has_room {
+            return false;
+        }
+        lane.outbound.push_reserved(Sent::Frame(frame));
+        lane.news = true;
+    }
+}
+
+/// Closes the session for the cause, if it is open.
+fn close<K: Keeper + Drop, D: Draws + Drop>(core: &mut Core<K, D>, lane: &mut Lane, cause: Cause)
+    ensures closes { ClosesOnce lane.old.session.serial (cause_view cause) core.old core.new lane.old.cause lane.new.cause }
+    ensures inbound { SameInbound lane.old lane.new }
+    ensures outbound { lane.new.outbound ≡ lane.old.outbound }
+    ensures marked { lane.new.marked ≡ lane.old.marked }
+{
+    if core.close(lane.session, cause) {
+        lane.cause = Some(cause);
+    }
+}
+
+/// Closes the session, if it is open, since there is no room in its ring, and drops the frames that wait for it.
+fn give_up<K: Keeper + Drop, D: Draws + Drop>(core: &mut Core<K, D>, lane: &mut Lane)
+    ensures gives_up { GivesUp lane.old.session.serial core.old core.new lane.old.cause lane.new.cause }
+    ensures inbound { SameInbound lane.old lane.new }
+    ensures outbound { lane.new.outbound ≡ lane.old.outbound }
+    ensures marked { lane.new.marked ≡ lane.old.marked }
+{
+    close(core, lane, Cause::Overrun);
+    core.discard(lane.session);
+}
+
+/// Puts the end mark. A session that was closed for no cause that is known was closed as out of memory.
+fn mark(lane: &mut Lane)
+    requires { lane.old.marked ≡ false }
+    ensures put { sent lane.new.outbound ≡ sent lane.old.outbound ++ End ∷ [] }
+    ensures inbound { SameInbound lane.old lane.new }
+    ensures cause { lane.new.cause ≡ Some (unwrap_or lane.old.cause Memory) }
+    ensures marked { lane.new.marked ≡ true }
+{
+    lane.cause = Some(lane.cause.unwrap_or(Cause::Memory));
+    lane.outbound.push_reserved(Sent::End);
+    lane.marked = true;
+    lane.news = true;
+}
+
+/// Puts what waits for the session into its ring, and behind the last frame of a closed session the end mark. Where there is no
+/// room for a frame, the session is closed as `Overrun`, if it is open, and what waits for it is dropped.
+pub fn settle<K: Keeper + Drop, D: Draws + Drop>(core: &mut Core<K, D>, lane: &mut Lane)
+    ensures settles { (first : CoreState K D) (since : Since first core.old) → LaneFits since lane.old → Settles since lane.old core.new lane.new }
+    ensures inbound { SameInbound lane.old lane.new }
+{
+    if lane.marked {
+        return;
+    }
+    if !move_frames(core, lane) {
+        give_up(core, lane);
+        mark(lane);
+        return;
+    }
+    if !core.is_open(lane.session) {
+        mark(lane);
+    }
+}
+
+/// Why a session is closed for which its reader's end is taken.
+fn cause_of(cause: ReadCause) -> Cause
+    ensures { cause_view result ≡ end_cause cause }
+{
+    match cause {
+        ReadCause::InputEnded => Cause::InputEnded,
+        ReadCause::ReadFault => Cause::ReadFault,
+        ReadCause::Damaged => Cause::Damaged,
+        ReadCause::Memory => Cause::Memory,
+    }
+}
+
+/// Enters the message at the moment, or at the last one if that is later. That of a closed session is dropped.
+fn take_message<K: Keeper + Drop, D: Draws + Drop>(
+    core: &mut Core<K, D>,
+    alloc: Global,
+    moment: u64,
+    session: Session,
+    message: Received,
+)
+    ensures { (answer : SpecStepped) × StepIs D.draws (max moment core.old.state.moment) (machine.Take session.serial message) core.old answer core.new }
+{
+    let _ = core.step(alloc, moment, Event::Take(session, message));
+}
+
+/// Notes that the reader has ended, and closes the session, if it is open.
+fn take_end<K: Keeper + Drop, D: Draws + Drop>(
+    core: &mut Core<K, D>,
+    lane: &mut Lane,
+    cause: ReadCause,
+)
+    ensures closes { ClosesOnce lane.old.session.serial (end_cause cause) core.old core.new lane.old.cause lane.new.cause }
+    ensures ended { lane.new.ended ≡ true }
+    ensures rings { (lane.new.outbound ≡ lane.old.outbound) × (lane.new.inbound ≡ lane.old.inbound) }
+    ensures same { (lane.new.session ≡ lane.old.session) × (lane.new.marked ≡ lane.old.marked) }
+{
+    lane.ended = true;
+    close(core, lane, cause_of(cause));
+}
+
+/// Takes an item that was popped of the ring.
+fn take_item<K: Keeper + Drop, D: Draws + Drop>(
+    core: &mut Core<K, D>,
+    alloc: Global,
+    moment: u64,
+    lane: &mut Lane,
+    item: Brought<Received, ReadCause>,
+)
+    ensures takes { TakesItem D.draws item lane.old.session.serial core.old core.new lane.old.cause lane.new.cause lane.old.ended lane.new.ended }
+    ensures rings { (lane.new.outbound ≡ lane.old.outbound) × (lane.new.inbound ≡ lane.old.inbound) }
+    ensures same { (lane.new.session ≡ lane.old.session) × (lane.new.marked ≡ lane.old.marked) }
+{
+    match item {
+        Brought::Message(message) => take_message(core, alloc, moment, lane.session, message),
+        Brought::End(cause) => take_end(core, lane, cause),
+    }
+}
+
+/// Takes one item of the ring: a message is entered at the moment in milliseconds, or at the last one if that is later, and an
+/// end closes the session. What comes behind a closing is dropped. False where no item was seen. What waits for the session
+/// before is moved first; what the item brings is not.
+pub fn turn_lane<K: Keeper + Drop, D: Draws + Drop>(
+    core: &mut Core<K, D>,
+    alloc: Global,
+    moment: u64,
+    lane: &mut Lane,
+) -> bool
+    ensures moves { (first : CoreState K D) (since : Since first core.old) → LaneFits since lane.old → Moves since lane.old core.new lane.new }
+    ensures rings { SameLane lane.old lane.new }
+    ensures taken { MatchBool result ((item : SpecBrought Message SpecReadCause) × (received lane.new.inbound ≡ received lane.old.inbound ++ item ∷ [])) (received lane.new.inbound ≡ received lane.old.inbound) }
+{
+    settle(core, lane);
+    let Ok(item) = lane.inbound.pop() else {
+        return false;
+    };
+    take_item(core, alloc, moment, lane, item);
+    true
+}
