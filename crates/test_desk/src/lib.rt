@@ -1,8 +1,19 @@
-//! Tests of what crosses threads: the order of notes, the rings between workers and the desk, and the workers.
+//! Tests of what crosses threads: the order of notes, the rings between workers and the desk, the workers, and the desk with its
+//! clients.
 #![tactic(auto)]
 
 #[cfg(test)]
+mod clients;
+#[cfg(test)]
+mod conversations;
+#[cfg(test)]
+mod crowds;
+#[cfg(test)]
+mod desks;
+#[cfg(test)]
 mod gates;
+#[cfg(test)]
+mod holding;
 #[cfg(test)]
 mod orders;
 #[cfg(test)]

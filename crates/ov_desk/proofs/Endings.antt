@@ -1,0 +1,59 @@
+-- What whole histories say of a session that was served to its end.
+use Rattle.std.proofs.Common.{◌≡◌, ◌≤◌, ℕ, List, [], ◌∷◌, ◌++◌, refl, sym, ap, subst, ◌∙◌, append-nil, Bool, Option}
+use Rattle.std.specs.Option.{option_or}
+use Rattle.std.proofs.lemmas.Grind.{flat_map-append}
+use Rattle.ov_specs.specs.wire.Message.{Message}
+use Rattle.ov_specs.specs.machine.Machine as machine
+use Rattle.ov_specs.specs.machine.Machine.{opening}
+use Rattle.ov_specs.specs.machine.History.{requests, taken_by, frames_to, closed_by}
+use Rattle.ov_specs.proofs.laws.Histories.{closed_by_append}
+use Rattle.ov_outbox.specs.Frames.{waiting_for}
+use Rattle.ov_workers.specs.Reading.{SourceState}
+use Rattle.ov_workers.specs.Writing.{SinkState}
+use Rattle.ov_core.specs.declared.event.Cause.{Cause}
+use Rattle.ov_core.specs.Following.{CoreState}
+use Rattle.ov_lanes.specs.Since.{Since, course_of, and_then_handed}
+use Rattle.ov_desk.specs.Outcome.{Outcome}
+use Rattle.ov_desk.specs.Ending.{EndsBehind, is_written, CourseEnds, LinkEnds}
+use Rattle.ov_desk.proofs.Unopened.{later_is_unopened}
+
+first_empty : {A : Type 0} (xs ys : List A) → xs ++ ys ≡ [] → xs ≡ []
+first_empty [] ys h = refl
+first_empty (x ∷ xs) ys h = cc
+
+outcome_as : (closed closed' : Option machine.Cause) (messages messages' : List Message) (sent sent' : List (List ℕ)) (why : machine.Cause) (is_whole : Bool) (source source' : SourceState) (sink sink' : SinkState)
+    → closed' ≡ closed → messages' ≡ messages → sent' ≡ sent → Outcome closed messages sent why is_whole source source' sink sink' → Outcome closed' messages' sent' why is_whole source source' sink sink'
+outcome_as closed closed' messages messages' sent sent' why is_whole source source' sink sink' a b c o =
+    subst (λ k. Outcome k messages' sent' why is_whole source source' sink sink') (sym a)
+    (subst (λ k. Outcome closed k sent' why is_whole source source' sink sink') (sym b)
+    (subst (λ k. Outcome closed messages k why is_whole source source' sink sink') (sym c) o))
+
+module _ {K D : Type 0} {old new : CoreState K D} (since : Since old new) (n : ℕ) (later : old.state.next ≤ n) (none_left : waiting_for n new.outbox ≡ []) where
+  pub ends_behind : (why : machine.Cause) (is_whole : Bool) (source source' : SourceState) (sink sink' : SinkState)
+      → Outcome (closed_by old.state since.entries n) (requests since.entries n) (since.handed n) why is_whole source source' sink sink' → EndsBehind since n why is_whole source source' sink sink'
+  ends_behind why is_whole source source' sink sink' o schema database history given f =
+      let f' = since.follows (opening schema database) history given f in
+      let before : machine.Stepped = record { state = old.state; sent = f.sent } in
+      let to_come = later_is_unopened schema database history before n later f.legal in
+      let none : given n ≡ [] = first_empty (given n) (waiting_for n old.outbox) (sym (f.issued n) ∙ to_come.silent) in
+      let closed : closed_by (opening schema database) (history ++ since.entries) n ≡ closed_by old.state since.entries n =
+      closed_by_append (opening schema database) history since.entries n before f.legal ∙ ap (λ (c : Option machine.Cause). option_or c (closed_by old.state since.entries n)) to_come.no_cause in
+      let messages : requests (history ++ since.entries) n ≡ requests since.entries n =
+      flat_map-append (λ (e : machine.Entry). taken_by n e.event) history since.entries ∙ ap (λ (l : List Message). l ++ requests since.entries n) to_come.unasked in
+      let sent : frames_to n f'.sent ≡ since.handed n =
+      f'.issued n ∙ (ap (λ (l : List (List ℕ)). and_then_handed given since.handed n ++ l) none_left ∙ (append-nil (and_then_handed given since.handed n) ∙ ap (λ (l : List (List ℕ)). l ++ since.handed n) none)) in
+      record {
+        reached = record { state = new.state; sent = f'.sent };
+        legal = f'.legal;
+        comes_to = outcome_as (closed_by old.state since.entries n) (closed_by (opening schema database) (history ++ since.entries) n) (requests since.entries n) (requests (history ++ since.entries) n) (since.handed n) (frames_to n f'.sent)
+            why is_whole source source' sink sink' closed messages sent o;
+      }
+
+-- what a session comes to, in each history
+pub link_ends : {K D : Type 0} {old new : CoreState K D} (since : Since old new) (n : ℕ) → old.state.next ≤ n → (told : Cause) (source source' : SourceState) (sink sink' : SinkState)
+    → CourseEnds (course_of since n) told source source' sink sink' → LinkEnds since n told source source' sink sink'
+link_ends since n later told source source' sink sink' e = record {
+  why = e.why;
+  told_for = e.told_for;
+  ends = ends_behind since n later e.none_left e.why (is_written told) source source' sink sink' e.comes_to;
+}

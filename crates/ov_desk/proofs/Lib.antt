@@ -1,0 +1,11 @@
+pub mod Unopened
+pub mod Endings
+pub mod Sides
+pub mod Pairs
+pub mod Openings
+pub mod Closing
+pub mod Links
+pub mod Running
+pub mod Ends
+pub mod Rooms
+pub mod Serving

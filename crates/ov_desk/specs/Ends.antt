@@ -1,0 +1,33 @@
+-- What is left of each link, beside its lane. What names no source is our own.
+use Rattle.std.specs.Prelude.{◌≡◌, ℕ, ◌+◌, List, [], ◌∷◌}
+use Rattle.rtrb.specs.Ring.{sent, received}
+use Rattle.ov_workers.specs.Reading.{SourceState}
+use Rattle.ov_workers.specs.Writing.{SinkState}
+use Rattle.ov_core.specs.Following.{CoreState}
+use Rattle.ov_lanes.specs.Courses.{Course}
+use Rattle.ov_lanes.specs.Fitting.{FitsCourse}
+use Rattle.ov_lanes.specs.Since.{Since}
+use Rattle.ov_lanes.specs.declared.lane.Lane.{Lane}
+use Rattle.ov_desk.specs.declared.link.Link.{Link}
+use Rattle.ov_desk.specs.declared.link.End.{End}
+use Rattle.ov_desk.specs.Ending.{CourseEnds, LinkEnds}
+
+-- whatever became of the session that the lane fits, this is what it comes to
+abbrev pub EndsLane : {S W : Type 0} → (S → SourceState) → (W → SinkState) → Lane → S → W → End S W → Type 0
+EndsLane source sink l reader writer e =
+    (e.serial ≡ l.session.serial)
+    × ((c : Course) → FitsCourse c l.cause (received l.inbound) (sent l.outbound) l.marked l.ended → CourseEnds c e.cause (source reader) (source e.reader) (sink writer) (sink e.writer))
+
+-- Each link was served to its end, in their order, with the serials from this one on.
+abbrev pub AllEnd : {K D S W : Type 0} {old new : CoreState K D} → (S → SourceState) → (W → SinkState) → Since old new → ℕ → List (Link S W) → List (End S W) → Type 0
+AllEnd source sink since serial [] [] = Unit {0}
+AllEnd source sink since serial [] (e ∷ ends) = ⊥
+AllEnd source sink since serial (l ∷ links) [] = ⊥
+AllEnd source sink since serial (l ∷ links) (e ∷ ends) =
+    (e.serial ≡ serial) × LinkEnds since serial e.cause (source l.reader) (source e.reader) (sink l.writer) (sink e.writer)
+    × AllEnd source sink since (serial + 1) links ends
+
+-- The links were served, and this is what the core made of it.
+pub record ServesAll {K D S W : Type 0} (source : S → SourceState) (sink : W → SinkState) (old new : CoreState K D) (links : List (Link S W)) (ends : List (End S W)) : Type 0 where
+  pub since : Since old new
+  pub all : AllEnd source sink since old.state.next links ends

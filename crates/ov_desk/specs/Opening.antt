@@ -1,0 +1,53 @@
+-- What opening sessions makes of a core, for their lanes. What names no source is our own.
+use Rattle.std.specs.Prelude.{◌≡◌, ◌⊎◌, ℕ, ◌+◌, ◌<◌, ◌≤◌, List, [], length, slice_index_or, Some, None, true, false}
+use Rattle.ov_specs.specs.machine.Machine as machine
+use Rattle.ov_specs.specs.machine.Machine.{is_open}
+use Rattle.ov_specs.specs.machine.History.{requests}
+use Rattle.ov_outbox.specs.Frames.{waiting_for}
+use Rattle.ov_core.specs.Following.{CoreState}
+use Rattle.ov_core.specs.Stepping.{Closes}
+use Rattle.ov_lanes.specs.Courses.{Course}
+use Rattle.ov_lanes.specs.Since.{Since, HandsOut, course_of}
+use Rattle.ov_lanes.specs.Lanes.{AllFit}
+use Rattle.ov_lanes.specs.declared.lane.Lane.{Lane}
+
+-- nothing was done to the session but to open it
+abbrev pub IsUntouched : Course → Type 0
+IsUntouched c = (c.closed ≡ None) × (c.asks ≡ []) × (c.handed ≡ [])
+
+-- Since the core was `start` sessions were opened and nothing else was done, and they have these lanes.
+pub record OpensAll {K D : Type 0} (start : CoreState K D) (base : ℕ) (core : CoreState K D) (ls : List Lane) : Type 0 where
+  pub since : Since start core
+  pub untouched : (n : ℕ) → IsUntouched (course_of since n)
+  pub next : core.state.next ≡ base + length ls
+  pub fits : AllFit since base ls
+
+-- The session was closed as out of memory, and what waited for it was dropped; or it was not open, and nothing was done.
+abbrev pub DropsSession : {K D : Type 0} → ℕ → CoreState K D → CoreState K D → Type 0
+DropsSession {K} {D} n old new =
+    ((at : ℕ) × (mid : CoreState K D) × Closes at n machine.Memory old mid × HandsOut n (waiting_for n mid.outbox) mid new)
+    ⊎ ((new ≡ old) × (is_open old.state n ≡ false))
+
+-- it was closed as out of memory
+abbrev pub IsGivenUp : Course → Type 0
+IsGivenUp c = (c.is_open ≡ false) × (c.closed ≡ Some machine.Memory)
+
+-- it is open, or it was closed so
+abbrev pub IsIdle : Course → Type 0
+IsIdle c = ((c.is_open ≡ true) × (c.closed ≡ None)) ⊎ IsGivenUp c
+
+-- Since the core was `start` so many sessions were opened, and of no session a message was taken. All but the first of them,
+-- which have these lanes, were closed again.
+pub record ClosesDown {K D : Type 0} (start : CoreState K D) (base total : ℕ) (core : CoreState K D) (ls : List Lane) : Type 0 where
+  pub since : Since start core
+  pub next : core.state.next ≡ base + total
+  pub untaken : (n : ℕ) → requests since.entries n ≡ []
+  pub serials : (i : ℕ) (d : Lane) → i < length ls → (slice_index_or ls i d).session.serial ≡ base + i
+  pub idle : (n : ℕ) → base ≤ n → n < base + length ls → IsIdle (course_of since n)
+  pub given_up : (n : ℕ) → base + length ls ≤ n → n < base + total → IsGivenUp (course_of since n)
+
+-- More was done: of no session a message was taken, and each session that was opened was closed again, as out of memory.
+pub record ClosesAgain {K D : Type 0} (old new : CoreState K D) : Type 0 where
+  pub since : Since old new
+  pub untaken : (n : ℕ) → requests since.entries n ≡ []
+  pub given_up : (n : ℕ) → old.state.next ≤ n → n < new.state.next → IsGivenUp (course_of since n)

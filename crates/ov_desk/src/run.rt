@@ -1,0 +1,127 @@
+ghost use Rattle.std.specs.Prelude.{◌≡◌, ◌<◌, ℕ, true, vec_len, slice_index_or, IfSome};
+ghost use Rattle.ov_lanes.specs.declared.lane.Lane.{Lane as SpecLane};
+ghost use Rattle.ov_desk.specs.Running.{GoesOn};
+
+use ov_core::Core;
+use ov_core::early::{Draws, Keeper};
+use ov_ends::Clock;
+use ov_lanes::{Lane, is_over, pass_where_due, settle_all, take_news, turn_at};
+use ov_order::{Bell, Order};
+use std::alloc::Global;
+use std::sync::Wait;
+use std::sync::ledger::Ledger;
+use std::thread;
+
+/// The place of the lane of this serial, if there is one. The serials of the lanes count up.
+fn place_of(lanes: &Vec<Lane>, serial: u64) -> Option<usize>
+    ensures { IfSome result (λ at. at < vec_len lanes.now) }
+{
+    let first = lanes.first()?.session.serial;
+    let at = serial.checked_sub(first)?;
+    if at < lanes.len() as u64 {
+        Some(at as usize)
+    } else {
+        None
+    }
+}
+
+/// The oldest note. Where a transaction that waits may time out, none is waited for.
+fn next_note<R: Wait, L: Ledger>(rt: &R, order: &Order<L>, may_time_out: bool) -> Option<u64> {
+    if !may_time_out {
+        return Some(order.wait_next(rt));
+    }
+    let note = order.lock(rt).next();
+    if note.is_none() {
+        thread::yield_now();
+    }
+    note
+}
+
+/// Rings the bell of each writer for which something was put.
+fn ring_bells<R: Wait, K: Keeper + Drop, D: Draws + Drop>(
+    rt: &R,
+    core: &Core<K, D>,
+    lanes: &mut Vec<Lane>,
+    bells: &Vec<Bell>,
+)
+    ensures { GoesOn core.now lanes.old.items core.now lanes.new.items }
+{
+    for at in 0..lanes.len() {
+        if take_news(core, lanes, at) {
+            if let Some(bell) = bells.get(at) {
+                bell.ring(rt);
+            }
+        }
+    }
+}
+
+/// Takes an item of the ring at a place, once it is seen there, and moves what waits for all sessions.
+fn turn_once_seen<R: Wait, K: Keeper + Drop, D: Draws + Drop>(
+    rt: &R,
+    core: &mut Core<K, D>,
+    alloc: Global,
+    moment: u64,
+    lanes: &mut Vec<Lane>,
+    at: usize,
+)
+    requires { at < vec_len lanes.old }
+    ensures { GoesOn core.old lanes.old.items core.new lanes.new.items }
+{
+    for _ in rt.forever() {
+        if turn_at(core, alloc, moment, lanes, at) {
+            return;
+        }
+        thread::yield_now();
+    }
+    unreachable!()
+}
+
+/// Serves a note, at the moment that the clock tells: lets time pass to it where a transaction is due, and takes the item.
+/// Without a note what waits is moved alone.
+fn serve_note<R: Wait, K: Keeper + Drop, D: Draws + Drop>(
+    rt: &R,
+    core: &mut Core<K, D>,
+    alloc: Global,
+    moment: u64,
+    lanes: &mut Vec<Lane>,
+    note: Option<u64>,
+)
+    ensures { GoesOn core.old lanes.old.items core.new lanes.new.items }
+{
+    pass_where_due(core, alloc, moment);
+    let place = match note {
+        Some(serial) => place_of(lanes, serial),
+        None => None,
+    };
+    match place {
+        Some(at) => turn_once_seen(rt, core, alloc, moment, lanes, at),
+        None => settle_all(core, lanes),
+    }
+}
+
+/// Serves the sessions of the lanes, an item for each note, until each reader's end was taken and behind each session's last
+/// frame the end mark was put.
+///
+/// While a transaction that waits may time out the desk doesn't sleep: it looks for a note, asks the clock, and yields.
+pub(crate) fn run<R: Wait, K: Keeper + Drop, D: Draws + Drop, L: Ledger, C: Clock>(
+    rt: &R,
+    order: &Order<L>,
+    bells: &Vec<Bell>,
+    core: &mut Core<K, D>,
+    alloc: Global,
+    lanes: &mut Vec<Lane>,
+    clock: &mut C,
+)
+    ensures goes { GoesOn core.old lanes.old.items core.new lanes.new.items }
+    ensures over { (i : ℕ) (d : SpecLane) → i < vec_len lanes.new → ((slice_index_or lanes.new.items i d).ended ≡ true) × ((slice_index_or lanes.new.items i d).marked ≡ true) }
+{
+    for _ in rt.forever() {
+        if is_over(lanes) {
+            return;
+        }
+        let note = next_note(rt, order, core.due().is_some());
+        serve_note(rt, core, alloc, clock.now(), lanes, note);
+        ring_bells(rt, core, lanes, bells);
+    }
+    unreachable!()
+}

@@ -1,0 +1,144 @@
+use crate::holding::{HoldingGate, Mark};
+use ov_desk::{End, Link};
+use ov_ends::Watched;
+use std::alloc::Global;
+use std::collections::VecDeque;
+use std::io;
+use std::io::{ErrorKind, Read};
+use std::rt::Clock;
+use std::test::Fail;
+use test_support::SlowWriter;
+
+/// No limit.
+pub(crate) const ALL: usize = 1_000_000;
+
+/// A client: what it sends, and how its writer takes what it is sent.
+///
+/// A line of the script is sent at once. A line `after MARK` before it says what is waited for first, and a line `fail` is a read
+/// that fails. Behind the last line the input ends.
+#[derive(Clone, Copy)]
+pub(crate) struct Client<'a> {
+    /// What it sends.
+    pub script: &'a str,
+    /// The most bytes that its writer takes at once.
+    pub most: usize,
+    /// How many bytes its writer takes before it takes none.
+    pub left: usize,
+}
+
+/// A client whose writer takes all.
+pub(crate) fn client_of(script: &str) -> Client<'_> {
+    Client {
+        script,
+        most: ALL,
+        left: ALL,
+    }
+}
+
+/// A reader that follows a script.
+#[derive(Drop)]
+pub(crate) struct ScriptedReader<'g, 'r, 's, R: Clock> {
+    gate: &'g HoldingGate<'r, R>,
+    line: &'s [u8],
+    script: &'s str,
+}
+
+/// The mark of a line `after MARK`.
+fn mark_of(line: &str) -> Option<Mark> {
+    match line.split_once(" ")? {
+        ("after", mark) => Mark::read(mark),
+        _ => None,
+    }
+}
+
+impl<'g, 'r, 's, R: Clock> ScriptedReader<'g, 'r, 's, R> {
+    /// Takes the next line of the script; behind the last one they are empty.
+    fn take_line(&mut self) -> &'s str {
+        let (line, rest) = self.script.split_once("\n").unwrap_or((self.script, ""));
+        self.script = rest;
+        line
+    }
+
+    /// Goes on to the next line that is sent.
+    fn go_on(&mut self) -> io::Result<()> {
+        let mut line = self.take_line();
+        if let Some(mark) = mark_of(line) {
+            self.gate.wait(mark);
+            line = self.take_line();
+        }
+        if line == "fail" {
+            return Err(io::Error::from(ErrorKind::Other));
+        }
+        self.line = line.as_bytes();
+        Ok(())
+    }
+}
+
+impl<R: Clock> Read for ScriptedReader<'_, '_, '_, R> {
+    fn read(&mut self, buf: &mut [u8]) -> io::Result<usize> {
+        if self.line.is_empty() {
+            self.go_on()?;
+        }
+        let n = self.line.len().min(buf.len());
+        buf[..n].copy_from_slice(&self.line[..n]);
+        self.line = &self.line[n..];
+        Ok(n)
+    }
+}
+
+/// What is read of a client.
+pub(crate) type ClientReader<'g, 'r, 's, R> = Watched<ScriptedReader<'g, 'r, 's, R>>;
+
+/// What a client is written.
+pub(crate) type ClientWriter = Watched<SlowWriter>;
+
+/// The links of clients.
+pub(crate) fn links_of<'g, 'r, 's, R: Clock>(
+    alloc: Global,
+    gate: &'g HoldingGate<'r, R>,
+    clients: &[Client<'s>],
+) -> Result<VecDeque<Link<ClientReader<'g, 'r, 's, R>, ClientWriter>>, Fail> {
+    let mut links = VecDeque::new(alloc);
+    for client in clients {
+        let reader = Watched::new(ScriptedReader {
+            gate,
+            line: b"",
+            script: client.script,
+        });
+        let writer = Watched::new(SlowWriter {
+            taken: Vec::new(alloc),
+            most: client.most,
+            left: client.left,
+            fails: false,
+            flushes: true,
+        });
+        links.push_back(Link { reader, writer })?;
+    }
+    Ok(links)
+}
+
+/// The line of what is left of a client: its serial, why its session was closed, and what it was written.
+fn line_of<R: Clock>(
+    alloc: Global,
+    end: End<ClientReader<'_, '_, '_, R>, ClientWriter>,
+) -> Result<String, Fail> {
+    let (serial, cause) = (end.serial, end.cause);
+    let taken = String::from_utf8(end.writer.into_inner().taken)?;
+    Ok(format!(in alloc; "{serial} {cause:?} {taken}\n")?)
+}
+
+/// The lines of what is left of clients. Where one of them has waited too long, that stands behind them.
+pub(crate) fn lines_of<R: Clock>(
+    alloc: Global,
+    gate: &HoldingGate<'_, R>,
+    ends: VecDeque<End<ClientReader<'_, '_, '_, R>, ClientWriter>>,
+) -> Result<String, Fail> {
+    let mut lines = String::new(alloc);
+    for end in ends {
+        lines.push_str(line_of(alloc, end)?.as_str())?;
+    }
+    if gate.is_late() {
+        lines.push_str("too late\n")?;
+    }
+    Ok(lines)
+}

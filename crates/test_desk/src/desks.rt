@@ -1,0 +1,90 @@
+use crate::clients::{Client, ClientReader, ClientWriter, lines_of, links_of};
+use crate::holding::HoldingGate;
+use ov_desk::{Desk, Link, Served, Unserved, serve_links};
+use ov_ends::Clock;
+use std::alloc::Global;
+use std::collections::VecDeque;
+use std::rt::Clock as SystemClock;
+use std::sync::Wait;
+use std::test::Fail;
+use std::thread::Threads;
+use test_support::{Counter, Faults, NetKeeper, net_core};
+
+/// A clock that tells a later moment at each call.
+#[derive(Drop)]
+struct RisingClock {
+    moment: u64,
+}
+
+impl Clock for RisingClock {
+    ghost tells = { λ _ _ _. Unit {0} };
+
+    fn now(&mut self) -> u64 {
+        self.moment = self.moment.saturating_add(1);
+        self.moment
+    }
+}
+
+/// What is left of clients and their desk.
+pub(crate) type ClientsServed<'g, 'r, 's, R> = Served<
+    NetKeeper,
+    Counter,
+    ClientReader<'g, 'r, 's, R>,
+    ClientWriter,
+>;
+
+/// What comes back of clients that are not served.
+pub(crate) type ClientsUnserved<'g, 'r, 's, R> = Unserved<
+    NetKeeper,
+    Counter,
+    ClientReader<'g, 'r, 's, R>,
+    ClientWriter,
+>;
+
+/// Serves the links of clients behind their gate, by a clock that rises.
+pub(crate) fn serve<'g, 'r, 's, R: Threads + Wait + SystemClock + Sync>(
+    rt: &R,
+    alloc: Global,
+    desk: Desk<NetKeeper, Counter>,
+    links: VecDeque<Link<ClientReader<'g, 'r, 's, R>, ClientWriter>>,
+    gate: &HoldingGate<'r, R>,
+) -> Result<ClientsServed<'g, 'r, 's, R>, ClientsUnserved<'g, 'r, 's, R>> {
+    serve_links(rt, alloc, desk, links, gate, &mut RisingClock { moment: 0 })
+}
+
+/// Why clients are not served, and how many links and entries of the history there are then.
+fn refusal<R: SystemClock>(
+    alloc: Global,
+    unserved: ClientsUnserved<'_, '_, '_, R>,
+) -> Result<String, Fail> {
+    let Unserved { fault, desk, links } = unserved;
+    let entries = desk.core().history().len();
+    Ok(format!(in alloc; "{fault:?} {} {entries}", links.len())?)
+}
+
+/// What comes of clients at a desk: a line for each client, or why they are not served.
+pub(crate) fn converse_at<'g, 'r, 's, R: Threads + Wait + SystemClock + Sync>(
+    rt: &R,
+    alloc: Global,
+    desk: Desk<NetKeeper, Counter>,
+    links: VecDeque<Link<ClientReader<'g, 'r, 's, R>, ClientWriter>>,
+    gate: &HoldingGate<'r, R>,
+) -> Result<String, Fail> {
+    match serve(rt, alloc, desk, links, gate) {
+        Ok(served) => lines_of(alloc, gate, served.ends),
+        Err(unserved) => refusal(alloc, unserved),
+    }
+}
+
+/// What comes of clients at a new desk, whose workers are held up as it is told.
+pub(crate) fn converse<R: Threads + Wait + SystemClock + Sync>(
+    rt: &R,
+    alloc: Global,
+    holds: &str,
+    clients: &[Client<'_>],
+) -> Result<String, Fail> {
+    let gate = HoldingGate::new(rt, alloc, holds)?;
+    let links = links_of(alloc, &gate, clients)?;
+    let core = net_core(alloc, Faults::NONE)?;
+    converse_at(rt, alloc, Desk::new(core), links, &gate)
+}

@@ -1,0 +1,131 @@
+use ov_workers::{Gate, Point};
+use std::alloc::Global;
+use std::rt::Clock;
+use std::sync::atomic::{AtomicBool, AtomicU64, Ordering};
+use std::test::Fail;
+use std::thread;
+use std::time::Duration;
+
+/// How many serials are counted, with the one that stands for all.
+const SERIALS: usize = 66;
+
+/// How many turns of a millisecond somebody waits for a mark.
+const TURNS: u32 = 10_000;
+
+/// The workers of the session of this serial have come to this point so often. The serial 0 stands for all sessions together.
+#[derive(Clone, Copy, PartialEq, Eq)]
+pub(crate) struct Mark {
+    serial: u64,
+    point: Point,
+    times: u64,
+}
+
+impl Mark {
+    /// The mark of a text: `SERIAL push TIMES` before an item is pushed, or `SERIAL frame TIMES` before a frame is written.
+    pub(crate) fn read(text: &str) -> Option<Mark> {
+        let (serial, rest) = text.split_once(" ")?;
+        let (word, times) = rest.split_once(" ")?;
+        let point = match word {
+            "push" => Point::BeforePush,
+            "frame" => Point::BeforeWrite,
+            _ => return None,
+        };
+        Some(Mark {
+            serial: serial.parse::<u64>().ok()?,
+            point,
+            times: times.parse::<u64>().ok()?,
+        })
+    }
+}
+
+/// A worker that comes to the one mark is held up until the other was come to.
+type Hold = (Mark, Mark);
+
+/// The holds of a text: a line `MARK until MARK` for each.
+fn holds_of(alloc: Global, text: &str) -> Result<Vec<Hold>, Fail> {
+    let mut holds = Vec::new(alloc);
+    for line in text.lines() {
+        let (held, until) = line.split_once(" until ").ok_or("no hold")?;
+        let held = Mark::read(held).ok_or("no mark")?;
+        holds.push((held, Mark::read(until).ok_or("no mark")?))?;
+    }
+    Ok(holds)
+}
+
+/// A count for each serial.
+fn new_counts(alloc: Global) -> Result<Vec<AtomicU64>, Fail> {
+    let mut counts = Vec::new(alloc);
+    for _ in 0..SERIALS {
+        counts.push(AtomicU64::new(0))?;
+    }
+    Ok(counts)
+}
+
+/// A gate that counts who comes to it, and holds some up until others have come.
+///
+/// After ten seconds who waits is let go, and all others with it; the gate then says that it was too late.
+#[derive(Drop)]
+pub(crate) struct HoldingGate<'a, R: Clock> {
+    rt: &'a R,
+    holds: Vec<Hold>,
+    pushes: Vec<AtomicU64>,
+    frames: Vec<AtomicU64>,
+    is_late: AtomicBool,
+}
+
+impl<'a, R: Clock> HoldingGate<'a, R> {
+    /// Nobody has come yet. The holds are lines `MARK until MARK`.
+    pub(crate) fn new(rt: &'a R, alloc: Global, holds: &str) -> Result<HoldingGate<'a, R>, Fail> {
+        Ok(HoldingGate {
+            rt,
+            holds: holds_of(alloc, holds)?,
+            pushes: new_counts(alloc)?,
+            frames: new_counts(alloc)?,
+            is_late: AtomicBool::new(false),
+        })
+    }
+
+    /// Whether somebody has waited too long.
+    pub(crate) fn is_late(&self) -> bool {
+        self.is_late.load(Ordering::SeqCst)
+    }
+
+    /// Adds to the number of times that a point was come to, and says how many there were before.
+    fn count(&self, serial: u64, point: Point, more: u64) -> u64 {
+        let counts = match point {
+            Point::BeforePush => &self.pushes,
+            Point::BeforeWrite => &self.frames,
+        };
+        match counts.get(serial as usize) {
+            Some(count) => count.fetch_add(more, Ordering::SeqCst),
+            None => 0,
+        }
+    }
+
+    /// Waits until a mark was come to.
+    pub(crate) fn wait(&self, mark: Mark) {
+        for _ in 0..TURNS {
+            if self.count(mark.serial, mark.point, 0) >= mark.times || self.is_late() {
+                return;
+            }
+            thread::sleep(self.rt, Duration::from_millis(1));
+        }
+        self.is_late.store(true, Ordering::SeqCst);
+    }
+}
+
+impl<R: Clock> Gate for HoldingGate<'_, R> {
+    fn pass(&self, serial: u64, point: Point) {
+        self.count(0, point, 1);
+        let come = Mark {
+            serial,
+            point,
+            times: self.count(serial, point, 1).saturating_add(1),
+        };
+        for (held, until) in &self.holds {
+            if *held == come {
+                self.wait(*until);
+            }
+        }
+    }
+}
