@@ -7,12 +7,14 @@
 
 mod systems;
 mod turns;
+mod watched;
 
 use std::collections::BTreeMap;
 use std::process::ExitCode;
 use std::time::Instant;
-use systems::{Exchange, Measured, Outcome, Server, by_identifier, deletion, inserts, say, transact};
+use systems::{Exchange, Measured, Outcome, Server, deletion, inserts, say, transact};
 use turns::Bench;
+use watched::{Row, call, monitor};
 
 /// How many waits are outstanding. With the last, ours takes one transaction more and no more.
 const WAITS: [u64; 2] = [0, 63];
@@ -28,11 +30,6 @@ const ROWS: usize = 10_000;
 
 /// The number of the first row that is waited for.
 const AWAITED: u64 = 1_000_000;
-
-/// A request of any method.
-fn call(id: u64, method: &str, params: &str, result: String) -> Exchange {
-    Exchange { id, request: format!("{{\"id\":{id},\"method\":\"{method}\",\"params\":[{params}]}}"), result }
-}
 
 /// A transaction that waits until there is the row of a number.
 fn wait(n: u64) -> Exchange {
@@ -83,40 +80,8 @@ fn with_locks(mut server: Server, numbers: std::ops::RangeInclusive<u64>, exchan
     Ok(server)
 }
 
-/// The request for a monitor, whose first answer tells these rows.
-fn monitor(n: usize, rows: &[Row]) -> Exchange {
-    let rows: Vec<String> = rows.iter().map(|row| format!("\"{}\":{{\"new\":{{{}}}}}", row.identifier, row.values())).collect();
-    let params = format!("\"Net\",\"monitor {n:02}\",{{\"Switch\":{{\"columns\":[\"name\",\"load\"]}}}}");
-    call(n as u64, "monitor", &params, format!("{{\"Switch\":{{{}}}}}", rows.join(",")))
-}
-
 fn monitor_cancel(n: usize) -> Exchange {
     call(n as u64, "monitor_cancel", &format!("\"monitor {n:02}\""), "{}".into())
-}
-
-/// A row as a monitor tells it.
-struct Row {
-    identifier: String,
-    n: usize,
-    load: usize,
-}
-
-impl Row {
-    /// The columns. The peer has them in the same order.
-    fn values(&self) -> String {
-        format!("\"load\":{},\"name\":\"switch {}\"", self.load, self.n)
-    }
-
-    /// The update that a monitor is sent after a change of the load by one.
-    fn update(&self, monitor: usize) -> String {
-        format!(
-            "{{\"id\":null,\"method\":\"update\",\"params\":[\"monitor {monitor:02}\",{{\"Switch\":{{\"{}\":\
-             {{\"new\":{{{}}},\"old\":{{\"load\":{}}}}}}}}}]}}",
-            self.identifier,
-            self.values(),
-            self.load - 1
-        )
-    }
 }
 
 /// A session that has rows.
@@ -171,13 +136,9 @@ impl Watched {
         Ok(watched)
     }
 
-    /// A commit: an update of a column that is in no index.
+    /// A commit.
     fn change(&mut self) -> Exchange {
-        self.row.load += 1;
-        let (condition, load) = (by_identifier(&self.row.identifier), self.row.load);
-        let operation =
-            format!(",{{\"op\":\"update\",\"table\":\"Switch\",\"where\":[{condition}],\"row\":{{\"load\":{load}}}}}");
-        transact(0, &operation, "[{\"count\":1}]".into())
+        self.row.change()
     }
 
     /// The first commit, which tells the order of the monitors. Ours has that of their creation, the peer that of its hashes.

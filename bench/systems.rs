@@ -1,17 +1,18 @@
 //! What the drivers share that compare the server with Open vSwitch's ovsdb-server: how each is started and spoken to, how a
 //! reply is compared with the one that is wanted, and how figures are printed.
 //!
-//! Ours is spoken to over pipes, the peer over a Unix socket. Plain Rust, std only.
+//! Ours is spoken to over pipes, the peer over a Unix socket; or both over TCP, by any number of sessions. Plain Rust, std only.
 
 // Each driver uses some of it.
 #![allow(dead_code)]
 
 use std::collections::VecDeque;
 use std::fs;
-use std::io::{Read, Write};
+use std::io::{BufRead, BufReader, Read, Write};
+use std::net::TcpStream;
 use std::os::unix::net::UnixStream;
 use std::path::{Path, PathBuf};
-use std::process::{Child, Command, Stdio};
+use std::process::{Child, ChildStderr, Command, Stdio};
 use std::time::{Duration, Instant};
 
 pub type Outcome<T> = Result<T, String>;
@@ -28,8 +29,9 @@ const IDENTIFIER: usize = 36;
 /// How many rows one transaction inserts while a table is filled: some 80 KB of text.
 const FILLED_AT_ONCE: usize = 1_000;
 
-/// How long a start may take.
+/// How long a start may take, and a reply over TCP.
 const LONGEST_START: Duration = Duration::from_secs(300);
+const LONGEST_REPLY: Duration = Duration::from_secs(60);
 
 /// An order of a reply's members: `error`, `id` and `result` by their numbers.
 type Order = [usize; 3];
@@ -145,6 +147,17 @@ impl Process {
     fn has_ended(&mut self) -> bool {
         !matches!(self.0.try_wait(), Ok(None))
     }
+
+    /// Resident memory in KiB.
+    fn resident(&self) -> Outcome<u64> {
+        let path = format!("/proc/{}/status", self.0.id());
+        let text = fs::read_to_string(&path).map_err(|e| format!("{path}: {e}"))?;
+        text.lines()
+            .find_map(|line| line.strip_prefix("VmRSS:"))
+            .and_then(|rest| rest.split_whitespace().next())
+            .and_then(|number| number.parse().ok())
+            .ok_or_else(|| format!("{path}: no VmRSS"))
+    }
 }
 
 impl Drop for Process {
@@ -154,20 +167,21 @@ impl Drop for Process {
     }
 }
 
-/// A running server, how many rows it has, and what came of its output and has not been compared.
+/// A running server, how many rows it has, and what came of its output and has not been compared. A session over TCP is one
+/// without a process of its own.
 pub struct Server {
     pub system: System,
     order: Order,
     pub rows: u64,
-    process: Process,
-    input: Box<dyn Write>,
-    output: Box<dyn Read>,
+    process: Option<Process>,
+    input: Box<dyn Write + Send>,
+    output: Box<dyn Read + Send>,
     unread: Vec<u8>,
     chunk: Vec<u8>,
 }
 
 impl Server {
-    fn new(system: System, process: Process, input: Box<dyn Write>, output: Box<dyn Read>) -> Server {
+    fn new(system: System, process: Option<Process>, input: Box<dyn Write + Send>, output: Box<dyn Read + Send>) -> Server {
         let order = ORDERS[0];
         Server { system, order, rows: 0, process, input, output, unread: Vec::new(), chunk: vec![0; 1 << 16] }
     }
@@ -302,13 +316,7 @@ impl Server {
 
     /// Resident memory in KiB.
     pub fn resident(&self) -> Outcome<u64> {
-        let path = format!("/proc/{}/status", self.process.0.id());
-        let text = fs::read_to_string(&path).map_err(|e| format!("{path}: {e}"))?;
-        text.lines()
-            .find_map(|line| line.strip_prefix("VmRSS:"))
-            .and_then(|rest| rest.split_whitespace().next())
-            .and_then(|number| number.parse().ok())
-            .ok_or_else(|| format!("{path}: no VmRSS"))
+        self.process.as_ref().ok_or("a session has no process of its own")?.resident()
     }
 
     /// Looks for the last row, and ends the server: ours by the end of its input, the peer by a kill.
@@ -316,11 +324,11 @@ impl Server {
         if self.rows > 0 {
             self.ask(&search(self.rows - 1))?;
         }
-        let Server { system, mut process, input, mut output, unread: mut rest, .. } = self;
+        let Server { system, process, input, mut output, unread: mut rest, .. } = self;
         drop(input);
-        if system.is_peer() {
-            return if rest.is_empty() { Ok(()) } else { Err("bytes of the peer that nobody asked for".into()) };
-        }
+        let Some(mut process) = process.filter(|_| !system.is_peer()) else {
+            return if rest.is_empty() { Ok(()) } else { Err("bytes that nobody asked for".into()) };
+        };
         output.read_to_end(&mut rest).map_err(|e| format!("the last read: {e}"))?;
         let status = process.0.wait().map_err(|e| format!("waiting for the server: {e}"))?;
         if !status.success() || !rest.is_empty() {
@@ -384,7 +392,64 @@ impl Peer {
         let mut process = Process(child);
         let stream = connect(&socket, &mut process)?;
         let input = stream.try_clone().map_err(|e| format!("the peer's socket: {e}"))?;
-        Ok(Server::new(system, process, Box::new(input), Box::new(stream)))
+        Ok(Server::new(system, Some(process), Box::new(input), Box::new(stream)))
+    }
+
+    /// The command of the peer that listens on a port of its own, which it tells on standard error.
+    fn listen(&self, folder: &Path) -> Command {
+        let mut command = self.command(&self.server);
+        command
+            .arg("--remote=ptcp:0:127.0.0.1")
+            .arg(format!("--unixctl={}", folder.join("peer.ctl").display()))
+            .args(["-vconsole:off", "-vsyslog:off", "-vsocket_util:console:info"])
+            .arg(folder.join("peer.db"));
+        command
+    }
+}
+
+/// A server that listens on a port of its own, for any number of sessions.
+pub struct Host {
+    pub system: System,
+    process: Process,
+    port: u16,
+    _errors: BufReader<ChildStderr>,
+}
+
+impl Host {
+    /// Starts a server, and waits until it tells its port.
+    fn start(system: System, mut command: Command) -> Outcome<Host> {
+        let spawned = command.stdin(Stdio::null()).stdout(Stdio::null()).stderr(Stdio::piped()).spawn();
+        let mut process = Process(spawned.map_err(|e| format!("{}: {e}", system.name()))?);
+        let mut errors = BufReader::new(process.0.stderr.take().ok_or("no standard error")?);
+        loop {
+            let mut line = String::new();
+            let length = errors.read_line(&mut line).map_err(|e| format!("standard error: {e}"))?;
+            if length == 0 {
+                return Err(format!("{} ended before it told its port", system.name()));
+            }
+            let line = line.trim_end();
+            let port = line.strip_prefix("ov_server: listening at 127.0.0.1:").or(line.split(": listening on port ").nth(1));
+            if let Some(port) = port.and_then(|port| port.parse().ok()) {
+                return Ok(Host { system, process, port, _errors: errors });
+            }
+        }
+    }
+
+    /// Opens a session, and greets.
+    pub fn session(&self) -> Outcome<Server> {
+        let said = |e| format!("a session of {}: {e}", self.system.name());
+        let stream = TcpStream::connect(("127.0.0.1", self.port)).map_err(said)?;
+        stream.set_nodelay(true).map_err(said)?;
+        stream.set_read_timeout(Some(LONGEST_REPLY)).map_err(said)?;
+        let input = stream.try_clone().map_err(said)?;
+        let mut session = Server::new(self.system, None, Box::new(input), Box::new(stream));
+        session.greet()?;
+        Ok(session)
+    }
+
+    /// Resident memory in KiB.
+    pub fn resident(&self) -> Outcome<u64> {
+        self.process.resident()
     }
 }
 
@@ -485,6 +550,12 @@ impl Measured {
         Ok(())
     }
 
+    /// Adds what was measured of several sessions at the same time, which took as long as the last of them.
+    pub fn join(&mut self, all: Vec<Measured>) {
+        self.whole += all.iter().map(|one| one.whole).max().unwrap_or_default();
+        all.into_iter().for_each(|one| self.times.extend(one.times));
+    }
+
     /// Adds a turn of one time.
     pub fn add(&mut self, time: Duration) {
         self.times.push(time);
@@ -547,7 +618,20 @@ impl Systems {
         let mut process = Process(spawned.map_err(|e| format!("{}: {e}", self.program))?);
         let input = process.0.stdin.take().ok_or("no standard input")?;
         let output = process.0.stdout.take().ok_or("no standard output")?;
-        Ok(Server::new(system, process, Box::new(input), Box::new(output)))
+        Ok(Server::new(system, Some(process), Box::new(input), Box::new(output)))
+    }
+
+    /// Starts a system over the files in a folder, or in memory, on a port of its own.
+    pub fn listen(&self, system: System, folder: &Path) -> Outcome<Host> {
+        if let (true, Some(peer)) = (system.is_peer(), &self.peer) {
+            return Host::start(system, peer.listen(folder));
+        }
+        let mut command = Command::new(&self.program);
+        command.args(["--listen", "127.0.0.1:0"]);
+        if system == System::File {
+            command.arg("--db").arg(folder.join("ours.db"));
+        }
+        Host::start(system, command)
     }
 
     /// Systems that are started anew in a folder, each with a table of so many rows.

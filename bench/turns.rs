@@ -6,7 +6,7 @@
 // Each driver uses some of it.
 #![allow(dead_code)]
 
-use crate::systems::{Folder, Measured, Outcome, Server, System, Systems, say};
+use crate::systems::{Folder, Host, Measured, Outcome, Server, System, Systems, say};
 use std::path::{Path, PathBuf};
 use std::process::ExitCode;
 use std::time::{Duration, Instant};
@@ -20,7 +20,7 @@ const LONGEST_TURN: Duration = Duration::from_millis(50);
 pub const STEP: usize = 7_919;
 
 /// What is compared. The peer writes a file without a sync, since it has no database in memory alone.
-const SYSTEMS: [System; 2] = [System::Memory, System::Peer];
+pub const SYSTEMS: [System; 2] = [System::Memory, System::Peer];
 
 /// A turn: this is done again and again, each time when the last one is answered.
 pub fn turn(mut request: impl FnMut() -> Outcome<()>) -> Outcome<()> {
@@ -44,6 +44,12 @@ impl Bench {
     /// The systems, started anew in a folder, each with a table of so many rows.
     pub fn started(&self, folder: &Folder, rows: usize) -> Outcome<Vec<Server>> {
         self.systems.filled(&self.systems.present(&SYSTEMS), &folder.0, rows)
+    }
+
+    /// These systems, started anew in a folder, each listening on a port of its own.
+    pub fn listening(&self, systems: &[System], folder: &Folder) -> Outcome<Vec<Host>> {
+        self.systems.prepare(&folder.0)?;
+        self.systems.present(systems).into_iter().map(|system| self.systems.listen(system, &folder.0)).collect()
     }
 
     /// A turn of each of these after the other, until the time of all is over. It gives what was measured of each.
