@@ -6,7 +6,7 @@ use Rattle.std.proofs.lemmas.Bool.{cases_eq, false≢true}
 use Rattle.ov_specs.specs.machine.Machine as machine
 use Rattle.ov_specs.specs.machine.Machine.{State, Stepped, is_open}
 use Rattle.ov_specs.specs.machine.History.{requests}
-use Rattle.ov_specs.proofs.laws.Turns.{turn_close}
+use Rattle.ov_specs.proofs.laws.Turns.{turn_close, turn_close_other}
 use Rattle.ov_outbox.specs.Frames.{waiting_for}
 use Rattle.ov_core.specs.declared.event.Cause.TheVariants as told
 use Rattle.ov_core.specs.Following.{CoreState}
@@ -16,7 +16,7 @@ use Rattle.ov_lanes.specs.Since.{Since, HandsOut, course_of}
 use Rattle.ov_lanes.specs.declared.lane.Lane.{Lane}
 use Rattle.ov_lanes.proofs.Courses.{shuts, hands_on}
 use Rattle.ov_lanes.proofs.Own.{spares_along}
-use Rattle.ov_desk.specs.Opening.{OpensAll, ClosesDown, ClosesAgain, DropsSession, IsIdle, IsGivenUp}
+use Rattle.ov_desk.specs.Opening.{OpensAll, ClosesDown, ClosesAgain, DropsSession, IsIdle, IsGivenUp, IsLeftAlone}
 use Rattle.ov_desk.proofs.Pairs.{popped_at, popped_rest}
 
 -- ---- one session
@@ -44,6 +44,13 @@ idle_cause : (c : Course) → IsIdle c → (c.closed ≡ None) ⊎ (c.closed ≡
 idle_cause c (inl (there, none)) = inl none
 idle_cause c (inr (away, some)) = inr some
 
+-- one that was not meant, and is open just where it was, was not closed
+left_alone : (c d : Course) (was : Bool) → Spares c d → d.is_open ≡ c.is_open → IsLeftAlone was c → IsLeftAlone was d
+left_alone c d was s same (there, none, handed) = elim s.closes [
+  | inl (same', closed) ↦ (same ∙ there, closed ∙ none, s.handed ∙ handed)
+  | inr (there', away, closed) ↦ absurd (false≢true (sym away ∙ (same ∙ there')))
+]
+
 idle_away : (c : Course) → IsIdle c → c.is_open ≡ false → IsGivenUp c
 idle_away c (inl (there, none)) away = absurd (false≢true (sym away ∙ there))
 idle_away c (inr given) away = given
@@ -54,6 +61,7 @@ record Dropped {K D : Type 0} {start a : CoreState K D} (p : Since start a) (n :
   pub beside : (other : ℕ) → other ≢ n → Spares (course_of p other) (course_of after other)
   pub asks : requests after.entries n ≡ requests p.entries n
   pub own : IsIdle (course_of p n) → IsGivenUp (course_of after n)
+  pub opens : (other : ℕ) → other ≢ n → is_open b.state other ≡ is_open a.state other
   pub next : b.state.next ≡ a.state.next
 
 module _ {K D : Type 0} {start a b : CoreState K D} (p : Since start a) (n : ℕ) where
@@ -74,6 +82,9 @@ module _ {K D : Type 0} {start a b : CoreState K D} (p : Since start a) (n : ℕ
             | inr (away, closed, known) ↦ (let other : Some told.Memory ≡ None = known in cc)
           ],
         );
+        opens = λ other ne.
+            ap (λ (r : CoreState K D). is_open r.state other) drops.same
+            ∙ (turn_close_other other a.state (closing at n machine.Memory) t closes.moves.stepped n machine.Memory (λ same. ne (sym same)) refl).open_is;
         next = ap (λ (r : CoreState K D). r.state.next) drops.same ∙ turn.next_is;
       }
 
@@ -84,6 +95,7 @@ module _ {K D : Type 0} {start a b : CoreState K D} (p : Since start a) (n : ℕ
     beside = λ other ne. record { more = []; waiting = sym (append-nil (waiting_for other a.outbox)); silent = λ _. refl; handed = refl; asks = refl; closes = inl (refl, refl) };
     asks = refl;
     own = λ idle. idle_away (course_of p n) idle away;
+    opens = λ other ne. refl;
     next = refl;
   })
 
@@ -112,6 +124,7 @@ module _ {K D : Type 0} {start a : CoreState K D} (base : ℕ) (ls : List Lane) 
     serials = o.fits.serials;
     idle = λ n low high. idle_of o ls refl n low high;
     given_up = λ n low high. absurd (omega (arith, low, high));
+    others = λ n low. (o.others n low, (o.untouched n).0, (o.untouched n).2);
   }
     where
       idle_of : (o : OpensAll start base a ls) (ms : List Lane) → ls ≡ ms → (n : ℕ) → base ≤ n → n < base + length ls → IsIdle (course_of o.since n)
@@ -142,6 +155,9 @@ module _ {K D : Type 0} {start a b : CoreState K D} (base total : ℕ) (ls ms : 
           | inl same ↦ subst (λ (k : ℕ). IsGivenUp (course_of x.after k)) (sym same) (x.own (p.idle n0 (omega arith) (omega (arith, len))))
           | inr ne ↦ given_up_spared (course_of p.since n) (course_of x.after n) (x.beside n ne) (p.given_up n (apart n low ne len) high)
         ];
+        others = λ n low.
+            let ne : n ≢ n0 = λ same. omega (arith, low, same) in
+            left_alone (course_of p.since n) (course_of x.after n) (is_open start.state n) (x.beside n ne) (x.opens n ne) (p.others n low);
       }
     where
       apart : (n : ℕ) → base + length ms ≤ n → n ≢ base + length ms → length ls ≡ length ms + 1 → base + length ls ≤ n
@@ -153,4 +169,5 @@ module _ {K D : Type 0} {start a : CoreState K D} (total : ℕ) (ls : List Lane)
     since = p.since;
     untaken = p.untaken;
     given_up = λ n low high. p.given_up n (omega (arith, none, low)) (omega (arith, high, p.next));
+    others = p.others;
   }

@@ -60,6 +60,7 @@ opens_none a known = record {
   since = since_none a known;
   untouched = λ n. (refl, refl, refl);
   next = omega arith;
+  others = λ n low. refl;
   fits = record { each = λ i d lt. absurd (omega (arith, lt)); serials = λ i d lt. absurd (omega (arith, lt)) };
 }
 
@@ -75,6 +76,10 @@ module _ {K D : Type 0} {start a b : CoreState K D} (p : Since start a) (e : Ent
   closed_same : (n : ℕ) → closed_by start.state x.after.entries n ≡ closed_by start.state p.entries n
   closed_same n = x.closed n ∙ (ap (option_or (closed_by start.state p.entries n)) (turn n).cause_is ∙ option_or_none (closed_by start.state p.entries n))
 
+  -- a session that was opened before is open just where it was
+  others_same : (n : ℕ) → n ≢ a.state.next → is_open b.state n ≡ is_open a.state n
+  others_same n ne = (turn n).open_is ∙ (ap (λ (k : Bool). is_open a.state n || k) (ne_eqb a.state.next n (λ same. ne (sym same))) ∙ or_nothing (is_open a.state n))
+
   others_spared : (n : ℕ) → n ≢ a.state.next → Spares (course_of p n) (course_of x.after n)
   others_spared n ne = record {
     more = frames_to n x.sent;
@@ -82,7 +87,7 @@ module _ {K D : Type 0} {start a b : CoreState K D} (p : Since start a) (e : Ent
     silent = x.silent n;
     handed = x.handed n;
     asks = asks_same n;
-    closes = inl ((turn n).open_is ∙ (ap (λ (k : Bool). is_open a.state n || k) (ne_eqb a.state.next n (λ same. ne (sym same))) ∙ or_nothing (is_open a.state n)), closed_same n);
+    closes = inl (others_same n ne, closed_same n);
   }
 
   untouched_still : ((n : ℕ) → IsUntouched (course_of p n)) → (n : ℕ) → IsUntouched (course_of x.after n)
@@ -122,6 +127,7 @@ module _ {K D : Type 0} {start a b : CoreState K D} (base : ℕ) (ls : List Lane
         since = x.after;
         untouched = untouched;
         next = (turn p e is x 0).next_is ∙ omega (arith, opens.next, length-append ls (l ∷ []));
+        others = λ n low. others_same p e is x n (λ same. omega (arith, low, opens.next, same)) ∙ opens.others n low;
         fits = record {
           each = λ i d lt. elim (cases_eq i (length ls)) [
             | inl same ↦ subst (λ (k : Lane). LaneFits x.after k) (sym (ap (λ (j : ℕ). get_or (ls ++ l ∷ []) j d) same ∙ get_or_push ls l d (length ls) refl)) last

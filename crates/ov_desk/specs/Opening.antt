@@ -1,5 +1,5 @@
 -- What opening sessions makes of a core, for their lanes. What names no source is our own.
-use Rattle.std.specs.Prelude.{◌≡◌, ◌⊎◌, ℕ, ◌+◌, ◌<◌, ◌≤◌, List, [], length, slice_index_or, Some, None, true, false}
+use Rattle.std.specs.Prelude.{◌≡◌, ◌⊎◌, ℕ, ◌+◌, ◌<◌, ◌≤◌, List, [], length, slice_index_or, Bool, Some, None, true, false}
 use Rattle.ov_specs.specs.machine.Machine as machine
 use Rattle.ov_specs.specs.machine.Machine.{is_open}
 use Rattle.ov_specs.specs.machine.History.{requests}
@@ -15,11 +15,16 @@ use Rattle.ov_lanes.specs.declared.lane.Lane.{Lane}
 abbrev pub IsUntouched : Course → Type 0
 IsUntouched c = (c.closed ≡ None) × (c.asks ≡ []) × (c.handed ≡ [])
 
+-- It is open just where it was before, it was not closed, and nothing was handed out of it.
+abbrev pub IsLeftAlone : Bool → Course → Type 0
+IsLeftAlone was_open c = (c.is_open ≡ was_open) × (c.closed ≡ None) × (c.handed ≡ [])
+
 -- Since the core was `start` sessions were opened and nothing else was done, and they have these lanes.
 pub record OpensAll {K D : Type 0} (start : CoreState K D) (base : ℕ) (core : CoreState K D) (ls : List Lane) : Type 0 where
   pub since : Since start core
   pub untouched : (n : ℕ) → IsUntouched (course_of since n)
   pub next : core.state.next ≡ base + length ls
+  pub others : (n : ℕ) → n < base → is_open core.state n ≡ is_open start.state n
   pub fits : AllFit since base ls
 
 -- The session was closed as out of memory, and what waited for it was dropped; or it was not open, and nothing was done.
@@ -37,7 +42,7 @@ abbrev pub IsIdle : Course → Type 0
 IsIdle c = ((c.is_open ≡ true) × (c.closed ≡ None)) ⊎ IsGivenUp c
 
 -- Since the core was `start` so many sessions were opened, and of no session a message was taken. All but the first of them,
--- which have these lanes, were closed again.
+-- which have these lanes, were closed again. Those of before were left alone.
 pub record ClosesDown {K D : Type 0} (start : CoreState K D) (base total : ℕ) (core : CoreState K D) (ls : List Lane) : Type 0 where
   pub since : Since start core
   pub next : core.state.next ≡ base + total
@@ -45,9 +50,12 @@ pub record ClosesDown {K D : Type 0} (start : CoreState K D) (base total : ℕ) 
   pub serials : (i : ℕ) (d : Lane) → i < length ls → (slice_index_or ls i d).session.serial ≡ base + i
   pub idle : (n : ℕ) → base ≤ n → n < base + length ls → IsIdle (course_of since n)
   pub given_up : (n : ℕ) → base + length ls ≤ n → n < base + total → IsGivenUp (course_of since n)
+  pub others : (n : ℕ) → n < base → IsLeftAlone (is_open start.state n) (course_of since n)
 
--- More was done: of no session a message was taken, and each session that was opened was closed again, as out of memory.
+-- More was done: of no session a message was taken, each session that was opened was closed again, as out of memory, and those of
+-- before were left alone.
 pub record ClosesAgain {K D : Type 0} (old new : CoreState K D) : Type 0 where
   pub since : Since old new
   pub untaken : (n : ℕ) → requests since.entries n ≡ []
   pub given_up : (n : ℕ) → old.state.next ≤ n → n < new.state.next → IsGivenUp (course_of since n)
+  pub others : (n : ℕ) → n < old.state.next → IsLeftAlone (is_open old.state n) (course_of since n)
