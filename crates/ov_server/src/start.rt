@@ -28,6 +28,8 @@ pub fn run<R: Wait + RandomSource + Clock, S: Start, I: Read + Drop, O: Write + 
     let Settings {
         schema,
         db,
+        listen: _,
+        sessions: _,
         is_on_streams: _,
     } = match settings(host, host.alloc()) {
         Ok(settings) => settings,

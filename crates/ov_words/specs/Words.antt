@@ -1,12 +1,15 @@
 -- What the program's arguments say, by `clap`'s own reading of them: the first argument is the program's name.
-use Rattle.std.specs.Prelude.{◌&&◌, Bool, List, [], ◌∷◌, Option, Some, None, true, false, if◌then◌else◌, codes}
+use Rattle.std.specs.Prelude.{◌&&◌, ℕ, Bool, List, [], ◌∷◌, Option, Some, None, true, false, not, is_some, is_none, option_and_then, if◌then◌else◌, codes}
+use Rattle.std.specs.Int.{is_in_range}
 use Rattle.std.specs.Option.{option_map_or}
-use Rattle.std.specs.Str.{bytes_eq}
+use Rattle.std.specs.Str.{all_ascii_digits, bytes_eq}
+use Rattle.std.specs.Str.Parse.{digits_value}
 use Rattle.clap.specs.Words.{App, Kinds, Rule, Text, fault_of, first_of, matches_of, new_app, new_rule, with_rule}
 use Rattle.clap.specs.declared.builder.ArgAction.TheVariants.{Set, SetTrue}
+use Rattle.ov_sessions.specs.Sessions.{most_sessions}
 use Rattle.ov_words.specs.declared.settings.Settings.{Settings}
 
--- `--NAME FILE`, at most once
+-- `--NAME VALUE`, at most once
 abbrev pub option_rule : Text → Rule
 option_rule name = record (new_rule name) { long = Some name; action = Some Set }
 
@@ -18,31 +21,68 @@ flag_rule name = record (new_rule name) { long = Some name; action = Some SetTru
 abbrev pub without_help : App → App
 without_help a = record a { top = record a.top { disable_help_flag = true; disable_version_flag = true } }
 
--- `ov_server [--schema FILE] [--db FILE] [--stdio]`
+-- the options that say what is served: `[--schema FILE] [--db FILE]`
+abbrev pub with_database : App → App
+with_database a = with_rule (with_rule a (option_rule (codes "schema"))) (option_rule (codes "db"))
+
+-- and those that say where: `[--stdio] [--listen ADDR] [--sessions N]`
+abbrev pub with_ends : App → App
+with_ends a =
+    with_rule (with_rule (with_rule a (flag_rule (codes "stdio"))) (option_rule (codes "listen"))) (option_rule (codes "sessions"))
+
+-- `ov_server [--schema FILE] [--db FILE] [--stdio] [--listen ADDR] [--sessions N]`
 abbrev pub app : App
-app = with_rule (with_rule (with_rule (without_help (new_app (codes "ov_server"))) (option_rule (codes "schema"))) (option_rule (codes "db"))) (flag_rule (codes "stdio"))
+app = with_ends (with_database (without_help (new_app (codes "ov_server"))))
 
 -- the value of an option or flag, if it has one
 abbrev pub option_value : List Text → Text → Option Text
 option_value words name = first_of name (matches_of app words)
 
--- a file may not be named by the empty text
-abbrev pub is_file : Option Text → Bool
-is_file None = true
-is_file (Some []) = false
-is_file (Some (x ∷ xs)) = true
+-- no file and no address is named by the empty text
+abbrev pub is_named : Option Text → Bool
+is_named None = true
+is_named (Some []) = false
+is_named (Some (x ∷ xs)) = true
 
 -- a flag's value is the text `true` where the flag is used
 abbrev pub is_set : Option Text → Bool
 is_set value = option_map_or (λ text. bytes_eq text (codes "true")) value false
 
--- the settings, by what `clap` finds wrong and by what the arguments give: none where anything is wrong, or where a file is
--- named by the empty text
-abbrev pub settings_by : Kinds → Option Text → Option Text → Option Text → Option Settings
-settings_by [] schema db streams = if is_file schema && is_file db
-    then Some (record { schema = schema; db = db; is_on_streams = is_set streams }) else None
-settings_by (k ∷ ks) schema db streams = None
+-- the number of sessions that decimal digits alone tell: from 1 to as many as may be open
+abbrev pub sessions_in : Text → Option ℕ
+sessions_in digits = if all_ascii_digits digits && is_in_range 1 most_sessions (digits_value 10 digits)
+    then Some (digits_value 10 digits) else None
+
+-- where a number of sessions is given it is such a number
+abbrev pub is_number : Option Text → Bool
+is_number None = true
+is_number (Some digits) = is_some (sessions_in digits)
+
+-- where an address is named the streams are not, and else no number of sessions is given
+abbrev pub fit_together : (Text → Option Text) → Bool
+fit_together value = if is_some (value (codes "listen"))
+    then not (is_set (value (codes "stdio"))) else is_none (value (codes "sessions"))
+
+-- none of the values is refused
+abbrev pub are_taken : (Text → Option Text) → Bool
+are_taken value = is_named (value (codes "schema")) && is_named (value (codes "db")) && is_named (value (codes "listen"))
+    && is_number (value (codes "sessions")) && fit_together value
+
+-- the settings, as the values give them
+abbrev pub as_settings : (Text → Option Text) → Settings
+as_settings value = record {
+  schema = value (codes "schema");
+  db = value (codes "db");
+  listen = value (codes "listen");
+  sessions = option_and_then sessions_in (value (codes "sessions"));
+  is_on_streams = is_set (value (codes "stdio"));
+}
+
+-- the settings, by what `clap` finds wrong and by the values that the arguments give: none where anything is wrong
+abbrev pub settings_by : Kinds → (Text → Option Text) → Option Settings
+settings_by [] value = if are_taken value then Some (as_settings value) else None
+settings_by (k ∷ ks) value = None
 
 -- the settings that the arguments give, or none where they are refused
 abbrev pub settings_of : List Text → Option Settings
-settings_of words = settings_by (fault_of app words) (option_value words (codes "schema")) (option_value words (codes "db")) (option_value words (codes "stdio"))
+settings_of words = settings_by (fault_of app words) (option_value words)

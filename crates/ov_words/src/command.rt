@@ -1,6 +1,6 @@
-ghost use Rattle.std.specs.Prelude.{◌≡◌, ◌≢◌, [], Err, IfOk, codes, map};
-ghost use Rattle.clap.specs.Words.{app_of, fault_of, first_value, found_of, matches_of, rows_of};
-ghost use Rattle.ov_words.specs.Words.{app};
+ghost use Rattle.std.specs.Prelude.{◌≡◌, ◌≢◌, [], Err, false, IfOk, codes, map};
+ghost use Rattle.clap.specs.Words.{app_of, fault_of, first_value, found_of, matches_of, rows_of, rule_of};
+ghost use Rattle.ov_words.specs.Words.{app, option_rule, with_database, with_ends};
 
 use crate::fault::WordFault;
 use clap::{Arg, ArgAction, ArgMatches, Command};
@@ -28,17 +28,38 @@ pub(crate) fn matches<'a, S: AsStr>(
 fn command<'a>(alloc: Global) -> Result<Command<'a>, AllocError>
     ensures { IfOk result (λ command. app_of command ≡ app) }
 {
-    let schema = Arg::new(alloc, "schema")
-        .long("schema")
-        .action(ArgAction::Set);
-    let db = Arg::new(alloc, "db").long("db").action(ArgAction::Set);
+    let command = Command::new(alloc, "ov_server")
+        .disable_help_flag(true)
+        .disable_version_flag(true);
+    with_ends(alloc, with_database(alloc, command)?)
+}
+
+/// Adds the options that say what is served.
+fn with_database<'a>(alloc: Global, command: Command<'a>) -> Result<Command<'a>, AllocError>
+    ensures { IfOk result (λ r. app_of r ≡ with_database (app_of command.entry)) }
+{
+    command
+        .arg(option(alloc, "schema"))?
+        .arg(option(alloc, "db"))
+}
+
+/// Adds the flag and the options that say where it is served.
+fn with_ends<'a>(alloc: Global, command: Command<'a>) -> Result<Command<'a>, AllocError>
+    ensures { IfOk result (λ r. app_of r ≡ with_ends (app_of command.entry)) }
+{
     let streams = Arg::new(alloc, "stdio")
         .long("stdio")
         .action(ArgAction::SetTrue);
-    Command::new(alloc, "ov_server")
-        .disable_help_flag(true)
-        .disable_version_flag(true)
-        .arg(schema)?
-        .arg(db)?
-        .arg(streams)
+    command
+        .arg(streams)?
+        .arg(option(alloc, "listen"))?
+        .arg(option(alloc, "sessions"))
+}
+
+/// An option of a name and with one value, at most once.
+fn option<'a>(alloc: Global, name: &'a str) -> Arg<'a>
+    ensures rule { rule_of result ≡ option_rule name.entry.now }
+    ensures own { result.global ≡ false }
+{
+    Arg::new(alloc, name).long(name).action(ArgAction::Set)
 }

@@ -4,7 +4,7 @@ ghost use Rattle.ov_words.specs.Endings.{error_line, status};
 /// How the program ended.
 #[derive(Clone, Copy, Debug, PartialEq, Eq)]
 pub enum Ending {
-    /// The input ended.
+    /// The input ended; or, at an address, all sessions that were to be served have ended.
     InputEnded,
     /// The arguments were refused.
     Arguments,
@@ -12,7 +12,8 @@ pub enum Ending {
     Schema,
     /// The database could not be opened, or was refused.
     Database,
-    /// Standard input or output failed, or what came in was damaged.
+    /// Standard input or output failed, or what came in was damaged. Or nobody could be listened to: an address was refused, a
+    /// connection was not accepted, or no thread could be started.
     Streams,
     /// A growth was refused.
     Memory,

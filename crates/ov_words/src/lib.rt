@@ -8,6 +8,7 @@ mod causes;
 mod command;
 mod ending;
 mod fault;
+mod number;
 mod settings;
 
 pub use causes::{

@@ -1,10 +1,10 @@
-ghost use Rattle.std.specs.Prelude.{◌≡◌, ◌≢◌, [], Err, None, Some, IfOk, codes, map};
+ghost use Rattle.std.specs.Prelude.{◌≡◌, ◌≢◌, [], Err, None, Some, true, false, IfOk, codes, map, option_and_then};
 ghost use Rattle.clap.specs.Words.{first_value, found_of};
-ghost use Rattle.ov_words.specs.Words.{settings_of};
-ghost use Rattle.ov_words.specs.Words.{is_set};
+ghost use Rattle.ov_words.specs.Words.{fit_together, is_number, is_set, sessions_in, settings_of};
 
 use crate::command::matches;
 use crate::fault::WordFault;
+use crate::number::sessions_in;
 use clap::ArgMatches;
 use ov_base::Text;
 use std::alloc::Global;
@@ -17,36 +17,64 @@ pub struct Settings {
     pub schema: Option<Text>,
     /// The path of the file that keeps the database, or none for a database in memory.
     pub db: Option<Text>,
-    /// Whether standard input and output are named as what is served. They are served without the argument too.
+    /// The address at which connections are accepted, or none where the streams are served.
+    pub listen: Option<Text>,
+    /// How many connections are served at that address, from 1 to 64, or none where no number is given. Without an address there
+    /// is none.
+    pub sessions: Option<u64>,
+    /// Whether standard input and output are named as what is served. Where no address is, they are served without the argument
+    /// too; where one is, they are not named.
     pub is_on_streams: bool,
 }
 
-/// Reads the program's arguments, `[--schema FILE] [--db FILE] [--stdio]`, of which the first is the program's name.
+/// Reads the program's arguments, `[--schema FILE] [--db FILE] [--stdio | --listen ADDR [--sessions N]]`, of which the first is
+/// the program's name.
 ///
-/// A path is any text but the empty one, and no file is looked for. `--db=FILE` is read as `--db FILE`; an argument that is
-/// given twice is refused.
+/// A path or an address is any text but the empty one: no file is looked for, and no address is tried. N is a number from 1 to
+/// 64 in decimal digits alone, with no sign; zeros may lead, so `08` is 8. `--db=FILE` is read as `--db FILE`; an argument that
+/// is given twice is refused. So are `--stdio` beside `--listen`, and `--sessions` without it.
 pub fn read_words<S: AsStr>(alloc: Global, words: &[S]) -> Result<Settings, WordFault>
     ensures taken { IfOk result (λ settings. settings_of (map S.text words.now) ≡ Some settings) }
     ensures refused { result ≡ Err WordFault.Refused → settings_of (map S.text words.now) ≡ None }
 {
     let matches = matches(alloc, words)?;
+    if !fit_together(&matches) {
+        return Err(WordFault::Refused);
+    }
     Ok(Settings {
-        schema: file_of(alloc, &matches, "schema")?,
-        db: file_of(alloc, &matches, "db")?,
+        sessions: number_of(&matches, "sessions")?,
+        schema: name_of(alloc, &matches, "schema")?,
+        db: name_of(alloc, &matches, "db")?,
+        listen: name_of(alloc, &matches, "listen")?,
         is_on_streams: has_flag(&matches, "stdio"),
     })
 }
 
-/// The file that an option names, if the option is used.
-fn file_of(alloc: Global, matches: &ArgMatches<'_>, name: &str) -> Result<Option<Text>, WordFault>
-    ensures value { IfOk result (λ file. file ≡ first_value (found_of matches.now) name.now) }
-    ensures full { IfOk result (λ file. file ≢ Some []) }
+/// The file or the address that an option names, if the option is used.
+fn name_of(alloc: Global, matches: &ArgMatches<'_>, name: &str) -> Result<Option<Text>, WordFault>
+    ensures value { IfOk result (λ named. named ≡ first_value (found_of matches.now) name.now) }
+    ensures full { IfOk result (λ named. named ≢ Some []) }
     ensures empty { result ≡ Err WordFault.Refused → first_value (found_of matches.now) name.now ≡ Some [] }
 {
     match matches.get_str(name) {
         None => Ok(None),
-        Some(file) if file.is_empty() => Err(WordFault::Refused),
-        Some(file) => Ok(Some(Text::from_str(alloc, file)?)),
+        Some(named) if named.is_empty() => Err(WordFault::Refused),
+        Some(named) => Ok(Some(Text::from_str(alloc, named)?)),
+    }
+}
+
+/// The number of sessions that an option gives, if the option is used.
+fn number_of(matches: &ArgMatches<'_>, name: &str) -> Result<Option<u64>, WordFault>
+    ensures value { IfOk result (λ count. count ≡ option_and_then sessions_in (first_value (found_of matches.now) name.now)) }
+    ensures number { IfOk result (λ count. is_number (first_value (found_of matches.now) name.now) ≡ true) }
+    ensures other { result ≡ Err WordFault.Refused → is_number (first_value (found_of matches.now) name.now) ≡ false }
+{
+    match matches.get_str(name) {
+        None => Ok(None),
+        Some(digits) => match sessions_in(digits) {
+            None => Err(WordFault::Refused),
+            Some(count) => Ok(Some(count)),
+        },
     }
 }
 
@@ -57,5 +85,16 @@ fn has_flag(matches: &ArgMatches<'_>, name: &str) -> bool
     match matches.get_str(name) {
         Some(value) => value == "true",
         None => false,
+    }
+}
+
+/// Whether what is served is said without a contradiction.
+fn fit_together(matches: &ArgMatches<'_>) -> bool
+    ensures { result ≡ fit_together (first_value (found_of matches.now)) }
+{
+    if matches.get_str("listen").is_some() {
+        !has_flag(matches, "stdio")
+    } else {
+        matches.get_str("sessions").is_none()
     }
 }

@@ -4,17 +4,23 @@ use std::alloc::Global;
 use std::test::Fail;
 use test_support::{Scripted, agrees};
 
-/// Arguments behind the program's name, with a comma behind each, and the settings: the schema, the database, and whether the
-/// streams are named.
-const TAKEN: &str = " -> -|-|false
---stdio, -> -|-|true
---schema,a.json, -> a.json|-|false
---schema=a.json,--stdio, -> a.json|-|true
---db,net.db,--schema,a b, -> a b|net.db|false
---db=net.db, -> -|net.db|false
---db=--stdio, -> -|--stdio|false
---schema=--db=x, -> --db=x|-|false
---db,-,--, -> -|-|false";
+/// Arguments behind the program's name, with a comma behind each, and the settings: the schema, the database, the address, how
+/// many sessions, and whether the streams are named.
+const TAKEN: &str = " -> -|-|-|-|false
+--stdio, -> -|-|-|-|true
+--schema,a.json, -> a.json|-|-|-|false
+--schema=a.json,--stdio, -> a.json|-|-|-|true
+--db,net.db,--schema,a b, -> a b|net.db|-|-|false
+--db=net.db, -> -|net.db|-|-|false
+--db=--stdio, -> -|--stdio|-|-|false
+--schema=--db=x, -> --db=x|-|-|-|false
+--db,-,--, -> -|-|-|-|false
+--listen,127.0.0.1:0, -> -|-|127.0.0.1:0|-|false
+--sessions=64,--listen,localhost:6640,--db,net.db, -> -|net.db|localhost:6640|64|false
+--listen=[::1]:6640,--sessions,1, -> -|-|[::1]:6640|1|false
+--listen=--stdio, -> -|-|--stdio|-|false
+--listen,a,--sessions,008, -> -|-|a|8|false
+--listen,a,--sessions,000000000000000000000000000010, -> -|-|a|10|false";
 
 /// Arguments that are refused.
 const REFUSED: &str = "--help, -> refused
@@ -34,7 +40,27 @@ help, -> refused
 --schema,, -> refused
 --db,, -> refused
 --db=,--stdio, -> refused
---listen,127.0.0.1:0, -> refused";
+--listen, -> refused
+--listen=, -> refused
+--listen,,--sessions,1, -> refused
+--listen,a,--listen,a, -> refused
+--listen,--sessions,1, -> refused
+--stdio,--listen,a, -> refused
+--listen,a,--sessions,2,--stdio, -> refused
+--sessions,1, -> refused
+--stdio,--sessions=1, -> refused
+--listen,a,--sessions, -> refused
+--listen,a,--sessions=, -> refused
+--listen,a,--sessions,1,--sessions,1, -> refused
+--listen,a,--sessions,0, -> refused
+--listen,a,--sessions,000, -> refused
+--listen,a,--sessions,65, -> refused
+--listen,a,--sessions,18446744073709551617, -> refused
+--listen,a,--sessions=+1, -> refused
+--listen,a,--sessions=-1, -> refused
+--listen,a,--sessions,1 , -> refused
+--listen,a,--sessions,0x1, -> refused
+--listen,a,--sessions,two, -> refused";
 
 /// The arguments of a case, behind the program's name.
 fn words_of<'a>(alloc: Global, case: &'a str) -> Result<Vec<&'a str>, Fail> {
@@ -46,19 +72,29 @@ fn words_of<'a>(alloc: Global, case: &'a str) -> Result<Vec<&'a str>, Fail> {
     Ok(words)
 }
 
-/// The name of a file, where `-` stands for none.
-fn name_of(file: &Option<Text>) -> &str {
-    match file {
-        Some(path) => path.as_str(),
+/// The name of a file or an address, where `-` stands for none.
+fn name_of(named: &Option<Text>) -> &str {
+    match named {
+        Some(name) => name.as_str(),
         None => "-",
+    }
+}
+
+/// A number of sessions, where `-` stands for none.
+fn number_of(alloc: Global, sessions: Option<u64>) -> Result<String, Fail> {
+    match sessions {
+        Some(count) => Ok(format!(in alloc; "{count}")?),
+        None => Ok(String::from_str(alloc, "-")?),
     }
 }
 
 fn text_of(alloc: Global, settings: &Settings) -> Result<String, Fail> {
     let schema = name_of(&settings.schema);
     let db = name_of(&settings.db);
+    let listen = name_of(&settings.listen);
+    let sessions = number_of(alloc, settings.sessions)?;
     let is_on_streams = settings.is_on_streams;
-    Ok(format!(in alloc; "{schema}|{db}|{is_on_streams}")?)
+    Ok(format!(in alloc; "{schema}|{db}|{listen}|{sessions}|{is_on_streams}")?)
 }
 
 /// The settings that arguments give.

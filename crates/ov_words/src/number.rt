@@ -1,0 +1,30 @@
+ghost use Rattle.std.specs.Prelude.{◌≡◌, ◌==◌, slice_index};
+ghost use Rattle.ov_words.specs.Words.{sessions_in};
+
+/// The most sessions that may be open at once.
+const MOST_SESSIONS: u64 = 64;
+
+/// The number of sessions that decimal digits alone tell, from 1 to 64. Zeros may lead.
+pub(crate) fn sessions_in(digits: &str) -> Option<u64>
+    ensures { result ≡ sessions_in digits.now }
+{
+    // A number may have a plus in front where it is parsed, and no other sign.
+    if has_plus(digits) {
+        return None;
+    }
+    let Ok(count) = digits.parse::<u64>() else {
+        return None;
+    };
+    if count >= 1 && count <= MOST_SESSIONS {
+        Some(count)
+    } else {
+        None
+    }
+}
+
+fn has_plus(text: &str) -> bool
+    ensures { result ≡ (slice_index text.now 0 == 43) }
+{
+    let bytes = text.as_bytes();
+    !bytes.is_empty() && bytes[0] == b'+'
+}
