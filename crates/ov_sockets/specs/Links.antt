@@ -1,0 +1,19 @@
+-- The ends of a connection. What names no source is our own.
+use Rattle.std.specs.Prelude.{◌≡◌, [], false}
+use Rattle.std.specs.Borrow.{Bor}
+use Rattle.std.specs.Io.Buffered.{writer_buffer, writer_inner}
+use Rattle.std.specs.declared.io.buffered.BufWriter.{BufWriter}
+use Rattle.std.specs.declared.net.tcp.TcpStream.{TcpStream}
+use Rattle.ov_ends.specs.declared.watched.Watched.{Watched}
+use Rattle.ov_desk.specs.declared.link.Link.{Link}
+
+-- it was asked for nothing yet
+abbrev pub IsUnused : {T : Type 0} → Watched T → Type 0
+IsUnused end = (end.trace.bytes ≡ []) × (end.ended ≡ false) × (end.flushed ≡ false) × (end.failures ≡ 0)
+
+-- both are of this connection, and nothing went over them
+abbrev pub IsLinkOf : {A : Type 0} → Link (Watched (Bor TcpStream)) (Watched (BufWriter (Bor TcpStream) A))
+    → TcpStream → Type 0
+IsLinkOf link stream =
+    IsUnused link.reader × (link.reader.inner.now ≡ stream)
+    × IsUnused link.writer × ((writer_inner link.writer.inner).now ≡ stream) × (writer_buffer link.writer.inner ≡ [])

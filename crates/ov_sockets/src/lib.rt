@@ -1,0 +1,14 @@
+//! Sessions over TCP: a listener, so many connections of it, and of each the two ends that a session is served over.
+//!
+//! This crate knows of no session and no protocol. What comes over a connection is the reader's, and what is sent the writer's.
+#![tactic(auto)]
+
+mod accept;
+mod address;
+mod fault;
+mod links;
+
+pub use accept::accept_all;
+pub use address::{chosen_line, listen};
+pub use fault::ListenFault;
+pub use links::{SocketReader, SocketWriter, links_of};
