@@ -1,0 +1,49 @@
+ghost use Rattle.std.specs.Prelude.{◌≡◌};
+ghost use Rattle.ov_listen.specs.Chain.{EndsChainAt};
+
+use crate::connections::serve_listening;
+use ov_core::early::{Draws, Keeper};
+use ov_core::{Core, Schema};
+use ov_session::Ended;
+use ov_words::ending_of_open;
+use std::alloc::Global;
+use std::net::{Net, TcpListener, TcpStream};
+use std::rt::Clock as SystemClock;
+use std::sync::Wait;
+use std::thread::Threads;
+
+/// Opens the machine over what a keeper holds under a schema, listens at an address, HOST:PORT, accepts so many connections, and
+/// serves a session over each, all at the same time, from the first byte of its input to its end. Where the port is 0 the system
+/// chooses one, and a line on standard error tells it.
+///
+/// No session is served before all connections are there, and none is closed before all sessions have ended. A client that went
+/// away before is one that ends at once. Where the machine is not opened nobody is listened to, and where there are not as many
+/// connections nothing is read or written.
+pub fn serve_at<R, K, D>(
+    rt: &R,
+    alloc: Global,
+    keeper: K,
+    schema: Schema,
+    draws: D,
+    address: &str,
+    count: usize,
+) -> Ended<K>
+where
+    R: Net<Listener = TcpListener, Stream = TcpStream>
+        + Threads
+        + Wait
+        + SystemClock
+        + Eprint
+        + Sync,
+    K: Keeper + Drop,
+    D: Draws + Drop,
+    ensures { EndsChainAt K.Keeper keeper schema draws count result.ending result.keeper }
+{
+    match Core::open(alloc, keeper, schema, draws) {
+        Ok(core) => serve_listening(rt, alloc, core, address, count),
+        Err(refused) => Ended {
+            ending: ending_of_open(refused.fault),
+            keeper: refused.keeper,
+        },
+    }
+}
