@@ -4,6 +4,8 @@ use crate::database::built_in_schema;
 use crate::draws::RandomDraws;
 use ov_base::Text;
 use ov_core::Schema;
+use ov_core::early::Draws;
+use ov_listen::{serve_file_at, serve_memory_at};
 use ov_schema::{read_schema, text_of};
 use ov_session::{serve_file, serve_memory};
 use ov_words::{Ending, Settings, ending_of_schema, ending_of_words, read_words};
@@ -12,28 +14,58 @@ use std::alloc::Global;
 use std::env;
 use std::env::Env;
 use std::io::{ErrorKind, Read, Write};
+use std::net::{Net, TcpListener, TcpStream};
 use std::random::RandomSource;
 use std::rt::{Clock, Files};
 use std::sync::Wait;
+use std::thread::Threads;
 
-/// Runs the program, and tells how it ends. Faults are looked for in the arguments, then in the schema, then in the database.
-/// `start` stands for what the database's file and its log hold.
-pub fn run<R: Wait + RandomSource + Clock, S: Start, I: Read + Drop, O: Write + Drop>(
-    host: &HostRuntime,
-    rt: &R,
-    start: S,
-    input: I,
-    output: O,
-) -> Ending {
+/// Where sessions are served.
+#[derive(Drop)]
+enum Place {
+    /// One, over the reader and the writer.
+    Streams,
+    /// So many, over connections at an address.
+    Address(Text, u64),
+}
+
+/// Where the arguments ask for sessions. None where they ask for what the program can't do yet.
+fn place_of(listen: Option<Text>, sessions: Option<u64>) -> Option<Place> {
+    match (listen, sessions) {
+        (None, _) => Some(Place::Streams),
+        (Some(address), Some(count)) => Some(Place::Address(address, count)),
+        // Sessions for whoever comes, without an end.
+        (Some(_), None) => None,
+    }
+}
+
+/// Runs the program, and tells how it ends. Faults are looked for in the arguments, then in the schema, then in the database, and
+/// then in the address. `start` stands for what the database's file and its log hold.
+pub fn run<R, S, I, O>(host: &HostRuntime, rt: &R, start: S, input: I, output: O) -> Ending
+where
+    R: Net<Listener = TcpListener, Stream = TcpStream>
+        + Threads
+        + Wait
+        + RandomSource
+        + Clock
+        + Eprint
+        + Sync,
+    S: Start,
+    I: Read + Drop,
+    O: Write + Drop,
+{
     let Settings {
         schema,
         db,
-        listen: _,
-        sessions: _,
+        listen,
+        sessions,
         is_on_streams: _,
     } = match settings(host, host.alloc()) {
         Ok(settings) => settings,
         Err(ending) => return ending,
+    };
+    let Some(place) = place_of(listen, sessions) else {
+        return Ending::Arguments;
     };
     let schema = match schema_of(host, host.alloc(), schema) {
         Ok(schema) => schema,
@@ -45,11 +77,66 @@ pub fn run<R: Wait + RandomSource + Clock, S: Start, I: Read + Drop, O: Write + 
     let Ok(draws) = RandomDraws::seeded(rt) else {
         return Ending::Database;
     };
+    match place {
+        Place::Streams => serve_streams(host, rt, start, db, text, schema, draws, input, output),
+        Place::Address(address, count) => {
+            let address = address.as_str();
+            serve_sessions(host, rt, start, db, text, schema, draws, address, count)
+        }
+    }
+}
+
+/// Serves one session over a reader and a writer, of the database in a file or in memory.
+fn serve_streams<R, S, D, I, O>(
+    host: &HostRuntime,
+    rt: &R,
+    start: S,
+    db: Option<Text>,
+    text: Text,
+    schema: Schema,
+    draws: D,
+    input: I,
+    output: O,
+) -> Ending
+where
+    R: Wait + Clock,
+    S: Start,
+    D: Draws + Drop,
+    I: Read + Drop,
+    O: Write + Drop,
+{
     match db {
         None => serve_memory(rt, host.alloc(), text, schema, draws, input, output),
         Some(path) => {
             let path = path.as_str();
             serve_file(host, rt, path, start, text, schema, draws, input, output)
+        }
+    }
+}
+
+/// Serves so many sessions at an address, of the database in a file or in memory.
+fn serve_sessions<R, S, D>(
+    host: &HostRuntime,
+    rt: &R,
+    start: S,
+    db: Option<Text>,
+    text: Text,
+    schema: Schema,
+    draws: D,
+    address: &str,
+    count: u64,
+) -> Ending
+where
+    R: Net<Listener = TcpListener, Stream = TcpStream> + Threads + Wait + Clock + Eprint + Sync,
+    S: Start,
+    D: Draws + Drop,
+{
+    let count = count as usize;
+    match db {
+        None => serve_memory_at(rt, host.alloc(), text, schema, draws, address, count),
+        Some(path) => {
+            let path = path.as_str();
+            serve_file_at(host, rt, path, start, text, schema, draws, address, count)
         }
     }
 }
