@@ -1,7 +1,9 @@
-//! Tests of connections: a listener, and the ends of what it accepts, over the loopback interface.
+//! Tests of connections: a listener, the ends of what it accepts, and sessions over them, through the loopback interface.
 #![tactic(auto)]
 
 #[cfg(test)]
 mod addresses;
 #[cfg(test)]
 mod connections;
+#[cfg(test)]
+mod sessions;

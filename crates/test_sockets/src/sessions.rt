@@ -1,0 +1,134 @@
+//! Clients over the loopback interface, whose sessions are served together.
+
+use ov_listen::{serve_at, serve_connections};
+use ov_sockets::{accept_all, listen};
+use ov_words::Ending;
+use std::alloc::Global;
+use std::io::{Read, Write};
+use std::net::{Net, Shutdown, TcpListener, TcpStream};
+use std::rt::Clock;
+use std::sync::Wait;
+use std::test::Fail;
+use std::thread;
+use std::thread::Threads;
+use std::time::Duration;
+use test_support::{Counter, Faults, net, net_core, net_keeper};
+
+/// How many seconds a client waits for what it is sent.
+const PATIENCE: u64 = 20;
+
+/// The first client owns a lock, and gives it up once the second was told that it has to wait. The second is then told that the
+/// lock is its own.
+const GIVEN_ON: &str = r#"1 sends {"id":1,"method":"lock","params":["L"]}
+1 reads {"error":null,"id":1,"result":{"locked":true}}
+2 sends {"id":1,"method":"lock","params":["L"]}
+2 reads {"error":null,"id":1,"result":{"locked":false}}
+1 sends {"id":2,"method":"unlock","params":["L"]}
+1 reads {"error":null,"id":2,"result":{}}
+2 reads {"id":null,"method":"locked","params":["L"]}"#;
+
+/// Reads as many bytes as these. None where they are others.
+fn reads(alloc: Global, client: &TcpStream, wanted: &str) -> Option<()> {
+    let mut reader = client;
+    let mut got = Vec::new(alloc);
+    got.resize(wanted.len(), 0).ok()?;
+    reader.read_exact(got.as_mut_slice()).ok()?;
+    if got.as_slice() == wanted.as_bytes() {
+        Some(())
+    } else {
+        None
+    }
+}
+
+/// Follows a line of a script: who sends or reads, and what.
+fn follow(alloc: Global, first: &TcpStream, second: &TcpStream, line: &str) -> Option<()> {
+    let (who, what) = line.split_once(" ")?;
+    let client = if who == "1" { first } else { second };
+    match what.split_once(" ")? {
+        ("sends", text) => {
+            let mut writer = client;
+            writer.write_all(text.as_bytes()).ok()
+        }
+        ("reads", text) => reads(alloc, client, text),
+        _ => None,
+    }
+}
+
+/// Follows a script, line by line. None where something else is read, or nothing for a while.
+fn talk(alloc: Global, first: &TcpStream, second: &TcpStream, script: &str) -> Option<()> {
+    for line in script.lines() {
+        follow(alloc, first, second, line)?;
+    }
+    Some(())
+}
+
+/// The same, and then ends both inputs, however the talk went: who serves them waits for that.
+fn talk_to_end(alloc: Global, first: &TcpStream, second: &TcpStream, script: &str) -> bool {
+    let talked = talk(alloc, first, second, script).is_some();
+    let ended = first.shutdown(Shutdown::Write).is_ok();
+    second.shutdown(Shutdown::Write).is_ok() && ended && talked
+}
+
+/// How the sessions over these connections end, of a new database Net in memory.
+fn served<R: Threads + Wait + Clock + Sync>(
+    rt: &R,
+    alloc: Global,
+    streams: &Vec<TcpStream>,
+) -> Result<Ending, Fail> {
+    let core = net_core(alloc, Faults::NONE)?;
+    Ok(serve_connections(rt, alloc, core, streams).ending)
+}
+
+/// A client that waits for a while.
+fn client_of<R: Net<Listener = TcpListener, Stream = TcpStream>>(
+    rt: &R,
+    listener: &TcpListener,
+) -> Result<TcpStream, Fail> {
+    let client = TcpStream::connect(rt, listener.local_addr()?)?;
+    client.set_read_timeout(Some(Duration::from_secs(PATIENCE)))?;
+    Ok(client)
+}
+
+#[test]
+fn two_clients_share_a_lock(rt: HostRuntime) -> Result<(), Fail> {
+    let alloc = rt.alloc();
+    let listener = listen(&rt, "127.0.0.1:0")?;
+    let (first, second) = (client_of(&rt, &listener)?, client_of(&rt, &listener)?);
+    let streams = accept_all(alloc, &listener, 2)?;
+    let (ended, is_as_told) = thread::join(
+        &rt,
+        || served(&rt, alloc, &streams),
+        || talk_to_end(alloc, &first, &second, GIVEN_ON),
+    );
+    assert_eq!(rt; ended?, Ending::InputEnded);
+    assert!(rt; is_as_told);
+    Ok(())
+}
+
+/// How a session at an address ends, of a new database Net in memory.
+fn ending_at<R>(rt: &R, alloc: Global, address: &str) -> Result<Ending, Fail>
+where
+    R: Net<Listener = TcpListener, Stream = TcpStream> + Threads + Wait + Clock + Eprint + Sync,
+{
+    let schema = net(alloc)?;
+    let keeper = net_keeper(alloc, Faults::NONE)?;
+    Ok(serve_at(rt, alloc, keeper, schema, Counter::new(), address, 1).ending)
+}
+
+#[test]
+fn no_address_ends_as_streams(rt: HostRuntime) -> Result<(), Fail> {
+    assert_eq!(rt; ending_at(&rt, rt.alloc(), "127.0.0.1")?, Ending::Streams);
+    Ok(())
+}
+
+#[test]
+fn a_port_in_use_ends_as_streams(rt: HostRuntime) -> Result<(), Fail> {
+    let listener = listen(&rt, "127.0.0.1:0")?;
+    let address = listener.local_addr()?;
+    let named = format!(in rt.alloc(); "{address}")?;
+    assert_eq!(rt;
+        ending_at(&rt, rt.alloc(), named.as_str())?,
+        Ending::Streams
+    );
+    Ok(())
+}
