@@ -1,0 +1,70 @@
+-- The places of a lobby, and what became of the sessions that are served there. What names no source is our own.
+use Rattle.std.specs.Prelude.{◌≡◌, ◌⊎◌, ℕ, List, [], length, slice_index_or, Option, Some, None, true, false}
+use Rattle.rtrb.specs.Ring.{sent, received}
+use Rattle.ov_specs.specs.machine.Machine.{is_open}
+use Rattle.ov_core.specs.Following.{CoreState}
+use Rattle.ov_lanes.specs.Courses.{Course}
+use Rattle.ov_lanes.specs.Since.{Since, course_of}
+use Rattle.ov_lanes.specs.Lanes.{LaneFits, Moves}
+use Rattle.ov_lanes.specs.declared.lane.Lane.{Lane}
+
+-- ---- one place
+
+-- a session is served there, and has this lane
+abbrev pub IsAt : List (Option Lane) → ℕ → Lane → Type 0
+IsAt places at lane = slice_index_or places at None ≡ Some lane
+
+-- what the lane at a place has taken and put fits the course of its session
+abbrev pub PlaceFits : {K D : Type 0} {first core : CoreState K D} → Since first core → Option Lane → Type 0
+PlaceFits since None = Unit {0}
+PlaceFits since (Some l) = LaneFits since l
+
+-- What was done at a place: nothing, where it is free. Else its lane was moved on; or the place was made free, whose session is
+-- closed.
+abbrev pub MovesPlace : {K D : Type 0} {first old : CoreState K D} → Since first old → Option Lane → CoreState K D → Option Lane → Type 0
+MovesPlace {old = old} since None new p = (new ≡ old) × (p ≡ None)
+MovesPlace {old = old} since (Some l) new None = (new ≡ old) × (l.ended ≡ true)
+MovesPlace since (Some l) new (Some m) = Moves since l new m × (m.session ≡ l.session)
+
+-- nothing was taken of the lane and nothing put, and its session is the same
+abbrev pub LooksAt : Lane → Lane → Type 0
+LooksAt a b =
+    (received b.inbound ≡ received a.inbound) × (sent b.outbound ≡ sent a.outbound) × (b.session ≡ a.session)
+    × (b.cause ≡ a.cause) × (b.ended ≡ a.ended) × (b.marked ≡ a.marked)
+
+-- the lane of a session that was opened, of which nothing was taken and for which nothing was put
+pub record IsNewLane (serial : ℕ) (lane : Lane) : Type 0 where
+  pub session : lane.session.serial ≡ serial
+  pub cause : lane.cause ≡ None
+  pub taken : received lane.inbound ≡ []
+  pub puts : sent lane.outbound ≡ []
+  pub is_marked : lane.marked ≡ false
+  pub is_ended : lane.ended ≡ false
+
+-- ---- all places
+
+-- no session is served
+abbrev pub AreFree : List (Option Lane) → Type 0
+AreFree places = (at : ℕ) → slice_index_or places at None ≡ None
+
+-- of each session that is served the reader's end was taken
+abbrev pub AreOver : List (Option Lane) → Type 0
+AreOver places = (at : ℕ) (l : Lane) → IsAt places at l → l.ended ≡ true
+
+-- a session that is not open and was not closed was handed nothing
+abbrev pub IsUntold : Course → Type 0
+IsUntold c = c.is_open ≡ false → c.closed ≡ None → c.handed ≡ []
+
+-- What was done since the core was `start`. Each session that was opened since and is open has a place, each has one at most, and
+-- what its lane has taken and put fits the course of the session.
+pub record ServesPlaces {K D : Type 0} (start core : CoreState K D) (places : List (Option Lane)) : Type 0 where
+  pub since : Since start core
+  pub fits : (at : ℕ) (l : Lane) → IsAt places at l → LaneFits since l
+  pub apart : (at other : ℕ) (l m : Lane) → IsAt places at l → IsAt places other m → l.session.serial ≡ m.session.serial → at ≡ other
+  pub have_places : (n : ℕ) → is_open core.state n ≡ true → (is_open start.state n ≡ true) ⊎ ((at : ℕ) × (l : Lane) × IsAt places at l × (l.session.serial ≡ n))
+  pub untold : (n : ℕ) → IsUntold (course_of since n)
+
+-- Whatever was done since a core was `start`, the places fit it as before. There are as many.
+pub record GoesOn {K D : Type 0} (core : CoreState K D) (places : List (Option Lane)) (core' : CoreState K D) (places' : List (Option Lane)) : Type 0 where
+  pub serves : (start : CoreState K D) → ServesPlaces start core places → ServesPlaces start core' places'
+  pub many : length places' ≡ length places

@@ -1,0 +1,117 @@
+ghost use Rattle.std.specs.Prelude.{◌≡◌, ◌<◌, false, IfErr};
+
+use crate::listen::Listen;
+use ov_desk::Link;
+use ov_order::{Brought, Order};
+use rtrb::Producer;
+use std::sync::Wait;
+use std::sync::ledger::{Ledger, Share};
+use std::thread;
+use std::thread::{JoinHandle, Scope, Threads};
+
+/// What the accepting worker notes for each item that it brings. No session has this serial.
+pub(crate) const LOBBY: u64 = 0;
+
+/// What the accepting worker brings the desk: the links of connections, and last that there will be none any more.
+pub(crate) type Accepted<S, W> = Brought<Link<S, W>, ()>;
+
+/// What the accepting worker hands back.
+#[derive(Drop)]
+pub(crate) struct AcceptEnd<T> {
+    /// The listener.
+    pub listener: T,
+    /// Whether it might begin. Where it might not, the listener was asked nothing.
+    pub begun: bool,
+}
+
+/// Brings the desk what the listener gives, and last that there will be nothing any more.
+fn accept_all<R: Wait, L: Ledger, S: Drop, W: Drop, T: Listen<S, W>>(
+    rt: &R,
+    order: &Order<L>,
+    listener: &mut T,
+    ring: &mut Producer<Accepted<S, W>>,
+    share: &mut Share<L>,
+)
+    requires { 0 < share.old.parts }
+{
+    for _ in rt.forever() {
+        let Some(link) = listener.accept() else {
+            order.bring(rt, ring, share, LOBBY, Brought::End(()));
+            return;
+        };
+        order.bring(rt, ring, share, LOBBY, Brought::Message(link));
+    }
+    unreachable!()
+}
+
+/// Waits until it is said whether the workers may begin. Where they may, it brings the desk what the listener gives, until that
+/// gives nothing any more. It waits where 64 connections wait for the desk.
+fn accept_worker<R: Wait, L: Ledger, S: Drop, W: Drop, T: Listen<S, W>>(
+    rt: &R,
+    order: &Order<L>,
+    listener: T,
+    ring: Producer<Accepted<S, W>>,
+    share: Share<L>,
+) -> AcceptEnd<T>
+    requires { 0 < share.parts }
+    ensures { result.begun ≡ false → result.listener ≡ listener }
+{
+    let mut listener = listener;
+    let mut ring = ring;
+    let mut share = share;
+    let begun = order.wait_begin(rt);
+    if begun {
+        accept_all(rt, order, &mut listener, &mut ring, &mut share);
+    }
+    AcceptEnd { listener, begun }
+}
+
+/// What an accepting worker hands back that was told not to begin. One that began is waited for without end: none does once that
+/// was said.
+fn unbegun<R: Wait, T>(rt: &R, end: AcceptEnd<T>) -> AcceptEnd<T>
+    ensures same { result ≡ end }
+    ensures none { result.begun ≡ false }
+{
+    for _ in rt.forever() {
+        if !end.begun {
+            return end;
+        }
+        thread::yield_now();
+    }
+    unreachable!()
+}
+
+/// Starts the accepting worker in a thread of the scope, and says that all workers may begin. Where no thread could be started it
+/// says that none may, and gives the listener back.
+pub(crate) fn start_accepting<'s, E, R, L, S, W, T>(
+    rt: &'s R,
+    scope: &Scope<'s, E>,
+    order: &'s Order<L>,
+    listener: T,
+    ring: Producer<Accepted<S, W>>,
+    share: Share<L>,
+) -> Result<JoinHandle<AcceptEnd<T>>, T>
+where
+    R: Threads + Wait + Sync,
+    L: Ledger + Send + Sync + 's,
+    S: Send + Drop + 's,
+    W: Send + Drop + 's,
+    T: Listen<S, W> + Send + Drop + 's,
+    requires { 0 < share.parts }
+    ensures { IfErr result (λ l. l ≡ listener) }
+{
+    let job = move || accept_worker(rt, order, listener, ring, share);
+    match scope.spawn(job) {
+        Ok(handle) => {
+            order.lock(rt).begin(true);
+            order.wake();
+            Ok(handle)
+        }
+        Err(refused) => {
+            order.lock(rt).begin(false);
+            order.wake();
+            let AcceptEnd { listener, begun: _ } = unbegun(rt, (refused.value)());
+            Err(listener)
+        }
+    }
+}

@@ -1,0 +1,180 @@
+ghost use Rattle.std.specs.Prelude.{◌≡◌, ◌<◌, ℕ, None, vec_len, slice_index_or, IfSome, MatchOption};
+ghost use Rattle.ov_specs.specs.machine.Machine.{Open as SpecOpen};
+ghost use Rattle.ov_core.specs.Stepping.{IsEntered};
+ghost use Rattle.ov_core.specs.declared.event.Stepped.TheVariants.{Opened};
+ghost use Rattle.ov_desk.specs.Opening.{DropsSession};
+ghost use Rattle.ov_lobby.specs.Places.{GoesOn, IsNewLane};
+ghost use Rattle.ov_lobby.specs.Rings.{AreFresh};
+
+use crate::parts::Parts;
+use crate::rings::{Rings, new_rings};
+use crate::start::start_workers;
+use ov_core::early::{Draws, Keeper};
+use ov_core::{Cause, Core, Event, Session, Stepped};
+use ov_desk::Link;
+use ov_ends::{Sink, Source};
+use ov_lanes::Lane;
+use ov_order::{Bell, Order};
+use ov_workers::Gate;
+use std::alloc::Global;
+use std::sync::Wait;
+use std::sync::ledger::{Ledger, Share};
+use std::thread::{Scope, Threads};
+
+/// Opens a session. None where the core refuses it, and then nothing is done.
+fn open_session<K: Keeper + Drop, D: Draws + Drop>(
+    core: &mut Core<K, D>,
+    alloc: Global,
+) -> Option<Session>
+    ensures { MatchOption result (core.new ≡ core.old) (λ session. (at : ℕ) × IsEntered D.draws at SpecOpen core.old (Opened session) core.new) }
+{
+    match core.step(alloc, 0, Event::Open) {
+        Stepped::Opened(session) => Some(session),
+        Stepped::Refused(_) => None,
+        Stepped::Done | Stepped::Closed => unreachable!(),
+    }
+}
+
+/// Closes a session as out of memory, and drops what waits for it.
+fn drop_session<K: Keeper + Drop, D: Draws + Drop>(core: &mut Core<K, D>, session: Session)
+    ensures { DropsSession session.serial core.old core.new }
+{
+    if core.close(session, Cause::Memory) {
+        core.discard(session);
+    }
+}
+
+/// A place where no session is served, if there is one.
+fn free_place(places: &Vec<Option<Lane>>) -> Option<usize>
+    ensures { IfSome result (λ at. (at < vec_len places.now) × (slice_index_or places.now.items at None ≡ None)) }
+{
+    for at in 0..places.len() {
+        if places[at].is_none() {
+            return Some(at);
+        }
+    }
+    None
+}
+
+/// The lane of a session that was opened, whose workers are started. None where a thread is refused: then both ends of the link
+/// are closed.
+fn start_lane<'s, E, R, L, G, S, W>(
+    rt: &'s R,
+    alloc: Global,
+    scope: &Scope<'s, E>,
+    order: &'s Order<L>,
+    bell: &'s Bell,
+    gate: &'s G,
+    session: Session,
+    link: Link<S, W>,
+    rings: Rings,
+    share: Share<L>,
+) -> Option<Lane>
+where
+    R: Threads + Wait + Sync,
+    L: Ledger + Send + Sync + 's,
+    G: Gate + Sync,
+    S: Source + Send + Drop + 's,
+    W: Sink + Send + Drop + 's,
+    requires rings { AreFresh rings }
+    requires share { (share.parts ≡ 1) × (share.amount ≡ 0) }
+    ensures { IfSome result (λ lane. IsNewLane session.serial lane) }
+{
+    let Rings {
+        to_desk,
+        inbound,
+        outbound,
+        to_writer,
+    } = rings;
+    let outbound = start_workers(
+        rt,
+        alloc,
+        scope,
+        order,
+        bell,
+        gate,
+        session.serial,
+        link,
+        to_desk,
+        to_writer,
+        share,
+        outbound,
+    )?;
+    Some(Lane::new(session, inbound, outbound))
+}
+
+/// Opens a session for the link at a free place and starts its workers. Where the core or a thread is refused both ends of the link
+/// are closed, and so is the session, as out of memory, if it was opened.
+fn admit_at<'s, E, R, K, D, L, G, S, W>(
+    rt: &'s R,
+    alloc: Global,
+    scope: &Scope<'s, E>,
+    order: &'s Order<L>,
+    bell: &'s Bell,
+    gate: &'s G,
+    core: &mut Core<K, D>,
+    places: &mut Vec<Option<Lane>>,
+    at: usize,
+    link: Link<S, W>,
+    rings: Rings,
+    share: Share<L>,
+)
+where
+    R: Threads + Wait + Sync,
+    K: Keeper + Drop,
+    D: Draws + Drop,
+    L: Ledger + Send + Sync + 's,
+    G: Gate + Sync,
+    S: Source + Send + Drop + 's,
+    W: Sink + Send + Drop + 's,
+    requires place { (at < vec_len places.old) × (slice_index_or places.old.items at None ≡ None) }
+    requires rings { AreFresh rings }
+    requires share { (share.parts ≡ 1) × (share.amount ≡ 0) }
+    ensures { GoesOn core.old places.old.items core.new places.new.items }
+{
+    let Some(session) = open_session(core, alloc) else {
+        return;
+    };
+    match start_lane(
+        rt, alloc, scope, order, bell, gate, session, link, rings, share,
+    ) {
+        Some(lane) => places[at] = Some(lane),
+        None => drop_session(core, session),
+    }
+}
+
+/// Serves the link as a session, at a free place. Both its ends are closed where there is none, or where the session, a ring, a
+/// part of the ledger or a thread is refused.
+pub(crate) fn admit<'s, E, R, K, D, L, G, S, W>(
+    rt: &'s R,
+    alloc: Global,
+    scope: &Scope<'s, E>,
+    order: &'s Order<L>,
+    bells: &'s Vec<Bell>,
+    gate: &'s G,
+    core: &mut Core<K, D>,
+    places: &mut Vec<Option<Lane>>,
+    parts: &mut Parts<L>,
+    link: Link<S, W>,
+)
+where
+    R: Threads + Wait + Sync,
+    K: Keeper + Drop,
+    D: Draws + Drop,
+    L: Ledger + Send + Sync + 's,
+    G: Gate + Sync,
+    S: Source + Send + Drop + 's,
+    W: Sink + Send + Drop + 's,
+    ensures { GoesOn core.old places.old.items core.new places.new.items }
+{
+    let Some(at) = free_place(places) else {
+        return;
+    };
+    let (Some(bell), Some(share), Ok(rings)) = (bells.get(at), parts.take(), new_rings(alloc))
+    else {
+        return;
+    };
+    admit_at(
+        rt, alloc, scope, order, bell, gate, core, places, at, link, rings, share,
+    );
+}

@@ -1,0 +1,211 @@
+ghost use Rattle.std.specs.Prelude.{◌≡◌, ◌<◌, List, Option, true, false, None, vec_len, slice_index_or, IfSome};
+ghost use Rattle.ov_core.specs.Following.{CoreState};
+ghost use Rattle.ov_lanes.specs.Since.{Since};
+ghost use Rattle.ov_lanes.specs.declared.lane.Lane.{Lane as SpecLane};
+ghost use Rattle.ov_lobby.specs.Places.{PlaceFits, MovesPlace, GoesOn, LooksAt, AreOver};
+
+use ov_core::early::{Draws, Keeper};
+use ov_core::{Core, Event};
+use ov_lanes::{Lane, settle, turn_lane};
+use ov_order::Bell;
+use std::alloc::Global;
+use std::sync::Wait;
+
+/// Moves what waits for the session at a place.
+fn settle_place<K: Keeper + Drop, D: Draws + Drop>(core: &mut Core<K, D>, place: &mut Option<Lane>)
+    ensures { (first : CoreState K D) (since : Since first core.old) → PlaceFits since place.old → MovesPlace since place.old core.new place.new }
+{
+    match place {
+        Some(lane) => settle(core, lane),
+        None => {}
+    }
+}
+
+/// The same, for the place of this number.
+fn settle_at<K: Keeper + Drop, D: Draws + Drop>(
+    core: &mut Core<K, D>,
+    places: &mut Vec<Option<Lane>>,
+    at: usize,
+)
+    requires { at < vec_len places.old }
+    ensures { GoesOn core.old places.old.items core.new places.new.items }
+{
+    let place = &mut places[at];
+    settle_place(core, place);
+}
+
+/// Moves what waits for each session, once.
+fn settle_each<K: Keeper + Drop, D: Draws + Drop>(
+    core: &mut Core<K, D>,
+    places: &mut Vec<Option<Lane>>,
+)
+    ensures { GoesOn core.old places.old.items core.new places.new.items }
+{
+    for at in 0..places.len() {
+        settle_at(core, places, at);
+    }
+}
+
+/// Moves what waits for all sessions: frames into their rings, and behind the last frame of a closed session the end mark.
+///
+/// A session that is closed so, since its ring has no room, may have owned locks, whose next owners are told so: then all are gone
+/// over again.
+pub(crate) fn settle_places<K: Keeper + Drop, D: Draws + Drop>(
+    core: &mut Core<K, D>,
+    places: &mut Vec<Option<Lane>>,
+)
+    ensures { GoesOn core.old places.old.items core.new places.new.items }
+{
+    for _ in 0..places.len() {
+        let free = core.free_places();
+        settle_each(core, places);
+        if core.free_places() == free {
+            return;
+        }
+    }
+}
+
+/// Takes an item of the session at a place. False where none was seen.
+fn turn_place<K: Keeper + Drop, D: Draws + Drop>(
+    core: &mut Core<K, D>,
+    alloc: Global,
+    moment: u64,
+    place: &mut Option<Lane>,
+) -> bool
+    ensures { (first : CoreState K D) (since : Since first core.old) → PlaceFits since place.old → MovesPlace since place.old core.new place.new }
+{
+    match place {
+        Some(lane) => turn_lane(core, alloc, moment, lane),
+        None => true,
+    }
+}
+
+/// The same, for the place of this number.
+pub(crate) fn turn_at<K: Keeper + Drop, D: Draws + Drop>(
+    core: &mut Core<K, D>,
+    alloc: Global,
+    moment: u64,
+    places: &mut Vec<Option<Lane>>,
+    at: usize,
+) -> bool
+    requires { at < vec_len places.old }
+    ensures { GoesOn core.old places.old.items core.new places.new.items }
+{
+    let place = &mut places[at];
+    turn_place(core, alloc, moment, place)
+}
+
+/// Lets time pass to the moment in milliseconds, where a transaction that waits is due by it. Where memory is refused for that,
+/// nothing is done.
+pub(crate) fn pass_where_due<K: Keeper + Drop, D: Draws + Drop>(
+    core: &mut Core<K, D>,
+    alloc: Global,
+    moment: u64,
+)
+    ensures { (places : List (Option SpecLane)) → GoesOn core.old places core.new places }
+{
+    match core.due() {
+        Some(due) if due <= moment => {
+            let _ = core.step(alloc, moment, Event::Tick);
+        }
+        _ => {}
+    }
+}
+
+/// Rings the writer's bell, where something was put for it.
+fn ring_bell<R: Wait>(rt: &R, bell: &Bell, lane: &mut Lane)
+    ensures { LooksAt lane.old lane.new }
+{
+    if lane.news {
+        lane.news = false;
+        bell.ring(rt);
+    }
+}
+
+/// Whether the session is closed and both its workers have ended.
+fn is_left(lane: &mut Lane) -> bool
+    ensures looks { LooksAt lane.old lane.new }
+    ensures ended { result ≡ true → lane.old.ended ≡ true }
+{
+    lane.ended && lane.marked && lane.inbound.is_abandoned() && lane.outbound.is_abandoned()
+}
+
+/// Rings the bell of the writer at a place, where something was put for it, and makes the place free where the session is closed
+/// and both its workers have ended.
+fn tend_place<R: Wait, K: Keeper + Drop, D: Draws + Drop>(
+    rt: &R,
+    core: &Core<K, D>,
+    bell: &Bell,
+    place: &mut Option<Lane>,
+)
+    ensures { (first : CoreState K D) (since : Since first core.now) → PlaceFits since place.old → MovesPlace since place.old core.now place.new }
+{
+    let _core = core;
+    let Some(lane) = place else {
+        return;
+    };
+    ring_bell(rt, bell, lane);
+    if is_left(lane) {
+        *place = None;
+    }
+}
+
+/// The same, for the place of this number.
+fn tend_at<R: Wait, K: Keeper + Drop, D: Draws + Drop>(
+    rt: &R,
+    core: &Core<K, D>,
+    bells: &Vec<Bell>,
+    places: &mut Vec<Option<Lane>>,
+    at: usize,
+)
+    requires { at < vec_len places.old }
+    ensures { GoesOn core.now places.old.items core.now places.new.items }
+{
+    let Some(bell) = bells.get(at) else {
+        return;
+    };
+    let place = &mut places[at];
+    tend_place(rt, core, bell, place);
+}
+
+/// Rings the bells of all writers for which something was put, and makes the places free whose workers have ended.
+pub(crate) fn tend_places<R: Wait, K: Keeper + Drop, D: Draws + Drop>(
+    rt: &R,
+    core: &Core<K, D>,
+    bells: &Vec<Bell>,
+    places: &mut Vec<Option<Lane>>,
+)
+    ensures { GoesOn core.now places.old.items core.now places.new.items }
+{
+    for at in 0..places.len() {
+        tend_at(rt, core, bells, places, at);
+    }
+}
+
+/// The place of the session of this serial, if it has one.
+pub(crate) fn place_of(places: &Vec<Option<Lane>>, serial: u64) -> Option<usize>
+    ensures { IfSome result (λ at. at < vec_len places.now) }
+{
+    for at in 0..places.len() {
+        if let Some(lane) = &places[at] {
+            if lane.session.serial == serial {
+                return Some(at);
+            }
+        }
+    }
+    None
+}
+
+/// Each session is closed, each reader's end was taken, and behind each session's last frame the end mark was put.
+pub(crate) fn are_over(places: &Vec<Option<Lane>>) -> bool
+    ensures { result ≡ true → AreOver places.now.items }
+{
+    for place in places {
+        if let Some(lane) = place {
+            if !lane.ended || !lane.marked {
+                return false;
+            }
+        }
+    }
+    true
+}

@@ -1,0 +1,217 @@
+ghost use Rattle.std.specs.Prelude.{◌≡◌, ◌<◌, List, Option, vec_len};
+ghost use Rattle.ov_lanes.specs.declared.lane.Lane.{Lane as SpecLane};
+ghost use Rattle.ov_lobby.specs.Places.{GoesOn, AreOver};
+
+use crate::accept::{Accepted, LOBBY};
+use crate::admit::admit;
+use crate::parts::Parts;
+use crate::places::{are_over, pass_where_due, place_of, settle_places, tend_places, turn_at};
+use ov_core::Core;
+use ov_core::early::{Draws, Keeper};
+use ov_desk::Link;
+use ov_ends::{Clock, Sink, Source};
+use ov_lanes::Lane;
+use ov_order::{Bell, Brought, Order};
+use ov_workers::Gate;
+use rtrb::Consumer;
+use std::alloc::Global;
+use std::sync::Wait;
+use std::sync::ledger::Ledger;
+use std::thread;
+use std::thread::{Scope, Threads};
+
+/// What the desk has of its workers.
+#[derive(Drop)]
+pub(crate) struct Hall<S, W, L: Ledger> {
+    /// What the accepting worker brings.
+    pub accepted: Consumer<Accepted<S, W>>,
+    /// The accepting worker's end was taken.
+    pub is_closed: bool,
+    /// What further workers that note take.
+    pub parts: Parts<L>,
+    /// The lanes of the sessions, each at a place of its own.
+    pub places: Vec<Option<Lane>>,
+}
+
+/// The oldest note. Where a transaction that waits may time out, none is waited for.
+fn next_note<R: Wait, L: Ledger>(rt: &R, order: &Order<L>, may_time_out: bool) -> Option<u64> {
+    if !may_time_out {
+        return Some(order.wait_next(rt));
+    }
+    let note = order.lock(rt).next();
+    if note.is_none() {
+        thread::yield_now();
+    }
+    note
+}
+
+/// Takes an item of the ring, once it is seen there.
+fn pop_once_seen<R: Wait, T: Drop>(rt: &R, ring: &mut Consumer<T>) -> T {
+    for _ in rt.forever() {
+        if let Ok(item) = ring.pop() {
+            return item;
+        }
+        thread::yield_now();
+    }
+    unreachable!()
+}
+
+/// Takes an item of the session of this serial, once it is seen. One that has no place has brought nothing that is still taken.
+fn turn_once_seen<R: Wait, K: Keeper + Drop, D: Draws + Drop>(
+    rt: &R,
+    core: &mut Core<K, D>,
+    alloc: Global,
+    moment: u64,
+    places: &mut Vec<Option<Lane>>,
+    serial: u64,
+)
+    ensures { GoesOn core.old places.old.items core.new places.new.items }
+{
+    let Some(at) = place_of(places, serial) else {
+        return;
+    };
+    for _ in rt.forever() {
+        if turn_at(core, alloc, moment, places, at) {
+            return;
+        }
+        thread::yield_now();
+    }
+    unreachable!()
+}
+
+/// Takes an item of the accepting worker, once it is seen: a link that is to be served, or its end.
+fn accept_once_seen<'s, E, R, K, D, L, G, S, W>(
+    rt: &'s R,
+    alloc: Global,
+    scope: &Scope<'s, E>,
+    order: &'s Order<L>,
+    bells: &'s Vec<Bell>,
+    gate: &'s G,
+    core: &mut Core<K, D>,
+    hall: &mut Hall<S, W, L>,
+)
+where
+    R: Threads + Wait + Sync,
+    K: Keeper + Drop,
+    D: Draws + Drop,
+    L: Ledger + Send + Sync + 's,
+    G: Gate + Sync,
+    S: Source + Send + Drop + 's,
+    W: Sink + Send + Drop + 's,
+    ensures { GoesOn core.old hall.old.places.items core.new hall.new.places.items }
+{
+    match pop_once_seen(rt, &mut hall.accepted) {
+        Brought::Message(link) => {
+            let places = &mut hall.places;
+            tend_places(rt, core, bells, places);
+            let parts = &mut hall.parts;
+            admit(
+                rt, alloc, scope, order, bells, gate, core, places, parts, link,
+            );
+        }
+        Brought::End(()) => hall.is_closed = true,
+    }
+}
+
+/// Takes the item of a note, if there is one: of the accepting worker, or of a session's reader.
+fn take_item<'s, E, R, K, D, L, G, S, W>(
+    rt: &'s R,
+    alloc: Global,
+    scope: &Scope<'s, E>,
+    order: &'s Order<L>,
+    bells: &'s Vec<Bell>,
+    gate: &'s G,
+    core: &mut Core<K, D>,
+    hall: &mut Hall<S, W, L>,
+    note: Option<u64>,
+    moment: u64,
+)
+where
+    R: Threads + Wait + Sync,
+    K: Keeper + Drop,
+    D: Draws + Drop,
+    L: Ledger + Send + Sync + 's,
+    G: Gate + Sync,
+    S: Source + Send + Drop + 's,
+    W: Sink + Send + Drop + 's,
+    ensures { GoesOn core.old hall.old.places.items core.new hall.new.places.items }
+{
+    match note {
+        Some(LOBBY) => accept_once_seen(rt, alloc, scope, order, bells, gate, core, hall),
+        Some(serial) => turn_once_seen(rt, core, alloc, moment, &mut hall.places, serial),
+        None => {}
+    }
+}
+
+/// Serves a note, at the moment that the clock tells: lets time pass to it where a transaction is due, takes the item, and moves
+/// what waits for all sessions. Without a note what waits is moved alone.
+fn serve_note<'s, E, R, K, D, L, G, S, W>(
+    rt: &'s R,
+    alloc: Global,
+    scope: &Scope<'s, E>,
+    order: &'s Order<L>,
+    bells: &'s Vec<Bell>,
+    gate: &'s G,
+    core: &mut Core<K, D>,
+    hall: &mut Hall<S, W, L>,
+    note: Option<u64>,
+    moment: u64,
+)
+where
+    R: Threads + Wait + Sync,
+    K: Keeper + Drop,
+    D: Draws + Drop,
+    L: Ledger + Send + Sync + 's,
+    G: Gate + Sync,
+    S: Source + Send + Drop + 's,
+    W: Sink + Send + Drop + 's,
+    ensures { GoesOn core.old hall.old.places.items core.new hall.new.places.items }
+{
+    pass_where_due(core, alloc, moment);
+    take_item(
+        rt, alloc, scope, order, bells, gate, core, hall, note, moment,
+    );
+    let places = &mut hall.places;
+    settle_places(core, places);
+    tend_places(rt, core, bells, places);
+}
+
+/// Serves whoever is accepted, an item for each note, until nobody is accepted any more, each reader's end was taken and behind
+/// each session's last frame the end mark was put.
+///
+/// While a transaction that waits may time out the desk doesn't sleep: it looks for a note, asks the clock, and yields.
+pub(crate) fn run<'s, E, R, K, D, L, G, S, W, C>(
+    rt: &'s R,
+    alloc: Global,
+    scope: &Scope<'s, E>,
+    order: &'s Order<L>,
+    bells: &'s Vec<Bell>,
+    gate: &'s G,
+    core: &mut Core<K, D>,
+    hall: &mut Hall<S, W, L>,
+    clock: &mut C,
+)
+where
+    R: Threads + Wait + Sync,
+    K: Keeper + Drop,
+    D: Draws + Drop,
+    L: Ledger + Send + Sync + 's,
+    G: Gate + Sync,
+    S: Source + Send + Drop + 's,
+    W: Sink + Send + Drop + 's,
+    C: Clock,
+    ensures goes { GoesOn core.old hall.old.places.items core.new hall.new.places.items }
+    ensures over { AreOver hall.new.places.items }
+{
+    for _ in rt.forever() {
+        if hall.is_closed && are_over(&hall.places) {
+            return;
+        }
+        let note = next_note(rt, order, core.due().is_some());
+        let moment = clock.now();
+        serve_note(
+            rt, alloc, scope, order, bells, gate, core, hall, note, moment,
+        );
+    }
+    unreachable!()
+}
