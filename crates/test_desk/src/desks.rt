@@ -12,8 +12,9 @@ use test_support::{Counter, Faults, NetKeeper, net_core};
 
 /// A clock that tells a later moment at each call.
 #[derive(Drop)]
-struct RisingClock {
-    moment: u64,
+pub(crate) struct RisingClock {
+    /// The last moment that it told.
+    pub moment: u64,
 }
 
 impl Clock for RisingClock {

@@ -15,6 +15,8 @@ mod gates;
 #[cfg(test)]
 mod holding;
 #[cfg(test)]
+mod lobby;
+#[cfg(test)]
 mod orders;
 #[cfg(test)]
 mod readers;

@@ -1,0 +1,330 @@
+//! A lobby and its clients, who come when their listener gives them, with what each of them was written.
+
+use crate::desks::RisingClock;
+use ov_desk::{Desk, Link};
+use ov_ends::Watched;
+use ov_lobby::{Listen, serve_lobby};
+use ov_workers::FreeGate;
+use std::alloc::Global;
+use std::collections::VecDeque;
+use std::io::{Read, Write};
+use std::rt::Clock;
+use std::sync::atomic::{AtomicBool, AtomicU64, Ordering};
+use std::sync::{Mutex, Wait};
+use std::test::Fail;
+use std::thread::Threads;
+use std::time::Duration;
+use std::{io, thread};
+use test_support::{Faults, net_core};
+
+/// How many clients there are at most.
+const CLIENTS: usize = 70;
+
+/// How many turns of a millisecond somebody waits for another.
+const TURNS: u32 = 10_000;
+
+/// What is seen of a client: what it was written, how often that was handed on, and how many of its two ends are closed.
+#[derive(Drop)]
+struct Seen {
+    text: Mutex<Vec<u8>>,
+    told: AtomicU64,
+    closed: AtomicU64,
+}
+
+/// What is seen of all clients. Who has waited too long is let go, and all others with it.
+#[derive(Drop)]
+struct Board<'r, R: Wait + Clock> {
+    rt: &'r R,
+    clients: Vec<Seen>,
+    is_late: AtomicBool,
+}
+
+impl<'r, R: Wait + Clock> Board<'r, R> {
+    /// Nothing was seen yet.
+    fn new(rt: &'r R, alloc: Global) -> Result<Board<'r, R>, Fail> {
+        let mut clients = Vec::new(alloc);
+        for _ in 0..CLIENTS {
+            clients.push(Seen {
+                text: Mutex::new(Vec::new(alloc)),
+                told: AtomicU64::new(0),
+                closed: AtomicU64::new(0),
+            })?;
+        }
+        Ok(Board {
+            rt,
+            clients,
+            is_late: AtomicBool::new(false),
+        })
+    }
+
+    /// Notes that an end of a client is closed.
+    fn close(&self, client: usize) {
+        if let Some(seen) = self.clients.get(client) {
+            seen.closed.fetch_add(1, Ordering::SeqCst);
+        }
+    }
+
+    /// Whether `CLIENT told` or `CLIENT closed` has come true: something was handed on to it, or both its ends are closed.
+    fn is_so(&self, fact: &str) -> bool {
+        let Some((client, word)) = fact.split_once(" ") else {
+            return false;
+        };
+        let at = client.parse::<usize>().unwrap_or(CLIENTS);
+        match self.clients.get(at) {
+            Some(seen) if word == "told" => seen.told.load(Ordering::SeqCst) > 0,
+            Some(seen) => seen.closed.load(Ordering::SeqCst) == 2,
+            None => false,
+        }
+    }
+
+    /// Waits until that is so.
+    fn wait(&self, fact: &str) {
+        for _ in 0..TURNS {
+            if self.is_so(fact) || self.is_late.load(Ordering::SeqCst) {
+                return;
+            }
+            thread::sleep(self.rt, Duration::from_millis(1));
+        }
+        self.is_late.store(true, Ordering::SeqCst);
+    }
+
+    /// A line of what a client was written, and how many of its ends are closed.
+    fn line(&self, alloc: Global, client: usize) -> Result<String, Fail> {
+        let Some(seen) = self.clients.get(client) else {
+            return Err("no such client")?;
+        };
+        let closed = seen.closed.load(Ordering::SeqCst);
+        let text = seen.text.lock(self.rt);
+        let text = std::str::from_utf8(text.as_slice())?;
+        Ok(format!(in alloc; "{closed} {text}\n")?)
+    }
+}
+
+/// A client's reader, which follows a script: a line is sent at once, and a line `after FACT` before it says what is waited for
+/// first. Behind the last line the input ends.
+struct LobbyReader<'b, 'r, 's, R: Wait + Clock> {
+    board: &'b Board<'r, R>,
+    client: usize,
+    line: &'s [u8],
+    script: &'s str,
+}
+
+impl<'s, R: Wait + Clock> LobbyReader<'_, '_, 's, R> {
+    /// Takes the next line of the script; behind the last one they are empty.
+    fn take_line(&mut self) -> &'s str {
+        let (line, rest) = self.script.split_once("\n").unwrap_or((self.script, ""));
+        self.script = rest;
+        line
+    }
+
+    /// Goes on to the next line that is sent.
+    fn go_on(&mut self) {
+        let mut line = self.take_line();
+        if let Some(("after", fact)) = line.split_once(" ") {
+            self.board.wait(fact);
+            line = self.take_line();
+        }
+        self.line = line.as_bytes();
+    }
+}
+
+impl<R: Wait + Clock> Read for LobbyReader<'_, '_, '_, R> {
+    fn read(&mut self, buf: &mut [u8]) -> io::Result<usize> {
+        if self.line.is_empty() {
+            self.go_on();
+        }
+        let n = self.line.len().min(buf.len());
+        buf[..n].copy_from_slice(&self.line[..n]);
+        self.line = &self.line[n..];
+        Ok(n)
+    }
+}
+
+impl<R: Wait + Clock> Drop for LobbyReader<'_, '_, '_, R> {
+    fn drop(self) {
+        self.board.close(self.client);
+        let LobbyReader {
+            board: _,
+            client: _,
+            line: _,
+            script: _,
+        } = self;
+    }
+}
+
+/// A client's writer.
+struct LobbyWriter<'b, 'r, R: Wait + Clock> {
+    board: &'b Board<'r, R>,
+    client: usize,
+}
+
+impl<R: Wait + Clock> Write for LobbyWriter<'_, '_, R> {
+    fn write(&mut self, buf: &[u8]) -> io::Result<usize> {
+        if let Some(seen) = self.board.clients.get(self.client) {
+            seen.text.lock(self.board.rt).extend_from_slice(buf)?;
+        }
+        Ok(buf.len())
+    }
+
+    fn flush(&mut self) -> io::Result<()> {
+        if let Some(seen) = self.board.clients.get(self.client) {
+            seen.told.fetch_add(1, Ordering::SeqCst);
+        }
+        Ok(())
+    }
+}
+
+impl<R: Wait + Clock> Drop for LobbyWriter<'_, '_, R> {
+    fn drop(self) {
+        self.board.close(self.client);
+        let LobbyWriter {
+            board: _,
+            client: _,
+        } = self;
+    }
+}
+
+/// A client that is to come once this fact is so, and its script.
+type Coming<'s> = (&'s str, &'s str);
+
+/// A listener that gives clients, one after another.
+#[derive(Drop)]
+struct LobbyListener<'b, 'r, 's, R: Wait + Clock> {
+    board: &'b Board<'r, R>,
+    client: usize,
+    clients: &'s [Coming<'s>],
+}
+
+impl<'b, 'r, 's, R: Wait + Clock> Listen<
+    Watched<LobbyReader<'b, 'r, 's, R>>,
+    Watched<LobbyWriter<'b, 'r, R>>,
+> for LobbyListener<'b, 'r, 's, R> {
+    fn accept(
+        &mut self,
+    ) -> Option<Link<Watched<LobbyReader<'b, 'r, 's, R>>, Watched<LobbyWriter<'b, 'r, R>>>> {
+        let (board, client) = (self.board, self.client);
+        let (fact, script) = *self.clients.get(client)?;
+        self.client += 1;
+        if !fact.is_empty() {
+            board.wait(fact);
+        }
+        let reader = LobbyReader {
+            board,
+            client,
+            line: b"",
+            script,
+        };
+        Some(Link {
+            reader: Watched::new(reader),
+            writer: Watched::new(LobbyWriter { board, client }),
+        })
+    }
+}
+
+/// What comes of clients at a lobby: how many entries the history has then, and a line for each client.
+fn converse<R: Threads + Wait + Clock + Sync>(
+    rt: &R,
+    alloc: Global,
+    clients: &[Coming<'_>],
+) -> Result<String, Fail> {
+    let board = Board::new(rt, alloc)?;
+    let listener = LobbyListener {
+        board: &board,
+        client: 0,
+        clients,
+    };
+    let desk = Desk::new(net_core(alloc, Faults::NONE)?);
+    let mut clock = RisingClock { moment: 0 };
+    let Ok(desk) = serve_lobby(rt, alloc, desk, listener, &FreeGate, &mut clock) else {
+        return Err("no lobby")?;
+    };
+    let entries = desk.core().history().len();
+    let mut told = format!(in alloc; "{entries}\n")?;
+    for client in 0..clients.len() {
+        told.push_str(board.line(alloc, client)?.as_str())?;
+    }
+    if board.is_late.load(Ordering::SeqCst) {
+        told.push_str("too late\n")?;
+    }
+    Ok(told)
+}
+
+const LIST: &str = r#"{"id":0,"method":"list_dbs","params":[]}"#;
+
+#[test]
+fn a_lobby_where_nobody_comes(rt: HostRuntime) -> Result<(), Fail> {
+    let told = converse(&rt, rt.alloc(), &[])?;
+    assert_eq!(rt; told.as_str(), "0\n");
+    Ok(())
+}
+
+/// Goes on once the other is closed.
+const PATIENT: &str = r#"{"id":0,"method":"list_dbs","params":[]}
+after 1 closed
+{"id":1,"method":"echo","params":[2]}"#;
+
+/// Is damaged behind its message, once the other was answered.
+const DAMAGED: &str = r#"after 0 told
+{"id":0,"method":"list_dbs","params":[]}]
+after 9 told"#;
+
+#[test]
+fn a_client_goes_on_beside_one_that_is_damaged(rt: HostRuntime) -> Result<(), Fail> {
+    let told = converse(&rt, rt.alloc(), &[("", PATIENT), ("", DAMAGED)])?;
+    let wanted = r#"7
+2 {"error":null,"id":0,"result":["Net"]}{"error":null,"id":1,"result":[2]}
+2 {"error":null,"id":0,"result":["Net"]}
+"#;
+    assert_eq!(rt; told.as_str(), wanted);
+    Ok(())
+}
+
+/// What a client that asks for the list is written.
+const LISTED: &str = "2 {\"error\":null,\"id\":0,\"result\":[\"Net\"]}\n";
+
+#[test]
+fn a_place_is_free_again(rt: HostRuntime) -> Result<(), Fail> {
+    let alloc = rt.alloc();
+    let mut facts = Vec::new(alloc);
+    for client in 1..CLIENTS {
+        facts.push(format!(in alloc; "{} closed", client - 1)?)?;
+    }
+    let mut clients = vec![in alloc; ("", LIST)]?;
+    for fact in &facts {
+        clients.push((fact.as_str(), LIST))?;
+    }
+    let mut wanted = String::from_str(alloc, "210\n")?;
+    for _ in 0..CLIENTS {
+        wanted.push_str(LISTED)?;
+    }
+    assert_eq!(rt;
+        converse(&rt, alloc, clients.as_slice())?.as_str(),
+        wanted.as_str()
+    );
+    Ok(())
+}
+
+/// Holds its place until one was turned away.
+const HOLDING: &str = r#"{"id":0,"method":"list_dbs","params":[]}
+after 64 closed
+"#;
+
+#[test]
+fn the_sixty_fifth_is_turned_away(rt: HostRuntime) -> Result<(), Fail> {
+    let alloc = rt.alloc();
+    let mut clients = Vec::new(alloc);
+    for _ in 0..64 {
+        clients.push(("", HOLDING))?;
+    }
+    clients.push(("", LIST))?;
+    clients.push(("0 closed", LIST))?;
+    let mut wanted = String::from_str(alloc, "195\n")?;
+    for client in 0..66 {
+        wanted.push_str(if client == 64 { "2 \n" } else { LISTED })?;
+    }
+    assert_eq!(rt;
+        converse(&rt, alloc, clients.as_slice())?.as_str(),
+        wanted.as_str()
+    );
+    Ok(())
+}
