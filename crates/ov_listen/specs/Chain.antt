@@ -1,5 +1,5 @@
--- What comes of a keeper, from the opening of its database to the end of so many sessions at an address. It is our own.
-use Rattle.std.specs.Prelude.{◌≡◌, ◌⊎◌, ℕ, List, Option, Some, None, Result, Ok, Err, length}
+-- What comes of a keeper, from the opening of its database to the end of its sessions at an address. It is our own.
+use Rattle.std.specs.Prelude.{◌≡◌, ◌⊎◌, ℕ, List, Option, Some, None, Result, Ok, Err, MatchOption, length}
 use Rattle.std.specs.Borrow.{Bor}
 use Rattle.std.specs.declared.alloc.Global.{Global}
 use Rattle.std.specs.declared.io.buffered.BufWriter.{BufWriter}
@@ -23,6 +23,7 @@ use Rattle.ov_desk.specs.declared.fault.ServeFault.{ServeFault}
 use Rattle.ov_desk.specs.Pairs.{Pairwise}
 use Rattle.ov_desk.specs.Ends.{ServesAll}
 use Rattle.ov_desk.specs.Serving.{RefusesLinks}
+use Rattle.ov_lobby.specs.Serving.{ServesLobby}
 use Rattle.ov_sockets.specs.declared.fault.ListenFault.{ListenFault}
 use Rattle.ov_sockets.specs.Links.{IsLinkOf}
 use Rattle.ov_words.specs.declared.ending.Ending.{Ending}
@@ -79,20 +80,42 @@ module _ {K D : Type 0} (k : keeper.Ghosts K) where
       ⊎ ((told ≡ ending.Memory) × (left ≡ first.keeper))
 
   -- So many connections came to that; or there were not as many, the ending is that of the fault, and the core is as it was.
-  abbrev pub EndsListening : CoreState K D → ℕ → Ending → K → Type 0
-  EndsListening first count told left =
+  abbrev pub EndsSoMany : CoreState K D → ℕ → Ending → K → Type 0
+  EndsSoMany first count told left =
       ((streams : List TcpStream) × (length streams ≡ count) × EndsConnections first streams told left)
       ⊎ ((fault : ListenFault) × (told ≡ by_listening fault) × (left ≡ first.keeper))
 
-  -- A core was opened over the keeper, and the ending is that of so many connections to it; or none was, and nobody was listened
-  -- to. The keeper is given back.
-  abbrev pub EndsChainAt : K → Schema → D → ℕ → Ending → K → Type 0
+  -- Whoever connected was served. A crash then leaves the lines of the core's database, and an open finds it.
+  pub record ServesWhoever (old new : CoreState K D) : Type 0 where
+    pub served : ServesLobby old new
+    pub leaves : k.is_honest new.keeper → (held : Contents) → k.leaves new.keeper held → LeavesItsOwn new.state held
+    pub finds : k.is_honest new.keeper → MayFind (k.leaves new.keeper) new.state.schema new.state.database new.state.sealed
+
+  -- Whoever connected was served, until no connection could be accepted; or the lobby was refused, nobody was accepted, and the
+  -- ending is that of the fault. The keeper is that of the core then.
+  abbrev pub EndsWhoever : CoreState K D → Ending → K → Type 0
+  EndsWhoever first told left =
+      ((last : CoreState K D) × (left ≡ last.keeper) × (told ≡ ending.Streams) × ServesWhoever first last)
+      ⊎ ((fault : ServeFault) × (told ≡ by_serving fault) × (left ≡ first.keeper))
+
+  -- so many connections, where a number is given, and else whoever connects
+  abbrev pub EndsListener : CoreState K D → Option ℕ → Ending → K → Type 0
+  EndsListener first count told left = MatchOption count (EndsWhoever first told left) (λ n. EndsSoMany first n told left)
+
+  -- That was done; or nobody could be listened to, the ending is that of the fault, and the core is as it was.
+  abbrev pub EndsListening : CoreState K D → Option ℕ → Ending → K → Type 0
+  EndsListening first count told left =
+      EndsListener first count told left ⊎ ((fault : ListenFault) × (told ≡ by_listening fault) × (left ≡ first.keeper))
+
+  -- A core was opened over the keeper, and the ending is that of the connections to it; or none was, and nobody was listened to.
+  -- The keeper is given back.
+  abbrev pub EndsChainAt : K → Schema → D → Option ℕ → Ending → K → Type 0
   EndsChainAt keeper schema draws count told left =
       ((first : CoreState K D) × OpensCore k keeper schema draws first × EndsListening first count told left)
       ⊎ ((refused : RefusedOpen K) × (told ≡ by_open refused.fault) × RefusesCore k keeper schema refused × (left ≡ refused.keeper))
 
   -- A store that was opened is served, and is given back; of one that was refused the ending is that of its fault, and nobody was
   -- listened to.
-  abbrev pub EndsStoreAt : Result K KeepFault → Schema → D → ℕ → Ending → Option K → Type 0
+  abbrev pub EndsStoreAt : Result K KeepFault → Schema → D → Option ℕ → Ending → Option K → Type 0
   EndsStoreAt (Ok keeper) schema draws count told left = (last : K) × (left ≡ Some last) × EndsChainAt keeper schema draws count told last
   EndsStoreAt (Err fault) schema draws count told left = (told ≡ by_keeping fault) × (left ≡ None)

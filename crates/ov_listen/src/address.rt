@@ -12,13 +12,14 @@ use std::rt::Clock as SystemClock;
 use std::sync::Wait;
 use std::thread::Threads;
 
-/// Opens the machine over what a keeper holds under a schema, listens at an address, HOST:PORT, accepts so many connections, and
-/// serves a session over each, all at the same time, from the first byte of its input to its end. Where the port is 0 the system
-/// chooses one, and a line on standard error tells it.
+/// Opens the machine over what a keeper holds under a schema, listens at an address, HOST:PORT, accepts connections, and serves a
+/// session over each, all at the same time, from the first byte of its input to its end. Where the port is 0 the system chooses
+/// one, and a line on standard error tells it.
 ///
-/// No session is served before all connections are there, and none is closed before all sessions have ended. A client that went
-/// away before is one that ends at once. Where the machine is not opened nobody is listened to, and where there are not as many
-/// connections nothing is read or written.
+/// Where a number is given so many are accepted: no session is served before all connections are there, and none is closed before
+/// all sessions have ended. A client that went away before is one that ends at once. Where there are not as many, nothing is read
+/// or written. Without a number whoever connects is served at once, up to 64 at a time, until a connection can't be accepted.
+/// Where the machine is not opened nobody is listened to.
 pub fn serve_at<R, K, D>(
     rt: &R,
     alloc: Global,
@@ -26,7 +27,7 @@ pub fn serve_at<R, K, D>(
     schema: Schema,
     draws: D,
     address: &str,
-    count: usize,
+    count: Option<usize>,
 ) -> Ended<K>
 where
     R: Net<Listener = TcpListener, Stream = TcpStream>

@@ -1,8 +1,9 @@
 ghost use Rattle.std.specs.Prelude.{◌≡◌, IfOk, vec_len};
-ghost use Rattle.ov_listen.specs.Chain.{EndsConnections, EndsListening};
+ghost use Rattle.ov_listen.specs.Chain.{EndsConnections, EndsListener, EndsListening, EndsSoMany};
 
 use crate::endings::ending_of_listening;
 use crate::links::serve_sessions;
+use crate::lobby::serve_whoever;
 use ov_core::Core;
 use ov_core::early::{Draws, Keeper};
 use ov_session::{Ended, MonotonicClock};
@@ -37,33 +38,80 @@ where
     }
 }
 
-/// So many connections at an address, at which nobody is listened to any more once they are there. Where the system chooses the
-/// port, one line on standard error tells it.
-fn connected<R>(
-    rt: &R,
-    alloc: Global,
-    address: &str,
-    count: usize,
-) -> Result<Vec<TcpStream>, ListenFault>
+/// Listens at an address. Where the system chooses the port, one line on standard error tells it.
+fn listening<R>(rt: &R, alloc: Global, address: &str) -> Result<TcpListener, ListenFault>
 where
     R: Net<Listener = TcpListener, Stream = TcpStream> + Eprint,
-    ensures { IfOk result (λ streams. vec_len streams ≡ count) }
 {
     let listener = listen(rt, address)?;
     if let Some(line) = chosen_line(alloc, address, &listener)? {
         // Who has closed standard error finds the port by other means, or none.
         let _ = eprintln!(rt; "{}", line.as_str());
     }
+    Ok(listener)
+}
+
+/// So many connections. Nobody is listened to any more once they are there.
+fn connected(
+    alloc: Global,
+    listener: TcpListener,
+    count: usize,
+) -> Result<Vec<TcpStream>, ListenFault>
+    ensures { IfOk result (λ streams. vec_len streams ≡ count) }
+{
     accept_all(alloc, &listener, count)
 }
 
-/// Serves so many connections at an address as sessions of the machine, once all of them are there.
+/// Serves so many connections as sessions of the machine, once all of them are there.
+fn serve_so_many<R, K, D>(
+    rt: &R,
+    alloc: Global,
+    core: Core<K, D>,
+    listener: TcpListener,
+    count: usize,
+) -> Ended<K>
+where
+    R: Threads + Wait + SystemClock + Sync,
+    K: Keeper + Drop,
+    D: Draws + Drop,
+    ensures { EndsSoMany K.Keeper core count result.ending result.keeper }
+{
+    match connected(alloc, listener, count) {
+        Ok(streams) => serve_connections(rt, alloc, core, &streams),
+        Err(fault) => Ended {
+            ending: ending_of_listening(fault),
+            keeper: core.into_keeper(),
+        },
+    }
+}
+
+/// Serves so many connections, or, where no number is given, whoever connects.
+fn serve_listener<R, K, D>(
+    rt: &R,
+    alloc: Global,
+    core: Core<K, D>,
+    listener: TcpListener,
+    count: Option<usize>,
+) -> Ended<K>
+where
+    R: Threads + Wait + SystemClock + Sync,
+    K: Keeper + Drop,
+    D: Draws + Drop,
+    ensures { EndsListener K.Keeper core count result.ending result.keeper }
+{
+    match count {
+        Some(count) => serve_so_many(rt, alloc, core, listener, count),
+        None => serve_whoever(rt, alloc, core, listener),
+    }
+}
+
+/// Serves connections at an address as sessions of the machine.
 pub(crate) fn serve_listening<R, K, D>(
     rt: &R,
     alloc: Global,
     core: Core<K, D>,
     address: &str,
-    count: usize,
+    count: Option<usize>,
 ) -> Ended<K>
 where
     R: Net<Listener = TcpListener, Stream = TcpStream>
@@ -76,8 +124,8 @@ where
     D: Draws + Drop,
     ensures { EndsListening K.Keeper core count result.ending result.keeper }
 {
-    match connected(rt, alloc, address, count) {
-        Ok(streams) => serve_connections(rt, alloc, core, &streams),
+    match listening(rt, alloc, address) {
+        Ok(listener) => serve_listener(rt, alloc, core, listener, count),
         Err(fault) => Ended {
             ending: ending_of_listening(fault),
             keeper: core.into_keeper(),

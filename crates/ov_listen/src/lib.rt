@@ -1,10 +1,12 @@
-//! So many sessions of a database at an address: opened over a keeper, listened for, served together, and closed.
+//! Sessions of a database at an address: it is opened over a keeper, and so many connections are served together, or whoever
+//! connects; then it is closed.
 #![tactic(auto)]
 
 mod address;
 mod connections;
 mod endings;
 mod links;
+mod lobby;
 mod stores;
 
 pub use address::serve_at;

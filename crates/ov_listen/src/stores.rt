@@ -1,4 +1,4 @@
-//! So many sessions of a database in memory, or of the store in a file.
+//! Sessions at an address, of a database in memory or of the store in a file.
 
 ghost use Rattle.std.specs.Prelude.{◌≡◌};
 ghost use Rattle.sqlite_wal.specs.Files.{image_at};
@@ -20,7 +20,7 @@ use std::rt::Clock as SystemClock;
 use std::sync::Wait;
 use std::thread::Threads;
 
-/// Serves so many sessions of a new database in memory, as `serve_at` does. `text` is the schema's. No device is below it, so what
+/// Serves sessions of a new database in memory at an address, as `serve_at` does. `text` is the schema's. No device is below it, so what
 /// is promised of an honest one needs no premise here.
 pub fn serve_memory_at<R, D>(
     rt: &R,
@@ -29,7 +29,7 @@ pub fn serve_memory_at<R, D>(
     schema: Schema,
     draws: D,
     address: &str,
-    count: usize,
+    count: Option<usize>,
 ) -> Ending
 where
     R: Net<Listener = TcpListener, Stream = TcpStream>
@@ -47,7 +47,7 @@ where
     serve_at(rt, alloc, keeper, schema, draws, address, count).ending
 }
 
-/// Serves so many sessions of the database in the file at a path, as `serve_at` does. `text` is the schema's, and `start` stands
+/// Serves sessions of the database in the file at a path, as `serve_at` does. `text` is the schema's, and `start` stands
 /// for what the file and its log held. Where the sessions have ended, or nobody was served for another cause than memory, the file
 /// is then closed: it has the whole, with no log beside it, unless the system refuses that. Where the file is refused, nobody is
 /// listened to.
@@ -60,7 +60,7 @@ pub fn serve_file_at<R, S, D>(
     schema: Schema,
     draws: D,
     address: &str,
-    count: usize,
+    count: Option<usize>,
 ) -> Ending
 where
     R: Net<Listener = TcpListener, Stream = TcpStream>
@@ -94,7 +94,7 @@ where
     ending
 }
 
-/// Serves so many sessions of a store, where it could be opened.
+/// Serves sessions of a store, where it could be opened.
 fn serve_store_at<R, K, D>(
     rt: &R,
     alloc: Global,
@@ -102,7 +102,7 @@ fn serve_store_at<R, K, D>(
     schema: Schema,
     draws: D,
     address: &str,
-    count: usize,
+    count: Option<usize>,
 ) -> Ended<Option<K>>
 where
     R: Net<Listener = TcpListener, Stream = TcpStream>

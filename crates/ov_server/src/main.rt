@@ -1,5 +1,5 @@
-//! The OVSDB server: `ov_server [--schema FILE] [--db FILE] [--stdio | --listen ADDR --sessions N]`. It serves one session on standard
-//! input and output, or so many over TCP.
+//! The OVSDB server: `ov_server [--schema FILE] [--db FILE] [--stdio | --listen ADDR [--sessions N]]`. It serves one session on
+//! standard input and output, or many over TCP.
 #![tactic(auto)]
 
 mod database;

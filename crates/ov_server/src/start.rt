@@ -25,17 +25,15 @@ use std::thread::Threads;
 enum Place {
     /// One, over the reader and the writer.
     Streams,
-    /// So many, over connections at an address.
-    Address(Text, u64),
+    /// Those of connections at an address: of so many, or of whoever connects.
+    Address(Text, Option<usize>),
 }
 
-/// Where the arguments ask for sessions. None where they ask for what the program can't do yet.
-fn place_of(listen: Option<Text>, sessions: Option<u64>) -> Option<Place> {
-    match (listen, sessions) {
-        (None, _) => Some(Place::Streams),
-        (Some(address), Some(count)) => Some(Place::Address(address, count)),
-        // Sessions for whoever comes, without an end.
-        (Some(_), None) => None,
+/// Where the arguments ask for sessions.
+fn place_of(listen: Option<Text>, sessions: Option<u64>) -> Place {
+    match listen {
+        None => Place::Streams,
+        Some(address) => Place::Address(address, sessions.map(|count| count as usize)),
     }
 }
 
@@ -64,9 +62,7 @@ where
         Ok(settings) => settings,
         Err(ending) => return ending,
     };
-    let Some(place) = place_of(listen, sessions) else {
-        return Ending::Arguments;
-    };
+    let place = place_of(listen, sessions);
     let schema = match schema_of(host, host.alloc(), schema) {
         Ok(schema) => schema,
         Err(ending) => return ending,
@@ -114,7 +110,7 @@ where
     }
 }
 
-/// Serves so many sessions at an address, of the database in a file or in memory.
+/// Serves sessions at an address, of the database in a file or in memory.
 fn serve_sessions<R, S, D>(
     host: &HostRuntime,
     rt: &R,
@@ -124,14 +120,13 @@ fn serve_sessions<R, S, D>(
     schema: Schema,
     draws: D,
     address: &str,
-    count: u64,
+    count: Option<usize>,
 ) -> Ending
 where
     R: Net<Listener = TcpListener, Stream = TcpStream> + Threads + Wait + Clock + Eprint + Sync,
     S: Start,
     D: Draws + Drop,
 {
-    let count = count as usize;
     match db {
         None => serve_memory_at(rt, host.alloc(), text, schema, draws, address, count),
         Some(path) => {

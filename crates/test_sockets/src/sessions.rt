@@ -112,7 +112,7 @@ where
 {
     let schema = net(alloc)?;
     let keeper = net_keeper(alloc, Faults::NONE)?;
-    Ok(serve_at(rt, alloc, keeper, schema, Counter::new(), address, 1).ending)
+    Ok(serve_at(rt, alloc, keeper, schema, Counter::new(), address, Some(1)).ending)
 }
 
 #[test]
