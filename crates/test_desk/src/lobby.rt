@@ -282,17 +282,29 @@ fn a_client_goes_on_beside_one_that_is_damaged(rt: HostRuntime) -> Result<(), Fa
 /// What a client that asks for the list is written.
 const LISTED: &str = "2 {\"error\":null,\"id\":0,\"result\":[\"Net\"]}\n";
 
+/// Clients that say the same, each once its fact is told.
+fn clients_after<'a>(
+    alloc: Global,
+    facts: &'a Vec<String>,
+    says: &'a str,
+) -> Result<Vec<(&'a str, &'a str)>, Fail> {
+    let mut clients = Vec::new(alloc);
+    for fact in facts {
+        clients.push((fact.as_str(), says))?;
+    }
+    Ok(clients)
+}
+
 #[test]
 fn a_place_is_free_again(rt: HostRuntime) -> Result<(), Fail> {
     let alloc = rt.alloc();
     let mut facts = Vec::new(alloc);
+    // The first comes at once, and each other once the one before has gone.
+    facts.push(String::new(alloc))?;
     for client in 1..CLIENTS {
         facts.push(format!(in alloc; "{} closed", client - 1)?)?;
     }
-    let mut clients = vec![in alloc; ("", LIST)]?;
-    for fact in &facts {
-        clients.push((fact.as_str(), LIST))?;
-    }
+    let clients = clients_after(alloc, &facts, LIST)?;
     let mut wanted = String::from_str(alloc, "210\n")?;
     for _ in 0..CLIENTS {
         wanted.push_str(LISTED)?;
