@@ -1,6 +1,7 @@
 //! A lobby and its clients, who come when their listener gives them, with what each of them was written.
 
 use crate::desks::RisingClock;
+use ov_core::early::{Draws, Keeper};
 use ov_desk::{Desk, Link};
 use ov_ends::Watched;
 use ov_lobby::{Listen, serve_lobby};
@@ -221,6 +222,20 @@ impl<'b, 'r, 's, R: Wait + Clock> Listen<
     }
 }
 
+/// Serves clients in a lobby, and tells how many entries the history has then. None where the lobby is refused.
+fn serve_clients<R: Threads + Wait + Clock + Sync, K: Keeper + Drop, D: Draws + Drop>(
+    rt: &R,
+    alloc: Global,
+    desk: Desk<K, D>,
+    listener: LobbyListener<'_, '_, '_, R>,
+) -> Option<usize> {
+    let clock = &mut RisingClock { moment: 0 };
+    match serve_lobby(rt, alloc, desk, listener, &FreeGate, clock) {
+        Ok(desk) => Some(desk.core().history().len()),
+        Err(_refused) => None,
+    }
+}
+
 /// What comes of clients at a lobby: how many entries the history has then, and a line for each client.
 fn converse<R: Threads + Wait + Clock + Sync>(
     rt: &R,
@@ -234,13 +249,19 @@ fn converse<R: Threads + Wait + Clock + Sync>(
         clients,
     };
     let desk = Desk::new(net_core(alloc, Faults::NONE)?);
-    let mut clock = RisingClock { moment: 0 };
-    let Ok(desk) = serve_lobby(rt, alloc, desk, listener, &FreeGate, &mut clock) else {
-        return Err("no lobby")?;
-    };
-    let entries = desk.core().history().len();
+    let entries = serve_clients(rt, alloc, desk, listener).ok_or("no lobby")?;
+    told_of(alloc, &board, entries, clients.len())
+}
+
+/// How many entries there are, and what is seen of so many clients.
+fn told_of<R: Wait + Clock>(
+    alloc: Global,
+    board: &Board<'_, R>,
+    entries: usize,
+    clients: usize,
+) -> Result<String, Fail> {
     let mut told = format!(in alloc; "{entries}\n")?;
-    for client in 0..clients.len() {
+    for client in 0..clients {
         told.push_str(board.line(alloc, client)?.as_str())?;
     }
     if board.is_late.load(Ordering::SeqCst) {
