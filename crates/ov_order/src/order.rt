@@ -1,6 +1,7 @@
 ghost use Rattle.std.specs.Prelude.{◌≡◌, ◌+◌, ◌<◌, [], ◌∷◌, ◌++◌};
 ghost use Rattle.rtrb.specs.Ring.{sent, SameProducer};
 
+use crate::bell::LOOKS;
 use crate::book::OrderBook;
 use crate::rings::wait_push;
 use rtrb::Producer;
@@ -78,14 +79,46 @@ impl<L: Ledger> Order<L> {
         self.wait_note(rt, share, serial);
     }
 
-    /// Takes the oldest note, once there is one.
-    pub fn wait_next<R: Wait>(&self, rt: &R) -> u64 {
+    /// The oldest note, if one comes while it is looked for.
+    fn look_for_next<R: Wait>(&self, rt: &R) -> Option<u64> {
+        for _ in 0..LOOKS {
+            let note = self.lock(rt).next();
+            if note.is_some() {
+                return note;
+            }
+            thread::yield_now();
+        }
+        None
+    }
+
+    /// The oldest note, once there is one. It sleeps until then.
+    fn sleep_for_next<R: Wait>(&self, rt: &R) -> u64 {
         let guard = self.lock(rt);
         let mut book = self.changed.wait_while(rt, guard, |book| book.is_empty());
         let Some(serial) = book.next() else {
             unreachable!()
         };
         serial
+    }
+
+    /// Takes the oldest note, once there is one. It is looked for a while before the thread sleeps.
+    pub fn wait_next<R: Wait>(&self, rt: &R) -> u64 {
+        match self.look_for_next(rt) {
+            Some(serial) => serial,
+            None => self.sleep_for_next(rt),
+        }
+    }
+
+    /// Takes the oldest note. Where the caller may not sleep none is waited for: without a note it yields once.
+    pub fn next_note<R: Wait>(&self, rt: &R, may_sleep: bool) -> Option<u64> {
+        if may_sleep {
+            return Some(self.wait_next(rt));
+        }
+        let note = self.lock(rt).next();
+        if note.is_none() {
+            thread::yield_now();
+        }
+        note
     }
 
     /// Whether the workers may begin, once that was said.
