@@ -40,7 +40,16 @@ fn reads(alloc: Global, client: &TcpStream, wanted: &str) -> Option<()> {
     }
 }
 
-/// Follows a line of a script: who sends or reads, and what.
+/// Meets the end of what the client is sent. None where there is more, or no end for a while.
+pub(crate) fn meets_end(client: &TcpStream) -> Option<()> {
+    let mut reader = client;
+    match reader.read(&mut [0; 1]) {
+        Ok(0) => Some(()),
+        _ => None,
+    }
+}
+
+/// Follows a line of a script: who sends or reads, and what, or who meets the end.
 fn follow(alloc: Global, first: &TcpStream, second: &TcpStream, line: &str) -> Option<()> {
     let (who, what) = line.split_once(" ")?;
     let client = if who == "1" { first } else { second };
@@ -50,12 +59,18 @@ fn follow(alloc: Global, first: &TcpStream, second: &TcpStream, line: &str) -> O
             writer.write_all(text.as_bytes()).ok()
         }
         ("reads", text) => reads(alloc, client, text),
+        ("meets", _the_end) => meets_end(client),
         _ => None,
     }
 }
 
 /// Follows a script, line by line. None where something else is read, or nothing for a while.
-fn talk(alloc: Global, first: &TcpStream, second: &TcpStream, script: &str) -> Option<()> {
+pub(crate) fn talk(
+    alloc: Global,
+    first: &TcpStream,
+    second: &TcpStream,
+    script: &str,
+) -> Option<()> {
     for line in script.lines() {
         follow(alloc, first, second, line)?;
     }
@@ -80,7 +95,7 @@ fn served<R: Threads + Wait + Clock + Sync>(
 }
 
 /// A client that waits for a while.
-fn client_of<R: Net<Listener = TcpListener, Stream = TcpStream>>(
+pub(crate) fn client_of<R: Net<Listener = TcpListener, Stream = TcpStream>>(
     rt: &R,
     listener: &TcpListener,
 ) -> Result<TcpStream, Fail> {

@@ -1,0 +1,104 @@
+//! A lobby for two clients over the loopback interface.
+
+use crate::sessions::{client_of, meets_end, talk};
+use ov_core::early::{Draws, Keeper};
+use ov_desk::{Desk, Link};
+use ov_ends::{Clock, Watched};
+use ov_lobby::{Listen, serve_lobby};
+use ov_sockets::listen;
+use ov_workers::FreeGate;
+use std::alloc::Global;
+use std::net::{Shutdown, TcpListener, TcpStream};
+use std::sync::Wait;
+use std::test::Fail;
+use std::thread;
+use std::thread::Threads;
+use test_support::{Faults, net_core};
+
+/// A clock that stands still.
+#[derive(Drop)]
+struct StillClock;
+
+impl Clock for StillClock {
+    ghost tells = { λ _ _ _. Unit {0} };
+
+    fn now(&mut self) -> u64 {
+        0
+    }
+}
+
+/// The first connections of a listener, and none behind them.
+#[derive(Drop)]
+struct Few<'l> {
+    listener: &'l TcpListener,
+    left: usize,
+}
+
+impl Listen<Watched<TcpStream>, Watched<TcpStream>> for Few<'_> {
+    fn accept(&mut self) -> Option<Link<Watched<TcpStream>, Watched<TcpStream>>> {
+        self.left = self.left.checked_sub(1)?;
+        let (stream, _) = self.listener.accept().ok()?;
+        let writer = Watched::new(stream.try_clone().ok()?);
+        Some(Link {
+            reader: Watched::new(stream),
+            writer,
+        })
+    }
+}
+
+/// Serves connections in a lobby, and tells how many entries the history has then. None where the lobby is refused.
+fn serve_few<R: Threads + Wait + Sync, K: Keeper + Drop, D: Draws + Drop>(
+    rt: &R,
+    alloc: Global,
+    desk: Desk<K, D>,
+    few: Few<'_>,
+) -> Option<usize> {
+    match serve_lobby(rt, alloc, desk, few, &FreeGate, &mut StillClock) {
+        Ok(desk) => Some(desk.core().history().len()),
+        Err(_refused) => None,
+    }
+}
+
+/// The same of the first two connections of a listener, over a new database Net in memory.
+fn serve_two<R: Threads + Wait + Sync>(
+    rt: &R,
+    alloc: Global,
+    listener: &TcpListener,
+) -> Result<Option<usize>, Fail> {
+    let desk = Desk::new(net_core(alloc, Faults::NONE)?);
+    Ok(serve_few(rt, alloc, desk, Few { listener, left: 2 }))
+}
+
+/// Once the first was answered the second sends a request and a stray bracket. It does not end, but its connection is closed
+/// behind the reply.
+const DAMAGED: &str = r#"1 sends {"id":0,"method":"list_dbs","params":[]}
+1 reads {"error":null,"id":0,"result":["Net"]}
+2 sends {"id":0,"method":"list_dbs","params":[]}]
+2 reads {"error":null,"id":0,"result":["Net"]}
+2 meets end"#;
+
+/// Follows that, and then ends the first. However the talk went both have ended then: who serves them waits for that.
+fn talk_and_end(alloc: Global, first: &TcpStream, second: &TcpStream) -> Option<()> {
+    let talked = talk(alloc, first, second, DAMAGED);
+    let ended = first.shutdown(Shutdown::Write).ok();
+    let _ = second.shutdown(Shutdown::Both);
+    talked?;
+    ended?;
+    meets_end(first)
+}
+
+#[test]
+fn one_is_closed_for_damage_while_another_stays(rt: HostRuntime) -> Result<(), Fail> {
+    let alloc = rt.alloc();
+    let listener = listen(&rt, "127.0.0.1:0")?;
+    let (first, second) = (client_of(&rt, &listener)?, client_of(&rt, &listener)?);
+    let (entries, talked) = thread::join(
+        &rt,
+        || serve_two(&rt, alloc, &listener),
+        || talk_and_end(alloc, &first, &second),
+    );
+    // Each is opened, asks once, and is closed.
+    assert_eq!(rt; entries?, Some(6));
+    assert!(rt; talked.is_some());
+    Ok(())
+}
