@@ -185,6 +185,19 @@ fn what_changes_nothing_is_not_stored(rt: HostRuntime) -> Result<(), Fail> {
     attempts_over(rt.alloc(), Faults::NONE, ATTEMPTS)
 }
 
+/// Behind the first fault the results are null, and nothing of the transaction is done.
+const FAULTS: &str =
+    r#"0 [{"op":"insert","table":"Switch","row":{}},{"op":"select","table":"Swich","where":[]},{"op":"insert","table":"Switch","row":{}}] -> [{"uuid":["uuid","00000000-0000-4000-8000-000000000002"]},{"error":"unknown table"},null]
+0 [{"op":"insert","table":"Switch","row":{}},{"op":"select","table":"Switch","where":[["colour","==",1]]},{"op":"comment","comment":""},{"op":"erase"}] -> [{"uuid":["uuid","00000000-0000-4000-8000-000000000005"]},{"error":"unknown column"},null,null]
+0 [{"op":"select","table":"Switch","where":[],"columns":["colour"]},{"op":"select","table":"Swich","where":[]}] -> [{"error":"unknown column"},null]
+0 [{},{"op":"insert","table":"Switch","row":{}}] -> [{"error":"syntax error"},null]
+0 [{"op":"select","table":"Switch","where":[],"columns":["name"]}] -> [{"rows":[]}]"#;
+
+#[test]
+fn results_behind_a_fault_are_null(rt: HostRuntime) -> Result<(), Fail> {
+    attempts_over(rt.alloc(), Faults::NONE, FAULTS)
+}
+
 /// A transaction that waits changes nothing, whatever its operations did; it is given up at its age.
 const WAITS: &str =
     r#"0 [{"op":"insert","table":"Switch","row":{"name":"s1"}}] -> kept [{"uuid":["uuid","00000000-0000-4000-8000-000000000002"]}] 1

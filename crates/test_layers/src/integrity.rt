@@ -85,13 +85,16 @@ fn strong_reference_refused(rt: HostRuntime) -> Result<(), Fail> {
     tries(rt.alloc(), NET, STRONG)
 }
 
-/// Each switch is without the port that goes, and has changed.
+/// Each switch is without the port that goes, or that is deleted, and has changed.
 const WEAK: &str =
     r#"0 [{"op":"insert","table":"Switch","row":{"main":["named-uuid","p"],"name":"s1","ports":["named-uuid","p"]}},{"op":"insert","table":"Switch","row":{"main":["named-uuid","p"],"name":"s2"}},{"op":"insert","table":"Port","uuid-name":"p","row":{"name":"p1"}}] -> kept [{"uuid":["uuid","00000000-0000-4000-8000-000000000002"]},{"uuid":["uuid","00000000-0000-4000-8000-000000000003"]},{"uuid":["uuid","00000000-0000-4000-8000-000000000004"]}] 3
 0 [{"op":"update","table":"Switch","where":[["name","==","s1"]],"row":{"ports":["set",[]]}}] -> kept [{"count":1}] 3
 0 [{"op":"select","table":"Switch","where":[],"columns":["_version","main","name"]}] -> [{"rows":[{"_version":["uuid","00000000-0000-4000-8000-000000000005"],"main":["set",[]],"name":"s1"},{"_version":["uuid","00000000-0000-4000-8000-000000000005"],"main":["set",[]],"name":"s2"}]}]
 0 [{"op":"insert","table":"Switch","row":{"main":["uuid","00000000-0000-0000-0000-000000000000"],"name":"s3"}}] -> kept [{"uuid":["uuid","00000000-0000-4000-8000-000000000008"]}] 1
-0 [{"op":"select","table":"Switch","where":[["name","==","s3"]],"columns":["main"]}] -> [{"rows":[{"main":["set",[]]}]}]"#;
+0 [{"op":"select","table":"Switch","where":[["name","==","s3"]],"columns":["main"]}] -> [{"rows":[{"main":["set",[]]}]}]
+0 [{"op":"insert","table":"Switch","row":{"main":["named-uuid","p"],"name":"s4","ports":["named-uuid","p"]}},{"op":"insert","table":"Port","uuid-name":"p","row":{"name":"p1"}}] -> kept [{"uuid":["uuid","00000000-0000-4000-8000-00000000000b"]},{"uuid":["uuid","00000000-0000-4000-8000-00000000000c"]}] 2
+0 [{"op":"update","table":"Switch","where":[["name","==","s4"]],"row":{"ports":["set",[]]}},{"op":"delete","table":"Port","where":[]}] -> kept [{"count":1},{"count":1}] 2
+0 [{"op":"select","table":"Switch","where":[["name","==","s4"]],"columns":["_version","main"]}] -> [{"rows":[{"_version":["uuid","00000000-0000-4000-8000-00000000000d"],"main":["set",[]]}]}]"#;
 
 #[test]
 fn weak_reference_removed(rt: HostRuntime) -> Result<(), Fail> {
@@ -191,6 +194,21 @@ const INDEXES: &str =
 #[test]
 fn an_index_has_several_columns(rt: HostRuntime) -> Result<(), Fail> {
     tries(rt.alloc(), INDEXED, INDEXES)
+}
+
+/// Rows are shown once by the columns of an index and by one of them alone, also where changes of the transaction repeat what
+/// another row has there.
+const SHOWN: &str =
+    r#"0 [{"op":"insert","table":"T","row":{"a":1,"b":"x","c":7}},{"op":"insert","table":"T","row":{"a":1,"b":"y","c":8}},{"op":"insert","table":"T","row":{"a":2,"b":"x","c":9}}] -> kept [{"uuid":["uuid","00000000-0000-4000-8000-000000000002"]},{"uuid":["uuid","00000000-0000-4000-8000-000000000003"]},{"uuid":["uuid","00000000-0000-4000-8000-000000000004"]}] 3
+0 [{"op":"select","table":"T","where":[],"columns":["a","b"]},{"op":"select","table":"T","where":[],"columns":["c"]},{"op":"select","table":"T","where":[["b","==","x"]],"columns":["b","a","b"]}] -> [{"rows":[{"a":1,"b":"x"},{"a":1,"b":"y"},{"a":2,"b":"x"}]},{"rows":[{"c":7},{"c":8},{"c":9}]},{"rows":[{"a":1,"b":"x"},{"a":2,"b":"x"}]}]
+0 [{"op":"select","table":"T","where":[],"columns":["a"]},{"op":"select","table":"T","where":[],"columns":["b"]},{"op":"select","table":"T","where":[["a","==",1]],"columns":["a"]}] -> [{"rows":[{"a":1},{"a":2}]},{"rows":[{"b":"x"},{"b":"y"}]},{"rows":[{"a":1}]}]
+0 [{"op":"insert","table":"T","row":{"a":1,"b":"y"}},{"op":"select","table":"T","where":[],"columns":["a","b"]},{"op":"select","table":"T","where":[["a","==",1],["b","==","y"]],"columns":["a","b"]}] -> [{"uuid":["uuid","00000000-0000-4000-8000-000000000008"]},{"rows":[{"a":1,"b":"x"},{"a":1,"b":"y"},{"a":2,"b":"x"}]},{"rows":[{"a":1,"b":"y"}]},{"error":"constraint violation"}]
+0 [{"op":"update","table":"T","where":[["c","==",9]],"row":{"a":1}},{"op":"select","table":"T","where":[],"columns":["a","b"]},{"op":"select","table":"T","where":[],"columns":["c"]}] -> [{"count":1},{"rows":[{"a":1,"b":"x"},{"a":1,"b":"y"}]},{"rows":[{"c":7},{"c":8},{"c":9}]},{"error":"constraint violation"}]
+0 [{"op":"delete","table":"T","where":[["c","==",7]]},{"op":"insert","table":"T","row":{"a":1,"b":"x","c":7}},{"op":"select","table":"T","where":[],"columns":["a","b"]}] -> kept [{"count":1},{"uuid":["uuid","00000000-0000-4000-8000-00000000000b"]},{"rows":[{"a":1,"b":"y"},{"a":2,"b":"x"},{"a":1,"b":"x"}]}] 2"#;
+
+#[test]
+fn rows_alike_in_an_index_are_shown_once(rt: HostRuntime) -> Result<(), Fail> {
+    tries(rt.alloc(), INDEXED, SHOWN)
 }
 
 /// A table of one row at most.

@@ -221,12 +221,17 @@ const OTHERS: &str =
 [{"op":"comment"}] -> syntax error
 [{"op":"abort","why":1}] -> aborted
 [{"op":"erase"}] -> unknown operation
+[{"op":"erase"},{"op":"comment","comment":""}] -> unknown operation
+[{"op":"select","table":"Swich","where":[]},{"op":"comment","comment":""}] -> unknown table
+[{"op":"comment","comment":""},{"op":"select","table":"Switch","where":[],"columns":["colour"]},{"op":"comment","comment":""}] -> {} unknown column
 [{"op":"assert","lock":"mine"}] -> {} 0
 [{"op":"assert","lock":"min"}] -> not owner
 [{"op":"assert","lock":"1"}] -> syntax error
 [{"op":"assert","lock":1}] -> syntax error
 [{"op":"assert"}] -> syntax error
 [{"op":1}] -> syntax error
+[{}] -> syntax error
+[{"table":"Switch","where":[]}] -> syntax error
 [7] -> syntax error"#;
 
 #[test]
