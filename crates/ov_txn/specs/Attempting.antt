@@ -35,8 +35,8 @@ pub record MadeReady {K R : Type 0} (readies : Readies R K) (outcome : Transacti
   pub unsealed : old.sealed ≡ None
   pub made : readies was old delta (replies_with results) ready is
 
--- What an attempt comes to. The store is asked once, where the transaction changes a database that is not sealed, and before that
--- all is made ready; where anything else comes of it, nothing is changed.
+-- What an attempt comes to. Where the transaction changes a database that is not sealed, all is made ready, and the database is
+-- as a commit of its changes leaves it; where anything else comes of it, nothing is changed.
 abbrev pub IsTried : {K R : Type 0} → Readies R K → TransactionOutcome → KeptDatabase K → R → Tried → KeptDatabase K → R → Type 0
 IsTried readies outcome old was (Answer results) new is = (new ≡ old) × (is ≡ was) × IsAnswer outcome old results
 IsTried readies outcome old was (Stored answer) new is = (r : MadeReady readies outcome old was true is) × Commits r.delta old answer new

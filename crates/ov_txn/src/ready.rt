@@ -17,7 +17,8 @@ use std::alloc::{AllocError, Global};
 pub struct Replies {
     /// Where the store keeps the changes.
     pub kept: Trees,
-    /// What stands behind these results where the store has no room: `resources exhausted`.
+    /// What stands behind these results where memory is refused to the store, or the changes are too large for it:
+    /// `resources exhausted`.
     pub exhausted: Tree,
     /// What stands behind them where the store fails: `I/O error`.
     pub failed: Tree,

@@ -61,9 +61,9 @@ fn perform_on<K: Keeper + Drop, O: Owns>(
 /// Tries a transaction of this age in milliseconds, whose session owns these locks, and counts the attempt.
 ///
 /// It has its operations done in order, and is committed by the rules for references, unreferenced rows and limits (RFC 7047,
-/// 3.2). Where that changes the database, all that follows the commit is made ready, and then the store is asked, once and last
-/// of all. A database that is sealed is not asked any more: such a transaction is answered as where the store fails. Where
-/// nothing is changed, and where an operation or the commit fails, the store is not asked either (4.1.3).
+/// 3.2). Where that changes the database, all that follows the commit is made ready, and the store is asked last of all. A
+/// database that is sealed is not asked any more: such a transaction is answered as where the store fails. Where nothing is
+/// changed, and where an operation or the commit fails, the store is not asked either (4.1.3).
 pub fn attempt<K: Keeper + Drop, O: Owns, R: Ready<K>>(
     alloc: Global,
     db: &mut Db<K>,
