@@ -83,7 +83,8 @@ impl Waiting {
         due_among(newer, due)
     }
 
-    /// Puts one behind the others. Where memory is refused nothing is changed.
+    /// Puts one behind the others. It is refused where 4,096 wait or are still to be tried, and where memory is refused; then
+    /// nothing is changed.
     pub fn push(&mut self, outstanding: Outstanding) -> Result<(), AllocError>
         ensures ok { OnOk result (self.new ≡ record self.old { outstanding = self.old.outstanding ++ outstanding ∷ [] }) }
         ensures err { OnErr result (self.new ≡ self.old) }
