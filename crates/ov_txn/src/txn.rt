@@ -1,8 +1,10 @@
-ghost use Rattle.std.specs.Prelude.{◌≡◌, length, IfOk, OnErr};
+ghost use Rattle.std.specs.Prelude.{◌≡◌, length, true, IfOk, OnErr};
+ghost use Rattle.std.specs.List.{list_all};
 ghost use Rattle.ov_specs.specs.operations.Draws.{draws_wanted};
+ghost use Rattle.ov_specs.specs.values.Uuid.{is_uuid};
 ghost use Rattle.ov_txn.specs.Drawing.{DrawsFrom};
 
-use crate::draws::{Draws, draws_for};
+use crate::draws::{Draws, are_uuids, draws_for};
 use ov_base::Trees;
 use std::alloc::{AllocError, Global};
 use std::marker::Model;
@@ -39,9 +41,11 @@ impl Txn {
         ensures operations { IfOk result (λ txn. txn.operations ≡ operations) }
         ensures count { IfOk result (λ txn. length txn.draws ≡ draws_wanted operations) }
         ensures drawn { IfOk result (λ txn. DrawsFrom D.draws source.old txn.draws source.new) }
+        ensures uuids { IfOk result (λ txn. list_all is_uuid txn.draws ≡ true) }
         ensures err { OnErr result (source.new ≡ source.old) }
     {
         let draws = draws_for(alloc, &operations, source)?;
+        are_uuids(draws.as_slice());
         Ok(Txn { draws, operations })
     }
 
