@@ -41,7 +41,7 @@ pub enum Event<M> {
 pub enum Outcome {
     /// The store kept its changes.
     Kept,
-    /// The store had no room for its changes.
+    /// Memory was refused to the store, or the changes were too large for it: it kept none of them.
     Exhausted,
     /// The store failed.
     Failed,

@@ -34,7 +34,7 @@ pub(crate) struct Replying<'a> {
     pub queues: FrameQueues,
     /// What is sent where the store keeps the changes: the updates, and behind them the reply.
     pub prepared: Prepared,
-    /// The reply where the store has no room, once all is ready.
+    /// The reply where the store answers that resources are exhausted, once all is ready.
     pub exhausted: Bytes,
     /// The reply where the store fails, once all is ready.
     pub failed: Bytes,
