@@ -14,7 +14,7 @@ ghost use Rattle.ov_core.specs.Following.{Follows, none_given, and_handed, and_a
 ghost use Rattle.ov_sessions.specs.Sessions.{most_sessions, serial_left};
 ghost use Rattle.ov_core.specs.Stepping.{StepIs, Closes};
 ghost use Rattle.ov_core.specs.Leaving.{LeavesItsOwn};
-ghost use Rattle.ov_db.specs.Committing.{MayFind};
+ghost use Rattle.ov_db.specs.Committing.{AreKept, MayFind};
 
 use crate::entry::{entry_with_choice, entry_without_choice};
 use crate::event::{Cause, Entry, Event, StepFault, Stepped};
@@ -294,6 +294,15 @@ impl<K: Keeper + Drop, D: Draws + Drop> Core<K, D> {
         ensures { K.is_honest self.now.keeper → MayFind (K.leaves self.now.keeper) self.now.state.schema self.now.state.database self.now.state.sealed }
     {
         self.live.database.left();
+    }
+
+    /// What each core keeps true of itself: each row of the machine's database is a row of the schema, and is what its line reads
+    /// back as, and the rows are whole, so that a commit leaves them as they are; so it is with those that a commit that failed
+    /// would have made. It does nothing.
+    pub fn kept(&self)
+        ensures { AreKept self.now.state.schema self.now.state.database self.now.state.sealed }
+    {
+        self.live.database.kept();
     }
 
     fn open_session(&mut self, moment: u64) -> Stepped

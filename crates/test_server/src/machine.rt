@@ -2,7 +2,9 @@ use ov_core::Core;
 use ov_core::early::{KeepFault, Keeper, OpenFault, RefusedOpen};
 use std::alloc::Global;
 use std::test::Fail;
-use test_support::{Counter, Faults, NET, NetKeeper, failing, keeper_of, net, net_keeper, steps};
+use test_support::{
+    Counter, Faults, NET, NetCore, NetKeeper, failing, keeper_of, net, net_keeper, steps,
+};
 
 /// Up to 64 sessions are open, each with a key of its own, and the key of one that is closed is given again.
 const SIXTY_FOUR: &str = r#"free -> 64
@@ -159,6 +161,22 @@ fn a_database_that_does_not_fit_is_not_opened(rt: HostRuntime) -> Result<(), Fai
     let port = r#"Port 1 0 {"name":"p1","peer":["set",[]],"tag":7}"#;
     let unused = refusal(rt.alloc(), NET, port)?;
     assert_eq!(rt; unused, Some(OpenFault::Broken));
+    Ok(())
+}
+
+/// A machine over a keeper that holds a switch.
+fn over_a_switch(alloc: Global) -> Result<NetCore, Fail> {
+    let switch = r#"Switch 1 0 {"load":5,"main":["set",[]],"name":"s1","ports":["set",[]]}"#;
+    let keeper = failing(keeper_of(alloc, NET, switch)?, Faults::NONE);
+    Ok(Core::open(alloc, keeper, net(alloc)?, Counter::new())?)
+}
+
+/// What a machine keeps true of its rows is told without a call of the keeper.
+#[test]
+fn a_machine_tells_that_its_rows_are_whole(rt: HostRuntime) -> Result<(), Fail> {
+    let core = over_a_switch(rt.alloc())?;
+    core.kept();
+    assert_eq!(rt; core.failures(), 0);
     Ok(())
 }
 
