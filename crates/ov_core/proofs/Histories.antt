@@ -1,8 +1,13 @@
 -- The entries that are kept of a history.
-use Rattle.std.proofs.Common.{◌≡◌, ℕ, ◌+◌, ◌-◌, List, [], ◌∷◌, ◌++◌, map, take, drop, length, Some, refl, sym, ap, ◌∙◌, append_assoc, arith}
+use Rattle.std.proofs.Common.{◌≡◌, ℕ, ◌+◌, ◌-◌, List, [], ◌∷◌, ◌++◌, map, take, drop, length, true, Some, refl, sym, ap, ◌∙◌, append_assoc, arith}
+use Rattle.std.specs.Prelude.{◌&&◌}
+use Rattle.std.specs.List.{list_all}
+use Rattle.std.proofs.lemmas.Bool.{and_from}
+use Rattle.std.proofs.lemmas.List.Folds.{list_all-append}
 use Rattle.std.proofs.lemmas.List.{length-append, length-map, length-drop, drop-drop, drop-append-le, drop-map, take-append-drop, map-append}
 use Rattle.ov_specs.specs.machine.Machine as machine
 use Rattle.ov_specs.specs.machine.Machine.{State, Sent}
+use Rattle.ov_specs.specs.machine.Suiting.{draws_uuids}
 use Rattle.ov_specs.proofs.laws.Histories.{run_more}
 use Rattle.ov_core.specs.declared.event.Entry.{Entry}
 use Rattle.ov_core.specs.Entries.{entry_view}
@@ -59,12 +64,14 @@ keeps_last old new front last keeps =
     (drop (length (kept ++ last ∷ []) - most_entries) kept, keeps ∙ (kept_after-append (map entry_view old) front (last ∷ []) ∙ newest-last kept last))
 
 -- an entry more, and there still is a legal history
-pub has_more : (s t : State) (old new : List Entry) (e : machine.Entry) (sent : List Sent) → machine.step s e ≡ Some (record { state = t; sent = sent }) → KeepsNewest old (e ∷ []) new → HasHistory s old → HasHistory t new
-has_more s t old new e sent stepped keeps has = record {
+pub has_more : (s t : State) (old new : List Entry) (e : machine.Entry) (sent : List Sent) → machine.step s e ≡ Some (record { state = t; sent = sent }) → draws_uuids e ≡ true → KeepsNewest old (e ∷ []) new → HasHistory s old → HasHistory t new
+has_more s t old new e sent stepped uuids keeps has = record {
   schema = has.schema;
   database = has.database;
+  suits = has.suits;
   history = has.history ++ e ∷ [];
   sent = has.sent ++ sent;
   legal = run_more (machine.opening has.schema has.database) has.history e (record { state = s; sent = has.sent }) (record { state = t; sent = sent }) has.legal stepped;
+  uuids = list_all-append draws_uuids has.history (e ∷ []) ∙ and_from (list_all draws_uuids has.history) (draws_uuids e && true) has.uuids (and_from (draws_uuids e) true uuids refl);
   ends = keeps ∙ (ap (λ (kept : List machine.Entry). newest (kept ++ e ∷ [])) has.ends ∙ newest-newest has.history e);
 }

@@ -1,17 +1,19 @@
 -- One step of the machine, and of the core.
 use Rattle.std.proofs.Common.{◌≡◌, ℕ, ◌+◌, ◌≤◌, List, [], ◌∷◌, ◌++◌, map, refl, sym, ap, ◌∙◌, cond, Bool, true, false, Option, Some, None, append_assoc, leb, inl, arith}
 use Rattle.std.specs.Prelude.{is_some}
+use Rattle.std.specs.List.{list_all}
 use Rattle.std.proofs.lemmas.List.{append-nil}
 use Rattle.std.proofs.lemmas.Bool.{le-leb, false≢true}
 use Rattle.std.proofs.lemmas.Option.{same_Some}
 use Rattle.ov_specs.specs.machine.Machine as machine
 use Rattle.ov_specs.specs.machine.Machine.{State, Sent, Stepped, step}
-use Rattle.ov_specs.specs.values.Uuid.{Uuid}
+use Rattle.ov_specs.specs.values.Uuid.{Uuid, is_uuid}
 use Rattle.ov_specs.specs.machine.History.{frames_to}
 use Rattle.ov_specs.proofs.laws.Histories.{run_more}
 use Rattle.ov_specs.specs.wire.Message.{Message}
 use Rattle.ov_specs.specs.schema.SchemaTypes.{Schema}
 use Rattle.ov_specs.specs.rows.Database.{Database}
+use Rattle.ov_specs.specs.rows.Suits.{Suits}
 use Rattle.ov_db.specs.KeptDatabase.{KeptDatabase}
 use Rattle.ov_outbox.specs.Frames.{WaitingFrames, waiting_for, has_queue, PostsSent, HasSameFrames}
 use Rattle.ov_sessions.specs.Sessions.{OpenSessions}
@@ -106,7 +108,7 @@ module _ {K : Type 0} (failed : K → ℕ) (session : Session) (old new : Live K
       moves_silent (core_of failed old before was source) (core_of failed new m is source) (entry_of machine.Open (nothing_chosen m)) x (is_opening low) added same (λ s. ap (λ (l : Live K). waiting_for s l.outbox.frames) opens.same)
 
   pub has_opened : (was is : List Entry) (x : Entry) → before ≤ m → is ≡ newest (was ++ x ∷ []) → entry_view x ≡ entry_of machine.Open (nothing_chosen m) → HasHistory (state_of old before) was → HasHistory (state_of new m) is
-  has_opened was is x low added same has = has_more (state_of old before) (state_of new m) was is (entry_of machine.Open (nothing_chosen m)) [] (is_opening low) (entered_behind was is x _ added same) has
+  has_opened was is x low added same has = has_more (state_of old before) (state_of new m) was is (entry_of machine.Open (nothing_chosen m)) [] (is_opening low) refl (entered_behind was is x _ added same) has
 
 -- a session that was closed
 module _ {K : Type 0} (failed : K → ℕ) (n : ℕ) (cause : machine.Cause) (old new : Live K) (before m : ℕ) (closes : ClosesSession n old new) where
@@ -130,7 +132,7 @@ module _ {K : Type 0} (failed : K → ℕ) (n : ℕ) (cause : machine.Cause) (ol
   }
 
   pub has_closed : (was is : List Entry) (x : Entry) → before ≤ m → machine.is_open (state_of old before) n ≡ true → is ≡ newest (was ++ x ∷ []) → entry_view x ≡ closing m n cause → HasHistory (state_of old before) was → HasHistory (state_of new m) is
-  has_closed was is x low there added same has = has_more (state_of old before) (state_of new m) was is (closing m n cause) sent (is_closing_of low there) (entered_behind was is x _ added same) has
+  has_closed was is x low there added same has = has_more (state_of old before) (state_of new m) was is (closing m n cause) sent (is_closing_of low there) refl (entered_behind was is x _ added same) has
 
 -- what an event came to, as it was entered
 module _ {K : Type 0} (failed : K → ℕ) (event : machine.Event) (old new : Live K) (before m : ℕ) (draws : List Uuid) (attempts : List Attempt) (comes : ComesTo failed m event old draws attempts new) where
@@ -143,8 +145,8 @@ module _ {K : Type 0} (failed : K → ℕ) (event : machine.Event) (old new : Li
   pub enters : {D : Type 0} (was is : List Entry) (x : Entry) (source after : D) → before ≤ m → is ≡ newest (was ++ x ∷ []) → entry_view x ≡ entered → EntersEntry (core_of failed old before was source) entered (core_of failed new m is after)
   enters was is x source after low added same = moves_with (core_of failed old before was source) (core_of failed new m is after) entered x comes.sent (is_step low) added same comes.posts
 
-  pub has_entered : (was is : List Entry) (x : Entry) → before ≤ m → is ≡ newest (was ++ x ∷ []) → entry_view x ≡ entered → HasHistory (state_of old before) was → HasHistory (state_of new m) is
-  has_entered was is x low added same has = has_more (state_of old before) (state_of new m) was is entered comes.sent (is_step low) (entered_behind was is x entered added same) has
+  pub has_entered : (was is : List Entry) (x : Entry) → before ≤ m → is ≡ newest (was ++ x ∷ []) → entry_view x ≡ entered → list_all is_uuid draws ≡ true → HasHistory (state_of old before) was → HasHistory (state_of new m) is
+  has_entered was is x low added same uuids has = has_more (state_of old before) (state_of new m) was is entered comes.sent (is_step low) uuids (entered_behind was is x entered added same) has
 
   pub asks_entered : {D : Type 0} (was is : List Entry) (source after : D) → AsksKeeper (core_of failed old before was source) entered (core_of failed new m is after)
   asks_entered was is source after = record {
@@ -157,24 +159,26 @@ module _ {K : Type 0} (failed : K → ℕ) (event : machine.Event) (old new : Li
 -- a message that was taken: its session is open behind it, or not
 pub took : {K D : Type 0} (failed : K → ℕ) (draws : D → Uuid → D → Type 0) (n : ℕ) (message : Message) (old new : Live K) (before m : ℕ) (drawn : List Uuid) (attempts : List Attempt) (was is : List Entry) (x : Entry) (source after : D) (b : Bool)
     → ComesTo failed m (machine.Take n message) old drawn attempts new → before ≤ m → is ≡ newest (was ++ x ∷ []) → entry_view x ≡ entry_of (machine.Take n message) (record { moment = m; draws = drawn; outcomes = map attempt_view attempts })
-    → DrawsFrom draws source drawn after → machine.is_open (state_of new m) n ≡ b
+    → DrawsFrom draws source drawn after → list_all is_uuid drawn ≡ true → machine.is_open (state_of new m) n ≡ b
     → IsEntered draws m (machine.Take n message) (core_of failed old before was source) (cond b answer.Done answer.Closed) (core_of failed new m is after)
-took failed draws n message old new before m drawn attempts was is x source after true comes low added same from there = record {
+took failed draws n message old new before m drawn attempts was is x source after true comes low added same from uuids there = record {
   entry = entered failed (machine.Take n message) old new before m drawn attempts comes;
   tells = (refl, there);
   keys = left-open (state_of new m) new.watchers old.sessions.open_sessions new.sessions.open_sessions refl comes.left;
   moment = refl;
   drawn = from;
+  uuids = uuids;
   moves = enters failed (machine.Take n message) old new before m drawn attempts comes was is x source after low added same;
   asks = asks_entered failed (machine.Take n message) old new before m drawn attempts comes was is source after;
   tries = comes.tries;
 }
-took failed draws n message old new before m drawn attempts was is x source after false comes low added same from away = record {
+took failed draws n message old new before m drawn attempts was is x source after false comes low added same from uuids away = record {
   entry = entered failed (machine.Take n message) old new before m drawn attempts comes;
   tells = (inl refl, away);
   keys = left-open (state_of new m) new.watchers old.sessions.open_sessions new.sessions.open_sessions refl comes.left;
   moment = refl;
   drawn = from;
+  uuids = uuids;
   moves = enters failed (machine.Take n message) old new before m drawn attempts comes was is x source after low added same;
   asks = asks_entered failed (machine.Take n message) old new before m drawn attempts comes was is source after;
   tries = comes.tries;
@@ -190,6 +194,7 @@ ticked failed draws old new before m attempts was is x source comes low added sa
   keys = left-open (state_of new m) new.watchers old.sessions.open_sessions new.sessions.open_sessions refl comes.left;
   moment = refl;
   drawn = refl;
+  uuids = refl;
   moves = enters failed machine.Tick old new before m [] attempts comes was is x source source low added same;
   asks = asks_entered failed machine.Tick old new before m [] attempts comes was is source source;
   tries = comes.tries;
@@ -220,7 +225,7 @@ asks_closing m n cause old new c = asks_nothing old new (closing m n cause) refl
 
 -- a Close as it was asked for
 pub closed_as_asked : {K D : Type 0} (draws : D → Uuid → D → Type 0) (at s : ℕ) (cause : machine.Cause) (old new : CoreState K D) → Closes at s cause old new → IsEntered draws at (machine.Close s cause) old answer.Done new
-closed_as_asked draws at s cause old new c = record { entry = closing at s cause; tells = refl; keys = c.keys; moment = refl; drawn = c.drawn; moves = c.moves; asks = asks_closing at s cause old new c; tries = omega (arith, c.tries) }
+closed_as_asked draws at s cause old new c = record { entry = closing at s cause; tells = refl; keys = c.keys; moment = refl; drawn = c.drawn; uuids = refl; moves = c.moves; asks = asks_closing at s cause old new c; tries = omega (arith, c.tries) }
 
 -- ---- before any entry
 
@@ -238,13 +243,15 @@ opened_over_state schema d same unsealed =
     ap (λ (v : Schema). record (state_of (opened_over d) 0) { schema = v }) same ∙ ap (λ (v : Option Database). record (machine.opening schema d.committed) { sealed = v }) unsealed
 
 -- the empty history is legal
-pub has_none : {K : Type 0} (d : KeptDatabase K) (kept : List Entry) → d.sealed ≡ None → kept ≡ [] → HasHistory (state_of (opened_over d) 0) kept
-has_none d kept unsealed none = record {
+pub has_none : {K : Type 0} (d : KeptDatabase K) (kept : List Entry) → Suits d.schema d.committed → d.sealed ≡ None → kept ≡ [] → HasHistory (state_of (opened_over d) 0) kept
+has_none d kept suits unsealed none = record {
   schema = d.schema;
   database = d.committed;
+  suits = suits;
   history = [];
   sent = [];
   legal = ap (λ (s : State). Some (record { state = s; sent = [] })) (sym (opened_over_state d.schema d refl unsealed));
+  uuids = refl;
   ends = ap (map entry_view) none;
 }
 

@@ -1,10 +1,13 @@
 -- Which entries of the history are kept. What names no source is our own.
-use Rattle.std.specs.Prelude.{◌≡◌, ℕ, ◌-◌, ◌++◌, List, [], ◌∷◌, map, length, drop, Some}
+use Rattle.std.specs.Prelude.{◌≡◌, ℕ, ◌-◌, ◌++◌, List, [], ◌∷◌, map, length, drop, Some, true}
+use Rattle.std.specs.List.{list_all}
 use Rattle.ov_specs.specs.machine.Machine as machine
 use Rattle.ov_specs.specs.machine.Machine.{State, Sent, opening}
 use Rattle.ov_specs.specs.machine.History.{run}
+use Rattle.ov_specs.specs.machine.Suiting.{draws_uuids}
 use Rattle.ov_specs.specs.schema.SchemaTypes.{Schema}
 use Rattle.ov_specs.specs.rows.Database.{Database}
+use Rattle.ov_specs.specs.rows.Suits.{Suits}
 use Rattle.ov_core.specs.declared.event.Entry.{Entry}
 use Rattle.ov_core.specs.Entries.{entry_view}
 
@@ -29,11 +32,14 @@ kept_after kept (e ∷ entries) = kept_after (newest (kept ++ e ∷ [])) entries
 abbrev pub KeepsNewest : List Entry → List machine.Entry → List Entry → Type 0
 KeepsNewest old entries new = map entry_view new ≡ kept_after (map entry_view old) entries
 
--- Some legal history leads from the opening of a database to the state, and the entries that are kept are the newest of it.
+-- Some legal history leads from the opening of a database, made of rows of its schema, to the state. What was drawn for its entries
+-- are identifiers (RFC 4122, 4.1.2), and the entries that are kept are the newest of it.
 pub record HasHistory (state : State) (kept : List Entry) : Type 0 where
   pub schema : Schema
   pub database : Database
+  pub suits : Suits schema database
   pub history : List machine.Entry
   pub sent : List Sent
   pub legal : run (opening schema database) history ≡ Some (record { state = state; sent = sent })
+  pub uuids : list_all draws_uuids history ≡ true
   pub ends : map entry_view kept ≡ newest history

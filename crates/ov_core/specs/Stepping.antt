@@ -2,6 +2,7 @@
 use Rattle.std.specs.Prelude.{◌≡◌, ◌⊎◌, ℕ, ◌+◌, ◌<◌, ◌≤◌, [], ◌∷◌, ◌++◌, length, Bool, true, false, is_some}
 use Rattle.ov_specs.specs.machine.Machine as machine
 use Rattle.ov_specs.specs.machine.Machine.{State, is_open}
+use Rattle.ov_specs.specs.machine.Suiting.{draws_uuids}
 use Rattle.ov_specs.specs.values.Uuid.{Uuid}
 use Rattle.ov_keeper.specs.Keeping.{HasFailed}
 use Rattle.ov_txn.specs.Drawing.{DrawsFrom}
@@ -53,13 +54,14 @@ pub record AsksKeeper {K D : Type 0} (old : CoreState K D) (entry : machine.Entr
   pub seal : is_some old.state.sealed ≡ false → is_some new.state.sealed ≡ true → HasFailed old.failures new.failures
   pub counts : old.failures ≤ new.failures
 
--- the entry of an event, at the moment, with the draws that were made of the source
+-- the entry of an event, at the moment, with the draws that were made of the source, which are identifiers (RFC 4122, 4.1.2)
 pub record IsEntered {K D : Type 0} (draws : D → Uuid → D → Type 0) (at : ℕ) (event : machine.Event) (old : CoreState K D) (stepped : Stepped) (new : CoreState K D) : Type 0 where
   pub entry : machine.Entry
   pub tells : AnswersEvent event old.state entry new.state stepped
   pub keys : KeepsKeys old stepped new
   pub moment : entry.choice.moment ≡ at
   pub drawn : DrawsFrom draws old.source entry.choice.draws new.source
+  pub uuids : draws_uuids entry ≡ true
   pub moves : EntersEntry old entry new
   pub asks : AsksKeeper old entry new
   -- at most one attempt of its own, and those of settling the transactions that waited

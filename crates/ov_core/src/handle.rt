@@ -1,6 +1,8 @@
 ghost use Rattle.std.specs.Prelude.{◌≡◌, ◌≤◌, ◌<◌, ◌+◌, ℕ, [], length, Some, IfOk, true, codes, vec_capacity};
+ghost use Rattle.std.specs.List.{list_all};
 ghost use Rattle.ov_rpc.specs.Message.{message_view};
 ghost use Rattle.ov_specs.specs.machine.Machine as spec;
+ghost use Rattle.ov_specs.specs.values.Uuid.{is_uuid};
 ghost use Rattle.ov_specs.specs.wire.Frame.{frame, failure_tree};
 ghost use Rattle.ov_txn.specs.Drawing.{DrawsFrom};
 ghost use Rattle.ov_sessions.specs.Sessions.{has_serial};
@@ -75,6 +77,7 @@ impl<K: Keeper + Drop> Live<K> {
         requires room { length self.old.waiting.outstanding < vec_capacity attempts.old }
         ensures comes_to { ComesTo K.failed moment (spec.Take session (message_view message)) self.old result.items attempts.new.items self.new }
         ensures drawn { DrawsFrom D.draws source.old result.items source.new }
+        ensures uuids { list_all is_uuid result.items ≡ true }
     {
         let Handled { draws, outcome } = self.handle(alloc, moment, session, message, source);
         list(attempts, 1, outcome);
@@ -104,6 +107,7 @@ impl<K: Keeper + Drop> Live<K> {
         ensures asks { AsksStore K.failed result.outcome self.old.database self.new.database }
         ensures counts { K.failed self.old.database.keeper ≤ K.failed self.new.database.keeper }
         ensures drawn { DrawsFrom D.draws source.old result.draws.items source.new }
+        ensures uuids { list_all is_uuid result.draws.items ≡ true }
         ensures tries { self.new.tries ≤ self.old.tries + 1 }
     {
         let schema = self.database.schema();
@@ -151,6 +155,7 @@ impl<K: Keeper + Drop> Live<K> {
         ensures asks { AsksStore K.failed result.outcome self.old.database self.new.database }
         ensures counts { K.failed self.old.database.keeper ≤ K.failed self.new.database.keeper }
         ensures drawn { DrawsFrom D.draws source.old result.draws.items source.new }
+        ensures uuids { list_all is_uuid result.draws.items ≡ true }
         ensures tries { self.new.tries ≤ self.old.tries + 1 }
     {
         let Ok(txn) = Txn::read(alloc, operations, source) else {

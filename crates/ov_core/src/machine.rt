@@ -114,6 +114,7 @@ impl<K: Keeper + Drop, D: Draws + Drop> Core<K, D> {
             });
         };
         let database = Db::open(alloc, keeper, schema)?;
+        database.kept();
         Ok(Core {
             live: Live::new(alloc, database, sessions),
             source: draws,

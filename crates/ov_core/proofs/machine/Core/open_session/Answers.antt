@@ -17,6 +17,7 @@ returns g c =
       keys = (o.opens.free, rw o.opens.sessions refl);
       moment = refl;
       drawn = refl;
+      uuids = refl;
       moves = opened g.K.Keeper.failed c.in-Ok.session live c.open.new.self c.self.inside.moment c.args.moment o c.self.inside.history c.push.new.self c.entry_without_choice.result c.self.inside.source low c.push.ensures c.entry_without_choice.ensures;
       asks = asks_nothing _ _ _ refl (rw o.same refl, rw o.same refl) (rw o.same refl);
       tries = rw o.same (omega arith);

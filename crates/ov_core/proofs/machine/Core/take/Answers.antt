@@ -13,10 +13,10 @@ returns g c =
     elim c.if-is_open.branch [
       | then-is_open w ↦ rw (w.result-is, ← c.self.view_is)
           (took g.K.Keeper.failed g.D.Draws.draws c.args.session.serial c.args.received c.self.inside.live c.take-draws.new.self c.self.inside.moment c.args.moment c.take-draws.result.items c.take-draws.new.attempts.items c.self.inside.history c.push.new.self c.entry_with_choice.result
-          c.self.inside.source c.take-draws.new.source true comes low c.push.ensures entry c.take-draws.ensures.drawn (any-serial c.take-draws.new.self.watchers c.args.session.serial c.take-draws.new.self.sessions.open_sessions ∙ (sym c.is_open-2.ensures ∙ w.if-is_open.true)))
+          c.self.inside.source c.take-draws.new.source true comes low c.push.ensures entry c.take-draws.ensures.drawn c.take-draws.ensures.uuids (any-serial c.take-draws.new.self.watchers c.args.session.serial c.take-draws.new.self.sessions.open_sessions ∙ (sym c.is_open-2.ensures ∙ w.if-is_open.true)))
       | else-is_open w ↦ rw (w.result-is, ← c.self.view_is)
           (took g.K.Keeper.failed g.D.Draws.draws c.args.session.serial c.args.received c.self.inside.live c.take-draws.new.self c.self.inside.moment c.args.moment c.take-draws.result.items c.take-draws.new.attempts.items c.self.inside.history c.push.new.self c.entry_with_choice.result
-          c.self.inside.source c.take-draws.new.source false comes low c.push.ensures entry c.take-draws.ensures.drawn (any-serial c.take-draws.new.self.watchers c.args.session.serial c.take-draws.new.self.sessions.open_sessions ∙ (sym c.is_open-2.ensures ∙ w.if-is_open.false)))
+          c.self.inside.source c.take-draws.new.source false comes low c.push.ensures entry c.take-draws.ensures.drawn c.take-draws.ensures.uuids (any-serial c.take-draws.new.self.watchers c.args.session.serial c.take-draws.new.self.sessions.open_sessions ∙ (sym c.is_open-2.ensures ∙ w.if-is_open.false)))
     ]
 
 pub invariant_of-self : goal.invariant_of-self
@@ -25,6 +25,6 @@ invariant_of-self g c =
     let comes = rw c.into_parts-message.ensures.message at c.take-draws.ensures.comes_to in
     let entry = entered_as c.args.moment c.args.session.serial c.args.received _ c.take-draws.result.items _ c.entry_with_choice.result c.entry_with_choice.ensures c.into_parts-message.ensures.text in (
       has_entered g.K.Keeper.failed (Take c.args.session.serial c.args.received) c.self.inside.live c.take-draws.new.self c.self.inside.moment c.args.moment c.take-draws.result.items c.take-draws.new.attempts.items comes c.self.inside.history c.push.new.self c.entry_with_choice.result
-          low c.push.ensures entry c.self.invariant.0,
+          low c.push.ensures entry c.take-draws.ensures.uuids c.self.invariant.0,
       comes.untried,
     )
