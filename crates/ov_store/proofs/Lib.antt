@@ -25,3 +25,4 @@ pub mod NumberLemmas
 pub mod KeyLemmas
 pub mod EmptyLemmas
 pub mod FileLemmas
+pub mod CauseLemmas

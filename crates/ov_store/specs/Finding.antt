@@ -1,5 +1,5 @@
 -- What the store of a connection that was just opened holds. What names no source is our own.
-use Rattle.std.specs.Prelude.{◌≡◌, ◌≢◌, ◌↔◌, ◌⊎◌, ◌++◌, ℕ, List, drop, IsTrue, Result, Ok, Err}
+use Rattle.std.specs.Prelude.{◌≡◌, ◌≢◌, ◌↔◌, ◌⊎◌, ◌++◌, ℕ, List, drop, Result, Ok, Err}
 use Rattle.std.specs.FinMap.{empty}
 use Rattle.sqlite.specs.Store.{Ghosts}
 use Rattle.sqlite.specs.declared.error.Error.{Error}
@@ -7,7 +7,6 @@ use Rattle.sqlite.specs.State.{HasCleanDisk, Opens, Survives}
 use Rattle.sqlite.specs.Held.{Held as Connected, state, IsNew}
 use Rattle.sqlite.specs.Effect.{Database, IsDatabase}
 use Rattle.sqlite.specs.Files.{AreFoundIn, IsOpened, over_files, file_state}
-use Rattle.sqlite.specs.Opening.{is_open_error}
 use Rattle.sqlite.specs.Start.{FindsIn}
 use Rattle.sqlite.specs.Steps.{IsEmpty}
 use Rattle.sqlite_disk.specs.declared.Disk as disk
@@ -21,6 +20,7 @@ use Rattle.ov_store.specs.Format.{IsFormat, held}
 use Rattle.ov_store.specs.Making.{IsNewFile}
 use Rattle.ov_store.specs.Querying.{IsAsBefore}
 use Rattle.ov_store.specs.Refusing.{fault_of_open}
+use Rattle.ov_store.specs.Causes.{IsLookRefused, IsUnopened, FailsToBegin}
 use Rattle.ov_store.specs.StoreState.{StoreState, MayFind}
 
 -- the text of a schema, and no line
@@ -89,10 +89,6 @@ pub record IsNobodyElses (image : Image) : Type 0 where
 abbrev pub HasText : List ℕ → List ℕ → Type 0
 HasText text bytes = (at : ℕ) × (rest : List ℕ) × (drop at bytes ≡ text ++ rest)
 
--- SQLite refuses to open the files
-abbrev pub IsOpenRefused : KeepFault → Type 0
-IsOpenRefused fault = (error : Error) × IsTrue (is_open_error error) × (fault ≡ fault_of_open error)
-
 module _ {D : Type 0} {g : disk.Ghosts D} where
   -- SQLite opened the files and found what they held, and that has no store
   pub record IsFoundRefused (image : Image) (text : List ℕ) (fault : KeepFault) (found left : Connected (FileStore D g)) : Type 0 where
@@ -101,12 +97,12 @@ module _ {D : Type 0} {g : disk.Ghosts D} where
     pub holds : HasCleanDisk (file_state found) → FindsIn image (file_state found)
     pub refused : IsRefused over_files text found left fault
 
-  -- a refusal is one of the two
+  -- a refusal is one of the three: of a copy, of the files as they were opened, or of what they held
   abbrev pub IsFileRefused : Image → List ℕ → Result (StoreState (FileStore D g)) KeepFault → Type 0
   IsFileRefused image text (Ok s) = Unit {0}
-  IsFileRefused image text (Err fault) = IsOpenRefused fault ⊎ ((found : Connected (FileStore D g)) × (left : Connected (FileStore D g)) × IsFoundRefused image text fault found left)
+  IsFileRefused image text (Err fault) = (IsLookRefused fault ⊎ IsUnopened g image fault) ⊎ ((found : Connected (FileStore D g)) × (left : Connected (FileStore D g)) × IsFoundRefused image text fault found left)
 
   -- of a connection that has no table
   abbrev pub IsMemoryRefused : List ℕ → Result (StoreState (FileStore D g)) KeepFault → Type 0
   IsMemoryRefused text (Ok s) = Unit {0}
-  IsMemoryRefused text (Err fault) = ((error : Error) × (fault ≡ fault_of_open error)) ⊎ ((found : Connected (FileStore D g)) × (left : Connected (FileStore D g)) × IsEmpty (file_state found) × IsRefused over_files text found left fault)
+  IsMemoryRefused text (Err fault) = ((error : Error) × FailsToBegin g error × (fault ≡ fault_of_open error)) ⊎ ((found : Connected (FileStore D g)) × (left : Connected (FileStore D g)) × IsEmpty (file_state found) × IsRefused over_files text found left fault)

@@ -9,5 +9,6 @@ pub mod Querying
 pub mod LineColumns
 pub mod Making
 pub mod Refusing
+pub mod Causes
 pub mod Finding
 pub mod Whole

@@ -7,7 +7,8 @@ ghost use Rattle.sqlite.specs.Start.{FindsIn};
 ghost use Rattle.sqlite.specs.State.{HasCleanDisk};
 ghost use Rattle.ov_keeper.specs.Keeping.{IsCommitFault};
 ghost use Rattle.ov_store.specs.StoreState.{MayFind};
-ghost use Rattle.ov_store.specs.Finding.{new_contents, HasNoTable, IsStoredIn, IsOpenRefused, IsFileRefused, IsMemoryRefused};
+ghost use Rattle.ov_store.specs.Finding.{new_contents, HasNoTable, IsStoredIn, IsFileRefused, IsMemoryRefused};
+ghost use Rattle.ov_store.specs.Causes.{IsOpenRefused, IsUnopened};
 ghost use Rattle.ov_store.specs.Refusing.{fault_of_open};
 
 use crate::look::test_file;
@@ -18,6 +19,7 @@ use crate::store::Store;
 use ov_base::Text;
 use ov_keeper::{KeepFault, Keeper};
 use sqlite::{Connection, Error, ErrorCode, FileFrom, FileStore, Start};
+use sqlite_disk::Disk;
 use std::alloc::Global;
 
 /// What an error of SQLite at an open is.
@@ -38,8 +40,10 @@ pub(crate) fn fault_of_open(error: &Error) -> KeepFault
 /// the two held, as in the kit's `open_from`. Each page of a new file ends in a sum of its bytes, as SQLite's cksumvfs
 /// writes it, and a file with sums is `NotOurs` where one is wrong.
 ///
-/// `NotOurs` where the file holds no database. A path of `:memory:`, one that begins with `file:`, a folder, and a file that
-/// another process has open are `Device`, as is all that the system refuses.
+/// `NotOurs` where the file holds no database, and where a read returned other bytes than an earlier one. A path of `:memory:`,
+/// one that begins with `file:`, a folder, and a file that another process has open are `Device`, as are all that the system
+/// refuses, and a file at a limit of SQLite. Of files that were opened the contract says so under an honest device; what kept
+/// the system from giving them it does not say.
 pub fn open_file<S: Start>(
     rt: &HostRuntime,
     path: &str,
@@ -50,6 +54,7 @@ pub fn open_file<S: Start>(
     ensures found { IfOk result (λ c. HasCleanDisk (file_state c) → FindsIn (image_at S.Start) (file_state c)) }
     ensures sums { IfOk result (λ c. HasCleanDisk (file_state c) → IsBlankAs true (image_at S.Start) → IsTrue (view c.store).has_sums) }
     ensures refused { IfErr result IsOpenRefused }
+    ensures cause { IfErr result (IsUnopened ⟦<FileFrom<S> as Disk>⟧ (image_at S.Start)) }
     ensures memory { path.now ≡ codes ":memory:" → result ≡ Err KeepFault.Device }
 {
     match Connection::open_from(rt, path, true, start) {
@@ -60,6 +65,9 @@ pub fn open_file<S: Start>(
 
 /// The store of the file at a path, as `store_over` gives it of `open_file`. A new one is made only where the files have no
 /// table, index or view. A file that is somebody else's is found before anything is written, and left as it is.
+///
+/// It is found in a copy, and what the contract says of such a refusal is said of the bytes of the copy: nothing ties a path to
+/// what its file holds.
 pub fn store_in_file<S: Start>(
     rt: &HostRuntime,
     path: &str,
@@ -76,9 +84,9 @@ pub fn store_in_file<S: Start>(
     store_over_files(rt.alloc(), connection, schema)
 }
 
-/// A new store in memory, with this text of a schema and no line. It is refused when out of memory, and as `store_over` is
-/// by a device. Whatever is promised under an honest device needs no premise over it: in memory each one is honest, this store
-/// and what becomes of it.
+/// A new store in memory, with this text of a schema and no line. It is refused when out of memory, at a limit of SQLite, and as
+/// `store_over` is by a device. Whatever is promised under an honest device needs no premise over it: in memory each one is
+/// honest, this store and what becomes of it.
 pub fn store_in_memory(
     alloc: Global,
     schema: Text,

@@ -3,16 +3,18 @@
 ghost use Rattle.std.specs.Prelude.{◌≡◌, ◌≢◌, ◌⊎◌, IfErr, IsTrue, OnOk};
 ghost use Rattle.sqlite.specs.declared.error.Error.TheVariants.{SqliteFailure};
 ghost use Rattle.sqlite.specs.Opening.{is_open_error};
-ghost use Rattle.ov_store.specs.Finding.{HasText, IsNobodyElses, IsOpenRefused};
+ghost use Rattle.ov_store.specs.Causes.{IsCopyRefused, IsLookRefused, IsOpenRefused};
+ghost use Rattle.ov_store.specs.Finding.{HasText, IsNobodyElses};
 ghost use Rattle.ov_store.specs.Refusing.{fault_of_open};
 ghost use Rattle.ov_store.specs.Tables.{no_schema, HasOurTables, create_meta, create_line};
 
 use crate::file::fault_of_open;
 use crate::make::{CREATE_LINE, CREATE_META};
+use crate::memory::open_memory_files;
 use crate::memory_disk::MemoryDisk;
 use crate::schema::{is_blank, is_ours};
 use ov_keeper::KeepFault;
-use sqlite::{Alter, Connection, Error, ErrorCode, FileStore, Files, Options};
+use sqlite::{Alter, Connection, Error, ErrorCode, FileStore, Files};
 use sqlite_disk::Disk;
 use sqlite_schema::schema::Schema;
 use std::alloc::Global;
@@ -32,13 +34,12 @@ const LOG_HEADER: u64 = 56;
 /// file is opened here as a copy in memory; but where it lists its tables on its first page, and has no log, at once.
 pub(crate) fn test_file(rt: &HostRuntime, path: &str) -> Result<(), KeepFault>
     ensures refused { IfErr result IsOpenRefused }
+    ensures cause { IfErr result IsLookRefused }
 {
     match read_to_test(rt, path) {
         Ok(None) => Ok(()),
         Ok(Some(files)) => test_copies(rt.alloc(), files),
-        Err(error) if error.kind() == ErrorKind::OutOfMemory => Err(refusal(
-            ErrorCode::OutOfMemory,
-        )),
+        Err(error) if error.kind() == ErrorKind::OutOfMemory => Err(no_memory()),
         // What can't be read can't be opened for writing, and that changes nothing.
         Err(_) => Ok(()),
     }
@@ -51,6 +52,15 @@ fn refusal(code: ErrorCode) -> KeepFault
     ensures refused { IsOpenRefused result }
 {
     fault_of_open(&Error::SqliteFailure(code))
+}
+
+/// The same, where memory for the copies was refused.
+fn no_memory() -> KeepFault
+    ensures value { result ≡ KeepFault.Memory }
+    ensures refused { IsOpenRefused result }
+    ensures look { IsLookRefused result }
+{
+    refusal(ErrorCode::OutOfMemory)
 }
 
 /// The bytes of a file and of its log.
@@ -131,15 +141,17 @@ fn has_text(bytes: &[u8], text: &[u8]) -> bool
 fn test_copies(alloc: Global, files: Copies) -> Result<(), KeepFault>
     ensures passes { OnOk result (IsNobodyElses (record { log = files.log.items; db = files.db.items })) }
     ensures refused { IfErr result IsOpenRefused }
+    ensures cause { IfErr result (IsCopyRefused (record { log = files.log.items; db = files.db.items })) }
+    ensures look { IfErr result IsLookRefused }
 {
     let Copies { log, db } = files;
     let files = Files {
         log: MemoryDisk::holding(log),
         db: MemoryDisk::holding(db),
     };
-    match Connection::open_files(alloc, files, Options::new(1)) {
+    match open_memory_files(alloc, files) {
         Ok(connection) => test_over_files(connection),
-        Err((error, _)) => Err(fault_of_open(&error)),
+        Err(error) => Err(fault_of_open(&error)),
     }
 }
 
@@ -148,6 +160,7 @@ fn test_copies(alloc: Global, files: Copies) -> Result<(), KeepFault>
 /// It stands apart for the reason that `store_over_files` does.
 fn test_over_files<D: Disk + Drop>(connection: Connection<FileStore<D>>) -> Result<(), KeepFault>
     ensures passes { OnOk result ((connection.schema ≡ no_schema) ⊎ HasOurTables connection.schema) }
+    ensures foreign { IfErr result (λ fault. (fault ≡ KeepFault.NotOurs) × (connection.schema ≢ no_schema) × (¬ HasOurTables connection.schema)) }
     ensures refused { IfErr result IsOpenRefused }
 {
     test_over(connection)
@@ -156,6 +169,7 @@ fn test_over_files<D: Disk + Drop>(connection: Connection<FileStore<D>>) -> Resu
 /// The same over any store.
 fn test_over<S: Alter + Drop>(connection: Connection<S>) -> Result<(), KeepFault>
     ensures passes { OnOk result ((connection.schema ≡ no_schema) ⊎ HasOurTables connection.schema) }
+    ensures foreign { IfErr result (λ fault. (fault ≡ KeepFault.NotOurs) × (connection.schema ≢ no_schema) × (¬ HasOurTables connection.schema)) }
     ensures refused { IfErr result IsOpenRefused }
 {
     test_schema(connection.schema())

@@ -1,26 +1,61 @@
-ghost use Rattle.std.specs.Prelude.{IfOk};
-ghost use Rattle.sqlite.specs.Files.{file_state};
+ghost use Rattle.std.specs.Prelude.{◌≡◌, IfOk, IfErr, IsTrue};
+ghost use Rattle.sqlite.specs.Files.{file_state, image_of, Finds, IsOpened};
 ghost use Rattle.sqlite.specs.Held.{IsNew};
+ghost use Rattle.sqlite.specs.Opening.{is_open_error};
 ghost use Rattle.sqlite.specs.State.{HasCleanDisk};
 ghost use Rattle.sqlite.specs.Steps.{IsEmpty};
+ghost use Rattle.ov_store.specs.Causes.{error_in_memory, FailsInMemory, FailsToBegin};
 
 use crate::memory_disk::MemoryDisk;
-use sqlite::{Connection, Error, FileStore, Files, Options};
+use sqlite::{Connection, Error, ErrorCode, FileStore, Files, Options};
+use sqlite_disk::Disk;
 use std::alloc::Global;
 
+/// What refused files in memory: SQLite tells of the device where one can't grow.
+fn error_in_memory(error: Error) -> Error
+    ensures value { result ≡ error_in_memory error }
+    ensures named { IsTrue (is_open_error error) → IsTrue (is_open_error result) }
+{
+    match error {
+        Error::SqliteFailure(ErrorCode::SystemIoFailure) => {
+            Error::SqliteFailure(ErrorCode::OutOfMemory)
+        }
+        other => other,
+    }
+}
+
+/// A connection to files in memory. They are refused when out of memory, as no database, and with `DiskFull` where they are
+/// at a limit of SQLite.
+pub(crate) fn open_memory_files(
+    alloc: Global,
+    files: Files<MemoryDisk>,
+) -> Result<Connection<FileStore<MemoryDisk>>, Error>
+    ensures new { IfOk result IsNew }
+    ensures opened { IfOk result (λ c. HasCleanDisk (file_state c) → IsOpened c) }
+    ensures found { IfOk result (λ c. HasCleanDisk (file_state c) → Finds files c) }
+    ensures named { IfErr result (λ e. IsTrue (is_open_error e)) }
+    ensures cause { IfErr result (FailsInMemory ⟦<MemoryDisk as Disk>⟧ (image_of ⟦<MemoryDisk as Disk>⟧ files)) }
+{
+    match Connection::open_files(alloc, files, Options::new(1)) {
+        Ok(opened) => Ok(opened),
+        Err((error, _)) => Err(error_in_memory(error)),
+    }
+}
+
 /// A database in memory, with no table yet: its file and its log, each a file in memory. A change takes about as long in a
-/// large database as in a small one.
+/// large database as in a small one. It is refused when out of memory, or with `DiskFull`, at a limit of SQLite.
 pub fn open_in_memory(alloc: Global) -> Result<Connection<FileStore<MemoryDisk>>, Error>
     ensures new { IfOk result IsNew }
     ensures clean { IfOk result (λ c. HasCleanDisk (file_state c)) }
     ensures empty { IfOk result (λ c. IsEmpty (file_state c)) }
+    ensures cause { IfErr result (FailsToBegin ⟦<MemoryDisk as Disk>⟧) }
 {
     let files = Files {
         log: MemoryDisk::new(alloc),
         db: MemoryDisk::new(alloc),
     };
-    match Connection::open_files(alloc, files, Options::new(1)) {
+    match open_memory_files(alloc, files) {
         Ok(connection) => Ok(connection),
-        Err((error, _)) => Err(error),
+        Err(error) => Err(error),
     }
 }

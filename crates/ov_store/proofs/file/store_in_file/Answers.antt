@@ -1,4 +1,5 @@
-use Rattle.std.proofs.lemmas.Result.{IfOk-weaker}
+use Rattle.std.proofs.Common.{inl, inr}
+use Rattle.std.proofs.lemmas.Result.{IfOk-weaker, err_from_is_err_and}
 use Rattle.sqlite_wal.specs.Files.{image_at}
 use Rattle.sqlite.specs.Files.{over_files}
 use Rattle.ov_store.proofs.FileLemmas.{found_in, file_refused}
@@ -14,3 +15,8 @@ pub returns-clause-refused : goal.returns-clause-refused
 returns-clause-refused g c =
     let it = c.in_ok-connection.ensures in
     file_refused (image_at g.S.Start) c.args.schema c.in_ok-connection.connection c.store_over_files.result it.new it.opened it.found c.store_over_files.ensures.refused
+
+pub returns-in_err-connection-clause-refused : goal.returns-in_err-connection-clause-refused
+returns-in_err-connection-clause-refused g c =
+    let p = err_from_is_err_and c.from_residual-in_err-connection.result c.from_residual-in_err-connection.ensures.1 in
+    rw (p.1, p.2) (inl (inr c.in_err-connection.ensures.cause))

@@ -1,8 +1,9 @@
-use Rattle.std.proofs.Common.{refl}
+use Rattle.std.proofs.Common.{refl, inl, length, ap}
 use Rattle.sqlite_pool.specs.Pool.{state}
 use Rattle.sqlite_trees.proofs.Doubt.{no_doubt}
 use Rattle.sqlite.specs.State.{HasCleanDisk}
 use Rattle.sqlite.specs.Files.{file_state}
+use Rattle.ov_store.proofs.CauseLemmas.{fails_to_begin}
 use Rattle.ov_store.proofs.EmptyLemmas.{opens_empty}
 use Rattle.ov_store.proofs.memory.open_in_memory.Goals as goal
 
@@ -16,3 +17,6 @@ returns-in-Ok-clause-empty c =
     let clean : HasCleanDisk (file_state c.in-Ok.connection) = no_doubt _ refl in
     let opened = c.in-Ok.ensures.opened clean in
     opens_empty _ (file_state c.in-Ok.connection) c.new-2.ensures.empty opened.0 opened.1 (c.in-Ok.ensures.found clean).reads
+
+pub returns-in-Err-clause-cause : goal.returns-in-Err-clause-cause
+returns-in-Err-clause-cause c = fails_to_begin _ c.in-Err.error (inl (inl (ap length c.new-2.ensures.empty))) c.in-Err.ensures.cause

@@ -1,0 +1,84 @@
+-- Why files are refused at an open, by what the program answers. What names no source is our own.
+use Rattle.std.specs.Prelude.{◌≡◌, ◌≢◌, ◌⊎◌, ◌<◌, ⊤, IsTrue}
+use Rattle.sqlite.specs.declared.error.ErrorCode.TheVariants.{OutOfMemory, NotADatabase, DatabaseCorrupt, DiskFull, SystemIoFailure}
+use Rattle.sqlite.specs.declared.error.Error.{Error}
+use Rattle.sqlite.specs.declared.error.Error.TheVariants.{SqliteFailure}
+use Rattle.sqlite.specs.declared.file.Leftover.{Leftover}
+use Rattle.sqlite.specs.Effect.{Database, IsDatabase}
+use Rattle.sqlite.specs.Files.{HoldsDatabase, IsNothing, AreFoundIn, IsCleanLeft, IsFullLeft, faults_left, tally_left}
+use Rattle.sqlite.specs.Opening.{is_open_error}
+use Rattle.sqlite_disk.specs.declared.Disk as disk
+use Rattle.sqlite_trees.specs.Tree.{Trees}
+use Rattle.sqlite_wal.specs.Recovery.{Image}
+use Rattle.ov_keeper.specs.declared.fault.KeepFault.{KeepFault}
+use Rattle.ov_keeper.specs.declared.fault.KeepFault.TheVariants.{Memory, Device, NotOurs}
+use Rattle.ov_store.specs.Refusing.{fault_of_open}
+use Rattle.ov_store.specs.Tables.{no_schema, HasOurTables}
+
+-- the files hold a database, or none was made yet
+abbrev pub IsOpenable : Image → Type 0
+IsOpenable image = ((db : Trees) × HoldsDatabase image db) ⊎ IsNothing image
+
+-- what the files recover to is somebody else's: it has a table, an index or a view, and not the tables of the format
+pub record IsSomebodyElses (image : Image) : Type 0 where
+  pub db : Database
+  pub sound : IsDatabase db
+  pub found : AreFoundIn image db.trees
+  pub some : db.schema ≢ no_schema
+  pub foreign : ¬ HasOurTables db.schema
+
+-- why a copy in memory of a file and its log is refused; the device is named where the copy is at a limit of SQLite
+abbrev pub IsCopyRefused : Image → KeepFault → Type 0
+IsCopyRefused copy Memory = ⊤
+IsCopyRefused copy Device = ⊤
+IsCopyRefused copy NotOurs = (¬ IsOpenable copy) ⊎ IsSomebodyElses copy
+IsCopyRefused copy _ = ⊥
+
+-- the fault is what an error of SQLite at an open is
+abbrev pub IsOpenRefused : KeepFault → Type 0
+IsOpenRefused fault = (error : Error) × IsTrue (is_open_error error) × (fault ≡ fault_of_open error)
+
+-- a copy was refused so
+abbrev pub IsLookRefused : KeepFault → Type 0
+IsLookRefused fault = IsOpenRefused fault × ((copy : Image) × IsCopyRefused copy fault)
+
+-- a file in memory fails only where it can't grow
+abbrev pub error_in_memory : Error → Error
+error_in_memory (SqliteFailure SystemIoFailure) = SqliteFailure OutOfMemory
+error_in_memory e = e
+
+module _ {D : Type 0} {g : disk.Ghosts D} where
+  -- a call on the files failed
+  abbrev pub HasFault : Leftover D g → Type 0
+  HasFault left = 0 < faults_left left
+
+  -- a read returned other bytes than those that had been read or written there
+  abbrev pub HasCaught : Leftover D g → Type 0
+  HasCaught left = (tally_left left).caught ≢ 0
+
+  -- of files that held this, what is left explains the fault
+  abbrev pub Explains : Image → Leftover D g → KeepFault → Type 0
+  Explains image left Memory = ⊤
+  Explains image left Device = HasFault left ⊎ IsFullLeft left
+  Explains image left NotOurs = (¬ IsOpenable image) ⊎ (HasFault left × HasCaught left)
+  Explains image left _ = ⊥
+
+module _ {D : Type 0} (g : disk.Ghosts D) where
+  -- why files that held this were not opened: the system did not give them, or what is left of them explains the fault, where
+  -- their device was honest
+  abbrev pub IsUnopened : Image → KeepFault → Type 0
+  IsUnopened image fault = IsOpenRefused fault
+      × (((fault ≡ Memory) ⊎ (fault ≡ Device)) ⊎ ((left : Leftover D g) × (IsCleanLeft left → Explains image left fault)))
+
+  -- files are at a limit of SQLite
+  abbrev pub MeetsLimit : Error → Type 0
+  MeetsLimit e = (e ≡ SqliteFailure DiskFull) × ((left : Leftover D g) × IsFullLeft left)
+
+  -- why files in memory that held this are not opened
+  abbrev pub FailsInMemory : Image → Error → Type 0
+  FailsInMemory image e =
+      (e ≡ SqliteFailure OutOfMemory) ⊎ ((((e ≡ SqliteFailure NotADatabase) ⊎ (e ≡ SqliteFailure DatabaseCorrupt)) × (¬ IsOpenable image)) ⊎ MeetsLimit e)
+
+  -- and empty ones
+  abbrev pub FailsToBegin : Error → Type 0
+  FailsToBegin e = (e ≡ SqliteFailure OutOfMemory) ⊎ MeetsLimit e
