@@ -1,10 +1,10 @@
 -- Why files are refused at an open.
-use Rattle.std.proofs.Common.{◌≡◌, ◌≢◌, ◌⊎◌, inl, inr, ℕ, ◌<◌, ◌∙◌, sym, ap, ap₂, subst, refl, arith, Result, Ok, Err, IfErr, List}
+use Rattle.std.proofs.Common.{◌≡◌, ◌≢◌, ◌⊎◌, inl, inr, ℕ, ◌∙◌, sym, ap, ap₂, subst, refl, arith, Result, Ok, Err, IfErr, List}
 use Rattle.std.proofs.lemmas.Bool.{cond_both, eqb-false}
-use Rattle.std.specs.Prelude.{IsTrue, ◌==◌, ◌+◌, IfSome, Option, Some, None}
+use Rattle.std.specs.Prelude.{IsTrue, ◌==◌, IfSome, Option, Some, None}
 use Rattle.sqlite.specs.declared.error.Error.{Error}
 use Rattle.sqlite.specs.declared.error.Error.TheVariants.{SqliteFailure}
-use Rattle.sqlite.specs.declared.error.ErrorCode.TheVariants.{OutOfMemory, NotADatabase, DatabaseCorrupt, DiskFull, CannotOpen, DatabaseBusy}
+use Rattle.sqlite.specs.declared.error.ErrorCode.TheVariants.{OutOfMemory, CannotOpen, DatabaseBusy}
 use Rattle.sqlite.specs.declared.file.Leftover.{Leftover}
 use Rattle.sqlite.specs.declared.file.Leftover.TheVariants as rest
 use Rattle.sqlite.specs.Files.{image_of, faults_of, faults_left, tally_left, IsCleanLeft, IsFullLeft, FailsToOpenFiles, IsNothing, AreFoundIn}
@@ -23,12 +23,12 @@ use Rattle.sqlite_store.specs.Unopened.{files_of}
 use Rattle.sqlite_store.specs.declared.store.FileStore.{FileStore}
 use Rattle.sqlite_store.specs.declared.store.open.Unopened.{Unopened}
 use Rattle.sqlite_trees.specs.declared.error.StoreError.{StoreError}
-use Rattle.sqlite_trees.specs.declared.error.StoreError.TheVariants.{Io, Corrupt, Full}
+use Rattle.sqlite_trees.specs.declared.error.StoreError.TheVariants.{Io, Full}
 use Rattle.sqlite_wal.specs.Reads.{tally_of_files}
 use Rattle.sqlite_wal.specs.Recovery.{Image}
 use Rattle.ov_keeper.specs.declared.fault.KeepFault.{KeepFault}
-use Rattle.ov_keeper.specs.declared.fault.KeepFault.TheVariants.{Memory, Device, NotOurs}
-use Rattle.ov_store.specs.Causes.{IsOpenable, HasFault, HasCaught, Explains, IsUnopened, MeetsLimit, FailsInMemory, FailsToBegin, IsCopyRefused, IsOpenRefused, IsLookRefused, error_in_memory}
+use Rattle.ov_keeper.specs.declared.fault.KeepFault.TheVariants.{NotOurs}
+use Rattle.ov_store.specs.Causes.{IsOpenable, HasFault, Explains, IsUnopened, FailsInMemory, FailsToBegin, IsCopyRefused, IsOpenRefused, IsLookRefused, error_in_memory}
 use Rattle.ov_store.specs.Refusing.{fault_of_open}
 
 abbrev pub none_met : Tally
@@ -67,11 +67,14 @@ module _ {D : Type 0} {g : disk.Ghosts D} where
       → (left ≡ None → (e ≡ SqliteFailure CannotOpen) ⊎ ((e ≡ SqliteFailure OutOfMemory) ⊎ (e ≡ SqliteFailure DatabaseBusy)))
       → ((it : Leftover D g) → Cause it → (files : Files D) × IsStart g image files × (IsCleanLeft it → FailsToOpenFiles files it e)) → IfSome left Cause
       → IsTrue (is_open_error e) → IsUnopened g image (fault_of_open e)
-  unopened image None e Cause kind tells cause named = ((e, named, refl), elim (kind refl) [
-    | inl is ↦ inl (inr (ap fault_of_open is))
-    | inr (inl is) ↦ inl (inl (ap fault_of_open is))
-    | inr (inr is) ↦ inl (inr (ap fault_of_open is))
-  ])
+  unopened image None e Cause kind tells cause named = (
+    (e, named, refl),
+    elim (kind refl) [
+      | inl is ↦ inl (inr (ap fault_of_open is))
+      | inr (inl is) ↦ inl (inl (ap fault_of_open is))
+      | inr (inr is) ↦ inl (inr (ap fault_of_open is))
+    ],
+  )
   unopened image (Some it) e Cause kind tells cause named = let told = tells it cause in ((e, named, refl), inr (it, λ clean. explained image told.0 it e told.1.0 told.1.1 told.1.2 (told.2 clean)))
 
   -- files in memory meet neither damage nor a full disk

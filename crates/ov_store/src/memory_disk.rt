@@ -30,10 +30,7 @@ impl MemoryDisk {
     pub(crate) fn holding(bytes: Vec<u8>) -> MemoryDisk
         ensures holds { ⟦<MemoryDisk as Disk>⟧.seen result ≡ bytes.items }
     {
-        MemoryDisk {
-            bytes,
-            faults: 0,
-        }
+        MemoryDisk { bytes, faults: 0 }
     }
 }
 
