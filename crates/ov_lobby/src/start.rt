@@ -10,6 +10,7 @@ use rtrb::{Consumer, Producer};
 use std::alloc::Global;
 use std::sync::Wait;
 use std::sync::ledger::{Ledger, Share};
+use std::thread;
 use std::thread::{Scope, Threads};
 
 /// Reads until the stream ends. The reader is closed before the ring is given up: whoever finds the ring given up knows that.
@@ -104,11 +105,19 @@ where
     scope.spawn(job).is_ok()
 }
 
-/// Tells a writer to end to which nothing was sent.
+/// Tells a writer to end to which nothing was sent, and waits until it has ended. Having written nothing, it doesn't wait for its
+/// client. It is waited for since whoever gets the place next has the same bell: of two writers one would take the other's ring.
 fn end_writer<R: Wait>(rt: &R, bell: &Bell, outbound: Producer<Sent>) {
     let mut outbound = outbound;
     let _ = outbound.push(Sent::End);
     bell.ring(rt);
+    for _ in rt.forever() {
+        if outbound.is_abandoned() {
+            return;
+        }
+        thread::yield_now();
+    }
+    unreachable!()
 }
 
 /// Starts both workers of a session, and gives the end of its writer's ring back. Where a thread is refused both ends of the link
