@@ -1,4 +1,4 @@
-ghost use Rattle.std.specs.Prelude.{◌≡◌, ◌<◌, false, IfErr};
+ghost use Rattle.std.specs.Prelude.{◌≡◌, ◌<◌, false, Some, None, IfErr, MatchBool};
 
 use crate::listen::Listen;
 use ov_desk::Link;
@@ -18,13 +18,13 @@ pub(crate) type Accepted<S, W> = Brought<Link<S, W>, ()>;
 /// What the accepting worker hands back.
 #[derive(Drop)]
 pub(crate) struct AcceptEnd<T> {
-    /// The listener.
-    pub listener: T,
-    /// Whether it might begin. Where it might not, the listener was asked nothing.
+    /// The listener, which was asked nothing. None where it was asked, and then it was dropped.
+    pub listener: Option<T>,
+    /// Whether it might begin.
     pub begun: bool,
 }
 
-/// Brings the desk what the listener gives, and last that there will be nothing any more.
+/// Brings the desk what the listener gives, until that gives nothing any more.
 fn accept_all<R: Wait, L: Ledger, S: Drop, W: Drop, T: Listen<S, W>>(
     rt: &R,
     order: &Order<L>,
@@ -33,10 +33,10 @@ fn accept_all<R: Wait, L: Ledger, S: Drop, W: Drop, T: Listen<S, W>>(
     share: &mut Share<L>,
 )
     requires { 0 < share.old.parts }
+    ensures { share.new.parts ≡ share.old.parts }
 {
     for _ in rt.forever() {
         let Some(link) = listener.accept() else {
-            order.bring(rt, ring, share, LOBBY, Brought::End(()));
             return;
         };
         order.bring(rt, ring, share, LOBBY, Brought::Message(link));
@@ -45,8 +45,11 @@ fn accept_all<R: Wait, L: Ledger, S: Drop, W: Drop, T: Listen<S, W>>(
 }
 
 /// Waits until it is said whether the workers may begin. Where they may, it brings the desk what the listener gives, until that
-/// gives nothing any more. It waits where 64 connections wait for the desk.
-fn accept_worker<R: Wait, L: Ledger, S: Drop, W: Drop, T: Listen<S, W>>(
+/// gives nothing any more, and last that there will be nothing. It waits where 64 connections wait for the desk.
+///
+/// A listener that gives nothing any more is dropped at once: whoever connects while the open sessions are still served is to be
+/// refused, and not to wait for an answer that nobody gives.
+fn accept_worker<R: Wait, L: Ledger, S: Drop, W: Drop, T: Listen<S, W> + Drop>(
     rt: &R,
     order: &Order<L>,
     listener: T,
@@ -54,16 +57,25 @@ fn accept_worker<R: Wait, L: Ledger, S: Drop, W: Drop, T: Listen<S, W>>(
     share: Share<L>,
 ) -> AcceptEnd<T>
     requires { 0 < share.parts }
-    ensures { result.begun ≡ false → result.listener ≡ listener }
+    ensures { MatchBool result.begun (result.listener ≡ None) (result.listener ≡ Some listener) }
 {
     let mut listener = listener;
     let mut ring = ring;
     let mut share = share;
     let begun = order.wait_begin(rt);
-    if begun {
-        accept_all(rt, order, &mut listener, &mut ring, &mut share);
+    if !begun {
+        return AcceptEnd {
+            listener: Some(listener),
+            begun,
+        };
     }
-    AcceptEnd { listener, begun }
+    accept_all(rt, order, &mut listener, &mut ring, &mut share);
+    drop(listener);
+    order.bring(rt, &mut ring, &mut share, LOBBY, Brought::End(()));
+    AcceptEnd {
+        listener: None,
+        begun,
+    }
 }
 
 /// What an accepting worker hands back that was told not to begin. One that began is waited for without end: none does once that
@@ -110,7 +122,13 @@ where
         Err(refused) => {
             order.lock(rt).begin(false);
             order.wake();
-            let AcceptEnd { listener, begun: _ } = unbegun(rt, (refused.value)());
+            let AcceptEnd {
+                listener: Some(listener),
+                begun: _,
+            } = unbegun(rt, (refused.value)())
+            else {
+                unreachable!()
+            };
             Err(listener)
         }
     }

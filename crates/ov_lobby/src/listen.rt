@@ -2,6 +2,7 @@ use ov_desk::Link;
 
 /// Gives connections, one after another.
 pub trait Listen<S, W> {
-    /// The two ends of the next connection, once there is one. None where there will be none any more; then it isn't asked again.
+    /// The two ends of the next connection, once there is one. None where there will be none any more; then it isn't asked again,
+    /// but dropped.
     fn accept(&mut self) -> Option<Link<S, W>>;
 }

@@ -277,7 +277,8 @@ where
 /// free for another. A session that is closed before its input ends keeps its place until that ends.
 ///
 /// A connection for which there is no place, or for which the machine, memory or a thread is refused, is dropped at once, with
-/// nothing read of it or written to it. Up to 64 connections wait for the desk; then the listener isn't asked for another.
+/// nothing read of it or written to it. Up to 64 connections wait for the desk; then the listener isn't asked for another. Once it
+/// gives none it is dropped, though sessions may still be served: whoever connects from then on is to be refused by the system.
 ///
 /// Each reader and each writer works in a thread of its own, the listener in one more, and the machine in this one. The clock tells
 /// the desk the moment of what it takes, in milliseconds. While a transaction that waits may run out the desk does not sleep.
