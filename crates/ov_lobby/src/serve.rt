@@ -1,4 +1,5 @@
-ghost use Rattle.std.specs.Prelude.{◌≡◌, ◌<◌, ◌-◌, ◌^◌, IfOk, IfErr, OnOk};
+ghost use Rattle.std.specs.Prelude.{◌≡◌, ◌⊎◌, ◌<◌, ◌-◌, ◌^◌, IfOk, IfErr, OnOk};
+ghost use Rattle.ov_desk.specs.declared.fault.ServeFault.TheVariants as serve_fault;
 ghost use Rattle.ov_lobby.specs.Places.{AreFree, ServesPlaces};
 ghost use Rattle.ov_lobby.specs.Serving.{ServesLobby};
 
@@ -104,6 +105,7 @@ where
     requires places { AreFree hall.places.items }
     ensures served { IfOk result (λ desk. ServesLobby core desk.core) }
     ensures refused { IfErr result (λ r. (r.desk.core ≡ core) × (r.listener ≡ listener)) }
+    ensures fault { IfErr result (λ r. r.fault ≡ serve_fault.Threads) }
 {
     let mut core = core;
     let mut hall = hall;
@@ -147,6 +149,7 @@ where
     requires places { AreFree hall.places.items }
     ensures served { IfOk result (λ desk. ServesLobby core desk.core) }
     ensures refused { IfErr result (λ r. (r.desk.core ≡ core) × (r.listener ≡ listener)) }
+    ensures fault { IfErr result (λ r. r.fault ≡ serve_fault.Threads) }
 {
     thread::scope(
         thread::scope_env(),
@@ -156,6 +159,7 @@ where
             requires places { AreFree hall.places.items }
             ensures served { IfOk result (λ desk. ServesLobby core desk.core) }
             ensures refused { IfErr result (λ r. (r.desk.core ≡ core) × (r.listener ≡ listener)) }
+            ensures fault { IfErr result (λ r. r.fault ≡ serve_fault.Threads) }
         {
             serve_moved(
                 rt, alloc, scope, order, bells, gate, core, hall, listener, ring, share, clock,
@@ -239,6 +243,7 @@ where
     requires parts { (blank.parts ≡ L.parts) × (blank.parts ≡ 2 ^ 64 - 1) }
     ensures served { IfOk result (λ desk. ServesLobby core desk.core) }
     ensures refused { IfErr result (λ r. (r.desk.core ≡ core) × (r.listener ≡ listener)) }
+    ensures fault { IfErr result (λ r. (r.fault ≡ serve_fault.Memory) ⊎ (r.fault ≡ serve_fault.Threads)) }
 {
     let (book, all) = blank.open::<L>();
     let Ok(room) = take_room(alloc, book) else {
@@ -303,6 +308,7 @@ where
     C: Clock,
     ensures served { IfOk result (λ d. ServesLobby desk.core d.core) }
     ensures refused { IfErr result (λ r. (r.desk.core ≡ desk.core) × (r.listener ≡ listener)) }
+    ensures fault { IfErr result (λ r. (r.fault ≡ serve_fault.Memory) ⊎ (r.fault ≡ serve_fault.Threads)) }
 {
     serve_as::<R, K, D, Brand, G, S, W, T, C>(
         rt,
