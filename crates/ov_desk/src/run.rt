@@ -25,18 +25,6 @@ fn place_of(lanes: &Vec<Lane>, serial: u64) -> Option<usize>
     }
 }
 
-/// The oldest note. Where a transaction that waits may time out, none is waited for.
-fn next_note<R: Wait, L: Ledger>(rt: &R, order: &Order<L>, may_time_out: bool) -> Option<u64> {
-    if !may_time_out {
-        return Some(order.wait_next(rt));
-    }
-    let note = order.lock(rt).next();
-    if note.is_none() {
-        thread::yield_now();
-    }
-    note
-}
-
 /// Rings the bell of each writer for which something was put.
 fn ring_bells<R: Wait, K: Keeper + Drop, D: Draws + Drop>(
     rt: &R,
@@ -119,7 +107,7 @@ pub(crate) fn run<R: Wait, K: Keeper + Drop, D: Draws + Drop, L: Ledger, C: Cloc
         if is_over(lanes) {
             return;
         }
-        let note = next_note(rt, order, core.due().is_some());
+        let note = order.next_note(rt, core.due().is_none());
         serve_note(rt, core, alloc, clock.now(), lanes, note);
         ring_bells(rt, core, lanes, bells);
     }

@@ -33,18 +33,6 @@ pub(crate) struct Hall<S, W, L: Ledger> {
     pub places: Vec<Option<Lane>>,
 }
 
-/// The oldest note. Where a transaction that waits may time out, none is waited for.
-fn next_note<R: Wait, L: Ledger>(rt: &R, order: &Order<L>, may_time_out: bool) -> Option<u64> {
-    if !may_time_out {
-        return Some(order.wait_next(rt));
-    }
-    let note = order.lock(rt).next();
-    if note.is_none() {
-        thread::yield_now();
-    }
-    note
-}
-
 /// Takes an item of the ring, once it is seen there.
 fn pop_once_seen<R: Wait, T: Drop>(rt: &R, ring: &mut Consumer<T>) -> T {
     for _ in rt.forever() {
@@ -207,7 +195,7 @@ where
         if hall.is_closed && are_over(&hall.places) {
             return;
         }
-        let note = next_note(rt, order, core.due().is_some());
+        let note = order.next_note(rt, core.due().is_none());
         let moment = clock.now();
         serve_note(
             rt, alloc, scope, order, bells, gate, core, hall, note, moment,
