@@ -70,17 +70,17 @@ module _ {K D : Type 0} {start a b : CoreState K D} (p : Since start a) (e : Ent
   turn : (n : ℕ) → Turn n a.state e b.state (is_open a.state n || eqb a.state.next n) (a.state.next + 1) [] None
   turn n = turn_open n a.state e (record { state = b.state; sent = x.sent }) x.stepped is
 
-  asks_same : (n : ℕ) → requests x.after.entries n ≡ requests p.entries n
+  pub asks_same : (n : ℕ) → requests x.after.entries n ≡ requests p.entries n
   asks_same n = x.asks n ∙ (ap (λ (l : List Message). requests p.entries n ++ l) (turn n).taken_is ∙ append-nil (requests p.entries n))
 
-  closed_same : (n : ℕ) → closed_by start.state x.after.entries n ≡ closed_by start.state p.entries n
+  pub closed_same : (n : ℕ) → closed_by start.state x.after.entries n ≡ closed_by start.state p.entries n
   closed_same n = x.closed n ∙ (ap (option_or (closed_by start.state p.entries n)) (turn n).cause_is ∙ option_or_none (closed_by start.state p.entries n))
 
   -- a session that was opened before is open just where it was
   others_same : (n : ℕ) → n ≢ a.state.next → is_open b.state n ≡ is_open a.state n
   others_same n ne = (turn n).open_is ∙ (ap (λ (k : Bool). is_open a.state n || k) (ne_eqb a.state.next n (λ same. ne (sym same))) ∙ or_nothing (is_open a.state n))
 
-  others_spared : (n : ℕ) → n ≢ a.state.next → Spares (course_of p n) (course_of x.after n)
+  pub others_spared : (n : ℕ) → n ≢ a.state.next → Spares (course_of p n) (course_of x.after n)
   others_spared n ne = record {
     more = frames_to n x.sent;
     waiting = x.waiting n;
@@ -93,11 +93,11 @@ module _ {K D : Type 0} {start a b : CoreState K D} (p : Since start a) (e : Ent
   untouched_still : ((n : ℕ) → IsUntouched (course_of p n)) → (n : ℕ) → IsUntouched (course_of x.after n)
   untouched_still untouched n = let u = untouched n in (closed_same n ∙ u.0, asks_same n ∙ u.1, x.handed n ∙ u.2)
 
-  is_there : is_open b.state a.state.next ≡ true
+  pub is_there : is_open b.state a.state.next ≡ true
   is_there = (turn a.state.next).open_is ∙ (ap (λ (k : Bool). is_open a.state a.state.next || k) (eq-eqb a.state.next a.state.next refl) ∙ or_truth (is_open a.state a.state.next))
 
 -- a session that was opened, and nothing else, is fitted by a new lane
-fits_new : (c : Course) → IsUntouched c → c.is_open ≡ true → FitsCourse c None [] [] false false
+pub fits_new : (c : Course) → IsUntouched c → c.is_open ≡ true → FitsCourse c None [] [] false false
 fits_new c u there = record {
   took = subst (λ (o : Option machine.Cause). Took o c.asks []) (sym u.0) (ap brought (sym u.1));
   puts = (ap framed (sym u.2), λ by. absurd (false≢true (sym (ap is_by_reader u.0) ∙ by)));

@@ -1,4 +1,5 @@
-//! The desk: it serves up to 64 sessions around one core, each with a reader's and a writer's worker in a thread of its own.
+//! The desk: it serves up to 64 sessions around one core, each with a reader's and a writer's worker in a thread of its own. A
+//! crate above that opens sessions of its own does it by the same calls.
 #![tactic(auto)]
 
 mod desk;
@@ -16,4 +17,5 @@ mod workers;
 pub use desk::Desk;
 pub use fault::ServeFault;
 pub use link::{End, Link, Served, Unserved};
+pub use open::{drop_session, open_session};
 pub use serve::serve_links;

@@ -1,17 +1,17 @@
-ghost use Rattle.std.specs.Prelude.{◌≡◌, ◌<◌, ◌≤◌, ◌+◌, ◌++◌, ◌∷◌, ℕ, List, [], true, false, None, vec_len, vec_capacity, MatchOption};
+ghost use Rattle.std.specs.Prelude.{◌≡◌, ◌<◌, ◌≤◌, ◌+◌, ◌++◌, ◌∷◌, ℕ, List, [], true, false, None, vec_len, vec_capacity, IfOk, IfErr};
 ghost use Rattle.std.specs.VecDeque.{deque_len};
 ghost use Rattle.ov_core.specs.Following.{CoreState};
 ghost use Rattle.ov_desk.specs.Pairs.{Pairwise, Each};
 ghost use Rattle.rtrb.specs.Ring.{sent, received, known_free};
 ghost use Rattle.ov_specs.specs.machine.Machine.{Open as SpecOpen};
-ghost use Rattle.ov_core.specs.Stepping.{IsEntered};
+ghost use Rattle.ov_core.specs.Stepping.{IsEntered, RefusesStep};
 ghost use Rattle.ov_core.specs.declared.event.Stepped.TheVariants.{Opened};
 ghost use Rattle.ov_desk.specs.Opening.{OpensAll, ClosesAgain, DropsSession};
 ghost use Rattle.ov_lanes.specs.declared.lane.Lane.{Lane as SpecLane};
 
 use crate::room::DeskRings;
 use ov_core::early::{Draws, Keeper};
-use ov_core::{Cause, Core, Event, Session, Stepped};
+use ov_core::{Cause, Core, Event, Session, StepFault, Stepped};
 use ov_lanes::Lane;
 use ov_order::{Brought, Sent};
 use ov_rpc::Received;
@@ -27,16 +27,18 @@ pub(crate) fn begin<K: Keeper + Drop, D: Draws + Drop>(core: &Core<K, D>)
     let _ = core.history();
 }
 
-/// Opens a session. None where the core refuses it, and then nothing is done.
-pub(crate) fn open_session<K: Keeper + Drop, D: Draws + Drop>(
+/// Opens a session at the last moment, with the next serial. Refused as `TooMany` or as `Memory` where the core refuses it so, and
+/// then nothing is done.
+pub fn open_session<K: Keeper + Drop, D: Draws + Drop>(
     core: &mut Core<K, D>,
     alloc: Global,
-) -> Option<Session>
-    ensures { MatchOption result (core.new ≡ core.old) (λ session. (at : ℕ) × IsEntered D.draws at SpecOpen core.old (Opened session) core.new) }
+) -> Result<Session, StepFault>
+    ensures opened { IfOk result (λ session. IsEntered D.draws core.old.state.moment SpecOpen core.old (Opened session) core.new) }
+    ensures refused { IfErr result (λ fault. (core.new ≡ core.old) × RefusesStep SpecOpen core.old.state fault) }
 {
     match core.step(alloc, 0, Event::Open) {
-        Stepped::Opened(session) => Some(session),
-        Stepped::Refused(_) => None,
+        Stepped::Opened(session) => Ok(session),
+        Stepped::Refused(fault) => Err(fault),
         Stepped::Done | Stepped::Closed => unreachable!(),
     }
 }
@@ -73,8 +75,9 @@ pub(crate) fn open_all<K: Keeper + Drop, D: Draws + Drop>(
 {
     let mut rings = rings;
     while let Some(ring) = rings.pop_front() {
-        let Some(session) = open_session(core, alloc) else {
-            return false;
+        let session = match open_session(core, alloc) {
+            Ok(session) => session,
+            Err(_) => return false,
         };
         let DeskRings { inbound, outbound } = ring;
         push_lane(lanes, session, inbound, outbound);
@@ -82,8 +85,8 @@ pub(crate) fn open_all<K: Keeper + Drop, D: Draws + Drop>(
     true
 }
 
-/// Closes a session as out of memory, and drops what waits for it.
-fn drop_session<K: Keeper + Drop, D: Draws + Drop>(core: &mut Core<K, D>, session: Session)
+/// Closes a session as out of memory, and drops what waits for it. Where it is not open nothing is done. It takes no memory.
+pub fn drop_session<K: Keeper + Drop, D: Draws + Drop>(core: &mut Core<K, D>, session: Session)
     ensures { DropsSession session.serial core.old core.new }
 {
     if core.close(session, Cause::Memory) {

@@ -27,6 +27,7 @@ use Rattle.ov_lanes.proofs.Courses.{EnteredTo, since_enters, shuts, hands_on}
 use Rattle.ov_lanes.proofs.Own.{spares_along}
 use Rattle.ov_lanes.proofs.Single.{lane_fits}
 use Rattle.ov_desk.specs.Opening.{IsUntouched, DropsSession}
+use Rattle.ov_desk.proofs.Openings.{asks_same, closed_same, others_spared, is_there, fits_new}
 use Rattle.ov_lobby.specs.Places.{IsAt, IsNewLane, IsUntold, ServesPlaces, GoesOn}
 use Rattle.ov_lobby.proofs.Coming.{coming_away, coming_unclosed, coming_unasked, coming_unserved}
 use Rattle.ov_lobby.proofs.Served.{open_before, untold_spared, untold_open, untold_closed, lane_spared, serves_taken}
@@ -40,52 +41,21 @@ record Opens {K D : Type 0} {start a : CoreState K D} (ls : List (Option Lane)) 
   pub unserved : (j : ℕ) (l : Lane) → IsAt ls j l → l.session.serial ≢ n
 
 module _ {K D : Type 0} {start a b : CoreState K D} (ls : List (Option Lane)) (s : ServesPlaces start a ls) (e : Entry) (is : e.event ≡ machine.Open) (x : EnteredTo s.since e b) where
-  turn : (n : ℕ) → Turn n a.state e b.state (is_open a.state n || eqb a.state.next n) (a.state.next + 1) [] None
-  turn n = turn_open n a.state e (record { state = b.state; sent = x.sent }) x.stepped is
-
-  asks_same : (n : ℕ) → requests x.after.entries n ≡ requests s.since.entries n
-  asks_same n = x.asks n ∙ (ap (λ (l : List Message). requests s.since.entries n ++ l) (turn n).taken_is ∙ append-nil (requests s.since.entries n))
-
-  closed_same : (n : ℕ) → closed_by start.state x.after.entries n ≡ closed_by start.state s.since.entries n
-  closed_same n = x.closed n ∙ (ap (option_or (closed_by start.state s.since.entries n)) (turn n).cause_is ∙ option_or_none (closed_by start.state s.since.entries n))
-
-  others_spared : (n : ℕ) → n ≢ a.state.next → Spares (course_of s.since n) (course_of x.after n)
-  others_spared n ne = record {
-    more = frames_to n x.sent;
-    waiting = x.waiting n;
-    silent = x.silent n;
-    handed = x.handed n;
-    asks = asks_same n;
-    closes = inl ((turn n).open_is ∙ (ap (λ (k : Bool). is_open a.state n || k) (ne_eqb a.state.next n (λ same. ne (sym same))) ∙ or_nothing (is_open a.state n)), closed_same n);
-  }
-
   opens_next : Opens ls s a.state.next b
   opens_next =
       let n = a.state.next in
       let low : n ≤ n = omega arith in
       record {
         after = x.after;
-        beside = others_spared;
+        beside = others_spared s.since e is x;
         untouched = (
-          closed_same n ∙ coming_unclosed s.since n low,
-          asks_same n ∙ coming_unasked s.since n low,
+          closed_same s.since e is x n ∙ coming_unclosed s.since n low,
+          asks_same s.since e is x n ∙ coming_unasked s.since n low,
           x.handed n ∙ s.untold n (coming_away s.since n low) (coming_unclosed s.since n low),
         );
-        there = (turn n).open_is ∙ (ap (λ (k : Bool). is_open a.state n || k) (eq-eqb n n refl) ∙ or_truth (is_open a.state n));
+        there = is_there s.since e is x;
         unserved = λ j l at serial. coming_unserved s.since n low l (s.fits j l at) serial;
       }
-
--- a session that was opened, and nothing else, is fitted by a new lane
-fits_new : (c : Course) → IsUntouched c → c.is_open ≡ true → FitsCourse c None [] [] false false
-fits_new c u there = record {
-  took = subst (λ (o : Option machine.Cause). Took o c.asks []) (sym u.0) (ap brought (sym u.1));
-  puts = (ap framed (sym u.2), λ by. absurd (false≢true (sym (ap is_by_reader u.0) ∙ by)));
-  knows = inl u.0;
-  ends = λ ended. absurd (false≢true ended);
-  opens = ap is_some u.0 ∙ sym (ap not there);
-  unfailed = λ failed. let other : None ≡ Some machine.WriteFault = sym u.0 ∙ failed in cc;
-  overrun = λ over. let other : None ≡ Some machine.Overrun = sym u.0 ∙ over in cc;
-}
 
 module _ {K D : Type 0} {start a b : CoreState K D} (ls : List (Option Lane)) (s : ServesPlaces start a ls) (n : ℕ) (x : Opens ls s n b) where
   untold_still : (k : ℕ) → IsUntold (course_of x.after k)

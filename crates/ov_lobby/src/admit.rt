@@ -1,8 +1,4 @@
-ghost use Rattle.std.specs.Prelude.{◌≡◌, ◌<◌, ℕ, None, vec_len, slice_index_or, IfSome, MatchOption};
-ghost use Rattle.ov_specs.specs.machine.Machine.{Open as SpecOpen};
-ghost use Rattle.ov_core.specs.Stepping.{IsEntered};
-ghost use Rattle.ov_core.specs.declared.event.Stepped.TheVariants.{Opened};
-ghost use Rattle.ov_desk.specs.Opening.{DropsSession};
+ghost use Rattle.std.specs.Prelude.{◌≡◌, ◌<◌, None, vec_len, slice_index_or, IfSome};
 ghost use Rattle.ov_lobby.specs.Places.{GoesOn, IsNewLane};
 ghost use Rattle.ov_lobby.specs.Rings.{AreFresh};
 
@@ -10,8 +6,8 @@ use crate::parts::Parts;
 use crate::rings::{Rings, new_rings};
 use crate::start::start_workers;
 use ov_core::early::{Draws, Keeper};
-use ov_core::{Cause, Core, Event, Session, Stepped};
-use ov_desk::Link;
+use ov_core::{Core, Session};
+use ov_desk::{Link, drop_session, open_session};
 use ov_ends::{Sink, Source};
 use ov_lanes::Lane;
 use ov_order::{Bell, Order};
@@ -20,29 +16,6 @@ use std::alloc::Global;
 use std::sync::Wait;
 use std::sync::ledger::{Ledger, Share};
 use std::thread::{Scope, Threads};
-
-/// Opens a session. None where the core refuses it, and then nothing is done.
-fn open_session<K: Keeper + Drop, D: Draws + Drop>(
-    core: &mut Core<K, D>,
-    alloc: Global,
-) -> Option<Session>
-    ensures { MatchOption result (core.new ≡ core.old) (λ session. (at : ℕ) × IsEntered D.draws at SpecOpen core.old (Opened session) core.new) }
-{
-    match core.step(alloc, 0, Event::Open) {
-        Stepped::Opened(session) => Some(session),
-        Stepped::Refused(_) => None,
-        Stepped::Done | Stepped::Closed => unreachable!(),
-    }
-}
-
-/// Closes a session as out of memory, and drops what waits for it.
-fn drop_session<K: Keeper + Drop, D: Draws + Drop>(core: &mut Core<K, D>, session: Session)
-    ensures { DropsSession session.serial core.old core.new }
-{
-    if core.close(session, Cause::Memory) {
-        core.discard(session);
-    }
-}
 
 /// A place where no session is served, if there is one.
 fn free_place(places: &Vec<Option<Lane>>) -> Option<usize>
@@ -132,7 +105,7 @@ where
     requires share { (share.parts ≡ 1) × (share.amount ≡ 0) }
     ensures { GoesOn core.old places.old.items core.new places.new.items }
 {
-    let Some(session) = open_session(core, alloc) else {
+    let Ok(session) = open_session(core, alloc) else {
         return;
     };
     match start_lane(

@@ -16,22 +16,21 @@ loop-ring-init g c = record {
   room = c.requires.room;
 }
 
-pub returns-in_default-open_session-clause-opens :
-    goal.returns-in_default-open_session-clause-opens
-returns-in_default-open_session-clause-opens g c start base s =
-    subst (λ (k : CoreState g.row.K.Denot g.row.D.Denot). OpensAll start base k c.loop-ring.lanes.items) (sym c.in_default-open_session.ensures) (c.loop-ring.invariant.opens start base s)
+pub returns-in-Err-clause-opens : goal.returns-in-Err-clause-opens
+returns-in-Err-clause-opens g c start base s =
+    subst (λ (k : CoreState g.row.K.Denot g.row.D.Denot). OpensAll start base k c.loop-ring.lanes.items) (sym c.in-Err.ensures.refused.0) (c.loop-ring.invariant.opens start base s)
 
 pub loop-ring-preserved : goal.loop-ring-preserved
 loop-ring-preserved g c =
     let was = c.loop-ring.invariant in
-    let ring = c.in-Some.ring in let session = c.in-Some-open_session.session in
+    let ring = c.in-Some.ring in let session = c.in-Ok.session in
     let lane = c.push_lane.ensures.lane in
-    let entered = c.in-Some-open_session.ensures in
+    let entered = c.in-Ok.ensures.opened in
     let parts = each_first _ c.loop-ring.rings.items c.pop_front.new.self.items ring c.in-Some.ensures.items was.fresh in
     record {
       opens = λ start base s.
           subst (λ (l : List Lane). OpensAll start base c.open_session.new.core l) (sym lane.1)
-          (opens_more base c.loop-ring.lanes.items lane.0 (was.opens start base s) g.D.Draws.draws entered.0 session entered.1 (record {
+          (opens_more base c.loop-ring.lanes.items lane.0 (was.opens start base s) g.D.Draws.draws _ session entered (record {
             serial = ap (λ k. k.serial) lane.4;
             cause = lane.5;
             taken = ap received lane.2 ∙ parts.0.2;
