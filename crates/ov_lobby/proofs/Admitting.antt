@@ -126,6 +126,13 @@ opened {b = b} ls s draws at session entered =
     let x = since_enters s.since entered.entry entered.moves in
     subst (λ (k : ℕ). Opens ls s k b) (sym entered.tells.1) (opens_next ls s entered.entry entered.tells.0 x)
 
+-- it is open then
+pub opened_there : {K D : Type 0} {a b : CoreState K D} (draws : D → Uuid → D → Type 0) (at : ℕ) (session : Session) → IsEntered draws at machine.Open a (answer.Opened session) b → is_open b.state a.state.next ≡ true
+opened_there {a = a} {b = b} draws at session entered =
+    let n = a.state.next in
+    (turn_open n a.state entered.entry (record { state = b.state; sent = entered.moves.sent }) entered.moves.stepped entered.tells.0).open_is
+    ∙ (ap (λ (k : Bool). is_open a.state n || k) (eq-eqb n n refl) ∙ or_truth (is_open a.state n))
+
 pub goes_seated : {K D : Type 0} {a b : CoreState K D} (ls : List (Option Lane)) (i : ℕ) (m : Lane) → i < length ls → get_or ls i None ≡ None → (draws : D → Uuid → D → Type 0) (at : ℕ) (session : Session)
     → IsEntered draws at machine.Open a (answer.Opened session) b → IsNewLane session.serial m → GoesOn a ls b (slice_set ls i (Some m))
 goes_seated ls i m lt free draws at session entered new = record {

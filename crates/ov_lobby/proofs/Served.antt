@@ -1,9 +1,9 @@
 -- What a step makes of the places of a lobby.
-use Rattle.std.proofs.Common.{◌≡◌, ◌≢◌, ◌⊎◌, inl, inr, ℕ, zero, suc, ◌<◌, List, [], ◌∷◌, ◌++◌, length, get_or, slice_set, refl, sym, ap, subst, ◌∙◌, get_or-set_other, length-set, Bool, true, false, Option, Some, None}
-use Rattle.std.specs.Prelude.{not, is_some}
+use Rattle.std.proofs.Common.{◌≡◌, ◌≢◌, ◌⊎◌, inl, inr, ℕ, zero, suc, ◌+◌, ◌<◌, List, [], ◌∷◌, ◌++◌, length, get_or, slice_set, refl, sym, ap, subst, ◌∙◌, get_or-set_other, length-set, Bool, true, false, Option, Some, None, arith}
+use Rattle.std.specs.Prelude.{not, ◌&&◌, is_some}
 use Rattle.std.specs.Option.{option_or}
 use Rattle.std.proofs.lemmas.Grind.{get_or-set_at}
-use Rattle.std.proofs.lemmas.Bool.{cases_eq, cases_Bool, false≢true}
+use Rattle.std.proofs.lemmas.Bool.{cases_eq, cases_Bool, and_parts, false≢true}
 use Rattle.std.proofs.lemmas.List.{get_or_default}
 use Rattle.std.proofs.lemmas.Option.{same_Some}
 use Rattle.rtrb.specs.Ring.{sent, received}
@@ -20,7 +20,7 @@ use Rattle.ov_lanes.proofs.Fitting.{fits_spared}
 use Rattle.ov_lanes.proofs.Own.{spares_same}
 use Rattle.ov_lanes.proofs.Single.{IsLane, lane_fits}
 use Rattle.ov_desk.proofs.Openings.{opens_none}
-use Rattle.ov_lobby.specs.Places.{IsAt, PlaceFits, MovesPlace, LooksAt, AreFree, AreOver, IsUntold, ServesPlaces, GoesOn}
+use Rattle.ov_lobby.specs.Places.{IsAt, PlaceFits, MovesPlace, LooksAt, LooksAtPlace, TendsPlace, has_left, AreFree, AreOver, IsUntold, ServesPlaces, GoesOn}
 use Rattle.ov_lobby.specs.Serving.{ServesLobby}
 
 -- ---- single sessions
@@ -66,6 +66,15 @@ looked_moves p l m looks f = record { goes = goes_same l.session.serial p; fits 
 
 pub looks_along : (l m n : Lane) → LooksAt l m → LooksAt m n → LooksAt l n
 looks_along l m n x y = (y.0 ∙ x.0, y.1 ∙ x.1, y.2 ∙ x.2, y.3 ∙ x.3, y.4 ∙ x.4, y.5 ∙ x.5)
+
+-- one place more is known to be taken
+pub taken_more : (ls : List (Option Lane)) (i n : ℕ) (place : Option Lane) → i < length ls → place ≡ get_or ls i place → is_some place ≡ true → n ≡ i + 1
+    → ((j : ℕ) → j < i → (l : Lane) × IsAt ls j l) → (j : ℕ) → j < n → (l : Lane) × IsAt ls j l
+taken_more ls i n None lt read some count before j low = absurd (false≢true some)
+taken_more ls i n (Some l) lt read some count before j low = elim (cases_eq j i) [
+  | inl e ↦ (l, ap (λ (k : ℕ). get_or ls k None) e ∙ (get_or_default ls i None (Some l) lt ∙ sym read))
+  | inr ne ↦ before j (omega (arith, low, count, ne))
+]
 
 -- ---- places, one of which has changed
 
@@ -195,6 +204,30 @@ moves_some None l m is same since moves f = absurd (none_some l is)
 moves_some {b = b} (Some k) l m is same since moves f =
     let e : k ≡ l = same_Some k l is in
     subst (λ (x : Lane). Moves since x b m × (m.session ≡ x.session)) (sym e) (moves (subst (λ (x : Lane). LaneFits since x) e f), same)
+
+-- a place whose session has left it, or has not
+left_looked : (gone : Bool) (l m : Lane) → LooksAt l m → has_left gone m ≡ has_left gone l
+left_looked gone l m looks = ap (λ (b : Bool). gone && b && m.marked) looks.4 ∙ ap (λ (b : Bool). gone && l.ended && b) looks.5
+
+left_ended : (gone : Bool) (l : Lane) → has_left gone l ≡ true → l.ended ≡ true
+left_ended gone l left = (and_parts gone l.ended (and_parts (gone && l.ended) l.marked left).0).1
+
+pub tends_some : (gone : Bool) (place : Option Lane) (l m : Lane) → place ≡ Some l → LooksAt l m → has_left gone m ≡ false → TendsPlace gone place (Some m)
+tends_some gone None l m is looks left = absurd (none_some l is)
+tends_some gone (Some k) l m is looks left =
+    subst (λ (x : Lane). (has_left gone x ≡ false) × LooksAt x m) (sym (same_Some k l is)) (sym (left_looked gone l m looks) ∙ left, looks)
+
+pub tends_none : (gone : Bool) (place : Option Lane) (l m : Lane) → place ≡ Some l → LooksAt l m → has_left gone m ≡ true → TendsPlace gone place None
+tends_none gone None l m is looks left = absurd (none_some l is)
+tends_none gone (Some k) l m is looks left =
+    subst (λ (x : Lane). has_left gone x ≡ true) (sym (same_Some k l is)) (sym (left_looked gone l m looks) ∙ left)
+
+-- what was done at a place that was looked at and then tended
+pub tended_moves : {K D : Type 0} {start a : CoreState K D} (gone : Bool) (place looked place' : Option Lane) → LooksAtPlace place looked → TendsPlace gone looked place' → (since : Since start a) → PlaceFits since place → MovesPlace since place a place'
+tended_moves gone None looked place' looks tends since f = (refl, subst (λ (p : Option Lane). TendsPlace gone p place') looks tends)
+tended_moves gone (Some l) None place' looks tends since f = absurd looks
+tended_moves gone (Some l) (Some m) None looks left since f = (refl, sym looks.4 ∙ left_ended gone m left)
+tended_moves gone (Some l) (Some m) (Some n) looks (stays, more) since f = let on = looks_along l m n looks more in (looked_moves since l n on f, on.2)
 
 -- what fits at a place
 pub fits_place : {K D : Type 0} {start a : CoreState K D} (ls : List (Option Lane)) (i : ℕ) (s : ServesPlaces start a ls) (place : Option Lane) → get_or ls i None ≡ place → PlaceFits s.since place

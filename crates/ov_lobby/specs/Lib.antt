@@ -1,3 +1,4 @@
 pub mod Rings
 pub mod Places
+pub mod Admitting
 pub mod Serving

@@ -1,5 +1,5 @@
 -- The places of a lobby, and what became of the sessions that are served there. What names no source is our own.
-use Rattle.std.specs.Prelude.{◌≡◌, ◌⊎◌, ℕ, List, [], length, slice_index_or, Option, Some, None, true, false}
+use Rattle.std.specs.Prelude.{◌≡◌, ◌⊎◌, ℕ, ◌<◌, List, [], length, slice_index_or, Option, Some, None, Bool, ◌&&◌, true, false}
 use Rattle.rtrb.specs.Ring.{sent, received}
 use Rattle.ov_specs.specs.machine.Machine.{is_open}
 use Rattle.ov_core.specs.Following.{CoreState}
@@ -32,6 +32,22 @@ LooksAt a b =
     (received b.inbound ≡ received a.inbound) × (sent b.outbound ≡ sent a.outbound) × (b.session ≡ a.session)
     × (b.cause ≡ a.cause) × (b.ended ≡ a.ended) × (b.marked ≡ a.marked)
 
+-- the same at a place
+abbrev pub LooksAtPlace : Option Lane → Option Lane → Type 0
+LooksAtPlace None p = p ≡ None
+LooksAtPlace (Some l) None = ⊥
+LooksAtPlace (Some l) (Some m) = LooksAt l m
+
+-- a session has left its place: its reader's end was taken, its end mark was put, and both its workers are gone
+abbrev pub has_left : Bool → Lane → Bool
+has_left gone l = gone && l.ended && l.marked
+
+-- A place becomes free where its session has left it. Else it stays as it is.
+abbrev pub TendsPlace : Bool → Option Lane → Option Lane → Type 0
+TendsPlace gone None p = p ≡ None
+TendsPlace gone (Some l) None = has_left gone l ≡ true
+TendsPlace gone (Some l) (Some m) = (has_left gone l ≡ false) × LooksAt l m
+
 -- the lane of a session that was opened, of which nothing was taken and for which nothing was put
 pub record IsNewLane (serial : ℕ) (lane : Lane) : Type 0 where
   pub session : lane.session.serial ≡ serial
@@ -46,6 +62,10 @@ pub record IsNewLane (serial : ℕ) (lane : Lane) : Type 0 where
 -- no session is served
 abbrev pub AreFree : List (Option Lane) → Type 0
 AreFree places = (at : ℕ) → slice_index_or places at None ≡ None
+
+-- a session is served at each place
+abbrev pub AreTaken : List (Option Lane) → Type 0
+AreTaken places = (at : ℕ) → at < length places → (lane : Lane) × IsAt places at lane
 
 -- of each session that is served the reader's end was taken
 abbrev pub AreOver : List (Option Lane) → Type 0

@@ -1,7 +1,9 @@
-ghost use Rattle.std.specs.Prelude.{◌≡◌, ◌<◌, None, vec_len, slice_index_or, IfSome};
-ghost use Rattle.ov_lobby.specs.Places.{GoesOn, IsNewLane};
+ghost use Rattle.std.specs.Prelude.{◌≡◌, ◌<◌, ℕ, None, vec_len, slice_index_or, IfSome, MatchOption};
+ghost use Rattle.ov_lobby.specs.Admitting.{Admits};
+ghost use Rattle.ov_lobby.specs.Places.{AreTaken, GoesOn, IsNewLane};
 ghost use Rattle.ov_lobby.specs.Rings.{AreFresh};
 
+use crate::admitted::{AdmitFault, Admitted};
 use crate::parts::Parts;
 use crate::rings::{Rings, new_rings};
 use crate::start::start_workers;
@@ -17,9 +19,9 @@ use std::sync::Wait;
 use std::sync::ledger::{Ledger, Share};
 use std::thread::{Scope, Threads};
 
-/// A place where no session is served, if there is one.
+/// A place where no session is served. None where all are taken.
 fn free_place(places: &Vec<Option<Lane>>) -> Option<usize>
-    ensures { IfSome result (λ at. (at < vec_len places.now) × (slice_index_or places.now.items at None ≡ None)) }
+    ensures { MatchOption result (AreTaken places.now.items) (λ at. (at < vec_len places.now) × (slice_index_or places.now.items at None ≡ None)) }
 {
     for at in 0..places.len() {
         if places[at].is_none() {
@@ -91,7 +93,7 @@ fn admit_at<'s, E, R, K, D, L, G, S, W>(
     link: Link<S, W>,
     rings: Rings,
     share: Share<L>,
-)
+) -> Admitted
 where
     R: Threads + Wait + Sync,
     K: Keeper + Drop,
@@ -103,16 +105,24 @@ where
     requires place { (at < vec_len places.old) × (slice_index_or places.old.items at None ≡ None) }
     requires rings { AreFresh rings }
     requires share { (share.parts ≡ 1) × (share.amount ≡ 0) }
-    ensures { GoesOn core.old places.old.items core.new places.new.items }
+    ensures goes { GoesOn core.old places.old.items core.new places.new.items }
+    ensures answer { (bells parts : ℕ) → Admits bells parts core.old places.old.items result core.new places.new.items }
 {
-    let Ok(session) = open_session(core, alloc) else {
-        return;
+    let session = match open_session(core, alloc) {
+        Ok(session) => session,
+        Err(fault) => return Admitted::Refused(AdmitFault::Machine(fault)),
     };
     match start_lane(
         rt, alloc, scope, order, bell, gate, session, link, rings, share,
     ) {
-        Some(lane) => places[at] = Some(lane),
-        None => drop_session(core, session),
+        Some(lane) => {
+            places[at] = Some(lane);
+            Admitted::Opened
+        }
+        None => {
+            drop_session(core, session);
+            Admitted::Refused(AdmitFault::Thread)
+        }
     }
 }
 
@@ -129,7 +139,7 @@ pub(crate) fn admit<'s, E, R, K, D, L, G, S, W>(
     places: &mut Vec<Option<Lane>>,
     parts: &mut Parts<L>,
     link: Link<S, W>,
-)
+) -> Admitted
 where
     R: Threads + Wait + Sync,
     K: Keeper + Drop,
@@ -138,16 +148,22 @@ where
     G: Gate + Sync,
     S: Source + Send + Drop + 's,
     W: Sink + Send + Drop + 's,
-    ensures { GoesOn core.old places.old.items core.new places.new.items }
+    ensures goes { GoesOn core.old places.old.items core.new places.new.items }
+    ensures answer { Admits (vec_len bells.now) parts.old.left core.old places.old.items result core.new places.new.items }
 {
     let Some(at) = free_place(places) else {
-        return;
+        return Admitted::Full;
     };
-    let (Some(bell), Some(share), Ok(rings)) = (bells.get(at), parts.take(), new_rings(alloc))
-    else {
-        return;
+    let Some(bell) = bells.get(at) else {
+        return Admitted::Refused(AdmitFault::Bell);
+    };
+    let Some(share) = parts.take() else {
+        return Admitted::Refused(AdmitFault::Part);
+    };
+    let Ok(rings) = new_rings(alloc) else {
+        return Admitted::Refused(AdmitFault::Memory);
     };
     admit_at(
         rt, alloc, scope, order, bell, gate, core, places, at, link, rings, share,
-    );
+    )
 }

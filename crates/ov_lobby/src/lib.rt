@@ -4,6 +4,7 @@
 
 mod accept;
 mod admit;
+mod admitted;
 mod fault;
 mod listen;
 mod parts;

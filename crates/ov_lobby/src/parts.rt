@@ -1,4 +1,4 @@
-ghost use Rattle.std.specs.Prelude.{◌≡◌, ◌<◌, IfSome};
+ghost use Rattle.std.specs.Prelude.{◌≡◌, ◌<◌, MatchOption};
 
 use std::sync::ledger::{Ledger, Share};
 
@@ -6,7 +6,8 @@ use std::sync::ledger::{Ledger, Share};
 #[derive(Drop)]
 pub(crate) struct Parts<L: Ledger> {
     share: Share<L>,
-    left: u64,
+    /// How many can be taken.
+    pub left: u64,
     ghost enough: { left < share.parts },
 }
 
@@ -20,7 +21,7 @@ impl<L: Ledger> Parts<L> {
 
     /// Takes one. None where none is left.
     pub fn take(&mut self) -> Option<Share<L>>
-        ensures { IfSome result (λ share. (share.parts ≡ 1) × (share.amount ≡ 0)) }
+        ensures { MatchOption result (self.old.left ≡ 0) (λ share. (share.parts ≡ 1) × (share.amount ≡ 0)) }
     {
         if self.left == 0 {
             return None;

@@ -2,7 +2,7 @@ ghost use Rattle.std.specs.Prelude.{◌≡◌, ◌<◌, List, Option, true, fals
 ghost use Rattle.ov_core.specs.Following.{CoreState};
 ghost use Rattle.ov_lanes.specs.Since.{Since};
 ghost use Rattle.ov_lanes.specs.declared.lane.Lane.{Lane as SpecLane};
-ghost use Rattle.ov_lobby.specs.Places.{PlaceFits, MovesPlace, GoesOn, LooksAt, AreOver};
+ghost use Rattle.ov_lobby.specs.Places.{PlaceFits, MovesPlace, GoesOn, LooksAt, LooksAtPlace, TendsPlace, has_left, AreOver};
 
 use ov_core::early::{Draws, Keeper};
 use ov_core::{Core, Event};
@@ -122,30 +122,32 @@ fn ring_bell<R: Wait>(rt: &R, bell: &Bell, lane: &mut Lane)
     }
 }
 
-/// Whether the session is closed and both its workers have ended.
-fn is_left(lane: &mut Lane) -> bool
-    ensures looks { LooksAt lane.old lane.new }
-    ensures ended { result ≡ true → lane.old.ended ≡ true }
+/// Whether both workers of the session at a place have ended. No contract speaks of the answer.
+fn are_gone(place: &mut Option<Lane>) -> bool
+    ensures { LooksAtPlace place.old place.new }
 {
-    lane.ended && lane.marked && lane.inbound.is_abandoned() && lane.outbound.is_abandoned()
+    match place {
+        Some(lane) => lane.inbound.is_abandoned() && lane.outbound.is_abandoned(),
+        None => false,
+    }
 }
 
-/// Rings the bell of the writer at a place, where something was put for it, and makes the place free where the session is closed
-/// and both its workers have ended.
-fn tend_place<R: Wait, K: Keeper + Drop, D: Draws + Drop>(
-    rt: &R,
-    core: &Core<K, D>,
-    bell: &Bell,
-    place: &mut Option<Lane>,
-)
-    ensures { (first : CoreState K D) (since : Since first core.now) → PlaceFits since place.old → MovesPlace since place.old core.now place.new }
+/// Whether the session has left its place: it is closed, its reader's end was taken, and its workers are gone.
+fn has_left(lane: &Lane, gone: bool) -> bool
+    ensures { result ≡ has_left gone lane.now }
 {
-    let _core = core;
+    gone && lane.ended && lane.marked
+}
+
+/// Rings the bell of the writer at a place, where something was put for it, and makes the place free where its session has left it.
+fn tend_place<R: Wait>(rt: &R, bell: &Bell, gone: bool, place: &mut Option<Lane>)
+    ensures { TendsPlace gone place.old place.new }
+{
     let Some(lane) = place else {
         return;
     };
     ring_bell(rt, bell, lane);
-    if is_left(lane) {
+    if has_left(lane, gone) {
         *place = None;
     }
 }
@@ -164,8 +166,10 @@ fn tend_at<R: Wait, K: Keeper + Drop, D: Draws + Drop>(
     let Some(bell) = bells.get(at) else {
         return;
     };
+    let _core = core;
     let place = &mut places[at];
-    tend_place(rt, core, bell, place);
+    let gone = are_gone(place);
+    tend_place(rt, bell, gone, place);
 }
 
 /// Rings the bells of all writers for which something was put, and makes the places free whose workers have ended.

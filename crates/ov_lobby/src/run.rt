@@ -93,7 +93,8 @@ where
             let places = &mut hall.places;
             tend_places(rt, core, bells, places);
             let parts = &mut hall.parts;
-            admit(
+            // Whoever is not served finds its connection closed, and is told no more.
+            let _ = admit(
                 rt, alloc, scope, order, bells, gate, core, places, parts, link,
             );
         }

@@ -1,9 +1,11 @@
-use Rattle.std.proofs.Common.{◌∙◌}
-use Rattle.ov_lobby.proofs.Served.{looks_along, looked_moves, moves_some}
+use Rattle.std.proofs.Common.{sym, ◌∙◌}
+use Rattle.ov_lobby.proofs.Served.{tends_some, tends_none}
 use Rattle.ov_lobby.proofs.places.tend_place.Goals as goal
 
-pub returns-else-is_left : goal.returns-else-is_left
-returns-else-is_left g c first since fits =
-    let l = c.in-Some.lane in let m = c.ring_bell.new.lane in let n = c.is_left.new.lane in
-    let looks = looks_along l m n c.ring_bell.ensures c.is_left.ensures.looks in
-    moves_some c.args.place.now l n c.in-Some.is looks.2 since (λ f. looked_moves since l n looks f) fits
+pub returns-then-has_left : goal.returns-then-has_left
+returns-then-has_left g c =
+    tends_none c.args.gone c.args.place.now c.in-Some.lane c.ring_bell.new.lane c.in-Some.is c.ring_bell.ensures (sym c.has_left.ensures ∙ c.if-has_left.true)
+
+pub returns-else-has_left : goal.returns-else-has_left
+returns-else-has_left g c =
+    tends_some c.args.gone c.args.place.now c.in-Some.lane c.ring_bell.new.lane c.in-Some.is c.ring_bell.ensures (sym c.has_left.ensures ∙ c.if-has_left.false)
