@@ -32,11 +32,12 @@ struct Seen {
     closed: AtomicU64,
 }
 
-/// What is seen of all clients. Who has waited too long is let go, and all others with it.
+/// What is seen of all clients, and whether their listener was dropped. Who has waited too long is let go, and all others with it.
 #[derive(Drop)]
 struct Board<'r, R: Wait + Clock> {
     rt: &'r R,
     clients: Vec<Seen>,
+    is_deaf: AtomicBool,
     is_late: AtomicBool,
 }
 
@@ -54,6 +55,7 @@ impl<'r, R: Wait + Clock> Board<'r, R> {
         Ok(Board {
             rt,
             clients,
+            is_deaf: AtomicBool::new(false),
             is_late: AtomicBool::new(false),
         })
     }
@@ -65,8 +67,12 @@ impl<'r, R: Wait + Clock> Board<'r, R> {
         }
     }
 
-    /// Whether `CLIENT told` or `CLIENT closed` has come true: something was handed on to it, or both its ends are closed.
+    /// Whether `CLIENT told` or `CLIENT closed` has come true: something was handed on to it, or both its ends are closed. Or whether
+    /// `listener closed` has.
     fn is_so(&self, fact: &str) -> bool {
+        if fact == "listener closed" {
+            return self.is_deaf.load(Ordering::SeqCst);
+        }
         let Some((client, word)) = fact.split_once(" ") else {
             return false;
         };
@@ -189,7 +195,6 @@ impl<R: Wait + Clock> Drop for LobbyWriter<'_, '_, R> {
 type Coming<'s> = (&'s str, &'s str);
 
 /// A listener that gives clients, one after another.
-#[derive(Drop)]
 struct LobbyListener<'b, 'r, 's, R: Wait + Clock> {
     board: &'b Board<'r, R>,
     client: usize,
@@ -219,6 +224,17 @@ impl<'b, 'r, 's, R: Wait + Clock> Listen<
             reader: Watched::new(reader),
             writer: Watched::new(LobbyWriter { board, client }),
         })
+    }
+}
+
+impl<R: Wait + Clock> Drop for LobbyListener<'_, '_, '_, R> {
+    fn drop(self) {
+        self.board.is_deaf.store(true, Ordering::SeqCst);
+        let LobbyListener {
+            board: _,
+            client: _,
+            clients: _,
+        } = self;
     }
 }
 
@@ -283,6 +299,21 @@ fn a_lobby_where_nobody_comes(rt: HostRuntime) -> Result<(), Fail> {
 const PATIENT: &str = r#"{"id":0,"method":"list_dbs","params":[]}
 after 1 closed
 {"id":1,"method":"echo","params":[2]}"#;
+
+/// Goes on once nobody is listened to any more.
+const LAST: &str = r#"{"id":0,"method":"list_dbs","params":[]}
+after listener closed
+{"id":1,"method":"echo","params":[2]}"#;
+
+#[test]
+fn nobody_is_listened_to_while_the_last_is_served(rt: HostRuntime) -> Result<(), Fail> {
+    let told = converse(&rt, rt.alloc(), &[("", LAST)])?;
+    let wanted = r#"4
+2 {"error":null,"id":0,"result":["Net"]}{"error":null,"id":1,"result":[2]}
+"#;
+    assert_eq!(rt; told.as_str(), wanted);
+    Ok(())
+}
 
 /// Is damaged behind its message, once the other was answered.
 const DAMAGED: &str = r#"after 0 told
