@@ -17,6 +17,8 @@ mod holding;
 #[cfg(test)]
 mod lobby;
 #[cfg(test)]
+mod openings;
+#[cfg(test)]
 mod orders;
 #[cfg(test)]
 mod readers;
