@@ -17,8 +17,6 @@ mod holding;
 #[cfg(test)]
 mod lobby;
 #[cfg(test)]
-mod openings;
-#[cfg(test)]
 mod orders;
 #[cfg(test)]
 mod readers;
