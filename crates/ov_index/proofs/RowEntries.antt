@@ -71,10 +71,6 @@ both_turned true false = refl
 both_turned false true = refl
 both_turned false false = refl
 
-pub entry_is-turned : (schema : Schema) (at : LineKey) (columns : Columns) (key : IndexKey) (id : Uuid)
-    → has_entry key id (entries_in (get schema.tables at.0) at columns) ≡ (bytes_eq at.1 id && stands_at schema at columns key)
-entry_is-turned schema at columns key id = entry_is schema at columns key id ∙ both_turned (stands_at schema at columns key) (bytes_eq at.1 id)
-
 -- where a row stands at a key, it is of the key's table
 table_is : (schema : Schema) (at : LineKey) (columns : Columns) (key : IndexKey) → stands_at schema at columns key ≡ true → at.0 ≡ key.table
 table_is schema at columns key = by (get schema.tables at.0)

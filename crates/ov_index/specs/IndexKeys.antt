@@ -17,9 +17,9 @@ pub record IndexKey : Type 0 where
   pub number : ℕ
   pub values : List Datum
 
--- keys in order: by the bytes of the table's name, then by the number, then by the values, one after another
+-- keys in order: by the values, one after another, then by the number, then by the bytes of the table's name
 abbrev pub index_cmp : IndexKey → IndexKey → Ordering
-index_cmp a b = ordering_then (slice_cmp nat_cmp a.table b.table) (ordering_then (nat_cmp a.number b.number) (slice_cmp datum_cmp a.values b.values))
+index_cmp a b = ordering_then (slice_cmp datum_cmp a.values b.values) (ordering_then (nat_cmp a.number b.number) (slice_cmp nat_cmp a.table b.table))
 
 -- the same key
 abbrev pub same_index_key : IndexKey → IndexKey → Bool

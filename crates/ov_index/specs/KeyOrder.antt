@@ -11,8 +11,8 @@ use Rattle.ov_index.specs.IndexKeys.{IndexKey, index_cmp}
 
 pub index_total : IsTotalOrder index_cmp
 index_total =
-    then_total (on_total (λ (k : IndexKey). k.table) nat_list_cmp_total)
-    (then_total (on_total (λ (k : IndexKey). k.number) nat_cmp_total) (on_total (λ (k : IndexKey). k.values) (lists_total datum_cmp_total)))
+    then_total (on_total (λ (k : IndexKey). k.values) (lists_total datum_cmp_total))
+    (then_total (on_total (λ (k : IndexKey). k.number) nat_cmp_total) (on_total (λ (k : IndexKey). k.table) nat_list_cmp_total))
 
 both_Equal : (o p : Ordering) → ordering_then o p ≡ Equal → (o ≡ Equal) × (p ≡ Equal)
 both_Equal Less p e = cc
@@ -21,10 +21,10 @@ both_Equal Greater p e = cc
 
 pub index_exact : IsAntisymmetric index_cmp
 index_exact a b e =
-    let table = both_Equal _ _ e in
-    let rest = both_Equal _ _ table.1 in
+    let values = both_Equal _ _ e in
+    let rest = both_Equal _ _ values.1 in
     λ i. record {
-      table = slice_cmp-IsAntisymmetric nat_cmp-IsAntisymmetric a.table b.table table.0 i;
+      table = slice_cmp-IsAntisymmetric nat_cmp-IsAntisymmetric a.table b.table rest.1 i;
       number = nat_cmp-IsAntisymmetric a.number b.number rest.0 i;
-      values = slice_cmp-IsAntisymmetric datum_cmp-IsAntisymmetric a.values b.values rest.1 i;
+      values = slice_cmp-IsAntisymmetric datum_cmp-IsAntisymmetric a.values b.values values.0 i;
     }

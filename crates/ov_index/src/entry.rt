@@ -68,7 +68,7 @@ fn entries_in(
 ) -> Result<Vec<IndexEntry>, AllocError>
     ensures { IfOk result (λ entries. entries.items ≡ entries_from 0 key.now.0 table.now.indexes key.now.1 columns.now) }
 {
-    let mut entries = Vec::new(alloc);
+    let mut entries = Vec::with_capacity(alloc, table.indexes().len())?;
     for index in table.indexes() {
         let number = entries.len();
         entries.push(IndexEntry {

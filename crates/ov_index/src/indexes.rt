@@ -1,11 +1,8 @@
-ghost use Rattle.std.specs.Prelude.{◌≡◌, ◌&&◌, ◌||◌, option_copied, IfOk, OnOk, OnErr};
+ghost use Rattle.std.specs.Prelude.{◌≡◌, option_copied, IfOk, OnOk, OnErr};
 ghost use Rattle.std.specs.FinMap.{empty, get, remove, entries};
-ghost use Rattle.std.specs.Str.{bytes_eq};
 ghost use Rattle.ov_index.specs.Collecting.{entries_in, with_entry, with_entries, with_rows, has_indexes};
-ghost use Rattle.ov_index.specs.IndexKeys as keys;
-ghost use Rattle.ov_index.specs.Indexing.{AreIndexesOf, is_indexed, stands_at, lacking, has_none, without_entry, without_entries};
+ghost use Rattle.ov_index.specs.Indexing.{AreIndexesOf, is_indexed, lacking, has_none, without_entry, without_entries};
 ghost use Rattle.ov_rows.specs.Nested.{in_table};
-ghost use Rattle.ov_specs.specs.values.Uuid as id;
 
 use crate::entry::{IndexEntry, entries_of};
 use crate::id_set::IdSet;
@@ -110,19 +107,6 @@ impl Indexes {
         ensures { OnOk result (self.new ≡ with_entries (entries_in (get schema.now.tables key.now.0) key.now columns.now) self.old) }
     {
         self.add_all(alloc, entries_of(alloc, schema, key, columns)?)
-    }
-
-    /// With the row of this key, which has these columns, at its keys.
-    pub fn add_row(
-        &mut self,
-        alloc: Global,
-        schema: &Schema,
-        key: &RowKey,
-        columns: &Columns,
-    ) -> Result<(), AllocError>
-        ensures { OnOk result ((at : keys.IndexKey) (of : id.Uuid) → is_indexed self.new at of ≡ (is_indexed self.old at of || (bytes_eq key.now.1 of && stands_at schema.now key.now columns.now at))) }
-    {
-        self.put_row(alloc, schema, key, columns)
     }
 
     /// With the rows of the table of this name.

@@ -162,11 +162,15 @@ impl Ord for IndexKey {
 
     ghost matches_eq = { λ a b. refl };
 
-    /// By the bytes of the table's name, then by the number of the index, then by the values, one after another.
+    /// By the values, one after another, then by the number of the index, then by the bytes of the table's name. Most keys that
+    /// are compared are of one index, and differ in a value.
     fn cmp(&self, other: &IndexKey) -> Ordering {
-        let by_table = self.table.as_str().cmp(other.table.as_str());
-        let by_number = self.number.cmp(&other.number);
-        let by_values = self.values.as_slice().cmp(other.values.as_slice());
-        by_table.then(by_number.then(by_values))
+        match self.values.as_slice().cmp(other.values.as_slice()) {
+            Ordering::Equal => match self.number.cmp(&other.number) {
+                Ordering::Equal => self.table.as_str().cmp(other.table.as_str()),
+                by_number => by_number,
+            },
+            by_values => by_values,
+        }
     }
 }
