@@ -1,3 +1,4 @@
 pub mod Going
 pub mod Mutating
 pub mod Awaiting
+pub mod Showing

@@ -1,6 +1,4 @@
 ghost use Rattle.std.specs.Prelude.{◌≡◌, ◌∷◌, [], IfOk, map, true, false, codes};
-ghost use Rattle.std.specs.List.{list_any};
-ghost use Rattle.std.specs.Str.{bytes_eq};
 ghost use Rattle.serde_json.specs.Data.{array};
 ghost use Rattle.serde_json.specs.View.{view, items_view};
 ghost use Rattle.ov_specs.specs.rows.Database.{object_of};
@@ -8,16 +6,33 @@ ghost use Rattle.ov_specs.specs.operations.MatchingRows.{matching};
 ghost use Rattle.ov_specs.specs.operations.Select as spec;
 ghost use Rattle.ov_specs.specs.wire.Tree.{items_have_real};
 ghost use Rattle.ov_ops.specs.Outcomes.{context_of, IsDone};
+ghost use Rattle.ov_ops.specs.Shown.{shown_of};
 
 use crate::context::OpCtx;
 use crate::members::{conditions_at, table_at};
 use crate::owns::Owns;
 use ov_base::{Text, Tree};
 use ov_conds::Condition;
-use ov_stage::{OpFault, ShownRow, Stage, chosen_columns, is_among};
+use ov_rows::RowView;
+use ov_stage::{OpFault, ShownRow, Stage, chosen_columns, shown_tree};
 use serde_json::{Value, json};
 use std::alloc::{AllocError, Global};
 use std::collections::BTreeSet;
+
+/// What is shown of these rows.
+fn shown_of(
+    alloc: Global,
+    names: &[Text],
+    rows: &[RowView<'_>],
+) -> Result<Vec<ShownRow>, AllocError>
+    ensures { IfOk result (λ v. v.items ≡ map (shown_of names.now) rows.now) }
+{
+    let mut shown = Vec::with_capacity(alloc, rows.len())?;
+    for row in rows {
+        shown.push(ShownRow::of(alloc, names, row)?)?;
+    }
+    Ok(shown)
+}
 
 /// What is shown of the table's rows that meet the conditions, in ascending order of their identifiers.
 pub(crate) fn shown_rows(
@@ -29,22 +44,18 @@ pub(crate) fn shown_rows(
 ) -> Result<Vec<ShownRow>, AllocError>
     ensures { IfOk result (λ v. v.items ≡ map (spec.projection names.now) (matching stage.now.now table.now conditions.now)) }
 {
-    let mut shown = Vec::new(alloc);
-    let rows = stage.matching(alloc, table, conditions)?;
-    for row in &rows {
-        shown.push(ShownRow::of(alloc, names, row)?)?;
-    }
-    Ok(shown)
+    let found = stage.matching(alloc, table, conditions)?;
+    shown_of(alloc, names, found.as_slice())
 }
 
-/// The trees of these rows.
-fn trees_of(alloc: Global, rows: &[ShownRow]) -> Result<Vec<Value>, AllocError>
-    ensures trees { IfOk result (λ v. map view v.items ≡ map spec.written_row rows.now) }
+/// The trees of what is shown of these rows.
+fn trees_of(alloc: Global, names: &[Text], rows: &[RowView<'_>]) -> Result<Vec<Value>, AllocError>
+    ensures trees { IfOk result (λ v. map view v.items ≡ map (λ r. spec.written_row (shown_of names.now r)) rows.now) }
     ensures plain { IfOk result (λ v. items_have_real (items_view v.items) ≡ false) }
 {
-    let mut trees = Vec::new(alloc);
+    let mut trees = Vec::with_capacity(alloc, rows.len())?;
     for row in rows {
-        trees.push(row.tree(alloc)?.into_value())?;
+        trees.push(shown_tree(alloc, names, row)?.into_value())?;
     }
     Ok(trees)
 }
@@ -55,7 +66,7 @@ fn trees_once(alloc: Global, rows: &[ShownRow]) -> Result<Vec<Value>, AllocError
     ensures plain { IfOk result (λ v. items_have_real (items_view v.items) ≡ false) }
 {
     let mut seen = BTreeSet::new(alloc);
-    let mut trees = Vec::new(alloc);
+    let mut trees = Vec::with_capacity(alloc, rows.len())?;
     for row in rows {
         if seen.insert(row)? {
             trees.push(row.tree(alloc)?.into_value())?;
@@ -64,18 +75,22 @@ fn trees_once(alloc: Global, rows: &[ShownRow]) -> Result<Vec<Value>, AllocError
     Ok(trees)
 }
 
-/// The trees of these rows without repeats. Where the rows have their identifiers among these columns no two are equal, and
-/// none has to be looked for.
-fn trees_shown(alloc: Global, names: &[Text], rows: &[ShownRow]) -> Result<Vec<Value>, AllocError>
-    requires { list_any (bytes_eq (codes "_uuid")) names.now ≡ true → spec.without_repeats rows.now ≡ rows.now }
-    ensures trees { IfOk result (λ v. map view v.items ≡ map spec.written_row (spec.without_repeats rows.now)) }
+/// The trees of what is shown of these rows without repeats. Where the columns tell the rows apart none has to be looked for.
+fn trees_shown(
+    alloc: Global,
+    are_apart: bool,
+    names: &[Text],
+    rows: &[RowView<'_>],
+) -> Result<Vec<Value>, AllocError>
+    requires { are_apart ≡ true → spec.without_repeats (map (shown_of names.now) rows.now) ≡ map (shown_of names.now) rows.now }
+    ensures trees { IfOk result (λ v. map view v.items ≡ map spec.written_row (spec.without_repeats (map (shown_of names.now) rows.now))) }
     ensures plain { IfOk result (λ v. items_have_real (items_view v.items) ≡ false) }
 {
-    if is_among(names, "_uuid") {
-        trees_of(alloc, rows)
-    } else {
-        trees_once(alloc, rows)
+    if are_apart {
+        return trees_of(alloc, names, rows);
     }
+    let shown = shown_of(alloc, names, rows)?;
+    trees_once(alloc, shown.as_slice())
 }
 
 fn rows_value(alloc: Global, items: Vec<Value>) -> Result<Value, AllocError>
@@ -96,8 +111,9 @@ pub fn select_result(
 ) -> Result<Tree, AllocError>
     ensures { IfOk result (λ t. t ≡ spec.select_result (spec.without_repeats (map (spec.projection names.now) (matching stage.now.now table.now conditions.now)))) }
 {
-    let shown = shown_rows(alloc, stage, table, conditions, names)?;
-    let items = trees_shown(alloc, names, shown.as_slice())?;
+    let rows = stage.matching(alloc, table, conditions)?;
+    let are_apart = stage.tells_apart(table, names);
+    let items = trees_shown(alloc, are_apart, names, rows.as_slice())?;
     Ok(Tree::new(rows_value(alloc, items)?))
 }
 

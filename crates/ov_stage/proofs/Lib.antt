@@ -11,3 +11,4 @@ pub mod SameRows
 pub mod Showing
 pub mod Stages
 pub mod Merging
+pub mod ToldApart

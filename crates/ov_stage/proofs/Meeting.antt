@@ -20,6 +20,11 @@ matching-of_table table conditions (r ∷ rows) =
       | false ↦ matching-of_table table conditions rows
     ]
 
+-- without conditions each row meets them all
+pub meeting-none : (rows : List RowView) → filter (meets []) rows ≡ rows
+meeting-none [] = refl
+meeting-none (r ∷ rows) = ap (λ (rest : List RowView). r ∷ rest) (meeting-none rows)
+
 module _ (table : List ℕ) (conditions : List Condition) where
   abbrev seen : RowView → LineKey × Row
   seen = lent_row_of table

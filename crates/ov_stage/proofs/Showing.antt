@@ -33,7 +33,7 @@ abbrev uuid_name : List ℕ
 uuid_name = codes "_uuid"
 
 -- the value of the first of these columns with this name
-abbrev value_at : List ℕ → Shown → Option Datum
+abbrev pub value_at : List ℕ → Shown → Option Datum
 value_at name [] = None
 value_at name (c ∷ cs) = cond (bytes_eq name c.0) (Some c.1) (value_at name cs)
 
@@ -41,7 +41,7 @@ behind : (name : List ℕ) (o : Option Datum) (rest : Shown) → bytes_eq uuid_n
 behind name None rest h = refl
 behind name (Some datum) rest h = ap (λ b. cond b (Some datum) (value_at uuid_name rest)) h
 
-or_second : (a b : Bool) → a ≡ false → (a || b) ≡ true → b ≡ true
+pub or_second : (a b : Bool) → a ≡ false → (a || b) ≡ true → b ≡ true
 or_second false b h k = k
 or_second true b h k = cc
 

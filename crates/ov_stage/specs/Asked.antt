@@ -1,10 +1,11 @@
 -- What conditions ask for in the columns of an index, and the rows that stand there. What names no source is our own.
-use Rattle.std.specs.Prelude.{◌≡◌, true, Bool, ℕ, T, List, map, Option, Some, IfSome, option_to_list, slice_get}
+use Rattle.std.specs.Prelude.{◌≡◌, true, false, Bool, ℕ, T, List, map, Option, Some, IfSome, option_to_list, slice_get}
 use Rattle.std.specs.FinMap.{get, entries, is_sorted}
 use Rattle.std.specs.List.{filter, flat_map, list_any}
 use Rattle.std.specs.Ordering.{eq_by_cmp}
 use Rattle.std.specs.Str.{bytes_eq}
 use Rattle.ov_db.specs.Changing.{Delta, with_rows}
+use Rattle.ov_index.specs.Changing.{are_any_alike}
 use Rattle.ov_index.specs.IndexKeys.{IndexKey, key_at, same_index_key, values_in}
 use Rattle.ov_index.specs.Indexing.{AreIndexesOf, marked}
 use Rattle.ov_rows.specs.Nested.{id_cmp}
@@ -55,9 +56,9 @@ AreIdsOf conditions rows table ids = (id : Uuid) (row : Row) → get rows (table
 abbrev pub rows_of_ids : Database → List ℕ → List Uuid → List (LineKey × Row)
 rows_of_ids rows table ids = flat_map (λ id. option_to_list (with_key (table, id) (get rows (table, id)))) ids
 
--- the indexes are those of the rows, where there are some
+-- the indexes are those of the rows, and no two of the rows are alike in one, where there are some
 abbrev pub AreIndexesIf : Database → Option Indexed → Type 0
-AreIndexesIf rows indexed = IfSome indexed (λ i. AreIndexesOf i.schema.now rows i.indexes.now)
+AreIndexesIf rows indexed = IfSome indexed (λ i. AreIndexesOf i.schema.now rows i.indexes.now × (are_any_alike i.schema.now rows ≡ false))
 
 -- ---- changes of one table
 

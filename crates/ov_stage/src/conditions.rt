@@ -57,16 +57,19 @@ pub(crate) fn only_id(conditions: &[Condition]) -> Option<Uuid>
     None
 }
 
-/// Those of the rows that meet all conditions.
+/// Those of the rows that meet all conditions. Without conditions these are the same rows, and nothing is allocated.
 pub(crate) fn meeting<'a>(
     alloc: Global,
-    rows: &[RowView<'a>],
+    rows: Vec<RowView<'a>>,
     conditions: &[Condition],
 ) -> Result<Vec<RowView<'a>>, AllocError>
-    ensures { IfOk result (λ met. met.items ≡ filter (meets conditions.now) rows.now) }
+    ensures { IfOk result (λ met. met.items ≡ filter (meets conditions.now) rows.entry.items) }
 {
+    if conditions.is_empty() {
+        return Ok(rows);
+    }
     let mut met = Vec::new(alloc);
-    for row in rows {
+    for row in &rows {
         if meets(conditions, row) {
             met.push(*row)?;
         }

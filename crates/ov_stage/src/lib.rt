@@ -2,6 +2,7 @@
 //! the errors (RFC 7047, 3.1, 4.1.3 and 5.2). What names no source is our own.
 #![tactic(auto)]
 
+mod apart;
 mod conditions;
 mod fault;
 mod former;
@@ -17,5 +18,5 @@ pub use conditions::conditions_of;
 pub use fault::{OpError, OpFault};
 pub use member::text_at;
 pub use projection::{chosen_columns, compared_columns, is_among, listed_columns};
-pub use shown::ShownRow;
+pub use shown::{ShownRow, shown_tree};
 pub use stage::Stage;

@@ -60,7 +60,7 @@ fn listed_at<'a>(
 ) -> Result<Vec<RowView<'a>>, AllocError>
     ensures { IfOk result (λ rows. map lent_row rows.items ≡ flat_map (λ id. option_to_list (with_key id (get table.now id))) ids.now) }
 {
-    let mut rows = Vec::new(alloc);
+    let mut rows = Vec::with_capacity(alloc, ids.len())?;
     for id in ids {
         if let Some(row) = row_in(table, *id) {
             rows.push(row)?;

@@ -18,7 +18,7 @@ use uuid::Uuid;
 fn listed<'a>(alloc: Global, table: &'a TableRows) -> Result<Vec<RowView<'a>>, AllocError>
     ensures { IfOk result (λ rows. map lent_row rows.items ≡ entries table.now) }
 {
-    let mut rows = Vec::new(alloc);
+    let mut rows = Vec::with_capacity(alloc, table.map().len())?;
     for (id, row) in table.map() {
         rows.push(RowView { id, row })?;
     }
@@ -92,7 +92,7 @@ fn merged<'a>(
     requires changes { T (is_sorted id_cmp (map (λ c. (c.0.now, c.1.now)) changes.now)) }
     ensures { IfOk result (λ merged. map lent_row merged.items ≡ placed id_cmp (map (λ c. (c.0.now, c.1.now)) changes.now) (map lent_row rows.now)) }
 {
-    let mut merged = Vec::new(alloc);
+    let mut merged = Vec::with_capacity(alloc, rows.len())?;
     let mut i = 0;
     let mut j = 0;
     'turns: while i < rows.len() && j < changes.len() {

@@ -1,13 +1,14 @@
-ghost use Rattle.std.specs.Prelude.{◌≡◌, List, ℕ, IfOk, OnOk, false};
+ghost use Rattle.std.specs.Prelude.{◌≡◌, List, [], ℕ, map, IfOk, OnOk, false};
 ghost use Rattle.serde_json.specs.Data.{put};
 ghost use Rattle.serde_json.specs.View.{members_view};
 ghost use Rattle.ov_rows.specs.Lending.{lent_row_of};
 ghost use Rattle.ov_rows.specs.Named.{named};
-ghost use Rattle.ov_specs.specs.rows.Database.{one_uuid};
+ghost use Rattle.ov_specs.specs.rows.Database.{one_uuid, placed, written_column};
 ghost use Rattle.ov_specs.specs.operations.Conditions.{column_value};
 ghost use Rattle.ov_specs.specs.operations.Select as spec;
-ghost use Rattle.ov_specs.specs.wire.Tree.{has_real};
+ghost use Rattle.ov_specs.specs.wire.Tree.{has_real, members_have_real};
 ghost use Rattle.ov_specs.specs.values.Writing.{tree};
+ghost use Rattle.ov_stage.specs.Shown.{shown_column};
 
 use ov_atoms::{Atom, Datum, write_datum};
 use ov_base::{Text, Tree};
@@ -67,7 +68,7 @@ impl ShownRow {
     pub fn of(alloc: Global, names: &[Text], row: &RowView<'_>) -> Result<ShownRow, AllocError>
         ensures { (table : List ℕ) → IfOk result (λ r. r ≡ spec.projection names.now (lent_row_of table row.now)) }
     {
-        let mut columns = Vec::new(alloc);
+        let mut columns = Vec::with_capacity(alloc, names.len())?;
         for name in names {
             if let Some(datum) = column_of(alloc, row, name.as_str())? {
                 columns.push((String::from_str(alloc, name.as_str())?, datum))?;
@@ -92,6 +93,40 @@ impl ShownRow {
             put_column(alloc, &mut members, name.as_str(), datum)?;
         }
         Ok(Tree::new(Value::Object(members)))
+    }
+}
+
+/// These columns of a row as they are shown (RFC 7047, 5.1, `<row>`, and 5.2.2). No value of the row is copied first.
+pub fn shown_tree(alloc: Global, names: &[Text], row: &RowView<'_>) -> Result<Tree, AllocError>
+    ensures { (table : List ℕ) → IfOk result (λ t. t ≡ spec.written_row (spec.projection names.now (lent_row_of table row.now))) }
+{
+    let mut members = Map::new(alloc);
+    for name in names {
+        put_shown(alloc, &mut members, name.as_str(), row)?;
+    }
+    Ok(Tree::new(Value::Object(members)))
+}
+
+/// Puts the written value of the row's column of this name among the members, if the row has one.
+fn put_shown(
+    alloc: Global,
+    members: &mut Map<String, Value>,
+    name: &str,
+    row: &RowView<'_>,
+) -> Result<(), AllocError>
+    ensures put { OnOk result (members_view members.new.entries ≡ placed (members_view members.old.entries) (map written_column (shown_column (lent_row_of [] row.now) name.now))) }
+    ensures plain { members_have_real (members_view members.old.entries) ≡ false → OnOk result (members_have_real (members_view members.new.entries) ≡ false) }
+{
+    let stored = row.row;
+    if name == "_uuid" {
+        return put_column(alloc, members, name, &one_uuid(alloc, *row.id)?);
+    }
+    if name == "_version" {
+        return put_column(alloc, members, name, &one_uuid(alloc, stored.version)?);
+    }
+    match stored.columns.get(name) {
+        Some(datum) => put_column(alloc, members, name, datum),
+        None => Ok(()),
     }
 }
 

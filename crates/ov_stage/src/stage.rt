@@ -1,7 +1,8 @@
-ghost use Rattle.std.specs.Prelude.{◌≡◌, ◌==◌, List, map, option_copied, option_to_list, IfOk, IfSome, OnOk, OnErr};
+ghost use Rattle.std.specs.Prelude.{◌≡◌, ◌==◌, List, map, option_copied, option_to_list, true, false, IfOk, IfSome, OnOk, OnErr};
 ghost use Rattle.std.specs.List.{filter};
 ghost use Rattle.std.specs.FinMap.{contains_key, get, insert, remove, entries, len};
 ghost use Rattle.ov_db.specs.Changing.{applied};
+ghost use Rattle.ov_index.specs.Changing.{are_any_alike};
 ghost use Rattle.ov_index.specs.Indexing.{AreIndexesOf};
 ghost use Rattle.ov_rows.specs.Lending.{lent_row_of};
 ghost use Rattle.ov_specs.specs.operations.Conditions as conditions;
@@ -9,6 +10,7 @@ ghost use Rattle.ov_specs.specs.operations.MatchingRows.{matching};
 ghost use Rattle.ov_specs.specs.rows.Database.{same_database};
 ghost use Rattle.ov_specs.specs.rows.Version.{row_now};
 ghost use Rattle.std.specs.Str.{bytes_eq};
+ghost use Rattle.ov_stage.specs.Apart.{AreToldApart};
 ghost use Rattle.ov_stage.specs.Asked.{Ascend, AreIdsOf};
 ghost use Rattle.ov_stage.specs.Staging.{Differs, is_met, with_key};
 
@@ -17,6 +19,8 @@ use crate::former::is_former;
 use crate::indexed::Indexed;
 use crate::lookup::{row_after, rows_of_ids};
 use crate::merge::{rows_after, rows_of};
+use crate::projection::is_among;
+use ov_base::Text;
 use ov_conds::Condition;
 use ov_db::Delta;
 use ov_index::Indexes;
@@ -30,7 +34,7 @@ use uuid::Uuid;
 #[derive(Drop)]
 pub struct Stage<'a> {
     rows: &'a Rows,
-    /// The indexes of these rows, where they are kept.
+    /// The indexes of these rows, where they are kept. No two of the rows are alike in one.
     indexed: Option<Indexed<'a>>,
     delta: Delta,
 }
@@ -61,8 +65,8 @@ impl<'a> Stage<'a> {
         }
     }
 
-    /// The rows before the first operation, with their indexes: where conditions ask for values in all columns of an index, only
-    /// the rows that have them are looked at.
+    /// The rows before the first operation, of which no two are alike in an index, with their indexes: where conditions ask for
+    /// values in all columns of an index, only the rows that have them are looked at.
     pub fn with_indexes(
         alloc: Global,
         schema: &'a Schema,
@@ -70,6 +74,7 @@ impl<'a> Stage<'a> {
         indexes: &'a Indexes,
     ) -> Stage<'a>
         requires indexed { AreIndexesOf schema.now rows.now indexes.now }
+        requires apart { are_any_alike schema.now rows.now ≡ false }
         ensures { result ≡ record { before = rows.now; now = rows.now } }
     {
         Stage {
@@ -223,7 +228,27 @@ impl<'a> Stage<'a> {
         ensures { IfOk result (λ rows. map (lent_row_of table.now) rows.items ≡ matching self.now.now table.now conditions.now) }
     {
         let rows = self.candidates(alloc, table, conditions)?;
-        meeting(alloc, rows.as_slice(), conditions)
+        meeting(alloc, rows, conditions)
+    }
+
+    /// Whether an index tells the rows of the table of this name apart, of which these columns are shown. Of the rows that
+    /// operations have put two may be alike until the commit, so where there are changes no index does.
+    fn has_any_index(&self, table: &str, names: &[Text]) -> bool
+        ensures { result ≡ true → AreToldApart self.now.now table.now names.now }
+    {
+        match self.indexed {
+            Some(indexed) => self.delta.is_empty() && indexed.has_any(table, names),
+            None => false,
+        }
+    }
+
+    /// Whether these columns tell the rows of the table of this name apart, so that no two are equal in all of them: where the
+    /// identifiers are among them, and, as long as nothing is changed, where all columns of an index are. No row is looked at:
+    /// false says nothing of the rows.
+    pub fn tells_apart(&self, table: &str, names: &[Text]) -> bool
+        ensures { result ≡ true → AreToldApart self.now.now table.now names.now }
+    {
+        is_among(names, "_uuid") || self.has_any_index(table, names)
     }
 
     /// What the operations have changed. It is empty exactly where the rows are as before them.

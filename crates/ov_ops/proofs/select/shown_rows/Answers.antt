@@ -1,14 +1,12 @@
-use Rattle.std.proofs.Common.{◌++◌, map, sym, ap, ◌∙◌, append-nil, arith}
-use Rattle.std.proofs.lemmas.List.{drop_all}
+use Rattle.std.proofs.Common.{map, sym, ap, ◌∙◌}
+use Rattle.std.proofs.lemmas.Result.{IfOk-weaker}
 use Rattle.ov_specs.specs.operations.Select.{projection}
-use Rattle.ov_rows.specs.Lending.{lent_row_of}
+use Rattle.ov_ops.specs.Shown.{shown_of}
+use Rattle.ov_ops.proofs.Showing.{shown-lent}
 use Rattle.ov_ops.proofs.select.shown_rows.Goals as goal
 
 pub returns : goal.returns
 returns c =
-    let table = c.args.table.now in
     let names = c.args.names.now in
-    sym (ap (map (projection names)) (sym (ap (map (lent_row_of table)) c.deref-row-items.ensures.value ∙ c.in_ok-rows.ensures))
-    ∙ c.loop-row.invariant
-    ∙ ap (λ rs. c.loop-row.shown.items ++ map (projection names) (map (lent_row_of table) rs)) (drop_all c.loop-row.row-index c.deref-row-items.result.now (omega arith))
-    ∙ append-nil c.loop-row.shown.items)
+    IfOk-weaker c.shown_of.result _ _ (λ shown h.
+    h ∙ ap (map (shown_of names)) c.as_slice.ensures.value ∙ sym (shown-lent names c.args.table.now c.in_ok-found.found.items) ∙ ap (map (projection names)) c.in_ok-found.ensures) c.shown_of.ensures

@@ -1,11 +1,13 @@
 use Rattle.std.proofs.Common.{◌≡◌, ◌∙◌, ◌<◌, ◌+◌, List, ◌∷◌, length, drop, true, sym, ap, subst, arith}
-use Rattle.std.specs.List.{list_all}
-use Rattle.std.proofs.lemmas.Bool.{and_parts}
+use Rattle.std.specs.FinMap.{entries}
+use Rattle.std.specs.List.{list_all, list_any}
+use Rattle.std.proofs.lemmas.Bool.{and_parts, or_parts}
 use Rattle.std.proofs.lemmas.List.{drop_all}
 use Rattle.std.proofs.lemmas.Result.{IfOk-weaker}
 use Rattle.serde_json.specs.View.{view, items_view}
 use Rattle.ov_refs.specs.Linking.{AreLinksOf}
 use Rattle.ov_specs.specs.integrity.Committed.{is_whole}
+use Rattle.ov_specs.specs.integrity.Limits.{has_duplicates, has_too_many}
 use Rattle.ov_specs.specs.operations.Errors.{error_tree}
 use Rattle.ov_specs.specs.operations.Operation.{outcome_of}
 use Rattle.ov_specs.specs.operations.OpOutcome.{OpContext, Done, Fault}
@@ -13,6 +15,7 @@ use Rattle.ov_specs.specs.operations.Transaction.{TransactionOutcome, Completes,
 use Rattle.ov_specs.specs.rows.Database.{Database}
 use Rattle.ov_specs.specs.rows.Suits.{Suits}
 use Rattle.ov_specs.specs.values.Uuid.{Uuid, is_uuid}
+use Rattle.ov_specs.proofs.laws.Committing.{IsWhole, whole_is}
 use Rattle.ov_specs.proofs.laws.OutcomeSuiting.{SuitsOutcome, outcome_suits}
 use Rattle.ov_given.specs.Naming.{Naming}
 use Rattle.ov_stage.specs.Staging.{Stage}
@@ -21,6 +24,12 @@ use Rattle.ov_txn.specs.Results.{nulls_after}
 use Rattle.ov_txn.proofs.Ending.{unchanged, ends_as}
 use Rattle.ov_txn.proofs.Performing.{prefixed_none, items_at, at_does, at_fails, at_end}
 use Rattle.ov_txn.proofs.perform.perform_operations.Goals as goal
+
+pub with_indexes-stage-requires-clause-apart : goal.with_indexes-stage-requires-clause-apart
+with_indexes-stage-requires-clause-apart g c =
+    let schema = c.args.schema.now in
+    let rows = c.args.rows.now in
+    (or_parts (list_any (has_too_many rows) (entries schema.tables)) (list_any (has_duplicates rows) (entries schema.tables)) (IsWhole.limited (whole_is schema rows c.requires.whole))).1
 
 pub loop-place-init : goal.loop-place-init
 loop-place-init g c =

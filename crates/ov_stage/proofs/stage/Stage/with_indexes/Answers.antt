@@ -6,7 +6,7 @@ use Rattle.ov_stage.proofs.Stages.{applied-empty, differs-empty}
 use Rattle.ov_stage.proofs.stage.Stage.with_indexes.Goals as goal
 
 pub invariant_of-result : goal.invariant_of-result
-invariant_of-result c = (subst (λ (d : Delta). Differs d c.args.rows.now) (sym c.new.ensures) (differs-empty c.args.rows.now), c.requires.indexed)
+invariant_of-result c = (subst (λ (d : Delta). Differs d c.args.rows.now) (sym c.new.ensures) (differs-empty c.args.rows.now), (c.requires.indexed, c.requires.apart))
 
 pub returns : goal.returns
 returns c =

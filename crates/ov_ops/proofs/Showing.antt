@@ -1,0 +1,15 @@
+-- What is shown of rows that are lent, whatever the name of their table.
+use Rattle.std.proofs.Common.{◌≡◌, ℕ, List, [], ◌∷◌, map, refl, ap}
+use Rattle.ov_rows.specs.Lending.{lent_row_of}
+use Rattle.ov_rows.specs.declared.row_view.RowView.{RowView}
+use Rattle.ov_specs.specs.operations.Select.{projection, written_row}
+use Rattle.ov_ops.specs.Shown.{shown_of}
+
+module _ (names : List (List ℕ)) where
+  pub shown-lent : (table : List ℕ) (rows : List RowView) → map (projection names) (map (lent_row_of table) rows) ≡ map (shown_of names) rows
+  shown-lent table [] = refl
+  shown-lent table (r ∷ rows) = ap (λ rest. shown_of names r ∷ rest) (shown-lent table rows)
+
+  pub written-shown : (rows : List RowView) → map (λ r. written_row (shown_of names r)) rows ≡ map written_row (map (shown_of names) rows)
+  written-shown [] = refl
+  written-shown (r ∷ rows) = ap (λ rest. written_row (shown_of names r) ∷ rest) (written-shown rows)
