@@ -1,41 +1,73 @@
 ghost use Rattle.std.specs.Prelude.{◌≡◌, List, ℕ, IfOk, string_bytes};
 
+use Stored::*;
+use arrayvec::ArrayString;
 use std::alloc::{AllocError, Global};
 use std::marker::Model;
 
-/// A text, which contracts see as its bytes.
+/// The most bytes of a text that has no memory of its own.
+const INLINE: usize = 16;
+
+/// Where the bytes of a text lie: in the value itself while they are few, else in memory of their own. Most names of tables and
+/// of rows are short, so that keys with them are compared and copied in place.
 #[derive(Drop)]
+enum Stored {
+    Short(ArrayString<INLINE>),
+    Long(String),
+}
+
+/// A text, which contracts see as its bytes.
 pub struct Text {
-    text: String,
+    stored: Stored,
 }
 
 impl Model for Text {
-    ghost use Rattle.std.specs.Prelude.{List, ℕ, string_bytes};
+    ghost use Rattle.std.specs.Prelude.{List, ℕ};
+    ghost use Rattle.ov_base.specs.Stored.{bytes_in};
 
     ghost Value = { List ℕ };
 
-    ghost view = { λ t. string_bytes t.text };
+    ghost view = { λ t. bytes_in t.stored };
+}
+
+impl Drop for Text {
+    // A drop of its own, so that whoever drops a text need not know where its bytes lie.
+    fn drop(self) {
+        let Text { stored } = self;
+        drop(stored);
+    }
 }
 
 impl Text {
-    /// The same text, not copied.
+    /// The same text. It is copied where it is short.
     pub fn from_string(text: String) -> Text
         ensures { result ≡ string_bytes text }
     {
-        Text { text }
+        let stored = match ArrayString::from(text.as_str()) {
+            Ok(short) => Short(short),
+            Err(_) => Long(text),
+        };
+        Text { stored }
     }
 
     /// A copy of a text.
     pub fn from_str(alloc: Global, text: &str) -> Result<Text, AllocError>
         ensures { IfOk result (λ t. t ≡ text.now) }
     {
-        Ok(Text::from_string(String::from_str(alloc, text)?))
+        let stored = match ArrayString::from(text) {
+            Ok(short) => Short(short),
+            Err(_) => Long(String::from_str(alloc, text)?),
+        };
+        Ok(Text { stored })
     }
 
     /// The text, to be read.
     pub fn as_str(&self) -> &str
         ensures { result.now ≡ self.now }
     {
-        self.text.as_str()
+        match &self.stored {
+            Short(short) => short.as_str(),
+            Long(text) => text.as_str(),
+        }
     }
 }
