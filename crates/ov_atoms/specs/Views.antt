@@ -1,6 +1,5 @@
 -- The kinds, atoms and values of the code as those of the definitions.
-use Rattle.std.specs.Prelude.{List, map, T}
-use Rattle.std.specs.FinMap.{is_sorted}
+use Rattle.std.specs.Prelude.{List, map}
 use Rattle.ov_specs.specs.values.Value as value
 use Rattle.ov_atoms.specs.declared.kind.AtomKind.{AtomKind}
 use Rattle.ov_atoms.specs.declared.kind.AtomKind.TheVariants as kind
@@ -8,8 +7,6 @@ use Rattle.ov_atoms.specs.declared.kind.Kinds.{Kinds}
 use Rattle.ov_atoms.specs.declared.kind.Kinds.TheVariants.{Single, Pair}
 use Rattle.ov_atoms.specs.declared.atom.Atom.{Atom}
 use Rattle.ov_atoms.specs.declared.atom.Atom.TheVariants as atom
-use Rattle.ov_atoms.specs.declared.datum.SortedElements.{SortedElements}
-use Rattle.ov_atoms.specs.declared.datum.SortedElements.TheVariants.{Atoms, Pairs}
 
 -- an atomic type
 abbrev pub kind_view : AtomKind → value.AtomKind
@@ -41,13 +38,3 @@ atoms_view = map atom_view
 -- pairs in a list
 abbrev pub pairs_view : List (Atom × Atom) → List (value.Atom × value.Atom)
 pairs_view = map pair_view
-
--- the set or the map that is kept as a list
-abbrev pub sorted_view : SortedElements → value.Datum
-sorted_view (Atoms atoms) = value.Atoms (value.set_of (atoms_view atoms.items))
-sorted_view (Pairs pairs) = value.Pairs (value.map_of (pairs_view pairs.items))
-
--- the list ascends, and repeats nothing
-abbrev pub IsAscending : SortedElements → Type 0
-IsAscending (Atoms atoms) = T (is_sorted value.atom_cmp (map value.marked (atoms_view atoms.items)))
-IsAscending (Pairs pairs) = T (is_sorted value.atom_cmp (pairs_view pairs.items))

@@ -6,6 +6,7 @@ ghost use Rattle.ov_specs.specs.values.Reading.{has_clash};
 ghost use Rattle.ov_atoms.specs.Views.{atom_view, kinds_view, atoms_view, pairs_view};
 
 use crate::atom::Atom;
+use crate::atom_list::AtomList;
 use crate::kind::Kinds;
 use std::alloc::{AllocError, Global};
 use std::cmp::Ordering;
@@ -21,14 +22,14 @@ pub struct Datum {
 /// Atoms, or pairs by their keys, ascending and without repeats.
 #[derive(Drop)]
 pub(crate) enum SortedElements {
-    Atoms(Vec<Atom>),
+    Atoms(AtomList),
     Pairs(Vec<(Atom, Atom)>),
 }
 
 impl Model for Datum {
     ghost use Rattle.ov_specs.specs.codes.ValueCode.{datum_code};
     ghost use Rattle.ov_specs.specs.values.Value as value;
-    ghost use Rattle.ov_atoms.specs.Views.{sorted_view, IsAscending};
+    ghost use Rattle.ov_atoms.specs.Sorted.{sorted_view, IsAscending};
 
     ghost Value = { value.Datum };
 
@@ -41,14 +42,12 @@ impl Model for Datum {
 
 impl Datum {
     /// The set of this one atom: a scalar.
-    pub fn of_atom(alloc: Global, atom: Atom) -> Result<Datum, AllocError>
-        ensures { IfOk result (λ d. d ≡ value.Atoms (value.set_of (atom_view atom ∷ []))) }
+    pub fn of_atom(atom: Atom) -> Datum
+        ensures { result ≡ value.Atoms (value.set_of (atom_view atom ∷ [])) }
     {
-        let mut atoms = Vec::with_capacity(alloc, 1)?;
-        atoms.push(atom)?;
-        Ok(Datum {
-            parts: SortedElements::Atoms(atoms),
-        })
+        Datum {
+            parts: SortedElements::Atoms(AtomList::one(atom)),
+        }
     }
 
     /// The set of these atoms, in whatever order. Equal ones merge.
@@ -60,7 +59,7 @@ impl Datum {
         atoms.sort()?;
         atoms.dedup();
         Ok(Datum {
-            parts: SortedElements::Atoms(atoms),
+            parts: SortedElements::Atoms(AtomList::from_vec(atoms)),
         })
     }
 
@@ -101,7 +100,7 @@ impl Datum {
     {
         match kinds {
             Kinds::Single(_) => Datum {
-                parts: SortedElements::Atoms(Vec::new(alloc)),
+                parts: SortedElements::Atoms(AtomList::from_vec(Vec::new(alloc))),
             },
             Kinds::Pair(_, _) => Datum {
                 parts: SortedElements::Pairs(Vec::new(alloc)),
@@ -114,7 +113,7 @@ impl Datum {
         ensures { IfOk result (λ d. d ≡ value.one_default_of (kinds_view kinds)) }
     {
         match kinds {
-            Kinds::Single(kind) => Datum::of_atom(alloc, Atom::default_of(alloc, kind)),
+            Kinds::Single(kind) => Ok(Datum::of_atom(Atom::default_of(alloc, kind))),
             Kinds::Pair(key, value) => {
                 let mut pairs = Vec::new(alloc);
                 pairs.push((Atom::default_of(alloc, key), Atom::default_of(alloc, value)))?;
@@ -161,7 +160,7 @@ impl Datum {
     {
         match &self.parts {
             SortedElements::Atoms(atoms) => {
-                let atoms = copy_atoms(alloc, atoms.as_slice())?;
+                let atoms = atoms.copy(alloc)?;
                 Ok(Datum {
                     parts: SortedElements::Atoms(atoms),
                 })
@@ -207,16 +206,6 @@ fn merge_pairs(
         }
     }
     Ok(Some(map))
-}
-
-fn copy_atoms(alloc: Global, atoms: &[Atom]) -> Result<Vec<Atom>, AllocError>
-    ensures { IfOk result (λ v. atoms_view v.items ≡ atoms_view atoms.now) }
-{
-    let mut copies = Vec::with_capacity(alloc, atoms.len())?;
-    for atom in atoms {
-        copies.push(atom.copy(alloc)?)?;
-    }
-    Ok(copies)
 }
 
 fn copy_pairs(alloc: Global, pairs: &[(Atom, Atom)]) -> Result<Vec<(Atom, Atom)>, AllocError>

@@ -5,6 +5,7 @@
 #![tactic(auto)]
 
 mod atom;
+mod atom_list;
 mod datum;
 mod fault;
 mod id;

@@ -32,7 +32,7 @@ fn guess_datum(alloc: Global, reader: &mut Reader<'_>) -> Result<Datum, AtomFaul
     let token = reader.next().ok_or(AtomFault::Syntax)?;
     match token {
         Token::BeginArray => guess_listed(alloc, reader),
-        _ => Ok(Datum::of_atom(alloc, scalar_of(alloc, token)?)?),
+        _ => Ok(Datum::of_atom(scalar_of(alloc, token)?)),
     }
 }
 
@@ -42,7 +42,7 @@ fn guess_listed(alloc: Global, reader: &mut Reader<'_>) -> Result<Datum, AtomFau
         return Err(AtomFault::Syntax);
     };
     if word == "uuid" {
-        return Ok(Datum::of_atom(alloc, guess_uuid(reader)?)?);
+        return Ok(Datum::of_atom(guess_uuid(reader)?));
     }
     let _bracket = reader.next();
     let datum = if word == "set" {

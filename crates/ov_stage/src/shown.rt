@@ -40,10 +40,10 @@ impl Model for ShownRow {
 }
 
 /// A set of one identifier (RFC 7047, 5.1, `<uuid>`).
-fn one_uuid(alloc: Global, id: Uuid) -> Result<Datum, AllocError>
-    ensures { IfOk result (λ d. d ≡ one_uuid id) }
+fn one_uuid(id: Uuid) -> Datum
+    ensures { result ≡ one_uuid id }
 {
-    Datum::of_atom(alloc, Atom::Uuid(id))
+    Datum::of_atom(Atom::Uuid(id))
 }
 
 /// The value of a row's column, `_uuid` and `_version` too (RFC 7047, 3.2).
@@ -52,10 +52,10 @@ fn column_of(alloc: Global, row: &RowView<'_>, name: &str) -> Result<Option<Datu
 {
     let stored = row.row;
     if name == "_uuid" {
-        return Ok(Some(one_uuid(alloc, *row.id)?));
+        return Ok(Some(one_uuid(*row.id)));
     }
     if name == "_version" {
-        return Ok(Some(one_uuid(alloc, stored.version)?));
+        return Ok(Some(one_uuid(stored.version)));
     }
     match stored.columns.get(name) {
         Some(datum) => Ok(Some(datum.copy(alloc)?)),
@@ -119,10 +119,10 @@ fn put_shown(
 {
     let stored = row.row;
     if name == "_uuid" {
-        return put_column(alloc, members, name, &one_uuid(alloc, *row.id)?);
+        return put_column(alloc, members, name, &one_uuid(*row.id));
     }
     if name == "_version" {
-        return put_column(alloc, members, name, &one_uuid(alloc, stored.version)?);
+        return put_column(alloc, members, name, &one_uuid(stored.version));
     }
     match stored.columns.get(name) {
         Some(datum) => put_column(alloc, members, name, datum),

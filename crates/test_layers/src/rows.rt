@@ -69,7 +69,7 @@ struct Gathered {
 impl Gathered {
     /// Puts a text at a column.
     fn put(&mut self, alloc: Global, name: &str, text: &str) -> Result<(), AllocError> {
-        let datum = Datum::of_atom(alloc, Atom::Text(Text::from_str(alloc, text)?))?;
+        let datum = Datum::of_atom(Atom::Text(Text::from_str(alloc, text)?));
         self.values.insert(String::from_str(alloc, name)?, datum)
     }
 

@@ -200,7 +200,7 @@ fn sets_are_made_of_atoms(rt: HostRuntime) -> Result<(), Fail> {
 
 #[test]
 fn one_atom_is_a_set(rt: HostRuntime) -> Result<(), Fail> {
-    let one = Datum::of_atom(rt.alloc(), Atom::Boolean(true))?;
+    let one = Datum::of_atom(Atom::Boolean(true));
     assert_eq!(rt; one.atoms().map(|atoms| atoms.len()), Some(1));
     assert!(rt; numbers(rt.alloc())? < one);
     Ok(())

@@ -3,18 +3,18 @@ use Rattle.std.proofs.lemmas.Result.{IfOk-weaker}
 use Rattle.ov_specs.specs.values.Reading.{reads}
 use Rattle.ov_specs.specs.values.Writing.{set_tree, map_tree}
 use Rattle.ov_specs.proofs.laws.ReadingBack.{reads-tree}
-use Rattle.ov_atoms.specs.Views.{atoms_view, pairs_view}
+use Rattle.ov_atoms.specs.Views.{pairs_view}
 use Rattle.ov_atoms.proofs.Trees.{set_tree-atoms, map_tree-pairs}
 use Rattle.ov_atoms.proofs.write.write_datum.Goals as goal
 
 pub returns-in-Atoms-clause-written : goal.returns-in-Atoms-clause-written
 returns-in-Atoms-clause-written c =
-    let whole = ap (λ xs. set_tree (atoms_view xs)) c.as_slice.ensures.value ∙ set_tree-atoms c.datum.inside.parts c.in-Atoms.atoms c.args.datum.now c.in-Atoms.is c.datum.invariant c.datum.view_is in
+    let whole = ap set_tree c.as_slice.ensures ∙ set_tree-atoms c.datum.inside.parts c.in-Atoms.atoms c.args.datum.now c.in-Atoms.is c.datum.invariant c.datum.view_is in
     IfOk-weaker c.write_atoms.result _ _ (λ v e. e ∙ whole) c.write_atoms.ensures.written
 
 pub returns-in-Atoms-clause-reads_back : goal.returns-in-Atoms-clause-reads_back
 returns-in-Atoms-clause-reads_back c =
-    let whole = ap (λ xs. set_tree (atoms_view xs)) c.as_slice.ensures.value ∙ set_tree-atoms c.datum.inside.parts c.in-Atoms.atoms c.args.datum.now c.in-Atoms.is c.datum.invariant c.datum.view_is in
+    let whole = ap set_tree c.as_slice.ensures ∙ set_tree-atoms c.datum.inside.parts c.in-Atoms.atoms c.args.datum.now c.in-Atoms.is c.datum.invariant c.datum.view_is in
     IfOk-weaker c.write_atoms.result _ _ (λ v e names kinds h. ap (reads names kinds) (e ∙ whole) ∙ reads-tree names kinds c.args.datum.now h) c.write_atoms.ensures.written
 
 pub returns-in-Pairs-clause-written : goal.returns-in-Pairs-clause-written
