@@ -3,3 +3,4 @@ pub mod KeyOrder
 pub mod Indexing
 pub mod Changing
 pub mod Collecting
+pub mod StoredValues

@@ -1,6 +1,7 @@
 ghost use Rattle.std.specs.Prelude.{◌≡◌, IfOk};
 ghost use Rattle.ov_index.specs.IndexKeys.{key_at, values_in};
 
+use crate::key_values::KeyValues;
 use ov_atoms::Datum;
 use ov_base::Text;
 use ov_rows::Columns;
@@ -14,7 +15,7 @@ use std::marker::Model;
 pub struct IndexKey {
     table: Text,
     number: usize,
-    values: Vec<Datum>,
+    values: KeyValues,
 }
 
 impl Model for IndexKey {
@@ -25,7 +26,7 @@ impl Model for IndexKey {
 
     ghost coded = { index_key_code };
 
-    ghost view = { λ k. record { table = k.table; number = k.number; values = k.values.items } };
+    ghost view = { λ k. record { table = k.table; number = k.number; values = k.values } };
 }
 
 impl IndexKey {
@@ -41,7 +42,7 @@ impl IndexKey {
         Ok(IndexKey {
             table: Text::from_str(alloc, table)?,
             number,
-            values,
+            values: KeyValues::from_vec(values),
         })
     }
 
@@ -55,7 +56,11 @@ impl IndexKey {
     ) -> Result<IndexKey, AllocError>
         ensures { IfOk result (λ key. key ≡ key_at table.now number index.now columns.now) }
     {
-        IndexKey::new(alloc, table, number, values_in(alloc, index, columns)?)
+        Ok(IndexKey {
+            table: Text::from_str(alloc, table)?,
+            number,
+            values: KeyValues::of(alloc, index, columns)?,
+        })
     }
 
     /// The name of the table.
@@ -83,33 +88,12 @@ impl IndexKey {
     pub fn copy(&self, alloc: Global) -> Result<IndexKey, AllocError>
         ensures { IfOk result (λ key. key ≡ self.now) }
     {
-        let values = copied(alloc, self.values.as_slice())?;
-        IndexKey::new(alloc, self.table.as_str(), self.number, values)
+        Ok(IndexKey {
+            table: Text::from_str(alloc, self.table.as_str())?,
+            number: self.number,
+            values: self.values.copy(alloc)?,
+        })
     }
-}
-
-/// Copies of the values in the columns of an index.
-fn values_in(alloc: Global, index: &[Text], columns: &Columns) -> Result<Vec<Datum>, AllocError>
-    ensures { IfOk result (λ values. values.items ≡ values_in index.now columns.now) }
-{
-    let mut values = Vec::with_capacity(alloc, index.len())?;
-    for name in index {
-        if let Some(datum) = columns.get(name.as_str()) {
-            values.push(datum.copy(alloc)?)?;
-        }
-    }
-    Ok(values)
-}
-
-/// Copies of these values.
-fn copied(alloc: Global, values: &[Datum]) -> Result<Vec<Datum>, AllocError>
-    ensures { IfOk result (λ copies. copies.items ≡ values.now) }
-{
-    let mut copies = Vec::with_capacity(alloc, values.len())?;
-    for datum in values {
-        copies.push(datum.copy(alloc)?)?;
-    }
-    Ok(copies)
 }
 
 impl PartialEq for IndexKey {

@@ -7,6 +7,7 @@ mod entry;
 mod id_set;
 mod indexes;
 mod key;
+mod key_values;
 mod limits;
 mod placing;
 
