@@ -1,6 +1,7 @@
 pub mod Keys
 pub mod Lacking
 pub mod Fewer
+pub mod Bounded
 pub mod PrunedAt
 pub mod Short
 pub mod Entries

@@ -1,5 +1,5 @@
 -- Whether a strong reference is to a row that is not there, by the keys that a transaction has changed.
-use Rattle.std.proofs.Common.{◌≡◌, List, Bool, true, false, ◌&&◌, ◌⊎◌, inl, inr, not, Option, Some, None, refl, sym, ap, ◌∙◌}
+use Rattle.std.proofs.Common.{◌≡◌, Bool, true, false, ◌&&◌, ◌⊎◌, inl, inr, not, Option, Some, None, refl, sym, ap, ◌∙◌}
 use Rattle.std.proofs.lemmas.Bool.{not_from_false}
 use Rattle.std.specs.FinMap.{get, contains_key, keys}
 use Rattle.std.specs.List.{list_any}

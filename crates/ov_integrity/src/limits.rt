@@ -1,21 +1,39 @@
-ghost use Rattle.std.specs.Prelude.{◌≡◌, true, List, ℕ, Bool, IfOk};
+ghost use Rattle.std.specs.Prelude.{◌≡◌, true, length, List, ℕ, Bool, IfOk};
 ghost use Rattle.std.specs.FinMap.{entries};
 ghost use Rattle.std.specs.List.{list_any};
 ghost use Rattle.ov_index.specs.Indexing.{AreIndexesOf};
-ghost use Rattle.ov_integrity.specs.Counting.{is_overfull};
+ghost use Rattle.ov_integrity.specs.Counting.{IsAtMost, is_overfull};
 ghost use Rattle.ov_specs.specs.integrity.Committed.{is_whole};
-ghost use Rattle.ov_specs.specs.integrity.Limits.{has_too_many, is_over_limits};
+ghost use Rattle.ov_specs.specs.integrity.Limits.{has_too_many, is_over_limits, rows_of};
 ghost use Rattle.ov_specs.specs.rows.Suits.{Suits};
 
 use ov_base::Text;
 use ov_db::Delta;
 use ov_index::{Indexes, are_made_alike};
+use ov_rows::Rows;
 use ov_schema::Schema;
 use ov_stage::{Stage, is_among};
 use std::alloc::{AllocError, Global};
 
+/// How many rows there are of the table of this name.
+fn count_of(rows: &Rows, name: &str) -> usize
+    ensures { result ≡ length (rows_of name.now rows.now) }
+{
+    match rows.of_table(name) {
+        Some(table) => table.map().len(),
+        None => 0,
+    }
+}
+
+/// So many rows the table of this name has at most: no change adds more than one.
+fn most_rows(stage: &Stage<'_>, name: &str) -> i128
+    ensures { IsAtMost (length (rows_of name.now stage.now.now)) result }
+{
+    count_of(stage.before(), name) as i128 + stage.changes().map().len() as i128
+}
+
 /// Whether the table of this name has more rows than its `maxRows` (RFC 7047, 3.2, `<table-schema>`, maxRows). Rows are counted
-/// only where it has one.
+/// only where it has one, and listed only where the changes may have led past it.
 fn is_overfull(
     alloc: Global,
     schema: &Schema,
@@ -30,6 +48,9 @@ fn is_overfull(
     let Some(most) = table.max_rows() else {
         return Ok(false);
     };
+    if most_rows(stage, name) <= i128::from(most) {
+        return Ok(false);
+    }
     let rows = stage.rows_of(alloc, name)?;
     Ok(i128::from(most) < (rows.len() as i128))
 }
