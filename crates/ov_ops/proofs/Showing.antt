@@ -1,14 +1,20 @@
 -- What is shown of rows that are lent, whatever the name of their table.
-use Rattle.std.proofs.Common.{◌≡◌, ℕ, List, [], ◌∷◌, map, refl, ap}
+use Rattle.std.proofs.Common.{◌≡◌, ℕ, List, [], ◌∷◌, map, refl, sym, ap, ◌∙◌}
 use Rattle.ov_rows.specs.Lending.{lent_row_of}
 use Rattle.ov_rows.specs.declared.row_view.RowView.{RowView}
 use Rattle.ov_specs.specs.operations.Select.{projection, written_row}
+use Rattle.ov_specs.specs.rows.Database.{Row}
+use Rattle.ov_specs.specs.rows.Lines.{LineKey}
 use Rattle.ov_ops.specs.Shown.{shown_of}
 
 module _ (names : List (List ℕ)) where
   pub shown-lent : (table : List ℕ) (rows : List RowView) → map (projection names) (map (lent_row_of table) rows) ≡ map (shown_of names) rows
   shown-lent table [] = refl
   shown-lent table (r ∷ rows) = ap (λ rest. shown_of names r ∷ rest) (shown-lent table rows)
+
+  -- what is shown of the rows that were found, which are lent one after another
+  pub shown-found : (table : List ℕ) (lent rows : List RowView) (found : List (LineKey × Row)) → lent ≡ rows → map (lent_row_of table) rows ≡ found → map (shown_of names) lent ≡ map (projection names) found
+  shown-found table lent rows found same are = ap (map (shown_of names)) same ∙ sym (shown-lent table rows) ∙ ap (map (projection names)) are
 
   pub written-shown : (rows : List RowView) → map (λ r. written_row (shown_of names r)) rows ≡ map written_row (map (shown_of names) rows)
   written-shown [] = refl

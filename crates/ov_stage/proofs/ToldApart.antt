@@ -24,16 +24,12 @@ use Rattle.ov_stage.specs.Staging.{is_met}
 use Rattle.ov_stage.proofs.Meeting.{matching-of_table}
 use Rattle.ov_stage.proofs.Repeats.{Shown}
 use Rattle.ov_stage.proofs.SameRows.{same-is}
-use Rattle.ov_stage.proofs.Showing.{or_second, value_at}
+use Rattle.ov_stage.proofs.Showing.{behind_other, or_second, value_at}
 
 -- ---- what is shown of a column
 
 at_front : (name : List ℕ) (datum : Datum) (rest : Shown) → value_at name ((name, datum) ∷ rest) ≡ Some datum
 at_front name datum rest = ap (λ b. cond b (Some datum) (value_at name rest)) (text-same name)
-
-behind_other : (name other : List ℕ) (o : Option Datum) (rest : Shown) → bytes_eq name other ≡ false → value_at name (option_to_list (option_map (λ datum. (other, datum)) o) ++ rest) ≡ value_at name rest
-behind_other name other None rest h = refl
-behind_other name other (Some datum) rest h = ap (λ b. cond b (Some datum) (value_at name rest)) h
 
 module _ (r : LineKey × Row) (name : List ℕ) where
   -- with the column of this name in front
