@@ -3,12 +3,12 @@ use ov_atoms::NoNames;
 use ov_base::Text;
 use ov_rows::{RowKey, RowView, Rows};
 use ov_schema::Schema;
-use ov_stage::{OpFault, Stage, compared_columns, conditions_of, listed_columns};
+use ov_stage::{OpFault, Stage, compared_columns, conditions_of, listed_columns, shown_tree};
 use serde_json::Value;
 use std::alloc::Global;
 use std::mem;
 use std::test::Fail;
-use test_support::{Scripted, agrees, follows, net, number, switch};
+use test_support::{Scripted, agrees, compact, follows, net, number, switch};
 
 /// Rows are put and removed, and put as they were; what is left of that is no change.
 const STAGED: &str = r#"where [] -> 3/1;9/1;
@@ -49,13 +49,25 @@ listed [1] -> refused
 compared ["_uuid"] -> _uuid;
 compared -> load;main;name;ports;"#;
 
+/// Rows are shown with their columns by name, and told apart by their identifiers; by others only where an index does it.
+const SHOWN: &str = r#"apart ["_uuid","name"] -> true
+apart ["load","name"] -> false
+apart [] -> false
+remove 9
+shown ["name","load"] -> {"load":4,"name":"s1"}
+shown ["_version"] -> {"_version":["uuid","00000000-0000-0000-0000-000000000001"]}
+shown ["_uuid"] -> {"_uuid":["uuid","00000000-0000-0000-0000-000000000003"]}
+shown [] -> {}
+remove 3
+shown ["name"]"#;
+
 /// Two switches and a port.
 const COMMITTED: &str = "put Switch 9
 put Port 4
 put Switch 3";
 
 /// A stage over rows. The commands are `put ID VERSION LOAD`, `remove ID`, `has ID`, `where CONDITIONS`, `listed NAMES`,
-/// `compared NAMES`, and `changes`, which begins again. They are about switches.
+/// `compared NAMES`, `apart NAMES`, `shown NAMES`, and `changes`, which begins again. They are about switches.
 #[derive(Drop)]
 struct Staged<'a> {
     schema: Schema,
@@ -134,6 +146,35 @@ impl Staged<'_> {
         names_of(alloc, compared_columns(alloc, table, None))
     }
 
+    /// Whether the stage tells the switches apart by these columns.
+    fn apart(&self, alloc: Global, names: &str) -> Result<String, Fail> {
+        let names = self.chosen(alloc, names)?;
+        let are_apart = self.stage.tells_apart("Switch", names.as_slice());
+        Ok(format!(in alloc; "{are_apart}")?)
+    }
+
+    /// These columns of all switches.
+    fn shown(&self, alloc: Global, names: &str) -> Result<String, Fail> {
+        let names = self.chosen(alloc, names)?;
+        let rows = self.stage.rows_of(alloc, "Switch")?;
+        let mut text = String::new(alloc);
+        for row in &rows {
+            let tree = shown_tree(alloc, names.as_slice(), row)?;
+            text.push_str(compact(alloc, &tree)?.as_str())?;
+        }
+        Ok(text)
+    }
+
+    /// The columns of these names, each of which there must be.
+    fn chosen(&self, alloc: Global, names: &str) -> Result<Vec<Text>, Fail> {
+        let table = self.schema.table("Switch").ok_or("no table")?;
+        let tree = Value::from_str(alloc, names)?;
+        match listed_columns(alloc, table, &tree) {
+            Ok(names) => Ok(names),
+            Err(_) => Err(Fail::new(String::from_str(alloc, "refused")?)),
+        }
+    }
+
     /// How many changes there are.
     fn changes(&mut self, alloc: Global) -> Result<String, Fail> {
         let stage = mem::replace(&mut self.stage, Stage::new(alloc, self.rows));
@@ -155,6 +196,8 @@ impl Scripted for Staged<'_> {
             "listed" => return self.listed(alloc, rest),
             "compared" if rest.is_empty() => return self.compared_by_default(alloc),
             "compared" => return self.compared(alloc, rest),
+            "apart" => return self.apart(alloc, rest),
+            "shown" => return self.shown(alloc, rest),
             _ => return self.changes(alloc),
         }
         Ok(String::new(alloc))
@@ -194,4 +237,9 @@ fn a_row_is_found_by_its_identifier(rt: HostRuntime) -> Result<(), Fail> {
 #[test]
 fn columns_are_listed_and_compared(rt: HostRuntime) -> Result<(), Fail> {
     stages(rt.alloc(), COLUMNS)
+}
+
+#[test]
+fn rows_are_shown_and_told_apart(rt: HostRuntime) -> Result<(), Fail> {
+    stages(rt.alloc(), SHOWN)
 }

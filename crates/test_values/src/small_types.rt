@@ -51,12 +51,21 @@ fn bytes_give_back_what_they_were_made_of(rt: HostRuntime) -> Result<(), Fail> {
     Ok(())
 }
 
+/// Whether a text is the same, copied and not copied.
+fn is_kept(alloc: Global, text: &str) -> Result<bool, Fail> {
+    let copied = Text::from_str(alloc, text)?;
+    let moved = Text::from_string(String::from_str(alloc, text)?);
+    Ok(copied.as_str() == text && moved.as_str() == text)
+}
+
+/// Sixteen bytes lie in the text itself, and seventeen do not.
 #[test]
 fn texts_give_back_what_they_were_made_of(rt: HostRuntime) -> Result<(), Fail> {
-    let text = Text::from_str(rt.alloc(), "\u{e9}a")?;
-    assert_eq!(rt; text.as_str(), "\u{e9}a");
-    let text = Text::from_string(String::from_str(rt.alloc(), "b")?);
-    assert_eq!(rt; text.as_str(), "b");
+    assert!(rt; is_kept(rt.alloc(), "")?);
+    assert!(rt; is_kept(rt.alloc(), "\u{e9}a")?);
+    assert!(rt; is_kept(rt.alloc(), "sixteen letters.")?);
+    assert!(rt; is_kept(rt.alloc(), "seventeen letters")?);
+    assert!(rt; is_kept(rt.alloc(), "seventeen letters, and then some that are more")?);
     Ok(())
 }
 
