@@ -1,16 +1,18 @@
 -- The map of the code as that of the definitions, and what one entry more or less makes of it.
 use Rattle.std.proofs.Common.{◌≡◌, List, [], Bool, true, false, cond, T, Option, Some, None, refl, sym, ap, ◌∙◌}
-use Rattle.std.specs.Prelude.{unwrap_or}
+use Rattle.std.specs.Prelude.{unwrap_or, Result, Ok, Err, IfOk}
 use Rattle.std.specs.BTreeMap.{is_at, insert_entry}
 use Rattle.std.specs.Cmp.{eq_by_cmp_equiv}
-use Rattle.std.specs.FinMap.{is_sorted, empty, get, insert, remove, get-insert, same_map}
+use Rattle.std.specs.FinMap.{is_sorted, contains_key, empty, get, insert, remove, get-insert, same_map}
 use Rattle.std.specs.Map.{lookup}
 use Rattle.std.specs.Ordering.{eq_by_cmp}
+use Rattle.ov_specs.specs.schema.Schema.{is_some_and}
+use Rattle.ov_specs.specs.values.Uuid.{Uuid}
 use Rattle.ov_specs.proofs.laws.Truths.{equal_is}
 use Rattle.ov_rows.proofs.Maps.{get-lookup, from_sorted-insert, from_sorted-nil}
 use Rattle.ov_index.specs.Collecting.{with_entry}
 use Rattle.ov_index.specs.IndexKeys.{IndexKey, IndexEntry, index_cmp}
-use Rattle.ov_index.specs.Indexing.{IdSet, Indexes, indexes_of, lacking, has_none, without_none}
+use Rattle.ov_index.specs.Indexing.{IdSet, Indexes, indexes_of, is_indexed, lacking, has_none, without_none}
 use Rattle.ov_index.specs.KeyOrder.{index_total, index_exact}
 
 abbrev pub Entries : Type 0
@@ -71,3 +73,11 @@ without_none-goes key indexes is = ap (λ b. cond b (remove indexes key) indexes
 -- and else it stays
 pub without_none-stays : (key : IndexKey) (indexes : Indexes) → has_none (get indexes key) ≡ false → indexes ≡ without_none key indexes
 without_none-stays key indexes is = ap (λ b. cond b (remove indexes key) indexes) (sym is)
+
+-- what stands at a key tells whether a row does
+pub indexed-at : (es : Entries) (key : IndexKey) (id : Uuid) → T (is_sorted index_cmp es) → (found : Option IdSet) → found ≡ set_at key es → is_some_and (λ ids. contains_key ids id) found ≡ is_indexed (indexes_of es) key id
+indexed-at es key id h found is = ap (is_some_and (λ ids. contains_key ids id)) (is ∙ sym (get-indexes_of es key h))
+
+pub if_ok : {A E : Type 0} (r : Result A E) (P Q : A → Type 0) → ((a : A) → P a → Q a) → IfOk r P → IfOk r Q
+if_ok (Ok a) P Q f p = f a p
+if_ok (Err e) P Q f p = tt

@@ -64,6 +64,12 @@ module _ (e : IndexEntry) (indexes : Indexes) where
           gone false true h = refl
           gone false false h = refl
 
+-- one that was there is not listed
+module _ (e : IndexEntry) (indexes : Indexes) where
+  pub same-again : (added more : List IndexEntry) (after : Indexes) → true ≡ is_indexed indexes e.key e.id → after ≡ with_entry e indexes → more ≡ added → IsSameWithout added indexes more after
+  same-again added more after there put listed key id =
+      (λ i. (added-one e indexes after put key id ∙ sym (added-again e indexes there key id)) i && not (ap (has_entry key id) listed i))
+
 pub same-then : (added middle more : List IndexEntry) (indexes between after : Indexes) → IsSameWithout added indexes middle between → IsSameWithout middle between more after → IsSameWithout added indexes more after
 same-then added middle more indexes between after first then key id = then key id ∙ first key id
 

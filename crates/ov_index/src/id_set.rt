@@ -1,14 +1,14 @@
-ghost use Rattle.std.specs.Prelude.{◌≡◌, ◌==◌, OnOk, OnErr, IfOk};
+ghost use Rattle.std.specs.Prelude.{◌≡◌, ◌==◌, not, OnOk, OnErr, IfOk};
 ghost use Rattle.std.specs.FinMap.{empty, contains_key, insert, remove, keys, len};
 
+use smallvec::SmallVec;
 use std::alloc::{AllocError, Global};
 use std::marker::Model;
 use uuid::Uuid;
 
-/// The identifiers of the rows at a key, ascending. There is nearly always one.
-#[derive(Drop)]
+/// The identifiers of the rows at a key, ascending. There is nearly always one, which lies in the value itself.
 pub struct IdSet {
-    ids: Vec<Uuid>,
+    ids: SmallVec<Uuid, 1>,
 }
 
 impl Model for IdSet {
@@ -27,12 +27,20 @@ impl Model for IdSet {
     ghost invariant = { λ s. T (is_sorted id_cmp (map marked s.ids.items)) };
 }
 
+impl Drop for IdSet {
+    // A drop of its own, so that whoever drops a set need not know where its identifiers lie.
+    fn drop(self) {
+        let IdSet { ids } = self;
+        drop(ids);
+    }
+}
+
 impl IdSet {
-    /// This one alone. Memory is taken for one.
+    /// This one alone.
     pub(crate) fn of(alloc: Global, id: Uuid) -> Result<IdSet, AllocError>
         ensures { IfOk result (λ set. set ≡ insert empty id tt) }
     {
-        let mut ids = Vec::with_capacity(alloc, 1)?;
+        let mut ids = SmallVec::new(alloc);
         ids.push(id)?;
         Ok(IdSet { ids })
     }
@@ -51,13 +59,6 @@ impl IdSet {
         self.ids.is_empty()
     }
 
-    /// Whether this one is among them.
-    pub fn contains(&self, id: Uuid) -> bool
-        ensures { result ≡ contains_key self.now id }
-    {
-        self.ids.as_slice().binary_search(&id).is_ok()
-    }
-
     /// All of them, ascending.
     pub fn as_slice(&self) -> &[Uuid]
         ensures { result.now ≡ keys self.now }
@@ -65,15 +66,19 @@ impl IdSet {
         self.ids.as_slice()
     }
 
-    /// Adds this one, unless it is there. Where a growth is refused, nothing is changed.
-    pub(crate) fn insert(&mut self, id: Uuid) -> Result<(), AllocError>
+    /// Adds this one, unless it is there; whether it was not. Where a growth is refused, nothing is changed.
+    pub(crate) fn insert(&mut self, id: Uuid) -> Result<bool, AllocError>
         ensures ok { OnOk result (self.new ≡ insert self.old id tt) }
+        ensures is_new { IfOk result (λ is_new. is_new ≡ not (contains_key self.old id)) }
         ensures err { OnErr result (self.new ≡ self.old) }
     {
-        if let Err(place) = self.ids.as_slice().binary_search(&id) {
-            self.ids.insert(place, id)?;
+        match self.ids.as_slice().binary_search(&id) {
+            Ok(_) => Ok(false),
+            Err(place) => {
+                self.ids.insert(place, id)?;
+                Ok(true)
+            }
         }
-        Ok(())
     }
 
     /// Takes this one out, if it is there.

@@ -1,4 +1,4 @@
-ghost use Rattle.std.specs.Prelude.{◌≡◌, option_copied, IfOk, OnOk, OnErr};
+ghost use Rattle.std.specs.Prelude.{◌≡◌, not, option_copied, IfOk, OnOk, OnErr};
 ghost use Rattle.std.specs.FinMap.{empty, get, remove, entries};
 ghost use Rattle.ov_index.specs.Collecting.{entries_in, with_entry, with_entries, with_rows, has_indexes};
 ghost use Rattle.ov_index.specs.Indexing.{AreIndexesOf, is_indexed, lacking, has_none, without_entry, without_entries};
@@ -61,19 +61,10 @@ impl Indexes {
         &self.of
     }
 
-    /// Whether the row of this identifier is kept at the key.
-    pub fn contains(&self, key: &IndexKey, id: Uuid) -> bool
-        ensures { result ≡ is_indexed self.now key.now id }
-    {
-        match self.at(key) {
-            Some(ids) => ids.contains(id),
-            None => false,
-        }
-    }
-
-    /// One more row at the key of the entry, unless it is there. Where a growth is refused, nothing is changed.
-    pub(crate) fn add(&mut self, alloc: Global, entry: IndexEntry) -> Result<(), AllocError>
+    /// One more row at the key of the entry, unless it is there; whether it was not. Where a growth is refused, nothing is changed.
+    pub(crate) fn add(&mut self, alloc: Global, entry: IndexEntry) -> Result<bool, AllocError>
         ensures ok { OnOk result (self.new ≡ with_entry entry self.old) }
+        ensures is_new { IfOk result (λ is_new. is_new ≡ not (is_indexed self.old entry.key entry.id)) }
         ensures err { OnErr result (self.new ≡ self.old) }
     {
         let IndexEntry { key, id } = entry;
@@ -81,7 +72,7 @@ impl Indexes {
             Some(ids) => ids.insert(id),
             None => {
                 self.of.insert(key, IdSet::of(alloc, id)?)?;
-                Ok(())
+                Ok(true)
             }
         }
     }
@@ -120,7 +111,7 @@ impl Indexes {
         ensures { OnOk result (self.new ≡ with_rows schema.now (in_table name.now (entries rows.now)) self.old) }
     {
         for (id, row) in rows.map() {
-            let key = RowKey::new(alloc, name, *id)?;
+            let key = RowKey::new(alloc, name, *id.as_uuid())?;
             self.put_row(alloc, schema, &key, &row.columns)?;
         }
         Ok(())

@@ -43,13 +43,11 @@ impl Indexes {
         ensures back { IsSameWithout added.old.items self.old added.new.items self.new }
         ensures on { OnOk result (AreAdded (entry ∷ []) self.old self.new) }
     {
-        if self.contains(&entry.key, entry.id) {
-            return Ok(());
-        }
         added.reserve(1)?;
         let listed = entry.copy(alloc)?;
-        self.add(alloc, entry)?;
-        added.push_reserved(listed);
+        if self.add(alloc, entry)? {
+            added.push_reserved(listed);
+        }
         Ok(())
     }
 

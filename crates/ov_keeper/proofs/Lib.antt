@@ -1,4 +1,1 @@
 pub mod LineLemmas
-pub mod KeyMaps
-pub mod Added
-pub mod Places

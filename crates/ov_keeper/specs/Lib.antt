@@ -1,7 +1,5 @@
 pub mod Views
 pub mod Keeping
 pub mod ListKeeper
-pub mod KeyMaps
-pub mod Changing
-pub mod Placing
-pub mod MapKeeper
+pub mod LineCode
+pub mod VolatileKeeper

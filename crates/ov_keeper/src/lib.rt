@@ -2,18 +2,15 @@
 //! a keeper say what its calls make of what an open would find, also after a crash. What names no source is our own.
 #![tactic(auto)]
 
-mod changing;
 mod fault;
 mod keeper;
-mod key;
-mod key_map;
 mod line;
+mod line_trace;
 mod list;
-mod map;
-mod stored;
+mod volatile;
 
 pub use fault::KeepFault;
 pub use keeper::{Keeper, Loaded};
 pub use line::{Change, Line};
 pub use list::ListKeeper;
-pub use map::MapKeeper;
+pub use volatile::VolatileKeeper;

@@ -9,7 +9,7 @@ use crate::address::serve_at;
 use ov_base::Text;
 use ov_core::Schema;
 use ov_core::early::{Draws, KeepFault, Keeper};
-use ov_keeper::MapKeeper;
+use ov_keeper::VolatileKeeper;
 use ov_session::Ended;
 use ov_store::{Store, close_in_file, store_in_file};
 use ov_words::{Ending, ending_of_keeping};
@@ -39,11 +39,11 @@ where
         + Eprint
         + Sync,
     D: Draws + Drop,
-    ensures chain { (keeper : _) × (left : _) × IsNewKeeper ⟦<MapKeeper as Keeper>⟧ text keeper
-        × EndsChainAt ⟦<MapKeeper as Keeper>⟧ keeper schema draws count result left }
-    ensures honest { (keeper : _) → ⟦<MapKeeper as Keeper>⟧.is_honest keeper }
+    ensures chain { (keeper : _) × (left : _) × IsNewKeeper ⟦<VolatileKeeper as Keeper>⟧ text keeper
+        × EndsChainAt ⟦<VolatileKeeper as Keeper>⟧ keeper schema draws count result left }
+    ensures honest { (keeper : _) → ⟦<VolatileKeeper as Keeper>⟧.is_honest keeper }
 {
-    let keeper = MapKeeper::new(alloc, text);
+    let keeper = VolatileKeeper::new(text);
     serve_at(rt, alloc, keeper, schema, draws, address, count).ending
 }
 

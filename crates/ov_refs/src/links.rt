@@ -123,7 +123,7 @@ impl Links {
         ensures { OnOk result (self.new ≡ with_rows schema.now (in_table name.now (entries rows.now)) self.old) }
     {
         for (id, row) in rows.map() {
-            let key = RowKey::new(alloc, name, *id)?;
+            let key = RowKey::new(alloc, name, *id.as_uuid())?;
             self.add_row(alloc, schema, &key, &row.columns)?;
         }
         Ok(())

@@ -75,7 +75,7 @@ fn is_table_supported(
         return true;
     }
     for (id, _) in rows.map() {
-        if !is_held(holders, name, *id) {
+        if !is_held(holders, name, *id.as_uuid()) {
             return false;
         }
     }

@@ -1,5 +1,6 @@
 ghost use Rattle.std.specs.Prelude.{◌≡◌, IfOk};
 
+use crate::id::RowId;
 use ov_base::Text;
 use std::alloc::{AllocError, Global};
 use std::cmp::Ordering;
@@ -10,7 +11,7 @@ use uuid::Uuid;
 #[derive(Drop)]
 pub struct RowKey {
     table: Text,
-    id: Uuid,
+    id: RowId,
 }
 
 impl Model for RowKey {
@@ -31,7 +32,7 @@ impl RowKey {
     {
         Ok(RowKey {
             table: Text::from_str(alloc, table)?,
-            id,
+            id: RowId::new(id),
         })
     }
 
@@ -46,14 +47,14 @@ impl RowKey {
     pub fn id(&self) -> Uuid
         ensures { result ≡ self.now.1 }
     {
-        self.id
+        *self.id.as_uuid()
     }
 
     /// The row's identifier, lent.
     pub fn as_id(&self) -> &Uuid
         ensures { result.now ≡ self.now.1 }
     {
-        &self.id
+        self.id.as_uuid()
     }
 }
 

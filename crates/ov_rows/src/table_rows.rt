@@ -1,6 +1,7 @@
 ghost use Rattle.std.specs.Prelude.{◌≡◌, option_copied, IfOk, OnOk, OnErr, None};
 ghost use Rattle.std.specs.FinMap.{empty, get, insert, remove, entries};
 
+use crate::id::RowId;
 use crate::row::Row;
 use std::alloc::{AllocError, Global};
 use std::collections::BTreeMap;
@@ -10,7 +11,7 @@ use uuid::Uuid;
 /// The rows of one table, by their identifiers (RFC 7047, 3.2).
 #[derive(Drop)]
 pub struct TableRows {
-    rows: BTreeMap<Uuid, Row>,
+    rows: BTreeMap<RowId, Row>,
 }
 
 impl Model for TableRows {
@@ -45,11 +46,11 @@ impl TableRows {
     pub fn row(&self, id: Uuid) -> Option<&Row>
         ensures { option_copied result ≡ get self.now id }
     {
-        self.rows.get(&id)
+        self.rows.get(&RowId::new(id))
     }
 
     /// All rows, in ascending order of their identifiers.
-    pub fn map(&self) -> &BTreeMap<Uuid, Row>
+    pub fn map(&self) -> &BTreeMap<RowId, Row>
         ensures { result.now.entries ≡ entries self.now }
     {
         &self.rows
@@ -61,7 +62,7 @@ impl TableRows {
         ensures err { OnErr result (self.new ≡ self.old) }
         ensures absent { OnErr result (get self.old id ≡ None) }
     {
-        match self.rows.insert(id, row) {
+        match self.rows.insert(RowId::new(id), row) {
             Ok(_) => Ok(()),
             Err(_) => Err(AllocError),
         }
@@ -71,6 +72,6 @@ impl TableRows {
     pub(crate) fn remove(&mut self, id: Uuid)
         ensures { self.new ≡ remove self.old id }
     {
-        self.rows.remove(&id);
+        self.rows.remove(&RowId::new(id));
     }
 }

@@ -11,7 +11,7 @@ use ov_base::Text;
 use ov_core::Schema;
 use ov_core::early::{Draws, KeepFault, Keeper};
 use ov_ends::Clock;
-use ov_keeper::MapKeeper;
+use ov_keeper::VolatileKeeper;
 use ov_store::{Store, close_in_file, store_in_file};
 use ov_words::{Ending, ending_of_keeping};
 use sqlite::{FileFrom, FileStore, Start};
@@ -31,12 +31,12 @@ pub fn serve_memory<'a, R: Wait + SystemClock, D: Draws + Drop, I: Read + Drop, 
     input: I,
     output: O,
 ) -> Ending
-    ensures chain { (keeper : _) × (left : _) × IsNewKeeper ⟦<MapKeeper as Keeper>⟧ text keeper
-        × EndsOver ⟦<MapKeeper as Keeper>⟧ ⟦<MonotonicClock<'a, R> as Clock>⟧.tells keeper schema draws
+    ensures chain { (keeper : _) × (left : _) × IsNewKeeper ⟦<VolatileKeeper as Keeper>⟧ text keeper
+        × EndsOver ⟦<VolatileKeeper as Keeper>⟧ ⟦<MonotonicClock<'a, R> as Clock>⟧.tells keeper schema draws
         (I.remaining input) (O.contents output) result left }
-    ensures honest { (keeper : _) → ⟦<MapKeeper as Keeper>⟧.is_honest keeper }
+    ensures honest { (keeper : _) → ⟦<VolatileKeeper as Keeper>⟧.is_honest keeper }
 {
-    let keeper = MapKeeper::new(alloc, text);
+    let keeper = VolatileKeeper::new(text);
     serve_over(rt, alloc, keeper, schema, draws, input, output).ending
 }
 

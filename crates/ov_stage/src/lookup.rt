@@ -7,7 +7,7 @@ ghost use Rattle.ov_stage.specs.Asked.{rows_of_ids};
 ghost use Rattle.ov_stage.specs.Staging.{with_key};
 
 use ov_db::Delta;
-use ov_rows::{Row, RowKey, RowView, Rows, TableRows};
+use ov_rows::{Row, RowId, RowKey, RowView, Rows, TableRows};
 use std::alloc::{AllocError, Global};
 use uuid::Uuid;
 
@@ -15,8 +15,11 @@ use uuid::Uuid;
 fn row_in<'a>(table: &'a TableRows, id: Uuid) -> Option<RowView<'a>>
     ensures { option_map lent_row result ≡ with_key id (get table.now id) }
 {
-    match table.map().get_key_value(&id) {
-        Some((id, row)) => Some(RowView { id, row }),
+    match table.map().get_key_value(&RowId::new(id)) {
+        Some((id, row)) => Some(RowView {
+            id: id.as_uuid(),
+            row,
+        }),
         None => None,
     }
 }

@@ -20,7 +20,10 @@ fn listed<'a>(alloc: Global, table: &'a TableRows) -> Result<Vec<RowView<'a>>, A
 {
     let mut rows = Vec::with_capacity(alloc, table.map().len())?;
     for (id, row) in table.map() {
-        rows.push(RowView { id, row })?;
+        rows.push(RowView {
+            id: id.as_uuid(),
+            row,
+        })?;
     }
     Ok(rows)
 }

@@ -74,7 +74,7 @@ impl MonitoredTable {
             return Ok(told);
         };
         for (id, row) in rows.map() {
-            put_first(alloc, &mut told, self, id, row)?;
+            put_first(alloc, &mut told, self, id.as_uuid(), row)?;
         }
         Ok(told)
     }

@@ -92,7 +92,7 @@ impl Database {
             return Ok(text);
         };
         for (id, row) in rows.map() {
-            text.push_str(text_of(alloc, id, row)?.as_str())?;
+            text.push_str(text_of(alloc, id.as_uuid(), row)?.as_str())?;
         }
         Ok(text)
     }

@@ -147,7 +147,7 @@ pub(crate) struct Standing {
 /// Adds the keys of a table's rows.
 fn push_keys(alloc: Global, text: &mut String, table: &str, rows: &TableRows) -> Result<(), Fail> {
     for (id, _row) in rows.map() {
-        let id = id.as_u128();
+        let id = id.as_uuid().as_u128();
         text.push_str(format!(in alloc; "{table} {id};")?.as_str())?;
     }
     Ok(())

@@ -10,10 +10,10 @@ mod files;
 #[cfg(test)]
 mod keepers;
 #[cfg(test)]
-mod maps;
-#[cfg(test)]
 mod opens;
 #[cfg(test)]
 mod refusals;
 #[cfg(test)]
 mod stores;
+#[cfg(test)]
+mod volatile;

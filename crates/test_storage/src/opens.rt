@@ -73,7 +73,7 @@ fn text_of_row(alloc: Global, table: &str, id: &Uuid, row: &Row) -> Result<Strin
 /// Adds the texts of a table's rows, each with the end of its line.
 fn push_rows(alloc: Global, text: &mut String, table: &str, rows: &TableRows) -> Result<(), Fail> {
     for (id, row) in rows.map() {
-        text.push_str(text_of_row(alloc, table, id, row)?.as_str())?;
+        text.push_str(text_of_row(alloc, table, id.as_uuid(), row)?.as_str())?;
         text.push_str("\n")?;
     }
     Ok(())

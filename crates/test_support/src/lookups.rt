@@ -53,7 +53,7 @@ impl Lookups {
             return Ok(());
         };
         for (id, row) in rows.map() {
-            self.rows.insert(RowKey::new(alloc, name, *id)?)?;
+            self.rows.insert(RowKey::new(alloc, name, *id.as_uuid())?)?;
             self.add_places(alloc, name, table, row)?;
         }
         Ok(())
@@ -151,7 +151,7 @@ fn push_lines(
     rows: &TableRows,
 ) -> Result<(), AllocError> {
     for (id, row) in rows.map() {
-        changes.push(Change::Put(line_of_row(alloc, table, *id, row)?))?;
+        changes.push(Change::Put(line_of_row(alloc, table, *id.as_uuid(), row)?))?;
     }
     Ok(())
 }

@@ -1,8 +1,10 @@
 use ov_base::{ByteTrace, Bytes, Text, Trees, has_real};
+use ov_rows::RowId;
 use serde_json::Value;
 use std::alloc::Global;
 use std::test::Fail;
 use test_support::{Scripted, agrees, compact, tree, trees};
+use uuid::Uuid;
 
 /// A real is a number that no integer of 64 bits is.
 const REALS: &str = r#"0 -> false
@@ -134,4 +136,14 @@ fn a_tape_takes_no_room(rt: HostRuntime) {
     told.add(b"ab");
     told.add(b"");
     assert_eq!(rt; size_of::<ByteTrace>(), 0);
+}
+
+#[test]
+fn identifiers_stand_in_the_order_of_their_bytes(rt: HostRuntime) -> Result<(), Fail> {
+    let first = RowId::new(Uuid::from_u128(0xff));
+    let second = RowId::new(Uuid::from_u128(0x100));
+    let third = RowId::new(Uuid::from_u128(1 << 120));
+    assert!(rt; first < second && second < third && third == third);
+    assert_eq!(rt; *third.as_uuid(), Uuid::from_u128(1 << 120));
+    Ok(())
 }

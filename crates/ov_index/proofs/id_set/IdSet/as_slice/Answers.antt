@@ -5,4 +5,4 @@ use Rattle.ov_index.proofs.IdSets.{keys-set_of}
 use Rattle.ov_index.proofs.id_set.IdSet.as_slice.Goals as goal
 
 pub returns : goal.returns
-returns c = c.as_slice.ensures.value ∙ sym (keys-set_of c.self.inside.ids.items c.self.invariant) ∙ ap (λ (set : IdSet). keys set) c.self.view_is
+returns c = c.as_slice.ensures ∙ sym (keys-set_of c.self.inside.ids.items c.self.invariant) ∙ ap (λ (set : IdSet). keys set) c.self.view_is

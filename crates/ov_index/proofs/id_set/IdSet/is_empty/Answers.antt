@@ -5,4 +5,4 @@ use Rattle.ov_index.proofs.IdSets.{len-set_of}
 use Rattle.ov_index.proofs.id_set.IdSet.is_empty.Goals as goal
 
 pub returns : goal.returns
-returns c = c.is_empty.ensures ∙ ap (λ n. n == 0) (c.self.inside.ids.ok.0 ∙ sym (len-set_of c.self.inside.ids.items c.self.invariant)) ∙ ap (λ (set : IdSet). len set == 0) c.self.view_is
+returns c = c.is_empty.ensures ∙ ap (λ n. n == 0) (sym (len-set_of c.self.inside.ids.items c.self.invariant)) ∙ ap (λ (set : IdSet). len set == 0) c.self.view_is

@@ -10,11 +10,11 @@ invariant_of-self c = subst Ascend (sym c.remove.ensures.items) (ascend-remove c
 pub returns-in-Ok : goal.returns-in-Ok
 returns-in-Ok c =
     let ids = c.self.inside.ids.items in
-    let at : IsFoundAt ids c.args.id c.in-Ok.place = searched_found ids c.as_slice.result.now c.args.id c.in-Ok.place c.self.invariant c.as_slice.ensures.value c.in-Ok.ensures.bound c.in-Ok.ensures.position in
+    let at : IsFoundAt ids c.args.id c.in-Ok.place = searched_found ids c.as_slice.result.now c.args.id c.in-Ok.place c.self.invariant c.as_slice.ensures c.in-Ok.ensures.bound c.in-Ok.ensures.position in
     ap set_of_ids c.remove.ensures.items ∙ set_of-remove ids c.self.invariant c.args.id c.in-Ok.place at ∙ ap (λ (set : IdSet). remove set c.args.id) c.self.view_is
 
 pub returns-in_default : goal.returns-in_default
 returns-in_default c =
     let ids = c.self.inside.ids.items in
-    let at : IsBetween ids c.args.id c.in_default.field-0 = searched_between ids c.as_slice.result.now c.args.id c.in_default.field-0 c.self.invariant c.as_slice.ensures.value c.in_default.ensures.bound c.in_default.ensures.position in
+    let at : IsBetween ids c.args.id c.in_default.field-0 = searched_between ids c.as_slice.result.now c.args.id c.in_default.field-0 c.self.invariant c.as_slice.ensures c.in_default.ensures.bound c.in_default.ensures.position in
     subst (λ (set : IdSet). set ≡ remove set c.args.id) c.self.view_is (set_of-absent ids c.self.invariant c.args.id c.in_default.field-0 at)

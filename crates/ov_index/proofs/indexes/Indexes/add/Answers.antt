@@ -1,10 +1,11 @@
-use Rattle.std.proofs.Common.{rules, ◌∙◌}
+use Rattle.std.proofs.Common.{rules, not, ap, ◌∙◌}
 use Rattle.std.specs.BTreeMap.{insert_entry}
 use Rattle.ov_rows.proofs.Maps.{ascends}
 use Rattle.ov_rows.proofs.Nested.{ok_gives, err_gives}
+use Rattle.ov_index.specs.Indexing.{is_indexed}
 use Rattle.ov_index.specs.Collecting.{with_entry}
 use Rattle.ov_index.specs.IndexKeys.{IndexEntry, index_cmp}
-use Rattle.ov_index.proofs.IndexMaps.{with-more, with-first, put-back}
+use Rattle.ov_index.proofs.IndexMaps.{with-more, with-first, put-back, indexed-at, if_ok}
 use Rattle.ov_index.proofs.indexes.Indexes.add.Goals as goal
 
 pub invariant_of-self : goal.invariant_of-self
@@ -40,3 +41,13 @@ returns-in_ok-insert-in-None-clause-ok c =
     (c.in_ok-insert-in-None.ensures.entries ∙ (λ i. insert_entry index_cmp (c.get_mut.follows.holds-at-none i).entries (c.key.view_is i) set)) c.in-None.ensures.value
     c.in_ok-of-in-None.ensures
     ∙ (λ i. with_entry (c.entry.view_is i) (c.self.view_is i))
+
+pub returns-in-Some-clause-is_new : goal.returns-in-Some-clause-is_new
+returns-in-Some-clause-is_new c =
+    let at = indexed-at c.self.inside.of.entries c.entry.inside.key c.entry.inside.id c.self.invariant _ c.in-Some.ensures.value in
+    if_ok c.insert.result _ _ (λ is_new is. is ∙ ap not (at ∙ (λ i. is_indexed (c.self.view_is i) (c.entry.view_is i).key (c.entry.view_is i).id))) c.insert.ensures.is_new
+
+pub returns-in_ok-insert-in-None-clause-is_new : goal.returns-in_ok-insert-in-None-clause-is_new
+returns-in_ok-insert-in-None-clause-is_new c =
+    let at = indexed-at c.self.inside.of.entries c.entry.inside.key c.entry.inside.id c.self.invariant _ c.in-None.ensures.value in
+    ap not (at ∙ (λ i. is_indexed (c.self.view_is i) (c.entry.view_is i).key (c.entry.view_is i).id))

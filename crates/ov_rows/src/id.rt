@@ -1,0 +1,106 @@
+ghost use Rattle.std.specs.Prelude.{◌≡◌};
+ghost use Rattle.std.specs.Ordering.{nat_cmp};
+ghost use Rattle.std.specs.Cmp.Lexicographic.{slice_cmp};
+
+use std::cmp::Ordering;
+use std::marker::Model;
+use uuid::Uuid;
+
+/// A row's identifier (RFC 7047, 3.2), as what rows are kept by.
+#[derive(Clone, Copy)]
+pub struct RowId {
+    id: Uuid,
+}
+
+impl Model for RowId {
+    ghost use Rattle.std.specs.Coded.{coded_ℕ, coded_list};
+    ghost use Rattle.ov_specs.specs.values.Uuid as uuids;
+
+    ghost Value = { uuids.Uuid };
+
+    ghost coded = { coded_list coded_ℕ };
+
+    ghost view = { λ r. r.id };
+
+    ghost inverse = { λ id. record { id = id } };
+}
+
+impl RowId {
+    /// The identifier as it is.
+    pub fn new(id: Uuid) -> RowId
+        ensures { result ≡ id }
+    {
+        RowId { id }
+    }
+
+    /// The identifier, lent.
+    pub fn as_uuid(&self) -> &Uuid
+        ensures { result.now ≡ self.now }
+    {
+        &self.id
+    }
+}
+
+impl PartialEq for RowId {
+    ghost use Rattle.std.specs.Ordering.{eq_by_cmp};
+    ghost use Rattle.std.specs.Cmp.{partial_equiv_from_equiv, eq_by_cmp_equiv};
+    ghost use Rattle.std.specs.Cmp.Lexicographic.{nat_list_cmp_total};
+    ghost use Rattle.ov_rows.specs.Nested.{id_cmp};
+
+    ghost eq = { eq_by_cmp id_cmp };
+
+    ghost laws = { partial_equiv_from_equiv (eq_by_cmp_equiv nat_list_cmp_total) };
+
+    fn eq(&self, other: &RowId) -> bool {
+        self.cmp(other) == Ordering::Equal
+    }
+}
+
+impl Eq for RowId {
+    ghost use Rattle.std.specs.Cmp.{eq_by_cmp_equiv};
+    ghost use Rattle.std.specs.Cmp.Lexicographic.{nat_list_cmp_total};
+
+    ghost laws = { eq_by_cmp_equiv nat_list_cmp_total };
+}
+
+impl PartialOrd for RowId {
+    ghost use Rattle.std.specs.Prelude.{Some, refl};
+    ghost use Rattle.std.specs.Cmp.{partial_order_from_agreeing_total};
+    ghost use Rattle.std.specs.Cmp.Lexicographic.{nat_list_cmp_total};
+    ghost use Rattle.ov_rows.specs.Nested.{id_cmp};
+
+    ghost partial_cmp = { λ a b. Some (id_cmp a b) };
+
+    ghost laws = { partial_order_from_agreeing_total id_cmp nat_list_cmp_total (λ a b. refl) (λ a b. refl) };
+
+    fn partial_cmp(&self, other: &RowId) -> Option<Ordering> {
+        Some(self.cmp(other))
+    }
+}
+
+impl Ord for RowId {
+    ghost use Rattle.std.specs.Prelude.{refl};
+    ghost use Rattle.std.specs.Cmp.Lexicographic.{nat_list_cmp_total};
+    ghost use Rattle.ov_rows.specs.Nested.{id_cmp};
+
+    ghost cmp = { id_cmp };
+
+    ghost total = { nat_list_cmp_total };
+
+    ghost matches_partial_cmp = { λ a b. refl };
+
+    ghost matches_eq = { λ a b. refl };
+
+    /// By its bytes, the first before all: so by the number that they spell. Two numbers are compared at once, where a search for
+    /// the first byte that differs takes several times as long.
+    fn cmp(&self, other: &RowId) -> Ordering {
+        order_of_bytes(self.id.as_bytes(), other.id.as_bytes())
+    }
+}
+
+/// The order of sixteen bytes, the first before all, which is that of the numbers that they spell.
+fn order_of_bytes(a: &[u8; 16], b: &[u8; 16]) -> Ordering
+    ensures { result ≡ slice_cmp nat_cmp a.now b.now }
+{
+    u128::from_be_bytes(*a).cmp(&u128::from_be_bytes(*b))
+}
