@@ -5,4 +5,3 @@ pub mod Nesting
 pub mod Nested
 pub mod BodyText
 pub mod Listed
-pub mod Spelt

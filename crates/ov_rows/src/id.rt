@@ -91,16 +91,21 @@ impl Ord for RowId {
 
     ghost matches_eq = { λ a b. refl };
 
-    /// By its bytes, the first before all: so by the number that they spell. Two numbers are compared at once, where a search for
-    /// the first byte that differs takes several times as long.
+    /// By its bytes, the first before all.
     fn cmp(&self, other: &RowId) -> Ordering {
         order_of_bytes(self.id.as_bytes(), other.id.as_bytes())
     }
 }
 
-/// The order of sixteen bytes, the first before all, which is that of the numbers that they spell.
+/// The order of sixteen bytes, the first before all. Identifiers that were drawn nearly always differ in the first, so that a loop
+/// which ends there takes less than a comparison of the numbers that the bytes spell.
 fn order_of_bytes(a: &[u8; 16], b: &[u8; 16]) -> Ordering
     ensures { result ≡ slice_cmp nat_cmp a.now b.now }
 {
-    u128::from_be_bytes(*a).cmp(&u128::from_be_bytes(*b))
+    for at in 0..16 {
+        if a[at] != b[at] {
+            return a[at].cmp(&b[at]);
+        }
+    }
+    Ordering::Equal
 }
