@@ -11,4 +11,3 @@ pub mod Asked
 pub mod Counting
 pub mod Settlings
 pub mod Takings
-mod Framing

@@ -8,14 +8,15 @@ ghost use Rattle.ov_core.specs.Preparing.{SendsPrepared, outcome_after};
 ghost use Rattle.ov_core.specs.States.{sessions_of};
 
 use crate::event::Outcome;
-use crate::frames::reply_of;
 use crate::owner::Owner;
 use crate::replying::{Audience, Replying};
 use crate::send::send;
-use ov_base::{Bytes, Tree, Trees};
+use ov_base::{Bytes, Tree};
 use ov_db::{Db, StoreAnswer};
 use ov_keeper::Keeper;
 use ov_outbox::{FrameQueues, Outbox, Prepared};
+use ov_results::ArrayText;
+use ov_rpc::reply_with;
 use ov_txn::{Tried, Tries, Txn, attempt};
 use std::alloc::Global;
 use std::mem;
@@ -124,12 +125,12 @@ fn answer(
     outbox: &mut Outbox,
     session: u64,
     id: &Tree,
-    results: Trees,
+    results: ArrayText,
 ) -> Option<Outcome>
     ensures posts { PostsIfRoom (results_to session id.now results) outbox.old.frames result outbox.new.frames }
     ensures queues { outbox.new.queues ≡ outbox.old.queues }
 {
-    match reply_of(alloc, id, results) {
+    match reply_with(alloc, id, &results) {
         Ok(frame) => send(alloc, outbox, session, Some(frame)),
         Err(_) => Some(Outcome::NoMemory),
     }

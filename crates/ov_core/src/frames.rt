@@ -1,10 +1,8 @@
-ghost use Rattle.std.specs.Prelude.{◌≡◌, IfOk};
-ghost use Rattle.serde_json.specs.Data.{array};
-ghost use Rattle.ov_specs.specs.wire.Frame.{frame, reply_tree};
+ghost use Rattle.std.specs.Prelude.{IfOk};
 ghost use Rattle.ov_core.specs.Preparing.{AreFrames};
 
-use ov_base::{Bytes, Tree, Trees};
-use ov_rpc::{append_item, reply};
+use ov_base::{Bytes, Tree};
+use ov_rpc::{append_item, reply_with};
 use ov_txn::Replies;
 use std::alloc::{AllocError, Global};
 
@@ -27,8 +25,8 @@ impl Frames {
             exhausted,
             failed,
         } = replies;
-        let is_first = kept.as_slice().is_empty();
-        let kept = reply_of(alloc, id, kept)?;
+        let is_first = kept.is_empty();
+        let kept = reply_with(alloc, id, &kept)?;
         let exhausted = append_item(alloc, &kept, is_first, &exhausted)?;
         let failed = append_item(alloc, &kept, is_first, &failed)?;
         Ok(Frames {
@@ -37,11 +35,4 @@ impl Frames {
             failed,
         })
     }
-}
-
-/// The reply with these results.
-pub(crate) fn reply_of(alloc: Global, id: &Tree, results: Trees) -> Result<Bytes, AllocError>
-    ensures { IfOk result (λ b. b ≡ frame (reply_tree id.now (array results))) }
-{
-    reply(alloc, id.copy()?, results.into_tree())
 }

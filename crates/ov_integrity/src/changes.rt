@@ -64,7 +64,7 @@ impl Changes {
         ensures { OnOk result (self.new ≡ with_change schema.now (key.now, change.now) self.old) }
     {
         self.keys
-            .insert(RowKey::new(alloc, key.table(), key.id())?)?;
+            .insert(alloc, RowKey::new(alloc, key.table(), key.id())?)?;
         if let Some(row) = change {
             for target in targets_of(alloc, schema, key.table(), &row.columns)? {
                 self.add_target(alloc, key, target)?;
@@ -82,7 +82,7 @@ impl Changes {
         ensures { IfOk result (AreChanges schema.now stage.now.before stage.now.now) }
     {
         let mut changes = Changes {
-            keys: KeySet::new(alloc),
+            keys: KeySet::new(),
             strong: Holders::new(alloc),
         };
         for (key, change) in stage.changes().map() {

@@ -35,7 +35,7 @@ fn row_misses(
 fn has_other(set: &KeySet, others: &KeySet) -> bool
     ensures { result ≡ list_any (λ key. not (contains_key others.now key)) (keys set.now) }
 {
-    for key in set.as_set() {
+    for key in set.iter() {
         if !others.contains(key) {
             return true;
         }
@@ -57,7 +57,7 @@ pub(crate) fn misses(
     requires changed { AreChanges schema.now stage.now.before stage.now.now changes.now }
     ensures { IfOk result (λ misses. misses ≡ list_any (is_missing stage.now.now) (references schema.now stage.now.now)) }
 {
-    for key in changes.keys().as_set() {
+    for key in changes.keys().iter() {
         match stage.row(key) {
             Some(row) => {
                 if row_misses(alloc, schema, stage, key, row)? {

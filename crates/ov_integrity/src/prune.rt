@@ -222,7 +222,7 @@ fn prune_row(
 fn push_keys(alloc: Global, found: &mut Vec<RowKey>, others: &KeySet) -> Result<(), AllocError>
     ensures { OnOk result (found.new.items ≡ found.old.items ++ keys others.now) }
 {
-    for key in others.as_set() {
+    for key in others.iter() {
         found.push(RowKey::new(alloc, key.table(), key.id())?)?;
     }
     Ok(())

@@ -35,7 +35,7 @@ fn has_unchanged_beside(
 ) -> bool
     ensures { result ≡ list_any (is_unchanged_beside stage.now.now changes.now.keys key.now) (keys holders.now) }
 {
-    for from in holders.as_set() {
+    for from in holders.iter() {
         if from != key && !changes.keys().contains(from) && stage.contains(from) {
             return true;
         }
@@ -47,7 +47,7 @@ fn has_unchanged_beside(
 fn has_beside(holders: &KeySet, stage: &Stage<'_>, key: &RowKey) -> bool
     ensures { result ≡ list_any (is_there_beside stage.now.now key.now) (keys holders.now) }
 {
-    for from in holders.as_set() {
+    for from in holders.iter() {
         if from != key && stage.contains(from) {
             return true;
         }
@@ -120,7 +120,7 @@ fn candidates(
     ensures { IfOk result (λ work. MayLack schema.now stage.now.now work.items) }
 {
     let mut work = Vec::new(alloc);
-    for key in changes.keys().as_set() {
+    for key in changes.keys().iter() {
         match stage.before().row(key.table(), key.id()) {
             Some(row) => {
                 let targets = targets_of(alloc, schema, key.table(), &row.columns)?;

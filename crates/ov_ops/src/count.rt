@@ -3,6 +3,7 @@ ghost use Rattle.serde_json.specs.View.{view};
 ghost use Rattle.ov_specs.specs.operations.MatchingRows as spec;
 
 use ov_base::{Tree, has_real};
+use ov_results::OpResult;
 use serde_json::{Value, json};
 use std::alloc::{AllocError, Global};
 
@@ -13,13 +14,13 @@ fn count_value(alloc: Global, count: u64) -> Result<Value, AllocError>
 }
 
 /// The result of an operation that counts the rows which match, changed or not (RFC 7047, 5.2.3 to 5.2.5).
-pub(crate) fn count_result(alloc: Global, count: usize) -> Result<Tree, AllocError>
-    ensures { IfOk result (λ t. t ≡ spec.count_result count) }
+pub(crate) fn count_result(alloc: Global, count: usize) -> Result<OpResult, AllocError>
+    ensures { IfOk result (λ r. r ≡ spec.count_result count) }
 {
     let value = count_value(alloc, count as u64)?;
     // A count past 2^63-1 would be a real to OVSDB. No memory holds so many rows.
     if has_real(&value) {
         return Err(AllocError);
     }
-    Ok(Tree::new(value))
+    Ok(Tree::new(value).into())
 }

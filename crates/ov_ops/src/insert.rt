@@ -10,6 +10,7 @@ use crate::members::table_at;
 use crate::owns::Owns;
 use ov_base::Tree;
 use ov_given::{name_fault, new_row};
+use ov_results::OpResult;
 use ov_rows::{Columns, RowKey};
 use ov_stage::{OpError, OpFault, Stage};
 use serde_json::{Value, json};
@@ -32,10 +33,10 @@ fn result_value(alloc: Global, id: Uuid) -> Result<Value, AllocError>
 }
 
 /// The result of an insert: the identifier of its row (RFC 7047, 5.2.1).
-pub fn insert_result(alloc: Global, id: Uuid) -> Result<Tree, AllocError>
-    ensures { IfOk result (λ t. t ≡ spec.insert_result id) }
+pub fn insert_result(alloc: Global, id: Uuid) -> Result<OpResult, AllocError>
+    ensures { IfOk result (λ r. r ≡ spec.insert_result id) }
 {
-    Ok(Tree::new(result_value(alloc, id)?))
+    Ok(Tree::new(result_value(alloc, id)?).into())
 }
 
 /// The row under its identifier, which no row of the table may have.
@@ -46,7 +47,7 @@ fn put_new<O: Owns>(
     table: &str,
     columns: Columns,
     id: Option<Uuid>,
-) -> Result<Tree, OpFault>
+) -> Result<OpResult, OpFault>
     ensures done { IsDone (spec.put_new (context_of O.owned ctx.now stage.old.before) stage.old.now table.now columns id) result stage.new.now }
     ensures frame { stage.new.before ≡ stage.old.before }
 {
@@ -57,9 +58,9 @@ fn put_new<O: Owns>(
     if stage.contains(&key) {
         return Err(OpFault::Refused(OpError::DuplicateUuid));
     }
-    let tree = insert_result(alloc, id)?;
+    let result = insert_result(alloc, id)?;
     stage.put(key, ctx.version, columns)?;
-    Ok(tree)
+    Ok(result)
 }
 
 /// The insert at this place of the transaction: a row is made of `row` and put under the identifier that was drawn for it. Its
@@ -70,7 +71,7 @@ pub(crate) fn insert<'a, O: Owns>(
     ctx: &OpCtx<'a, '_, '_, '_, O>,
     place: usize,
     operation: &'a Value,
-) -> Result<Tree, OpFault>
+) -> Result<OpResult, OpFault>
     ensures done { IsDone (spec.insert_outcome (context_of O.owned ctx.now stage.old.before) place stage.old.now (view operation.now)) result stage.new.now }
     ensures frame { stage.new.before ≡ stage.old.before }
 {

@@ -1,11 +1,11 @@
-use ov_base::Tree;
+use ov_results::OpResult;
 use ov_stage::{OpError, OpFault};
 
 /// What an operation comes to (RFC 7047, 4.1.3 and 5.2.6).
 #[derive(Drop)]
 pub enum OpOutcome {
     /// It has this result.
-    Done(Tree),
+    Done(OpResult),
     /// It fails, and so does the transaction.
     Fault(OpError),
     /// It waits, and is given up after this many milliseconds, if ever.
@@ -14,15 +14,15 @@ pub enum OpOutcome {
     NoMemory,
 }
 
-impl From<Result<Tree, OpFault>> for OpOutcome {
+impl From<Result<OpResult, OpFault>> for OpOutcome {
     ghost use Rattle.ov_ops.specs.Outcomes.{outcome_of_result};
     ghost use Rattle.std.specs.Prelude.{◌≡◌};
 
     ghost from_gives = { λ done o. o ≡ outcome_of_result done };
 
-    fn from(done: Result<Tree, OpFault>) -> OpOutcome {
+    fn from(done: Result<OpResult, OpFault>) -> OpOutcome {
         match done {
-            Ok(tree) => OpOutcome::Done(tree),
+            Ok(result) => OpOutcome::Done(result),
             Err(OpFault::Refused(error)) => OpOutcome::Fault(error),
             Err(OpFault::Memory) => OpOutcome::NoMemory,
         }

@@ -9,9 +9,9 @@ use crate::context::OpCtx;
 use crate::count::count_result;
 use crate::members::{conditions_at, table_at};
 use crate::owns::Owns;
-use ov_base::Tree;
 use ov_conds::Condition;
 use ov_given::{GivenRow, given_over, given_values};
+use ov_results::OpResult;
 use ov_rows::{Columns, NamedValues, RowKey};
 use ov_stage::{OpError, OpFault, Stage};
 use serde_json::Value;
@@ -43,7 +43,7 @@ pub(crate) fn update<'a, O: Owns>(
     stage: &mut Stage<'_>,
     ctx: &OpCtx<'a, '_, '_, '_, O>,
     operation: &'a Value,
-) -> Result<Tree, OpFault>
+) -> Result<OpResult, OpFault>
     ensures done { IsDone (spec.update_outcome (context_of O.owned ctx.now stage.old.before) stage.old.now (view operation.now)) result stage.new.now }
     ensures frame { stage.new.before ≡ stage.old.before }
 {

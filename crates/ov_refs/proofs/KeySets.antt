@@ -1,5 +1,5 @@
 -- Sets of keys of the code as those of the definitions.
-use Rattle.std.proofs.Common.{◌≡◌, suc, length, List, [], ◌∷◌, map, Bool, true, false, cond, T, Option, Some, None, is_some, refl, sym, ap, ◌∙◌, Less, Equal, Greater}
+use Rattle.std.proofs.Common.{◌≡◌, suc, length, List, [], ◌∷◌, map, Bool, true, false, not, ◌||◌, cond, T, Ordering, Option, Some, None, is_some, refl, sym, ap, ◌∙◌, Less, Equal, Greater}
 use Rattle.std.specs.BTreeMap.{is_at}
 use Rattle.std.specs.BTreeSet.{insert_key}
 use Rattle.std.specs.Cmp.{eq_by_cmp_equiv}
@@ -7,11 +7,13 @@ use Rattle.std.specs.FinMap.{put, is_sorted, empty, get, contains_key, insert, r
 use Rattle.std.specs.FinMap.Entries.{below_all, by_order, is_some-find}
 use Rattle.std.specs.List.{AllByRecursion, list_any}
 use Rattle.std.specs.List.Sorted.{IsStrictlySortedBy}
-use Rattle.std.specs.Ordering.{eq_by_cmp, match_ordering}
+use Rattle.std.specs.Ordering.{eq_by_cmp, match_ordering, is_eq}
 use Rattle.ov_specs.specs.rows.Lines.{LineKey, line_cmp}
-use Rattle.ov_specs.proofs.laws.LineKeys.{key_exact, key_total}
+use Rattle.ov_specs.proofs.laws.LineKeys.{key_exact, key_total, tied_same}
 use Rattle.ov_specs.proofs.laws.Truths.{both_hold}
-use Rattle.ov_refs.specs.Holding.{marked, set_of_keys}
+use Rattle.ov_refs.specs.Holding.{KeySet, marked, set_of_keys}
+use Rattle.ov_refs.specs.StoredKeys.{keys_in}
+use Rattle.ov_refs.specs.declared.key_set.Keys.{Keys}
 use Rattle.ov_rows.proofs.Maps.{from_sorted-nil}
 
 below : (k : LineKey) (ks : List LineKey) → AllByRecursion (λ y. line_cmp k y ≡ Less) ks → T (below_all line_cmp k (map marked ks))
@@ -82,3 +84,62 @@ module _ (ks ks' : List LineKey) (k : LineKey) (h : T (is_sorted line_cmp (map m
       kept_if (get (set_of_keys ks') q) ∙ ap kept (contains-set_of ks' h' q ∙ is q) ∙ without_key (is_at (line_cmp k) q) (list_any (is_at (line_cmp q)) ks)
       ∙ ap (λ b. cond b None (kept (list_any (is_at (line_cmp q)) ks))) ((eq_by_cmp_equiv key_total).symm k q)
       ∙ sym (get-remove key_total (set_of_keys ks) k q ∙ ap (cond (eq_by_cmp line_cmp q k) None) (kept_if (get (set_of_keys ks) q) ∙ ap kept (contains-set_of ks h q))))
+
+-- ---- sets of one key or of none
+
+pub or_none : (b : Bool) → b || false ≡ b
+or_none true = refl
+or_none false = refl
+
+taken_out : (b : Bool) → false ≡ cond b false (b || false)
+taken_out true = refl
+taken_out false = refl
+
+none_taken_out : (b : Bool) → false ≡ cond b false false
+none_taken_out true = refl
+none_taken_out false = refl
+
+placed_as : (o : Ordering) (a b c : List LineKey) → is_eq o ≡ true → b ≡ match_ordering o a b c
+placed_as Less a b c h = cc
+placed_as Equal a b c h = refl
+placed_as Greater a b c h = cc
+
+pub set_of-none : (key : LineKey) → set_of_keys [] ≡ remove (set_of_keys []) key
+set_of-none key = set_of-remove [] [] key tt tt (λ q. none_taken_out (is_at (line_cmp key) q))
+
+module _ (one key : LineKey) where
+  -- the one key is there, or taken out
+  module _ (same : eq_by_cmp line_cmp key one ≡ true) where
+    pub set_of-again : set_of_keys (one ∷ []) ≡ insert (set_of_keys (one ∷ [])) key tt
+    set_of-again = set_of-insert (one ∷ []) (one ∷ []) key tt tt (placed_as (line_cmp key one) _ _ _ same)
+
+    turned : (q : LineKey) → is_at (line_cmp q) one ≡ is_at (line_cmp key) q
+    turned q = ap (eq_by_cmp line_cmp q) (sym (tied_same key one same)) ∙ (eq_by_cmp_equiv key_total).symm q key
+
+    pub set_of-gone : set_of_keys [] ≡ remove (set_of_keys (one ∷ [])) key
+    set_of-gone = set_of-remove (one ∷ []) [] key tt tt (λ q. taken_out (is_at (line_cmp key) q) ∙ ap (λ b. cond (is_at (line_cmp key) q) false (b || false)) (sym (turned q)))
+
+  -- another key is taken out
+  module _ (other : eq_by_cmp line_cmp key one ≡ false) where
+    stays : (q : LineKey) (b : Bool) → eq_by_cmp line_cmp key q ≡ b → (is_at (line_cmp q) one || false) ≡ cond b false (is_at (line_cmp q) one || false)
+    stays q true same = or_none (is_at (line_cmp q) one) ∙ ap (λ k. eq_by_cmp line_cmp k one) (sym (tied_same key q same)) ∙ other
+    stays q false h = refl
+
+    pub set_of-other : set_of_keys (one ∷ []) ≡ remove (set_of_keys (one ∷ [])) key
+    set_of-other = set_of-remove (one ∷ []) (one ∷ []) key tt tt (λ q. stays q (is_at (line_cmp key) q) refl)
+
+-- ---- wherever the keys lie
+
+module _ (stored : Keys) (set : KeySet) (h : T (is_sorted line_cmp (map marked (keys_in stored)))) (seen : set_of_keys (keys_in stored) ≡ set) where
+  pub has_stored : (q : LineKey) → contains_key set q ≡ list_any (is_at (line_cmp q)) (keys_in stored)
+  has_stored q = sym (ap (λ (s : KeySet). contains_key s q) seen) ∙ contains-set_of (keys_in stored) h q
+
+  pub len_stored : len set ≡ length (keys_in stored)
+  len_stored = sym (ap (λ (s : KeySet). len s) seen) ∙ len-set_of (keys_in stored) h
+
+  pub keys_stored : keys set ≡ keys_in stored
+  keys_stored = sym (ap (λ (s : KeySet). keys s) seen) ∙ keys-set_of (keys_in stored) h
+
+pub told_same : (b : Bool) → not b ≡ false → b ≡ true
+told_same true h = refl
+told_same false h = sym h

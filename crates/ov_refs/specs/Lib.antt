@@ -4,3 +4,5 @@ pub mod Linking
 pub mod Changed
 pub mod Placed
 pub mod Whole
+pub mod StoredKeys
+pub mod KeysLeft

@@ -71,10 +71,10 @@ impl Holders {
         ensures err { OnErr result (self.new ≡ self.old) }
     {
         match self.of.get_mut(&to) {
-            Some(set) => set.insert(from),
+            Some(set) => set.insert(alloc, from),
             None => {
-                let mut set = KeySet::new(alloc);
-                set.insert(from)?;
+                let mut set = KeySet::new();
+                set.insert(alloc, from)?;
                 self.of.insert(to, set)?;
                 Ok(())
             }

@@ -1,15 +1,27 @@
-ghost use Rattle.std.specs.Prelude.{◌≡◌, ◌==◌, OnOk, OnErr};
+ghost use Rattle.std.specs.Prelude.{◌≡◌, ◌==◌, ◌∷◌, [], IfOk, OnOk, OnErr};
+ghost use Rattle.std.specs.BTreeSet.{insert_key};
+ghost use Rattle.std.specs.List.Sorted.{IsStrictlySortedBy};
 ghost use Rattle.std.specs.FinMap.{empty, contains_key, insert, remove, keys, len};
+ghost use Rattle.ov_specs.specs.rows.Lines.{line_cmp};
 
+use crate::key_iter::KeyIter;
+use Keys::*;
 use ov_rows::RowKey;
 use std::alloc::{AllocError, Global};
 use std::collections::BTreeSet;
 use std::marker::Model;
 
-/// A set of rows, by their keys.
+/// Where the keys of a set lie: one alone in the set itself, others in memory of their own.
 #[derive(Drop)]
+enum Keys {
+    Empty,
+    One(RowKey),
+    Many(BTreeSet<RowKey>),
+}
+
+/// A set of rows, by their keys. Most rows that are referred to have one holder, so that one key takes no memory of its own.
 pub struct KeySet {
-    keys: BTreeSet<RowKey>,
+    stored: Keys,
 }
 
 impl Model for KeySet {
@@ -18,23 +30,52 @@ impl Model for KeySet {
     ghost use Rattle.ov_specs.specs.rows.Lines.{line_cmp};
     ghost use Rattle.ov_refs.specs.Holding as holding;
     ghost use Rattle.ov_refs.specs.Holding.{key_set_code, marked, set_of_keys};
+    ghost use Rattle.ov_refs.specs.StoredKeys.{keys_in};
 
     ghost Value = { holding.KeySet };
 
     ghost coded = { key_set_code };
 
-    ghost view = { λ s. set_of_keys s.keys.keys };
+    ghost view = { λ s. set_of_keys (keys_in s.stored) };
 
-    ghost invariant = { λ s. T (is_sorted line_cmp (map marked s.keys.keys)) };
+    ghost invariant = { λ s. T (is_sorted line_cmp (map marked (keys_in s.stored))) };
+}
+
+impl Drop for KeySet {
+    // A drop of its own, so that whoever drops a set need not know where its keys lie.
+    fn drop(self) {
+        let KeySet { stored } = self;
+        drop(stored);
+    }
+}
+
+/// These two keys, of which neither is the other.
+fn pair(alloc: Global, first: &RowKey, second: RowKey) -> Result<BTreeSet<RowKey>, AllocError>
+    ensures keys { IfOk result (λ set. set.keys ≡ insert_key line_cmp (first.now ∷ []) second) }
+    ensures ordered { IfOk result (λ set. IsStrictlySortedBy line_cmp set.keys) }
+{
+    let mut set = BTreeSet::new(alloc);
+    set.insert(RowKey::new(alloc, first.table(), first.id())?)?;
+    set.insert(second)?;
+    Ok(set)
 }
 
 impl KeySet {
     /// No row.
-    pub fn new(alloc: Global) -> KeySet
+    pub fn new() -> KeySet
         ensures { result ≡ empty }
     {
-        KeySet {
-            keys: BTreeSet::new(alloc),
+        KeySet { stored: Empty }
+    }
+
+    /// How many rows it has.
+    fn len(&self) -> usize
+        ensures { result ≡ len self.now }
+    {
+        match &self.stored {
+            Empty => 0,
+            One(_) => 1,
+            Many(keys) => keys.len(),
         }
     }
 
@@ -42,41 +83,59 @@ impl KeySet {
     pub fn is_empty(&self) -> bool
         ensures { result ≡ (len self.now == 0) }
     {
-        self.keys.is_empty()
+        self.len() == 0
     }
 
     /// Whether it has the row.
     pub fn contains(&self, key: &RowKey) -> bool
         ensures { result ≡ contains_key self.now key.now }
     {
-        self.keys.contains(key)
+        match &self.stored {
+            Empty => false,
+            One(one) => key == one,
+            Many(keys) => keys.contains(key),
+        }
     }
 
     /// How many it has without this one.
     pub fn count_beside(&self, key: &RowKey) -> usize
         ensures { result ≡ len (remove self.now key.now) }
     {
-        let all = self.keys.len();
-        if self.keys.contains(key) {
-            all - 1
+        let all = self.len();
+        if self.contains(key) {
+            all.saturating_sub(1)
         } else {
             all
         }
     }
 
     /// All of them, ascending.
-    pub fn as_set(&self) -> &BTreeSet<RowKey>
-        ensures { result.now.keys ≡ keys self.now }
+    pub fn iter(&self) -> KeyIter<'_>
+        ensures { result ≡ keys self.now }
     {
-        &self.keys
+        match &self.stored {
+            Empty => KeyIter::of_few(None),
+            One(one) => KeyIter::of_few(Some(one)),
+            Many(keys) => KeyIter::of_many(keys),
+        }
     }
 
     /// Adds the row, unless it is there. Where a growth is refused, nothing is changed.
-    pub fn insert(&mut self, key: RowKey) -> Result<(), AllocError>
+    pub fn insert(&mut self, alloc: Global, key: RowKey) -> Result<(), AllocError>
         ensures ok { OnOk result (self.new ≡ insert self.old key tt) }
         ensures err { OnErr result (self.new ≡ self.old) }
     {
-        self.keys.insert(key)?;
+        match &mut self.stored {
+            Empty => self.stored = One(key),
+            One(one) => {
+                if key != *one {
+                    self.stored = Many(pair(alloc, one, key)?);
+                }
+            }
+            Many(keys) => {
+                keys.insert(key)?;
+            }
+        }
         Ok(())
     }
 
@@ -84,6 +143,16 @@ impl KeySet {
     pub fn remove(&mut self, key: &RowKey)
         ensures { self.new ≡ remove self.old key.now }
     {
-        self.keys.remove(key);
+        match &mut self.stored {
+            Empty => {}
+            One(one) => {
+                if key == one {
+                    self.stored = Empty;
+                }
+            }
+            Many(keys) => {
+                keys.remove(key);
+            }
+        }
     }
 }

@@ -3,6 +3,7 @@
 #![tactic(auto)]
 
 mod holders;
+mod key_iter;
 mod key_set;
 mod link_changes;
 mod links;
@@ -13,6 +14,7 @@ mod targets;
 mod whole;
 
 pub use holders::Holders;
+pub use key_iter::KeyIter;
 pub use key_set::KeySet;
 pub use link_changes::LinkChanges;
 pub use links::Links;

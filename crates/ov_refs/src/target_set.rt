@@ -19,23 +19,23 @@ pub(crate) struct TargetSet {
 
 impl TargetSet {
     /// Nothing.
-    fn new(alloc: Global) -> TargetSet
+    fn new() -> TargetSet
         ensures { (strong : Bool) (to : LineKey) → contains_key (if strong then result.strong else result.weak) to ≡ false }
     {
         TargetSet {
-            strong: KeySet::new(alloc),
-            weak: KeySet::new(alloc),
+            strong: KeySet::new(),
+            weak: KeySet::new(),
         }
     }
 
     /// Adds the target, unless it is there.
-    fn insert(&mut self, target: Target) -> Result<(), AllocError>
+    fn insert(&mut self, alloc: Global, target: Target) -> Result<(), AllocError>
         ensures { OnOk result ((strong : Bool) (to : LineKey) → contains_key (if strong then self.new.strong else self.new.weak) to ≡ (contains_key (if strong then self.old.strong else self.old.weak) to || is_target strong to target)) }
     {
         if target.is_strong {
-            self.strong.insert(target.key)
+            self.strong.insert(alloc, target.key)
         } else {
-            self.weak.insert(target.key)
+            self.weak.insert(alloc, target.key)
         }
     }
 
@@ -43,9 +43,9 @@ impl TargetSet {
     pub(crate) fn of(alloc: Global, targets: Vec<Target>) -> Result<TargetSet, AllocError>
         ensures { IfOk result (λ set. (strong : Bool) (to : LineKey) → contains_key (if strong then set.strong else set.weak) to ≡ has_target strong to targets.items) }
     {
-        let mut set = TargetSet::new(alloc);
+        let mut set = TargetSet::new();
         for target in targets {
-            set.insert(target)?;
+            set.insert(alloc, target)?;
         }
         Ok(set)
     }

@@ -1,33 +1,13 @@
 -- The bytes of a reply whose result is an array, and those of the reply with one item more.
-use Rattle.std.proofs.Common.{◌≡◌, ◌↔◌, ℕ, ◌+◌, ◌-◌, List, [], ◌∷◌, ◌++◌, Bool, true, false, true≢false, length, take, refl, sym, ap, ◌∙◌, codes, IsTrue, arith, if◌then◌else◌}
+use Rattle.std.proofs.Common.{◌≡◌, ◌↔◌, not, ℕ, ◌+◌, ◌-◌, List, [], ◌∷◌, ◌++◌, Bool, true, false, true≢false, length, take, refl, sym, ap, ◌∙◌, codes, IsTrue, arith, if◌then◌else◌}
 use Rattle.std.proofs.lemmas.List.{append_assoc, append-nil, length-append}
 use Rattle.std.proofs.Math.Seq.{take-append_seam}
 use Rattle.serde_json.specs.Data.{Data, null, string, Items, no_items, item, array}
-use Rattle.serde_json.specs.Written.{compact_text, items_text, comma_if}
+use Rattle.serde_json.specs.Written.{compact_text, comma_if}
+use Rattle.ov_results.specs.Texts.{joined, has_none}
+use Rattle.ov_results.proofs.Joining.{closed, with_more}
 use Rattle.ov_specs.specs.wire.Frame.{frame, reply_tree}
 use Rattle.ov_specs.specs.operations.Transaction.{and_item}
-
--- the items' text without the bracket that closes them
-abbrev body : Bool → Items → List ℕ
-body later no_items = []
-body later (item d items) = comma_if later ++ (compact_text d ++ body true items)
-
--- whether something stands before an item that is put behind these
-abbrev is_later : Bool → Items → Bool
-is_later later no_items = later
-is_later later (item d items) = true
-
-regroup : (a b c d : List ℕ) → a ++ (b ++ (c ++ d)) ≡ (a ++ (b ++ c)) ++ d
-regroup a b c d = ap (λ t. a ++ t) (sym (append_assoc b c d)) ∙ sym (append_assoc a (b ++ c) d)
-
-closed : (later : Bool) (items : Items) → items_text later items ≡ body later items ++ 93 ∷ []
-closed later no_items = refl
-closed later (item d items) = ap (λ t. comma_if later ++ (compact_text d ++ t)) (closed true items) ∙ regroup (comma_if later) (compact_text d) (body true items) (93 ∷ [])
-
-longer : (later : Bool) (items : Items) (more : Data) → body later (and_item items more) ≡ body later items ++ (comma_if (is_later later items) ++ compact_text more)
-longer later no_items more = ap (λ t. comma_if later ++ t) (append-nil (compact_text more))
-longer later (item d no_items) more = ap (λ t. comma_if later ++ (compact_text d ++ t)) (longer true no_items more) ∙ regroup (comma_if later) (compact_text d) (body true no_items) (comma_if true ++ compact_text more)
-longer later (item d (item e items)) more = ap (λ t. comma_if later ++ (compact_text d ++ t)) (longer true (item e items) more) ∙ regroup (comma_if later) (compact_text d) (body true (item e items)) (comma_if true ++ compact_text more)
 
 -- a reply, from the text of its result on
 abbrev from_result : Data → List ℕ → List ℕ
@@ -42,13 +22,13 @@ behind id t more =
 
 -- a reply without what closes it
 abbrev open_reply : Data → Items → List ℕ
-open_reply id items = from_result id (91 ∷ body false items)
+open_reply id items = from_result id (91 ∷ joined false items)
 
 framed : (id : Data) (items : Items) → frame (reply_tree id (array items)) ≡ open_reply id items ++ 93 ∷ 125 ∷ []
 framed id items =
     ap (λ t. from_result id (91 ∷ (t ++ 125 ∷ []))) (closed false items)
-    ∙ (ap (λ t. from_result id (91 ∷ t)) (append_assoc (body false items) (93 ∷ []) (125 ∷ []))
-    ∙ sym (behind id (91 ∷ body false items) (93 ∷ 125 ∷ [])))
+    ∙ (ap (λ t. from_result id (91 ∷ t)) (append_assoc (joined false items) (93 ∷ []) (125 ∷ []))
+    ∙ sym (behind id (91 ∷ joined false items) (93 ∷ 125 ∷ [])))
 
 shorter : (xs : List ℕ) → take (length (xs ++ 93 ∷ 125 ∷ []) - 2) (xs ++ 93 ∷ 125 ∷ []) ≡ xs
 shorter xs =
@@ -59,10 +39,10 @@ shorter xs =
 pub opened : (reply : List ℕ) (id : Data) (items : Items) → reply ≡ frame (reply_tree id (array items)) → take (length reply - 2) reply ≡ open_reply id items
 opened reply id items is = rw (is ∙ framed id items) (shorter (open_reply id items))
 
-separated : (first : Bool) (items : Items) → (IsTrue first ↔ (items ≡ no_items)) → (if first then [] else 44 ∷ []) ≡ comma_if (is_later false items)
+separated : (first : Bool) (items : Items) → (IsTrue first ↔ (items ≡ no_items)) → (if first then [] else 44 ∷ []) ≡ comma_if (not (has_none items))
 separated true no_items same = refl
 separated false no_items same = absurd (true≢false (sym (same.1 refl)))
-separated true (item d items) same = absurd (true≢false (ap (is_later false) (same.0 refl)))
+separated true (item d items) same = absurd (true≢false (sym (ap has_none (same.0 refl))))
 separated false (item d items) same = refl
 
 -- the bytes of the reply with one item more
@@ -70,6 +50,6 @@ pub appended : (id : Data) (items : Items) (first : Bool) (more : Data) → (IsT
     → ((open_reply id items ++ (if first then [] else 44 ∷ [])) ++ compact_text more) ++ 93 ∷ 125 ∷ [] ≡ frame (reply_tree id (array (and_item items more)))
 appended id items first more same =
     let with_separator = ap (λ t. ((open_reply id items ++ t) ++ compact_text more) ++ 93 ∷ 125 ∷ []) (separated first items same) in
-    let together = append_assoc (open_reply id items) (comma_if (is_later false items)) (compact_text more) ∙ behind id (91 ∷ body false items) (comma_if (is_later false items) ++ compact_text more) in
-    let whole = together ∙ ap (λ t. from_result id (91 ∷ t)) (sym (longer false items more)) in
+    let together = append_assoc (open_reply id items) (comma_if (not (has_none items))) (compact_text more) ∙ behind id (91 ∷ joined false items) (comma_if (not (has_none items)) ++ compact_text more) in
+    let whole = together ∙ ap (λ t. from_result id (91 ∷ t)) (sym (with_more items more)) in
     with_separator ∙ (ap (λ t. t ++ 93 ∷ 125 ∷ []) whole ∙ sym (framed id (and_item items more)))

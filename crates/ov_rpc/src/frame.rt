@@ -1,9 +1,10 @@
 ghost use Rattle.std.specs.Prelude.{◌≡◌, IfOk, codes};
-ghost use Rattle.serde_json.specs.Data.{null, string, object, member, no_members};
+ghost use Rattle.serde_json.specs.Data.{null, string, array, object, member, no_members};
 ghost use Rattle.serde_json.specs.View.{view};
 ghost use Rattle.ov_specs.specs.wire.Frame.{frame, reply_tree, failure_tree, note_tree};
 
 use ov_base::{Bytes, Tree, Trees};
+use ov_results::ArrayText;
 use serde_json::{Value, json};
 use std::alloc::{AllocError, Global};
 
@@ -19,6 +20,19 @@ fn reply_value(alloc: Global, id: Value, outcome: Value) -> Result<Value, AllocE
     ensures { IfOk result (λ v. view v ≡ reply_tree (view id) (view outcome)) }
 {
     json!(in alloc; {"error": null, "id": id, "result": outcome})
+}
+
+/// The reply to a call, whose result is the array of these, which are not written once more (JSON-RPC 1.0, 1.2).
+pub fn reply_with(alloc: Global, id: &Tree, results: &ArrayText) -> Result<Bytes, AllocError>
+    ensures { IfOk result (λ b. b ≡ frame (reply_tree id.now (array results.now))) }
+{
+    let id = id.to_bytes(alloc)?;
+    let mut bytes = Vec::from_slice(alloc, b"{\"error\":null,\"id\":")?;
+    bytes.extend_from_slice(id.as_slice())?;
+    bytes.extend_from_slice(b",\"result\":[")?;
+    bytes.extend_from_slice(results.as_slice())?;
+    bytes.extend_from_slice(b"]}")?;
+    Ok(Bytes::from_vec(bytes))
 }
 
 /// The reply to a call, with an error and no result (JSON-RPC 1.0, 1.2). The error is a plain text.

@@ -1,5 +1,4 @@
 pub mod Drawing
-pub mod Pushing
 pub mod Performing
 pub mod Ending
 pub mod Suiting

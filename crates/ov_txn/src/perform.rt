@@ -16,7 +16,7 @@ ghost use Rattle.ov_txn.specs.Results.{nulls_after, prefixed};
 ghost use Rattle.ov_txn.specs.declared.perform.Performed.TheVariants.{Completed};
 
 use crate::draws::are_uuids;
-use crate::results::{Results, error_tree};
+use crate::results::{error_tree, push_nulls};
 use crate::txn::Txn;
 use ov_db::Delta;
 use ov_given::NamedRows;
@@ -24,6 +24,7 @@ use ov_index::Indexes;
 use ov_integrity::{Finished, finish};
 use ov_ops::{OpCtx, OpOutcome, Owns, run_op};
 use ov_refs::Links;
+use ov_results::ArrayText;
 use ov_rows::Rows;
 use ov_schema::Schema;
 use ov_stage::{OpError, Stage};
@@ -35,7 +36,7 @@ use uuid::Uuid;
 #[derive(Drop)]
 pub(crate) enum Performed {
     /// The results, one for each operation, and the error of the commit where that fails; and what is to be changed.
-    Completed(Results, Delta),
+    Completed(ArrayText, Delta),
     /// A wait is not met. It is given up when the transaction is so many milliseconds old, if ever.
     Blocked(Option<u64>),
 }
@@ -43,25 +44,24 @@ pub(crate) enum Performed {
 /// After an operation that fails the results of the others are null, and nothing is changed (RFC 7047, 4.1.3).
 fn failed(
     alloc: Global,
-    results: Results,
+    results: ArrayText,
     error: OpError,
     others: &[Value],
-) -> Result<Results, AllocError>
+) -> Result<ArrayText, AllocError>
     ensures { IfOk result (λ r. r ≡ nulls_after (and_item results (spec.error_tree (error_view error))) (items_view others.now)) }
 {
     let mut results = results;
-    results.push(error_tree(alloc, error)?)?;
-    results.push_nulls(others)?;
+    results.push(alloc, error_tree(alloc, error)?.into())?;
+    push_nulls(alloc, &mut results, others)?;
     Ok(results)
 }
 
 /// Where the commit fails, one result more tells its error, and nothing is changed (RFC 7047, 4.1.3).
-fn refused(alloc: Global, results: Results, error: OpError) -> Result<Performed, AllocError>
+fn refused(alloc: Global, results: ArrayText, error: OpError) -> Result<Performed, AllocError>
     ensures { IfOk result (λ p. p ≡ Completed (and_error results (error_view error)) empty) }
 {
     let mut results = results;
-    let error = error_tree(alloc, error)?;
-    results.push(error)?;
+    results.push(alloc, error_tree(alloc, error)?.into())?;
     Ok(Performed::Completed(results, Delta::new(alloc)))
 }
 
@@ -72,7 +72,7 @@ fn end(
     version: Uuid,
     links: &Links,
     indexes: &Indexes,
-    results: Results,
+    results: ArrayText,
     stage: Stage<'_>,
 ) -> Result<Performed, AllocError>
     requires whole { is_whole schema.now stage.before ≡ true }
@@ -106,7 +106,7 @@ fn perform_operations<O: Owns>(
     requires indexed { AreIndexesOf schema.now rows.now indexes.now }
     ensures { IfOk result (IsPerformed (transaction schema.now rows.now (O.owned owns.now) txn.now.draws age txn.now.operations) rows.now) }
 {
-    let mut results = Results::new(alloc);
+    let mut results = ArrayText::new(alloc);
     let mut stage = Stage::with_indexes(alloc, schema, rows, indexes);
     let Some((version, ids)) = txn.draws().split_first() else {
         return Ok(Performed::Completed(results, stage.into_delta()));
@@ -122,7 +122,7 @@ fn perform_operations<O: Owns>(
     let operations = txn.operations().as_slice();
     for place in 0..operations.len() {
         match run_op(alloc, &mut stage, &ctx, place, &operations[place]) {
-            OpOutcome::Done(result) => results.push(result)?,
+            OpOutcome::Done(result) => results.push(alloc, result)?,
             OpOutcome::Fault(error) => {
                 let (_tried, others) = operations.split_at(place + 1);
                 let results = failed(alloc, results, error, others)?;

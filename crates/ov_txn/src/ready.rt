@@ -5,10 +5,11 @@ ghost use Rattle.ov_db.specs.KeptDatabase.{KeptDatabase};
 ghost use Rattle.ov_txn.specs.Replying.{replies_with};
 ghost use Rattle.ov_txn.specs.declared.ready.Replies.{Replies as Prepared};
 
-use crate::results::{Results, error_tree};
-use ov_base::{Tree, Trees};
+use crate::results::error_tree;
+use ov_base::Tree;
 use ov_db::{Db, Delta};
 use ov_keeper::Keeper;
+use ov_results::ArrayText;
 use ov_stage::OpError;
 use std::alloc::{AllocError, Global};
 
@@ -16,7 +17,7 @@ use std::alloc::{AllocError, Global};
 #[derive(Drop)]
 pub struct Replies {
     /// Where the store keeps the changes.
-    pub kept: Trees,
+    pub kept: ArrayText,
     /// What stands behind these results where memory is refused to the store, or the changes are too large for it:
     /// `resources exhausted`.
     pub exhausted: Tree,
@@ -26,13 +27,13 @@ pub struct Replies {
 
 impl Replies {
     /// Those with these results.
-    pub(crate) fn new(alloc: Global, results: Results) -> Result<Replies, AllocError>
+    pub(crate) fn new(alloc: Global, results: ArrayText) -> Result<Replies, AllocError>
         ensures { IfOk result (λ replies. replies ≡ replies_with results) }
     {
         let exhausted = error_tree(alloc, OpError::ResourcesExhausted)?;
         let failed = error_tree(alloc, OpError::InputOutput)?;
         Ok(Replies {
-            kept: results.into_trees(),
+            kept: results,
             exhausted,
             failed,
         })

@@ -7,13 +7,13 @@ ghost use Rattle.ov_txn.specs.Performing.{IsPerformed, SuitsPerformed, WholePerf
 
 use crate::perform::{Performed, perform};
 use crate::ready::{Ready, Replies};
-use crate::results::{Results, error_tree};
+use crate::results::error_tree;
 use crate::tries::Tries;
 use crate::txn::Txn;
-use ov_base::Trees;
 use ov_db::{Db, Delta, StoreAnswer};
 use ov_keeper::Keeper;
 use ov_ops::Owns;
+use ov_results::ArrayText;
 use ov_stage::OpError;
 use std::alloc::{AllocError, Global};
 
@@ -21,7 +21,7 @@ use std::alloc::{AllocError, Global};
 #[derive(Drop)]
 pub enum Tried {
     /// It is answered with these results, and nothing is stored.
-    Answer(Trees),
+    Answer(ArrayText),
     /// The store was asked to keep its changes, and answered so.
     Stored(StoreAnswer),
     /// A wait is not met, so nothing is changed. It is given up when the transaction is so many milliseconds old, if ever (RFC
@@ -84,7 +84,7 @@ pub fn attempt<K: Keeper + Drop, O: Owns, R: Ready<K>>(
         Ok(Performed::Blocked(timeout)) => Tried::Blocked(timeout),
         Ok(Performed::Completed(results, delta)) => {
             if delta.is_empty() {
-                return Tried::Answer(results.into_trees());
+                return Tried::Answer(results);
             }
             if db.sealed() {
                 return answer_sealed(alloc, results);
@@ -95,20 +95,20 @@ pub fn attempt<K: Keeper + Drop, O: Owns, R: Ready<K>>(
 }
 
 /// The results with the error of a commit that fails behind them.
-fn with_failure(alloc: Global, results: Results) -> Result<Trees, AllocError>
-    ensures { IfOk result (λ trees. trees ≡ failed_results results) }
+fn with_failure(alloc: Global, results: ArrayText) -> Result<ArrayText, AllocError>
+    ensures { IfOk result (λ all. all ≡ failed_results results) }
 {
     let mut results = results;
-    results.push(error_tree(alloc, OpError::InputOutput)?)?;
-    Ok(results.into_trees())
+    results.push(alloc, error_tree(alloc, OpError::InputOutput)?.into())?;
+    Ok(results)
 }
 
 /// The answer of a database that is sealed, where there is memory for it.
-fn answer_sealed(alloc: Global, results: Results) -> Tried
+fn answer_sealed(alloc: Global, results: ArrayText) -> Tried
     ensures { IsSealedAnswer results result }
 {
     match with_failure(alloc, results) {
-        Ok(trees) => Tried::Answer(trees),
+        Ok(results) => Tried::Answer(results),
         Err(_) => Tried::NoMemory,
     }
 }
@@ -117,7 +117,7 @@ fn answer_sealed(alloc: Global, results: Results) -> Tried
 fn store<K: Keeper + Drop, R: Ready<K>>(
     alloc: Global,
     db: &mut Db<K>,
-    results: Results,
+    results: ArrayText,
     delta: Delta,
     ready: &mut R,
 ) -> Tried

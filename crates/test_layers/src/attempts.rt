@@ -5,7 +5,7 @@ use ov_txn::{Draws, Ready, Replies, Tried, Tries, Txn, attempt};
 use std::alloc::Global;
 use std::test::Fail;
 use test_support::{
-    Counter, Faults, NetKeeper, OwnsOne, Scripted, agrees, compact, net, new_keeper,
+    Counter, Faults, NetKeeper, OwnsOne, Scripted, agrees, array_text, compact, net, new_keeper,
     schema_of_text, trees,
 };
 use uuid::Uuid;
@@ -51,7 +51,7 @@ fn told_stored(
         exhausted,
         failed,
     } = replies;
-    let results = compact(alloc, &kept.into_tree())?;
+    let results = array_text(alloc, &kept)?;
     let exhausted = compact(alloc, &exhausted)?;
     let failed = compact(alloc, &failed)?;
     let changes = prepared.changes;
@@ -65,7 +65,7 @@ fn told_stored(
 /// What is told of an attempt.
 fn told(alloc: Global, tried: Tried, prepared: &mut Prepared) -> Result<String, Fail> {
     match tried {
-        Tried::Answer(results) => compact(alloc, &results.into_tree()),
+        Tried::Answer(results) => array_text(alloc, &results),
         Tried::Stored(answer) => told_stored(alloc, answer, prepared),
         Tried::Blocked(Some(timeout)) => Ok(format!(in alloc; "waits {timeout}")?),
         Tried::Blocked(None) => Ok(String::from_str(alloc, "waits")?),

@@ -8,7 +8,7 @@ use ov_stage::Stage;
 use ov_txn::Txn;
 use std::alloc::{AllocError, Global};
 use std::test::Fail;
-use test_support::{Counter, OwnsOne, Scripted, agrees, compact, follows, net, trees};
+use test_support::{Counter, OwnsOne, Scripted, agrees, follows, net, trees};
 
 /// Operations on the rows of a database Net, as those of a transaction of this age. What comes of them are their results, and then
 /// how many rows they change; or the error of the last one, or how long it waits.
@@ -23,7 +23,7 @@ struct Operations {
 fn told(alloc: Global, results: String, outcome: OpOutcome) -> Result<(String, bool), Fail> {
     match outcome {
         OpOutcome::Done(result) => {
-            let result = compact(alloc, &result)?;
+            let result = String::from_utf8(result.to_bytes(alloc)?.into_vec())?;
             Ok((format!(in alloc; "{results}{result} ")?, true))
         }
         OpOutcome::Fault(error) => {

@@ -39,5 +39,5 @@ pub use rows::switch;
 pub use schemas::{NET, net, schema_of_text};
 pub use scripts::{Scripted, agrees, follows};
 pub use server::{converses, converses_over};
-pub use tree_texts::{compact, tree, trees, trees_of, value};
+pub use tree_texts::{array_text, compact, tree, trees, trees_of, value};
 pub use writers::SlowWriter;

@@ -3,6 +3,7 @@ use ov_base::Text;
 use ov_db::{Db, ListKeeper};
 use ov_index::IndexKey;
 use ov_keeper::{Change, Keeper, Line};
+use ov_refs::KeySet;
 use ov_rows::{Row, RowKey, Rows, TableRows};
 use ov_schema::{Schema, Table, text_of};
 use std::alloc::{AllocError, Global};
@@ -97,15 +98,15 @@ fn push_row<K: Keeper + Drop>(
     text.push_str(text_of_key(alloc, key)?.as_str())?;
     text.push_str(format!(in alloc; " {count}")?.as_str())?;
     if let Some(holders) = db.weak_holders(key) {
-        push_keys(alloc, text, holders.as_set())?;
+        push_keys(alloc, text, holders)?;
     }
     text.push_str("\n")?;
     Ok(())
 }
 
 /// Adds the keys of rows, each behind a space.
-fn push_keys(alloc: Global, text: &mut String, keys: &BTreeSet<RowKey>) -> Result<(), Fail> {
-    for key in keys {
+fn push_keys(alloc: Global, text: &mut String, keys: &KeySet) -> Result<(), Fail> {
+    for key in keys.iter() {
         text.push_str(" ")?;
         text.push_str(text_of_key(alloc, key)?.as_str())?;
     }

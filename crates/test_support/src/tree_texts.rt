@@ -3,6 +3,7 @@ ghost use Rattle.serde_json.specs.View.{view};
 ghost use Rattle.ov_specs.specs.wire.Tree.{has_real};
 
 use ov_base::{Tree, Trees, has_real};
+use ov_results::ArrayText;
 use serde_json::Value;
 use std::alloc::Global;
 use std::test::Fail;
@@ -45,4 +46,10 @@ pub fn trees(alloc: Global, text: &str) -> Result<Trees, Fail> {
 pub fn compact(alloc: Global, tree: &Tree) -> Result<String, Fail> {
     let bytes = tree.to_bytes(alloc)?;
     Ok(String::from_utf8(bytes.into_vec())?)
+}
+
+/// The compact text of an array.
+pub fn array_text(alloc: Global, items: &ArrayText) -> Result<String, Fail> {
+    let items = String::from_utf8(Vec::from_slice(alloc, items.as_slice())?)?;
+    Ok(format!(in alloc; "[{items}]")?)
 }

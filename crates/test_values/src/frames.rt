@@ -1,8 +1,10 @@
-use ov_base::Bytes;
-use ov_rpc::{append_item, failure, note, reply};
+use ov_base::{Bytes, Tree, has_real};
+use ov_results::{ArrayText, OpResult};
+use ov_rpc::{append_item, failure, note, reply, reply_with};
+use serde_json::Value;
 use std::alloc::Global;
 use std::test::Fail;
-use test_support::{Scripted, agrees, tree, trees};
+use test_support::{Scripted, agrees, array_text, tree, trees};
 
 /// Each frame is these bytes.
 const FRAMES: &str =
@@ -10,6 +12,11 @@ const FRAMES: &str =
 failure "x" unknown method -> {"error":"unknown method","id":"x","result":null}
 note echo [] -> {"id":null,"method":"echo","params":[]}
 note locked ["L"] -> {"id":null,"method":"locked","params":["L"]}
+results 1 [] -> {"error":null,"id":1,"result":[]}
+results "x" [{"uuid":["uuid","u"]}] -> {"error":null,"id":"x","result":[{"uuid":["uuid","u"]}]}
+results [null] [{},null,"]}"] -> {"error":null,"id":[null],"result":[{},null,"]}"]}
+rows 1 [] -> {"error":null,"id":1,"result":[{"rows":[]}]}
+rows 1 [{"name":"\"s\""},{}] -> {"error":null,"id":1,"result":[{"rows":[{"name":"\"s\""},{}]}]}
 append [] {"error":"e"} -> {"error":null,"id":"]}","result":[{"error":"e"}]}
 append [[]] {} -> {"error":null,"id":"]}","result":[[],{}]}
 append [1,"]}"] null -> {"error":null,"id":"]}","result":[1,"]}",null]}"#;
@@ -39,7 +46,34 @@ fn appended(alloc: Global, results: &str, item: &str) -> Result<String, Fail> {
     text_of(append_item(alloc, &reply, is_first, &tree(alloc, item)?)?)
 }
 
-/// The commands are `reply ID RESULT`, `failure ID ERROR`, `note METHOD PARAMS` and `append RESULTS ITEM`.
+/// The trees of an array, one put behind the other.
+fn array_of(alloc: Global, items: Vec<Value>) -> Result<ArrayText, Fail> {
+    let mut array = ArrayText::new(alloc);
+    for item in items {
+        if has_real(&item) {
+            return Err(Fail::new("a real"));
+        }
+        array.push(alloc, Tree::new(item).into())?;
+    }
+    Ok(array)
+}
+
+/// A reply with these results, or with the one of a select of these rows.
+fn reply_of_results(alloc: Global, id: &str, items: &str, are_rows: bool) -> Result<String, Fail> {
+    let Value::Array(items) = Value::from_str(alloc, items)? else {
+        return Err(Fail::new("no array"));
+    };
+    let mut results = array_of(alloc, items)?;
+    if are_rows {
+        let rows = results;
+        results = ArrayText::new(alloc);
+        results.push(alloc, OpResult::of_rows(rows))?;
+    }
+    text_of(reply_with(alloc, &tree(alloc, id)?, &results)?)
+}
+
+/// The commands are `reply ID RESULT`, `results ID RESULTS`, `rows ID ROWS`, `failure ID ERROR`, `note METHOD PARAMS` and
+/// `append RESULTS ITEM`.
 #[derive(Drop)]
 struct Frames;
 
@@ -49,6 +83,8 @@ impl Scripted for Frames {
         let (first, second) = rest.split_once(" ").ok_or("one part")?;
         match kind {
             "reply" => reply_of(alloc, first, second),
+            "results" => reply_of_results(alloc, first, second, false),
+            "rows" => reply_of_results(alloc, first, second, true),
             "failure" => failure_of(alloc, first, second),
             "append" => appended(alloc, first, second),
             _ => note_of(alloc, first, second),
@@ -59,6 +95,17 @@ impl Scripted for Frames {
 #[test]
 fn each_frame_is_these_bytes(rt: HostRuntime) -> Result<(), Fail> {
     agrees(rt.alloc(), Frames, FRAMES)
+}
+
+#[test]
+fn an_array_is_empty_until_something_is_put(rt: HostRuntime) -> Result<(), Fail> {
+    let alloc = rt.alloc();
+    let mut array = ArrayText::new(alloc);
+    assert!(rt; array.is_empty());
+    array.push(alloc, tree(alloc, "{}")?.into())?;
+    assert!(rt; !array.is_empty());
+    assert_eq!(rt; array_text(alloc, &array)?.as_str(), "[{}]");
+    Ok(())
 }
 
 #[test]

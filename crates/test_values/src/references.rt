@@ -105,7 +105,7 @@ fn targets_text(alloc: Global, targets: &[Target]) -> Result<String, Fail> {
 /// The texts of the keys, with commas between.
 fn keys_text(alloc: Global, keys: &KeySet) -> Result<String, Fail> {
     let mut text = String::new(alloc);
-    for key in keys.as_set() {
+    for key in keys.iter() {
         let key = key_text(alloc, key)?;
         let comma = if text.is_empty() { "" } else { ", " };
         text = format!(in alloc; "{text}{comma}{key}")?;
@@ -217,11 +217,13 @@ fn a_holder_that_is_taken_out_is_none(rt: HostRuntime) -> Result<(), Fail> {
 #[test]
 fn a_set_of_keys_has_each_once(rt: HostRuntime) -> Result<(), Fail> {
     let alloc = rt.alloc();
-    let mut keys = KeySet::new(alloc);
+    let mut keys = KeySet::new();
     assert!(rt; keys.is_empty());
-    keys.insert(key_of(alloc, "T 2")?)?;
-    keys.insert(key_of(alloc, "T 1")?)?;
-    keys.insert(key_of(alloc, "T 2")?)?;
+    keys.insert(alloc, key_of(alloc, "T 2")?)?;
+    keys.insert(alloc, key_of(alloc, "T 2")?)?;
+    assert_eq!(rt; keys_text(alloc, &keys)?.as_str(), "T 2");
+    keys.insert(alloc, key_of(alloc, "T 1")?)?;
+    keys.insert(alloc, key_of(alloc, "T 2")?)?;
     assert_eq!(rt; keys_text(alloc, &keys)?.as_str(), "T 1, T 2");
     keys.remove(&key_of(alloc, "T 2")?);
     assert!(rt; !keys.is_empty() && keys.contains(&key_of(alloc, "T 1")?));

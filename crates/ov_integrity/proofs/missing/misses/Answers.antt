@@ -12,5 +12,5 @@ loop-key-init c =
     let stage = c.args.stage.now in
     let changes = c.args.changes.now in
     ap (λ (ks : List LineKey). list_any (misses_at schema stage.now c.args.links.now.strong changes.keys) ks)
-    (c.into_iter-key-iterator.ensures.into_iter_gives.0 ∙ c.as_set-key-items.ensures ∙ ap (λ (set : KeySet). keys set) c.keys.ensures)
+    (c.into_iter-key-iterator.ensures.into_iter_gives ∙ c.iter-key-items.ensures ∙ ap (λ (set : KeySet). keys set) c.keys.ensures)
     ∙ misses_are schema stage.before stage.now c.args.links.now changes c.requires.whole c.requires.linked c.requires.changed

@@ -13,7 +13,7 @@ loop-key-init c =
     let schema = c.args.schema.now in
     let stage = c.args.stage.now in
     let all : c.into_iter-key-iterator.result ≡ keys c.args.changes.now.keys =
-    c.into_iter-key-iterator.ensures.into_iter_gives.0 ∙ c.as_set-key-items.ensures ∙ ap (λ (set : KeySet). keys set) c.keys.ensures in
+    c.into_iter-key-iterator.ensures.into_iter_gives ∙ c.iter-key-items.ensures ∙ ap (λ (set : KeySet). keys set) c.keys.ensures in
     subst (MayLack schema stage.now) (sym (λ i. c.new-work.ensures.items i ++ flat_map (lost_at schema stage.before) (all i)))
     (lack_at_first schema stage.before stage.now c.args.changes.now c.requires.whole c.requires.changed)
 

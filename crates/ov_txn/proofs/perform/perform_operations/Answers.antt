@@ -73,7 +73,7 @@ loop-place-preserved g c =
     ap (λ (db : Database). outcome_of (context db) i rows (view tree)) (sym c.loop-place.invariant.before) ∙ c.in-Done.ensures.done in
     let drawn = and_parts (is_uuid c.in-Some.version.now) (list_all is_uuid c.in_ok-inserts.inserts.ids) c.loop-place.invariant.drawn in
     record {
-      going = rw c.in_ok-push-in-Done.ensures (at_does (context before) all i rows (items_view (drop i trees)) c.loop-place.results c.loop-place.invariant.going (view tree) c.in-Done.result (items_view (drop (i + 1) trees)) c.run_op.new.stage.now
+      going = rw c.in_ok-push-in-Done.ensures.ok (at_does (context before) all i rows (items_view (drop i trees)) c.loop-place.results c.loop-place.invariant.going (view tree) c.in-Done.result (items_view (drop (i + 1) trees)) c.run_op.new.stage.now
           (items_at trees i tree within c.index-operations-place.is) does);
       before = c.in-Done.ensures.frame ∙ c.loop-place.invariant.before;
       drawn = c.loop-place.invariant.drawn;

@@ -1,0 +1,11 @@
+-- Where the keys of a set lie. What names no source is our own.
+use Rattle.std.specs.Prelude.{List, [], ◌∷◌}
+use Rattle.ov_refs.specs.declared.key_set.Keys.{Keys}
+use Rattle.ov_refs.specs.declared.key_set.Keys.TheVariants.{Empty, One, Many}
+use Rattle.ov_specs.specs.rows.Lines.{LineKey}
+
+-- the keys of a set, wherever they lie
+abbrev pub keys_in : Keys → List LineKey
+keys_in Empty = []
+keys_in (One key) = key ∷ []
+keys_in (Many set) = set.keys

@@ -1,0 +1,14 @@
+-- The text of an array in pieces. What names no source is our own.
+use Rattle.std.specs.Prelude.{ℕ, List, [], ◌++◌, Bool, true, false}
+use Rattle.serde_json.specs.Data.{Items, no_items, item}
+use Rattle.serde_json.specs.Written.{compact_text, comma_if}
+
+-- the texts of these trees, with commas between them; one before them where something stands before
+abbrev pub joined : Bool → Items → List ℕ
+joined later no_items = []
+joined later (item d items) = comma_if later ++ (compact_text d ++ joined true items)
+
+-- there is no tree
+abbrev pub has_none : Items → Bool
+has_none no_items = true
+has_none (item d items) = false

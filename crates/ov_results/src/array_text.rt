@@ -1,0 +1,85 @@
+ghost use Rattle.std.specs.Prelude.{◌≡◌, ◌↔◌, ◌++◌, ◌∷◌, [], not, IfOk, OnOk, OnErr, IsTrue};
+ghost use Rattle.serde_json.specs.Data.{array, no_items};
+ghost use Rattle.serde_json.specs.Written.{compact_text, comma_if};
+ghost use Rattle.ov_specs.specs.operations.Transaction.{and_item};
+
+use crate::item_trace::ItemTrace;
+use crate::op_result::OpResult;
+use std::alloc::{AllocError, Global};
+use std::marker::Model;
+
+/// JSON trees without reals, in order, as the text of their array without its brackets. A tree is not kept once it is written, so
+/// that many results take little memory.
+#[derive(Drop)]
+pub struct ArrayText {
+    text: Vec<u8>,
+    is_empty: bool,
+    trace: ItemTrace,
+}
+
+impl Model for ArrayText {
+    ghost use Rattle.std.specs.Prelude.{◌≡◌, false};
+    ghost use Rattle.serde_json.specs.Data.{Items};
+    ghost use Rattle.ov_results.specs.Texts.{joined, has_none};
+    ghost use Rattle.ov_specs.specs.codes.TreeCode.{items_code};
+
+    ghost Value = { Items };
+
+    ghost coded = { items_code };
+
+    ghost view = { λ a. a.trace.items };
+
+    ghost invariant = { λ a. (a.text.items ≡ joined false a.trace.items) × (a.is_empty ≡ has_none a.trace.items) };
+}
+
+/// What stands behind an array with or without items where one more is put: a comma but before the first, and the item.
+fn behind(alloc: Global, is_first: bool, item: &OpResult) -> Result<Vec<u8>, AllocError>
+    ensures { IfOk result (λ v. v.items ≡ comma_if (not is_first) ++ compact_text item.now) }
+{
+    let mut more = Vec::new(alloc);
+    if !is_first {
+        more.push(b',')?;
+    }
+    let text = item.to_bytes(alloc)?;
+    more.extend_from_slice(text.as_slice())?;
+    Ok(more)
+}
+
+impl ArrayText {
+    /// No trees.
+    pub fn new(alloc: Global) -> ArrayText
+        ensures { result ≡ no_items }
+    {
+        ArrayText {
+            text: Vec::new(alloc),
+            is_empty: true,
+            trace: ItemTrace::new(),
+        }
+    }
+
+    /// Whether there is none.
+    pub fn is_empty(&self) -> bool
+        ensures { IsTrue result ↔ (self.now ≡ no_items) }
+    {
+        self.is_empty
+    }
+
+    /// What stands between the brackets of their array.
+    pub fn as_slice(&self) -> &[u8]
+        ensures { 91 ∷ (result.now ++ 93 ∷ []) ≡ compact_text (array self.now) }
+    {
+        self.text.as_slice()
+    }
+
+    /// One more, behind the others. Where a growth is refused, nothing is changed.
+    pub fn push(&mut self, alloc: Global, item: OpResult) -> Result<(), AllocError>
+        ensures ok { OnOk result (self.new ≡ and_item self.old item) }
+        ensures err { OnErr result (self.new ≡ self.old) }
+    {
+        let more = behind(alloc, self.is_empty, &item)?;
+        self.text.extend_from_slice(more.as_slice())?;
+        self.is_empty = false;
+        self.trace = self.trace.and(&item);
+        Ok(())
+    }
+}
