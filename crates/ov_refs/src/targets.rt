@@ -150,17 +150,18 @@ fn push_datum(
     push_by_value(alloc, targets, column, datum)
 }
 
-/// Adds what the value of the column of this name refers to, if there is such a column.
+/// Adds what the value of the column of this name, at this place of a row, refers to, if there is such a column.
 fn push_column(
     alloc: Global,
     targets: &mut Vec<Target>,
     table: &Table,
+    place: usize,
     name: &str,
     datum: &Datum,
 ) -> Result<(), AllocError>
     ensures { OnOk result (targets.new.items ≡ targets.old.items ++ column_targets (get table.now.columns name.now) datum.now) }
 {
-    match table.column(name) {
+    match table.column_near(place, name) {
         Some(column) => push_datum(alloc, targets, column, datum),
         None => Ok(()),
     }
@@ -171,8 +172,10 @@ fn targets_in(alloc: Global, table: &Table, columns: &Columns) -> Result<Vec<Tar
     ensures { IfOk result (λ targets. targets.items ≡ targets_in (Some table.now) columns.now) }
 {
     let mut targets = Vec::new(alloc);
+    let mut place: usize = 0;
     for (name, datum) in columns.names().iter().zip(columns.values()) {
-        push_column(alloc, &mut targets, table, name.as_str(), datum)?;
+        push_column(alloc, &mut targets, table, place, name.as_str(), datum)?;
+        place = place.wrapping_add(1);
     }
     Ok(targets)
 }

@@ -1,13 +1,14 @@
 -- Items by their names, as the finite map that they make.
-use Rattle.std.proofs.Common.{◌≡◌, ℕ, suc, ◌+◌, ◌<◌, List, [], ◌∷◌, ◌++◌, map, length, drop, get_or, true, false, cond, T, ◌&&◌, Some, String, Global, refl, sym, ap, ◌∙◌, add-one, arith, Less, Equal, Greater}
+use Rattle.std.proofs.Common.{◌≡◌, ℕ, zero, suc, ◌+◌, ◌<◌, List, [], ◌∷◌, ◌++◌, map, length, drop, get_or, true, false, cond, T, ◌&&◌, Some, String, Global, refl, sym, ap, ◌∙◌, add-one, arith, subst, Ordering, Less, Equal, Greater}
 use Rattle.std.proofs.Math.Seq.{drop-cons}
 use Rattle.std.proofs.lemmas.List.{map-append}
 use Rattle.std.proofs.lemmas.Map.Text.{is_eq-slice_cmp}
+use Rattle.std.proofs.lemmas.Slice.Eq.{bytes_eq-Decides}
 use Rattle.std.specs.Str.{bytes_eq}
 use Rattle.std.specs.List.{AllByRecursion}
 use Rattle.std.specs.List.Sorted.{IsStrictlySortedBy}
-use Rattle.std.specs.Ordering.{match_ordering, eq_by_cmp}
-use Rattle.std.specs.Cmp.{IsTotalOrder}
+use Rattle.std.specs.Ordering.{match_ordering, eq_by_cmp, is_lt, is_eq}
+use Rattle.std.specs.Cmp.{IsTotalOrder, eq_by_cmp_equiv}
 use Rattle.std.specs.Cmp.Lexicographic.{nat_list_cmp_total}
 use Rattle.std.specs.String.{string_bytes, string_cmp}
 use Rattle.std.specs.Map.{keys_of}
@@ -16,13 +17,19 @@ use Rattle.std.specs.FinMap.{FinMap, IsAntisymmetric, nat_cmp-IsAntisymmetric, s
 use Rattle.std.specs.FinMap.Entries.{below_all, find-put}
 use Rattle.ov_specs.specs.schema.SchemaTypes.{name_cmp}
 use Rattle.ov_schema.specs.NamedViews.{named_view}
-use Rattle.ov_specs.proofs.laws.Truths.{both_hold}
+use Rattle.ov_specs.proofs.laws.Truths.{both_hold, left_holds, right_holds}
 
 pub name_total : IsTotalOrder name_cmp
 name_total = nat_list_cmp_total
 
 name_exact : IsAntisymmetric name_cmp
 name_exact = slice_cmp-IsAntisymmetric nat_cmp-IsAntisymmetric
+
+-- what is less is not equal
+not-tied : (o : Ordering) → T (is_lt o) → is_eq o ≡ false
+not-tied Less h = refl
+not-tied Equal h = absurd h
+not-tied Greater h = absurd h
 
 -- the entries of these, put over those of a map, the first one last
 abbrev pub put_over : {X : Type 0} → FinMap name_cmp X → List (List ℕ × X) → FinMap name_cmp X
@@ -94,6 +101,22 @@ module _ {X : Type 0} where
 
   pub find-later : (q : List ℕ) (es : List (List ℕ × X)) (i : ℕ) (e : List ℕ × X) → i < length es → e ≡ get_or es i e → bytes_eq q e.0 ≡ false → find name_cmp q (drop i es) ≡ find name_cmp q (drop (i + 1) es)
   find-later q es i e h is other = find-drop q es i e h is ∙ ap (λ b. cond b (Some e.1) (find name_cmp q (drop (i + 1) es))) other
+
+  -- an item behind one whose name is below all others has a later name
+  later-name : (k : List ℕ) (es : List (List ℕ × X)) (i : ℕ) (e : List ℕ × X) → T (below_all name_cmp k es) → i < length es → e ≡ get_or es i e → T (is_lt (name_cmp k e.0))
+  later-name k [] i e h l is = absurd (omega arith)
+  later-name k (x ∷ es) zero e h l is = subst (λ y. T (is_lt (name_cmp k y.0))) (sym is) (left_holds _ (below_all name_cmp k es) h)
+  later-name k (x ∷ es) (suc i) e h l is = later-name k es i e (right_holds (is_lt (name_cmp k x.0)) _ h) (omega arith) is
+
+  -- the item at a place of a list in ascending order of the names is the one that is found by its name
+  pub find-at : (es : List (List ℕ × X)) (i : ℕ) (e : List ℕ × X) → T (is_sorted name_cmp es) → i < length es → e ≡ get_or es i e → find name_cmp e.0 es ≡ Some e.1
+  find-at [] i e h l is = absurd (omega arith)
+  find-at (x ∷ es) zero e h l is =
+      subst (λ y. find name_cmp y.0 (x ∷ es) ≡ Some y.1) (sym is)
+      (ap (λ b. cond b (Some x.1) (find name_cmp x.0 es)) (is_eq-slice_cmp x.0 x.0 ∙ (bytes_eq-Decides x.0 x.0).1 refl))
+  find-at (x ∷ es) (suc i) e h l is =
+      let other = (eq_by_cmp_equiv nat_list_cmp_total).symm e.0 x.0 ∙ not-tied _ (later-name x.0 es i e (left_holds _ (is_sorted name_cmp es) h) (omega arith) is) in
+      ap (λ b. cond b (Some x.1) (find name_cmp e.0 es)) other ∙ find-at es i e (right_holds (below_all name_cmp x.0 es) _ h) (omega arith) is
 
   pub from_entries-entries : (m : FinMap name_cmp X) → from_entries (entries m) ≡ m
   from_entries-entries m = same_map name_total name_exact _ m (λ q. get-from_entries name_total (entries m) q ∙ sym (get-entries m q))

@@ -1,6 +1,6 @@
-ghost use Rattle.std.specs.Prelude.{◌≡◌, IfOk, map, Some, None};
+ghost use Rattle.std.specs.Prelude.{◌≡◌, T, IfOk, map, Some, None};
 ghost use Rattle.std.specs.Option.{option_copied};
-ghost use Rattle.std.specs.FinMap.{entries, from_entries, find};
+ghost use Rattle.std.specs.FinMap.{entries, from_entries, find, is_sorted};
 ghost use Rattle.ov_specs.specs.schema.SchemaTypes.{name_cmp};
 ghost use Rattle.ov_schema.specs.NamedViews.{named_view};
 
@@ -37,4 +37,19 @@ pub(crate) fn find_named<'a, T>(named: &'a [(Text, T)], name: &str) -> Option<&'
         }
     }
     None
+}
+
+/// The item of this name, of items in ascending order of their names. It is looked for at this place before all others.
+pub(crate) fn find_near<'a, Item>(
+    named: &'a [(Text, Item)],
+    place: usize,
+    name: &str,
+) -> Option<&'a Item>
+    requires ascend { T (is_sorted name_cmp named.now) }
+    ensures { option_copied result ≡ find name_cmp name.now named.now }
+{
+    match named.get(place) {
+        Some((known, item)) if name == known.as_str() => Some(item),
+        _ => find_named(named, name),
+    }
 }

@@ -8,7 +8,7 @@ ghost use Rattle.ov_schema.specs.NamedViews.{named_view};
 ghost use Rattle.ov_schema.specs.ShapeViews.{named_column_view, texts_view, indexes_view, table_view};
 
 use crate::column::Column;
-use crate::named::{ascending, find_named};
+use crate::named::{ascending, find_named, find_near};
 use crate::parse::table_shape::TableShape;
 use crate::parse::type_shape::ColumnShape;
 use crate::row_names::names_of_row;
@@ -16,6 +16,9 @@ use ov_base::Text;
 use ov_rows::ColumnNames;
 use std::alloc::{AllocError, Global};
 use std::marker::Model;
+
+/// How many columns each table has beside those that are declared.
+const OWN_COLUMNS: usize = 2;
 
 /// A table of a schema (RFC 7047, 3.2, `<table-schema>`). It has the columns `_uuid` and `_version` beside those that
 /// are declared.
@@ -69,6 +72,14 @@ impl Table {
         ensures { option_copied result ≡ get self.now.columns name.now }
     {
         find_named(&self.columns, name)
+    }
+
+    /// The column of this name, as [`Table::column`] finds it. It is looked for first at the place that it has where it is the one
+    /// at `place` of a row: behind the table's own columns, whose names come before those that begin with a small letter.
+    pub fn column_near(&self, place: usize, name: &str) -> Option<&Column>
+        ensures { option_copied result ≡ get self.now.columns name.now }
+    {
+        find_near(&self.columns, place.wrapping_add(OWN_COLUMNS), name)
     }
 
     /// All columns with their names, in ascending order of the names' bytes; `_uuid` and `_version` are among them.

@@ -171,6 +171,32 @@ fn a_table_tells_its_columns_in_order(rt: HostRuntime) -> Result<(), Fail> {
     are_told(rt.alloc(), COLUMNS)
 }
 
+/// Whether each column is the one of its name, whatever the place that it is looked for at.
+fn are_found_near(alloc: Global, table: &Table, places: &[usize]) -> Result<bool, Fail> {
+    for (name, column) in table.columns() {
+        for place in places {
+            let found = table.column_near(*place, name.as_str()).ok_or("no column")?;
+            if (found.is_mutable(), found.is_ephemeral(), found.min())
+                != (column.is_mutable(), column.is_ephemeral(), column.min())
+            {
+                return Ok(false);
+            }
+        }
+    }
+    Ok(true)
+}
+
+#[test]
+fn a_column_is_found_wherever_it_is_looked_for(rt: HostRuntime) -> Result<(), Fail> {
+    let alloc = rt.alloc();
+    let schema = schema_of_text(alloc, LIMITED)?;
+    let table = schema.table("Switch").ok_or("no table")?;
+    let places = [0, 1, 2, 3, 9, usize::MAX - 1, usize::MAX];
+    assert!(rt; are_found_near(alloc, table, &places)?);
+    assert!(rt; table.column_near(0, "no such column").is_none());
+    Ok(())
+}
+
 #[test]
 fn a_fault_is_told_in_words(rt: HostRuntime) -> Result<(), Fail> {
     let told = format!(in rt.alloc(); "{}", SchemaFault::UnknownRefTable)?;
