@@ -1,43 +1,18 @@
-ghost use Rattle.std.specs.Prelude.{◌≡◌, IfOk};
+ghost use Rattle.std.specs.Prelude.{◌≡◌};
 ghost use Rattle.serde_json.specs.View.{view};
 ghost use Rattle.ov_specs.specs.operations.Insert as spec;
-ghost use Rattle.ov_specs.specs.values.Value as value;
-ghost use Rattle.ov_specs.specs.values.Writing.{atom_tree};
 ghost use Rattle.ov_ops.specs.Outcomes.{context_of, IsDone};
 
 use crate::context::OpCtx;
 use crate::members::table_at;
 use crate::owns::Owns;
-use ov_base::Tree;
 use ov_given::{name_fault, new_row};
 use ov_results::OpResult;
 use ov_rows::{Columns, RowKey};
 use ov_stage::{OpError, OpFault, Stage};
-use serde_json::{Value, json};
-use std::alloc::{AllocError, Global};
+use serde_json::Value;
+use std::alloc::Global;
 use uuid::Uuid;
-
-fn uuid_value(alloc: Global, id: Uuid) -> Result<Value, AllocError>
-    ensures { IfOk result (λ v. view v ≡ atom_tree (value.Uuid id)) }
-{
-    let mut buffer = Uuid::encode_buffer();
-    let text: &str = id.hyphenated().encode_lower(&mut buffer);
-    json!(in alloc; ["uuid", text])
-}
-
-fn result_value(alloc: Global, id: Uuid) -> Result<Value, AllocError>
-    ensures { IfOk result (λ v. view v ≡ spec.insert_result id) }
-{
-    let uuid = uuid_value(alloc, id)?;
-    json!(in alloc; {"uuid": uuid})
-}
-
-/// The result of an insert: the identifier of its row (RFC 7047, 5.2.1).
-pub fn insert_result(alloc: Global, id: Uuid) -> Result<OpResult, AllocError>
-    ensures { IfOk result (λ r. r ≡ spec.insert_result id) }
-{
-    Ok(Tree::new(result_value(alloc, id)?).into())
-}
 
 /// The row under its identifier, which no row of the table may have.
 fn put_new<O: Owns>(
@@ -58,9 +33,8 @@ fn put_new<O: Owns>(
     if stage.contains(&key) {
         return Err(OpFault::Refused(OpError::DuplicateUuid));
     }
-    let result = insert_result(alloc, id)?;
     stage.put(key, ctx.version, columns)?;
-    Ok(result)
+    Ok(OpResult::of_new_row(id))
 }
 
 /// The insert at this place of the transaction: a row is made of `row` and put under the identifier that was drawn for it. Its

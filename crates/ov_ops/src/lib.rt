@@ -22,7 +22,6 @@ mod update;
 mod wait;
 
 pub use context::OpCtx;
-pub use insert::insert_result;
 pub use operation::run_op;
 pub use outcome::OpOutcome;
 pub use owns::Owns;

@@ -1,7 +1,7 @@
 -- The text of an array, and that of the array with one tree more.
 use Rattle.std.proofs.Common.{◌≡◌, ◌↔◌, if◌then◌else◌, List, ℕ, [], ◌∷◌, ◌++◌, Bool, true, false, not, true≢false, refl, sym, ap, ◌∙◌, IsTrue}
 use Rattle.std.proofs.lemmas.List.{append_assoc, append-nil}
-use Rattle.serde_json.specs.Data.{Data, Items, no_items, item, array}
+use Rattle.serde_json.specs.Data.{Data, Items, no_items, item}
 use Rattle.serde_json.specs.View.{items_of}
 use Rattle.serde_json.specs.Written.{compact_text, items_text, comma_if}
 use Rattle.ov_specs.specs.operations.Transaction.{and_item}
@@ -9,6 +9,10 @@ use Rattle.ov_results.specs.Texts.{joined, has_none}
 
 regroup : (a b c d : List ℕ) → a ++ (b ++ (c ++ d)) ≡ (a ++ (b ++ c)) ++ d
 regroup a b c d = ap (λ t. a ++ t) (sym (append_assoc b c d)) ∙ sym (append_assoc a (b ++ c) d)
+
+-- three pieces behind a text, one after another
+pub in_turn : (text a b c t u v : List ℕ) → t ≡ text ++ a → u ≡ t ++ b → v ≡ u ++ c → v ≡ text ++ (a ++ (b ++ c))
+in_turn text a b c t u v first second third = third ∙ ap (λ x. x ++ c) (second ∙ ap (λ x. x ++ b) first) ∙ append_assoc (text ++ a) b c ∙ append_assoc text a (b ++ c)
 
 pub closed : (later : Bool) (items : Items) → items_text later items ≡ joined later items ++ 93 ∷ []
 closed later no_items = refl

@@ -1,5 +1,5 @@
 -- The text of an array in pieces. What names no source is our own.
-use Rattle.std.specs.Prelude.{ℕ, List, [], ◌++◌, Bool, true, false}
+use Rattle.std.specs.Prelude.{◌≡◌, ℕ, List, [], ◌++◌, Bool, true, false}
 use Rattle.serde_json.specs.Data.{Items, no_items, item}
 use Rattle.serde_json.specs.Written.{compact_text, comma_if}
 
@@ -12,3 +12,7 @@ joined later (item d items) = comma_if later ++ (compact_text d ++ joined true i
 abbrev pub has_none : Items → Bool
 has_none no_items = true
 has_none (item d items) = false
+
+-- a text that has grown: the former one, with nothing or something behind it
+abbrev pub HasGrown : List ℕ → List ℕ → Type 0
+HasGrown before after = (more : List ℕ) × (after ≡ before ++ more)

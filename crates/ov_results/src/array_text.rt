@@ -2,6 +2,7 @@ ghost use Rattle.std.specs.Prelude.{◌≡◌, ◌↔◌, ◌++◌, ◌∷◌, [
 ghost use Rattle.serde_json.specs.Data.{array, no_items};
 ghost use Rattle.serde_json.specs.Written.{compact_text, comma_if};
 ghost use Rattle.ov_specs.specs.operations.Transaction.{and_item};
+ghost use Rattle.ov_results.specs.Texts.{HasGrown};
 
 use crate::item_trace::ItemTrace;
 use crate::op_result::OpResult;
@@ -32,17 +33,20 @@ impl Model for ArrayText {
     ghost invariant = { λ a. (a.text.items ≡ joined false a.trace.items) × (a.is_empty ≡ has_none a.trace.items) };
 }
 
-/// What stands behind an array with or without items where one more is put: a comma but before the first, and the item.
-fn behind(alloc: Global, is_first: bool, item: &OpResult) -> Result<Vec<u8>, AllocError>
-    ensures { IfOk result (λ v. v.items ≡ comma_if (not is_first) ++ compact_text item.now) }
+/// Writes one more item behind those of an array: a comma but before the first, and the item.
+fn write_item(
+    alloc: Global,
+    text: &mut Vec<u8>,
+    is_first: bool,
+    item: &OpResult,
+) -> Result<(), AllocError>
+    ensures ok { OnOk result (text.new.items ≡ text.old.items ++ (comma_if (not is_first) ++ compact_text item.now)) }
+    ensures grown { HasGrown text.old.items text.new.items }
 {
-    let mut more = Vec::new(alloc);
     if !is_first {
-        more.push(b',')?;
+        text.push(b',')?;
     }
-    let text = item.to_bytes(alloc)?;
-    more.extend_from_slice(text.as_slice())?;
-    Ok(more)
+    item.write(alloc, text)
 }
 
 impl ArrayText {
@@ -76,8 +80,11 @@ impl ArrayText {
         ensures ok { OnOk result (self.new ≡ and_item self.old item) }
         ensures err { OnErr result (self.new ≡ self.old) }
     {
-        let more = behind(alloc, self.is_empty, &item)?;
-        self.text.extend_from_slice(more.as_slice())?;
+        let before = self.text.len();
+        if let Err(refused) = write_item(alloc, &mut self.text, self.is_empty, &item) {
+            self.text.truncate(before);
+            return Err(refused);
+        }
         self.is_empty = false;
         self.trace = self.trace.and(&item);
         Ok(())

@@ -1,18 +1,22 @@
-ghost use Rattle.std.specs.Prelude.{◌≡◌, ◌∷◌, [], IfOk, codes};
+ghost use Rattle.std.specs.Prelude.{◌≡◌, ◌++◌, ◌∷◌, [], IfOk, OnOk, codes};
 ghost use Rattle.serde_json.specs.Data.{array};
 ghost use Rattle.serde_json.specs.Written.{compact_text};
+ghost use Rattle.ov_specs.specs.operations.Insert.{insert_result};
 ghost use Rattle.ov_specs.specs.rows.Database.{object_of};
+ghost use Rattle.ov_results.specs.Texts.{HasGrown};
 
 use crate::array_text::ArrayText;
 use ov_base::{Bytes, Tree};
 use std::alloc::{AllocError, Global};
 use std::marker::Model;
+use uuid::Uuid;
 
-/// What a result is kept as: rows as their text, since they can be many.
+/// What a result is kept as: rows as their text, since they can be many, and the identifier of a new row as it is.
 #[derive(Drop)]
 enum Stored {
     Tree(Tree),
     Rows(ArrayText),
+    NewRow(Uuid),
 }
 
 /// The result of an operation (RFC 7047, 4.1.3 and 5.2), which contracts see as its JSON tree.
@@ -52,14 +56,37 @@ impl From<Tree> for OpResult {
     }
 }
 
-/// The text of the object whose one member `rows` is an array.
-fn rows_text(alloc: Global, rows: &ArrayText) -> Result<Bytes, AllocError>
-    ensures { IfOk result (λ b. b ≡ compact_text (object_of ((codes "rows", array rows.now) ∷ []))) }
+/// Writes the object whose one member `rows` is this array.
+fn write_rows(text: &mut Vec<u8>, rows: &ArrayText) -> Result<(), AllocError>
+    ensures ok { OnOk result (text.new.items ≡ text.old.items ++ compact_text (object_of ((codes "rows", array rows.now) ∷ []))) }
+    ensures grown { HasGrown text.old.items text.new.items }
 {
-    let mut text = Vec::from_slice(alloc, b"{\"rows\":[")?;
+    text.extend_from_slice(b"{\"rows\":[")?;
     text.extend_from_slice(rows.as_slice())?;
     text.extend_from_slice(b"]}")?;
-    Ok(Bytes::from_vec(text))
+    Ok(())
+}
+
+/// Writes the object whose one member `uuid` is this identifier. Its text needs no escapes.
+fn write_new_row(text: &mut Vec<u8>, id: Uuid) -> Result<(), AllocError>
+    ensures ok { OnOk result (text.new.items ≡ text.old.items ++ compact_text (insert_result id)) }
+    ensures grown { HasGrown text.old.items text.new.items }
+{
+    let mut buffer = Uuid::encode_buffer();
+    let id: &str = id.hyphenated().encode_lower(&mut buffer);
+    text.extend_from_slice(b"{\"uuid\":[\"uuid\",\"")?;
+    text.extend_from_slice(id.as_bytes())?;
+    text.extend_from_slice(b"\"]}")?;
+    Ok(())
+}
+
+/// Writes the tree.
+fn write_tree(alloc: Global, text: &mut Vec<u8>, tree: &Tree) -> Result<(), AllocError>
+    ensures ok { OnOk result (text.new.items ≡ text.old.items ++ compact_text tree.now) }
+    ensures grown { HasGrown text.old.items text.new.items }
+{
+    let bytes = tree.to_bytes(alloc)?;
+    text.extend_from_slice(bytes.as_slice())
 }
 
 impl OpResult {
@@ -72,13 +99,34 @@ impl OpResult {
         }
     }
 
+    /// The result of an insert: the identifier of its row (RFC 7047, 5.2.1).
+    pub fn of_new_row(id: Uuid) -> OpResult
+        ensures { result ≡ insert_result id }
+    {
+        OpResult {
+            stored: Stored::NewRow(id),
+        }
+    }
+
+    /// Writes what is sent behind a text: compact, with the members of each object in ascending order of their names' bytes. Where
+    /// a growth is refused, a part of it may have been written.
+    pub(crate) fn write(&self, alloc: Global, text: &mut Vec<u8>) -> Result<(), AllocError>
+        ensures ok { OnOk result (text.new.items ≡ text.old.items ++ compact_text self.now) }
+        ensures grown { HasGrown text.old.items text.new.items }
+    {
+        match &self.stored {
+            Stored::Tree(tree) => write_tree(alloc, text, tree),
+            Stored::Rows(rows) => write_rows(text, rows),
+            Stored::NewRow(id) => write_new_row(text, *id),
+        }
+    }
+
     /// The text that is sent: compact, with the members of each object in ascending order of their names' bytes.
     pub fn to_bytes(&self, alloc: Global) -> Result<Bytes, AllocError>
         ensures { IfOk result (λ b. b ≡ compact_text self.now) }
     {
-        match &self.stored {
-            Stored::Tree(tree) => tree.to_bytes(alloc),
-            Stored::Rows(rows) => rows_text(alloc, rows),
-        }
+        let mut text = Vec::new(alloc);
+        self.write(alloc, &mut text)?;
+        Ok(Bytes::from_vec(text))
     }
 }

@@ -5,6 +5,7 @@ use serde_json::Value;
 use std::alloc::Global;
 use std::test::Fail;
 use test_support::{Scripted, agrees, array_text, tree, trees};
+use uuid::Uuid;
 
 /// Each frame is these bytes.
 const FRAMES: &str =
@@ -95,6 +96,21 @@ impl Scripted for Frames {
 #[test]
 fn each_frame_is_these_bytes(rt: HostRuntime) -> Result<(), Fail> {
     agrees(rt.alloc(), Frames, FRAMES)
+}
+
+#[test]
+fn the_result_of_an_insert_is_its_identifier(rt: HostRuntime) -> Result<(), Fail> {
+    let alloc = rt.alloc();
+    let id = Uuid::from_u128(0x0a1b_2c3d_4e5f_4aaa_bfff_0123_4567_89ab);
+    let want = r#"{"uuid":["uuid","0a1b2c3d-4e5f-4aaa-bfff-0123456789ab"]}"#;
+    let bytes = OpResult::of_new_row(id).to_bytes(alloc)?;
+    assert_eq!(rt; text_of(bytes)?.as_str(), want);
+    let mut array = ArrayText::new(alloc);
+    array.push(alloc, tree(alloc, "{}")?.into())?;
+    array.push(alloc, OpResult::of_new_row(id))?;
+    let want = format!(in alloc; "[{{}},{want}]")?;
+    assert_eq!(rt; array_text(alloc, &array)?.as_str(), want.as_str());
+    Ok(())
 }
 
 #[test]

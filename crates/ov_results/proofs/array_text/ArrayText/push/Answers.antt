@@ -8,8 +8,7 @@ pub invariant_of-self-2 : goal.invariant_of-self-2
 invariant_of-self-2 c =
     let items = c.self.inside.trace.items in
     let longer = c.and-self-inside.ensures in (
-      c.in_ok-extend_from_slice.ensures.items
-          ∙ (λ i. c.self.invariant.0 i ++ (c.as_slice.ensures.value ∙ c.in_ok-more.ensures) i)
+      c.in_default.ensures.ok ∙ ap (λ t. t ++ (comma_if (not c.self.inside.is_empty) ++ compact_text c.args.item)) c.self.invariant.0
           ∙ ap (λ b. joined false items ++ (comma_if (not b) ++ compact_text c.args.item)) c.self.invariant.1
           ∙ sym (ap (joined false) longer ∙ with_more items c.args.item),
       has_some items c.args.item ∙ sym (ap has_none longer),

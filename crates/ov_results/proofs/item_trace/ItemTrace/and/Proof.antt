@@ -10,7 +10,7 @@ use contract.Monad.{Fun}
 use contract.Running.{tables, tables_of}
 use sound.WpLaws.{WpFn-mono}
 use types.Logic.{Logic}
-use types.Kit.{‵, raw, ◌⊛◌, prop, ◌$◌, ◌∵◌, !, qed, move, keep, drop, split, join, fsplit, fjoin, feq_l, regoal, suffices, done}
+use types.Kit.{‵, raw, ◌⊛◌, prop, ◌$◌, ◌∵◌, !, qed, move, keep, drop, split, fsplit, fjoin, feq_l, regoal, suffices, done}
 use types.Part.{agg}
 use types.Run.{enter, returns, and_then, no_more}
 use types.ByLocal.{alloc_all, pass_all, free_all, look_at, get, sets}
