@@ -1,5 +1,5 @@
 -- Rows that may have dangling references are those that were changed, and those that referred weakly to one that was taken out.
-use Rattle.std.proofs.Common.{◌≡◌, List, [], ◌∷◌, Bool, true, false, cond, ◌||◌, ◌⊎◌, inl, inr, is_some, flat_map, Option, Some, None, refl, sym, ap, subst, ◌∙◌}
+use Rattle.std.proofs.Common.{◌≡◌, List, [], ◌∷◌, Bool, true, false, cond, if◌then◌else◌, ◌||◌, ◌⊎◌, inl, inr, is_some, flat_map, Option, Some, None, refl, sym, ap, subst, ◌∙◌}
 use Rattle.std.proofs.lemmas.Bool.{or_left, or_right}
 use Rattle.std.proofs.lemmas.List.Folds.{list_any-append}
 use Rattle.std.proofs.lemmas.Option.{same_Some}
@@ -10,15 +10,17 @@ use Rattle.std.specs.Ordering.{eq_by_cmp}
 use Rattle.ov_db.specs.Changing.{Delta, applied}
 use Rattle.ov_db.proofs.Places.{or_before, get-applied}
 use Rattle.ov_refs.specs.Holding.{KeySet, is_holder}
-use Rattle.ov_refs.specs.Linking.{Links}
+use Rattle.ov_refs.specs.Linking.{Links, AreLinksOf}
+use Rattle.ov_specs.specs.integrity.Committed.{dangles, is_whole}
 use Rattle.ov_specs.specs.integrity.References.{refers_weakly}
 use Rattle.ov_specs.specs.rows.Database.{Row, Database, same_key}
 use Rattle.ov_specs.specs.rows.Lines.{LineKey, line_cmp}
 use Rattle.ov_specs.specs.schema.Schema.{is_some_and}
+use Rattle.ov_specs.specs.schema.SchemaTypes.{Schema}
 use Rattle.ov_specs.proofs.laws.Committing.{whole_is}
 use Rattle.ov_specs.proofs.laws.Following.{HasGoneTarget, dangles_follows}
 use Rattle.ov_specs.proofs.laws.LineKeys.{tied_same, same_key-itself, same_key-tied}
-use Rattle.ov_integrity.specs.Pruning.{AreCandidates, keys_held, may_dangle_by}
+use Rattle.ov_integrity.specs.Pruning.{MayDangle, keys_held, may_dangle_by}
 use Rattle.ov_integrity.proofs.Keys.{none_is}
 
 -- what is found at a key has its share in the whole
@@ -49,46 +51,54 @@ module _ (delta : Delta) (before now : Database) (made : applied delta before �
   stands : (key : LineKey) → get now key ≡ or_before (get delta key) (get before key)
   stands key = ap (λ (rows : Database). get rows key) (sym made) ∙ get-applied delta before key
 
-  beside : (key : LineKey) → contains_key delta key ≡ false → get now key ≡ get before key
+  pub beside : (key : LineKey) → contains_key delta key ≡ false → get now key ≡ get before key
   beside key none = stands key ∙ ap (λ o. or_before o (get before key)) (none_there (get delta key) none)
 
-  module _ (links : Links) where
+  -- what a change makes is what stands there
+  pub made_is : (key : LineKey) (change : Option Row) → get delta key ≡ Some change → get now key ≡ change
+  made_is key change at = stands key ∙ ap (λ o. or_before o (get before key)) at
+
+  module _ (schema : Schema) (links : Links) where
+    abbrev each : LineKey × Option Row → List LineKey
+    each = may_dangle_by schema now links.weak
+
     abbrev listed : List LineKey
-    listed = flat_map (may_dangle_by links.weak) (entries delta)
+    listed = flat_map each (entries delta)
 
-    by_change : (to key : LineKey) (change : Option Row) → get delta to ≡ Some change → list_any (same_key key) (may_dangle_by links.weak (to, change)) ≡ true → list_any (same_key key) listed ≡ true
-    by_change to key change at any = any_at_entry (may_dangle_by links.weak) (same_key key) to change (entries delta) (sym (get-entries delta to) ∙ at) any
+    by_change : (to key : LineKey) (change : Option Row) → get delta to ≡ Some change → list_any (same_key key) (each (to, change)) ≡ true → list_any (same_key key) listed ≡ true
+    by_change to key change at any = any_at_entry each (same_key key) to change (entries delta) (sym (get-entries delta to) ∙ at) any
 
-    itself : (key : LineKey) (change : Option Row) → list_any (same_key key) (may_dangle_by links.weak (key, change)) ≡ true
-    itself key (Some row) = or_left (same_key key key) false (same_key-itself key)
-    itself key None = or_left (same_key key key) (list_any (same_key key) (keys_held (get links.weak key))) (same_key-itself key)
+    itself : (key : LineKey) (row : Row) → dangles schema now (key, row) ≡ true → list_any (same_key key) (each (key, Some row)) ≡ true
+    itself key row dangling = ap (λ b. list_any (same_key key) (if b then key ∷ [] else [])) dangling ∙ or_left (same_key key key) false (same_key-itself key)
 
-    changed_is : (key : LineKey) → contains_key delta key ≡ true → list_any (same_key key) listed ≡ true
-    changed_is key so = by (get delta key) refl so
+    changed_is : (key : LineKey) (row : Row) → contains_key delta key ≡ true → get now key ≡ Some row → dangles schema now (key, row) ≡ true → list_any (same_key key) listed ≡ true
+    changed_is key row so found dangling = by (get delta key) refl so
       where
         by : (o : Option (Option Row)) → get delta key ≡ o → is_some o ≡ true → list_any (same_key key) listed ≡ true
         by None at h = cc
-        by (Some change) at h = by_change key key change at (itself key change)
+        by (Some None) at h = absurd (none_is row (sym (made_is key None at) ∙ found))
+        by (Some (Some other)) at h =
+            let same : other ≡ row = same_Some other row (sym (made_is key (Some other) at) ∙ found) in
+            by_change key key (Some other) at (itself key other (ap (λ r. dangles schema now (key, r)) same ∙ dangling))
 
     held_is : (to key : LineKey) → contains_key delta to ≡ true → get now to ≡ None → is_holder links.weak to key ≡ true → list_any (same_key key) listed ≡ true
     held_is to key so gone holds = by (get delta to) refl so
       where
         by : (o : Option (Option Row)) → get delta to ≡ o → is_some o ≡ true → list_any (same_key key) listed ≡ true
         by None at h = cc
-        by (Some (Some row)) at h = absurd (none_is row (sym gone ∙ stands to ∙ ap (λ o. or_before o (get before to)) at))
-        by (Some None) at h =
-            by_change to key None at (or_right (same_key key to) (list_any (same_key key) (keys_held (get links.weak to))) (holder_is key (get links.weak to) holds))
+        by (Some (Some row)) at h = absurd (none_is row (sym gone ∙ made_is to (Some row) at))
+        by (Some None) at h = by_change to key None at (holder_is key (get links.weak to) holds)
 
-    pub candidates_are : AreCandidates before now links listed
-    candidates_are schema whole linked key row found dangling =
+    pub candidates_are : is_whole schema before ≡ true → AreLinksOf schema before links → MayDangle schema now listed
+    candidates_are whole linked key row found dangling =
         by (dangles_follows schema before now (contains_key delta) beside (whole_is schema before whole).targets key row found dangling)
       where
         at : (b : Bool) → contains_key delta key ≡ b → HasGoneTarget schema before now (contains_key delta) (key, row) → list_any (same_key key) listed ≡ true
-        at true so gone = changed_is key so
+        at true so gone = changed_is key row so found dangling
         at false so gone =
             held_is gone.0 key gone.1 gone.3
             (linked.weak gone.0 key ∙ ap (is_some_and (λ r. refers_weakly schema (key, r) gone.0)) (sym (beside key so) ∙ found) ∙ gone.4)
 
         by : (contains_key delta key ≡ true) ⊎ HasGoneTarget schema before now (contains_key delta) (key, row) → list_any (same_key key) listed ≡ true
-        by (inl so) = changed_is key so
+        by (inl so) = changed_is key row so found dangling
         by (inr gone) = at (contains_key delta key) refl gone

@@ -90,14 +90,14 @@ lacking_none schema rows lack = kept_whole schema rows (λ key row found. by key
 -- Rows before a change and now, where no row is different but at a key that was changed: new rows may lack support, and so may
 -- what the rows that were changed had referred to strongly.
 pub lacking_at_first : (schema : Schema) (before now : Database) (changed : LineKey → Bool) (work : List LineKey) → ((key : LineKey) → changed key ≡ false → get now key ≡ get before key) → AreSupported schema before
-    → ((key : LineKey) (row : Row) → changed key ≡ true → get before key ≡ None → get now key ≡ Some row → list_any (same_key key) work ≡ true)
+    → ((key : LineKey) (row : Row) → changed key ≡ true → get before key ≡ None → get now key ≡ Some row → is_supported schema now key ≡ false → list_any (same_key key) work ≡ true)
     → ((from : LineKey) (old : Row) (key : LineKey) → changed from ≡ true → get before from ≡ Some old → list_any (same_key key) (strong_keys (row_targets schema (from, old))) ≡ true → list_any (same_key key) work ≡ true)
     → MayLack schema now work
 lacking_at_first schema before now changed work beside supported new lost key row found is =
     by (unsupported_follows schema before now changed beside supported key row found is)
   where
     at : (b : Bool) → changed key ≡ b → get before key ≡ None → list_any (same_key key) work ≡ true
-    at true so none = new key row so none found
+    at true so none = new key row so none found is
     at false so none = absurd (none_is row (sym none ∙ sym (beside key so) ∙ found))
 
     by : (get before key ≡ None) ⊎ ChangedSupporter schema before changed key → list_any (same_key key) work ≡ true

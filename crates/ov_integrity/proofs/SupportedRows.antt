@@ -1,6 +1,6 @@
 -- Whether a row is supported, by what is known of the rows before a transaction and of those that it has changed; and which
 -- rows may lack support at first, and where one goes.
-use Rattle.std.proofs.Common.{◌≡◌, ◌+◌, ◌≤◌, List, [], ◌∷◌, ◌++◌, flat_map, length, Bool, true, false, cond, not, ◌&&◌, ◌||◌, ◌⊎◌, inl, inr, Option, Some, None, is_some, refl, sym, ap, ◌∙◌, arith}
+use Rattle.std.proofs.Common.{◌≡◌, ◌+◌, ◌≤◌, if◌then◌else◌, List, [], ◌∷◌, ◌++◌, flat_map, length, Bool, true, false, cond, not, ◌&&◌, ◌||◌, ◌⊎◌, inl, inr, Option, Some, None, is_some, refl, sym, ap, ◌∙◌, arith}
 use Rattle.std.proofs.lemmas.Bool.{and_parts, and_from, or_left, or_right, not_from_false}
 use Rattle.std.proofs.lemmas.List.{length-append}
 use Rattle.std.proofs.lemmas.List.Folds.{list_any-append}
@@ -24,7 +24,7 @@ use Rattle.ov_integrity.specs.Linked.{AreLinked, some_holds, is_unchanged_beside
 use Rattle.ov_integrity.specs.Supporting.{strong_keys, MayLack}
 use Rattle.ov_integrity.proofs.Fewer.{strong_ones_fewer, references_fewer}
 use Rattle.ov_integrity.proofs.HeldKeys.{passes_key, holder_passes, passes_holder, row_there}
-use Rattle.ov_integrity.proofs.Keys.{same_truth}
+use Rattle.ov_integrity.proofs.Keys.{contradicts, same_truth}
 use Rattle.ov_integrity.proofs.Lacking.{lacking_at_first}
 
 -- ---- truth
@@ -183,9 +183,9 @@ module _ (schema : Schema) (rows : Database) (strong : Holders) (changes : Chang
 
 -- ---- rows that may lack support at first
 
--- the key where there was no row, and else what the row referred to strongly
+-- the key where there was no row, unless it is one of a root table, and else what the row referred to strongly
 abbrev pub lost_of : Schema → LineKey → Option Row → List LineKey
-lost_of schema key None = key ∷ []
+lost_of schema key None = if is_in_root_table schema key then [] else key ∷ []
 lost_of schema key (Some row) = strong_keys (row_targets schema (key, row))
 
 abbrev pub lost_at : Schema → Database → LineKey → List LineKey
@@ -195,12 +195,21 @@ any-flat_map : {A B : Type 0} (test : B → Bool) (f : A → List B) (xs : List 
 any-flat_map test f [] = refl
 any-flat_map test f (x ∷ xs) = list_any-append test (f x) (flat_map f xs) ∙ ap (λ b. list_any test (f x) || b) (any-flat_map test f xs)
 
+-- a row without support is of no root table
+no_root : (schema : Schema) (rows : Database) (key : LineKey) → is_supported schema rows key ≡ false → is_in_root_table schema key ≡ false
+no_root schema rows key is = by (is_in_root_table schema key) refl
+  where
+    by : (b : Bool) → is_in_root_table schema key ≡ b → b ≡ false
+    by true root = absurd (contradicts (is_supported schema rows key) (is_support schema rows key (inl root)) is)
+    by false root = refl
+
 pub lack_at_first : (schema : Schema) (before now : Database) (changes : Changes) → is_whole schema before ≡ true → AreChanges schema before now changes
     → MayLack schema now (flat_map (lost_at schema before) (keys changes.keys))
 lack_at_first schema before now changes whole are =
     lacking_at_first schema before now (contains_key changes.keys) (flat_map (lost_at schema before) (keys changes.keys)) are.beside (whole_is schema before whole).supported
-    (λ key row at none found.
-    at_key key key at (ap (λ o. list_any (same_key key) (lost_of schema key o)) none ∙ or_left (same_key key key) false (same_key-itself key)))
+    (λ key row at none found is.
+    at_key key key at (ap (λ o. list_any (same_key key) (lost_of schema key o)) none
+    ∙ ap (λ b. list_any (same_key key) (if b then [] else key ∷ [])) (no_root schema now key is) ∙ or_left (same_key key key) false (same_key-itself key)))
     (λ from old key at has any. at_key key from at (ap (λ o. list_any (same_key key) (lost_of schema from o)) has ∙ any))
   where
     at_key : (key from : LineKey) → contains_key changes.keys from ≡ true → list_any (same_key key) (lost_at schema before from) ≡ true

@@ -1,9 +1,7 @@
 -- What a transaction has changed, and how it is collected. What names no source is our own.
-use Rattle.std.specs.Prelude.{◌≡◌, ◌&&◌, not, List, [], ◌∷◌, Bool, false, Option, Some, None, if◌then◌else◌, refl}
+use Rattle.std.specs.Prelude.{◌≡◌, ◌&&◌, List, [], ◌∷◌, false, Option, Some, None, if◌then◌else◌, refl}
 use Rattle.std.specs.Coded.{Coded, code_by, coded×}
-use Rattle.std.specs.FinMap.{get, contains_key, insert, keys}
-use Rattle.std.specs.List.{list_any}
-use Rattle.ov_specs.specs.schema.Schema.{is_some_and}
+use Rattle.std.specs.FinMap.{get, contains_key, insert}
 use Rattle.ov_refs.specs.Holding.{KeySet, Holders, key_set_code, holders_code, is_holder, with_holder}
 use Rattle.ov_refs.specs.Linking.{is_strong_in}
 use Rattle.ov_specs.specs.integrity.References.{Target, row_targets}
@@ -44,7 +42,3 @@ with_key key changes = record changes { keys = insert changes.keys key tt }
 abbrev pub with_change : Schema → LineKey × Option Row → Changes → Changes
 with_change schema (key, None) changes = with_key key changes
 with_change schema (key, Some row) changes = with_strong_ones key (row_targets schema (key, row)) (with_key key changes)
-
--- a row that is none of these refers to the one of this key
-abbrev pub is_held_beside : Holders → KeySet → LineKey → Bool
-is_held_beside holders others key = is_some_and (λ set. list_any (λ from. not (contains_key others from)) (keys set)) (get holders key)

@@ -4,3 +4,4 @@ pub mod Changes
 pub mod Linked
 pub mod Counting
 pub mod Finishing
+pub mod Missing

@@ -1,10 +1,9 @@
 -- Rows that lose weak references to rows that are not there, one after another. What names no source is our own.
-use Rattle.std.specs.Prelude.{◌≡◌, List, [], ◌∷◌, Bool, true, Option, Some, None}
+use Rattle.std.specs.Prelude.{◌≡◌, List, [], ◌∷◌, Bool, true, if◌then◌else◌, Option, Some, None}
 use Rattle.std.specs.FinMap.{get, insert, keys}
 use Rattle.std.specs.List.{list_any}
 use Rattle.ov_refs.specs.Holding.{KeySet, Holders}
-use Rattle.ov_refs.specs.Linking.{Links, AreLinksOf}
-use Rattle.ov_specs.specs.integrity.Committed.{dangles, is_whole, pruned_row}
+use Rattle.ov_specs.specs.integrity.Committed.{dangles, pruned_row}
 use Rattle.ov_specs.specs.integrity.Limits.{is_short}
 use Rattle.ov_specs.specs.rows.Database.{Row, Database, same_key}
 use Rattle.ov_specs.specs.rows.Lines.{LineKey}
@@ -34,10 +33,6 @@ is_short_at schema key rows = is_some_and (λ row. is_short schema (key, row)) (
 abbrev pub MayDangle : Schema → Database → List LineKey → Type 0
 MayDangle schema rows keys = (key : LineKey) (row : Row) → get rows key ≡ Some row → dangles schema rows (key, row) ≡ true → list_any (same_key key) keys ≡ true
 
--- the same where all is whole before, and these are its links
-abbrev pub AreCandidates : Database → Database → Links → List LineKey → Type 0
-AreCandidates before now links keys = (schema : Schema) → is_whole schema before ≡ true → AreLinksOf schema before links → MayDangle schema now keys
-
 -- ---- for private clauses
 
 -- the keys of those that refer to a row
@@ -45,7 +40,7 @@ abbrev pub keys_held : Option KeySet → List LineKey
 keys_held None = []
 keys_held (Some set) = keys set
 
--- the key of a change, and where the row is taken out those of its holders
-abbrev pub may_dangle_by : Holders → LineKey × Option Row → List LineKey
-may_dangle_by holders (key, Some row) = key ∷ []
-may_dangle_by holders (key, None) = key ∷ keys_held (get holders key)
+-- the key of a change whose row has such a reference, and where the row is taken out those of its holders
+abbrev pub may_dangle_by : Schema → Database → Holders → LineKey × Option Row → List LineKey
+may_dangle_by schema rows holders (key, Some row) = if dangles schema rows (key, row) then key ∷ [] else []
+may_dangle_by schema rows holders (key, None) = keys_held (get holders key)

@@ -44,10 +44,10 @@ fn finish_stage(
     requires suits { Suits schema.now stage.now }
     ensures { IfOk result (IsFinished (committed schema.now stage.entry.before version stage.entry.now) stage.entry.before) }
 {
-    let changes = Changes::of(alloc, schema, &stage)?;
-    if misses(alloc, schema, links, &changes, &stage)? {
+    if misses(alloc, schema, links, &stage)? {
         return Ok(Finished::Refused(OpError::ReferentialIntegrity));
     }
+    let changes = Changes::of(alloc, schema, &stage)?;
     let mut stage = stage;
     drop_unsupported(alloc, schema, links, &changes, &mut stage)?;
     if prune(alloc, schema, version, links, &mut stage)? {

@@ -2,11 +2,11 @@ ghost use Rattle.std.specs.Prelude.{◌≡◌, not, true, IfOk};
 ghost use Rattle.std.specs.FinMap.{contains_key, keys};
 ghost use Rattle.std.specs.List.{list_any};
 ghost use Rattle.ov_refs.specs.Linking.{AreLinksOf};
-ghost use Rattle.ov_integrity.specs.Changes.{AreChanges, is_held_beside};
+ghost use Rattle.ov_integrity.specs.Missing.{is_held_beside, misses_by};
 ghost use Rattle.ov_specs.specs.integrity.Committed.{is_missing, is_whole};
 ghost use Rattle.ov_specs.specs.integrity.References.{references, row_references};
 
-use crate::changes::Changes;
+use ov_db::Delta;
 use ov_refs::{KeySet, Links, targets_of};
 use ov_rows::{Row, RowKey};
 use ov_schema::Schema;
@@ -31,16 +31,45 @@ fn row_misses(
     Ok(false)
 }
 
-/// Whether one of these keys is none of the others.
-fn has_other(set: &KeySet, others: &KeySet) -> bool
-    ensures { result ≡ list_any (λ key. not (contains_key others.now key)) (keys set.now) }
+/// Whether one of these keys is none of the changed ones.
+fn has_unchanged(set: &KeySet, changes: &Delta) -> bool
+    ensures { result ≡ list_any (λ key. not (contains_key changes.now key)) (keys set.now) }
 {
     for key in set.iter() {
-        if !others.contains(key) {
+        if changes.change(key).is_none() {
             return true;
         }
     }
     false
+}
+
+/// Whether a row that is as it was refers strongly to the one of this key.
+fn is_held_beside(links: &Links, changes: &Delta, key: &RowKey) -> bool
+    ensures { result ≡ is_held_beside links.now.strong changes.now key.now }
+{
+    match links.strong().of(key) {
+        Some(holders) => has_unchanged(holders, changes),
+        None => false,
+    }
+}
+
+/// Whether the row that a change puts refers strongly to one that is not there, or one that is as it was refers to the row that
+/// the change takes out.
+fn change_misses(
+    alloc: Global,
+    schema: &Schema,
+    links: &Links,
+    stage: &Stage<'_>,
+    changes: &Delta,
+    key: &RowKey,
+    change: &Option<Row>,
+) -> Result<bool, AllocError>
+    ensures { IfOk result (λ misses. misses ≡ misses_by schema.now stage.now.now links.now.strong changes.now (key.now, change.now)) }
+{
+    match change {
+        Some(row) => row_misses(alloc, schema, stage, key, row),
+        None => Ok(is_held_beside(links, changes, key)),
+    }
 }
 
 /// Whether a strong reference is to a row that is not there (RFC 7047, 3.2, `<base-type>`, refType). It is one of a row that was
@@ -49,37 +78,17 @@ pub(crate) fn misses(
     alloc: Global,
     schema: &Schema,
     links: &Links,
-    changes: &Changes,
     stage: &Stage<'_>,
 ) -> Result<bool, AllocError>
     requires whole { is_whole schema.now stage.now.before ≡ true }
     requires linked { AreLinksOf schema.now stage.now.before links.now }
-    requires changed { AreChanges schema.now stage.now.before stage.now.now changes.now }
     ensures { IfOk result (λ misses. misses ≡ list_any (is_missing stage.now.now) (references schema.now stage.now.now)) }
 {
-    for key in changes.keys().iter() {
-        match stage.row(key) {
-            Some(row) => {
-                if row_misses(alloc, schema, stage, key, row)? {
-                    return Ok(true);
-                }
-            }
-            None => {
-                if is_held_beside(links, changes, key) {
-                    return Ok(true);
-                }
-            }
+    let changes = stage.changes();
+    for (key, change) in changes.map() {
+        if change_misses(alloc, schema, links, stage, changes, key, change)? {
+            return Ok(true);
         }
     }
     Ok(false)
-}
-
-/// Whether a row that is as it was refers strongly to the one of this key.
-fn is_held_beside(links: &Links, changes: &Changes, key: &RowKey) -> bool
-    ensures { result ≡ is_held_beside links.now.strong changes.now.keys key.now }
-{
-    match links.strong().of(key) {
-        Some(holders) => has_other(holders, changes.keys()),
-        None => false,
-    }
 }

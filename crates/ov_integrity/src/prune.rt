@@ -11,7 +11,7 @@ ghost use Rattle.ov_specs.specs.rows.Database as database;
 ghost use Rattle.ov_specs.specs.rows.Suits.{Suits};
 ghost use Rattle.ov_specs.specs.schema.Schema.{is_some_and};
 ghost use Rattle.ov_specs.specs.values.Uuid.{is_uuid};
-ghost use Rattle.ov_integrity.specs.Pruning.{is_short_at, may_dangle_by, pruned_at, AreCandidates};
+ghost use Rattle.ov_integrity.specs.Pruning.{is_short_at, may_dangle_by, pruned_at, MayDangle};
 
 use ov_atoms::{Atom, Datum, has_sixteen_bytes};
 use ov_refs::{KeySet, Links, targets_of};
@@ -228,18 +228,23 @@ fn push_keys(alloc: Global, found: &mut Vec<RowKey>, others: &KeySet) -> Result<
     Ok(())
 }
 
-/// Adds the key of a change, and where the change takes its row out those of the rows that referred to it weakly.
+/// Adds the key of a change whose row has a weak reference to a row that is not there; and where the change takes its row out,
+/// the keys of the rows that referred to it weakly.
 fn push_candidates(
     alloc: Global,
-    found: &mut Vec<RowKey>,
+    schema: &Schema,
     links: &Links,
+    stage: &Stage<'_>,
     key: &RowKey,
     change: &Option<Row>,
+    found: &mut Vec<RowKey>,
 ) -> Result<(), AllocError>
-    ensures { OnOk result (found.new.items ≡ found.old.items ++ may_dangle_by links.now.weak (key.now, change.now)) }
+    ensures { OnOk result (found.new.items ≡ found.old.items ++ may_dangle_by schema.now stage.now.now links.now.weak (key.now, change.now)) }
 {
-    found.push(RowKey::new(alloc, key.table(), key.id())?)?;
-    if change.is_some() {
+    if let Some(row) = change {
+        if dangles(alloc, schema, stage, key, row)? {
+            found.push(RowKey::new(alloc, key.table(), key.id())?)?;
+        }
         return Ok(());
     }
     match links.weak().of(key) {
@@ -248,14 +253,21 @@ fn push_candidates(
     }
 }
 
-/// The keys of the rows that may have weak references to rows that are not there: those that are changed, and those that
-/// referred to rows which were taken out.
-fn candidates(alloc: Global, links: &Links, stage: &Stage<'_>) -> Result<Vec<RowKey>, AllocError>
-    ensures { IfOk result (λ keys. AreCandidates stage.now.before stage.now.now links.now keys.items) }
+/// The keys of the rows that may have weak references to rows that are not there: of those that are changed the ones that have
+/// some, and those that referred to rows which were taken out.
+fn candidates(
+    alloc: Global,
+    schema: &Schema,
+    links: &Links,
+    stage: &Stage<'_>,
+) -> Result<Vec<RowKey>, AllocError>
+    requires whole { is_whole schema.now stage.now.before ≡ true }
+    requires linked { AreLinksOf schema.now stage.now.before links.now }
+    ensures { IfOk result (λ keys. MayDangle schema.now stage.now.now keys.items) }
 {
     let mut found = Vec::new(alloc);
     for (key, change) in stage.changes().map() {
-        push_candidates(alloc, &mut found, links, key, change)?;
+        push_candidates(alloc, schema, links, stage, key, change, &mut found)?;
     }
     Ok(found)
 }
@@ -278,7 +290,7 @@ pub(crate) fn prune(
     ensures suits { IfOk result (λ short. short ≡ false → Suits schema.now stage.new.now) }
 {
     let mut short = false;
-    for key in candidates(alloc, links, stage)? {
+    for key in candidates(alloc, schema, links, stage)? {
         if prune_row(alloc, schema, version, stage, key)? {
             short = true;
         }

@@ -108,7 +108,8 @@ fn push_strong(work: &mut Vec<RowKey>, targets: Vec<Target>) -> Result<(), Alloc
     Ok(())
 }
 
-/// The keys of the rows that may have lost all support: the new ones, and those that changed rows referred to before.
+/// The keys of the rows that may have lost all support: the new ones of tables that are no root tables, and those that changed
+/// rows referred to before.
 fn candidates(
     alloc: Global,
     schema: &Schema,
@@ -126,7 +127,11 @@ fn candidates(
                 let targets = targets_of(alloc, schema, key.table(), &row.columns)?;
                 push_strong(&mut work, targets)?;
             }
-            None => work.push(RowKey::new(alloc, key.table(), key.id())?)?,
+            None => {
+                if !is_in_root_table(schema, key) {
+                    work.push(RowKey::new(alloc, key.table(), key.id())?)?;
+                }
+            }
         }
     }
     Ok(work)

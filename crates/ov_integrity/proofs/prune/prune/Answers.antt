@@ -64,7 +64,7 @@ returns-clause-now c =
     let last = c.loop-key.stage in
     let none : rest.items ≡ [] = nil_from_length rest.items (sym rest.ok.0 ∙ c.in-None.ensures.steps.0) in
     let may : MayDangle schema rows keys =
-    subst (MayDangle schema rows) (sym c.into_iter-key-iterator.ensures.into_iter_gives.0) (c.in_ok-key-items.ensures schema c.requires.whole c.requires.linked) in
+    subst (MayDangle schema rows) (sym c.into_iter-key-iterator.ensures.into_iter_gives.0) c.in_ok-key-items.ensures in
     let now : last.now ≡ pruned schema before version rows =
     sym (ap (λ ks. pruned_at_all schema before version ks last.now) none) ∙ c.loop-key.invariant.now ∙ pruned_all_is schema before version keys rows may in
     λ i. record { before = c.loop-key.invariant.before i; now = now i }
@@ -81,7 +81,7 @@ returns-clause-short c =
     let short = c.loop-key.short in
     let none : rest.items ≡ [] = nil_from_length rest.items (sym rest.ok.0 ∙ c.in-None.ensures.steps.0) in
     let may : MayDangle schema rows keys =
-    subst (MayDangle schema rows) (sym c.into_iter-key-iterator.ensures.into_iter_gives.0) (c.in_ok-key-items.ensures schema c.requires.whole c.requires.linked) in
+    subst (MayDangle schema rows) (sym c.into_iter-key-iterator.ensures.into_iter_gives.0) c.in_ok-key-items.ensures in
     let now : last.now ≡ pruned schema before version rows =
     sym (ap (λ ks. pruned_at_all schema before version ks last.now) none) ∙ c.loop-key.invariant.now ∙ pruned_all_is schema before version keys rows may in
     sym (or_nothing short) ∙ sym (ap (λ ks. short || some_short schema before version ks last.now) none) ∙ c.loop-key.invariant.short
