@@ -1,5 +1,5 @@
 -- What is refused at once is what the machine refuses, branch by branch.
-use Rattle.std.proofs.Common.{◌≡◌, ◌≢◌, ◌∙◌, Decides, List, [], ◌∷◌, ℕ, Bool, true, false, not, Option, Some, None, length, filter, ◌≤◌, ◌==◌, nat_le, arith, subst, if◌then◌else◌, codes, is_some, refl, sym, ap}
+use Rattle.std.proofs.Common.{◌≡◌, ◌≢◌, ◌∙◌, Decides, List, ℕ, Bool, true, false, not, Option, Some, None, length, filter, ◌≤◌, ◌==◌, nat_le, arith, subst, if◌then◌else◌, codes, is_some, refl, sym, ap}
 use Rattle.std.proofs.lemmas.Bool.Decides.{nat_tests}
 use Rattle.std.proofs.lemmas.Slice.Eq.{bytes_eq-Decides}
 use Rattle.std.specs.List.{list_any}
@@ -10,8 +10,8 @@ use Rattle.serde_json.specs.Written.{compact_text}
 use Rattle.ov_specs.specs.wire.Frame.{frame, failure_tree}
 use Rattle.ov_specs.specs.locks.Queues.{LockCall, lock_name}
 use Rattle.ov_specs.specs.values.Uuid.{is_id}
-use Rattle.ov_specs.specs.monitors.Monitors.{added, canceled}
-use Rattle.ov_specs.specs.machine.Machine.{State, Outstanding, Work, Transact, answered, refused, is_request, is_waiting, waiting_of, most_waiting, call_of, transact_work, transact_call, transact_call_on, schema_call, schema_call_on, lock_call, lock_call_on, monitors_of, monitor_work, monitor_call, monitor_call_on, monitor_cancel_call}
+use Rattle.ov_specs.specs.monitors.Monitors.{added}
+use Rattle.ov_specs.specs.machine.Machine.{State, Outstanding, Work, Transact, answered, refused, is_request, is_waiting, waiting_of, most_waiting, call_of, transact_work, transact_call, transact_call_on, schema_call_on, lock_call, lock_call_on, monitors_of, monitor_work, monitor_call, monitor_call_on, monitor_cancel_call}
 use Rattle.ov_txn.specs.Waiting.{has_text}
 use Rattle.ov_core.specs.Handling.{IsWork}
 use Rattle.ov_core.specs.Params.{is_one, are_three}

@@ -1,8 +1,6 @@
 -- Whom a closing tells of the locks that its session leaves: others alone.
 use Rattle.std.proofs.Common.{◌≡◌, ℕ, List, [], ◌∷◌, Bool, true, false, cond, eqb, Option, Some, None, refl, sym, ap, ◌∙◌, map}
 use Rattle.std.specs.Prelude.{not}
-use Rattle.std.specs.List.{filter}
-use Rattle.std.proofs.lemmas.Bool.{false≢true}
 use Rattle.std.proofs.lemmas.Option.{same_Some}
 use Rattle.ov_specs.specs.locks.Queues.{Queues, first_of, without, next_in, freed_before, freed, locked_note, told_of_leaving}
 use Rattle.ov_specs.specs.machine.Machine.{told}

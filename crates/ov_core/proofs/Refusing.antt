@@ -1,5 +1,5 @@
 -- What is told of a lock or a monitor that is refused.
-use Rattle.std.proofs.Common.{◌≡◌, ◌≢◌, List, [], ℕ, Option, Some, None, Result, Ok, Err, refl, sym, ap, ◌∙◌}
+use Rattle.std.proofs.Common.{◌≡◌, ◌≢◌, List, [], ℕ, Option, Some, Result, Err, refl, sym, ap, ◌∙◌}
 use Rattle.std.specs.Prelude.{IfSome}
 use Rattle.ov_locks.specs.Refusing.{fault_text}
 use Rattle.ov_locks.specs.declared.fault.LockFault.{LockFault}

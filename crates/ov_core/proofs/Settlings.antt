@@ -7,13 +7,13 @@ use Rattle.std.proofs.lemmas.Bool.{false≢true}
 use Rattle.ov_specs.specs.locks.Queues.{Queues, owns, told_of_leaving}
 use Rattle.ov_specs.specs.machine.History.{frames_to}
 use Rattle.ov_specs.specs.machine.Machine as machine
-use Rattle.ov_specs.specs.machine.Machine.{State, Sent, Stepped, Outstanding, tries_again, settle, waits_behind, told}
+use Rattle.ov_specs.specs.machine.Machine.{State, Sent, Outstanding, tries_again, told}
 use Rattle.ov_specs.specs.operations.Transaction.{TransactionOutcome, Waits, transaction}
 use Rattle.ov_specs.proofs.laws.SettlingOn.{Reaches, made_by, reaches_first, reaches_skip, reaches_next, reaches_again, reaches_last}
 use Rattle.ov_db.specs.KeptDatabase.{KeptDatabase}
-use Rattle.ov_outbox.specs.Frames.{WaitingFrames, waiting_for, PostsSent, HasSameFrames}
+use Rattle.ov_outbox.specs.Frames.{waiting_for, PostsSent, HasSameFrames}
 use Rattle.ov_outbox.specs.Outbox.{Outbox}
-use Rattle.ov_sessions.specs.Sessions.{IsLeft, has_serial, without_serial}
+use Rattle.ov_sessions.specs.Sessions.{IsLeft, has_serial}
 use Rattle.ov_txn.specs.Waiting.{WaitingList, many}
 use Rattle.ov_watch.specs.Watching.{Watching}
 use Rattle.ov_sessions.specs.declared.session.Session.{Session}

@@ -15,7 +15,7 @@ use Rattle.ov_specs.specs.schema.SchemaTypes.{Schema}
 use Rattle.ov_specs.specs.rows.Database.{Database}
 use Rattle.ov_specs.specs.rows.Suits.{Suits}
 use Rattle.ov_db.specs.KeptDatabase.{KeptDatabase}
-use Rattle.ov_outbox.specs.Frames.{WaitingFrames, waiting_for, has_queue, PostsSent, HasSameFrames}
+use Rattle.ov_outbox.specs.Frames.{WaitingFrames, waiting_for, PostsSent, HasSameFrames}
 use Rattle.ov_sessions.specs.Sessions.{OpenSessions}
 use Rattle.ov_sessions.specs.declared.session.Session.{Session}
 use Rattle.ov_sessions.proofs.Keying.{shut_without, still_others}

@@ -4,7 +4,7 @@ use Rattle.std.proofs.lemmas.Bool.{le-leb, false≢true}
 use Rattle.ov_specs.specs.locks.Queues.{Queues, leave, told_of_leaving}
 use Rattle.ov_specs.specs.machine.History.{frames_to}
 use Rattle.ov_specs.specs.machine.Machine as machine
-use Rattle.ov_specs.specs.machine.Machine.{State, Stepped, Passed, Work, works, draws_for, told}
+use Rattle.ov_specs.specs.machine.Machine.{State, Work, works, draws_for, told}
 use Rattle.ov_specs.specs.values.Uuid.{Uuid}
 use Rattle.ov_specs.specs.wire.Message.{Message}
 use Rattle.ov_specs.proofs.laws.Happening.{take_done, take_settled, tick_settled}

@@ -7,7 +7,7 @@ use Rattle.ov_sessions.specs.Sessions.{IsLeft, has_serial, without_serial}
 use Rattle.ov_watch.specs.Watching.{Watching, monitors_at, WatchesWith, SameWatching}
 use Rattle.ov_sessions.specs.declared.session.Session.{Session}
 use Rattle.ov_specs.specs.machine.Machine as machine
-use Rattle.ov_specs.specs.machine.Machine.{State, session_watching, monitors_of}
+use Rattle.ov_specs.specs.machine.Machine.{State, session_watching}
 use Rattle.ov_specs.specs.monitors.Monitors.{Monitor}
 use Rattle.ov_core.specs.States.{sessions_of, still_open}
 

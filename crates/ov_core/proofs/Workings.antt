@@ -1,20 +1,18 @@
 -- What comes of a try of a transaction, and of the work on a message.
-use Rattle.std.proofs.Common.{◌≡◌, ◌≢◌, ℕ, List, [], ◌∷◌, ◌++◌, length, map, refl, sym, ap, subst, ◌∙◌, eqb, cond, true, false, Option, Some, None, Ok, Err, Result, arith, ◌⊎◌, inl, inr}
+use Rattle.std.proofs.Common.{◌≡◌, ◌≢◌, ℕ, List, [], ◌∷◌, ◌++◌, length, map, refl, sym, ap, ◌∙◌, eqb, cond, true, false, Option, Some, None, arith, ◌⊎◌, inl, inr}
 use Rattle.std.specs.Prelude.{option_to_list, codes, is_some}
 use Rattle.std.proofs.lemmas.List.{append-nil}
 use Rattle.std.proofs.lemmas.Bool.{eq-eqb}
-use Rattle.serde_json.specs.Data.{Data, Items, object, no_members}
+use Rattle.serde_json.specs.Data.{Data, Items}
 use Rattle.serde_json.specs.Written.{compact_text}
 use Rattle.ov_specs.specs.locks.Queues.{LockCall, owns, call_refusal, after_call, call_result, told_of_call}
-use Rattle.ov_specs.specs.monitors.Monitors.{Monitor, added, canceled}
-use Rattle.ov_specs.specs.monitors.Requests.{MonitorFault, monitor_fault_text}
-use Rattle.ov_specs.specs.monitors.Updates.{initial_of}
+use Rattle.ov_specs.specs.monitors.Monitors.{Monitor, canceled}
 use Rattle.ov_specs.specs.rows.Database.{Database, same_database}
 use Rattle.ov_specs.specs.wire.Frame.{frame, reply_tree, failure_tree}
 use Rattle.ov_specs.specs.rows.Lines.{Contents}
 use Rattle.ov_specs.specs.machine.History.{frames_to}
 use Rattle.ov_specs.specs.machine.Machine as machine
-use Rattle.ov_specs.specs.machine.Machine.{State, Sent, Stepped, Work, Answers, Transact, Cancels, Locks, Watches, works, does, draws_for, completes, told, to_session, results_to, updates_sent, unless_refused, monitor_work, monitor_cancel_work}
+use Rattle.ov_specs.specs.machine.Machine.{State, Sent, Work, Answers, Transact, Cancels, Locks, Watches, works, does, completes, told, to_session, results_to, updates_sent, unless_refused}
 use Rattle.ov_specs.specs.operations.Draws.{draws_wanted}
 use Rattle.ov_specs.specs.operations.Transaction.{TransactionOutcome, Completes, Waits, transaction, exhausted_results, failed_results}
 use Rattle.ov_specs.specs.values.Uuid.{Uuid}

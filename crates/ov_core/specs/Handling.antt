@@ -6,7 +6,7 @@ use Rattle.serde_json.specs.Written.{compact_text}
 use Rattle.ov_specs.specs.wire.Frame.{frame, failure_tree}
 use Rattle.ov_specs.specs.machine.Machine as machine
 use Rattle.ov_specs.specs.locks.Queues.{call_refusal}
-use Rattle.ov_specs.specs.machine.Machine.{State, Session, Sent, Stepped, Work, Answers, Transact, Cancels, Locks, works, draws_for, completes, to_session, unless_refused, monitors_of, monitor_work, monitor_cancel_work}
+use Rattle.ov_specs.specs.machine.Machine.{State, Session, Sent, Work, Answers, Transact, Cancels, Locks, works, draws_for, completes, to_session, unless_refused, monitors_of, monitor_work, monitor_cancel_work}
 use Rattle.ov_specs.specs.monitors.Monitors.{added, canceled}
 use Rattle.ov_specs.specs.operations.Transaction.{TransactionOutcome, Completes, Waits}
 use Rattle.ov_specs.specs.rows.Database.{Database}

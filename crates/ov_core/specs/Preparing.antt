@@ -12,7 +12,7 @@ use Rattle.ov_specs.specs.machine.Machine.{Sent, to_session, updates_sent}
 use Rattle.ov_specs.specs.monitors.Updates.{all_updates, update_note}
 use Rattle.ov_specs.specs.rows.Database.{Database}
 use Rattle.ov_watch.specs.Watching.{Watching, monitors_at}
-use Rattle.ov_specs.specs.operations.Transaction.{and_item, exhausted_results, failed_results}
+use Rattle.ov_specs.specs.operations.Transaction.{and_item}
 use Rattle.ov_txn.specs.declared.ready.Replies.{Replies}
 use Rattle.ov_txn.specs.declared.tried.Tried.{Tried}
 use Rattle.ov_txn.specs.declared.tried.Tried.TheVariants.{Answer, Stored, Blocked, NoMemory}

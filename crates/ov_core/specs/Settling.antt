@@ -2,7 +2,7 @@
 use Rattle.std.specs.Prelude.{◌≡◌, ℕ, ◌+◌, ◌*◌, ◌/◌, ◌≤◌, ◌++◌, List, [], map, length, false, Option, Some, None}
 use Rattle.std.specs.List.{filter}
 use Rattle.ov_specs.specs.machine.Machine as machine
-use Rattle.ov_specs.specs.machine.Machine.{State, Sent, settle}
+use Rattle.ov_specs.specs.machine.Machine.{Sent, settle}
 use Rattle.ov_specs.specs.values.Uuid.{Uuid}
 use Rattle.ov_specs.proofs.laws.SettlingOn.{Reaches}
 use Rattle.ov_outbox.specs.Frames.{PostsSent}

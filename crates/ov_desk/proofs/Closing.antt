@@ -4,7 +4,7 @@ use Rattle.std.specs.Prelude.{◌-◌, not, is_some}
 use Rattle.std.specs.Option.{option_or}
 use Rattle.std.proofs.lemmas.Bool.{cases_eq, false≢true}
 use Rattle.ov_specs.specs.machine.Machine as machine
-use Rattle.ov_specs.specs.machine.Machine.{State, Stepped, is_open}
+use Rattle.ov_specs.specs.machine.Machine.{Stepped, is_open}
 use Rattle.ov_specs.specs.machine.History.{requests}
 use Rattle.ov_specs.proofs.laws.Turns.{turn_close, turn_close_other}
 use Rattle.ov_outbox.specs.Frames.{waiting_for}

@@ -1,27 +1,21 @@
 -- A session that was opened, and has a place then or is closed again.
-use Rattle.std.proofs.Common.{◌≡◌, ◌≢◌, inl, inr, ℕ, ◌+◌, ◌<◌, ◌≤◌, List, [], ◌++◌, length, get_or, slice_set, length-set, refl, sym, ap, subst, ◌∙◌, append-nil, eqb, Bool, true, false, Option, Some, None, arith}
+use Rattle.std.proofs.Common.{◌≡◌, ◌≢◌, inl, inr, ℕ, ◌<◌, ◌≤◌, List, [], length, get_or, slice_set, length-set, refl, sym, ap, subst, ◌∙◌, Bool, true, false, Option, Some, None, arith}
 use Rattle.std.specs.Prelude.{not, ◌||◌, is_some}
 use Rattle.std.specs.Option.{option_or}
-use Rattle.std.proofs.lemmas.Bool.{cases_eq, eq-eqb, ne_eqb, false≢true}
-use Rattle.std.proofs.lemmas.Option.{none-some}
-use Rattle.ov_specs.specs.wire.Message.{Message}
+use Rattle.std.proofs.lemmas.Bool.{cases_eq, eq-eqb, false≢true}
 use Rattle.ov_specs.specs.values.Uuid.{Uuid}
 use Rattle.ov_specs.specs.machine.Machine as machine
 use Rattle.ov_specs.specs.machine.Machine.{Entry, is_open}
-use Rattle.ov_specs.specs.machine.History.{requests, closed_by, frames_to}
-use Rattle.ov_specs.proofs.laws.Histories.{option_or_none}
-use Rattle.ov_specs.proofs.laws.Turns.{Turn, turn_open}
-use Rattle.ov_specs.proofs.laws.Truths.{or_truth, or_nothing}
+use Rattle.ov_specs.proofs.laws.Turns.{turn_open}
+use Rattle.ov_specs.proofs.laws.Truths.{or_truth}
 use Rattle.ov_outbox.specs.Frames.{waiting_for}
 use Rattle.ov_sessions.specs.declared.session.Session.{Session}
 use Rattle.ov_core.specs.declared.event.Cause.TheVariants as told
 use Rattle.ov_core.specs.declared.event.Stepped.TheVariants as answer
 use Rattle.ov_core.specs.Following.{CoreState}
-use Rattle.ov_core.specs.Stepping.{IsEntered, Closes}
-use Rattle.ov_lanes.specs.Courses.{Course, Spares}
-use Rattle.ov_lanes.specs.Since.{Since, HandsOut, course_of, Goes}
-use Rattle.ov_lanes.specs.Fitting.{FitsCourse, Took, brought, framed, is_by_reader}
-use Rattle.ov_lanes.specs.Lanes.{LaneFits}
+use Rattle.ov_core.specs.Stepping.{IsEntered}
+use Rattle.ov_lanes.specs.Courses.{Spares}
+use Rattle.ov_lanes.specs.Since.{Since, course_of, Goes}
 use Rattle.ov_lanes.specs.declared.lane.Lane.{Lane}
 use Rattle.ov_lanes.proofs.Courses.{EnteredTo, since_enters, shuts, hands_on}
 use Rattle.ov_lanes.proofs.Own.{spares_along}

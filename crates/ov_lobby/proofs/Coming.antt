@@ -1,17 +1,16 @@
 -- A session that is still to come: it is not open and was not closed.
-use Rattle.std.proofs.Common.{◌≡◌, ◌≢◌, ℕ, ◌≤◌, List, [], ◌∷◌, refl, sym, ap, subst, ◌∙◌, true, false, Option, Some, None, inl, inr, arith}
+use Rattle.std.proofs.Common.{◌≡◌, ◌≢◌, ℕ, ◌≤◌, List, [], ◌∷◌, refl, sym, ap, subst, ◌∙◌, true, false, Some, None, inl, inr, arith}
 use Rattle.std.specs.Prelude.{not, is_some}
 use Rattle.std.proofs.lemmas.Bool.{cases_eq, ne_eqb, false≢true}
 use Rattle.std.proofs.lemmas.Option.{same_Some}
-use Rattle.ov_specs.specs.wire.Message.{Message}
-use Rattle.ov_specs.specs.machine.Machine.{State, Entry, Event, Open, Take, Close, Tick, Cause, Stepped, step, is_open, opening}
+use Rattle.ov_specs.specs.machine.Machine.{State, Entry, Event, Open, Take, Close, Tick, Stepped, step, is_open, opening}
 use Rattle.ov_specs.specs.machine.History.{run, requests, closed_by}
 use Rattle.ov_specs.proofs.laws.Histories.{run_parts}
 use Rattle.ov_specs.proofs.laws.Turns.{MayClose, turn_open, turn_tick, turn_close, turn_close_other, turn_take, turn_take_other}
 use Rattle.ov_core.specs.declared.event.Entry.{Entry as Kept}
 use Rattle.ov_core.specs.Following.{CoreState}
 use Rattle.ov_core.specs.History.{HasHistory}
-use Rattle.ov_lanes.specs.Since.{Since, course_of}
+use Rattle.ov_lanes.specs.Since.{Since}
 use Rattle.ov_lanes.specs.Lanes.{LaneFits}
 use Rattle.ov_lanes.specs.declared.lane.Lane.{Lane}
 use Rattle.ov_lanes.proofs.Silence.{known_in_order}

@@ -1,5 +1,5 @@
 -- How the program ends: each ending with its status and its line on standard error.
-use Rattle.std.specs.Prelude.{◌++◌, ℕ, List, Option, Some, None, codes}
+use Rattle.std.specs.Prelude.{ℕ, List, Option, Some, None, codes}
 use Rattle.ov_words.specs.declared.ending.Ending.{Ending}
 use Rattle.ov_words.specs.declared.ending.Ending.TheVariants.{InputEnded, Arguments, Schema, Database, Streams, Memory}
 

@@ -1,4 +1,4 @@
-use Rattle.std.proofs.Common.{ap, ◌∙◌, inl, inr, refl}
+use Rattle.std.proofs.Common.{ap, ◌∙◌, inl, refl}
 use Rattle.std.specs.Prelude.{option_to_list}
 use Rattle.ov_outbox.proofs.Answered.{adds_sent, nothing_sent}
 use Rattle.ov_core.proofs.send.send.Goals as goal

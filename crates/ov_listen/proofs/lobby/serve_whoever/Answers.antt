@@ -1,4 +1,4 @@
-use Rattle.std.proofs.Common.{◌≡◌, refl, sym, ◌∙◌, ap, subst, inl, inr}
+use Rattle.std.proofs.Common.{refl, sym, ◌∙◌, ap, subst, inl, inr}
 use Rattle.ov_core.specs.Following.{CoreState}
 use Rattle.ov_lobby.specs.Serving.{ServesLobby}
 use Rattle.ov_listen.proofs.lobby.serve_whoever.Goals as goal

@@ -1,6 +1,4 @@
-use Rattle.std.proofs.Common.{◌≡◌, [], refl, sym, ap, ◌∙◌}
-use Rattle.ov_specs.specs.machine.Machine.{monitor_work, monitor_cancel_work}
-use Rattle.ov_specs.specs.monitors.Monitors.{added, canceled}
+use Rattle.std.proofs.Common.{refl}
 use Rattle.ov_core.specs.States.{state_of}
 use Rattle.ov_core.proofs.Watching.{monitors-of}
 use Rattle.ov_core.proofs.Workings.{answer_of, answered_works, cancel_works}

@@ -1,4 +1,4 @@
-use Rattle.std.proofs.Common.{◌≡◌, [], refl}
+use Rattle.std.proofs.Common.{[], refl}
 use Rattle.serde_json.specs.Data.{object, no_members}
 use Rattle.ov_specs.specs.machine.Machine.{refused}
 use Rattle.ov_core.proofs.Refusing.{monitor_refused}

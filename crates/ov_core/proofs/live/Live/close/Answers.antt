@@ -1,4 +1,4 @@
-use Rattle.std.proofs.Common.{◌≡◌, ◌++◌, ◌∙◌, List, ℕ, ap, sym, refl, false}
+use Rattle.std.proofs.Common.{◌++◌, ◌∙◌, List, ℕ, ap, refl}
 use Rattle.std.proofs.lemmas.List.{append-nil}
 use Rattle.ov_specs.specs.locks.Queues.{has_requested}
 use Rattle.ov_specs.proofs.laws.Locks.{none_left}

@@ -1,12 +1,11 @@
-use Rattle.std.proofs.Common.{◌≡◌, [], ◌∷◌, refl, sym, ap, subst, ◌∙◌, eqb, List, cond}
+use Rattle.std.proofs.Common.{◌≡◌, [], ◌∷◌, refl, sym, ap, subst, ◌∙◌, List, cond}
 use Rattle.std.proofs.lemmas.Bool.{eq-eqb}
-use Rattle.ov_specs.specs.machine.Machine.{refused, monitor_work, to_session}
+use Rattle.ov_specs.specs.machine.Machine.{refused, to_session}
 use Rattle.ov_specs.specs.monitors.Monitors.{Monitor, added}
 use Rattle.serde_json.specs.View.{view}
 use Rattle.ov_specs.specs.monitors.Updates.{initial_of}
 use Rattle.ov_specs.specs.wire.Frame.{reply_tree}
 use Rattle.ov_core.specs.Handling.{PostsIfRoom}
-use Rattle.ov_core.specs.States.{state_of}
 use Rattle.ov_watch.specs.Watching.{monitors_at}
 use Rattle.ov_core.proofs.Refusing.{monitor_refused}
 use Rattle.ov_core.proofs.Workings.{SameLive, watch_works, works_over}

@@ -1,4 +1,4 @@
-use Rattle.std.proofs.Common.{◌≡◌, ◌≤◌, ◌∙◌, refl, rules, sym, ap, arith}
+use Rattle.std.proofs.Common.{◌≤◌, ◌∙◌, refl, rules, sym, ap, arith}
 use Rattle.ov_sessions.specs.Sessions.{has_no_room}
 use Rattle.ov_core.proofs.Steps.{asks_nothing, opened, has_opened, nothing_chosen, entry_of}
 use Rattle.ov_core.proofs.Watching.{length-sessions}
