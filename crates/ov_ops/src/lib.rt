@@ -3,6 +3,7 @@
 #![tactic(auto)]
 
 mod abort;
+mod ahead;
 mod assert;
 mod changed;
 mod comment;

@@ -5,6 +5,7 @@ ghost use Rattle.ov_specs.specs.operations.Select as spec;
 ghost use Rattle.ov_ops.specs.Outcomes.{context_of, IsDone};
 ghost use Rattle.ov_ops.specs.Shown.{shown_of};
 
+use crate::ahead::look_ahead;
 use crate::context::OpCtx;
 use crate::members::{conditions_at, table_at};
 use crate::owns::Owns;
@@ -51,8 +52,9 @@ fn text_of(alloc: Global, names: &[Text], rows: &[RowView<'_>]) -> Result<ArrayT
     ensures { IfOk result (λ text. text ≡ items_of (map (λ r. spec.written_row (shown_of names.now r)) rows.now)) }
 {
     let mut text = ArrayText::new(alloc);
-    for row in rows {
-        text.push(alloc, shown_tree(alloc, names, row)?.into())?;
+    for at in 0..rows.len() {
+        look_ahead(&mut text, names, rows, at)?;
+        text.push(alloc, shown_tree(alloc, names, &rows[at])?.into())?;
     }
     Ok(text)
 }

@@ -68,6 +68,14 @@ impl ArrayText {
         self.is_empty
     }
 
+    /// Makes room for so many bytes more, so that the text need not grow while these are written. Where that is refused, nothing is
+    /// changed either.
+    pub fn reserve(&mut self, more: usize) -> Result<(), AllocError>
+        ensures { self.new ≡ self.old }
+    {
+        self.text.reserve(more)
+    }
+
     /// What stands between the brackets of their array.
     pub fn as_slice(&self) -> &[u8]
         ensures { 91 ∷ (result.now ++ 93 ∷ []) ≡ compact_text (array self.now) }

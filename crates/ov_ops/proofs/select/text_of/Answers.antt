@@ -5,10 +5,10 @@ use Rattle.ov_ops.proofs.Showing.{and_next}
 use Rattle.ov_ops.specs.Shown.{shown_of}
 use Rattle.ov_ops.proofs.select.text_of.Goals as goal
 
-pub loop-row-preserved : goal.loop-row-preserved
-loop-row-preserved c =
+pub loop-at-preserved : goal.loop-at-preserved
+loop-at-preserved c =
     let rows = c.args.rows.now in
-    let within : c.loop-row.row-index < length rows = c.loop-row-test.true in
+    let within : c.loop-at.at < length rows = c.loop-at-test.true in
     c.in_ok-push.ensures.ok
-    ∙ (λ i. and_item (c.loop-row.invariant i) ((c.into.ensures ∙ c.in_ok-shown_tree.ensures []) i))
-    ∙ sym (and_next (λ r. written_row (shown_of c.args.names.now r)) rows c.loop-row.row-index c.row-item.result within c.row-item.is)
+    ∙ (λ i. and_item ((c.in_ok-look_ahead.ensures ∙ c.loop-at.invariant) i) ((c.into.ensures ∙ c.in_ok-shown_tree.ensures []) i))
+    ∙ sym (and_next (λ r. written_row (shown_of c.args.names.now r)) rows c.loop-at.at c.index-rows-at.result within c.index-rows-at.is)

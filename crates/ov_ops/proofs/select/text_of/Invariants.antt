@@ -4,5 +4,5 @@ use Rattle.ov_specs.specs.operations.Select.{written_row}
 use Rattle.ov_ops.specs.Shown.{shown_of}
 use Rattle.ov_ops.proofs.select.text_of.Given as goal
 
-abbrev pub invariant-loop-row : goal.invariant-loop-row
-invariant-loop-row l = l.text ≡ items_of (map (λ r. written_row (shown_of l.names r)) (take l.row-index l.rows))
+abbrev pub invariant-loop-at : goal.invariant-loop-at
+invariant-loop-at l = l.text ≡ items_of (map (λ r. written_row (shown_of l.names r)) (take l.at l.rows))

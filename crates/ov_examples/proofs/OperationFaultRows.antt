@@ -5,7 +5,7 @@ use Rattle.serde_json.proofs.OnLiterals.{serde_json_on_literals}
 use Rattle.ov_specs.specs.operations.Errors.{OpError, SyntaxError, UnknownTable, UnknownColumn, UnknownOperation, NotOwner, ConstraintViolation, Aborted}
 use Rattle.ov_specs.specs.operations.OpOutcome.{Fault}
 use Rattle.ov_specs.specs.rows.Database.{Database}
-use Rattle.ov_specs.proofs.examples.NetRows.{table_is, on_switch, entries-switch, on_port, done_on}
+use Rattle.ov_examples.proofs.NetRows.{table_is, on_switch, entries-switch, on_port, done_on}
 
 -- whatever rows there are, the operation of the text has the error
 abbrev Refused : List ℕ → OpError → Type 0

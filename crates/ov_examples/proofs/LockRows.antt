@@ -16,7 +16,7 @@ use Rattle.ov_specs.specs.schema.SchemaTypes.{Table, name_cmp}
 use Rattle.ov_specs.specs.wire.Frame.{frame, reply_tree, failure_tree}
 use Rattle.ov_specs.specs.wire.Message.{Message, Call}
 use Rattle.ov_specs.proofs.laws.Committing.{enough_committed}
-use Rattle.ov_specs.proofs.examples.MachineRows.{net_schema, net, at}
+use Rattle.ov_examples.proofs.MachineRows.{net_schema, net, at}
 
 -- ---- one owner
 

@@ -11,9 +11,9 @@ use Rattle.ov_specs.specs.values.Uuid.{zero_uuid}
 use Rattle.ov_specs.specs.values.Value.{Integer, Text, Uuid, Datum, Atoms, set_of}
 use Rattle.ov_specs.proofs.laws.Names.{name_cmp_total, same_name-itself}
 use Rattle.ov_specs.proofs.laws.ReadingBack.{entries-from_entries}
-use Rattle.ov_specs.proofs.examples.ConditionRows.{len-one}
-use Rattle.ov_specs.proofs.examples.NetRows.{table_is, on_switch, entries-switch, done_at, done_on}
-use Rattle.ov_specs.proofs.examples.TwoSwitches.{key, one, entries-one, entries-none, columns_1, in_1, in_2, row, rows, entries-rows, entries-empty, entries-put, text_s1}
+use Rattle.ov_examples.proofs.ConditionRows.{len-one}
+use Rattle.ov_examples.proofs.NetRows.{table_is, on_switch, entries-switch, done_at, done_on}
+use Rattle.ov_examples.proofs.TwoSwitches.{key, one, entries-one, entries-none, columns_1, in_1, in_2, row, rows, entries-rows, entries-empty, entries-put, text_s1}
 
 text_s2 : is_utf8 (codes "s2") ≡ true
 unfolding is_utf8 chars serde_json_on_literals

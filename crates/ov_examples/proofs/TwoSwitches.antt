@@ -13,7 +13,7 @@ use Rattle.ov_specs.specs.values.Value.{Atom, Integer, Text, Datum, Atoms, set_o
 use Rattle.ov_specs.proofs.laws.LineKeys.{key_total, key_exact}
 use Rattle.ov_specs.proofs.laws.Names.{name_cmp_total}
 use Rattle.ov_specs.proofs.laws.ReadingBack.{entries-from_entries}
-use Rattle.ov_specs.proofs.examples.NetRows.{numbered, entries-named}
+use Rattle.ov_examples.proofs.NetRows.{numbered, entries-named}
 
 abbrev pub one : Atom → Datum
 one a = Atoms (set_of (a ∷ []))

@@ -14,7 +14,7 @@ use Rattle.ov_specs.specs.values.Value.{AtomKind, Integers, Texts, Uuids, Intege
 use Rattle.ov_specs.proofs.laws.Names.{name_cmp_total, same_name, same_name-is}
 use Rattle.ov_specs.proofs.laws.ReadingBack.{entries-from_entries}
 use Rattle.ov_specs.proofs.laws.Suiting.{no_row_suits, one_row_suits}
-use Rattle.ov_specs.proofs.examples.ConditionRows.{len-one}
+use Rattle.ov_examples.proofs.ConditionRows.{len-one}
 
 -- ---- texts and identifiers
 

@@ -17,11 +17,11 @@ use Rattle.ov_specs.specs.values.Uuid.{Uuid}
 use Rattle.ov_specs.specs.values.Value.{Integer, Text}
 use Rattle.ov_specs.proofs.laws.Committing.{enough_committed}
 use Rattle.ov_specs.proofs.laws.LineKeys.{key_total, key_exact, tied_same}
-use Rattle.ov_specs.proofs.examples.ConditionRows.{len-one}
+use Rattle.ov_examples.proofs.ConditionRows.{len-one}
 use Rattle.ov_specs.specs.wire.Frame.{reply_tree, failure_tree}
 use Rattle.ov_specs.specs.wire.Message.{Message, Call, Note}
-use Rattle.ov_specs.proofs.examples.NetRows.{net, numbered, owns_none, table_is, on_switch, entries-tables}
-use Rattle.ov_specs.proofs.examples.TwoSwitches.{one, rows, row, key, columns_1, len-none, entries-one, entries-none, entries-columns_1, entries-put, entries-rows, entries-deleted, entries-empty}
+use Rattle.ov_examples.proofs.NetRows.{net, numbered, owns_none, table_is, on_switch, entries-tables}
+use Rattle.ov_examples.proofs.TwoSwitches.{one, rows, row, key, columns_1, len-none, entries-one, entries-none, entries-columns_1, entries-put, entries-rows, entries-deleted, entries-empty}
 
 -- ---- a transaction that waits for a switch, in a database without rows
 

@@ -16,8 +16,8 @@ use Rattle.ov_specs.specs.values.Value.{Integer, Text, Uuid as Id}
 use Rattle.ov_specs.proofs.laws.LineKeys.{key_total, key_exact, tied_same}
 use Rattle.ov_specs.proofs.laws.Monitoring.{updates-same}
 use Rattle.ov_specs.proofs.laws.Names.{name_cmp_total}
-use Rattle.ov_specs.proofs.examples.NetRows.{net, numbered, table_is, on_switch, entries-switch}
-use Rattle.ov_specs.proofs.examples.TwoSwitches.{entries-one, switch_columns, key, entries-empty, entries-put}
+use Rattle.ov_examples.proofs.NetRows.{net, numbered, table_is, on_switch, entries-switch}
+use Rattle.ov_examples.proofs.TwoSwitches.{entries-one, switch_columns, key, entries-empty, entries-put}
 
 -- ---- what is asked
 

@@ -12,9 +12,9 @@ use Rattle.ov_specs.specs.schema.SchemaTypes.{name_cmp}
 use Rattle.ov_specs.specs.values.Value.{Integer, Text, Atoms, set_of}
 use Rattle.ov_specs.proofs.laws.LineKeys.{key_total}
 use Rattle.ov_specs.proofs.laws.Names.{name_cmp_total}
-use Rattle.ov_specs.proofs.examples.ConditionRows.{len-one}
-use Rattle.ov_specs.proofs.examples.NetRows.{numbered, table_is, on_switch, on_port, entries-switch, done_on}
-use Rattle.ov_specs.proofs.examples.TwoSwitches.{one, entries-one, entries-none, len-none, columns_1, columns_2, in_1, in_2, key, row, rows, entries-rows, row_1, row_2, no_row_2, entries-columns_1, entries-columns_2, entries-1, entries-2, entries-again, entries-given, given_load, given_name, given_ports, text_s1}
+use Rattle.ov_examples.proofs.ConditionRows.{len-one}
+use Rattle.ov_examples.proofs.NetRows.{numbered, table_is, on_switch, on_port, entries-switch, done_on}
+use Rattle.ov_examples.proofs.TwoSwitches.{one, entries-one, entries-none, len-none, columns_1, columns_2, in_1, in_2, key, row, rows, entries-rows, row_1, row_2, no_row_2, entries-columns_1, entries-columns_2, entries-1, entries-2, entries-again, entries-given, given_load, given_name, given_ports, text_s1}
 
 -- ---- delete
 

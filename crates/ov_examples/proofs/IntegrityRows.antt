@@ -23,9 +23,9 @@ use Rattle.ov_specs.proofs.laws.KeptRows.{supported_all, kept_whole, kept_withou
 use Rattle.ov_specs.proofs.laws.LineKeys.{key_total, key_exact, tied_same}
 use Rattle.ov_specs.proofs.laws.Names.{name_cmp_total}
 use Rattle.ov_specs.proofs.laws.PrunedValues.{is_sorted-filter}
-use Rattle.ov_specs.proofs.examples.ConditionRows.{len-one}
-use Rattle.ov_specs.proofs.examples.NetRows.{entries-named, numbered, owns_none, own, text}
-use Rattle.ov_specs.proofs.examples.TwoSwitches.{one, entries-one, entries-none, len-none, entries-given, text_s1}
+use Rattle.ov_examples.proofs.ConditionRows.{len-one}
+use Rattle.ov_examples.proofs.NetRows.{entries-named, numbered, owns_none, own, text}
+use Rattle.ov_examples.proofs.TwoSwitches.{one, entries-one, entries-none, len-none, entries-given, text_s1}
 
 -- ---- a switch has strong references to ports, and a weak one to its main port; a port may have a strong one to its peer
 

@@ -26,10 +26,10 @@ use Rattle.ov_specs.specs.values.Writing.{two, atom_tree}
 use Rattle.ov_specs.proofs.laws.Committing.{enough_committed, whole_committed}
 use Rattle.ov_specs.proofs.laws.LineKeys.{key_total}
 use Rattle.ov_specs.proofs.laws.Names.{name_cmp_total}
-use Rattle.ov_specs.proofs.examples.ConditionRows.{len-one}
-use Rattle.ov_specs.proofs.examples.NetRows as net_rows
-use Rattle.ov_specs.proofs.examples.NetRows.{numbered, owns_none, net, table_of, table_is, entries-tables, switch_columns, on_switch, on_port, entries-switch, entries-port}
-use Rattle.ov_specs.proofs.examples.TwoSwitches.{one, entries-one, entries-none, len-none, key, row, columns_1, entries-columns_1, entries-1, entries-again, entries-given, entries-given_all, rows, entries-rows, entries-put, entries-deleted, given, given_load, given_name, given_ports, text_s1}
+use Rattle.ov_examples.proofs.ConditionRows.{len-one}
+use Rattle.ov_examples.proofs.NetRows as net_rows
+use Rattle.ov_examples.proofs.NetRows.{numbered, owns_none, net, table_of, table_is, entries-tables, switch_columns, on_switch, on_port, entries-switch, entries-port}
+use Rattle.ov_examples.proofs.TwoSwitches.{one, entries-one, entries-none, len-none, key, row, columns_1, entries-columns_1, entries-1, entries-again, entries-given, entries-given_all, rows, entries-rows, entries-put, entries-deleted, given, given_load, given_name, given_ports, text_s1}
 
 -- what the transaction of a text comes to, with draws from 1 on
 abbrev transacted : Database → ℕ → List ℕ → Option TransactionOutcome

@@ -6,7 +6,7 @@ use Rattle.serde_json.specs.Read.{read}
 use Rattle.serde_json.proofs.OnLiterals.{serde_json_on_literals}
 use Rattle.ov_specs.specs.operations.NamedUuids.{place_declared, is_declared_before, id_at, names_of}
 use Rattle.ov_specs.specs.values.Uuid.{Uuid}
-use Rattle.ov_specs.proofs.examples.NetRows.{numbered}
+use Rattle.ov_examples.proofs.NetRows.{numbered}
 
 -- the operations of a text
 abbrev operations : List ℕ → Option Items

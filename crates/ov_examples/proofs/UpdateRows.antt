@@ -16,7 +16,7 @@ use Rattle.ov_specs.specs.values.Value.{Text}
 use Rattle.ov_specs.specs.wire.Frame.{reply_tree, failure_tree}
 use Rattle.ov_specs.specs.wire.Message.{Message, Call}
 use Rattle.ov_specs.proofs.laws.LineKeys.{key_total, key_exact}
-use Rattle.ov_specs.proofs.examples.InsertRows.{net0, switch_table, name_column, entries-columns, numbered, entries-one, insert_s1, with_s1, s1, name-given, entries-with_s1, entries-nothing, insert_one}
+use Rattle.ov_examples.proofs.InsertRows.{net0, switch_table, name_column, entries-columns, numbered, entries-one, insert_s1, with_s1, s1, name-given, entries-with_s1, entries-nothing, insert_one}
 
 -- ---- states with monitors
 

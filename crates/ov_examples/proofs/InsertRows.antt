@@ -29,8 +29,8 @@ use Rattle.ov_specs.specs.values.Writing.{atom_tree}
 use Rattle.std.specs.List.{list_any}
 use Rattle.ov_specs.proofs.laws.Committing.{enough_committed}
 use Rattle.ov_specs.proofs.laws.Order.{atom_cmp_total, atom_cmp-IsAntisymmetric}
-use Rattle.ov_specs.proofs.examples.ConditionRows.{len-one}
-use Rattle.ov_specs.proofs.examples.NetRows.{owns_none}
+use Rattle.ov_examples.proofs.ConditionRows.{len-one}
+use Rattle.ov_examples.proofs.NetRows.{owns_none}
 use Rattle.std.proofs.lemmas.List.{nil_from_length}
 
 -- ---- maps made of a list
