@@ -2,7 +2,7 @@
 use Rattle.std.proofs.Common.{◌≡◌, Option, Some, None, refl, sym, ap, ◌∙◌}
 use Rattle.std.specs.Prelude.{unwrap_or, Result, Ok, Err, IfErr, OnOk}
 use Rattle.std.specs.FinMap.{get, entries, entries_sorted, get-entries, get-from_sorted}
-use Rattle.ov_refs.specs.Changed.{IsAfter}
+use Rattle.ov_specs.specs.rows.Changed.{IsAfter}
 use Rattle.ov_specs.specs.rows.Database.{Database, Row}
 use Rattle.ov_specs.specs.rows.Lines.{Contents, line_cmp}
 use Rattle.ov_specs.specs.schema.SchemaTypes.{Schema}

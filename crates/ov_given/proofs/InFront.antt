@@ -13,9 +13,9 @@ use Rattle.ov_specs.specs.rows.Database.{Columns}
 use Rattle.ov_specs.specs.schema.SchemaTypes.{Table}
 use Rattle.ov_specs.specs.values.Uuid.{Names}
 use Rattle.ov_specs.specs.values.Value.{Datum}
-use Rattle.ov_stage.specs.declared.fault.OpFault.{OpFault}
-use Rattle.ov_stage.specs.declared.fault.OpFault.TheVariants.{Refused, Memory}
-use Rattle.ov_stage.specs.Errors.{IsOpResult, error_view}
+use Rattle.ov_projection.specs.declared.fault.OpFault.{OpFault}
+use Rattle.ov_projection.specs.declared.fault.OpFault.TheVariants.{Refused, Memory}
+use Rattle.ov_projection.specs.Errors.{IsOpResult, error_view}
 use Rattle.ov_given.specs.Mutations.{mutation_result}
 
 -- these in front of the others, or the error of the others

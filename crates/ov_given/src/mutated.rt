@@ -3,14 +3,14 @@ ghost use Rattle.std.specs.Option.{option_copied};
 ghost use Rattle.serde_json.specs.View.{view, items_view};
 ghost use Rattle.ov_specs.specs.operations.Mutate as mutate;
 ghost use Rattle.ov_specs.specs.operations.Mutators.{mutation_read};
-ghost use Rattle.ov_stage.specs.Errors.{IsOpResult};
+ghost use Rattle.ov_projection.specs.Errors.{IsOpResult};
 ghost use Rattle.ov_given.specs.Mutations.{mutation_result};
 
 use ov_atoms::{Datum, Names};
 use ov_mutate::{MutateFault, Mutation, MutationFault};
+use ov_projection::{OpError, OpFault};
 use ov_rows::Columns;
 use ov_schema::Table;
-use ov_stage::{OpError, OpFault};
 use serde_json::Value;
 use std::alloc::{AllocError, Global};
 

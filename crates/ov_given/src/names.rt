@@ -10,11 +10,11 @@ ghost use Rattle.ov_specs.specs.operations.OpOutcome.{OpContext};
 ghost use Rattle.ov_specs.specs.operations.Draws.{is_insert};
 ghost use Rattle.ov_specs.specs.schema.Schema.{is_some_and};
 ghost use Rattle.ov_given.specs.Naming.{ArePlaces, first_of, place_at};
-ghost use Rattle.ov_stage.specs.Errors.{error_view};
+ghost use Rattle.ov_projection.specs.Errors.{error_view};
 
 use ov_atoms::{Names, is_id};
 use ov_base::Trees;
-use ov_stage::{OpError, text_at};
+use ov_projection::{OpError, text_at};
 use serde_json::Value;
 use std::alloc::{AllocError, Global};
 use std::collections::BTreeMap;

@@ -6,13 +6,13 @@ ghost use Rattle.ov_specs.specs.operations.GivenRow as rows;
 ghost use Rattle.ov_specs.specs.operations.Insert as insert;
 ghost use Rattle.ov_specs.specs.schema.SchemaTypes.{kinds_of};
 ghost use Rattle.ov_specs.specs.values.Reading.{Reads, reads};
-ghost use Rattle.ov_stage.specs.Errors.{IsOpResult};
+ghost use Rattle.ov_projection.specs.Errors.{IsOpResult};
 ghost use Rattle.ov_given.specs.Rows.{may_be};
 
 use ov_atoms::{AtomFault, Datum, Names, read_datum};
+use ov_projection::{OpError, OpFault};
 use ov_rows::{Columns, NamedValues};
 use ov_schema::{Column, Table, is_own};
-use ov_stage::{OpError, OpFault};
 use serde_json::{Map, Value};
 use std::alloc::{AllocError, Global};
 

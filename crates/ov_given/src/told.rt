@@ -6,13 +6,13 @@ ghost use Rattle.serde_json.specs.View.{view, items_view, members_view};
 ghost use Rattle.ov_specs.specs.operations.Wait as wait;
 ghost use Rattle.ov_specs.specs.schema.SchemaTypes.{kinds_of};
 ghost use Rattle.ov_specs.specs.values.Reading.{integer_read, reads};
-ghost use Rattle.ov_stage.specs.Errors.{IsOpResult};
+ghost use Rattle.ov_projection.specs.Errors.{IsOpResult};
 
 use ov_atoms::{AtomFault, Datum, Names, read_datum};
 use ov_base::Text;
+use ov_projection::{OpError, OpFault, ShownRow, is_among};
 use ov_rows::NamedValues;
 use ov_schema::{Column, Table};
-use ov_stage::{OpError, OpFault, ShownRow, is_among};
 use serde_json::{Map, Value};
 use std::alloc::{AllocError, Global};
 

@@ -4,9 +4,9 @@ ghost use Rattle.ov_specs.specs.operations.Wait as wait;
 ghost use Rattle.ov_specs.specs.rows.Database.{same_columns};
 ghost use Rattle.ov_specs.specs.values.Value as value;
 ghost use Rattle.ov_given.specs.Waiting.{until_view};
-ghost use Rattle.ov_stage.proofs.Showing.{any_at};
+ghost use Rattle.ov_projection.proofs.Showing.{any_at};
 
-use ov_stage::ShownRow;
+use ov_projection::ShownRow;
 use std::alloc::{AllocError, Global};
 use std::collections::BTreeSet;
 

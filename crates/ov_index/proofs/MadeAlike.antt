@@ -9,7 +9,7 @@ use Rattle.std.specs.FinMap.{is_sorted, empty, get, contains_key, entries, len, 
 use Rattle.std.specs.List.{list_any}
 use Rattle.std.specs.Ordering.{eq_by_cmp}
 use Rattle.std.specs.Str.{bytes_eq}
-use Rattle.ov_refs.specs.Changed.{IsAfter}
+use Rattle.ov_specs.specs.rows.Changed.{IsAfter}
 use Rattle.ov_rows.specs.Nested.{id_cmp}
 use Rattle.ov_specs.specs.rows.Database.{Row, Database}
 use Rattle.ov_specs.specs.rows.Lines.{LineKey, line_cmp}

@@ -4,7 +4,7 @@ use Rattle.std.specs.FinMap.{entries}
 use Rattle.std.specs.List.{list_any}
 use Rattle.ov_index.specs.IndexKeys.{IndexEntry}
 use Rattle.ov_index.specs.Indexing.{Indexes, AreIndexesOf, without_entries}
-use Rattle.ov_refs.specs.Changed.{IsAfter}
+use Rattle.ov_specs.specs.rows.Changed.{IsAfter}
 use Rattle.ov_specs.specs.integrity.Limits.{has_duplicates}
 use Rattle.ov_specs.specs.rows.Database.{Row, Database}
 use Rattle.ov_specs.specs.rows.Lines.{LineKey}

@@ -5,7 +5,7 @@ use Rattle.ov_specs.specs.rows.Database.{Row, Database}
 use Rattle.ov_specs.specs.rows.Lines.{line_cmp}
 use Rattle.ov_db.specs.Changing.{Delta, applied}
 use Rattle.ov_db.proofs.Places.{get-applied, or_before}
-use Rattle.ov_refs.specs.Changed.{IsAfter}
+use Rattle.ov_specs.specs.rows.Changed.{IsAfter}
 
 -- the rows that changes make are those after them
 pub made_after : (delta : Delta) (before now : Database) → applied delta before ≡ now → IsAfter (entries delta) before now

@@ -6,7 +6,7 @@ use Rattle.ov_integrity.specs.declared.finished.Finished.{Finished}
 use Rattle.ov_integrity.specs.declared.finished.Finished.TheVariants.{Changed, Refused, NoMemory}
 use Rattle.ov_specs.specs.operations.Errors.{OpError}
 use Rattle.ov_specs.specs.rows.Database.{Database, same_database}
-use Rattle.ov_stage.specs.Errors.{error_view}
+use Rattle.ov_projection.specs.Errors.{error_view}
 
 -- The changes that lead from the rows before to what is committed, and that are none just where it is the same; or the error of
 -- the commit. "Out of memory" may be answered to anything.

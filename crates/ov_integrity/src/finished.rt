@@ -12,9 +12,10 @@ use crate::prune::prune;
 use crate::support::drop_unsupported;
 use ov_db::Delta;
 use ov_index::Indexes;
+use ov_projection::OpError;
 use ov_refs::Links;
 use ov_schema::Schema;
-use ov_stage::{OpError, Stage};
+use ov_stage::Stage;
 use std::alloc::{AllocError, Global};
 use uuid::Uuid;
 

@@ -10,9 +10,10 @@ ghost use Rattle.ov_specs.specs.rows.Suits.{Suits};
 use ov_base::Text;
 use ov_db::Delta;
 use ov_index::{Indexes, are_made_alike};
+use ov_projection::is_among;
 use ov_rows::Rows;
 use ov_schema::Schema;
-use ov_stage::{Stage, is_among};
+use ov_stage::Stage;
 use std::alloc::{AllocError, Global};
 
 /// How many rows there are of the table of this name.

@@ -5,9 +5,9 @@ use Rattle.ov_specs.specs.operations.Errors.{OpError}
 use Rattle.ov_specs.specs.operations.OpOutcome as spec
 use Rattle.ov_specs.specs.operations.OpOutcome.{ok_or_fault}
 use Rattle.ov_specs.specs.rows.Database.{Database}
-use Rattle.ov_stage.specs.declared.fault.OpFault.{OpFault}
-use Rattle.ov_stage.specs.declared.fault.OpFault.TheVariants.{Refused, Memory}
-use Rattle.ov_stage.specs.Errors.{IsOpResult}
+use Rattle.ov_projection.specs.declared.fault.OpFault.{OpFault}
+use Rattle.ov_projection.specs.declared.fault.OpFault.TheVariants.{Refused, Memory}
+use Rattle.ov_projection.specs.Errors.{IsOpResult}
 use Rattle.ov_ops.specs.Outcomes.{IsDone, IsRefused, GoesOn}
 
 -- with what a member was read as, or its error

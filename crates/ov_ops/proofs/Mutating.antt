@@ -6,10 +6,10 @@ use Rattle.ov_specs.specs.operations.Mutate.{and_row, mutated_columns, mutated_r
 use Rattle.ov_specs.specs.operations.Mutators.{Mutation}
 use Rattle.ov_specs.specs.rows.Database.{Columns, Row}
 use Rattle.ov_specs.specs.rows.Lines.{LineKey}
-use Rattle.ov_stage.specs.declared.fault.OpFault.{OpFault}
-use Rattle.ov_stage.specs.declared.fault.OpFault.TheVariants.{Refused, Memory}
-use Rattle.ov_stage.specs.Errors.{IsOpResult}
-use Rattle.ov_stage.proofs.Equal.{drop-at}
+use Rattle.ov_projection.specs.declared.fault.OpFault.{OpFault}
+use Rattle.ov_projection.specs.declared.fault.OpFault.TheVariants.{Refused, Memory}
+use Rattle.ov_projection.specs.Errors.{IsOpResult}
+use Rattle.ov_projection.proofs.Equal.{drop-at}
 use Rattle.ov_given.proofs.InFront.{in_front}
 
 abbrev Changed : Type 0

@@ -11,7 +11,7 @@ use Rattle.ov_specs.specs.operations.Transaction.{and_item}
 use Rattle.ov_specs.specs.rows.Database.{Row}
 use Rattle.ov_specs.specs.rows.Lines.{LineKey}
 use Rattle.ov_ops.specs.Shown.{shown_of}
-use Rattle.ov_stage.proofs.Equal.{map-push}
+use Rattle.ov_projection.proofs.Equal.{map-push}
 
 module _ (names : List (List ℕ)) where
   pub shown-lent : (table : List ℕ) (rows : List RowView) → map (projection names) (map (lent_row_of table) rows) ≡ map (shown_of names) rows

@@ -7,9 +7,9 @@ use Rattle.ov_specs.specs.rows.Database.{Database}
 use Rattle.ov_ops.specs.declared.context.OpCtx.{OpCtx}
 use Rattle.ov_ops.specs.declared.outcome.OpOutcome.{OpOutcome}
 use Rattle.ov_ops.specs.declared.outcome.OpOutcome.TheVariants.{Done, Fault, Blocked, NoMemory}
-use Rattle.ov_stage.specs.declared.fault.OpFault.{OpFault}
-use Rattle.ov_stage.specs.declared.fault.OpFault.TheVariants.{Refused, Memory}
-use Rattle.ov_stage.specs.Errors.{error_view}
+use Rattle.ov_projection.specs.declared.fault.OpFault.{OpFault}
+use Rattle.ov_projection.specs.declared.fault.OpFault.TheVariants.{Refused, Memory}
+use Rattle.ov_projection.specs.Errors.{error_view}
 
 -- the transaction that an operation is one of, on the database as it was before, where this tells what its session owns
 abbrev pub context_of : {O : Type 0} → (O → Owns) → OpCtx O → Database → OpContext

@@ -4,7 +4,7 @@ ghost use Rattle.ov_specs.specs.rows.Database.{Database};
 ghost use Rattle.ov_ops.specs.Outcomes.{IsOutcome};
 
 use crate::outcome::OpOutcome;
-use ov_stage::OpError;
+use ov_projection::OpError;
 
 /// The transaction fails, whatever members the operation has (RFC 7047, 5.2.8).
 pub(crate) fn abort() -> OpOutcome

@@ -8,7 +8,7 @@ use crate::empty::empty_result;
 use crate::outcome::OpOutcome;
 use crate::owns::Owns;
 use ov_atoms::is_id;
-use ov_stage::{OpError, text_at};
+use ov_projection::{OpError, text_at};
 use serde_json::Value;
 use std::alloc::Global;
 

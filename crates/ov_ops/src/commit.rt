@@ -5,7 +5,7 @@ ghost use Rattle.ov_ops.specs.Outcomes.{IsOutcome};
 
 use crate::empty::empty_result;
 use crate::outcome::OpOutcome;
-use ov_stage::OpError;
+use ov_projection::OpError;
 use serde_json::Value;
 use std::alloc::Global;
 

@@ -9,9 +9,10 @@ use crate::count::count_result;
 use crate::members::{conditions_at, table_at};
 use crate::owns::Owns;
 use ov_conds::Condition;
+use ov_projection::OpFault;
 use ov_results::OpResult;
 use ov_rows::RowKey;
-use ov_stage::{OpFault, Stage};
+use ov_stage::Stage;
 use serde_json::Value;
 use std::alloc::{AllocError, Global};
 

@@ -10,8 +10,9 @@ ghost use Rattle.ov_ops.specs.Outcomes.{context_of, GoesOn};
 use crate::context::OpCtx;
 use crate::owns::Owns;
 use ov_conds::Condition;
+use ov_projection::{OpError, OpFault, text_at};
 use ov_schema::Table;
-use ov_stage::{OpError, OpFault, conditions_of, text_at};
+use ov_stage::conditions_of;
 use serde_json::Value;
 use std::alloc::Global;
 

@@ -3,7 +3,7 @@ ghost use Rattle.serde_json.specs.View.{view};
 ghost use Rattle.ov_specs.specs.operations.Mutate as spec;
 ghost use Rattle.ov_specs.specs.operations.MatchingRows.{matching};
 ghost use Rattle.ov_ops.specs.Outcomes.{context_of, IsDone};
-ghost use Rattle.ov_stage.specs.Errors.{IsOpResult};
+ghost use Rattle.ov_projection.specs.Errors.{IsOpResult};
 
 use crate::changed::put_rows;
 use crate::context::OpCtx;
@@ -13,9 +13,10 @@ use crate::owns::Owns;
 use ov_conds::Condition;
 use ov_given::{mutated_columns, mutations_of};
 use ov_mutate::Mutation;
+use ov_projection::{OpError, OpFault};
 use ov_results::OpResult;
 use ov_rows::{Columns, RowKey};
-use ov_stage::{OpError, OpFault, Stage};
+use ov_stage::Stage;
 use serde_json::Value;
 use std::alloc::{AllocError, Global};
 

@@ -16,7 +16,8 @@ use crate::owns::Owns;
 use crate::select::select;
 use crate::update::update;
 use crate::wait::wait;
-use ov_stage::{OpError, Stage, text_at};
+use ov_projection::{OpError, text_at};
+use ov_stage::Stage;
 use serde_json::Value;
 use std::alloc::Global;
 

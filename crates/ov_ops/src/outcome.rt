@@ -1,5 +1,5 @@
+use ov_projection::{OpError, OpFault};
 use ov_results::OpResult;
-use ov_stage::{OpError, OpFault};
 
 /// What an operation comes to (RFC 7047, 4.1.3 and 5.2.6).
 #[derive(Drop)]

@@ -11,9 +11,10 @@ use crate::members::{conditions_at, table_at};
 use crate::owns::Owns;
 use ov_conds::Condition;
 use ov_given::{GivenRow, given_over, given_values};
+use ov_projection::{OpError, OpFault};
 use ov_results::OpResult;
 use ov_rows::{Columns, NamedValues, RowKey};
-use ov_stage::{OpError, OpFault, Stage};
+use ov_stage::Stage;
 use serde_json::Value;
 use std::alloc::{AllocError, Global};
 

@@ -17,7 +17,8 @@ use crate::select::shown_rows;
 use ov_base::Text;
 use ov_conds::Condition;
 use ov_given::{Until, is_met, timeout_of, told_rows, until_of};
-use ov_stage::{OpError, OpFault, ShownRow, Stage, compared_columns, text_at};
+use ov_projection::{OpError, OpFault, ShownRow, compared_columns, text_at};
+use ov_stage::Stage;
 use serde_json::Value;
 use std::alloc::{AllocError, Global};
 

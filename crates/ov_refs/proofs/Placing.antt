@@ -13,7 +13,7 @@ use Rattle.ov_specs.specs.rows.Lines.{LineKey, line_cmp}
 use Rattle.ov_specs.specs.schema.Schema.{is_some_and}
 use Rattle.ov_specs.specs.schema.SchemaTypes.{Schema}
 use Rattle.ov_specs.proofs.laws.LineKeys.{key_total, tied_same}
-use Rattle.ov_refs.specs.Changed.{IsAfter}
+use Rattle.ov_specs.specs.rows.Changed.{IsAfter}
 use Rattle.ov_refs.specs.Holding.{KeySet, is_holder, without_holder}
 use Rattle.ov_refs.specs.Linking.{Links, AreLinksOf, with_target, without_reference, without_references}
 use Rattle.ov_refs.specs.Placed.{is_target, has_target, targets_at, lost, refers, AreAlike, Adds}

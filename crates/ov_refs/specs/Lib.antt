@@ -1,7 +1,6 @@
 pub mod Targets
 pub mod Holding
 pub mod Linking
-pub mod Changed
 pub mod Placed
 pub mod Whole
 pub mod StoredKeys

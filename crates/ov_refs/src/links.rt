@@ -2,7 +2,7 @@ ghost use Rattle.std.specs.Prelude.{◌≡◌, ◌++◌, [], ◌∷◌, IfOk, On
 ghost use Rattle.std.specs.FinMap.{get, entries};
 ghost use Rattle.ov_specs.specs.integrity.References.{targets_in};
 ghost use Rattle.ov_specs.specs.rows.Database.{Database};
-ghost use Rattle.ov_refs.specs.Changed.{IsAfter};
+ghost use Rattle.ov_specs.specs.rows.Changed.{IsAfter};
 ghost use Rattle.ov_refs.specs.Linking.{AreLinksOf, AreNone, strong_count, with_rows, with_target, with_targets, without_reference, without_references};
 ghost use Rattle.ov_refs.specs.Placed.{Adds, AreAlike, lost, refers, targets_at};
 ghost use Rattle.ov_rows.specs.Nested.{in_table};

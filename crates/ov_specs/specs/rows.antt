@@ -3,3 +3,4 @@ pub mod Database
 pub mod Version
 pub mod Suits
 pub mod RowNames
+pub mod Changed

@@ -1,14 +1,8 @@
 pub mod Asking
-pub mod Equal
-pub mod Placing
-pub mod Plain
 pub mod Matching
 pub mod Lookups
 pub mod Meeting
 pub mod Narrowing
-pub mod Repeats
-pub mod SameRows
-pub mod Showing
 pub mod Stages
 pub mod Merging
 pub mod ToldApart

@@ -20,7 +20,7 @@ use Rattle.ov_rows.proofs.Nesting.{within}
 use Rattle.ov_db.proofs.Places.{Changes, get-applied, or_before}
 use Rattle.ov_stage.specs.Asked.{rows_after}
 use Rattle.ov_stage.specs.Staging.{row_made, place, placed}
-use Rattle.ov_stage.proofs.Equal.{drop-at, map-push}
+use Rattle.ov_projection.proofs.Equal.{drop-at, map-push}
 use Rattle.ov_specs.proofs.laws.Truths.{both_hold, cond-not, left_holds, less_is, right_holds}
 
 abbrev pub Entries : Type 0

@@ -15,7 +15,7 @@ use Rattle.ov_db.proofs.Added.{same}
 use Rattle.ov_db.proofs.Places.{at_one, get-applied, or_before}
 use Rattle.ov_db.proofs.Same.{database-same}
 use Rattle.ov_stage.specs.Staging.{Differs, has_columns}
-use Rattle.ov_stage.proofs.SameRows.{columns-is, database-is}
+use Rattle.ov_projection.proofs.SameRows.{columns-is, database-is}
 
 -- ---- what stands at a key
 

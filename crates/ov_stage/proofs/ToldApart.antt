@@ -22,9 +22,9 @@ use Rattle.ov_index.proofs.MapEntries.{contradicts, entry_is_any, some_and_is}
 use Rattle.ov_stage.specs.Apart.{AreToldApart, has_any_index, has_column, has_index}
 use Rattle.ov_stage.specs.Staging.{is_met}
 use Rattle.ov_stage.proofs.Meeting.{matching-of_table}
-use Rattle.ov_stage.proofs.Repeats.{Shown}
-use Rattle.ov_stage.proofs.SameRows.{same-is}
-use Rattle.ov_stage.proofs.Showing.{behind_other, or_second, value_at}
+use Rattle.ov_projection.proofs.Repeats.{Shown}
+use Rattle.ov_projection.proofs.SameRows.{same-is}
+use Rattle.ov_projection.proofs.Showing.{behind_other, or_second, value_at}
 
 -- ---- what is shown of a column
 

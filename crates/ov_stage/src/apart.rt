@@ -3,8 +3,8 @@ ghost use Rattle.std.specs.List.{list_any};
 ghost use Rattle.ov_stage.specs.Apart.{has_any_index, has_index};
 
 use crate::indexed::Indexed;
-use crate::projection::is_among;
 use ov_base::Text;
+use ov_projection::is_among;
 use ov_schema::{Table, is_own};
 
 /// Whether each column of the index is among these, and none is `_uuid` or `_version`.

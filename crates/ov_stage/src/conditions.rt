@@ -2,12 +2,12 @@ ghost use Rattle.std.specs.Prelude.{◌≡◌, IfOk, IfSome};
 ghost use Rattle.std.specs.List.{filter};
 ghost use Rattle.serde_json.specs.View.{items_view};
 ghost use Rattle.ov_specs.specs.operations.MatchingRows as spec;
-ghost use Rattle.ov_stage.specs.Errors.{IsOpResult};
+ghost use Rattle.ov_projection.specs.Errors.{IsOpResult};
 ghost use Rattle.ov_stage.specs.Staging.{AreOnlyOf, meets};
 
-use crate::fault::OpFault;
 use ov_atoms::Names;
 use ov_conds::Condition;
+use ov_projection::OpFault;
 use ov_rows::RowView;
 use ov_schema::Table;
 use serde_json::Value;

@@ -9,8 +9,8 @@ use crate::results::error_tree;
 use ov_base::Tree;
 use ov_db::{Db, Delta};
 use ov_keeper::Keeper;
+use ov_projection::OpError;
 use ov_results::ArrayText;
-use ov_stage::OpError;
 use std::alloc::{AllocError, Global};
 
 /// The results of a transaction whose changes are to be stored, for each answer of the store (RFC 7047, 4.1.3).

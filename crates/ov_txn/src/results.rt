@@ -1,12 +1,12 @@
 ghost use Rattle.std.specs.Prelude.{◌≡◌, IfOk, OnOk};
 ghost use Rattle.serde_json.specs.View.{view, items_view};
 ghost use Rattle.ov_specs.specs.operations.Errors as spec;
-ghost use Rattle.ov_stage.specs.Errors.{error_view};
+ghost use Rattle.ov_projection.specs.Errors.{error_view};
 ghost use Rattle.ov_txn.specs.Results.{nulls_after};
 
 use ov_base::Tree;
+use ov_projection::OpError;
 use ov_results::ArrayText;
-use ov_stage::OpError;
 use serde_json::{Value, json};
 use std::alloc::{AllocError, Global};
 

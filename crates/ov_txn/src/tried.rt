@@ -13,8 +13,8 @@ use crate::txn::Txn;
 use ov_db::{Db, Delta, StoreAnswer};
 use ov_keeper::Keeper;
 use ov_ops::Owns;
+use ov_projection::OpError;
 use ov_results::ArrayText;
-use ov_stage::OpError;
 use std::alloc::{AllocError, Global};
 
 /// What an attempt of a transaction comes to (RFC 7047, 4.1.3).

@@ -9,7 +9,7 @@ ghost use Rattle.ov_watch.specs.Views.{choice_view, selects};
 
 use crate::select::{Kind, MonitorSelect};
 use ov_base::Text;
-use ov_stage::is_among;
+use ov_projection::is_among;
 use serde_json::Value;
 use std::alloc::{AllocError, Global};
 use std::marker::Model;

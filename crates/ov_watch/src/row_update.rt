@@ -6,8 +6,8 @@ ghost use Rattle.ov_specs.specs.monitors.Updates as spec;
 use crate::object::Object;
 use crate::table::MonitoredTable;
 use ov_base::{Text, Tree};
+use ov_projection::ShownRow;
 use ov_rows::{Row, RowView};
-use ov_stage::ShownRow;
 use std::alloc::{AllocError, Global};
 use uuid::Uuid;
 

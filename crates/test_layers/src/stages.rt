@@ -1,9 +1,10 @@
 use crate::rows::Standing;
 use ov_atoms::NoNames;
 use ov_base::Text;
+use ov_projection::{OpFault, compared_columns, listed_columns, shown_tree};
 use ov_rows::{RowKey, RowView, Rows};
 use ov_schema::Schema;
-use ov_stage::{OpFault, Stage, compared_columns, conditions_of, listed_columns, shown_tree};
+use ov_stage::{Stage, conditions_of};
 use serde_json::Value;
 use std::alloc::Global;
 use std::mem;

@@ -4,9 +4,9 @@ use ov_given::{
     GivenRow, NamedRows, given_over, given_values, is_met, mutated_columns, mutations_of,
     name_fault, new_row, timeout_of, told_rows, until_of,
 };
+use ov_projection::OpFault;
 use ov_rows::Columns;
 use ov_schema::{Schema, Table};
-use ov_stage::OpFault;
 use serde_json::Value;
 use std::alloc::Global;
 use std::test::Fail;

@@ -4,8 +4,8 @@ use Rattle.std.specs.Cmp.Lexicographic.{lists_total}
 use Rattle.std.specs.List.{list_all, list_any}
 use Rattle.ov_specs.specs.rows.Database.{same_columns}
 use Rattle.ov_specs.proofs.laws.Sameness.{column_cmp_total, columns-tied}
-use Rattle.ov_stage.proofs.Repeats.{Shown}
-use Rattle.ov_stage.proofs.Showing.{any_at}
+use Rattle.ov_projection.proofs.Repeats.{Shown}
+use Rattle.ov_projection.proofs.Showing.{any_at}
 use Rattle.ov_given.proofs.until.are_among.Goals as goal
 
 turned : (a b : Shown) → same_columns a b ≡ same_columns b a

@@ -2,7 +2,7 @@ use Rattle.std.proofs.Common.{ap, ◌∙◌, arith}
 use Rattle.std.proofs.lemmas.List.{take_all}
 use Rattle.std.specs.List.{list_any}
 use Rattle.ov_specs.specs.rows.Database.{same_columns}
-use Rattle.ov_stage.proofs.Showing.{seen-push}
+use Rattle.ov_projection.proofs.Showing.{seen-push}
 use Rattle.ov_given.proofs.until.rows_known.Goals as goal
 
 pub loop-row-preserved : goal.loop-row-preserved

@@ -1,8 +1,8 @@
 use Rattle.std.proofs.Common.{◌≡◌, take}
 use Rattle.std.specs.List.{list_any}
 use Rattle.ov_specs.specs.rows.Database.{same_columns}
-use Rattle.ov_stage.proofs.Repeats.{Shown}
-use Rattle.ov_stage.proofs.Showing.{any_at}
+use Rattle.ov_projection.proofs.Repeats.{Shown}
+use Rattle.ov_projection.proofs.Showing.{any_at}
 use Rattle.ov_given.proofs.until.rows_known.Given as goal
 
 abbrev pub invariant-loop-row : goal.invariant-loop-row

@@ -6,7 +6,7 @@ use Rattle.ov_specs.specs.integrity.Limits.{has_too_many, has_duplicates}
 use Rattle.ov_specs.specs.rows.Database.{Row}
 use Rattle.ov_specs.specs.rows.Lines.{LineKey}
 use Rattle.ov_specs.proofs.laws.Committing.{whole_is, IsWhole}
-use Rattle.ov_refs.specs.Changed.{IsAfter}
+use Rattle.ov_specs.specs.rows.Changed.{IsAfter}
 use Rattle.ov_index.specs.Changing.{are_any_alike}
 use Rattle.ov_integrity.proofs.Indexed.{made_after}
 use Rattle.ov_integrity.proofs.limits.breaks_a_limit.Goals as goal

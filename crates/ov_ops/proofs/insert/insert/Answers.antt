@@ -12,7 +12,7 @@ use Rattle.ov_specs.specs.operations.OpOutcome.{OpContext, OpOutcome, Fault, nam
 use Rattle.ov_specs.specs.rows.Database.{Database, Columns}
 use Rattle.ov_specs.specs.schema.SchemaTypes.{Table}
 use Rattle.ov_specs.specs.wire.Message.{has_member}
-use Rattle.ov_stage.specs.Errors.{error_view}
+use Rattle.ov_projection.specs.Errors.{error_view}
 use Rattle.ov_ops.specs.Outcomes.{context_of, IsDone}
 use Rattle.ov_ops.proofs.Going.{stops, refuses}
 use Rattle.ov_ops.proofs.insert.insert.Goals as goal

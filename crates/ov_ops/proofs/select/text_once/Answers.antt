@@ -5,8 +5,8 @@ use Rattle.ov_specs.specs.operations.Select.{written_row}
 use Rattle.ov_specs.specs.rows.Database.{same_columns}
 use Rattle.ov_specs.specs.operations.Transaction.{and_item}
 use Rattle.ov_ops.proofs.Showing.{and_one}
-use Rattle.ov_stage.proofs.Repeats.{kept_with, among, kept_is_seen, without_repeats-kept}
-use Rattle.ov_stage.proofs.Showing.{was_new, was_seen, kept-new, kept-again, seen-push}
+use Rattle.ov_projection.proofs.Repeats.{kept_with, among, kept_is_seen, without_repeats-kept}
+use Rattle.ov_projection.proofs.Showing.{was_new, was_seen, kept-new, kept-again, seen-push}
 use Rattle.ov_ops.proofs.select.text_once.Goals.{then-branch+in_ok-tree+in_ok-push, else-branch}
 use Rattle.ov_ops.proofs.select.text_once.Goals as goal
 

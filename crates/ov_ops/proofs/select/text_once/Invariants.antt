@@ -3,8 +3,8 @@ use Rattle.std.specs.List.{list_any}
 use Rattle.serde_json.specs.View.{items_of}
 use Rattle.ov_specs.specs.operations.Select.{written_row}
 use Rattle.ov_specs.specs.rows.Database.{same_columns}
-use Rattle.ov_stage.proofs.Repeats.{Shown, kept_with}
-use Rattle.ov_stage.proofs.Showing.{any_at}
+use Rattle.ov_projection.proofs.Repeats.{Shown, kept_with}
+use Rattle.ov_projection.proofs.Showing.{any_at}
 use Rattle.ov_ops.proofs.select.text_once.Given as goal
 
 abbrev pub invariant-loop-row : goal.invariant-loop-row

@@ -3,7 +3,7 @@ use Rattle.std.proofs.lemmas.List.{map-append}
 use Rattle.std.specs.List.{flat_map}
 use Rattle.ov_rows.specs.Lending.{lent_row}
 use Rattle.ov_stage.specs.Staging.{row_made}
-use Rattle.ov_stage.proofs.Equal.{map-push, slice-rest}
+use Rattle.ov_projection.proofs.Equal.{map-push, slice-rest}
 use Rattle.ov_stage.proofs.Merging.{Rows, rows_next, changes_next, row_turn, same_turn, change_turn, rows_through, changes_through, with_others}
 use Rattle.ov_stage.proofs.merge.merged.Goals.{then-turns-test+else-j-changes, else-turns-test}
 use Rattle.ov_stage.proofs.merge.merged.Goals as goal

@@ -1,6 +1,6 @@
 use Rattle.std.proofs.lemmas.Result.{IfOk-weaker}
 use Rattle.ov_specs.specs.integrity.Committed.{committed}
-use Rattle.ov_stage.specs.Errors.{error_view}
+use Rattle.ov_projection.specs.Errors.{error_view}
 use Rattle.ov_txn.proofs.Ending.{changed, refused}
 use Rattle.ov_txn.proofs.perform.end.Goals as goal
 

@@ -19,7 +19,7 @@ use Rattle.ov_specs.proofs.laws.Committing.{IsWhole, whole_is}
 use Rattle.ov_specs.proofs.laws.OutcomeSuiting.{SuitsOutcome, outcome_suits}
 use Rattle.ov_given.specs.Naming.{Naming}
 use Rattle.ov_stage.specs.Staging.{Stage}
-use Rattle.ov_stage.specs.Errors.{error_view}
+use Rattle.ov_projection.specs.Errors.{error_view}
 use Rattle.ov_txn.specs.Results.{nulls_after}
 use Rattle.ov_txn.proofs.Ending.{unchanged, ends_as}
 use Rattle.ov_txn.proofs.Performing.{prefixed_none, items_at, at_does, at_fails, at_end}

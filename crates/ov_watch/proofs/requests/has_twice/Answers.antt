@@ -5,7 +5,7 @@ use Rattle.std.proofs.lemmas.List.{take_more, map-append, take-append-drop}
 use Rattle.std.specs.List.{list_any}
 use Rattle.std.specs.Str.{bytes_eq}
 use Rattle.ov_specs.specs.schema.Schema.{has_twice}
-use Rattle.ov_stage.proofs.Equal.{map-push}
+use Rattle.ov_projection.proofs.Equal.{map-push}
 use Rattle.ov_watch.proofs.Twice.{any_key, seen-push, seen-once, seen-twice, not_again, is_again}
 use Rattle.ov_watch.proofs.requests.has_twice.Goals as goal
 

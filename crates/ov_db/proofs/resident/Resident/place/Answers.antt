@@ -1,5 +1,5 @@
 use Rattle.std.proofs.Common.{sym, subst}
-use Rattle.ov_refs.specs.Changed.{IsAfter}
+use Rattle.ov_specs.specs.rows.Changed.{IsAfter}
 use Rattle.ov_db.specs.Changing.{applied}
 use Rattle.ov_db.proofs.Places.{Changes}
 use Rattle.ov_db.proofs.Residing.{applied_after, both_ok}

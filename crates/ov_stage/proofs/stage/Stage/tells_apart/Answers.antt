@@ -1,5 +1,5 @@
 use Rattle.std.proofs.Common.{sym, ◌∙◌}
-use Rattle.ov_stage.proofs.Showing.{shown_once}
+use Rattle.ov_projection.proofs.Showing.{shown_once}
 use Rattle.ov_stage.proofs.stage.Stage.tells_apart.Goals as goal
 
 pub returns-then-is_among : goal.returns-then-is_among

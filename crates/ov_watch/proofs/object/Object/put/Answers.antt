@@ -3,7 +3,7 @@ use Rattle.serde_json.specs.Data.{put}
 use Rattle.serde_json.specs.View.{view, members_view}
 use Rattle.serde_json.proofs.Views.{members_view-insert_entry}
 use Rattle.ov_specs.specs.wire.Tree.{members_have_real}
-use Rattle.ov_stage.proofs.Plain.{put_plain}
+use Rattle.ov_projection.proofs.Plain.{put_plain}
 use Rattle.ov_watch.proofs.object.Object.put.Goals as goal
 
 pub invariant_of-self-2 : goal.invariant_of-self-2

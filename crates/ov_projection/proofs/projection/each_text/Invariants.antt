@@ -1,0 +1,9 @@
+use Rattle.std.proofs.Common.{◌≡◌, drop}
+use Rattle.serde_json.specs.Find.{as_str}
+use Rattle.serde_json.specs.View.{items_view}
+use Rattle.ov_specs.specs.values.Reading.{each_read}
+use Rattle.ov_atoms.proofs.Lists.{after}
+use Rattle.ov_projection.proofs.projection.each_text.Given as goal
+
+abbrev pub invariant-loop-item : goal.invariant-loop-item
+invariant-loop-item l = each_read as_str (items_view l.items) ≡ after l.texts.items (each_read as_str (items_view (drop l.item-index l.items)))
