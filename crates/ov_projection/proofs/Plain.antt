@@ -1,5 +1,6 @@
 -- One member more in an object without reals.
-use Rattle.std.proofs.Common.{◌≡◌, ℕ, List, false, refl}
+use Rattle.std.proofs.Common.{◌≡◌, ℕ, List, false, refl, ap, ◌∙◌}
+use Rattle.std.specs.Prelude.{Result, Ok, Err, OnOk}
 use Rattle.std.specs.declared.cmp.Ordering.{Ordering}
 use Rattle.std.specs.declared.cmp.Ordering.TheVariants.{Less, Equal, Greater}
 use Rattle.std.specs.Ordering.{nat_cmp, match_ordering}
@@ -19,3 +20,9 @@ put_plain k d no_members h f = rw h refl
 put_plain k d (member l e ms) h f =
     let parts = or_parts (has_real e) (members_have_real ms) f in
     put_at (slice_cmp nat_cmp k l) k l d e ms h parts.0 parts.1 (put_plain k d ms h parts.1)
+
+-- where a member without reals was put, there is none behind it either
+pub still_plain : {A E : Type 0} (result : Result A E) (k : List ℕ) (d : Data) (before after : Members) → members_have_real before ≡ false → OnOk result (after ≡ put k d before) → OnOk result (has_real d ≡ false)
+    → OnOk result (members_have_real after ≡ false)
+still_plain (Ok a) k d before after plain is real = ap members_have_real is ∙ put_plain k d before real plain
+still_plain (Err e) k d before after plain is real = tt
