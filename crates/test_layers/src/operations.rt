@@ -9,6 +9,7 @@ use ov_txn::Txn;
 use std::alloc::{AllocError, Global};
 use std::test::Fail;
 use test_support::{Counter, OwnsOne, Scripted, agrees, follows, net, trees};
+use uuid::Uuid;
 
 /// Operations on the rows of a database Net, as those of a transaction of this age. What comes of them are their results, and then
 /// how many rows they change; or the error of the last one, or how long it waits.
@@ -237,4 +238,30 @@ const OTHERS: &str =
 #[test]
 fn unknown_names(rt: HostRuntime) -> Result<(), Fail> {
     run_over(rt.alloc(), "", 0, OTHERS)
+}
+
+/// A select shows each of so many rows, in ascending order of their identifiers.
+fn shows_all(alloc: Global, count: u64) -> Result<(), Fail> {
+    let mut rows = String::new(alloc);
+    let mut shown = String::new(alloc);
+    for number in 0..count {
+        let id = Uuid::from_u128(u128::from(number));
+        let comma = if number == 0 { "" } else { "," };
+        rows = format!(in alloc; "{rows}put Switch {number}\n")?;
+        shown = format!(in alloc;
+            "{shown}{comma}{{\"_uuid\":[\"uuid\",\"{id}\"],\"name\":\"s1\"}}"
+        )?;
+    }
+    let select = r#"[{"op":"select","table":"Switch","where":[],"columns":["_uuid","name"]}]"#;
+    let script = format!(in alloc; "{select} -> {{\"rows\":[{shown}]}} 0")?;
+    run_over(alloc, rows.as_str(), 0, script.as_str())
+}
+
+/// Rows are looked at 64 at a time.
+#[test]
+fn rows_on_both_sides_of_a_look_are_shown(rt: HostRuntime) -> Result<(), Fail> {
+    for count in [63, 64, 65, 129] {
+        shows_all(rt.alloc(), count)?;
+    }
+    Ok(())
 }

@@ -117,6 +117,7 @@ fn the_result_of_an_insert_is_its_identifier(rt: HostRuntime) -> Result<(), Fail
 fn an_array_is_empty_until_something_is_put(rt: HostRuntime) -> Result<(), Fail> {
     let alloc = rt.alloc();
     let mut array = ArrayText::new(alloc);
+    array.reserve(1_000)?;
     assert!(rt; array.is_empty());
     array.push(alloc, tree(alloc, "{}")?.into())?;
     assert!(rt; !array.is_empty());
