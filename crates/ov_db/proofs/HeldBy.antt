@@ -10,10 +10,9 @@ use Rattle.ov_specs.specs.rows.Database.{Row, Database, same_key}
 use Rattle.ov_specs.specs.rows.Lines.{LineKey, line_cmp}
 use Rattle.ov_specs.specs.schema.Schema.{is_some_and}
 use Rattle.ov_specs.specs.schema.SchemaTypes.{Schema}
-use Rattle.ov_specs.proofs.laws.FoundRows.{not_tied}
 use Rattle.ov_specs.proofs.laws.LineKeys.{key_exact, key_total, tied_same, same_key-tied}
 use Rattle.ov_specs.proofs.laws.PrunedValues.{is_sorted-filter}
-use Rattle.ov_specs.proofs.laws.Truths.{both_hold, left_holds, right_holds, zero_is}
+use Rattle.ov_specs.proofs.laws.Truths.{both_hold, left_holds, right_holds, zero_is, not_tied}
 use Rattle.ov_refs.specs.Holding.{KeySet}
 use Rattle.ov_refs.specs.Linking.{Links, AreLinksOf, strong_count}
 use Rattle.ov_db.specs.Lookups.{strong_holders, weak_holders, if_any}

@@ -1,24 +1,18 @@
 -- Changes taken in the order of their keys: no key comes twice.
-use Rattle.std.proofs.Common.{◌≡◌, ◌==◌, List, [], ◌∷◌, Bool, true, false, cond, T, Option, Some, None, is_some, refl, sym, ap, ◌∙◌, Ordering, Less, Equal, Greater}
+use Rattle.std.proofs.Common.{◌≡◌, ◌==◌, List, [], ◌∷◌, Bool, true, false, cond, T, Option, Some, None, is_some, refl, sym, ap, ◌∙◌}
 use Rattle.std.specs.FinMap.{find, is_sorted, get, contains_key, entries, entries_sorted, get-entries, get-insert, get-remove, len, len-entries, same_map}
 use Rattle.std.specs.FinMap.Entries.{below_all}
-use Rattle.std.specs.Ordering.{is_lt, is_eq}
 use Rattle.ov_specs.specs.rows.Database.{Database, Row}
 use Rattle.ov_specs.specs.rows.Lines.{LineKey, line_cmp}
 use Rattle.ov_specs.proofs.laws.LineKeys.{key_exact, key_total, tied_same}
 use Rattle.ov_db.specs.Changing.{Delta, applied, with_row, with_rows}
 use Rattle.ov_db.specs.Placing.{IsSameBeside}
 use Rattle.ov_db.proofs.Added.{same}
-use Rattle.ov_specs.proofs.laws.Truths.{left_holds, right_holds, zero_is}
+use Rattle.ov_specs.proofs.laws.Truths.{left_holds, right_holds, zero_is, not_tied}
 use Rattle.std.proofs.lemmas.List.{nil_from_length}
 
 abbrev pub Changes : Type 0
 Changes = List (LineKey × Option Row)
-
-not_tied : (o : Ordering) → T (is_lt o) → is_eq o ≡ false
-not_tied Less h = refl
-not_tied Equal h = absurd h
-not_tied Greater h = absurd h
 
 -- what is below all keys is none of them
 find-below : (k : LineKey) (es : Changes) → T (below_all line_cmp k es) → find line_cmp k es ≡ None

@@ -10,9 +10,9 @@ ghost use Rattle.ov_db.specs.Placing.{IsPlaced, IsSameBeside};
 ghost use Rattle.ov_db.specs.Stored.{IsBodyRead, IsPutRead, ArePutRead};
 
 use crate::delta::Delta;
-use ov_base::{Bytes, Text};
+use ov_base::{Bytes, ColumnNames, Text};
 use ov_keeper::{Change, Line};
-use ov_rows::{ColumnNames, Columns, NamedValues, Row, RowKey, Rows};
+use ov_rows::{Columns, NamedValues, Row, RowKey, Rows};
 use std::alloc::{AllocError, Global};
 use uuid::Uuid;
 

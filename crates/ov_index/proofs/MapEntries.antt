@@ -10,9 +10,8 @@ use Rattle.std.specs.Ordering.{eq_by_cmp}
 use Rattle.std.specs.declared.cmp.Ordering.{Ordering}
 use Rattle.ov_specs.specs.schema.Schema.{is_some_and}
 use Rattle.ov_specs.specs.schema.SchemaTypes.{name_cmp}
-use Rattle.ov_specs.proofs.laws.FoundRows.{not_tied}
 use Rattle.ov_specs.proofs.laws.Names.{name_cmp_total, name_exact}
-use Rattle.ov_specs.proofs.laws.Truths.{left_holds, right_holds, equal_is}
+use Rattle.ov_specs.proofs.laws.Truths.{left_holds, right_holds, equal_is, not_tied}
 
 -- ---- what cannot be, and truth
 

@@ -1,10 +1,10 @@
 -- The keys at which a row stands, as they are collected, and the rows that are collected of a list.
-use Rattle.std.proofs.Common.{◌≡◌, ◌+◌, ◌<◌, ℕ, zero, suc, List, [], ◌∷◌, ◌++◌, Bool, true, false, cond, T, ◌&&◌, ◌||◌, not, Option, Some, None, refl, sym, ap, ◌∙◌, Ordering, Less, Equal, Greater, arith}
+use Rattle.std.proofs.Common.{◌≡◌, ◌+◌, ◌<◌, ℕ, zero, suc, List, [], ◌∷◌, ◌++◌, Bool, true, false, cond, T, ◌&&◌, ◌||◌, not, Option, Some, None, refl, sym, ap, ◌∙◌, arith}
 use Rattle.std.specs.Prelude.{slice_get}
 use Rattle.std.specs.FinMap.{find, is_sorted, empty, get, entries, entries_sorted, get-entries}
 use Rattle.std.specs.FinMap.Entries.{below_all}
 use Rattle.std.specs.List.{list_any}
-use Rattle.std.specs.Ordering.{eq_by_cmp, is_eq, is_lt}
+use Rattle.std.specs.Ordering.{eq_by_cmp}
 use Rattle.std.specs.Str.{bytes_eq}
 use Rattle.std.proofs.lemmas.Slice.Eq.{bytes_eq-Decides}
 use Rattle.ov_rows.specs.Nested.{in_table}
@@ -14,7 +14,7 @@ use Rattle.ov_specs.specs.schema.Schema.{is_some_and, is_empty}
 use Rattle.ov_specs.specs.schema.SchemaTypes.{Table, Schema}
 use Rattle.ov_specs.specs.values.Uuid.{Uuid}
 use Rattle.ov_specs.proofs.laws.LineKeys.{tied_same, same_tied}
-use Rattle.ov_specs.proofs.laws.Truths.{left_holds, right_holds}
+use Rattle.ov_specs.proofs.laws.Truths.{left_holds, right_holds, not_tied}
 use Rattle.ov_index.specs.Collecting.{is_entry, has_entry, entries_from, entries_in, entries_of_row, with_entries, with_rows, has_indexes}
 use Rattle.ov_index.specs.IndexKeys.{IndexKey, same_index_key, key_at}
 use Rattle.ov_index.specs.Indexing.{Indexes, is_indexed, stands_at, is_at, AreIndexesOf}
@@ -117,11 +117,6 @@ module _ (schema : Schema) (key : IndexKey) (id : Uuid) where
   row_entry at (Some row) = entry_is schema at row.columns key id ∙ entry_at at row.columns
 
 -- ---- what stands at a key in an ascending list
-
-not_tied : (o : Ordering) → T (is_lt o) → is_eq o ≡ false
-not_tied Less h = refl
-not_tied Equal h = absurd h
-not_tied Greater h = absurd h
 
 module _ {X : Type 0} (test : X → Bool) (q : LineKey) where
   none_behind : (key : LineKey) (es : List (LineKey × X)) → T (below_all line_cmp key es) → find line_cmp key es ≡ None

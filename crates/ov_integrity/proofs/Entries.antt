@@ -8,8 +8,7 @@ use Rattle.std.specs.FinMap.Entries.{below_all}
 use Rattle.std.specs.List.{list_any}
 use Rattle.std.specs.Ordering.{eq_by_cmp}
 use Rattle.std.specs.declared.cmp.Ordering.{Ordering}
-use Rattle.ov_specs.proofs.laws.FoundRows.{not_tied}
-use Rattle.ov_specs.proofs.laws.Truths.{left_holds, right_holds, equal_is}
+use Rattle.ov_specs.proofs.laws.Truths.{left_holds, right_holds, equal_is, not_tied}
 
 tied_is : {K : Type 0} (R : K → K → Ordering) → IsAntisymmetric R → (a b : K) → eq_by_cmp R a b ≡ true → a ≡ b
 tied_is R exact a b tied = exact a b (equal_is _ tied)

@@ -6,14 +6,14 @@ use Rattle.std.specs.Cmp.Lexicographic.{slice_cmp, texts_ties}
 use Rattle.std.specs.FinMap.{find, is_sorted, empty, get, contains_key, insert, remove, entries, len, len-empty, len-remove, empty_of_len, entries_sorted, get-entries, get-empty, get-insert, get-remove}
 use Rattle.std.specs.FinMap.Entries.{below_all}
 use Rattle.std.specs.List.{list_any}
-use Rattle.std.specs.Ordering.{nat_cmp, eq_by_cmp, is_lt, is_eq, ordering_then}
+use Rattle.std.specs.Ordering.{nat_cmp, eq_by_cmp, is_eq, ordering_then}
 use Rattle.ov_specs.specs.integrity.References.{Target, row_targets, refers_strongly, refers_weakly}
 use Rattle.ov_specs.specs.rows.Database.{Row, Database, same_key}
 use Rattle.ov_specs.specs.rows.Lines.{LineKey, line_cmp}
 use Rattle.ov_specs.specs.schema.Schema.{is_some_and}
 use Rattle.ov_specs.specs.schema.SchemaTypes.{Schema}
 use Rattle.ov_specs.proofs.laws.LineKeys.{key_total, tied_same}
-use Rattle.ov_specs.proofs.laws.Truths.{left_holds, right_holds, zero_is}
+use Rattle.ov_specs.proofs.laws.Truths.{left_holds, right_holds, zero_is, not_tied}
 use Rattle.ov_refs.specs.Holding.{KeySet, Holders, is_holder, with_holder, without, without_holder}
 use Rattle.ov_refs.specs.Linking.{Links, AreNone, AreLinksOf, strong_count, with_target, with_targets, with_rows}
 
@@ -127,11 +127,6 @@ module _ (holders : Holders) (at by : LineKey) (to from : LineKey) where
       turn (Some set) has b is = last set (len (remove set by) == 0) refl has b is
 
 -- ---- what is found at a key
-
-not_tied : (o : Ordering) → T (is_lt o) → is_eq o ≡ false
-not_tied Less h = refl
-not_tied Equal h = absurd h
-not_tied Greater h = absurd h
 
 -- a key that is below all is none of them
 pub find-below : {X : Type 0} (key : LineKey) (es : List (LineKey × X)) → T (below_all line_cmp key es) → find line_cmp key es ≡ None

@@ -175,6 +175,7 @@ fn targets_in(alloc: Global, table: &Table, columns: &Columns) -> Result<Vec<Tar
     let mut place: usize = 0;
     for (name, datum) in columns.names().iter().zip(columns.values()) {
         push_column(alloc, &mut targets, table, place, name.as_str(), datum)?;
+        // It is only where the column is looked for first, so any place would do.
         place = place.wrapping_add(1);
     }
     Ok(targets)

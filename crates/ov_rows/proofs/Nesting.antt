@@ -14,7 +14,7 @@ use Rattle.ov_specs.specs.rows.Lines.{LineKey, line_cmp}
 use Rattle.ov_specs.specs.schema.SchemaTypes.{name_cmp}
 use Rattle.ov_specs.specs.values.Uuid.{Uuid}
 use Rattle.ov_specs.proofs.laws.Names.{name_cmp_total, name_exact}
-use Rattle.ov_specs.proofs.laws.Truths.{both_hold, left_holds, right_holds, less_is, equal_is}
+use Rattle.ov_specs.proofs.laws.Truths.{both_hold, left_holds, right_holds, less_is, equal_is, not_tied}
 use Rattle.ov_rows.specs.Nested.{id_cmp, TableRows, in_table, rows_in, all_rows}
 use Rattle.ov_rows.specs.Resident.{database_of}
 
@@ -89,11 +89,6 @@ module _ (name : List ℕ) (q : LineKey) (ys : Entries) where
         | true ↦ refl
         | false ↦ refl
       ])
-
-not_tied : (o : Ordering) → T (is_lt o) → is_eq o ≡ false
-not_tied Less h = refl
-not_tied Equal h = absurd h
-not_tied Greater h = absurd h
 
 -- a key of an earlier table stands in none of these
 find_earlier : (q : LineKey) (ts : Tables) → T (below_all name_cmp q.0 ts) → find line_cmp q (all_rows ts) ≡ None

@@ -5,11 +5,11 @@ ghost use Rattle.ov_specs.specs.wire.Message.{tree_of};
 ghost use Rattle.ov_rows.specs.Body.{body_of, AreOfKinds};
 ghost use Rattle.ov_rows.specs.Named.{columns_at, DoAscend};
 
-use crate::column_names::ColumnNames;
 use crate::columns::Columns;
 use crate::guess::guess_values;
 use json::{Reader, Scratch};
 use ov_atoms::{AtomFault, Datum};
+use ov_base::ColumnNames;
 use std::alloc::{AllocError, Global};
 
 /// Reads the columns of rows from the bodies of their lines. What one reading takes of memory serves the next.

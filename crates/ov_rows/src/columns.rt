@@ -3,9 +3,9 @@ ghost use Rattle.std.specs.FinMap.{get, insert, keys, values, entries};
 ghost use Rattle.ov_specs.specs.rows.Database.{same_columns};
 ghost use Rattle.ov_rows.specs.Named.{place_from, DoAscend};
 
-use crate::column_names::ColumnNames;
 use crate::named_values::NamedValues;
 use ov_atoms::Datum;
+use ov_base::ColumnNames;
 use std::alloc::{AllocError, Global};
 use std::marker::Model;
 

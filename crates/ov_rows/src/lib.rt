@@ -4,7 +4,6 @@
 
 mod body;
 mod body_reader;
-mod column_names;
 mod columns;
 mod guess;
 mod id;
@@ -16,7 +15,6 @@ mod rows;
 mod table_rows;
 
 pub use body_reader::BodyReader;
-pub use column_names::ColumnNames;
 pub use columns::Columns;
 pub use id::RowId;
 pub use key::RowKey;

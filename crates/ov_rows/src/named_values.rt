@@ -2,8 +2,8 @@ ghost use Rattle.std.specs.Prelude.{◌≡◌, IfOk, OnOk, OnErr, true, string_b
 ghost use Rattle.std.specs.FinMap.{empty, contains_key, insert, keys, values, entries};
 ghost use Rattle.ov_rows.specs.Named.{named};
 
-use crate::column_names::ColumnNames;
 use ov_atoms::Datum;
+use ov_base::ColumnNames;
 use std::alloc::{AllocError, Global};
 use std::collections::BTreeMap;
 use std::marker::Model;

@@ -1,5 +1,5 @@
 -- Items by their names, as the finite map that they make.
-use Rattle.std.proofs.Common.{◌≡◌, ℕ, zero, suc, ◌+◌, ◌<◌, List, [], ◌∷◌, ◌++◌, map, length, drop, get_or, true, false, cond, T, ◌&&◌, Some, String, Global, refl, sym, ap, ◌∙◌, add-one, arith, subst, Ordering, Less, Equal, Greater}
+use Rattle.std.proofs.Common.{◌≡◌, ℕ, zero, suc, ◌+◌, ◌<◌, List, [], ◌∷◌, ◌++◌, map, length, drop, get_or, true, false, cond, T, ◌&&◌, Some, String, Global, refl, sym, ap, ◌∙◌, add-one, arith, subst, Less, Equal, Greater}
 use Rattle.std.proofs.Math.Seq.{drop-cons}
 use Rattle.std.proofs.lemmas.List.{map-append}
 use Rattle.std.proofs.lemmas.Map.Text.{is_eq-slice_cmp}
@@ -7,7 +7,7 @@ use Rattle.std.proofs.lemmas.Slice.Eq.{bytes_eq-Decides}
 use Rattle.std.specs.Str.{bytes_eq}
 use Rattle.std.specs.List.{AllByRecursion}
 use Rattle.std.specs.List.Sorted.{IsStrictlySortedBy}
-use Rattle.std.specs.Ordering.{match_ordering, eq_by_cmp, is_lt, is_eq}
+use Rattle.std.specs.Ordering.{match_ordering, eq_by_cmp, is_lt}
 use Rattle.std.specs.Cmp.{IsTotalOrder, eq_by_cmp_equiv}
 use Rattle.std.specs.Cmp.Lexicographic.{nat_list_cmp_total}
 use Rattle.std.specs.String.{string_bytes, string_cmp}
@@ -17,19 +17,13 @@ use Rattle.std.specs.FinMap.{FinMap, IsAntisymmetric, nat_cmp-IsAntisymmetric, s
 use Rattle.std.specs.FinMap.Entries.{below_all, find-put}
 use Rattle.ov_specs.specs.schema.SchemaTypes.{name_cmp}
 use Rattle.ov_schema.specs.NamedViews.{named_view}
-use Rattle.ov_specs.proofs.laws.Truths.{both_hold, left_holds, right_holds}
+use Rattle.ov_specs.proofs.laws.Truths.{both_hold, left_holds, right_holds, not_tied}
 
 pub name_total : IsTotalOrder name_cmp
 name_total = nat_list_cmp_total
 
 name_exact : IsAntisymmetric name_cmp
 name_exact = slice_cmp-IsAntisymmetric nat_cmp-IsAntisymmetric
-
--- what is less is not equal
-not-tied : (o : Ordering) → T (is_lt o) → is_eq o ≡ false
-not-tied Less h = refl
-not-tied Equal h = absurd h
-not-tied Greater h = absurd h
 
 -- the entries of these, put over those of a map, the first one last
 abbrev pub put_over : {X : Type 0} → FinMap name_cmp X → List (List ℕ × X) → FinMap name_cmp X
@@ -115,7 +109,7 @@ module _ {X : Type 0} where
       subst (λ y. find name_cmp y.0 (x ∷ es) ≡ Some y.1) (sym is)
       (ap (λ b. cond b (Some x.1) (find name_cmp x.0 es)) (is_eq-slice_cmp x.0 x.0 ∙ (bytes_eq-Decides x.0 x.0).1 refl))
   find-at (x ∷ es) (suc i) e h l is =
-      let other = (eq_by_cmp_equiv nat_list_cmp_total).symm e.0 x.0 ∙ not-tied _ (later-name x.0 es i e (left_holds _ (is_sorted name_cmp es) h) (omega arith) is) in
+      let other = (eq_by_cmp_equiv nat_list_cmp_total).symm e.0 x.0 ∙ not_tied _ (later-name x.0 es i e (left_holds _ (is_sorted name_cmp es) h) (omega arith) is) in
       ap (λ b. cond b (Some x.1) (find name_cmp e.0 es)) other ∙ find-at es i e (right_holds (below_all name_cmp x.0 es) _ h) (omega arith) is
 
   pub from_entries-entries : (m : FinMap name_cmp X) → from_entries (entries m) ≡ m

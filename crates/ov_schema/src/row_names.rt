@@ -2,8 +2,7 @@ ghost use Rattle.std.specs.Prelude.{◌≡◌, IfOk, map};
 ghost use Rattle.ov_specs.specs.rows.RowNames.{without_own, is_own_column};
 
 use crate::column::Column;
-use ov_base::Text;
-use ov_rows::ColumnNames;
+use ov_base::{ColumnNames, Text};
 use std::alloc::{AllocError, Global};
 
 /// Whether this is the name of a column that each row has by itself (RFC 7047, 3.2).

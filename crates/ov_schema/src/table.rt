@@ -12,8 +12,7 @@ use crate::named::{ascending, find_named, find_near};
 use crate::parse::table_shape::TableShape;
 use crate::parse::type_shape::ColumnShape;
 use crate::row_names::names_of_row;
-use ov_base::Text;
-use ov_rows::ColumnNames;
+use ov_base::{ColumnNames, Text};
 use std::alloc::{AllocError, Global};
 use std::marker::Model;
 

@@ -1,5 +1,5 @@
 -- One row of a table, found by its key, and the rows that meet conditions which no other row meets.
-use Rattle.std.proofs.Common.{◌≡◌, ℕ, List, [], ◌∷◌, Bool, true, false, ◌&&◌, cond, T, Option, Some, None, filter, option_map, refl, sym, ap, subst, ◌∙◌, Ordering, Less, Equal, Greater}
+use Rattle.std.proofs.Common.{◌≡◌, ℕ, List, [], ◌∷◌, Bool, true, false, ◌&&◌, cond, T, Option, Some, None, filter, option_map, refl, sym, ap, subst, ◌∙◌, Ordering, Equal}
 use Rattle.std.specs.Prelude.{option_to_list}
 use Rattle.std.proofs.lemmas.Bool.{and_parts, false≢true}
 use Rattle.std.proofs.lemmas.Option.{same_Some}
@@ -8,7 +8,7 @@ use Rattle.std.specs.Cmp.Lexicographic.{same_text}
 use Rattle.std.specs.FinMap.{FinMap, IsAntisymmetric, find, get, get-entries, entries, entries_sorted, is_sorted}
 use Rattle.std.specs.FinMap.Entries.{below_all, find-where_key}
 use Rattle.std.specs.Map.{lookup}
-use Rattle.std.specs.Ordering.{eq_by_cmp, is_lt, is_eq}
+use Rattle.std.specs.Ordering.{eq_by_cmp, is_eq}
 use Rattle.std.specs.Str.{bytes_eq}
 use Rattle.ov_specs.specs.operations.Conditions.{Condition}
 use Rattle.ov_specs.specs.operations.MatchingRows.{is_matching, matching}
@@ -16,7 +16,7 @@ use Rattle.ov_specs.specs.rows.Database.{Database, Row}
 use Rattle.ov_specs.specs.rows.Lines.{LineKey, line_cmp}
 use Rattle.ov_specs.specs.values.Uuid.{Uuid}
 use Rattle.ov_specs.proofs.laws.LineKeys.{key_exact, same_tied, tied_same}
-use Rattle.ov_specs.proofs.laws.Truths.{left_holds, right_holds}
+use Rattle.ov_specs.proofs.laws.Truths.{left_holds, right_holds, not_tied}
 use Rattle.ov_db.proofs.Same.{text-same}
 use Rattle.ov_rows.specs.Nested.{TableRows, id_cmp, in_table, rows_in}
 use Rattle.ov_rows.proofs.Nesting.{within}
@@ -123,11 +123,6 @@ module _ (P : LineKey × Row → Bool) (k : LineKey) (only : (r : LineKey × Row
       by : (b : Bool) → P e ≡ b → b ≡ false
       by false is = refl
       by true is = absurd (false≢true (sym apart ∙ same_tied k e.0 (sym (only e is))))
-
-  not_tied : (o : Ordering) → T (is_lt o) → is_eq o ≡ false
-  not_tied Less h = refl
-  not_tied Equal h = absurd h
-  not_tied Greater h = absurd h
 
   none_above : (es : Entries) → T (below_all line_cmp k es) → filter P es ≡ []
   none_above [] h = refl

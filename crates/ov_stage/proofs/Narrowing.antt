@@ -1,5 +1,5 @@
 -- Rows of a table by their identifiers, among which are all that meet conditions: they stand for the whole table.
-use Rattle.std.proofs.Common.{◌≡◌, ℕ, List, [], ◌∷◌, ◌++◌, Bool, true, false, ◌&&◌, ◌||◌, cond, T, Option, Some, None, filter, map, refl, sym, ap, subst, ◌∙◌, Ordering, Less, Equal, Greater}
+use Rattle.std.proofs.Common.{◌≡◌, ℕ, List, [], ◌∷◌, ◌++◌, Bool, true, false, ◌&&◌, ◌||◌, cond, T, Option, Some, None, filter, map, refl, sym, ap, subst, ◌∙◌}
 use Rattle.std.specs.Prelude.{option_to_list}
 use Rattle.std.proofs.lemmas.Bool.{and_parts, false≢true}
 use Rattle.std.specs.Cmp.Lexicographic.{same_text}
@@ -15,7 +15,7 @@ use Rattle.ov_specs.specs.rows.Lines.{LineKey, line_cmp}
 use Rattle.ov_specs.specs.values.Uuid.{Uuid}
 use Rattle.ov_specs.proofs.laws.LineKeys.{key_exact, key_total, tied_same}
 use Rattle.ov_specs.proofs.laws.Names.{name_exact}
-use Rattle.ov_specs.proofs.laws.Truths.{both_hold, left_holds, right_holds, equal_is}
+use Rattle.ov_specs.proofs.laws.Truths.{both_hold, left_holds, right_holds, equal_is, not_tied}
 use Rattle.ov_db.proofs.Same.{text-same}
 use Rattle.ov_db.specs.Changing.{Delta, applied, with_rows}
 use Rattle.ov_db.proofs.Places.{get-applied, or_before}
@@ -34,11 +34,6 @@ abbrev Entries : Type 0
 Entries = List (LineKey × Row)
 
 -- ---- entries that pass a test
-
-not_tied : (o : Ordering) → T (is_lt o) → is_eq o ≡ false
-not_tied Less h = refl
-not_tied Equal h = absurd h
-not_tied Greater h = absurd h
 
 find-below : (k : LineKey) (es : Entries) → T (below_all line_cmp k es) → find line_cmp k es ≡ None
 find-below k [] h = refl

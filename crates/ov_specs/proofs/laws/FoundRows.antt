@@ -3,9 +3,7 @@ use Rattle.std.proofs.Common.{◌≡◌, ℕ, zero, suc, List, [], ◌∷◌, fi
 use Rattle.std.specs.Prelude.{slice_get, option_and_then}
 use Rattle.std.specs.List.{list_all}
 use Rattle.std.specs.Str.{bytes_eq}
-use Rattle.std.specs.Ordering.{eq_by_cmp, is_lt, is_eq}
-use Rattle.std.specs.declared.cmp.Ordering.{Ordering}
-use Rattle.std.specs.declared.cmp.Ordering.TheVariants.{Less, Equal, Greater}
+use Rattle.std.specs.Ordering.{eq_by_cmp}
 use Rattle.std.specs.FinMap.{get, remove, keys, entries, find, is_sorted, entries_sorted, get-entries, get-remove}
 use Rattle.std.specs.FinMap.Entries.{below_all}
 use Rattle.std.proofs.lemmas.Bool.{and_parts}
@@ -24,7 +22,7 @@ use Rattle.ov_specs.specs.schema.SchemaTypes.{Table, Schema}
 use Rattle.ov_specs.specs.values.Uuid.{Uuid, is_uuid, AreUuids}
 use Rattle.ov_specs.proofs.laws.LineKeys.{key_total, tied_same, same_tied}
 use Rattle.ov_specs.proofs.laws.Suiting.{one_row_suits, version_suits}
-use Rattle.ov_specs.proofs.laws.Truths.{left_holds, right_holds}
+use Rattle.ov_specs.proofs.laws.Truths.{left_holds, right_holds, not_tied}
 
 -- ---- the names of a transaction stand for identifiers
 
@@ -47,11 +45,6 @@ EachRow P [] = Unit {0}
 EachRow P (r ∷ rs) = P r.0 r.1 × EachRow P rs
 
 -- a key that is below all is none of them
-pub not_tied : (o : Ordering) → T (is_lt o) → is_eq o ≡ false
-not_tied Less h = refl
-not_tied Equal h = absurd h
-not_tied Greater h = absurd h
-
 pub find-below : (key : LineKey) (rs : List (LineKey × Row)) → T (below_all line_cmp key rs) → find line_cmp key rs ≡ None
 find-below key [] h = refl
 find-below key (r ∷ rs) h =

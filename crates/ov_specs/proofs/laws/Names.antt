@@ -1,12 +1,12 @@
 -- Names of columns in their order, and the entries of a map by name.
-use Rattle.std.proofs.Common.{◌≡◌, ℕ, List, [], ◌∷◌, Bool, true, false, cond, T, Some, None, refl, sym, ap, ◌∙◌, Ordering, Less, Equal, Greater}
-use Rattle.std.specs.Ordering.{eq_by_cmp, is_lt, is_eq}
+use Rattle.std.proofs.Common.{◌≡◌, ℕ, List, [], ◌∷◌, Bool, true, false, cond, T, Some, None, refl, sym, ap, ◌∙◌}
+use Rattle.std.specs.Ordering.{eq_by_cmp}
 use Rattle.std.specs.Cmp.{IsTotalOrder, eq_by_cmp_equiv}
 use Rattle.std.specs.Cmp.Lexicographic.{nat_list_cmp_total}
 use Rattle.std.specs.FinMap.{FinMap, IsAntisymmetric, nat_cmp-IsAntisymmetric, slice_cmp-IsAntisymmetric, find, is_sorted, get, get-entries, entries, entries_sorted}
 use Rattle.std.specs.FinMap.Entries.{below_all}
 use Rattle.ov_specs.specs.schema.SchemaTypes.{name_cmp}
-use Rattle.ov_specs.proofs.laws.Truths.{left_holds, right_holds, equal_is}
+use Rattle.ov_specs.proofs.laws.Truths.{left_holds, right_holds, equal_is, not_tied}
 
 pub name_cmp_total : IsTotalOrder name_cmp
 name_cmp_total = nat_list_cmp_total
@@ -22,11 +22,6 @@ same_name-is a b h = name_exact a b (equal_is _ h)
 
 pub same_name-itself : (a : List ℕ) → same_name a a ≡ true
 same_name-itself a = (eq_by_cmp_equiv name_cmp_total).refl a
-
-not_tied : (o : Ordering) → T (is_lt o) → is_eq o ≡ false
-not_tied Less h = refl
-not_tied Equal h = absurd h
-not_tied Greater h = absurd h
 
 -- what holds of each entry by itself
 abbrev pub EachEntry : {X : Type 0} → (List ℕ → X → Type 0) → List (List ℕ × X) → Type 0

@@ -62,3 +62,9 @@ then_equal Greater = refl
 
 pub zero_is : (n : ℕ) → (n == 0) ≡ true → n ≡ 0
 zero_is n h = grind (arith, nat_tests, h)
+
+-- what is less is not equal
+pub not_tied : (o : Ordering) → T (is_lt o) → is_eq o ≡ false
+not_tied Less h = refl
+not_tied Equal h = absurd h
+not_tied Greater h = absurd h
