@@ -32,7 +32,7 @@ fn row_misses(
 }
 
 /// Whether one of these keys is none of the changed ones.
-fn has_unchanged(set: &KeySet, changes: &Delta) -> bool
+fn has_untouched(set: &KeySet, changes: &Delta) -> bool
     ensures { result ≡ list_any (λ key. not (contains_key changes.now key)) (keys set.now) }
 {
     for key in set.iter() {
@@ -48,7 +48,7 @@ fn is_held_beside(links: &Links, changes: &Delta, key: &RowKey) -> bool
     ensures { result ≡ is_held_beside links.now.strong changes.now key.now }
 {
     match links.strong().of(key) {
-        Some(holders) => has_unchanged(holders, changes),
+        Some(holders) => has_untouched(holders, changes),
         None => false,
     }
 }
