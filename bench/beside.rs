@@ -9,7 +9,7 @@ mod turns;
 
 use std::collections::BTreeSet;
 use std::process::ExitCode;
-use std::time::{Duration, Instant};
+use std::time::Duration;
 use systems::{Exchange, Measured, Outcome, Server, inserts, say, search, transact};
 use turns::Bench;
 
@@ -59,10 +59,7 @@ fn select_all(server: &mut Server, rows: usize) -> Outcome<Duration> {
     let wanted = rows_of(&mut (0..rows));
     let operation = ",{\"op\":\"select\",\"table\":\"Switch\",\"where\":[],\"columns\":[\"name\"]}";
     let exchange = transact(1, operation, format!("[{{\"rows\":[{wanted}]}}]"));
-    let begin = Instant::now();
-    server.send(&exchange.request)?;
-    let reply = server.take(&exchange)?;
-    let time = begin.elapsed();
+    let (time, reply) = server.ask_on_the_clock(&exchange)?;
     let names: BTreeSet<&str> = reply.split('"').filter(|part| part.starts_with("switch ")).collect();
     let all = (0..rows).all(|n| names.contains(format!("switch {n}").as_str()));
     if all && names.len() == rows { Ok(time) } else { Err(format!("a wrong select of {}", server.system.name())) }

@@ -100,10 +100,8 @@ impl Filled {
     /// Asks for a monitor, and compares the rows of its first answer, behind the clock. Then the monitor is canceled.
     fn first_answer(&mut self, measured: &mut Measured) -> Outcome<()> {
         let exchange = monitor(0, &self.rows);
-        let begin = Instant::now();
-        self.server.send(&exchange.request)?;
-        let reply = self.server.take(&exchange)?;
-        measured.add(begin.elapsed());
+        let (time, reply) = self.server.ask_on_the_clock(&exchange)?;
+        measured.add(time);
         let told = rows_told(&reply);
         let is_told = |row: &Row| told.get(row.identifier.as_str()).is_some_and(|values| *values == row.values());
         if told.len() != self.rows.len() || !self.rows.iter().all(is_told) {

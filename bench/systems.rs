@@ -206,11 +206,28 @@ impl Server {
         self.take_bytes(exchange.reply(self.order).len())
     }
 
-    /// Reads so many bytes, and gives them.
-    pub fn take_bytes(&mut self, length: usize) -> Outcome<String> {
+    /// Asks, and gives the time until the reply was whole, and the reply. How long the wanted one is, is found before the clock
+    /// begins, and the reply is copied behind it.
+    pub fn ask_on_the_clock(&mut self, exchange: &Exchange) -> Outcome<(Duration, String)> {
+        let length = exchange.reply(self.order).len();
+        let begin = Instant::now();
+        self.send(&exchange.request)?;
+        self.read_until(length)?;
+        let time = begin.elapsed();
+        Ok((time, self.take_bytes(length)?))
+    }
+
+    /// Reads until so many bytes are there.
+    fn read_until(&mut self, length: usize) -> Outcome<()> {
         while self.unread.len() < length {
             self.read()?;
         }
+        Ok(())
+    }
+
+    /// Reads so many bytes, and gives them.
+    pub fn take_bytes(&mut self, length: usize) -> Outcome<String> {
+        self.read_until(length)?;
         String::from_utf8(self.unread.drain(..length).collect()).map_err(|e| format!("a reply: {e}"))
     }
 

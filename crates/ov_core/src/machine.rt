@@ -47,7 +47,7 @@ impl<K: Keeper, D> Model for Core<K, D> {
     ghost use Rattle.std.specs.Coded.{codes};
     ghost use Rattle.ov_specs.specs.codes.TreeCode.{tree_code, items_code};
     ghost use Rattle.ov_specs.specs.codes.SchemaCode.{schema_code};
-    ghost use Rattle.ov_specs.specs.monitors.MonitorCode.{monitor_code};
+    ghost use Rattle.ov_specs.specs.codes.MonitorCode.{monitor_code};
     ghost use Rattle.ov_rows.specs.Resident.{database_code};
     ghost use Rattle.ov_core.specs.Following.{CoreState};
     ghost use Rattle.ov_core.specs.History.{HasHistory};

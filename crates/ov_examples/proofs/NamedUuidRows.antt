@@ -4,7 +4,7 @@ use Rattle.serde_json.specs.Data.{Items}
 use Rattle.serde_json.specs.Find.{as_array}
 use Rattle.serde_json.specs.Read.{read}
 use Rattle.serde_json.proofs.OnLiterals.{serde_json_on_literals}
-use Rattle.ov_specs.specs.operations.NamedUuids.{place_declared, is_declared_before, id_at, names_of}
+use Rattle.ov_specs.specs.operations.NamedUuids.{place_declared, is_declared_before, id_at, uuids_named}
 use Rattle.ov_specs.specs.values.Uuid.{Uuid}
 use Rattle.ov_examples.proofs.NetRows.{numbered}
 
@@ -18,7 +18,7 @@ place name text = option_and_then (place_declared name) (operations text)
 
 -- what it stands for in them
 abbrev stands_for : List ℕ → List ℕ → Option Uuid
-stands_for name text = option_and_then (λ ds. names_of (numbered 2 ∷ numbered 3 ∷ []) ds name) (operations text)
+stands_for name text = option_and_then (λ ds. uuids_named (numbered 2 ∷ numbered 3 ∷ []) ds name) (operations text)
 
 -- ---- which operation declares a name
 

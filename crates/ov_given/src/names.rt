@@ -101,9 +101,9 @@ impl<'a> NamedRows<'a> {
 }
 
 impl<'a> Names for NamedRows<'a> {
-    ghost use Rattle.ov_specs.specs.operations.NamedUuids.{names_of};
+    ghost use Rattle.ov_specs.specs.operations.NamedUuids.{uuids_named};
 
-    ghost names = { λ rows name. names_of rows.ids rows.operations name };
+    ghost names = { λ rows name. uuids_named rows.ids rows.operations name };
 
     fn uuid_of(&self, name: &str) -> Option<Uuid> {
         match self.place_of(name) {

@@ -2,6 +2,7 @@
 
 ghost use Rattle.std.specs.Prelude.{◌≡◌, ◌<◌, OnOk, length};
 
+use ov_atoms::Atom;
 use ov_base::Text;
 use ov_results::ArrayText;
 use ov_rows::RowView;
@@ -11,7 +12,7 @@ use std::alloc::AllocError;
 /// fetches several side by side that are looked at one right after the other, and else waits for each when it is written.
 const AHEAD: usize = 64;
 
-/// About how many bytes an atom takes as text, with the name of its column.
+/// About how many bytes an atom takes as text, with the name of its column, beside the bytes that a text has itself.
 const ROOM: usize = 24;
 
 /// The place of the last of these columns in a row. Rows that share the names of their columns have it at the same place.
@@ -27,21 +28,45 @@ fn last_place(names: &[Text], row: &RowView<'_>) -> Option<usize> {
     None
 }
 
-/// How many atoms of sets these rows have at this place.
-fn atoms_at(rows: &[RowView<'_>], place: usize) -> usize {
+/// How many values these rows have. Their lists are looked at, and no value.
+fn values_in(rows: &[RowView<'_>]) -> usize {
     let mut count: usize = 0;
     for row in rows {
         let stored = row.row;
-        if let Some(datum) = stored.columns.values().get(place) {
-            if let Some(atoms) = datum.atoms() {
-                count = count.saturating_add(atoms.len());
-            }
-        }
+        count = count.saturating_add(stored.columns.values().len());
     }
     count
 }
 
-/// Looks at the rows from this one on, at each first of so many, and makes room for about what is shown of them.
+/// About how many bytes these atoms take as text.
+fn room_of(atoms: &[Atom]) -> usize {
+    let mut room: usize = 0;
+    for atom in atoms {
+        let length = match atom {
+            Atom::Text(text) => text.as_str().len(),
+            _ => 0,
+        };
+        room = room.saturating_add(ROOM).saturating_add(length);
+    }
+    room
+}
+
+/// About how many bytes the atoms of sets that these rows have at this place take as text.
+fn room_at(rows: &[RowView<'_>], place: usize) -> usize {
+    let mut room: usize = 0;
+    for row in rows {
+        let stored = row.row;
+        if let Some(datum) = stored.columns.values().get(place) {
+            if let Some(atoms) = datum.atoms() {
+                room = room.saturating_add(room_of(atoms));
+            }
+        }
+    }
+    room
+}
+
+/// Looks at the rows from this one on, at each first of so many, and makes room for about what is shown of them. It first looks at
+/// all of their lists, and then at the values: a value can be fetched only when its list is there.
 pub(crate) fn look_ahead(
     text: &mut ArrayText,
     names: &[Text],
@@ -58,6 +83,9 @@ pub(crate) fn look_ahead(
         return Ok(());
     };
     let end = rows.len().min(at.saturating_add(AHEAD));
-    let atoms = atoms_at(&rows[at..end], place);
-    text.reserve(atoms.saturating_mul(ROOM))
+    let ahead = &rows[at..end];
+    if values_in(ahead) == 0 {
+        return Ok(());
+    }
+    text.reserve(room_at(ahead, place))
 }

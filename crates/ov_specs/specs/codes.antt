@@ -3,3 +3,4 @@ pub mod ValueCode
 pub mod SchemaCode
 pub mod ConditionCode
 pub mod MutationCode
+pub mod MonitorCode

@@ -1,4 +1,3 @@
 pub mod Requests
 pub mod Monitors
 pub mod Updates
-pub mod MonitorCode

@@ -4,7 +4,7 @@ use Rattle.std.specs.BTreeMap.{is_at}
 use Rattle.std.specs.Coded.{Coded, coded×, coded_ℕ, coded_list}
 use Rattle.std.specs.Map.{lookup}
 use Rattle.std.specs.Ordering.{nat_cmp}
-use Rattle.ov_specs.specs.monitors.MonitorCode.{monitor_code}
+use Rattle.ov_specs.specs.codes.MonitorCode.{monitor_code}
 use Rattle.ov_specs.specs.monitors.Monitors.{Monitor}
 use Rattle.ov_specs.specs.monitors.Requests.{MonitorFault}
 use Rattle.ov_watch.specs.declared.fault.WatchFault.{WatchFault}

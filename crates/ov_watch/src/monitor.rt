@@ -23,7 +23,7 @@ pub(crate) struct Monitor {
 
 impl Model for Monitor {
     ghost use Rattle.ov_specs.specs.monitors.Monitors as spec;
-    ghost use Rattle.ov_specs.specs.monitors.MonitorCode.{monitor_code};
+    ghost use Rattle.ov_specs.specs.codes.MonitorCode.{monitor_code};
 
     ghost Value = { spec.Monitor };
 

@@ -34,7 +34,7 @@ impl Model for Monitors {
     ghost use Rattle.std.specs.Coded.{coded_list};
     ghost use Rattle.std.specs.List.{AllByRecursion};
     ghost use Rattle.ov_specs.specs.monitors.Monitors as spec;
-    ghost use Rattle.ov_specs.specs.monitors.MonitorCode.{monitor_code};
+    ghost use Rattle.ov_specs.specs.codes.MonitorCode.{monitor_code};
     ghost use Rattle.ov_specs.specs.wire.Frame.{frame};
 
     ghost Value = { List spec.Monitor };

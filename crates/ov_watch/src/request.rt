@@ -32,7 +32,7 @@ pub(crate) struct MonitorRequest {
 
 impl Model for MonitorRequest {
     ghost use Rattle.ov_specs.specs.monitors.Requests as spec;
-    ghost use Rattle.ov_specs.specs.monitors.MonitorCode.{request_code};
+    ghost use Rattle.ov_specs.specs.codes.MonitorCode.{request_code};
     ghost use Rattle.ov_watch.specs.Views.{choice_view, select_view};
 
     ghost Value = { spec.MonitorRequest };

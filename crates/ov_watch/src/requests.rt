@@ -22,7 +22,7 @@ pub(crate) struct TableRequests {
 impl Model for TableRequests {
     ghost use Rattle.std.specs.Coded.{coded×, coded_ℕ, coded_list};
     ghost use Rattle.ov_specs.specs.monitors.Requests as spec;
-    ghost use Rattle.ov_specs.specs.monitors.MonitorCode.{request_code};
+    ghost use Rattle.ov_specs.specs.codes.MonitorCode.{request_code};
 
     ghost Value = { spec.TableRequests };
 
@@ -111,7 +111,7 @@ fn each_request(alloc: Global, items: &[Value]) -> Result<Option<Vec<MonitorRequ
 
 /// Whether the requests name a column twice.
 fn name_twice(alloc: Global, requests: &[MonitorRequest]) -> Result<bool, AllocError>
-    ensures { IfOk result (λ b. b ≡ has_twice (spec.names_in requests.now)) }
+    ensures { IfOk result (λ b. b ≡ has_twice (spec.requested_columns requests.now)) }
 {
     let names = names_in(alloc, requests)?;
     has_twice(alloc, names.as_slice())
@@ -119,7 +119,7 @@ fn name_twice(alloc: Global, requests: &[MonitorRequest]) -> Result<bool, AllocE
 
 /// The columns that the requests name, one request after another.
 fn names_in(alloc: Global, requests: &[MonitorRequest]) -> Result<Vec<&Text>, AllocError>
-    ensures { IfOk result (λ v. map (λ t. t.now) v.items ≡ spec.names_in requests.now) }
+    ensures { IfOk result (λ v. map (λ t. t.now) v.items ≡ spec.requested_columns requests.now) }
 {
     let mut names = Vec::new(alloc);
     for request in requests {

@@ -26,11 +26,11 @@ pub(crate) struct MonitoredTable {
 impl Model for MonitoredTable {
     ghost use Rattle.std.specs.Prelude.{option_map};
     ghost use Rattle.ov_specs.specs.monitors.Requests as spec;
-    ghost use Rattle.ov_specs.specs.monitors.MonitorCode.{table_code};
+    ghost use Rattle.ov_specs.specs.codes.MonitorCode.{monitored_table_code};
 
     ghost Value = { spec.MonitoredTable };
 
-    ghost coded = { table_code };
+    ghost coded = { monitored_table_code };
 
     ghost view = { λ t. record { table = t.table; initial = option_map (λ v. v.items) t.initial; insert = option_map (λ v. v.items) t.inserted; delete = option_map (λ v. v.items) t.deleted; modify = option_map (λ v. v.items) t.modified } };
 }
@@ -78,7 +78,7 @@ fn add_table(tables: &mut Vec<MonitoredTable>, table: MonitoredTable) -> Result<
 
 /// Whether the table has all columns that the requests name.
 fn are_known(table: &Table, requests: &[MonitorRequest]) -> bool
-    ensures { result ≡ list_all (contains_key table.now.columns) (spec.names_in requests.now) }
+    ensures { result ≡ list_all (contains_key table.now.columns) (spec.requested_columns requests.now) }
 {
     for request in requests {
         if !has_columns(table, request.names()) {

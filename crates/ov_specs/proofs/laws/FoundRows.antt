@@ -12,7 +12,7 @@ use Rattle.std.proofs.lemmas.Slice.Eq.{bytes_eq-Decides}
 use Rattle.serde_json.specs.Data.{Items}
 use Rattle.ov_specs.specs.operations.Conditions.{Condition}
 use Rattle.ov_specs.specs.operations.MatchingRows.{put_rows, without_rows, matching, is_matching}
-use Rattle.ov_specs.specs.operations.NamedUuids.{place_declared, id_at, names_of, inserts_before}
+use Rattle.ov_specs.specs.operations.NamedUuids.{place_declared, id_at, uuids_named, inserts_before}
 use Rattle.ov_specs.specs.operations.OpOutcome.{OpContext}
 use Rattle.ov_specs.specs.rows.Database.{Columns, Row, Database}
 use Rattle.ov_specs.specs.rows.Lines.{LineKey, line_cmp}
@@ -31,7 +31,7 @@ got [] i id are h = cc
 got (x ∷ ids) zero id are h = subst (λ y. is_uuid y ≡ true) (same_Some x id h) (and_parts (is_uuid x) (list_all is_uuid ids) are).0
 got (x ∷ ids) (suc i) id are h = got ids i id (and_parts (is_uuid x) (list_all is_uuid ids) are).1 h
 
-pub names_are : (ids : List Uuid) (operations : Items) → list_all is_uuid ids ≡ true → AreUuids (names_of ids operations)
+pub names_are : (ids : List Uuid) (operations : Items) → list_all is_uuid ids ≡ true → AreUuids (uuids_named ids operations)
 names_are ids operations are name id h = by (place_declared name operations) h
   where
     by : (o : Option ℕ) → option_and_then (id_at ids operations) o ≡ Some id → is_uuid id ≡ true

@@ -37,7 +37,7 @@ pub data Event : Type 0 where
   Close : (session : ℕ) (cause : Cause) → Event
   Tick : Event
 
--- what came of an attempt: the store kept its changes, had no room for them, or failed; or memory was refused
+-- what came of an attempt: the store kept its changes, refused them for memory or their size, or failed; or memory was refused
 pub data Outcome : Type 0 where
   Committed : Outcome
   Exhausted : Outcome
@@ -341,7 +341,7 @@ abbrev pub updates_sent : Database → Database → List Session → List Sent
 updates_sent before after sessions = flat_map (λ n. to_session n.serial (map update_note (all_updates before after n.monitors))) sessions
 
 -- What comes of the store's answer: where it keeps the change, the database is the new one, and the monitors are told of it before
--- the reply; where it has no room, nothing is changed; where it fails, the database stays and is sealed.
+-- the reply; where it refuses the change for memory or its size, nothing is changed; where it fails, the database stays and is sealed.
 abbrev pub commits : State → ℕ → Data → Items → Database → Option Outcome → Option Stepped
 commits s session id results database (Some Committed) = Some (record { state = record s { database = database }; sent = updates_sent s.database database s.sessions ++ results_to session id results })
 commits s session id results database (Some Exhausted) = Some (record { state = s; sent = results_to session id (exhausted_results results) })

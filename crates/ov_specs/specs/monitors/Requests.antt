@@ -90,12 +90,12 @@ one_or_each None d = option_map (λ r. r ∷ []) (request_read d)
 one_or_each (Some items) d = each_read request_read items
 
 -- the columns that the requests name
-abbrev pub names_in : List MonitorRequest → List (List ℕ)
-names_in requests = flat_map (λ r. unwrap_or r.columns []) requests
+abbrev pub requested_columns : List MonitorRequest → List (List ℕ)
+requested_columns requests = flat_map (λ r. unwrap_or r.columns []) requests
 
 -- the requests, where they name no column twice
 abbrev pub naming_once : List MonitorRequest → Option (List MonitorRequest)
-naming_once requests = if has_twice (names_in requests) then None else Some requests
+naming_once requests = if has_twice (requested_columns requests) then None else Some requests
 
 -- the requests for a table (RFC 7047, 4.1.5, <monitor-requests>)
 abbrev pub table_requests_read : Data → Option (List MonitorRequest)
@@ -143,7 +143,7 @@ monitored table t = record {
 -- The table is one of the schema's, and has the columns that are named.
 abbrev pub monitored_table : Option Table → TableRequests → Result MonitoredTable MonitorFault
 monitored_table None t = Err UnknownTable
-monitored_table (Some table) t = if list_all (contains_key table.columns) (names_in t.1) then Ok (monitored table t) else Err UnknownColumn
+monitored_table (Some table) t = if list_all (contains_key table.columns) (requested_columns t.1) then Ok (monitored table t) else Err UnknownColumn
 
 -- a table in front of the others, or the first fault
 abbrev pub and_table : Result MonitoredTable MonitorFault → Result (List MonitoredTable) MonitorFault → Result (List MonitoredTable) MonitorFault

@@ -33,5 +33,5 @@ id_at ids operations place = slice_get ids (inserts_before place operations)
 
 -- What a name stands for in the whole transaction, also before the operation that declares it: the row of the first insert
 -- with this "uuid-name" (RFC 7047, 5.1, <named-uuid>).
-abbrev pub names_of : List Uuid → Items → Names
-names_of ids operations name = option_and_then (id_at ids operations) (place_declared name operations)
+abbrev pub uuids_named : List Uuid → Items → Names
+uuids_named ids operations name = option_and_then (id_at ids operations) (place_declared name operations)

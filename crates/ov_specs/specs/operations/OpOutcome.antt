@@ -3,7 +3,7 @@ use Rattle.std.specs.Prelude.{ℕ, List, Bool, Option, Some, None, codes, Result
 use Rattle.std.specs.FinMap.{get}
 use Rattle.serde_json.specs.Data.{Data, object, Items, no_members}
 use Rattle.ov_specs.specs.operations.Errors.{OpError, SyntaxError, UnknownTable}
-use Rattle.ov_specs.specs.operations.NamedUuids.{names_of}
+use Rattle.ov_specs.specs.operations.NamedUuids.{uuids_named}
 use Rattle.ov_specs.specs.operations.Members.{text_at}
 use Rattle.ov_specs.specs.rows.Database.{Database}
 use Rattle.ov_specs.specs.schema.SchemaTypes.{Table, Schema}
@@ -33,7 +33,7 @@ pub data OpOutcome : Type 0 where
 
 -- what a name stands for in the transaction (RFC 7047, 5.1, <named-uuid>)
 abbrev pub names_in : OpContext → Names
-names_in c = names_of c.ids c.operations
+names_in c = uuids_named c.ids c.operations
 
 -- the result {} (RFC 7047, 5.2.6, 5.2.7 and 5.2.9)
 abbrev pub empty_result : Data

@@ -71,7 +71,7 @@ and_item (item e items) d = item e (and_item items d)
 abbrev pub and_error : Items → OpError → Items
 and_error results error = and_item results (error_tree error)
 
--- the results where the store has no room for the changes
+-- the results where the store refuses the changes for memory or their size (RFC 7047, 4.1.3)
 abbrev pub exhausted_results : Items → Items
 exhausted_results results = and_error results ResourcesExhausted
 

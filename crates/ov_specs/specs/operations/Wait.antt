@@ -29,14 +29,14 @@ natural (pos n) = Some n
 natural (negsuc n) = None
 
 -- the timeout that is there
-abbrev pub timeout_of : Option ℕ → Result (Option ℕ) OpError
-timeout_of None = Err SyntaxError
-timeout_of (Some n) = Ok (Some n)
+abbrev pub known_timeout : Option ℕ → Result (Option ℕ) OpError
+known_timeout None = Err SyntaxError
+known_timeout (Some n) = Ok (Some n)
 
 -- "timeout" in milliseconds: an integer that is at least 0, which may be left out (RFC 7047, 5.2.6)
 abbrev pub timeout_read : Option Data → Result (Option ℕ) OpError
 timeout_read None = Ok None
-timeout_read (Some d) = timeout_of (option_and_then natural (option_and_then integer_read (as_number d)))
+timeout_read (Some d) = known_timeout (option_and_then natural (option_and_then integer_read (as_number d)))
 
 -- the columns that are compared; without "columns" all but `_uuid` and `_version` (RFC 7047, 5.2.6; the default is our own)
 abbrev pub compared_columns : Table → Option Data → Result (List (List ℕ)) OpError

@@ -5,4 +5,4 @@ use Rattle.ov_specs.specs.monitors.Requests as spec
 use Rattle.ov_watch.proofs.table.are_known.Given as goal
 
 abbrev pub invariant-loop-request : goal.invariant-loop-request
-invariant-loop-request l = list_all (contains_key l.table.columns) (spec.names_in l.requests) ≡ list_all (contains_key l.table.columns) (spec.names_in (drop l.request-index l.requests))
+invariant-loop-request l = list_all (contains_key l.table.columns) (spec.requested_columns l.requests) ≡ list_all (contains_key l.table.columns) (spec.requested_columns (drop l.request-index l.requests))
