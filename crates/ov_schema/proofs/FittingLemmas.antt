@@ -2,14 +2,17 @@
 use Rattle.std.proofs.Common.{◌≡◌, pos, List, Bool, true, false, ◌&&◌, Some, None, sym, ap, ◌∙◌}
 use Rattle.std.specs.List.{list_all, list_any}
 use Rattle.std.specs.Ordering.{eq_by_cmp}
-use Rattle.std.specs.FinMap.{contains_key, contains_key-keys, get-empty}
+use Rattle.std.specs.FinMap.{keys, contains_key, contains_key-keys, get-empty}
 use Rattle.std.specs.Prelude.{is_some}
 use Rattle.ov_specs.specs.values.Value.{Atom, atom_cmp, Datum, Atoms, Pairs, atoms_in, pairs_in, count}
 use Rattle.ov_specs.specs.schema.SchemaTypes.{ColumnType}
 use Rattle.ov_specs.specs.schema.Fitting.{is_between, atom_fits, value_fits, fits}
 use Rattle.ov_schema.specs.Sets.{set_in}
-use Rattle.ov_schema.proofs.ChoiceLemmas.{keys-atoms_in}
 use Rattle.std.proofs.lemmas.Option.{same_Some}
+
+keys-atoms_in : (d : Datum) (atoms : List Atom) → Some atoms ≡ atoms_in d → atoms ≡ keys (set_in d)
+keys-atoms_in (Atoms m) atoms is = cc
+keys-atoms_in (Pairs m) atoms is = cc
 
 pub contains_key-atoms_in : (d : Datum) (a : Atom) (atoms : List Atom) → Some atoms ≡ atoms_in d → list_any (eq_by_cmp atom_cmp a) atoms ≡ contains_key (set_in d) a
 contains_key-atoms_in d a atoms is = ap (list_any (eq_by_cmp atom_cmp a)) (keys-atoms_in d atoms is) ∙ sym (contains_key-keys (set_in d) a)

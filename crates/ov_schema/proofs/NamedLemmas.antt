@@ -1,5 +1,5 @@
 -- Items by their names, as the finite map that they make.
-use Rattle.std.proofs.Common.{◌≡◌, ℕ, zero, suc, ◌+◌, ◌<◌, List, [], ◌∷◌, ◌++◌, map, length, drop, get_or, true, false, cond, T, ◌&&◌, Some, String, Global, refl, sym, ap, ◌∙◌, add-one, arith, subst, Less, Equal, Greater}
+use Rattle.std.proofs.Common.{◌≡◌, ℕ, zero, suc, ◌+◌, ◌<◌, List, [], ◌∷◌, ◌++◌, map, length, drop, get_or, true, false, cond, T, Some, String, Global, refl, sym, ap, ◌∙◌, add-one, arith, subst, Less, Equal, Greater}
 use Rattle.std.proofs.Math.Seq.{drop-cons}
 use Rattle.std.proofs.lemmas.List.{map-append}
 use Rattle.std.proofs.lemmas.Map.Text.{is_eq-slice_cmp}

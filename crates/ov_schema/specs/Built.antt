@@ -1,18 +1,14 @@
--- What is built of the members of a schema, each with its name.
-use Rattle.std.specs.Prelude.{ℕ, Bool, List, Vec, map}
+-- The parts of a table and of a schema, as those of the definitions.
+use Rattle.std.specs.Prelude.{ℕ, List, Vec, Option, map}
 use Rattle.std.specs.declared.alloc.Global.{Global}
-use Rattle.ov_specs.specs.schema.SchemaShape as shape
-use Rattle.ov_specs.specs.schema.SchemaTypes.{Column, Table}
-use Rattle.ov_specs.specs.schema.Schema.{accepted_column, accepted_table}
-
--- a column with its name
-abbrev pub named_column_of : List ℕ × shape.ColumnShape → List ℕ × Column
-named_column_of c = (c.0, accepted_column c.1)
-
--- a table with its name
-abbrev pub named_table_of : Bool → List ℕ × shape.TableShape → List ℕ × Table
-named_table_of some_root t = (t.0, accepted_table some_root t.1)
+use Rattle.std.specs.FinMap.{from_entries}
+use Rattle.serde_json.specs.Data.{Data}
+use Rattle.ov_specs.specs.schema.SchemaTypes.{Table, Schema}
 
 -- lists of texts
 abbrev pub indexes_in : List (Vec (List ℕ) Global) → List (List (List ℕ))
 indexes_in indexes = map (λ index. index.items) indexes
+
+-- the schema of these parts, read of the tree
+abbrev pub schema_of_parts : List ℕ → Option (List ℕ) → List (List ℕ × Table) → Data → Schema
+schema_of_parts name version tables tree = record { name = name; version = version; tables = from_entries tables; tree = tree }

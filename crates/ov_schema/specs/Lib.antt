@@ -1,9 +1,3 @@
-pub mod ShapeViews
 pub mod Sets
-pub mod Flaws
-pub mod FaultViews
-pub mod Refusals
 pub mod NamedViews
 pub mod Built
-pub mod SchemaMembers
-pub mod Texts

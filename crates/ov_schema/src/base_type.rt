@@ -1,21 +1,16 @@
-ghost use Rattle.std.specs.Prelude.{◌≡◌, IfOk};
+ghost use Rattle.std.specs.Prelude.{◌≡◌, None, option_map};
 ghost use Rattle.std.specs.List.{list_any};
 ghost use Rattle.std.specs.Option.{option_copied};
 ghost use Rattle.std.specs.FinMap.{contains_key};
 ghost use Rattle.std.specs.Ordering.{eq_by_cmp};
 ghost use Rattle.ov_specs.specs.values.Value.{atom_cmp};
-ghost use Rattle.ov_specs.specs.schema.Schema.{accepted_base, reference_of};
 ghost use Rattle.ov_specs.specs.schema.Fitting.{in_range, atom_fits};
 ghost use Rattle.ov_atoms.specs.Views.{kind_view, atom_view, atoms_view};
-ghost use Rattle.ov_schema.specs.ShapeViews.{base_view};
 ghost use Rattle.ov_schema.specs.Sets.{set_in};
 
 use crate::limits::{char_count, is_between};
-use crate::parse::base_shape::BaseShape;
-use crate::parse::choices::read_choices;
 use ov_atoms::{Atom, AtomKind, Datum};
 use ov_base::Text;
-use std::alloc::{AllocError, Global};
 use std::marker::Model;
 
 /// The table that an identifier refers to, and how (RFC 7047, 3.2, `<base-type>`).
@@ -38,7 +33,7 @@ impl Model for Reference {
 
 /// An atomic type with its constraints (RFC 7047, 3.2, `<base-type>`).
 #[derive(Drop)]
-pub(crate) struct BaseType {
+pub struct BaseType {
     kind: AtomKind,
     choices: Option<Datum>,
     least: Option<i64>,
@@ -63,6 +58,13 @@ impl Model for BaseType {
 }
 
 impl Reference {
+    /// The reference to the table of this name.
+    pub fn new(table: Text, is_strong: bool) -> Reference
+        ensures { result ≡ record { table = table; is_strong = is_strong } }
+    {
+        Reference { table, is_strong }
+    }
+
     /// The name of the table.
     pub fn table(&self) -> &str
         ensures { result.now ≡ self.now.table }
@@ -79,21 +81,34 @@ impl Reference {
 }
 
 impl BaseType {
-    /// The base type of these members.
-    pub(crate) fn build(alloc: Global, shape: &BaseShape<'_>) -> Result<BaseType, AllocError>
-        ensures { IfOk result (λ b. b ≡ accepted_base (base_view shape.now)) }
+    /// The base type of these parts. The choices are a set: a map allows no atom.
+    pub fn new(
+        kind: AtomKind,
+        choices: Option<Datum>,
+        least: Option<i64>,
+        greatest: Option<i64>,
+        shortest: Option<i64>,
+        longest: Option<i64>,
+        refers: Option<Reference>,
+    ) -> BaseType
+        ensures { result ≡ record { kind = kind_view kind; choices = option_map set_in choices; least = least; greatest = greatest; shortest = shortest; longest = longest; refers = refers } }
     {
-        let choices = read_choices(alloc, shape.of, shape.choices)?;
-        let refers = reference_of(alloc, shape)?;
-        Ok(BaseType {
-            kind: shape.of.kind(),
+        BaseType {
+            kind,
             choices,
-            least: shape.least,
-            greatest: shape.greatest,
-            shortest: shape.shortest,
-            longest: shape.longest,
+            least,
+            greatest,
+            shortest,
+            longest,
             refers,
-        })
+        }
+    }
+
+    /// The base type that is only a kind, without constraints.
+    pub(crate) fn plain(kind: AtomKind) -> BaseType
+        ensures { result ≡ record { kind = kind_view kind; choices = None; least = None; greatest = None; shortest = None; longest = None; refers = None } }
+    {
+        BaseType::new(kind, None, None, None, None, None, None)
     }
 
     /// The table that its identifiers refer to, if they do.
@@ -137,18 +152,6 @@ impl BaseType {
             Atom::Boolean(_) => true,
             Atom::Uuid(_) => true,
         }
-    }
-}
-
-fn reference_of(alloc: Global, shape: &BaseShape<'_>) -> Result<Option<Reference>, AllocError>
-    ensures { IfOk result (λ o. o ≡ reference_of (base_view shape.now)) }
-{
-    match shape.ref_table {
-        Some(table) => Ok(Some(Reference {
-            table: Text::from_str(alloc, table)?,
-            is_strong: shape.is_strong(),
-        })),
-        None => Ok(None),
     }
 }
 

@@ -1,16 +1,13 @@
 ghost use Rattle.std.specs.Prelude.{◌≡◌, IfOk, option_and_then};
 ghost use Rattle.std.specs.Option.{option_copied};
 ghost use Rattle.ov_specs.specs.schema.Fitting.{fits, default_of};
-ghost use Rattle.ov_specs.specs.schema.Schema.{accepted_column, own_column};
+ghost use Rattle.ov_specs.specs.schema.Schema.{own_column};
 ghost use Rattle.ov_specs.specs.schema.SchemaTypes.{kinds_of};
 ghost use Rattle.ov_specs.specs.operations.Conditions.{is_scalar};
 ghost use Rattle.ov_atoms.specs.Views.{kinds_view};
-ghost use Rattle.ov_schema.specs.ShapeViews.{column_view};
 
-use crate::base_type::Reference;
+use crate::base_type::{BaseType, Reference};
 use crate::column_type::ColumnType;
-use crate::parse::base_shape::{BaseShape, TypeName};
-use crate::parse::type_shape::{ColumnShape, TypeShape};
 use ov_atoms::{AtomKind, Datum, Kinds};
 use std::alloc::{AllocError, Global};
 use std::marker::Model;
@@ -35,27 +32,23 @@ impl Model for Column {
 }
 
 impl Column {
-    /// The column of these members.
-    pub(crate) fn build(alloc: Global, shape: &ColumnShape<'_>) -> Result<Column, AllocError>
-        ensures { IfOk result (λ c. c ≡ accepted_column (column_view shape.now)) }
+    /// The column of these parts.
+    pub fn new(type_of: ColumnType, is_ephemeral: bool, is_mutable: bool) -> Column
+        ensures { result ≡ record { type_of = type_of; is_ephemeral = is_ephemeral; is_mutable = is_mutable } }
     {
-        Ok(Column {
-            type_of: ColumnType::build(alloc, &shape.type_of)?,
-            is_ephemeral: shape.is_ephemeral,
-            is_mutable: shape.is_mutable || shape.type_of.is_weak(),
-        })
+        Column {
+            type_of,
+            is_ephemeral,
+            is_mutable,
+        }
     }
 
     /// `_uuid` or `_version`: one identifier, which clients don't change.
-    pub(crate) fn own(alloc: Global) -> Result<Column, AllocError>
-        ensures { IfOk result (λ c. c ≡ own_column) }
+    pub(crate) fn own() -> Column
+        ensures { result ≡ own_column }
     {
-        let shape = ColumnShape {
-            type_of: TypeShape::plain(BaseShape::plain(TypeName::Kind(AtomKind::Uuid))),
-            is_ephemeral: false,
-            is_mutable: false,
-        };
-        Column::build(alloc, &shape)
+        let type_of = ColumnType::new(BaseType::plain(AtomKind::Uuid), None, 1, Some(1));
+        Column::new(type_of, false, false)
     }
 
     /// What the column holds: atoms of one kind, or pairs of two (RFC 7047, 3.2, `<type>`).

@@ -1,17 +1,13 @@
-ghost use Rattle.std.specs.Prelude.{◌≡◌, ◌&&◌, IfOk, option_map, option_and_then};
+ghost use Rattle.std.specs.Prelude.{◌≡◌, ◌&&◌, IfOk, option_and_then};
 ghost use Rattle.std.specs.List.{list_all};
 ghost use Rattle.std.specs.Option.{option_copied};
-ghost use Rattle.ov_specs.specs.schema.Schema.{accepted_base, max_of, accepted_type};
 ghost use Rattle.ov_specs.specs.schema.SchemaTypes.{kinds_of};
 ghost use Rattle.ov_specs.specs.operations.Conditions.{is_scalar};
 ghost use Rattle.ov_specs.specs.schema.Fitting.{atom_fits, value_fits, fits, default_of};
 ghost use Rattle.ov_atoms.specs.Views.{kinds_view, atom_view, atoms_view, pairs_view};
-ghost use Rattle.ov_schema.specs.ShapeViews.{base_view, most_view, type_view};
 
 use crate::base_type::{BaseType, Reference};
 use crate::limits::is_between;
-use crate::parse::base_shape::BaseShape;
-use crate::parse::type_shape::{Most, TypeShape};
 use ov_atoms::{Atom, Datum, Kinds};
 use std::alloc::{AllocError, Global};
 use std::marker::Model;
@@ -19,7 +15,7 @@ use std::marker::Model;
 /// The type of a column (RFC 7047, 3.2, `<type>`): a map has a type for its values, and no greatest count is
 /// "unlimited".
 #[derive(Drop)]
-pub(crate) struct ColumnType {
+pub struct ColumnType {
     key: BaseType,
     value: Option<BaseType>,
     min: i64,
@@ -38,16 +34,16 @@ impl Model for ColumnType {
 }
 
 impl ColumnType {
-    /// The type of these members.
-    pub(crate) fn build(alloc: Global, shape: &TypeShape<'_>) -> Result<ColumnType, AllocError>
-        ensures { IfOk result (λ t. t ≡ accepted_type (type_view shape.now)) }
+    /// The type of these parts.
+    pub fn new(key: BaseType, value: Option<BaseType>, min: i64, max: Option<i64>) -> ColumnType
+        ensures { result ≡ record { key = key; value = value; min = min; max = max } }
     {
-        Ok(ColumnType {
-            key: BaseType::build(alloc, &shape.key)?,
-            value: optional_type(alloc, &shape.value)?,
-            min: shape.min.unwrap_or(1),
-            max: max_of(shape.max),
-        })
+        ColumnType {
+            key,
+            value,
+            min,
+            max,
+        }
     }
 
     /// The table that the atoms, or the keys of a map, refer to, if they do.
@@ -150,28 +146,5 @@ impl ColumnType {
         } else {
             Ok(Datum::nothing_of(alloc, self.kinds()))
         }
-    }
-}
-
-fn optional_type(
-    alloc: Global,
-    shape: &Option<BaseShape<'_>>,
-) -> Result<Option<BaseType>, AllocError>
-    ensures { IfOk result (λ o. o ≡ option_map accepted_base (option_map base_view shape.now)) }
-{
-    match shape {
-        Some(shape) => Ok(Some(BaseType::build(alloc, shape)?)),
-        None => Ok(None),
-    }
-}
-
-/// 1 where nothing is said, none where it is "unlimited".
-fn max_of(max: Option<Most>) -> Option<i64>
-    ensures { result ≡ max_of (option_map most_view max) }
-{
-    match max {
-        Some(Most::AtMost(count)) => Some(count),
-        Some(Most::Unlimited) => None,
-        None => Some(1),
     }
 }

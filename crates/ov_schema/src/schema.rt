@@ -1,65 +1,50 @@
-ghost use Rattle.std.specs.Prelude.{◌≡◌, IfOk, IfErr, map, Ok, option_map};
+ghost use Rattle.std.specs.Prelude.{◌≡◌};
 ghost use Rattle.std.specs.Option.{option_copied};
 ghost use Rattle.std.specs.FinMap.{get, from_entries};
-ghost use Rattle.serde_json.specs.Data.{Data};
-ghost use Rattle.serde_json.specs.View.{view};
-ghost use Rattle.ov_specs.specs.schema.SchemaShape.{schema_shape};
-ghost use Rattle.ov_specs.specs.schema.Schema.{IsAccepted, judged, accepted_schema, accepted};
-ghost use Rattle.ov_schema.specs.Built.{named_table_of};
-ghost use Rattle.ov_schema.specs.SchemaMembers.{schema_of_members};
-ghost use Rattle.ov_schema.specs.Refusals.{RefusesWith, JudgesWith};
-ghost use Rattle.ov_schema.specs.ShapeViews.{named_table_view, schema_view};
+ghost use Rattle.ov_specs.specs.schema.Schema.{IsAccepted};
+ghost use Rattle.ov_schema.specs.Built.{schema_of_parts};
 
-use crate::fault::SchemaFault;
 use crate::named::find_named;
-use crate::parse::schema_shape::SchemaShape;
-use crate::parse::table_shape::TableShape;
 use crate::table::Table;
 use ov_base::{Text, Tree};
-use serde_json::Value;
-use std::alloc::{AllocError, Global};
 use std::marker::Model;
 
 /// A database's schema (RFC 7047, 3.2), with the whole tree that it was read from.
 #[derive(Drop)]
 pub struct Schema {
-    parts: SchemaMembers,
-    tree: Tree,
-}
-
-/// What is read of a schema's tree.
-#[derive(Drop)]
-pub(crate) struct SchemaMembers {
     name: Text,
     version: Option<Text>,
     tables: Vec<(Text, Table)>,
+    tree: Tree,
 }
 
 impl Model for Schema {
     ghost use Rattle.ov_specs.specs.schema.SchemaTypes as types;
     ghost use Rattle.ov_specs.specs.codes.SchemaCode.{schema_code};
     ghost use Rattle.ov_specs.specs.schema.Schema.{IsAccepted};
-    ghost use Rattle.ov_schema.specs.SchemaMembers.{schema_of_members};
+    ghost use Rattle.ov_schema.specs.Built.{schema_of_parts};
 
     ghost Value = { types.Schema };
 
     ghost coded = { schema_code };
 
-    ghost view = { λ s. schema_of_members s.tree s.parts };
+    ghost view = { λ s. schema_of_parts s.name s.version s.tables.items s.tree };
 
-    ghost invariant = { λ s. IsAccepted (schema_of_members s.tree s.parts) };
+    ghost invariant = { λ s. IsAccepted (schema_of_parts s.name s.version s.tables.items s.tree) };
 }
 
 impl Schema {
-    /// The schema that a tree is. The least refusal that applies anywhere in the tree is answered; `Memory` may be
-    /// answered to any tree. Members that a schema does not have are passed over, and kept in `tree`.
-    pub fn read(alloc: Global, tree: Tree) -> Result<Schema, SchemaFault>
-        ensures ok { IfOk result (λ s. accepted tree ≡ Ok s) }
-        ensures tree { IfOk result (λ s. s.tree ≡ tree) }
-        ensures refused { IfErr result (λ fault. RefusesWith tree fault) }
+    /// The schema of these parts, which is what the tree is read as.
+    pub fn new(name: Text, version: Option<Text>, tables: Vec<(Text, Table)>, tree: Tree) -> Schema
+        requires { IsAccepted (schema_of_parts name version tables.items tree) }
+        ensures { result ≡ schema_of_parts name version tables.items tree }
     {
-        let parts = SchemaMembers::read(alloc, tree.as_value())?;
-        Ok(Schema { parts, tree })
+        Schema {
+            name,
+            version,
+            tables,
+            tree,
+        }
     }
 
     /// Tells contracts that the schema is what its own tree is read as. It does nothing.
@@ -73,14 +58,14 @@ impl Schema {
     pub fn name(&self) -> &Text
         ensures { result.now ≡ self.now.name }
     {
-        &self.parts.name
+        &self.name
     }
 
     /// The version, three numbers with dots between, or none where the schema has none.
     pub fn version(&self) -> Option<&Text>
         ensures { option_copied result ≡ self.now.version }
     {
-        self.parts.version.as_ref()
+        self.version.as_ref()
     }
 
     /// The tree that was read, whole.
@@ -94,65 +79,13 @@ impl Schema {
     pub fn tables(&self) -> &[(Text, Table)]
         ensures { from_entries result.now ≡ self.now.tables }
     {
-        self.parts.tables.as_slice()
+        self.tables.as_slice()
     }
 
     /// The table of this name. The tables are looked through one by one.
     pub fn table(&self, name: &str) -> Option<&Table>
         ensures { option_copied result ≡ get self.now.tables name.now }
     {
-        find_named(self.parts.tables.as_slice(), name)
+        find_named(self.tables.as_slice(), name)
     }
-}
-
-impl SchemaMembers {
-    /// What the tree says, unless it is refused.
-    fn read(alloc: Global, tree: &Value) -> Result<SchemaMembers, SchemaFault>
-        ensures ok { IfOk result (λ p. judged (view tree.now) (schema_shape (view tree.now)) ≡ Ok (schema_of_members (view tree.now) p)) }
-        ensures refused { IfErr result (λ fault. JudgesWith (view tree.now) fault) }
-    {
-        let Some(shape) = SchemaShape::read(alloc, tree)? else {
-            return Err(SchemaFault::Syntax);
-        };
-        match shape.refusal(alloc)? {
-            Some(fault) => Err(fault),
-            None => Ok(SchemaMembers::build(alloc, &shape)?),
-        }
-    }
-
-    /// The parts of a schema that has these members.
-    fn build(alloc: Global, shape: &SchemaShape<'_>) -> Result<SchemaMembers, AllocError>
-        ensures { IfOk result (λ p. (d : Data) → schema_of_members d p ≡ accepted_schema d (schema_view shape.now)) }
-    {
-        Ok(SchemaMembers {
-            name: Text::from_str(alloc, shape.name)?,
-            version: optional_text(alloc, shape.version)?,
-            tables: tables_of(alloc, shape.tables.as_slice(), shape.has_root())?,
-        })
-    }
-}
-
-fn optional_text(alloc: Global, text: Option<&str>) -> Result<Option<Text>, AllocError>
-    ensures { IfOk result (λ o. o ≡ option_map (λ t. t.now) text.entry) }
-{
-    match text {
-        Some(text) => Ok(Some(Text::from_str(alloc, text)?)),
-        None => Ok(None),
-    }
-}
-
-/// The tables with their names.
-fn tables_of(
-    alloc: Global,
-    shapes: &[(&str, TableShape<'_>)],
-    some_root: bool,
-) -> Result<Vec<(Text, Table)>, AllocError>
-    ensures { IfOk result (λ v. v.items ≡ map (named_table_of some_root) (map named_table_view shapes.now)) }
-{
-    let mut tables = Vec::new(alloc);
-    for (name, shape) in shapes {
-        let table = Table::build(alloc, shape, some_root)?;
-        tables.push((Text::from_str(alloc, *name)?, table))?;
-    }
-    Ok(tables)
 }

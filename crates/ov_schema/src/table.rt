@@ -1,16 +1,13 @@
-ghost use Rattle.std.specs.Prelude.{◌≡◌, ◌++◌, ◌||◌, not, IfOk, map};
+ghost use Rattle.std.specs.Prelude.{◌≡◌, ◌++◌, IfOk, map};
 ghost use Rattle.std.specs.Option.{option_copied};
-ghost use Rattle.std.specs.FinMap.{get, entries};
+ghost use Rattle.std.specs.FinMap.{get, entries, from_entries};
 ghost use Rattle.ov_specs.specs.rows.RowNames.{row_names};
-ghost use Rattle.ov_specs.specs.schema.Schema.{own_column, own_columns, accepted_table};
-ghost use Rattle.ov_schema.specs.Built.{named_column_of, indexes_in};
+ghost use Rattle.ov_specs.specs.schema.Schema.{own_column, own_columns};
+ghost use Rattle.ov_schema.specs.Built.{indexes_in};
 ghost use Rattle.ov_schema.specs.NamedViews.{named_view};
-ghost use Rattle.ov_schema.specs.ShapeViews.{named_column_view, texts_view, indexes_view, table_view};
 
 use crate::column::Column;
 use crate::named::{ascending, find_named, find_near};
-use crate::parse::table_shape::TableShape;
-use crate::parse::type_shape::ColumnShape;
 use crate::row_names::names_of_row;
 use ov_base::{ColumnNames, Text};
 use std::alloc::{AllocError, Global};
@@ -48,21 +45,24 @@ impl Model for Table {
 }
 
 impl Table {
-    /// The table of these members. If no table is called a root table, each is one.
-    pub(crate) fn build(
+    /// The table of these parts, with `_uuid` and `_version` in front of the declared columns. Of two columns with one name the
+    /// first stays.
+    pub fn new(
         alloc: Global,
-        shape: &TableShape<'_>,
-        some_root: bool,
+        columns: Vec<(String, Column)>,
+        max_rows: Option<i64>,
+        is_root: bool,
+        indexes: Vec<Vec<Text>>,
     ) -> Result<Table, AllocError>
-        ensures { IfOk result (λ t. t ≡ accepted_table some_root (table_view shape.now)) }
+        ensures { IfOk result (λ t. t ≡ record { columns = from_entries (own_columns ++ map named_view columns.items); max_rows = max_rows; is_root = is_root; indexes = indexes_in indexes.items }) }
     {
-        let columns = ascending(alloc, columns_of(alloc, shape.columns.as_slice())?)?;
+        let columns = ascending(alloc, with_own(alloc, columns)?)?;
         Ok(Table {
             row_names: names_of_row(alloc, columns.as_slice())?,
             columns,
-            max_rows: shape.max_rows,
-            is_root: is_root(shape.is_root, some_root),
-            indexes: copy_indexes(alloc, shape.indexes.as_slice())?,
+            max_rows,
+            is_root,
+            indexes,
         })
     }
 
@@ -117,61 +117,23 @@ impl Table {
     }
 }
 
-/// Whether a table is a root table, by what it is called and by whether some table is called so.
-fn is_root(is_called_root: bool, some_root: bool) -> bool
-    ensures { result ≡ (is_called_root || not some_root) }
+/// The columns of every table, which no client may change, and then these.
+fn with_own(
+    alloc: Global,
+    columns: Vec<(String, Column)>,
+) -> Result<Vec<(String, Column)>, AllocError>
+    ensures { IfOk result (λ v. map named_view v.items ≡ own_columns ++ map named_view columns.items) }
 {
-    is_called_root || !some_root
-}
-
-/// The columns of every table, which no client may change.
-fn own_columns(alloc: Global) -> Result<Vec<(String, Column)>, AllocError>
-    ensures { IfOk result (λ v. map named_view v.items ≡ own_columns) }
-{
-    let mut columns = Vec::new(alloc);
-    columns.push(own_column(alloc, "_uuid")?)?;
-    columns.push(own_column(alloc, "_version")?)?;
-    Ok(columns)
+    let mut declared = columns;
+    let mut all = Vec::new(alloc);
+    all.push(own_column(alloc, "_uuid")?)?;
+    all.push(own_column(alloc, "_version")?)?;
+    all.append(&mut declared)?;
+    Ok(all)
 }
 
 fn own_column(alloc: Global, name: &str) -> Result<(String, Column), AllocError>
     ensures { IfOk result (λ c. named_view c ≡ (name.now, own_column)) }
 {
-    let column = Column::own(alloc)?;
-    Ok((String::from_str(alloc, name)?, column))
-}
-
-/// The own columns and then the declared ones.
-fn columns_of(
-    alloc: Global,
-    shapes: &[(&str, ColumnShape<'_>)],
-) -> Result<Vec<(String, Column)>, AllocError>
-    ensures { IfOk result (λ v. map named_view v.items ≡ own_columns ++ map named_column_of (map named_column_view shapes.now)) }
-{
-    let mut columns = own_columns(alloc)?;
-    for (name, shape) in shapes {
-        let column = Column::build(alloc, shape)?;
-        columns.push((String::from_str(alloc, *name)?, column))?;
-    }
-    Ok(columns)
-}
-
-fn copy_indexes(alloc: Global, indexes: &[Vec<&str>]) -> Result<Vec<Vec<Text>>, AllocError>
-    ensures { IfOk result (λ v. indexes_in v.items ≡ indexes_view indexes.now) }
-{
-    let mut copies = Vec::new(alloc);
-    for index in indexes {
-        copies.push(copy_texts(alloc, index.as_slice())?)?;
-    }
-    Ok(copies)
-}
-
-fn copy_texts(alloc: Global, texts: &[&str]) -> Result<Vec<Text>, AllocError>
-    ensures { IfOk result (λ v. v.items ≡ texts_view texts.now) }
-{
-    let mut copies = Vec::new(alloc);
-    for text in texts {
-        copies.push(Text::from_str(alloc, *text)?)?;
-    }
-    Ok(copies)
+    Ok((String::from_str(alloc, name)?, Column::own()))
 }

@@ -2,7 +2,7 @@ ghost use Rattle.std.specs.Prelude.{◌≡◌, Some, IfOk, codes};
 ghost use Rattle.serde_json.specs.Read.{read};
 
 use ov_core::Schema;
-use ov_schema::{SchemaFileFault, schema_of};
+use ov_schema_text::{SchemaFileFault, schema_of};
 use std::alloc::Global;
 
 /// The schema that is served where no other is named: switches and their ports.

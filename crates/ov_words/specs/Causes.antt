@@ -3,8 +3,8 @@ use Rattle.ov_words.specs.declared.ending.Ending.{Ending}
 use Rattle.ov_words.specs.declared.ending.Ending.TheVariants as ends
 use Rattle.ov_words.specs.declared.fault.WordFault.{WordFault}
 use Rattle.ov_words.specs.declared.fault.WordFault.TheVariants as words
-use Rattle.ov_schema.specs.declared.file_fault.SchemaFileFault.{SchemaFileFault}
-use Rattle.ov_schema.specs.declared.file_fault.SchemaFileFault.TheVariants as schemas
+use Rattle.ov_schema_text.specs.declared.file_fault.SchemaFileFault.{SchemaFileFault}
+use Rattle.ov_schema_text.specs.declared.file_fault.SchemaFileFault.TheVariants as schemas
 use Rattle.ov_keeper.specs.declared.fault.KeepFault.{KeepFault}
 use Rattle.ov_keeper.specs.declared.fault.KeepFault.TheVariants as keeping
 use Rattle.ov_db.specs.declared.fault.OpenFault.{OpenFault}

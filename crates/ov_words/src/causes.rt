@@ -7,7 +7,7 @@ use crate::ending::Ending;
 use crate::fault::WordFault;
 use ov_core::early::{KeepFault, OpenFault};
 use ov_core::{Cause, StepFault};
-use ov_schema::SchemaFileFault;
+use ov_schema_text::SchemaFileFault;
 
 /// Where the arguments give no settings.
 pub fn ending_of_words(fault: WordFault) -> Ending

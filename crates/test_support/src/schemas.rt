@@ -1,5 +1,6 @@
 use crate::tree_texts::tree;
 use ov_schema::Schema;
+use ov_schema_text::schema_of_tree;
 use std::alloc::Global;
 use std::test::Fail;
 
@@ -9,7 +10,7 @@ pub const NET: &str =
 
 /// The schema of a text.
 pub fn schema_of_text(alloc: Global, text: &str) -> Result<Schema, Fail> {
-    Ok(Schema::read(alloc, tree(alloc, text)?)?)
+    Ok(schema_of_tree(alloc, tree(alloc, text)?)?)
 }
 
 /// The schema Net.

@@ -1,4 +1,5 @@
-use ov_schema::{Schema, SchemaFileFault, schema_from, schema_of, text_of};
+use ov_schema::{Schema, text_of};
+use ov_schema_text::{SchemaFileFault, schema_from, schema_of};
 use std::alloc::Global;
 use std::io::ErrorKind;
 use std::test::Fail;

@@ -1,5 +1,6 @@
 use ov_base::Text;
 use ov_schema::{Schema, SchemaFault, Table};
+use ov_schema_text::schema_of_tree;
 use std::alloc::Global;
 use std::test::Fail;
 use test_support::{Scripted, agrees, compact, schema_of_text, tree};
@@ -56,7 +57,7 @@ struct Answers;
 
 impl Scripted for Answers {
     fn answer(&mut self, alloc: Global, command: &str) -> Result<String, Fail> {
-        match Schema::read(alloc, tree(alloc, command)?) {
+        match schema_of_tree(alloc, tree(alloc, command)?) {
             Ok(_) => Ok(String::from_str(alloc, "accepted")?),
             Err(fault) => Ok(format!(in alloc; "{fault:?}")?),
         }

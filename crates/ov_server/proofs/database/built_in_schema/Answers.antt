@@ -11,7 +11,7 @@ use Rattle.ov_specs.specs.wire.Tree.{has_real}
 use Rattle.std.specs.Str.{is_utf8}
 use Rattle.std.proofs.lemmas.Result.{IfOk-weaker}
 use Rattle.serde_json.specs.Read.{read}
-use Rattle.ov_schema.specs.Texts.{IsSchemaText}
+use Rattle.ov_schema_text.specs.Texts.{IsSchemaText}
 use Rattle.ov_server.specs.declared.database.TheConstants.{SCHEMA}
 use Rattle.ov_server.proofs.database.built_in_schema.Goals as goal
 

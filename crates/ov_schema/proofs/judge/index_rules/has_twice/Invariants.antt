@@ -1,7 +1,0 @@
-use Rattle.std.proofs.Common.{◌≡◌, drop}
-use Rattle.ov_specs.specs.schema.Schema.{has_twice}
-use Rattle.ov_schema.specs.ShapeViews.{texts_view}
-use Rattle.ov_schema.proofs.judge.index_rules.has_twice.Given as goal
-
-abbrev pub invariant-loop-at : goal.invariant-loop-at
-invariant-loop-at l = has_twice (texts_view l.names) ≡ has_twice (texts_view (drop l.at l.names))

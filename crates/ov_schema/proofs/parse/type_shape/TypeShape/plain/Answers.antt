@@ -1,5 +1,0 @@
-use Rattle.std.proofs.Common.{refl}
-use Rattle.ov_schema.proofs.parse.type_shape.TypeShape.plain.Goals as goal
-
-pub returns : goal.returns
-returns c = refl

@@ -1,9 +1,0 @@
-use Rattle.std.proofs.Common.{◌≡◌, ◌++◌, map, take}
-use Rattle.ov_specs.specs.schema.Schema.{own_columns}
-use Rattle.ov_schema.specs.Built.{named_column_of}
-use Rattle.ov_schema.specs.NamedViews.{named_view}
-use Rattle.ov_schema.specs.ShapeViews.{named_column_view}
-use Rattle.ov_schema.proofs.table.columns_of.Given as goal
-
-abbrev pub invariant-loop-name : goal.invariant-loop-name
-invariant-loop-name l = map named_view l.columns.items ≡ own_columns ++ map named_column_of (map named_column_view (take l.name-index l.shapes))

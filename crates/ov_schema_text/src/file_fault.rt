@@ -1,0 +1,31 @@
+use ov_schema::SchemaFault;
+use std::alloc::AllocError;
+use thiserror::Error;
+
+/// Why a file gives no schema.
+#[derive(Clone, Copy, Debug, PartialEq, Eq, Error)]
+pub enum SchemaFileFault {
+    /// The file is not there, or could not be read to its end.
+    #[error("the file of the schema can't be read")]
+    Unread,
+    /// The text is not UTF-8 or no JSON, or nests more than 127 levels deep.
+    #[error("the schema is no JSON")]
+    NotJson,
+    /// The tree is no schema.
+    #[error("{0}")]
+    Refused(SchemaFault),
+    /// A growth was refused.
+    #[error("out of memory")]
+    Memory,
+}
+
+impl From<AllocError> for SchemaFileFault {
+    ghost use Rattle.ov_schema_text.specs.declared.file_fault.SchemaFileFault.TheVariants.{Memory};
+    ghost use Rattle.std.specs.Prelude.{◌≡◌};
+
+    ghost from_gives = { λ _ e. e ≡ Memory };
+
+    fn from(_refused: AllocError) -> SchemaFileFault {
+        SchemaFileFault::Memory
+    }
+}
