@@ -7,7 +7,6 @@ pub mod Preparings
 pub mod Prepared
 pub mod Workings
 pub mod Asking
-pub mod Asked
 pub mod Counting
 pub mod Settlings
 pub mod Takings

@@ -14,7 +14,7 @@ use Rattle.ov_db.specs.KeptDatabase.{KeptDatabase}
 use Rattle.ov_outbox.specs.Frames.{waiting_for, PostsSent, HasSameFrames}
 use Rattle.ov_outbox.specs.Outbox.{Outbox}
 use Rattle.ov_sessions.specs.Sessions.{IsLeft, has_serial}
-use Rattle.ov_txn.specs.Waiting.{WaitingList, many}
+use Rattle.ov_requests.specs.Waiting.{WaitingList, many}
 use Rattle.ov_watch.specs.Watching.{Watching}
 use Rattle.ov_sessions.specs.declared.session.Session.{Session}
 use Rattle.ov_sessions.proofs.Keying.{still_all, still_others, left_then}

@@ -19,7 +19,7 @@ use Rattle.ov_outbox.specs.Frames.{WaitingFrames, waiting_for, PostsSent, HasSam
 use Rattle.ov_sessions.specs.Sessions.{OpenSessions}
 use Rattle.ov_sessions.specs.declared.session.Session.{Session}
 use Rattle.ov_sessions.proofs.Keying.{shut_without, still_others}
-use Rattle.ov_txn.specs.Drawing.{DrawsFrom}
+use Rattle.ov_requests.specs.Drawing.{DrawsFrom}
 use Rattle.ov_core.specs.declared.event.Attempt.{Attempt}
 use Rattle.ov_core.specs.declared.event.Entry.{Entry}
 use Rattle.ov_core.specs.declared.event.Stepped.TheVariants as answer

@@ -10,7 +10,7 @@ use Rattle.ov_specs.specs.wire.Message.{Message}
 use Rattle.ov_specs.proofs.laws.Happening.{take_done, take_settled, tick_settled}
 use Rattle.ov_outbox.specs.Frames.{waiting_for}
 use Rattle.ov_sessions.specs.Sessions.{without_serial}
-use Rattle.ov_txn.specs.Waiting.{WaitingList}
+use Rattle.ov_requests.specs.Waiting.{WaitingList}
 use Rattle.ov_watch.specs.Watching.{monitors_at}
 use Rattle.ov_sessions.proofs.Keying.{still_all, still_others, left_then}
 use Rattle.ov_core.specs.declared.event.Attempt.{Attempt}

@@ -26,15 +26,16 @@ use Rattle.ov_outbox.specs.Outbox.{Outbox}
 use Rattle.ov_watch.specs.Watching.{Watching, monitors_at, WatchesWith, SameWatching}
 use Rattle.ov_txn.specs.Attempting.{IsAnswer, HasCause}
 use Rattle.ov_txn.specs.declared.tried.Tried.TheVariants.{Stored}
-use Rattle.ov_core.specs.declared.answer.Work as code
-use Rattle.ov_core.specs.declared.answer.Work.TheVariants as kinds
+use Rattle.ov_requests.specs.Asked.{IsWork, IsWithoutDraws}
+use Rattle.ov_requests.specs.declared.answer.Work as code
+use Rattle.ov_requests.specs.declared.answer.Work.TheVariants as kinds
 use Rattle.ov_core.specs.declared.attempt.Trial.TheVariants.{Done}
 use Rattle.ov_core.specs.declared.event.Outcome.{Outcome}
 use Rattle.ov_core.specs.declared.event.Outcome.TheVariants as outcome
 use Rattle.ov_core.specs.declared.live.Live.{Live}
 use Rattle.ov_core.specs.Leaving.{LeavesItsOwn}
 use Rattle.ov_core.specs.Preparing.{outcome_after}
-use Rattle.ov_core.specs.Handling.{AsksStore, IsWork, IsWithoutDraws, PostsIfRoom, with_db, listed_of, IsCompleted, IsTrial, Stays, WorkIsDone, WorksWith, HasSameRest, WaitsIfRoom, CancelsIfRoom}
+use Rattle.ov_core.specs.Handling.{AsksStore, PostsIfRoom, with_db, listed_of, IsCompleted, IsTrial, Stays, WorkIsDone, WorksWith, HasSameRest, WaitsIfRoom, CancelsIfRoom}
 use Rattle.ov_core.specs.States.{state_of, sessions_of}
 use Rattle.ov_core.proofs.Watching.{sessions-same, sessions-watch}
 

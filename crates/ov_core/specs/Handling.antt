@@ -1,49 +1,27 @@
 -- What comes of the work on a message, and of a try of a transaction: what the machine makes of it. What names no source is our
 -- own.
-use Rattle.std.specs.Prelude.{◌≡◌, ◌⊎◌, ◌==◌, ℕ, ◌≤◌, List, [], ◌∷◌, ◌++◌, length, map, filter, not, codes, true, false, is_some, Option, Some, None, option_map, option_to_list}
+use Rattle.std.specs.Prelude.{◌≡◌, ◌⊎◌, ◌==◌, ℕ, ◌≤◌, List, [], ◌∷◌, ◌++◌, length, filter, not, codes, true, false, is_some, Option, Some, None, option_map}
 use Rattle.serde_json.specs.Data.{Data, Items}
-use Rattle.serde_json.specs.Written.{compact_text}
-use Rattle.ov_specs.specs.wire.Frame.{frame, failure_tree}
+use Rattle.ov_specs.specs.wire.Frame.{failure_tree}
 use Rattle.ov_specs.specs.machine.Machine as machine
-use Rattle.ov_specs.specs.locks.Queues.{call_refusal}
-use Rattle.ov_specs.specs.machine.Machine.{State, Session, Sent, Work, Answers, Transact, Cancels, Locks, works, draws_for, completes, to_session, unless_refused, monitors_of, monitor_work, monitor_cancel_work}
-use Rattle.ov_specs.specs.monitors.Monitors.{added, canceled}
+use Rattle.ov_specs.specs.machine.Machine.{State, Session, Sent, Work, works, draws_for, completes, to_session}
 use Rattle.ov_specs.specs.operations.Transaction.{TransactionOutcome, Completes, Waits}
 use Rattle.ov_specs.specs.rows.Database.{Database}
 use Rattle.ov_specs.specs.values.Uuid.{Uuid}
 use Rattle.ov_db.specs.KeptDatabase.{KeptDatabase}
 use Rattle.ov_keeper.specs.Keeping.{HasFailed}
-use Rattle.ov_locks.specs.Calls.{lock_call_view}
 use Rattle.ov_outbox.specs.Frames.{WaitingFrames, PostsSent, HasSameFrames}
 use Rattle.ov_outbox.specs.Outbox.{Outbox}
-use Rattle.ov_txn.specs.Waiting.{has_text}
+use Rattle.ov_requests.specs.Waiting.{has_text}
 use Rattle.ov_watch.specs.Watching.{monitors_at}
 use Rattle.ov_core.specs.Entries.{outcome_view, is_kept, is_of_store, is_failure, some_outcome}
 use Rattle.ov_core.specs.States.{state_of}
-use Rattle.ov_core.specs.declared.answer.Work as code
-use Rattle.ov_core.specs.declared.answer.Work.TheVariants as kinds
 use Rattle.ov_core.specs.declared.attempt.Trial.{Trial}
 use Rattle.ov_core.specs.declared.attempt.Trial.TheVariants.{Done, Blocked}
 use Rattle.ov_core.specs.declared.event.Outcome.{Outcome}
 use Rattle.ov_core.specs.declared.event.Outcome.TheVariants as outcome
 use Rattle.ov_core.specs.declared.handle.Handled.{Handled}
 use Rattle.ov_core.specs.declared.live.Live.{Live}
-
--- The work of the code, of a session in a state, is what the machine is asked for: its frame is the machine's answer, or it is the same
--- transaction, or to cancel the one with the same id; what is asked of a lock or of a monitor is refused where the machine refuses it.
-abbrev pub IsWork : State → ℕ → Work → code.Work → Type 0
-IsWork s session (Answers trees) (kinds.Answer bytes) = map frame trees ≡ option_to_list bytes
-IsWork s session asked (kinds.Answer bytes) = ⊥
-IsWork s session asked (kinds.Transact id operations) = asked ≡ Transact id operations
-IsWork s session asked (kinds.Cancel id text) = (asked ≡ Cancels id) × (text ≡ compact_text id)
-IsWork s session asked (kinds.Lock call id name) = asked ≡ unless_refused id (call_refusal (lock_call_view call) name session s.queues) (Locks (lock_call_view call) id name)
-IsWork s session asked (kinds.Monitor id name requests) = asked ≡ monitor_work s id name (added s.schema (monitors_of session s) name requests)
-IsWork s session asked (kinds.CancelMonitor id name) = asked ≡ monitor_cancel_work id (canceled (monitors_of session s) name)
-
--- nothing is drawn for it
-abbrev pub IsWithoutDraws : code.Work → Type 0
-IsWithoutDraws (kinds.Transact id operations) = ⊥
-IsWithoutDraws work = Unit {0}
 
 -- ---- what waits
 

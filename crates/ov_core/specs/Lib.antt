@@ -1,6 +1,5 @@
 pub mod Entries
 pub mod History
-pub mod Params
 pub mod States
 pub mod Sessions
 pub mod Handling

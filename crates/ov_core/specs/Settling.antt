@@ -7,7 +7,7 @@ use Rattle.ov_specs.specs.values.Uuid.{Uuid}
 use Rattle.ov_specs.proofs.laws.SettlingOn.{Reaches}
 use Rattle.ov_outbox.specs.Frames.{PostsSent}
 use Rattle.ov_sessions.specs.Sessions.{IsLeft, has_serial}
-use Rattle.ov_txn.specs.Waiting.{WaitingList, many}
+use Rattle.ov_requests.specs.Waiting.{WaitingList, many}
 use Rattle.ov_core.specs.Entries.{attempt_view}
 use Rattle.ov_core.specs.Handling.{AsksAll}
 use Rattle.ov_core.specs.Sessions.{ClosesSession}

@@ -5,7 +5,7 @@ use Rattle.ov_specs.specs.machine.Machine.{State, is_open}
 use Rattle.ov_specs.specs.machine.Suiting.{draws_uuids}
 use Rattle.ov_specs.specs.values.Uuid.{Uuid}
 use Rattle.ov_keeper.specs.Keeping.{HasFailed}
-use Rattle.ov_txn.specs.Drawing.{DrawsFrom}
+use Rattle.ov_requests.specs.Drawing.{DrawsFrom}
 use Rattle.ov_core.specs.Entries.{is_of_store, is_failure, some_outcome}
 use Rattle.ov_core.specs.declared.event.StepFault.{StepFault}
 use Rattle.ov_core.specs.declared.event.StepFault.TheVariants as fault

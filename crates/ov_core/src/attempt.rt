@@ -15,9 +15,10 @@ use ov_base::{Bytes, Tree};
 use ov_db::{Db, StoreAnswer};
 use ov_keeper::Keeper;
 use ov_outbox::{FrameQueues, Outbox, Prepared};
+use ov_requests::Txn;
 use ov_results::ArrayText;
 use ov_rpc::reply_with;
-use ov_txn::{Tried, Tries, Txn, attempt};
+use ov_txn::{Tried, Tries, attempt};
 use std::alloc::Global;
 use std::mem;
 

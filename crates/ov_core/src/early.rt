@@ -2,4 +2,4 @@
 
 pub use ov_db::{OpenFault, RefusedOpen};
 pub use ov_keeper::{Change, KeepFault, Keeper, Line, ListKeeper, Loaded};
-pub use ov_txn::Draws;
+pub use ov_requests::Draws;

@@ -4,13 +4,13 @@ ghost use Rattle.ov_rpc.specs.Message.{message_view};
 ghost use Rattle.ov_specs.specs.machine.Machine as spec;
 ghost use Rattle.ov_specs.specs.values.Uuid.{is_uuid};
 ghost use Rattle.ov_specs.specs.wire.Frame.{frame, failure_tree};
-ghost use Rattle.ov_txn.specs.Drawing.{DrawsFrom};
+ghost use Rattle.ov_requests.specs.Asked.{IsWork, IsWithoutDraws};
+ghost use Rattle.ov_requests.specs.Drawing.{DrawsFrom};
 ghost use Rattle.ov_sessions.specs.Sessions.{has_serial};
-ghost use Rattle.ov_core.specs.Handling.{AsksStore, IsWork, IsWithoutDraws, Works, WorksWith, HasSameRest, WaitsIfRoom, CancelsIfRoom};
+ghost use Rattle.ov_core.specs.Handling.{AsksStore, Works, WorksWith, HasSameRest, WaitsIfRoom, CancelsIfRoom};
 ghost use Rattle.ov_core.specs.Settling.{ComesTo};
 ghost use Rattle.ov_core.specs.States.{state_of};
 
-use crate::answer::{Work, work_of};
 use crate::attempt::{Asked, Trial, try_once};
 use crate::entry::{is_closing, is_kept, list};
 use crate::event::{Attempt, Outcome};
@@ -19,8 +19,8 @@ use crate::replying::Audience;
 use crate::send::send;
 use ov_base::{Bytes, Tree, Trees};
 use ov_keeper::Keeper;
+use ov_requests::{Draws, Outstanding, Txn, Work, work_of};
 use ov_rpc::{Message, failure};
-use ov_txn::{Draws, Outstanding, Txn};
 use std::alloc::{AllocError, Global};
 use uuid::Uuid;
 

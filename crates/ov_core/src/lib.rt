@@ -3,7 +3,6 @@
 //! is our own.
 #![tactic(auto)]
 
-mod answer;
 mod attempt;
 pub mod early;
 mod entry;

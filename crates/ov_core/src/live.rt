@@ -8,8 +8,9 @@ use crate::event::Attempt;
 use ov_db::Db;
 use ov_keeper::Keeper;
 use ov_outbox::Outbox;
+use ov_requests::Waiting;
 use ov_sessions::{Session, Sessions};
-use ov_txn::{Tries, Waiting};
+use ov_txn::Tries;
 use ov_watch::Watchers;
 use std::alloc::{AllocError, Global};
 

@@ -1,7 +1,7 @@
 ghost use Rattle.std.specs.Prelude.{◌≡◌, ℕ, ◌+◌, ◌-◌, ◌<◌, ◌≤◌, ◌^◌, List, [], length, vec_len, vec_capacity};
 ghost use Rattle.ov_specs.specs.locks.Queues.{owns};
 ghost use Rattle.ov_specs.specs.operations.Transaction.{transaction};
-ghost use Rattle.ov_txn.specs.Waiting.{many};
+ghost use Rattle.ov_requests.specs.Waiting.{many};
 ghost use Rattle.ov_core.specs.Handling.{AsksStore, IsTrial, outcome_in};
 ghost use Rattle.ov_core.specs.Settling.{AfterTry, to_do, IsSettling, Settles};
 ghost use Rattle.ov_core.specs.States.{sessions_of};
@@ -16,7 +16,8 @@ use crate::replying::Audience;
 use ov_db::Db;
 use ov_keeper::Keeper;
 use ov_outbox::Outbox;
-use ov_txn::{Outstanding, Tries};
+use ov_requests::Outstanding;
+use ov_txn::Tries;
 use std::alloc::Global;
 
 impl<K: Keeper + Drop> Live<K> {

@@ -1,6 +1,4 @@
-pub mod Drawing
 pub mod Performing
 pub mod Ending
 pub mod Suiting
 pub mod Storing
-pub mod Earliest

@@ -15,9 +15,7 @@ ghost use Rattle.ov_txn.specs.Performing.{IsPerformed, SuitsPerformed, WholePerf
 ghost use Rattle.ov_txn.specs.Results.{nulls_after, prefixed};
 ghost use Rattle.ov_txn.specs.declared.perform.Performed.TheVariants.{Completed};
 
-use crate::draws::are_uuids;
 use crate::results::{error_tree, push_nulls};
-use crate::txn::Txn;
 use ov_db::Delta;
 use ov_given::NamedRows;
 use ov_index::Indexes;
@@ -25,6 +23,7 @@ use ov_integrity::{Finished, finish};
 use ov_ops::{OpCtx, OpOutcome, Owns, run_op};
 use ov_projection::OpError;
 use ov_refs::Links;
+use ov_requests::{Txn, are_uuids};
 use ov_results::ArrayText;
 use ov_rows::Rows;
 use ov_schema::Schema;

@@ -9,11 +9,11 @@ use crate::perform::{Performed, perform};
 use crate::ready::{Ready, Replies};
 use crate::results::error_tree;
 use crate::tries::Tries;
-use crate::txn::Txn;
 use ov_db::{Db, Delta, StoreAnswer};
 use ov_keeper::Keeper;
 use ov_ops::Owns;
 use ov_projection::OpError;
+use ov_requests::Txn;
 use ov_results::ArrayText;
 use std::alloc::{AllocError, Global};
 

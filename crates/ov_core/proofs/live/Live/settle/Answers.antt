@@ -1,5 +1,5 @@
 use Rattle.std.proofs.Common.{ap, length, arith}
-use Rattle.ov_txn.specs.Waiting.{WaitingList, many}
+use Rattle.ov_requests.specs.Waiting.{WaitingList, many}
 use Rattle.ov_core.proofs.Counting.{number_below}
 use Rattle.ov_core.proofs.Settlings.{begun, ended}
 use Rattle.ov_core.proofs.live.Live.settle.Goals as goal

@@ -1,6 +1,6 @@
 use Rattle.std.proofs.Common.{◌+◌, ◌≤◌, length, vec_len, vec_capacity}
 use Rattle.ov_core.specs.Settling.{IsSettling, to_do}
-use Rattle.ov_txn.specs.Waiting.{many, most_outstanding}
+use Rattle.ov_requests.specs.Waiting.{many, most_outstanding}
 use Rattle.ov_core.proofs.live.Live.settle.Given as goal
 
 abbrev pub invariant-tries : goal.invariant-tries

@@ -2,7 +2,7 @@ use Rattle.std.proofs.Common.{◌≡◌, ◌+◌, ◌++◌, ◌∷◌, [], List,
 use Rattle.std.proofs.lemmas.List.{length-append}
 use Rattle.ov_sessions.specs.Sessions.{has_serial}
 use Rattle.ov_specs.specs.machine.Machine.{Outstanding}
-use Rattle.ov_txn.specs.Waiting.{many}
+use Rattle.ov_requests.specs.Waiting.{many}
 use Rattle.ov_core.proofs.Settlings.{skipped, blocked, done, after_few, after_falls, listed_few}
 use Rattle.ov_core.proofs.live.Live.try_next.Goals as goal
 

@@ -1,0 +1,5 @@
+pub mod Drawing
+pub mod Reading
+pub mod Waiting
+pub mod Params
+pub mod Asked

@@ -1,0 +1,255 @@
+ghost use Rattle.std.specs.Prelude.{◌≡◌, ◌++◌, ◌+◌, ◌^◌, ◌<◌, ◌≤◌, ◌==◌, not, List, [], ◌∷◌, filter, length, MatchBool, MatchOption, OnOk, OnErr};
+ghost use Rattle.std.specs.List.{list_any, filter_map};
+ghost use Rattle.std.specs.VecDeque.{deque_len, deque_capacity};
+ghost use Rattle.ov_specs.specs.machine.Machine as machine;
+ghost use Rattle.ov_specs.specs.machine.Machine.{of_others, least, timeout_of};
+ghost use Rattle.ov_sessions.specs.Sessions.{has_serial};
+ghost use Rattle.ov_requests.specs.Waiting.{has_text, earlier, many, most_outstanding};
+
+use crate::outstanding::Outstanding;
+use ov_sessions::Sessions;
+use std::alloc::{AllocError, Global};
+use std::collections::VecDeque;
+use std::marker::Model;
+use std::mem;
+
+/// The most transactions that wait: 64 of each of 64 sessions.
+const MOST_OUTSTANDING: usize = 4096;
+
+/// The transactions that wait, in order of arrival. While they are settled, those that the pass has still to try stand before
+/// them in a queue of their own. Each queue has room for all, so that settling takes no memory for them.
+#[derive(Drop)]
+pub struct Waiting {
+    untried: VecDeque<Outstanding>,
+    outstanding: VecDeque<Outstanding>,
+}
+
+impl Model for Waiting {
+    ghost use Rattle.std.specs.Coded.{codes};
+    ghost use Rattle.std.specs.VecDeque.{deque_len, deque_capacity};
+    ghost use Rattle.ov_specs.specs.codes.TreeCode.{tree_code, items_code};
+    ghost use Rattle.ov_requests.specs.Waiting.{WaitingList, HasRoom};
+
+    ghost Value = { WaitingList };
+
+    ghost coded = { Prim.hlevel (codes, tree_code, items_code) };
+
+    ghost view = { λ w. record { untried = w.untried.items; outstanding = w.outstanding.items } };
+
+    ghost invariant = { λ w. HasRoom (deque_len w.untried) (deque_len w.outstanding) (deque_capacity w.untried) (deque_capacity w.outstanding) };
+}
+
+impl Waiting {
+    /// None waits.
+    pub fn new(alloc: Global) -> Waiting
+        ensures { result ≡ record { untried = []; outstanding = [] } }
+    {
+        Waiting {
+            untried: VecDeque::new(alloc),
+            outstanding: VecDeque::new(alloc),
+        }
+    }
+
+    /// How many wait.
+    pub fn len(&self) -> usize
+        ensures len { result ≡ length self.now.outstanding }
+        ensures few { result ≤ most_outstanding }
+    {
+        self.outstanding.len()
+    }
+
+    /// Whether one of the session waits, with an id of this text.
+    pub fn has_text(&self, session: u64, text: &[u8]) -> bool
+        ensures { result ≡ list_any (has_text session text.now) self.now.outstanding }
+    {
+        let (older, newer) = self.outstanding.as_slices();
+        any_has_text(older, session, text) || any_has_text(newer, session, text)
+    }
+
+    /// How many of the session wait.
+    pub fn count_of(&self, session: u64) -> usize
+        ensures { result ≡ length (filter (λ o. o.session == session) self.now.outstanding) }
+    {
+        let (older, newer) = self.outstanding.as_slices();
+        count_of(older, session) + count_of(newer, session)
+    }
+
+    /// When the first of them times out.
+    pub fn due(&self) -> Option<u64>
+        ensures { result ≡ least (filter_map timeout_of self.now.outstanding) }
+    {
+        let (older, newer) = self.outstanding.as_slices();
+        let due = due_among(older, None);
+        due_among(newer, due)
+    }
+
+    /// Puts one behind the others. It is refused where 4,096 wait or are still to be tried, and where memory is refused; then
+    /// nothing is changed.
+    pub fn push(&mut self, outstanding: Outstanding) -> Result<(), AllocError>
+        ensures ok { OnOk result (self.new ≡ record self.old { outstanding = self.old.outstanding ++ outstanding ∷ [] }) }
+        ensures err { OnErr result (self.new ≡ self.old) }
+    {
+        let count = self.untried.len() + self.outstanding.len();
+        if count >= MOST_OUTSTANDING {
+            return Err(AllocError);
+        }
+        reserve(&mut self.untried, &mut self.outstanding)?;
+        self.outstanding.push_back_reserved(outstanding);
+        Ok(())
+    }
+
+    /// Takes the one of the session out that has an id of this text.
+    pub fn remove(&mut self, session: u64, text: &[u8])
+        ensures { self.new ≡ record self.old { outstanding = filter (λ o. not (has_text session text.now o)) self.old.outstanding } }
+    {
+        keep_without(&mut self.outstanding, session, text);
+    }
+
+    /// Takes those of the session out that are not still to be tried.
+    pub fn leave(&mut self, session: u64)
+        ensures { self.new ≡ record self.old { outstanding = of_others session self.old.outstanding } }
+    {
+        keep_others(&mut self.outstanding, session);
+    }
+
+    /// A pass begins: all that wait are to be tried.
+    pub fn begin(&mut self)
+        ensures begins { self.new ≡ record { untried = self.old.outstanding; outstanding = self.old.untried } }
+        ensures few { many self.new ≤ most_outstanding }
+    {
+        mem::swap(&mut self.untried, &mut self.outstanding);
+    }
+
+    /// A pass ends where it is, and the next one begins: those that it has not tried wait behind the others, if their sessions
+    /// are open, and then all are to be tried.
+    pub fn begin_again(&mut self, sessions: &Sessions)
+        ensures { self.new ≡ record {
+          untried = self.old.outstanding ++ filter (λ o. has_serial o.session sessions.now.open_sessions) self.old.untried;
+          outstanding = [];
+        } }
+    {
+        keep_open(&mut self.untried, sessions);
+        append_reserved(&mut self.outstanding, &mut self.untried);
+        mem::swap(&mut self.untried, &mut self.outstanding);
+    }
+
+    /// Whether the pass has still to try some.
+    pub fn is_any_untried(&self) -> bool
+        ensures { MatchBool result (0 < length self.now.untried) (self.now.untried ≡ []) }
+    {
+        !self.untried.is_empty()
+    }
+
+    /// The next to be tried.
+    pub fn next(&self) -> Option<&Outstanding>
+        ensures { MatchOption result (self.now.untried ≡ []) (λ first. (rest : List machine.Outstanding) × (self.now.untried ≡ first.now ∷ rest)) }
+    {
+        self.untried.front()
+    }
+
+    /// The one that was to be tried next waits no more.
+    pub fn drop_next(&mut self)
+        ensures { (first : machine.Outstanding) (rest : List machine.Outstanding) → self.old.untried ≡ first ∷ rest → self.new ≡ record self.old { untried = rest } }
+    {
+        let _first = self.untried.pop_front();
+    }
+
+    /// The one that was to be tried next waits behind the others, for a wait with this timeout.
+    pub fn wait_again(&mut self, timeout: Option<u64>)
+        ensures { (first : machine.Outstanding) (rest : List machine.Outstanding) → self.old.untried ≡ first ∷ rest
+            → self.new ≡ record { untried = rest; outstanding = self.old.outstanding ++ record first { timeout = timeout } ∷ [] } }
+    {
+        let Some(mut first) = self.untried.pop_front() else {
+            return;
+        };
+        first.wait_on(timeout);
+        self.outstanding.push_back_reserved(first);
+    }
+}
+
+fn any_has_text(these: &[Outstanding], session: u64, text: &[u8]) -> bool
+    ensures { result ≡ list_any (has_text session text.now) these.now }
+{
+    these.iter().any(|o| o.has_text(session, text))
+}
+
+fn count_of(these: &[Outstanding], session: u64) -> usize
+    ensures count { result ≡ length (filter (λ o. o.session == session) these.now) }
+    ensures few { result ≤ length these.now }
+{
+    these.iter().filter(|o| o.session() == session).count()
+}
+
+/// The earlier of two moments, if there is one.
+fn earlier(one: Option<u64>, other: Option<u64>) -> Option<u64>
+    ensures { result ≡ earlier one other }
+{
+    match (one, other) {
+        (Some(one), Some(other)) => Some(one.min(other)),
+        (Some(one), None) => Some(one),
+        (None, other) => other,
+    }
+}
+
+/// The earliest of this moment and those when these time out.
+fn due_among(these: &[Outstanding], due: Option<u64>) -> Option<u64>
+    ensures { result ≡ earlier due (least (filter_map timeout_of these.now)) }
+{
+    let mut due = due;
+    for one in these {
+        due = earlier(due, one.times_out());
+    }
+    due
+}
+
+fn keep_without(these: &mut VecDeque<Outstanding>, session: u64, text: &[u8])
+    ensures items { these.new.items ≡ filter (λ o. not (has_text session text.now o)) these.old.items }
+    ensures len { deque_len these.new ≤ deque_len these.old }
+    ensures capacity { deque_capacity these.new ≡ deque_capacity these.old }
+{
+    these.retain(|o| !o.has_text(session, text));
+}
+
+fn keep_others(these: &mut VecDeque<Outstanding>, session: u64)
+    ensures items { these.new.items ≡ of_others session these.old.items }
+    ensures len { deque_len these.new ≤ deque_len these.old }
+    ensures capacity { deque_capacity these.new ≡ deque_capacity these.old }
+{
+    these.retain(|o| o.session() != session);
+}
+
+fn keep_open(these: &mut VecDeque<Outstanding>, sessions: &Sessions)
+    ensures items { these.new.items ≡ filter (λ o. has_serial o.session sessions.now.open_sessions) these.old.items }
+    ensures len { deque_len these.new ≤ deque_len these.old }
+    ensures capacity { deque_capacity these.new ≡ deque_capacity these.old }
+{
+    these.retain(|o| sessions.is_open(o.session()));
+}
+
+/// Room for one more in each of the queues, which then takes all.
+fn reserve(
+    one: &mut VecDeque<Outstanding>,
+    other: &mut VecDeque<Outstanding>,
+) -> Result<(), AllocError>
+    requires { deque_len one.old + deque_len other.old < 2 ^ 32 }
+    ensures one { one.new.items ≡ one.old.items }
+    ensures other { other.new.items ≡ other.old.items }
+    ensures grows { deque_capacity one.old ≤ deque_capacity one.new }
+    ensures grows_other { deque_capacity other.old ≤ deque_capacity other.new }
+    ensures room { OnOk result (deque_len one.old + deque_len other.old + 1 ≤ deque_capacity one.new) }
+    ensures room_other { OnOk result (deque_len one.old + deque_len other.old + 1 ≤ deque_capacity other.new) }
+{
+    one.reserve(other.len() + 1)?;
+    other.reserve(one.len() + 1)
+}
+
+/// Puts all of these behind the others, which have room for them.
+fn append_reserved(others: &mut VecDeque<Outstanding>, these: &mut VecDeque<Outstanding>)
+    requires { deque_len others.old + deque_len these.old ≤ deque_capacity others.old }
+    ensures others { others.new.items ≡ others.old.items ++ these.old.items }
+    ensures these { these.new.items ≡ [] }
+    ensures capacity { deque_capacity others.old ≤ deque_capacity others.new }
+    ensures same { deque_capacity these.new ≡ deque_capacity these.old }
+{
+    let _all = others.append(these);
+}
