@@ -91,7 +91,15 @@ impl BaseType {
         longest: Option<i64>,
         refers: Option<Reference>,
     ) -> BaseType
-        ensures { result ≡ record { kind = kind_view kind; choices = option_map set_in choices; least = least; greatest = greatest; shortest = shortest; longest = longest; refers = refers } }
+        ensures { result ≡ record {
+          kind = kind_view kind;
+          choices = option_map set_in choices;
+          least = least;
+          greatest = greatest;
+          shortest = shortest;
+          longest = longest;
+          refers = refers;
+        } }
     {
         BaseType {
             kind,
@@ -106,7 +114,15 @@ impl BaseType {
 
     /// The base type that is only a kind, without constraints.
     pub(crate) fn plain(kind: AtomKind) -> BaseType
-        ensures { result ≡ record { kind = kind_view kind; choices = None; least = None; greatest = None; shortest = None; longest = None; refers = None } }
+        ensures { result ≡ record {
+          kind = kind_view kind;
+          choices = None;
+          least = None;
+          greatest = None;
+          shortest = None;
+          longest = None;
+          refers = None;
+        } }
     {
         BaseType::new(kind, None, None, None, None, None, None)
     }

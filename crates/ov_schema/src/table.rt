@@ -54,7 +54,12 @@ impl Table {
         is_root: bool,
         indexes: Vec<Vec<Text>>,
     ) -> Result<Table, AllocError>
-        ensures { IfOk result (λ t. t ≡ record { columns = from_entries (own_columns ++ map named_view columns.items); max_rows = max_rows; is_root = is_root; indexes = indexes_in indexes.items }) }
+        ensures { IfOk result (λ t. t ≡ record {
+          columns = from_entries (own_columns ++ map named_view columns.items);
+          max_rows = max_rows;
+          is_root = is_root;
+          indexes = indexes_in indexes.items;
+        }) }
     {
         let columns = ascending(alloc, with_own(alloc, columns)?)?;
         Ok(Table {

@@ -1,4 +1,4 @@
-//! The schema of a database from its text (RFC 7047, 3.2): what a tree says, which trees are refused, what is built of the others.
+//! A schema from its text (RFC 7047, 3.2): what its tree says, which trees are refused, and what is built of the others.
 //!
 //! A tree is read once into the shape of its members, which borrows from the tree, or is refused where one is missing or of a
 //! wrong kind (`parse`). The other refusals are then looked for in their order, over the whole shape (`judge`). What is left is
