@@ -206,8 +206,8 @@ impl Server {
         self.take_bytes(exchange.reply(self.order).len())
     }
 
-    /// Asks, and gives the time until the reply was whole, and the reply. How long the wanted one is, is found before the clock
-    /// begins, and the reply is copied behind it.
+    /// Asks, and gives the time until the reply was whole, and the reply. The length of the wanted one is found before the clock
+    /// begins, and the reply is copied when it has ended.
     pub fn ask_on_the_clock(&mut self, exchange: &Exchange) -> Outcome<(Duration, String)> {
         let length = exchange.reply(self.order).len();
         let begin = Instant::now();
