@@ -7,7 +7,7 @@ use std::io;
 use std::io::{ErrorKind, Read};
 use std::rt::Clock;
 use std::test::Fail;
-use test_support::SlowWriter;
+use test_basics::SlowWriter;
 
 /// No limit.
 pub(crate) const ALL: usize = 1_000_000;

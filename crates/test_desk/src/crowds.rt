@@ -11,7 +11,8 @@ use std::rt::Clock;
 use std::sync::Wait;
 use std::test::Fail;
 use std::thread::Threads;
-use test_support::{Faults, net_core};
+use test_basics::Faults;
+use test_support::net_core;
 
 /// How many clients there are.
 const CLIENTS: u64 = 64;

@@ -8,7 +8,8 @@ use std::rt::Clock as SystemClock;
 use std::sync::Wait;
 use std::test::Fail;
 use std::thread::Threads;
-use test_support::{Counter, Faults, NetKeeper, net_core};
+use test_basics::{Counter, Faults, NetKeeper};
+use test_support::net_core;
 
 /// A clock that tells a later moment at each call.
 #[derive(Drop)]

@@ -16,7 +16,8 @@ use std::test::Fail;
 use std::thread::Threads;
 use std::time::Duration;
 use std::{io, thread};
-use test_support::{Faults, net_core};
+use test_basics::Faults;
+use test_support::net_core;
 
 /// How many clients there are at most.
 const CLIENTS: usize = 70;

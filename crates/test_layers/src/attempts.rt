@@ -4,10 +4,11 @@ use ov_schema::Schema;
 use ov_txn::{Draws, Ready, Replies, Tried, Tries, Txn, attempt};
 use std::alloc::Global;
 use std::test::Fail;
-use test_support::{
-    Counter, Faults, NetKeeper, OwnsOne, Scripted, agrees, array_text, compact, net, new_keeper,
+use test_basics::{
+    Counter, Faults, NetKeeper, Scripted, agrees, array_text, compact, net, new_keeper,
     schema_of_text, trees,
 };
+use test_support::OwnsOne;
 use uuid::Uuid;
 
 /// What follows a commit, in tests: the replies that are made ready, and how many rows are changed.

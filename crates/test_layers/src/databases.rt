@@ -4,10 +4,8 @@ use ov_keeper::Line;
 use ov_rows::Row;
 use std::alloc::Global;
 use std::test::Fail;
-use test_support::{
-    Faults, NetKeeper, Scripted, agrees, commit_nothing, follows, line_of, net, net_keeper, number,
-    put_line, remove_row,
-};
+use test_basics::{Faults, NetKeeper, Scripted, agrees, follows, line_of, net, net_keeper, number};
+use test_commits::{commit_nothing, put_line, remove_row};
 use uuid::Uuid;
 
 /// A database Net behind a script.

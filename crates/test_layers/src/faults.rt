@@ -1,7 +1,7 @@
 use crate::operations::run_without_rows;
 use std::alloc::Global;
 use std::test::Fail;
-use test_support::schema_of_text;
+use test_basics::schema_of_text;
 
 /// A table whose rows have a map, a number up to 9, a number that stays, a text of three characters at most, and a number.
 const SCHEMA: &str = r#"{"name":"A","version":"1.0.0","tables":{"T":{"columns":{

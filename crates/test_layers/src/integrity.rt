@@ -5,7 +5,8 @@
 use crate::attempts::attempts_on;
 use std::alloc::Global;
 use std::test::Fail;
-use test_support::{Looked, NET, Scripted, agrees, converses, looks};
+use test_basics::{NET, Scripted, agrees};
+use test_support::{Looked, converses, looks};
 
 /// The attempts of a script come to what it says, on a new database of the schema of a text; and what is told after them of its
 /// references and indexes is what it is when the database is opened.

@@ -2,7 +2,7 @@ use ov_base::Bytes;
 use ov_locks::{LockFault, LockTable};
 use std::alloc::Global;
 use std::test::Fail;
-use test_support::{Scripted, agrees};
+use test_basics::{Scripted, agrees};
 
 /// The one that asks first is the owner. Who waits can't steal, and gives up waiting; nobody is told of that.
 const ONE_OWNER: &str = r#"owner L -> nobody

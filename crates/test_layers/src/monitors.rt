@@ -8,10 +8,10 @@ use serde_json::Value;
 use std::alloc::Global;
 use std::mem;
 use std::test::Fail;
-use test_support::{
-    Faults, NetKeeper, Scripted, agrees, compact, line_of, net, net_keeper, number, put_line,
-    remove_row, tree, value,
+use test_basics::{
+    Faults, NetKeeper, Scripted, agrees, compact, line_of, net, net_keeper, number, tree, value,
 };
+use test_commits::{put_line, remove_row};
 
 /// A row that comes, one whose name changes, and one that goes are told; a change of its load alone is not. Then the monitor is
 /// asked for again, and canceled twice.

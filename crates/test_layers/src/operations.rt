@@ -8,7 +8,8 @@ use ov_stage::Stage;
 use ov_txn::Txn;
 use std::alloc::{AllocError, Global};
 use std::test::Fail;
-use test_support::{Counter, OwnsOne, Scripted, agrees, follows, net, trees};
+use test_basics::{Counter, Scripted, agrees, follows, net, trees};
+use test_support::OwnsOne;
 use uuid::Uuid;
 
 /// Operations on the rows of a database Net, as those of a transaction of this age. What comes of them are their results, and then

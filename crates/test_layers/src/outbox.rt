@@ -9,7 +9,7 @@ use ov_outbox::{FrameQueues, Outbox, Prepared};
 use std::alloc::{AllocError, Global};
 use std::mem;
 use std::test::Fail;
-use test_support::{Scripted, agrees, tree};
+use test_basics::{Scripted, agrees, tree};
 
 /// The text of a frame, if there is one.
 fn text_of(alloc: Global, frame: Option<Bytes>) -> Result<String, Fail> {

@@ -5,7 +5,7 @@ use ov_rows::{Columns, NamedValues, RowKey, Rows, TableRows};
 use std::alloc::{AllocError, Global};
 use std::mem;
 use std::test::Fail;
-use test_support::{Scripted, agrees, net, number, switch};
+use test_basics::{Scripted, agrees, net, number, switch};
 
 /// Columns are found by name and written in order.
 const COLUMNS: &str = r#"get name -> atoms

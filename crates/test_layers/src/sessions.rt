@@ -7,7 +7,7 @@ use ov_sessions::{Session, Sessions};
 use ov_watch::Watchers;
 use std::alloc::Global;
 use std::test::Fail;
-use test_support::{
+use test_basics::{
     Faults, NetKeeper, Scripted, agrees, compact, net, net_keeper, number, switch, tree, value,
 };
 

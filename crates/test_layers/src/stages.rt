@@ -9,7 +9,7 @@ use serde_json::Value;
 use std::alloc::Global;
 use std::mem;
 use std::test::Fail;
-use test_support::{Scripted, agrees, compact, follows, net, number, switch};
+use test_basics::{Scripted, agrees, compact, follows, net, number, switch};
 
 /// Rows are put and removed, and put as they were; what is left of that is no change.
 const STAGED: &str = r#"where [] -> 3/1;9/1;

@@ -1,5 +1,5 @@
-//! Tests of what serves: the machine, with transactions, waits, locks and monitors, its streams, and one session over a reader and
-//! a writer.
+//! Tests of what serves: the machine, with transactions, waits, locks and monitors, its streams, one session over a reader and a
+//! writer, and the program's arguments and endings.
 #![tactic(auto)]
 
 #[cfg(test)]
@@ -20,3 +20,5 @@ mod values;
 mod waits;
 #[cfg(test)]
 mod watched;
+#[cfg(test)]
+mod words;

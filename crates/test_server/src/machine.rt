@@ -2,9 +2,8 @@ use ov_core::Core;
 use ov_core::early::{KeepFault, Keeper, OpenFault, RefusedOpen};
 use std::alloc::Global;
 use std::test::Fail;
-use test_support::{
-    Counter, Faults, NET, NetCore, NetKeeper, failing, keeper_of, net, net_keeper, steps,
-};
+use test_basics::{Counter, Faults, NET, NetKeeper, failing, keeper_of, net, net_keeper};
+use test_support::{NetCore, steps};
 
 /// Up to 64 sessions are open, each with a key of its own, and the key of one that is closed is given again.
 const SIXTY_FOUR: &str = r#"free -> 64

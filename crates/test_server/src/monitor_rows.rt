@@ -2,7 +2,8 @@
 
 use std::alloc::Global;
 use std::test::Fail;
-use test_support::{Faults, calls, calls_over, converses};
+use test_basics::Faults;
+use test_support::{calls, calls_over, converses};
 
 /// A row that comes, one whose name changes, and one that goes: each is told before the reply. A change of its load alone is not.
 const TOLD: &str =

@@ -7,7 +7,8 @@ use std::io;
 use std::io::{ErrorKind, Read, Write};
 use std::sync::Wait;
 use std::test::Fail;
-use test_support::{Faults, SlowReader, SlowWriter, net_core};
+use test_basics::{Faults, SlowReader, SlowWriter};
+use test_support::net_core;
 
 const REQUEST: &[u8] = b"{\"id\":0,\"method\":\"list_dbs\",\"params\":[]}";
 

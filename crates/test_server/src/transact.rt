@@ -1,5 +1,6 @@
 use std::test::Fail;
-use test_support::{Faults, converses, converses_over};
+use test_basics::Faults;
+use test_support::{converses, converses_over};
 
 /// A transaction without operations, an insert, and a select with all columns.
 const INSERTED: &str = r#">{"id":0,"method":"transact","params":["Net"]}

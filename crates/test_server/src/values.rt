@@ -1,5 +1,6 @@
 use std::test::Fail;
-use test_support::{NET, converses};
+use test_basics::NET;
+use test_support::converses;
 
 /// Sets merge and ascend, a set of one is its atom, and identifiers are in lower case. The rows are deleted before the commit,
 /// since they refer to none.

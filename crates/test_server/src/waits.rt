@@ -3,7 +3,8 @@ use ov_core::{Cause, Event, Session, Stepped};
 use ov_rpc::Received;
 use std::alloc::Global;
 use std::test::Fail;
-use test_support::{Faults, NetCore, Scripted, agrees, net_core};
+use test_basics::{Faults, Scripted, agrees};
+use test_support::{NetCore, net_core};
 
 /// A machine behind a script, for transactions that wait.
 ///

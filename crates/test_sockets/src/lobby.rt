@@ -13,7 +13,8 @@ use std::sync::Wait;
 use std::test::Fail;
 use std::thread;
 use std::thread::Threads;
-use test_support::{Faults, net_core};
+use test_basics::Faults;
+use test_support::net_core;
 
 /// A clock that stands still.
 #[derive(Drop)]

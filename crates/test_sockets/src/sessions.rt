@@ -12,7 +12,8 @@ use std::test::Fail;
 use std::thread;
 use std::thread::Threads;
 use std::time::Duration;
-use test_support::{Counter, Faults, net, net_core, net_keeper};
+use test_basics::{Counter, Faults, net, net_keeper};
+use test_support::net_core;
 
 /// How many seconds a client waits for what it is sent.
 const PATIENCE: u64 = 20;

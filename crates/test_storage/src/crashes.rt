@@ -5,7 +5,7 @@ use sqlite_disk::{Fuse, Memory};
 use sqlite_trees::store::Reopen;
 use std::alloc::Global;
 use std::test::Fail;
-use test_support::{Keeping, NET, Scripted};
+use test_basics::{Keeping, NET, Scripted};
 
 /// Two commits of several changes each.
 const SCRIPT: &str = "put Switch 1 0 one

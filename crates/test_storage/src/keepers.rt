@@ -2,7 +2,7 @@ use ov_db::OpenFault;
 use ov_keeper::KeepFault;
 use std::alloc::Global;
 use std::test::Fail;
-use test_support::{Faults, Keeping, NET, agrees, net_keeper};
+use test_basics::{Faults, Keeping, NET, agrees, net_keeper};
 
 /// Runs a script over a new keeper in memory of the schema Net, which fails as it is told.
 fn keeps(alloc: Global, faults: Faults, script: &str) -> Result<(), Fail> {

@@ -3,7 +3,8 @@ use ov_keeper::{Line, ListKeeper};
 use ov_rows::{Row, Rows, TableRows};
 use std::alloc::Global;
 use std::test::Fail;
-use test_support::{NET, Scripted, agrees, keeper_of, line_of, net, put_line, schema_of_text};
+use test_basics::{NET, Scripted, agrees, keeper_of, line_of, net, schema_of_text};
+use test_commits::put_line;
 use uuid::Uuid;
 
 /// The schema Net in its version 0.

@@ -6,7 +6,7 @@ use sqlite::types::ValueRef;
 use sqlite::{Alter, Connection};
 use std::alloc::Global;
 use std::test::Fail;
-use test_support::{Scripted, agrees};
+use test_basics::{Scripted, agrees};
 
 /// A statement by its word.
 fn statement(word: &str) -> &'static str {

@@ -4,7 +4,7 @@ use ov_store::{MemoryDisk, Store, store_in_memory};
 use sqlite::{Alter, Connection, Files, Options};
 use std::alloc::Global;
 use std::test::Fail;
-use test_support::{Faults, Keeping, NET, agrees, failing, follows};
+use test_basics::{Faults, Keeping, NET, agrees, failing, follows};
 
 /// A new store over a database that has none.
 pub(crate) fn created<S: Alter + Drop>(

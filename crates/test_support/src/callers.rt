@@ -1,11 +1,10 @@
-use crate::keepers::Faults;
 use crate::machine::{NetCore, net_core};
-use crate::scripts::{Scripted, agrees};
 use ov_base::Bytes;
 use ov_core::{Cause, Event, Session, Stepped};
 use ov_rpc::Received;
 use std::alloc::Global;
 use std::test::Fail;
+use test_basics::{Faults, Scripted, agrees};
 
 /// A machine behind a script, for calls of several sessions.
 ///

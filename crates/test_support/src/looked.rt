@@ -1,14 +1,11 @@
-use crate::counter::Counter;
-use crate::keepers::{Faults, NetKeeper, new_keeper};
 use crate::lookups::{Lookups, opened_from};
 use crate::owning::OwnsOne;
-use crate::schemas::schema_of_text;
-use crate::tree_texts::trees;
 use ov_db::{Db, Delta};
 use ov_keeper::Keeper;
 use ov_txn::{Ready, Replies, Tries, Txn, attempt};
 use std::alloc::Global;
 use std::test::Fail;
+use test_basics::{Counter, Faults, NetKeeper, new_keeper, schema_of_text, trees};
 
 /// Has nothing to make ready.
 #[derive(Drop)]

@@ -1,4 +1,3 @@
-use crate::schemas::schema_of_text;
 use ov_base::Text;
 use ov_db::{Db, ListKeeper};
 use ov_index::IndexKey;
@@ -9,6 +8,7 @@ use ov_schema::{Schema, Table, text_of};
 use std::alloc::{AllocError, Global};
 use std::collections::BTreeSet;
 use std::test::Fail;
+use test_basics::schema_of_text;
 use uuid::Uuid;
 
 /// The keys of rows, and those at which rows stand in the indexes of their tables.

@@ -1,12 +1,9 @@
-use crate::counter::Counter;
-use crate::keepers::{Faults, NetKeeper, net_keeper};
-use crate::schemas::net;
-use crate::scripts::{Scripted, agrees};
 use ov_base::Bytes;
 use ov_core::{Cause, Core, Event, Session, Stepped};
 use ov_rpc::{MessageText, Received};
 use std::alloc::Global;
 use std::test::Fail;
+use test_basics::{Counter, Faults, NetKeeper, Scripted, agrees, net, net_keeper};
 
 /// The machine over a database Net.
 pub type NetCore = Core<NetKeeper, Counter>;

@@ -1,11 +1,9 @@
-use crate::counter::Counter;
-use crate::keepers::{Faults, NetKeeper};
 use crate::machine::net_core;
-use crate::scripts::{Scripted, agrees};
 use ov_base::Bytes;
 use ov_streams::{StreamEvent, Streams};
 use std::alloc::Global;
 use std::test::Fail;
+use test_basics::{Counter, Faults, NetKeeper, Scripted, agrees};
 
 /// The streams of a server behind a conversation.
 ///

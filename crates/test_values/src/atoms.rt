@@ -10,7 +10,7 @@ use serde_json::Value;
 use std::alloc::{AllocError, Global};
 use std::cmp::Ordering;
 use std::test::Fail;
-use test_support::{Scripted, agrees};
+use test_basics::{Scripted, agrees};
 use uuid::Uuid;
 
 const INTEGERS: Kinds = Kinds::Single(AtomKind::Integer);

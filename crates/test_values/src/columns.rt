@@ -3,7 +3,7 @@ use ov_schema::{Column, Schema};
 use serde_json::Value;
 use std::alloc::Global;
 use std::test::Fail;
-use test_support::{Scripted, agrees, schema_of_text};
+use test_basics::{Scripted, agrees, schema_of_text};
 
 /// Types, each with its default.
 const DEFAULTS: &str = r#""integer" -> 0

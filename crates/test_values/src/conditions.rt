@@ -6,7 +6,7 @@ use ov_schema::{Schema, Table};
 use serde_json::Value;
 use std::alloc::Global;
 use std::test::Fail;
-use test_support::{Scripted, agrees};
+use test_basics::{Scripted, agrees};
 use uuid::Uuid;
 
 /// Numbers stand in their order, and one is a set of one.

@@ -4,7 +4,7 @@ use ov_base::Bytes;
 use ov_cut::{CutFault, Cutter};
 use std::alloc::{AllocError, Global};
 use std::test::Fail;
-use test_support::{Scripted, agrees};
+use test_basics::{Scripted, agrees};
 
 /// Three inputs, one behind the other: of one message, of one with a brace in a literal, and of two.
 const JOINED: &str =

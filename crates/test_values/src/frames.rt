@@ -4,7 +4,7 @@ use ov_rpc::{append_item, failure, note, reply, reply_with};
 use serde_json::Value;
 use std::alloc::Global;
 use std::test::Fail;
-use test_support::{Scripted, agrees, array_text, tree, trees};
+use test_basics::{Scripted, agrees, array_text, tree, trees};
 use uuid::Uuid;
 
 /// Each frame is these bytes.

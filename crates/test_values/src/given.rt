@@ -10,7 +10,7 @@ use ov_schema::{Schema, Table};
 use serde_json::Value;
 use std::alloc::Global;
 use std::test::Fail;
-use test_support::{Scripted, agrees, schema_of_text, trees};
+use test_basics::{Scripted, agrees, schema_of_text, trees};
 use uuid::Uuid;
 
 /// A table whose rows have a number up to 9, may name another row, and keep a number for good.

@@ -1,5 +1,5 @@
-//! Tests of what is told by the arguments alone: the program's arguments, cuts, messages and frames, trees, values, schemas,
-//! conditions and mutations, and what rows refer to.
+//! Tests of what is told by the arguments alone: cuts, messages and frames, trees, values, schemas, conditions and mutations, and
+//! what rows refer to.
 #![tactic(auto)]
 
 #[cfg(test)]
@@ -28,5 +28,3 @@ mod schemas;
 mod shapes;
 #[cfg(test)]
 mod small_types;
-#[cfg(test)]
-mod words;

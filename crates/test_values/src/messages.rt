@@ -2,7 +2,7 @@ use ov_base::{Text, Trees};
 use ov_rpc::{BadKind, Message, RpcFault, reply};
 use std::alloc::{AllocError, Global};
 use std::test::Fail;
-use test_support::{Scripted, agrees, compact};
+use test_basics::{Scripted, agrees, compact};
 
 /// An id of any kind but null makes a call.
 const IDS: &str = r#"0 -> call 0 m []

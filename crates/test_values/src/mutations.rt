@@ -5,7 +5,7 @@ use ov_schema::{Schema, Table};
 use serde_json::Value;
 use std::alloc::Global;
 use std::test::Fail;
-use test_support::{Scripted, agrees};
+use test_basics::{Scripted, agrees};
 
 /// A scalar is computed within 64 bits. A division truncates toward zero, and a remainder has the dividend's sign.
 const NUMBERS: &str = r#"6 ["load","+=",2] -> 8

@@ -6,7 +6,7 @@ use ov_schema::Schema;
 use serde_json::Value;
 use std::alloc::Global;
 use std::test::Fail;
-use test_support::{Scripted, agrees, number, schema_of_text, trees};
+use test_basics::{Scripted, agrees, number, schema_of_text, trees};
 use uuid::Uuid;
 
 /// Rows that refer to rows of their own table and of another: strongly in a set and as the keys of a map, weakly as the values of

@@ -3,7 +3,7 @@ use ov_schema_text::{SchemaFileFault, schema_from, schema_of};
 use std::alloc::Global;
 use std::io::ErrorKind;
 use std::test::Fail;
-use test_support::{Scripted, SlowReader, agrees};
+use test_basics::{Scripted, SlowReader, agrees};
 
 /// A text, and the schema's own text, or why it is none.
 const TEXTS: &str = r#"{ "tables": {}, "name": "N" } -> {"name":"N","tables":{}}

@@ -3,7 +3,7 @@ use ov_schema::{Schema, SchemaFault, Table};
 use ov_schema_text::schema_of_tree;
 use std::alloc::Global;
 use std::test::Fail;
-use test_support::{Scripted, agrees, compact, schema_of_text, tree};
+use test_basics::{Scripted, agrees, compact, schema_of_text, tree};
 
 /// A schema with each limit of tables and columns. It is the compact text of its tree.
 const LIMITED: &str =

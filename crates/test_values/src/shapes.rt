@@ -3,7 +3,7 @@ use ov_schema::{Schema, Table};
 use serde_json::Value;
 use std::alloc::Global;
 use std::test::Fail;
-use test_support::schema_of_text;
+use test_basics::schema_of_text;
 
 /// A table with a column of each shape.
 const SHAPES: &str = r#"{"name":"Net","version":"1.0.0","tables":{"Port":{"columns":{

@@ -3,7 +3,7 @@ use ov_rows::RowId;
 use serde_json::Value;
 use std::alloc::Global;
 use std::test::Fail;
-use test_support::{Scripted, agrees, compact, tree, trees};
+use test_basics::{Scripted, agrees, compact, tree, trees};
 use uuid::Uuid;
 
 /// A real is a number that no integer of 64 bits is.

@@ -1,4 +1,4 @@
-use ov_txn::Draws;
+use ov_requests::Draws;
 use uuid::Uuid;
 
 /// Draws the identifiers `00000000-0000-4000-8000-000000000001`, `..02` and so on.

@@ -2,7 +2,7 @@ use ov_base::Text;
 use ov_words::{Ending, Settings, WordFault, error_line_of, read_words, status_of};
 use std::alloc::Global;
 use std::test::Fail;
-use test_support::{Scripted, agrees};
+use test_basics::{Scripted, agrees};
 
 /// Arguments behind the program's name, with a comma behind each, and the settings: the schema, the database, the address, how
 /// many sessions, and whether the streams are named.

@@ -4,7 +4,7 @@ use Rattle.ov_specs.specs.rows.Database.{Database}
 use Rattle.ov_specs.specs.rows.Suits.{Suits}
 use Rattle.ov_stage.specs.Staging.{Stage}
 use Rattle.ov_specs.proofs.laws.FoundRows.{one_row_less}
-use Rattle.test_support.proofs.changes.remove_row.Goals as goal
+use Rattle.test_commits.proofs.changes.remove_row.Goals as goal
 
 pub finished-requires-clause-suits : goal.finished-requires-clause-suits
 finished-requires-clause-suits g c =

@@ -2,7 +2,7 @@ use Rattle.std.proofs.Common.{sym, ap, subst, ◌∙◌}
 use Rattle.ov_specs.specs.rows.Database.{Database}
 use Rattle.ov_specs.specs.rows.Suits.{Suits}
 use Rattle.ov_stage.specs.Staging.{Stage}
-use Rattle.test_support.proofs.changes.commit_nothing.Goals as goal
+use Rattle.test_commits.proofs.changes.commit_nothing.Goals as goal
 
 pub finished-requires-clause-suits : goal.finished-requires-clause-suits
 finished-requires-clause-suits g c =

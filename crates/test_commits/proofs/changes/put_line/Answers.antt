@@ -8,8 +8,8 @@ use Rattle.ov_specs.specs.rows.Suits.{Suits}
 use Rattle.ov_specs.specs.rows.Version.{row_now}
 use Rattle.ov_specs.specs.schema.SchemaTypes.{Schema}
 use Rattle.ov_stage.specs.Staging.{Stage}
-use Rattle.test_support.proofs.Commits.{put_suits}
-use Rattle.test_support.proofs.changes.put_line.Goals as goal
+use Rattle.test_commits.proofs.Commits.{put_suits}
+use Rattle.test_commits.proofs.changes.put_line.Goals as goal
 
 pub finished-requires-clause-suits : goal.finished-requires-clause-suits
 finished-requires-clause-suits g c =

@@ -5,8 +5,8 @@ use Rattle.ov_specs.specs.rows.Database.{Database}
 use Rattle.ov_specs.specs.rows.Suits.{Suits}
 use Rattle.ov_specs.specs.schema.Schema.{IsAccepted}
 use Rattle.ov_specs.specs.schema.SchemaTypes.{Schema}
-use Rattle.test_support.proofs.Commits.{finished_suits, finished_whole}
-use Rattle.test_support.proofs.changes.finished.Goals as goal
+use Rattle.test_commits.proofs.Commits.{finished_suits, finished_whole}
+use Rattle.test_commits.proofs.changes.finished.Goals as goal
 
 pub finish-requires-clause-suits : goal.finish-requires-clause-suits
 finish-requires-clause-suits g c = subst (λ (schema : Schema). Suits schema c.args.stage.now) (sym c.schema-2.ensures) c.requires.suits
