@@ -6,9 +6,9 @@ use Rattle.ov_specs.specs.machine.Machine as machine
 use Rattle.ov_specs.specs.rows.Database.{Database}
 use Rattle.ov_db.specs.KeptDatabase.{KeptDatabase}
 use Rattle.ov_keeper.specs.Keeping.{HasFailed}
-use Rattle.ov_core.specs.declared.event.Outcome.{Outcome}
-use Rattle.ov_core.specs.declared.event.Outcome.TheVariants as outcome
-use Rattle.ov_core.specs.Entries.{attempt_view, listed_by, is_of_store, is_failure, some_outcome}
+use Rattle.ov_history.specs.declared.event.Outcome.{Outcome}
+use Rattle.ov_history.specs.declared.event.Outcome.TheVariants as outcome
+use Rattle.ov_history.specs.Entries.{attempt_view, listed_by, is_of_store, is_failure, some_outcome}
 use Rattle.ov_core.specs.Handling.{AsksStore, AsksAll}
 
 -- ---- one after another

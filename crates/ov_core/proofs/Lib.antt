@@ -1,7 +1,6 @@
 pub mod Watching
 pub mod Leaves
 pub mod Refusing
-pub mod Histories
 pub mod Steps
 pub mod Preparings
 pub mod Prepared

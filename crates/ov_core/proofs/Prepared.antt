@@ -21,7 +21,7 @@ use Rattle.ov_core.specs.Handling.{PostsIfRoom, IsTrial}
 use Rattle.ov_core.specs.Preparing.{IsPrepared, Prepares, SendsPrepared, outcome_after}
 use Rattle.ov_core.specs.States.{sessions_of}
 use Rattle.ov_core.specs.declared.attempt.Trial.TheVariants.{Done}
-use Rattle.ov_core.specs.declared.event.Outcome.{Outcome}
+use Rattle.ov_history.specs.declared.event.Outcome.{Outcome}
 use Rattle.ov_core.specs.declared.replying.Replying.{Replying}
 use Rattle.ov_outbox.proofs.Answered.{sends_results, posts_after}
 use Rattle.ov_core.proofs.Workings.{answers, posts_from, sent_after, stored}

@@ -19,11 +19,11 @@ use Rattle.ov_watch.specs.Watching.{Watching}
 use Rattle.ov_sessions.specs.declared.session.Session.{Session}
 use Rattle.ov_sessions.proofs.Keying.{still_all, still_others, left_then}
 use Rattle.ov_core.specs.declared.attempt.Trial.TheVariants.{Done}
-use Rattle.ov_core.specs.declared.event.Attempt.{Attempt}
-use Rattle.ov_core.specs.declared.event.Outcome.{Outcome}
-use Rattle.ov_core.specs.declared.event.Outcome.TheVariants as outcome
+use Rattle.ov_history.specs.declared.event.Attempt.{Attempt}
+use Rattle.ov_history.specs.declared.event.Outcome.{Outcome}
+use Rattle.ov_history.specs.declared.event.Outcome.TheVariants as outcome
 use Rattle.ov_core.specs.declared.live.Live.{Live}
-use Rattle.ov_core.specs.Entries.{attempt_view, listed_by, is_closing, is_kept}
+use Rattle.ov_history.specs.Entries.{attempt_view, listed_by, is_closing, is_kept}
 use Rattle.ov_core.specs.Handling.{AsksStore, AsksAll, IsCompleted, IsTrial, listed_of, with_db}
 use Rattle.ov_core.specs.Sessions.{ClosesSession}
 use Rattle.ov_core.specs.States.{state_of, sessions_of}

@@ -20,19 +20,19 @@ use Rattle.ov_sessions.specs.Sessions.{OpenSessions}
 use Rattle.ov_sessions.specs.declared.session.Session.{Session}
 use Rattle.ov_sessions.proofs.Keying.{shut_without, still_others}
 use Rattle.ov_requests.specs.Drawing.{DrawsFrom}
-use Rattle.ov_core.specs.declared.event.Attempt.{Attempt}
-use Rattle.ov_core.specs.declared.event.Entry.{Entry}
-use Rattle.ov_core.specs.declared.event.Stepped.TheVariants as answer
+use Rattle.ov_history.specs.declared.event.Attempt.{Attempt}
+use Rattle.ov_history.specs.declared.event.Entry.{Entry}
+use Rattle.ov_history.specs.declared.event.Stepped.TheVariants as answer
 use Rattle.ov_core.specs.declared.live.Live.{Live}
-use Rattle.ov_core.specs.Entries.{attempt_view, entry_view, is_failure}
+use Rattle.ov_history.specs.Entries.{attempt_view, entry_view, is_failure}
 use Rattle.ov_core.specs.Sessions.{ClosesSession, OpensLive}
 use Rattle.ov_core.specs.States.{state_of}
 use Rattle.ov_core.specs.Settling.{ComesTo}
 use Rattle.ov_core.specs.Following.{CoreState, EntersEntry, Follows, none_given}
-use Rattle.ov_core.specs.History.{newest, HasHistory}
+use Rattle.ov_history.specs.History.{newest, HasHistory}
 use Rattle.ov_core.specs.Stepping.{closing, AsksKeeper, Closes, HasSameKeeper, IsEntered, has_outcome}
 use Rattle.ov_outbox.proofs.Answered.{frames_to-append}
-use Rattle.ov_core.proofs.Histories.{entered_behind, keeps_more, has_more}
+use Rattle.ov_history.proofs.Histories.{entered_behind, keeps_more, has_more}
 use Rattle.ov_core.proofs.Settlings.{closed_state}
 use Rattle.ov_core.proofs.Watching.{any-serial, left-open, sessions-opened}
 

@@ -13,11 +13,11 @@ use Rattle.ov_sessions.specs.Sessions.{without_serial}
 use Rattle.ov_requests.specs.Waiting.{WaitingList}
 use Rattle.ov_watch.specs.Watching.{monitors_at}
 use Rattle.ov_sessions.proofs.Keying.{still_all, still_others, left_then}
-use Rattle.ov_core.specs.declared.event.Attempt.{Attempt}
-use Rattle.ov_core.specs.declared.event.Outcome.{Outcome}
-use Rattle.ov_core.specs.declared.event.Outcome.TheVariants as outcome
+use Rattle.ov_history.specs.declared.event.Attempt.{Attempt}
+use Rattle.ov_history.specs.declared.event.Outcome.{Outcome}
+use Rattle.ov_history.specs.declared.event.Outcome.TheVariants as outcome
 use Rattle.ov_core.specs.declared.live.Live.{Live}
-use Rattle.ov_core.specs.Entries.{attempt_view, listed_by, is_kept, is_closing}
+use Rattle.ov_history.specs.Entries.{attempt_view, listed_by, is_kept, is_closing}
 use Rattle.ov_core.specs.Handling.{AsksStore, Stays, WorkIsDone, WorksWith, listed_of}
 use Rattle.ov_core.specs.Sessions.{ClosesSession}
 use Rattle.ov_core.specs.Settling.{ComesTo, Settles, most_tries}

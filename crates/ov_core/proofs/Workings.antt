@@ -30,8 +30,8 @@ use Rattle.ov_requests.specs.Asked.{IsWork, IsWithoutDraws}
 use Rattle.ov_requests.specs.declared.answer.Work as code
 use Rattle.ov_requests.specs.declared.answer.Work.TheVariants as kinds
 use Rattle.ov_core.specs.declared.attempt.Trial.TheVariants.{Done}
-use Rattle.ov_core.specs.declared.event.Outcome.{Outcome}
-use Rattle.ov_core.specs.declared.event.Outcome.TheVariants as outcome
+use Rattle.ov_history.specs.declared.event.Outcome.{Outcome}
+use Rattle.ov_history.specs.declared.event.Outcome.TheVariants as outcome
 use Rattle.ov_core.specs.declared.live.Live.{Live}
 use Rattle.ov_core.specs.Leaving.{LeavesItsOwn}
 use Rattle.ov_core.specs.Preparing.{outcome_after}

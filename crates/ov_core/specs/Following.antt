@@ -3,9 +3,9 @@ use Rattle.std.specs.Prelude.{◌≡◌, ℕ, ◌==◌, ◌++◌, List, [], ◌�
 use Rattle.ov_specs.specs.machine.Machine as machine
 use Rattle.ov_specs.specs.machine.Machine.{State, Sent}
 use Rattle.ov_specs.specs.machine.History.{run, frames_to}
-use Rattle.ov_core.specs.declared.event.Entry.{Entry}
+use Rattle.ov_history.specs.declared.event.Entry.{Entry}
 use Rattle.ov_sessions.specs.declared.session.Session.{Session}
-use Rattle.ov_core.specs.History.{Keeps, KeepsNewest}
+use Rattle.ov_history.specs.History.{Keeps, KeepsNewest}
 use Rattle.ov_outbox.specs.Frames.{WaitingFrames, waiting_for, PostsSent}
 
 -- what contracts see of a core: its state, the open sessions with their keys in order of opening, the entries that it keeps, the

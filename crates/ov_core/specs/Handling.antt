@@ -14,12 +14,12 @@ use Rattle.ov_outbox.specs.Frames.{WaitingFrames, PostsSent, HasSameFrames}
 use Rattle.ov_outbox.specs.Outbox.{Outbox}
 use Rattle.ov_requests.specs.Waiting.{has_text}
 use Rattle.ov_watch.specs.Watching.{monitors_at}
-use Rattle.ov_core.specs.Entries.{outcome_view, is_kept, is_of_store, is_failure, some_outcome}
+use Rattle.ov_history.specs.Entries.{outcome_view, is_kept, is_of_store, is_failure, some_outcome}
 use Rattle.ov_core.specs.States.{state_of}
 use Rattle.ov_core.specs.declared.attempt.Trial.{Trial}
 use Rattle.ov_core.specs.declared.attempt.Trial.TheVariants.{Done, Blocked}
-use Rattle.ov_core.specs.declared.event.Outcome.{Outcome}
-use Rattle.ov_core.specs.declared.event.Outcome.TheVariants as outcome
+use Rattle.ov_history.specs.declared.event.Outcome.{Outcome}
+use Rattle.ov_history.specs.declared.event.Outcome.TheVariants as outcome
 use Rattle.ov_core.specs.declared.handle.Handled.{Handled}
 use Rattle.ov_core.specs.declared.live.Live.{Live}
 

@@ -1,5 +1,3 @@
-pub mod Entries
-pub mod History
 pub mod States
 pub mod Sessions
 pub mod Handling

@@ -17,8 +17,8 @@ use Rattle.ov_txn.specs.declared.ready.Replies.{Replies}
 use Rattle.ov_txn.specs.declared.tried.Tried.{Tried}
 use Rattle.ov_txn.specs.declared.tried.Tried.TheVariants.{Answer, Stored, Blocked, NoMemory}
 use Rattle.ov_core.specs.States.{sessions_of}
-use Rattle.ov_core.specs.declared.event.Outcome.{Outcome}
-use Rattle.ov_core.specs.declared.event.Outcome.TheVariants as outcome
+use Rattle.ov_history.specs.declared.event.Outcome.{Outcome}
+use Rattle.ov_history.specs.declared.event.Outcome.TheVariants as outcome
 use Rattle.ov_core.specs.declared.frames.Frames.{Frames}
 use Rattle.ov_core.specs.declared.replying.Replying.{Replying}
 

@@ -8,13 +8,13 @@ use Rattle.ov_specs.proofs.laws.SettlingOn.{Reaches}
 use Rattle.ov_outbox.specs.Frames.{PostsSent}
 use Rattle.ov_sessions.specs.Sessions.{IsLeft, has_serial}
 use Rattle.ov_requests.specs.Waiting.{WaitingList, many}
-use Rattle.ov_core.specs.Entries.{attempt_view}
+use Rattle.ov_history.specs.Entries.{attempt_view}
 use Rattle.ov_core.specs.Handling.{AsksAll}
 use Rattle.ov_core.specs.Sessions.{ClosesSession}
 use Rattle.ov_core.specs.States.{state_of}
-use Rattle.ov_core.specs.declared.event.Attempt.{Attempt}
-use Rattle.ov_core.specs.declared.event.Outcome.{Outcome}
-use Rattle.ov_core.specs.declared.event.Outcome.TheVariants as outcome
+use Rattle.ov_history.specs.declared.event.Attempt.{Attempt}
+use Rattle.ov_history.specs.declared.event.Outcome.{Outcome}
+use Rattle.ov_history.specs.declared.event.Outcome.TheVariants as outcome
 use Rattle.ov_core.specs.declared.live.Live.{Live}
 
 -- all that wait are tried from the first on

@@ -6,11 +6,11 @@ use Rattle.ov_specs.specs.machine.Suiting.{draws_uuids}
 use Rattle.ov_specs.specs.values.Uuid.{Uuid}
 use Rattle.ov_keeper.specs.Keeping.{HasFailed}
 use Rattle.ov_requests.specs.Drawing.{DrawsFrom}
-use Rattle.ov_core.specs.Entries.{is_of_store, is_failure, some_outcome}
-use Rattle.ov_core.specs.declared.event.StepFault.{StepFault}
-use Rattle.ov_core.specs.declared.event.StepFault.TheVariants as fault
-use Rattle.ov_core.specs.declared.event.Stepped.{Stepped}
-use Rattle.ov_core.specs.declared.event.Stepped.TheVariants as answer
+use Rattle.ov_history.specs.Entries.{is_of_store, is_failure, some_outcome}
+use Rattle.ov_history.specs.declared.event.StepFault.{StepFault}
+use Rattle.ov_history.specs.declared.event.StepFault.TheVariants as fault
+use Rattle.ov_history.specs.declared.event.Stepped.{Stepped}
+use Rattle.ov_history.specs.declared.event.Stepped.TheVariants as answer
 use Rattle.ov_sessions.specs.Sessions.{most_sessions, has_no_room, IsFreeKey}
 use Rattle.ov_core.specs.States.{still_open}
 use Rattle.ov_core.specs.Following.{CoreState, EntersEntry}

@@ -7,12 +7,12 @@ ghost use Rattle.ov_core.specs.Handling.{AsksStore, IsTrial, PostsIfRoom, outcom
 ghost use Rattle.ov_core.specs.Preparing.{SendsPrepared, outcome_after};
 ghost use Rattle.ov_core.specs.States.{sessions_of};
 
-use crate::event::Outcome;
 use crate::owner::Owner;
 use crate::replying::{Audience, Replying};
 use crate::send::send;
 use ov_base::{Bytes, Tree};
 use ov_db::{Db, StoreAnswer};
+use ov_history::Outcome;
 use ov_keeper::Keeper;
 use ov_outbox::{FrameQueues, Outbox, Prepared};
 use ov_requests::Txn;

@@ -12,12 +12,11 @@ ghost use Rattle.ov_core.specs.Settling.{ComesTo};
 ghost use Rattle.ov_core.specs.States.{state_of};
 
 use crate::attempt::{Asked, Trial, try_once};
-use crate::entry::{is_closing, is_kept, list};
-use crate::event::{Attempt, Outcome};
 use crate::live::Live;
 use crate::replying::Audience;
 use crate::send::send;
 use ov_base::{Bytes, Tree, Trees};
+use ov_history::{Attempt, Outcome, is_closing, is_kept, list_attempt};
 use ov_keeper::Keeper;
 use ov_requests::{Draws, Outstanding, Txn, Work, work_of};
 use ov_rpc::{Message, failure};
@@ -80,7 +79,7 @@ impl<K: Keeper + Drop> Live<K> {
         ensures uuids { list_all is_uuid result.items ≡ true }
     {
         let Handled { draws, outcome } = self.handle(alloc, moment, session, message, source);
-        list(attempts, 1, outcome);
+        list_attempt(attempts, 1, outcome);
         if is_closing(outcome) {
             self.close(session);
             return draws;

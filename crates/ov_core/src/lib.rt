@@ -5,11 +5,8 @@
 
 mod attempt;
 pub mod early;
-mod entry;
-mod event;
 mod frames;
 mod handle;
-mod history;
 mod live;
 mod lock;
 mod machine;
@@ -19,7 +16,7 @@ mod send;
 mod settle;
 mod watch;
 
-pub use event::{Attempt, Cause, Choice, Entry, Event, Outcome, StepFault, Stepped};
 pub use machine::Core;
+pub use ov_history::{Attempt, Cause, Choice, Entry, Event, Outcome, StepFault, Stepped};
 pub use ov_schema::{Schema, SchemaFault};
 pub use ov_sessions::Session;

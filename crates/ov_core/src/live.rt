@@ -4,8 +4,8 @@ ghost use Rattle.ov_sessions.specs.Sessions.{has_no_room};
 ghost use Rattle.ov_core.specs.Sessions.{ClosesSession, OpensLive};
 ghost use Rattle.ov_core.specs.Settling.{ComesTo};
 
-use crate::event::Attempt;
 use ov_db::Db;
+use ov_history::Attempt;
 use ov_keeper::Keeper;
 use ov_outbox::Outbox;
 use ov_requests::Waiting;

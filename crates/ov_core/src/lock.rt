@@ -4,10 +4,10 @@ ghost use Rattle.ov_specs.specs.locks.Queues.{call_refusal};
 ghost use Rattle.ov_specs.specs.machine.Machine as spec;
 ghost use Rattle.ov_core.specs.Handling.{WorksWith, HasSameRest};
 
-use crate::event::Outcome;
 use crate::live::Live;
 use crate::send::send;
 use ov_base::Tree;
+use ov_history::Outcome;
 use ov_keeper::Keeper;
 use ov_locks::{LockCall, LockFault};
 use ov_rpc::failure;

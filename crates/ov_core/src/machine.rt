@@ -7,21 +7,21 @@ ghost use Rattle.ov_keeper.specs.Keeping.{LeavesNoMore, HasFailed};
 ghost use Rattle.ov_keeper.specs.declared.fault.KeepFault.TheVariants.{Device};
 ghost use Rattle.ov_db.specs.Opening.{CanOpen, IsOpenFault, RefusesOpen};
 ghost use Rattle.ov_db.specs.declared.fault.OpenFault.TheVariants.{Keeping};
-ghost use Rattle.ov_core.specs.Entries.{event_view, cause_view};
+ghost use Rattle.ov_history.specs.Entries.{event_view, cause_view};
 ghost use Rattle.ov_outbox.specs.Frames.{waiting_for, has_queue};
-ghost use Rattle.ov_core.specs.History.{HasHistory};
+ghost use Rattle.ov_history.specs.History.{HasHistory};
 ghost use Rattle.ov_core.specs.Following.{Follows, none_given, and_handed, and_all_handed};
 ghost use Rattle.ov_sessions.specs.Sessions.{most_sessions, serial_left};
 ghost use Rattle.ov_core.specs.Stepping.{StepIs, Closes};
 ghost use Rattle.ov_core.specs.Leaving.{LeavesItsOwn};
 ghost use Rattle.ov_db.specs.Committing.{AreKept, MayFind};
 
-use crate::entry::{entry_with_choice, entry_without_choice};
-use crate::event::{Cause, Entry, Event, StepFault, Stepped};
-use crate::history::History;
 use crate::live::Live;
 use ov_base::Bytes;
 use ov_db::{Db, OpenFault, RefusedOpen};
+use ov_history::{
+    Cause, Entry, Event, History, StepFault, Stepped, entry_with_choice, entry_without_choice,
+};
 use ov_keeper::{KeepFault, Keeper};
 use ov_requests::Draws;
 use ov_rpc::Received;
@@ -50,7 +50,7 @@ impl<K: Keeper, D> Model for Core<K, D> {
     ghost use Rattle.ov_specs.specs.codes.MonitorCode.{monitor_code};
     ghost use Rattle.ov_rows.specs.Resident.{database_code};
     ghost use Rattle.ov_core.specs.Following.{CoreState};
-    ghost use Rattle.ov_core.specs.History.{HasHistory};
+    ghost use Rattle.ov_history.specs.History.{HasHistory};
     ghost use Rattle.ov_core.specs.States.{state_of};
 
     ghost Value = { CoreState K D };

@@ -4,8 +4,8 @@ ghost use Rattle.ov_specs.specs.wire.Frame.{frame as spec_frame};
 ghost use Rattle.ov_specs.specs.machine.Machine.{to_session};
 ghost use Rattle.ov_core.specs.Handling.{PostsIfRoom, IsUnasked};
 
-use crate::event::Outcome;
 use ov_base::Bytes;
+use ov_history::Outcome;
 use ov_outbox::Outbox;
 use std::alloc::Global;
 

@@ -5,15 +5,14 @@ ghost use Rattle.ov_requests.specs.Waiting.{many};
 ghost use Rattle.ov_core.specs.Handling.{AsksStore, IsTrial, outcome_in};
 ghost use Rattle.ov_core.specs.Settling.{AfterTry, to_do, IsSettling, Settles};
 ghost use Rattle.ov_core.specs.States.{sessions_of};
-ghost use Rattle.ov_core.specs.declared.event.Attempt.{Attempt as Listed};
+ghost use Rattle.ov_history.specs.declared.event.Attempt.{Attempt as Listed};
 ghost use Rattle.ov_core.specs.declared.live.Live.{Live as Living};
 
 use crate::attempt::{Asked, Trial, try_once};
-use crate::entry::{is_closing, is_kept, list};
-use crate::event::{Attempt, Outcome};
 use crate::live::Live;
 use crate::replying::Audience;
 use ov_db::Db;
+use ov_history::{Attempt, Outcome, is_closing, is_kept, list_attempt};
 use ov_keeper::Keeper;
 use ov_outbox::Outbox;
 use ov_requests::Outstanding;
@@ -81,7 +80,7 @@ impl<K: Keeper + Drop> Live<K> {
                 number + 1
             }
             Trial::Done(outcome) => {
-                list(attempts, number, outcome);
+                list_attempt(attempts, number, outcome);
                 self.waiting.drop_next();
                 self.after_try(session, outcome);
                 number + 1

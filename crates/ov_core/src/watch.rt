@@ -9,10 +9,10 @@ ghost use Rattle.ov_specs.specs.wire.Frame.{reply_tree};
 ghost use Rattle.ov_core.specs.Handling.{PostsIfRoom, WorksWith, HasSameRest};
 ghost use Rattle.ov_core.specs.States.{state_of};
 
-use crate::event::Outcome;
 use crate::live::Live;
 use crate::send::send;
 use ov_base::Tree;
+use ov_history::Outcome;
 use ov_keeper::Keeper;
 use ov_rpc::reply;
 use ov_watch::WatchFault;

@@ -8,7 +8,7 @@ use Rattle.ov_specs.specs.machine.Machine.{Stepped, is_open}
 use Rattle.ov_specs.specs.machine.History.{requests}
 use Rattle.ov_specs.proofs.laws.Turns.{turn_close, turn_close_other}
 use Rattle.ov_outbox.specs.Frames.{waiting_for}
-use Rattle.ov_core.specs.declared.event.Cause.TheVariants as told
+use Rattle.ov_history.specs.declared.event.Cause.TheVariants as told
 use Rattle.ov_core.specs.Following.{CoreState}
 use Rattle.ov_core.specs.Stepping.{Closes, closing}
 use Rattle.ov_lanes.specs.Courses.{Course, Spares}

@@ -10,7 +10,7 @@ use Rattle.ov_specs.proofs.laws.Histories.{closed_by_append}
 use Rattle.ov_outbox.specs.Frames.{waiting_for}
 use Rattle.ov_workers.specs.Reading.{SourceState}
 use Rattle.ov_workers.specs.Writing.{SinkState}
-use Rattle.ov_core.specs.declared.event.Cause.{Cause}
+use Rattle.ov_history.specs.declared.event.Cause.{Cause}
 use Rattle.ov_core.specs.Following.{CoreState}
 use Rattle.ov_lanes.specs.Since.{Since, course_of, and_then_handed}
 use Rattle.ov_desk.specs.Outcome.{Outcome}

@@ -16,9 +16,9 @@ use Rattle.ov_specs.proofs.laws.Turns.{Turn, turn_open}
 use Rattle.ov_specs.proofs.laws.Truths.{or_truth, or_nothing}
 use Rattle.ov_outbox.specs.Frames.{waiting_for}
 use Rattle.ov_sessions.specs.declared.session.Session.{Session}
-use Rattle.ov_core.specs.declared.event.Stepped.TheVariants as answer
+use Rattle.ov_history.specs.declared.event.Stepped.TheVariants as answer
 use Rattle.ov_core.specs.Following.{CoreState, Follows}
-use Rattle.ov_core.specs.History.{HasHistory}
+use Rattle.ov_history.specs.History.{HasHistory}
 use Rattle.ov_core.specs.Stepping.{IsEntered}
 use Rattle.ov_lanes.specs.Courses.{Course, Spares}
 use Rattle.ov_lanes.specs.Since.{Since, course_of, and_then_handed}

@@ -7,9 +7,9 @@ use Rattle.ov_specs.specs.schema.SchemaTypes.{Schema}
 use Rattle.ov_specs.specs.rows.Database.{Database}
 use Rattle.ov_workers.specs.Reading.{SourceState}
 use Rattle.ov_workers.specs.Writing.{SinkState}
-use Rattle.ov_core.specs.declared.event.Cause.{Cause}
-use Rattle.ov_core.specs.declared.event.Cause.TheVariants.{InputEnded, ReadFault, WriteFault, Damaged, Overrun, Memory}
-use Rattle.ov_core.specs.Entries.{cause_view}
+use Rattle.ov_history.specs.declared.event.Cause.{Cause}
+use Rattle.ov_history.specs.declared.event.Cause.TheVariants.{InputEnded, ReadFault, WriteFault, Damaged, Overrun, Memory}
+use Rattle.ov_history.specs.Entries.{cause_view}
 use Rattle.ov_core.specs.Following.{CoreState, Follows}
 use Rattle.ov_lanes.specs.Courses.{Course}
 use Rattle.ov_lanes.specs.Since.{Since}

@@ -3,7 +3,7 @@ ghost use Rattle.std.specs.VecDeque.{deque_capacity};
 ghost use Rattle.ov_lanes.specs.declared.lane.Lane.{Lane as SpecLane};
 ghost use Rattle.ov_desk.specs.Pairs.{Pairwise, Threewise};
 ghost use Rattle.ov_desk.specs.Ends.{EndsLane};
-ghost use Rattle.ov_core.specs.declared.event.Cause.TheVariants.{WriteFault, Memory};
+ghost use Rattle.ov_history.specs.declared.event.Cause.TheVariants.{WriteFault, Memory};
 ghost use Rattle.rtrb.specs.Ring.{sent, received, IsPair};
 ghost use Rattle.ov_workers.specs.Reading.{source_state};
 ghost use Rattle.ov_workers.specs.Writing.{sink_state};

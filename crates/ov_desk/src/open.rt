@@ -5,7 +5,7 @@ ghost use Rattle.ov_desk.specs.Pairs.{Pairwise, Each};
 ghost use Rattle.rtrb.specs.Ring.{sent, received, known_free};
 ghost use Rattle.ov_specs.specs.machine.Machine.{Open as SpecOpen};
 ghost use Rattle.ov_core.specs.Stepping.{IsEntered, RefusesStep};
-ghost use Rattle.ov_core.specs.declared.event.Stepped.TheVariants.{Opened};
+ghost use Rattle.ov_history.specs.declared.event.Stepped.TheVariants.{Opened};
 ghost use Rattle.ov_desk.specs.Opening.{OpensAll, ClosesAgain, DropsSession};
 ghost use Rattle.ov_lanes.specs.declared.lane.Lane.{Lane as SpecLane};
 

@@ -13,14 +13,14 @@ use Rattle.ov_specs.proofs.laws.Queueing.{InOrder, run_in_order}
 use Rattle.ov_specs.proofs.laws.Turns.{MayClose, turn_close, turn_close_other, turn_take, turn_take_other, turn_tick, open_to_take}
 use Rattle.ov_outbox.specs.Frames.{waiting_for}
 use Rattle.ov_outbox.proofs.Answered.{frames_to-append}
-use Rattle.ov_core.specs.declared.event.Cause.{Cause}
-use Rattle.ov_core.specs.declared.event.Stepped.{Stepped as Reply}
-use Rattle.ov_core.specs.declared.event.Stepped.TheVariants as answer
-use Rattle.ov_core.specs.declared.event.StepFault.TheVariants as fault
-use Rattle.ov_core.specs.Entries.{cause_view, entry_view}
+use Rattle.ov_history.specs.declared.event.Cause.{Cause}
+use Rattle.ov_history.specs.declared.event.Stepped.{Stepped as Reply}
+use Rattle.ov_history.specs.declared.event.Stepped.TheVariants as answer
+use Rattle.ov_history.specs.declared.event.StepFault.TheVariants as fault
+use Rattle.ov_history.specs.Entries.{cause_view, entry_view}
 use Rattle.ov_core.specs.Following.{CoreState, Follows, EntersEntry, and_handed, and_all_handed}
 use Rattle.ov_core.specs.Stepping.{StepIs, Closes, closing}
-use Rattle.ov_core.proofs.Histories.{keeps_on}
+use Rattle.ov_history.proofs.Histories.{keeps_on}
 use Rattle.ov_lanes.specs.Courses.{Spares}
 use Rattle.ov_lanes.specs.Since.{HandsOut, and_then_handed, Since, course_of, Goes}
 use Rattle.ov_lanes.specs.Moving.{ClosesOnce}

@@ -13,9 +13,9 @@ use Rattle.ov_order.specs.declared.items.Sent.{Sent}
 use Rattle.ov_order.specs.declared.items.Sent.TheVariants.{Frame, End}
 use Rattle.ov_workers.specs.declared.cause.ReadCause.{ReadCause}
 use Rattle.ov_workers.specs.declared.cause.ReadCause.TheVariants as reads
-use Rattle.ov_core.specs.declared.event.Cause.{Cause}
-use Rattle.ov_core.specs.declared.event.Cause.TheVariants.{Memory}
-use Rattle.ov_core.specs.Entries.{cause_view}
+use Rattle.ov_history.specs.declared.event.Cause.{Cause}
+use Rattle.ov_history.specs.declared.event.Cause.TheVariants.{Memory}
+use Rattle.ov_history.specs.Entries.{cause_view}
 use Rattle.ov_lanes.specs.Courses.{Course, Spares}
 use Rattle.ov_lanes.specs.Fitting.{Items, brought, end_cause, is_by_reader, Took, framed, Puts, Knows, most_frames, FitsCourse, IsSettled}
 use Rattle.ov_lanes.proofs.Own.{OwnHanded, OwnClosed, OwnTook}

@@ -11,8 +11,8 @@ use Rattle.ov_specs.specs.values.Uuid.{Uuid}
 use Rattle.ov_order.specs.declared.items.Brought.{Brought}
 use Rattle.ov_order.specs.declared.items.Brought.TheVariants.{Message as Brings, End as Last}
 use Rattle.ov_workers.specs.declared.cause.ReadCause.{ReadCause}
-use Rattle.ov_core.specs.declared.event.Cause.{Cause}
-use Rattle.ov_core.specs.declared.event.Cause.TheVariants.{Memory}
+use Rattle.ov_history.specs.declared.event.Cause.{Cause}
+use Rattle.ov_history.specs.declared.event.Cause.TheVariants.{Memory}
 use Rattle.ov_core.specs.Following.{CoreState}
 use Rattle.ov_lanes.specs.Since.{Since, course_of, Goes}
 use Rattle.ov_lanes.specs.Fitting.{Items, FitsCourse, IsSettled, framed, end_cause}

@@ -4,8 +4,8 @@ use Rattle.std.specs.Option.{option_or}
 use Rattle.std.proofs.lemmas.Bool.{false≢true}
 use Rattle.ov_specs.specs.wire.Message.{Message}
 use Rattle.ov_specs.specs.machine.Machine as machine
-use Rattle.ov_core.specs.declared.event.Cause.{Cause}
-use Rattle.ov_core.specs.Entries.{cause_view}
+use Rattle.ov_history.specs.declared.event.Cause.{Cause}
+use Rattle.ov_history.specs.Entries.{cause_view}
 use Rattle.ov_lanes.specs.Courses.{Course, Spares}
 
 pub spares_same : (c : Course) → Spares c c

@@ -12,8 +12,8 @@ use Rattle.ov_specs.specs.rows.Database.{Database}
 use Rattle.ov_specs.specs.schema.SchemaTypes.{Schema}
 use Rattle.ov_specs.proofs.laws.Queueing.{InOrder, run_in_order, step_sends_open}
 use Rattle.ov_specs.proofs.laws.Turns.{stepped}
-use Rattle.ov_core.specs.History.{HasHistory}
-use Rattle.ov_core.specs.declared.event.Entry.{Entry as Kept}
+use Rattle.ov_history.specs.History.{HasHistory}
+use Rattle.ov_history.specs.declared.event.Entry.{Entry as Kept}
 use Rattle.ov_core.proofs.Leaves.{leaving_silent}
 
 -- a choice that suits

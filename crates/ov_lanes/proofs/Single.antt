@@ -2,7 +2,7 @@
 use Rattle.std.proofs.Common.{◌≡◌, ℕ, List, sym, ap, subst, Bool, Option}
 use Rattle.rtrb.specs.Ring.{sent, received}
 use Rattle.ov_order.specs.declared.items.Sent.{Sent}
-use Rattle.ov_core.specs.declared.event.Cause.{Cause}
+use Rattle.ov_history.specs.declared.event.Cause.{Cause}
 use Rattle.ov_core.specs.Following.{CoreState}
 use Rattle.ov_lanes.specs.Since.{Since, course_of}
 use Rattle.ov_lanes.specs.Fitting.{Items, FitsCourse, IsSettled}

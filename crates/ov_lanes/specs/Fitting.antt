@@ -9,8 +9,8 @@ use Rattle.ov_order.specs.declared.items.Sent.{Sent}
 use Rattle.ov_order.specs.declared.items.Sent.TheVariants.{Frame, End}
 use Rattle.ov_workers.specs.declared.cause.ReadCause.{ReadCause}
 use Rattle.ov_workers.specs.declared.cause.ReadCause.TheVariants as reads
-use Rattle.ov_core.specs.declared.event.Cause.{Cause}
-use Rattle.ov_core.specs.Entries.{cause_view}
+use Rattle.ov_history.specs.declared.event.Cause.{Cause}
+use Rattle.ov_history.specs.Entries.{cause_view}
 use Rattle.ov_lanes.specs.Courses.{Course}
 
 -- ---- what a reader brings

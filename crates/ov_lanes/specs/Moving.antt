@@ -4,11 +4,11 @@ use Rattle.ov_specs.specs.machine.Machine as machine
 use Rattle.ov_specs.specs.machine.Machine.{is_open}
 use Rattle.ov_outbox.specs.Frames.{waiting_for}
 use Rattle.ov_order.specs.declared.items.Sent.{Sent}
-use Rattle.ov_core.specs.declared.event.Cause.{Cause}
-use Rattle.ov_core.specs.Entries.{cause_view}
+use Rattle.ov_history.specs.declared.event.Cause.{Cause}
+use Rattle.ov_history.specs.Entries.{cause_view}
 use Rattle.ov_core.specs.Following.{CoreState}
 use Rattle.ov_core.specs.Stepping.{Closes, StepIs}
-use Rattle.ov_core.specs.declared.event.Stepped.{Stepped}
+use Rattle.ov_history.specs.declared.event.Stepped.{Stepped}
 use Rattle.ov_specs.specs.values.Uuid.{Uuid}
 use Rattle.ov_specs.specs.wire.Message.{Message}
 use Rattle.ov_order.specs.declared.items.Brought.{Brought}

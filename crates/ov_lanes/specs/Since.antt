@@ -5,7 +5,7 @@ use Rattle.ov_specs.specs.machine.Machine.{State, Sent, is_open}
 use Rattle.ov_specs.specs.machine.History.{run, frames_to, requests, closed_by}
 use Rattle.ov_outbox.specs.Frames.{waiting_for}
 use Rattle.ov_core.specs.Following.{CoreState, Follows, and_all_handed}
-use Rattle.ov_core.specs.History.{KeepsNewest, HasHistory}
+use Rattle.ov_history.specs.History.{KeepsNewest, HasHistory}
 use Rattle.ov_lanes.specs.Courses.{Course, Spares}
 
 -- these frames were handed out of the session, and nothing else was done

@@ -5,15 +5,15 @@ ghost use Rattle.ov_order.specs.declared.items.Sent.TheVariants.{End};
 ghost use Rattle.ov_specs.specs.machine.Machine as machine;
 ghost use Rattle.ov_specs.specs.wire.Message.{Message};
 ghost use Rattle.ov_workers.specs.declared.cause.ReadCause.{ReadCause as SpecReadCause};
-ghost use Rattle.ov_core.specs.Entries.{cause_view};
+ghost use Rattle.ov_history.specs.Entries.{cause_view};
 ghost use Rattle.ov_core.specs.Following.{CoreState};
-ghost use Rattle.ov_core.specs.declared.event.Cause.TheVariants.{Memory};
+ghost use Rattle.ov_history.specs.declared.event.Cause.TheVariants.{Memory};
 ghost use Rattle.ov_lanes.specs.Since.{Since};
 ghost use Rattle.ov_lanes.specs.Fitting.{end_cause};
 ghost use Rattle.ov_lanes.specs.Lanes.{LaneFits, Moves, Settles, SameLane};
 ghost use Rattle.ov_lanes.specs.Moving.{ClosesOnce, MovesFrames, GivesUp, TakesItem, SameInbound};
 ghost use Rattle.ov_core.specs.Stepping.{StepIs};
-ghost use Rattle.ov_core.specs.declared.event.Stepped.{Stepped as SpecStepped};
+ghost use Rattle.ov_history.specs.declared.event.Stepped.{Stepped as SpecStepped};
 
 use crate::lane::Lane;
 use ov_core::early::{Draws, Keeper};

@@ -10,8 +10,8 @@ use Rattle.ov_specs.proofs.laws.Turns.{turn_open}
 use Rattle.ov_specs.proofs.laws.Truths.{or_truth}
 use Rattle.ov_outbox.specs.Frames.{waiting_for}
 use Rattle.ov_sessions.specs.declared.session.Session.{Session}
-use Rattle.ov_core.specs.declared.event.Cause.TheVariants as told
-use Rattle.ov_core.specs.declared.event.Stepped.TheVariants as answer
+use Rattle.ov_history.specs.declared.event.Cause.TheVariants as told
+use Rattle.ov_history.specs.declared.event.Stepped.TheVariants as answer
 use Rattle.ov_core.specs.Following.{CoreState}
 use Rattle.ov_core.specs.Stepping.{IsEntered}
 use Rattle.ov_lanes.specs.Courses.{Spares}

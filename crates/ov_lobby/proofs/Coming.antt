@@ -7,9 +7,9 @@ use Rattle.ov_specs.specs.machine.Machine.{State, Entry, Event, Open, Take, Clos
 use Rattle.ov_specs.specs.machine.History.{run, requests, closed_by}
 use Rattle.ov_specs.proofs.laws.Histories.{run_parts}
 use Rattle.ov_specs.proofs.laws.Turns.{MayClose, turn_open, turn_tick, turn_close, turn_close_other, turn_take, turn_take_other}
-use Rattle.ov_core.specs.declared.event.Entry.{Entry as Kept}
+use Rattle.ov_history.specs.declared.event.Entry.{Entry as Kept}
 use Rattle.ov_core.specs.Following.{CoreState}
-use Rattle.ov_core.specs.History.{HasHistory}
+use Rattle.ov_history.specs.History.{HasHistory}
 use Rattle.ov_lanes.specs.Since.{Since}
 use Rattle.ov_lanes.specs.Lanes.{LaneFits}
 use Rattle.ov_lanes.specs.declared.lane.Lane.{Lane}

@@ -10,7 +10,7 @@ use Rattle.rtrb.specs.Ring.{sent, received}
 use Rattle.ov_specs.specs.machine.Machine as machine
 use Rattle.ov_specs.specs.machine.Machine.{is_open}
 use Rattle.ov_core.specs.Following.{CoreState}
-use Rattle.ov_core.specs.History.{HasHistory}
+use Rattle.ov_history.specs.History.{HasHistory}
 use Rattle.ov_lanes.specs.Courses.{Course, Spares}
 use Rattle.ov_lanes.specs.Since.{Since, course_of}
 use Rattle.ov_lanes.specs.Lanes.{LaneFits, Moves}

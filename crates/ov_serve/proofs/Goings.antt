@@ -5,10 +5,10 @@ use Rattle.std.proofs.lemmas.List.{append-nil}
 use Rattle.std.proofs.lemmas.Grind.{flat_map-append}
 use Rattle.ov_specs.specs.machine.Machine.{State, Entry}
 use Rattle.ov_specs.specs.machine.History.{joined}
-use Rattle.ov_core.specs.Entries.{entry_view}
+use Rattle.ov_history.specs.Entries.{entry_view}
 use Rattle.ov_outbox.specs.Frames.{waiting_for}
 use Rattle.ov_core.specs.Following.{CoreState, Follows, Extends, and_handed, and_all_handed}
-use Rattle.ov_core.proofs.Histories.{keeps_on}
+use Rattle.ov_history.proofs.Histories.{keeps_on}
 use Rattle.ov_ends.specs.Writing.{WritesOf}
 use Rattle.ov_serve.specs.Serving.{ExtendsHanding}
 use Rattle.ov_serve.specs.Progress.{Sends}

@@ -14,7 +14,7 @@ use Rattle.ov_specs.proofs.laws.Histories.{leads_none, leads_more, closed_by_mor
 use Rattle.ov_specs.proofs.laws.Turns.{turn_open}
 use Rattle.ov_cut.specs.CutterState.{CutterState, StandsFor}
 use Rattle.ov_sessions.specs.declared.session.Session.{Session}
-use Rattle.ov_core.specs.declared.event.Stepped.TheVariants as answer
+use Rattle.ov_history.specs.declared.event.Stepped.TheVariants as answer
 use Rattle.ov_core.specs.Following.{CoreState}
 use Rattle.ov_core.specs.Stepping.{IsEntered}
 use Rattle.ov_streams.specs.Feeding.{IsFed}

@@ -8,11 +8,11 @@ use Rattle.ov_specs.specs.rows.Database.{Database}
 use Rattle.ov_specs.specs.machine.History.{run, joined, out, closed_by}
 use Rattle.ov_specs.specs.machine.Streams as streams
 use Rattle.ov_specs.specs.machine.Streams.{StreamEvent, Opens, Feed, Passes, Streams, no_streams, ExpandsTimed}
-use Rattle.ov_core.specs.declared.event.Cause.{Cause}
-use Rattle.ov_core.specs.declared.event.Cause.TheVariants.{InputEnded, ReadFault, WriteFault, Damaged, Overrun, Memory}
+use Rattle.ov_history.specs.declared.event.Cause.{Cause}
+use Rattle.ov_history.specs.declared.event.Cause.TheVariants.{InputEnded, ReadFault, WriteFault, Damaged, Overrun, Memory}
 use Rattle.ov_outbox.specs.Frames.{waiting_for}
 use Rattle.ov_core.specs.Following.{CoreState, Follows, and_all_handed}
-use Rattle.ov_core.specs.History.{KeepsNewest}
+use Rattle.ov_history.specs.History.{KeepsNewest}
 use Rattle.ov_ends.specs.Ends.{one_more}
 use Rattle.ov_ends.specs.Writing.{WritesOf}
 

@@ -1,7 +1,7 @@
 ghost use Rattle.std.specs.Prelude.{◌≡◌, ◌⊎◌, ◌≤◌, ◌++◌, ℕ, List, [], ◌∷◌, map, length, true, is_ok, IfOk, IfErr};
 ghost use Rattle.std.specs.Io.KnownBytes.{IsAtEnd};
 ghost use Rattle.ov_specs.specs.machine.Machine.{is_open, Entry as SpecEntry, Open as SpecOpen, Tick as SpecTick};
-ghost use Rattle.ov_core.specs.Entries.{cause_view, event_view, entry_view};
+ghost use Rattle.ov_history.specs.Entries.{cause_view, event_view, entry_view};
 ghost use Rattle.ov_core.specs.Following.{CoreState};
 ghost use Rattle.ov_core.specs.Stepping.{RefusesStep};
 ghost use Rattle.ov_streams.specs.Feeding.{IsFed};

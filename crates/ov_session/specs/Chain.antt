@@ -12,9 +12,9 @@ use Rattle.ov_db.specs.declared.fault.RefusedOpen.{RefusedOpen}
 use Rattle.ov_db.specs.declared.fault.OpenFault.TheVariants.{Keeping}
 use Rattle.ov_db.specs.Committing.{MayFind}
 use Rattle.ov_db.specs.Opening.{CanOpen, IsOpenFault, RefusesOpen}
-use Rattle.ov_core.specs.declared.event.Cause.{Cause}
-use Rattle.ov_core.specs.declared.event.Cause.TheVariants.{InputEnded}
-use Rattle.ov_core.specs.declared.event.StepFault.{StepFault}
+use Rattle.ov_history.specs.declared.event.Cause.{Cause}
+use Rattle.ov_history.specs.declared.event.Cause.TheVariants.{InputEnded}
+use Rattle.ov_history.specs.declared.event.StepFault.{StepFault}
 use Rattle.ov_core.specs.Following.{CoreState, Follows, none_given}
 use Rattle.ov_core.specs.Stepping.{RefusesStep}
 use Rattle.ov_core.specs.Leaving.{LeavesItsOwn}

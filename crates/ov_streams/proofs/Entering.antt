@@ -10,12 +10,12 @@ use Rattle.ov_specs.specs.values.Uuid.{Uuid}
 use Rattle.ov_specs.specs.machine.Streams as streams
 use Rattle.ov_specs.specs.machine.Streams.{Feeds}
 use Rattle.ov_specs.proofs.laws.Turns.{turn_close}
-use Rattle.ov_core.specs.declared.event.Stepped.{Stepped as Reply}
-use Rattle.ov_core.specs.declared.event.Stepped.TheVariants as answer
-use Rattle.ov_core.specs.declared.event.StepFault.TheVariants as fault
+use Rattle.ov_history.specs.declared.event.Stepped.{Stepped as Reply}
+use Rattle.ov_history.specs.declared.event.Stepped.TheVariants as answer
+use Rattle.ov_history.specs.declared.event.StepFault.TheVariants as fault
 use Rattle.ov_core.specs.Following.{CoreState, Follows, Extends}
 use Rattle.ov_core.specs.Stepping.{StepIs, IsEntered}
-use Rattle.ov_core.proofs.Histories.{keeps_on}
+use Rattle.ov_history.proofs.Histories.{keeps_on}
 use Rattle.ov_streams.specs.Entering.{ExtendsByStep, ClosesByEntry, TakesMessage, EntersText, EntersTexts}
 
 -- ---- what a step of the core is

@@ -20,7 +20,7 @@ use Rattle.ov_specs.proofs.laws.Turns.{MayClose, turn_open, turn_tick, turn_clos
 use Rattle.ov_laws.proofs.Requests.{asked_nothing, not_fed_yet}
 use Rattle.ov_cut.specs.CutterState.{CutterState, StandsFor}
 use Rattle.ov_sessions.specs.declared.session.Session.{Session}
-use Rattle.ov_core.specs.declared.event.Stepped.TheVariants as answer
+use Rattle.ov_history.specs.declared.event.Stepped.TheVariants as answer
 use Rattle.ov_streams.specs.declared.event.StreamEvent.{StreamEvent}
 use Rattle.ov_core.specs.Following.{CoreState, Extends}
 use Rattle.ov_sessions.specs.Sessions.{most_sessions, beyond_serials, serial_left}

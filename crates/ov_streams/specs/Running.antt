@@ -10,7 +10,7 @@ use Rattle.ov_specs.specs.schema.SchemaTypes.{Schema}
 use Rattle.ov_specs.specs.rows.Database.{Database}
 use Rattle.ov_specs.specs.machine.Streams as streams
 use Rattle.ov_specs.specs.machine.Streams.{Streams, no_streams, ExpandsAll}
-use Rattle.ov_core.specs.declared.event.StepFault.{StepFault}
+use Rattle.ov_history.specs.declared.event.StepFault.{StepFault}
 use Rattle.ov_core.specs.Following.{CoreState, Follows}
 use Rattle.ov_core.specs.Stepping.{RefusesStep}
 use Rattle.ov_streams.specs.declared.event.StreamEvent.{StreamEvent}

@@ -1,6 +1,6 @@
 ghost use Rattle.std.specs.Prelude.{◌≡◌, ℕ, List, true};
 ghost use Rattle.ov_specs.specs.machine.Machine.{is_open};
-ghost use Rattle.ov_core.specs.Entries.{cause_view};
+ghost use Rattle.ov_history.specs.Entries.{cause_view};
 ghost use Rattle.ov_streams.specs.Feeding.{IsFed, EntersPiece};
 ghost use Rattle.ov_streams.specs.Entering.{EntersTexts, EntersText, ClosesByEntry, cause_of_fault};
 

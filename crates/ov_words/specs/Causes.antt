@@ -9,10 +9,10 @@ use Rattle.ov_keeper.specs.declared.fault.KeepFault.{KeepFault}
 use Rattle.ov_keeper.specs.declared.fault.KeepFault.TheVariants as keeping
 use Rattle.ov_db.specs.declared.fault.OpenFault.{OpenFault}
 use Rattle.ov_db.specs.declared.fault.OpenFault.TheVariants as opening
-use Rattle.ov_core.specs.declared.event.Cause.{Cause}
-use Rattle.ov_core.specs.declared.event.Cause.TheVariants as causes
-use Rattle.ov_core.specs.declared.event.StepFault.{StepFault}
-use Rattle.ov_core.specs.declared.event.StepFault.TheVariants as steps
+use Rattle.ov_history.specs.declared.event.Cause.{Cause}
+use Rattle.ov_history.specs.declared.event.Cause.TheVariants as causes
+use Rattle.ov_history.specs.declared.event.StepFault.{StepFault}
+use Rattle.ov_history.specs.declared.event.StepFault.TheVariants as steps
 
 -- where the arguments give no settings
 abbrev pub by_words : WordFault → Ending

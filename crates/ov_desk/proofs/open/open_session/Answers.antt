@@ -2,7 +2,7 @@ use Rattle.std.proofs.Common.{ℕ, subst}
 use Rattle.std.proofs.Math.Nat.{zero-max}
 use Rattle.ov_specs.specs.machine.Machine.{Open}
 use Rattle.ov_core.specs.Stepping.{IsEntered}
-use Rattle.ov_core.specs.declared.event.Stepped.TheVariants.{Opened}
+use Rattle.ov_history.specs.declared.event.Stepped.TheVariants.{Opened}
 use Rattle.ov_desk.proofs.open.open_session.Goals as goal
 
 pub returns-in-Opened-clause-opened : goal.returns-in-Opened-clause-opened

@@ -2,8 +2,8 @@ use Rattle.std.proofs.Common.{rules, ◌++◌, [], ◌∷◌, true, false, ℕ, 
 use Rattle.std.specs.Prelude.{unwrap_or}
 use Rattle.rtrb.specs.Ring.{sent, received}
 use Rattle.ov_order.specs.declared.items.Sent.TheVariants.{End}
-use Rattle.ov_core.specs.declared.event.Cause.{Cause}
-use Rattle.ov_core.specs.declared.event.Cause.TheVariants.{Memory}
+use Rattle.ov_history.specs.declared.event.Cause.{Cause}
+use Rattle.ov_history.specs.declared.event.Cause.TheVariants.{Memory}
 use Rattle.ov_lanes.specs.Since.{course_of}
 use Rattle.ov_lanes.specs.Fitting.{FitsCourse}
 use Rattle.ov_lanes.specs.Moving.{GivesUp}

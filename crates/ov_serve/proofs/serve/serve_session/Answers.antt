@@ -1,7 +1,7 @@
 use Rattle.std.proofs.Common.{rules, ◌≡◌, ℕ, ◌++◌, true, false, map, take, refl, sym, ap, ◌∙◌, arith, append-nil}
 use Rattle.std.specs.Prelude.{is_ok}
-use Rattle.ov_core.specs.declared.event.Cause.TheVariants.{InputEnded, ReadFault}
-use Rattle.ov_core.specs.Entries.{entry_view}
+use Rattle.ov_history.specs.declared.event.Cause.TheVariants.{InputEnded, ReadFault}
+use Rattle.ov_history.specs.Entries.{entry_view}
 use Rattle.ov_serve.specs.Serving.{io_state, bytes_of}
 use Rattle.ov_serve.proofs.Servings.{then_sent, then_sent_on, then_fed, by_reader, by_writer, by_stream}
 use Rattle.ov_ends.proofs.Tellings.{input-more, given-more}

@@ -1,8 +1,8 @@
 use Rattle.std.proofs.Common.{◌≡◌, ◌∙◌, ◌++◌, List, length, true, false, sym, ap, rules, arith}
 use Rattle.ov_rpc.specs.Message.{message_view}
-use Rattle.ov_core.specs.Entries.{listed_by, is_kept}
+use Rattle.ov_history.specs.Entries.{listed_by, is_kept}
 use Rattle.ov_requests.specs.Waiting.{WaitingList}
-use Rattle.ov_core.specs.declared.event.Attempt.{Attempt}
+use Rattle.ov_history.specs.declared.event.Attempt.{Attempt}
 use Rattle.ov_core.proofs.Settlings.{listed_few}
 use Rattle.ov_core.proofs.Takings.{take_closes, take_ends, take_settles, kept_waits}
 use Rattle.ov_core.proofs.live.Live.take.Goals as goal

@@ -1,5 +1,5 @@
 use Rattle.std.proofs.Common.{◌≤◌, rules}
-use Rattle.ov_core.specs.Entries.{cause_view}
+use Rattle.ov_history.specs.Entries.{cause_view}
 use Rattle.ov_core.proofs.Steps.{closed, has_closed}
 use Rattle.ov_core.proofs.machine.Core.close_open.Goals as goal
 

@@ -3,15 +3,15 @@ use Rattle.std.specs.Prelude.{ℕ, List, [], ◌∷◌, map, Bool, true, false, 
 use Rattle.std.specs.List.{list_any}
 use Rattle.ov_specs.specs.wire.Message.{Message}
 use Rattle.ov_specs.specs.machine.Machine as machine
-use Rattle.ov_core.specs.declared.event.Cause.{Cause}
-use Rattle.ov_core.specs.declared.event.Cause.TheVariants.{InputEnded, ReadFault, WriteFault, Damaged, Overrun, Memory}
-use Rattle.ov_core.specs.declared.event.Event.{Event}
-use Rattle.ov_core.specs.declared.event.Event.TheVariants.{Open, Take, Close, Tick}
-use Rattle.ov_core.specs.declared.event.Outcome.{Outcome}
-use Rattle.ov_core.specs.declared.event.Outcome.TheVariants.{Kept, Exhausted, Failed, NoMemory}
-use Rattle.ov_core.specs.declared.event.Attempt.{Attempt}
-use Rattle.ov_core.specs.declared.event.Choice.{Choice}
-use Rattle.ov_core.specs.declared.event.Entry.{Entry}
+use Rattle.ov_history.specs.declared.event.Cause.{Cause}
+use Rattle.ov_history.specs.declared.event.Cause.TheVariants.{InputEnded, ReadFault, WriteFault, Damaged, Overrun, Memory}
+use Rattle.ov_history.specs.declared.event.Event.{Event}
+use Rattle.ov_history.specs.declared.event.Event.TheVariants.{Open, Take, Close, Tick}
+use Rattle.ov_history.specs.declared.event.Outcome.{Outcome}
+use Rattle.ov_history.specs.declared.event.Outcome.TheVariants.{Kept, Exhausted, Failed, NoMemory}
+use Rattle.ov_history.specs.declared.event.Attempt.{Attempt}
+use Rattle.ov_history.specs.declared.event.Choice.{Choice}
+use Rattle.ov_history.specs.declared.event.Entry.{Entry}
 
 -- a cause
 abbrev pub cause_view : Cause → machine.Cause

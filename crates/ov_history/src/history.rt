@@ -1,5 +1,5 @@
 ghost use Rattle.std.specs.Prelude.{◌≡◌, ◌++◌, [], ◌∷◌, IfOk};
-ghost use Rattle.ov_core.specs.History.{newest};
+ghost use Rattle.ov_history.specs.History.{newest};
 
 use crate::event::Entry;
 use std::alloc::{AllocError, Global};
@@ -11,7 +11,7 @@ const MOST_ENTRIES: usize = 4096;
 
 /// The newest entries, oldest first. Their room is taken once and for all, so that none takes memory later.
 #[derive(Drop)]
-pub(crate) struct History {
+pub struct History {
     entries: VecDeque<Entry>,
 }
 
@@ -20,8 +20,8 @@ impl Model for History {
     ghost use Rattle.std.specs.VecDeque.{deque_len, deque_capacity};
     ghost use Rattle.std.specs.Coded.{codes};
     ghost use Rattle.ov_specs.specs.codes.TreeCode.{tree_code, items_code};
-    ghost use Rattle.ov_core.specs.declared.event.Entry.{Entry};
-    ghost use Rattle.ov_core.specs.History.{most_entries};
+    ghost use Rattle.ov_history.specs.declared.event.Entry.{Entry};
+    ghost use Rattle.ov_history.specs.History.{most_entries};
 
     ghost Value = { List Entry };
 

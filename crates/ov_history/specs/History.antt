@@ -8,8 +8,8 @@ use Rattle.ov_specs.specs.machine.Suiting.{draws_uuids}
 use Rattle.ov_specs.specs.schema.SchemaTypes.{Schema}
 use Rattle.ov_specs.specs.rows.Database.{Database}
 use Rattle.ov_specs.specs.rows.Suits.{Suits}
-use Rattle.ov_core.specs.declared.event.Entry.{Entry}
-use Rattle.ov_core.specs.Entries.{entry_view}
+use Rattle.ov_history.specs.declared.event.Entry.{Entry}
+use Rattle.ov_history.specs.Entries.{entry_view}
 
 -- the most entries that are kept
 abbrev pub most_entries : ℕ

@@ -1,5 +1,5 @@
 ghost use Rattle.std.specs.Prelude.{◌≡◌, ◌++◌, ◌+◌, ◌<◌, ◌≤◌, [], map, length, vec_len, vec_capacity};
-ghost use Rattle.ov_core.specs.Entries.{attempt_view, event_view, entry_view, listed_by, is_closing, is_kept};
+ghost use Rattle.ov_history.specs.Entries.{attempt_view, event_view, entry_view, listed_by, is_closing, is_kept};
 
 use crate::event::{Attempt, Choice, Entry, Event, Outcome};
 use ov_rpc::MessageText;
@@ -7,7 +7,7 @@ use std::alloc::Global;
 use uuid::Uuid;
 
 /// An entry that nothing was chosen for but its moment. It takes no memory.
-pub(crate) fn entry_without_choice(alloc: Global, moment: u64, event: Event<MessageText>) -> Entry
+pub fn entry_without_choice(alloc: Global, moment: u64, event: Event<MessageText>) -> Entry
     ensures { entry_view result ≡ record { event = event_view event; choice = record { moment = moment; draws = []; outcomes = [] } } }
 {
     entry_with_choice(alloc, moment, event, Vec::new(alloc), Vec::new(alloc))
@@ -15,7 +15,7 @@ pub(crate) fn entry_without_choice(alloc: Global, moment: u64, event: Event<Mess
 
 /// An entry with the identifiers that were drawn for it, and with what came of its attempts. Where none is listed it keeps no
 /// room for them.
-pub(crate) fn entry_with_choice(
+pub fn entry_with_choice(
     alloc: Global,
     moment: u64,
     event: Event<MessageText>,
@@ -45,7 +45,7 @@ fn without_room_if_empty(alloc: Global, attempts: Vec<Attempt>) -> Vec<Attempt>
 }
 
 /// Lists the attempt, where something is listed of it. It takes no memory.
-pub(crate) fn list(attempts: &mut Vec<Attempt>, number: u64, outcome: Option<Outcome>)
+pub fn list_attempt(attempts: &mut Vec<Attempt>, number: u64, outcome: Option<Outcome>)
     requires { vec_len attempts.old < vec_capacity attempts.old }
     ensures items { attempts.new.items ≡ attempts.old.items ++ listed_by number outcome }
     ensures len { vec_len attempts.new ≡ vec_len attempts.old + length (listed_by number outcome) }
@@ -57,14 +57,14 @@ pub(crate) fn list(attempts: &mut Vec<Attempt>, number: u64, outcome: Option<Out
 }
 
 /// Whether the session of the attempt's transaction is closed when out of memory.
-pub(crate) fn is_closing(outcome: Option<Outcome>) -> bool
+pub fn is_closing(outcome: Option<Outcome>) -> bool
     ensures { result ≡ is_closing outcome }
 {
     matches!(outcome, Some(Outcome::NoMemory))
 }
 
 /// Whether the store kept the changes.
-pub(crate) fn is_kept(outcome: Option<Outcome>) -> bool
+pub fn is_kept(outcome: Option<Outcome>) -> bool
     ensures { result ≡ is_kept outcome }
 {
     matches!(outcome, Some(Outcome::Kept))

@@ -9,9 +9,9 @@ use Rattle.ov_specs.specs.machine.Machine as machine
 use Rattle.ov_specs.specs.machine.Machine.{State, Sent}
 use Rattle.ov_specs.specs.machine.Suiting.{draws_uuids}
 use Rattle.ov_specs.proofs.laws.Histories.{run_more}
-use Rattle.ov_core.specs.declared.event.Entry.{Entry}
-use Rattle.ov_core.specs.Entries.{entry_view}
-use Rattle.ov_core.specs.History.{most_entries, newest, Keeps, kept_after, KeepsNewest, HasHistory}
+use Rattle.ov_history.specs.declared.event.Entry.{Entry}
+use Rattle.ov_history.specs.Entries.{entry_view}
+use Rattle.ov_history.specs.History.{most_entries, newest, Keeps, kept_after, KeepsNewest, HasHistory}
 
 -- with one entry more, the newest of the newest are the newest of all
 pub newest-newest : {A : Type 0} (xs : List A) (y : A) → newest (newest xs ++ y ∷ []) ≡ newest (xs ++ y ∷ [])
