@@ -1,12 +1,11 @@
 -- What comes of a keeper, from the opening of its database to the end of its sessions at an address. It is our own.
-use Rattle.std.specs.Prelude.{◌≡◌, ◌⊎◌, ℕ, List, Option, Some, None, Result, Ok, Err, MatchOption, length}
+use Rattle.std.specs.Prelude.{◌≡◌, ◌⊎◌, ℕ, List, Option, None, MatchOption, length}
 use Rattle.std.specs.Borrow.{Bor}
 use Rattle.std.specs.declared.alloc.Global.{Global}
 use Rattle.std.specs.declared.io.buffered.BufWriter.{BufWriter}
 use Rattle.std.specs.declared.net.tcp.TcpStream.{TcpStream}
 use Rattle.ov_specs.specs.rows.Lines.{Contents}
 use Rattle.ov_specs.specs.schema.SchemaTypes.{Schema}
-use Rattle.ov_keeper.specs.declared.fault.KeepFault.{KeepFault}
 use Rattle.ov_keeper.specs.declared.keeper.Keeper as keeper
 use Rattle.ov_db.specs.declared.fault.RefusedOpen.{RefusedOpen}
 use Rattle.ov_db.specs.Committing.{MayFind}
@@ -28,7 +27,7 @@ use Rattle.ov_sockets.specs.declared.fault.ListenFault.{ListenFault}
 use Rattle.ov_sockets.specs.Links.{IsLinkOf}
 use Rattle.ov_words.specs.declared.ending.Ending.{Ending}
 use Rattle.ov_words.specs.declared.ending.Ending.TheVariants as ending
-use Rattle.ov_words.specs.Causes.{by_keeping, by_open}
+use Rattle.ov_words.specs.Causes.{by_open}
 use Rattle.ov_session.specs.Chain.{OpensCore, RefusesCore}
 use Rattle.ov_listen.specs.Endings.{by_listening, by_serving}
 
@@ -113,9 +112,3 @@ module _ {K D : Type 0} (k : keeper.Ghosts K) where
   EndsChainAt keeper schema draws count told left =
       ((first : CoreState K D) × OpensCore k keeper schema draws first × EndsListening first count told left)
       ⊎ ((refused : RefusedOpen K) × (told ≡ by_open refused.fault) × RefusesCore k keeper schema refused × (left ≡ refused.keeper))
-
-  -- A store that was opened is served, and is given back; of one that was refused the ending is that of its fault, and nobody was
-  -- listened to.
-  abbrev pub EndsStoreAt : Result K KeepFault → Schema → D → Option ℕ → Ending → Option K → Type 0
-  EndsStoreAt (Ok keeper) schema draws count told left = (last : K) × (left ≡ Some last) × EndsChainAt keeper schema draws count told last
-  EndsStoreAt (Err fault) schema draws count told left = (told ≡ by_keeping fault) × (left ≡ None)

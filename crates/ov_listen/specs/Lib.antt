@@ -1,2 +1,4 @@
 pub mod Endings
 pub mod Chain
+pub mod Places
+pub mod Stores

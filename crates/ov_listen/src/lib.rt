@@ -1,5 +1,5 @@
-//! Sessions of a database at an address: it is opened over a keeper, and so many connections are served together, or whoever
-//! connects; then it is closed.
+//! Sessions of a database where they are asked for: over two streams, or at an address, where so many connections are served
+//! together, or whoever connects. The database is opened over a keeper or in a file, and closed behind the sessions.
 #![tactic(auto)]
 
 mod address;
@@ -7,10 +7,12 @@ mod connections;
 mod endings;
 mod links;
 mod lobby;
+mod place;
 mod stores;
 
 pub use address::serve_at;
 pub use connections::serve_connections;
 pub use endings::{ending_of_listening, ending_of_serving};
 pub use links::serve_sessions;
-pub use stores::{serve_file_at, serve_memory_at};
+pub use place::{Place, serve_place};
+pub use stores::{serve_file, serve_memory};

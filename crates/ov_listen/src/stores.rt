@@ -1,35 +1,35 @@
-//! Sessions at an address, of a database in memory or of the store in a file.
+//! Sessions of a database in memory, or of the store in a file.
 
-ghost use Rattle.std.specs.Prelude.{◌≡◌};
 ghost use Rattle.sqlite_wal.specs.Files.{image_at};
-ghost use Rattle.ov_session.specs.Stores.{IsNewKeeper, IsOfFiles};
-ghost use Rattle.ov_listen.specs.Chain.{EndsChainAt, EndsStoreAt};
+ghost use Rattle.ov_listen.specs.Places.{EndsPlace, EndsStore};
+ghost use Rattle.ov_listen.specs.Stores.{IsNewKeeper, IsOfFiles};
 
-use crate::address::serve_at;
+use crate::place::{Place, serve_place};
 use ov_base::Text;
 use ov_core::Schema;
 use ov_core::early::{Draws, KeepFault, Keeper};
+use ov_ends::Clock;
 use ov_keeper::VolatileKeeper;
-use ov_session::Ended;
+use ov_session::{Ended, MonotonicClock};
 use ov_store::{Store, close_in_file, store_in_file};
 use ov_words::{Ending, ending_of_keeping};
 use sqlite::{FileFrom, FileStore, Start};
 use std::alloc::Global;
+use std::io::{Read, Write};
 use std::net::{Net, TcpListener, TcpStream};
 use std::rt::Clock as SystemClock;
 use std::sync::Wait;
 use std::thread::Threads;
 
-/// Serves sessions of a new database in memory at an address, as `serve_at` does. `text` is the schema's. No device is below it, so what
-/// is promised of an honest one needs no premise here.
-pub fn serve_memory_at<R, D>(
-    rt: &R,
+/// Serves sessions of a new database in memory, as `serve_place` does. `text` is the schema's. No device is below it, so what is
+/// promised of an honest one needs no premise here.
+pub fn serve_memory<'a, R, D, I, O>(
+    rt: &'a R,
     alloc: Global,
     text: Text,
     schema: Schema,
     draws: D,
-    address: &str,
-    count: Option<usize>,
+    place: Place<I, O>,
 ) -> Ending
 where
     R: Net<Listener = TcpListener, Stream = TcpStream>
@@ -39,28 +39,29 @@ where
         + Eprint
         + Sync,
     D: Draws + Drop,
+    I: Read + Drop,
+    O: Write + Drop,
     ensures chain { (keeper : _) × (left : _) × IsNewKeeper ⟦<VolatileKeeper as Keeper>⟧ text keeper
-        × EndsChainAt ⟦<VolatileKeeper as Keeper>⟧ keeper schema draws count result left }
+        × EndsPlace ⟦<VolatileKeeper as Keeper>⟧ ⟦<MonotonicClock<'a, R> as Clock>⟧.tells I.remaining O.contents place keeper schema draws result left }
     ensures honest { (keeper : _) → ⟦<VolatileKeeper as Keeper>⟧.is_honest keeper }
 {
     let keeper = VolatileKeeper::new(text);
-    serve_at(rt, alloc, keeper, schema, draws, address, count).ending
+    serve_place(rt, alloc, keeper, schema, draws, place).ending
 }
 
-/// Serves sessions of the database in the file at a path, as `serve_at` does. `text` is the schema's, and `start` stands
-/// for what the file and its log held. Where the sessions have ended, or nobody was served for another cause than memory, the file
-/// is then closed: it has the whole, with no log beside it, unless the system refuses that. Where the file is refused, nobody is
-/// listened to.
-pub fn serve_file_at<R, S, D>(
+/// Serves sessions of the database in the file at a path, as `serve_place` does. `text` is the schema's, and `start` stands for
+/// what the file and its log held. Where the sessions ended by their input or by their streams, or nobody was served for another
+/// cause than memory, the file is then closed: it has the whole, with no log beside it, unless the system refuses that. Where the
+/// file is refused, nothing is read or written, and nobody is listened to.
+pub fn serve_file<'a, R, S, D, I, O>(
     host: &HostRuntime,
-    rt: &R,
+    rt: &'a R,
     path: &str,
     start: S,
     text: Text,
     schema: Schema,
     draws: D,
-    address: &str,
-    count: Option<usize>,
+    place: Place<I, O>,
 ) -> Ending
 where
     R: Net<Listener = TcpListener, Stream = TcpStream>
@@ -71,19 +72,13 @@ where
         + Sync,
     S: Start,
     D: Draws + Drop,
+    I: Read + Drop,
+    O: Write + Drop,
     ensures chain { (store : _) × (left : _) × IsOfFiles (image_at S.Start) text store
-        × EndsStoreAt ⟦<Store<FileStore<FileFrom<S>>> as Keeper>⟧ store schema draws count result left }
+        × EndsStore ⟦<Store<FileStore<FileFrom<S>>> as Keeper>⟧ ⟦<MonotonicClock<'a, R> as Clock>⟧.tells I.remaining O.contents place store schema draws result left }
 {
     let store = store_in_file(host, path, text, start);
-    let Ended { ending, keeper } = serve_store_at(
-        rt,
-        host.alloc(),
-        store,
-        schema,
-        draws,
-        address,
-        count,
-    );
+    let Ended { ending, keeper } = serve_store(rt, host.alloc(), store, schema, draws, place);
     // Of a file that was refused nothing is copied. Where the closing fails nothing is lost: the two belong together, as after
     // a kill.
     if ending == Ending::InputEnded || ending == Ending::Streams {
@@ -95,14 +90,13 @@ where
 }
 
 /// Serves sessions of a store, where it could be opened.
-fn serve_store_at<R, K, D>(
-    rt: &R,
+fn serve_store<'a, R, K, D, I, O>(
+    rt: &'a R,
     alloc: Global,
     store: Result<K, KeepFault>,
     schema: Schema,
     draws: D,
-    address: &str,
-    count: Option<usize>,
+    place: Place<I, O>,
 ) -> Ended<Option<K>>
 where
     R: Net<Listener = TcpListener, Stream = TcpStream>
@@ -113,13 +107,13 @@ where
         + Sync,
     K: Keeper + Drop,
     D: Draws + Drop,
-    ensures { EndsStoreAt K.Keeper store schema draws count result.ending result.keeper }
+    I: Read + Drop,
+    O: Write + Drop,
+    ensures { EndsStore K.Keeper ⟦<MonotonicClock<'a, R> as Clock>⟧.tells I.remaining O.contents place store schema draws result.ending result.keeper }
 {
     match store {
         Ok(store) => {
-            let Ended { ending, keeper } = serve_at(
-                rt, alloc, store, schema, draws, address, count,
-            );
+            let Ended { ending, keeper } = serve_place(rt, alloc, store, schema, draws, place);
             Ended {
                 ending,
                 keeper: Some(keeper),

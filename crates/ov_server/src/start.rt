@@ -5,10 +5,9 @@ use crate::draws::RandomDraws;
 use ov_base::Text;
 use ov_core::Schema;
 use ov_core::early::Draws;
-use ov_listen::{serve_file_at, serve_memory_at};
+use ov_listen::{Place, serve_file, serve_memory};
 use ov_schema::text_of;
 use ov_schema_text::read_schema;
-use ov_session::{serve_file, serve_memory};
 use ov_words::{Ending, Settings, ending_of_schema, ending_of_words, read_words};
 use sqlite::Start;
 use std::alloc::Global;
@@ -21,19 +20,14 @@ use std::rt::{Clock, Files};
 use std::sync::Wait;
 use std::thread::Threads;
 
-/// Where sessions are served.
-#[derive(Drop)]
-enum Place {
-    /// One, over the reader and the writer.
-    Streams,
-    /// Those of connections at an address: of so many, or of whoever connects.
-    Address(Text, Option<usize>),
-}
-
-/// Where the arguments ask for sessions.
-fn place_of(listen: Option<Text>, sessions: Option<u64>) -> Place {
+/// Where the arguments ask for sessions: at an address, or over the reader and the writer.
+fn place_of<I, O>(listen: Option<Text>, sessions: Option<u64>, input: I, output: O) -> Place<I, O>
+where
+    I: Read + Drop,
+    O: Write + Drop,
+{
     match listen {
-        None => Place::Streams,
+        None => Place::Streams(input, output),
         Some(address) => Place::Address(address, sessions.map(|count| count as usize)),
     }
 }
@@ -63,7 +57,7 @@ where
         Ok(settings) => settings,
         Err(ending) => return ending,
     };
-    let place = place_of(listen, sessions);
+    let place = place_of(listen, sessions, input, output);
     let schema = match schema_of(host, host.alloc(), schema) {
         Ok(schema) => schema,
         Err(ending) => return ending,
@@ -74,17 +68,11 @@ where
     let Ok(draws) = RandomDraws::seeded(rt) else {
         return Ending::Database;
     };
-    match place {
-        Place::Streams => serve_streams(host, rt, start, db, text, schema, draws, input, output),
-        Place::Address(address, count) => {
-            let address = address.as_str();
-            serve_sessions(host, rt, start, db, text, schema, draws, address, count)
-        }
-    }
+    serve(host, rt, start, db, text, schema, draws, place)
 }
 
-/// Serves one session over a reader and a writer, of the database in a file or in memory.
-fn serve_streams<R, S, D, I, O>(
+/// Serves sessions of the database in a file or in memory.
+fn serve<R, S, D, I, O>(
     host: &HostRuntime,
     rt: &R,
     start: S,
@@ -92,48 +80,18 @@ fn serve_streams<R, S, D, I, O>(
     text: Text,
     schema: Schema,
     draws: D,
-    input: I,
-    output: O,
+    place: Place<I, O>,
 ) -> Ending
 where
-    R: Wait + Clock,
+    R: Net<Listener = TcpListener, Stream = TcpStream> + Threads + Wait + Clock + Eprint + Sync,
     S: Start,
     D: Draws + Drop,
     I: Read + Drop,
     O: Write + Drop,
 {
     match db {
-        None => serve_memory(rt, host.alloc(), text, schema, draws, input, output),
-        Some(path) => {
-            let path = path.as_str();
-            serve_file(host, rt, path, start, text, schema, draws, input, output)
-        }
-    }
-}
-
-/// Serves sessions at an address, of the database in a file or in memory.
-fn serve_sessions<R, S, D>(
-    host: &HostRuntime,
-    rt: &R,
-    start: S,
-    db: Option<Text>,
-    text: Text,
-    schema: Schema,
-    draws: D,
-    address: &str,
-    count: Option<usize>,
-) -> Ending
-where
-    R: Net<Listener = TcpListener, Stream = TcpStream> + Threads + Wait + Clock + Eprint + Sync,
-    S: Start,
-    D: Draws + Drop,
-{
-    match db {
-        None => serve_memory_at(rt, host.alloc(), text, schema, draws, address, count),
-        Some(path) => {
-            let path = path.as_str();
-            serve_file_at(host, rt, path, start, text, schema, draws, address, count)
-        }
+        None => serve_memory(rt, host.alloc(), text, schema, draws, place),
+        Some(path) => serve_file(host, rt, path.as_str(), start, text, schema, draws, place),
     }
 }
 

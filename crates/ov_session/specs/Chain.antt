@@ -1,10 +1,9 @@
 -- What comes of a keeper, from the opening of its database to the end of the session. What names no source is our own.
-use Rattle.std.specs.Prelude.{◌≡◌, ◌⊎◌, ℕ, List, [], Option, Some, None, Bool, true, false, Result, Ok, Err}
+use Rattle.std.specs.Prelude.{◌≡◌, ◌⊎◌, ℕ, List, [], Option, Bool, true, false}
 use Rattle.std.specs.Io.KnownBytes.{IsAtEnd}
 use Rattle.ov_specs.specs.rows.Lines.{Contents}
 use Rattle.ov_specs.specs.schema.SchemaTypes.{Schema}
 use Rattle.ov_specs.specs.machine.Machine.{opening, Open as SpecOpen}
-use Rattle.ov_keeper.specs.declared.fault.KeepFault.{KeepFault}
 use Rattle.ov_keeper.specs.declared.fault.KeepFault.TheVariants.{Device}
 use Rattle.ov_keeper.specs.declared.keeper.Keeper.{Ghosts}
 use Rattle.ov_keeper.specs.Keeping.{LeavesNoMore, HasFailed}
@@ -22,7 +21,7 @@ use Rattle.ov_ends.specs.Ends.{KeepsInput, GivesWritten}
 use Rattle.ov_serve.specs.Serving.{IoState, io_state, Served, is_written, CauseMatchesCounts}
 use Rattle.ov_words.specs.declared.ending.Ending.{Ending}
 use Rattle.ov_words.specs.declared.ending.Ending.TheVariants as ending
-use Rattle.ov_words.specs.Causes.{by_keeping, by_open, by_step, by_cause}
+use Rattle.ov_words.specs.Causes.{by_open, by_step, by_cause}
 
 -- What a reader tells: the bytes that were read, those that remain where they are known, whether it met its end, and its failures.
 pub record ReaderState : Type 0 where
@@ -111,10 +110,3 @@ module _ {K D C : Type 0} (k : Ghosts K) (tells : C → ℕ → C → Type 0) wh
       ((told ≡ ending.Memory) × (left ≡ keeper))
       ⊎ ((from to : Ends C) × (from.reader ≡ reader_state [] remaining false 0) × (from.writer ≡ writer_state [] contents false 0)
       × EndsChain keeper schema draws from told left to)
-
-  -- A store that was opened is served, and is given back; of one that was refused the ending is that of its fault, and nothing is
-  -- read or written.
-  abbrev pub EndsStore : Result K KeepFault → Schema → D → (remaining contents : Option (List ℕ)) → Ending → Option K → Type 0
-  EndsStore (Ok keeper) schema draws remaining contents told left =
-      (last : K) × (left ≡ Some last) × EndsOver keeper schema draws remaining contents told last
-  EndsStore (Err fault) schema draws remaining contents told left = (told ≡ by_keeping fault) × (left ≡ None)

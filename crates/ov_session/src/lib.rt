@@ -3,8 +3,6 @@
 
 mod clock;
 mod session;
-mod stores;
 
 pub use clock::MonotonicClock;
 pub use session::{Ended, serve, serve_over};
-pub use stores::{serve_file, serve_memory};

@@ -1,4 +1,4 @@
-use Rattle.ov_session.proofs.stores.serve_file.Goals as goal
+use Rattle.ov_listen.proofs.stores.serve_file.Goals as goal
 
 pub returns : goal.returns
 returns g c =
@@ -8,6 +8,6 @@ returns g c =
         c.store_in_file-store.result,
         c.serve_store-ending.result.keeper,
         record { found = opened.found; fresh = opened.fresh; refused = opened.refused },
-        c.serve_store-ending.ensures.chain,
+        c.serve_store-ending.ensures,
       );
     }
