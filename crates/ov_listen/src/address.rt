@@ -2,15 +2,12 @@ ghost use Rattle.std.specs.Prelude.{◌≡◌};
 ghost use Rattle.ov_listen.specs.Chain.{EndsChainAt};
 
 use crate::connections::serve_listening;
+use crate::system::System;
 use ov_core::early::{Draws, Keeper};
 use ov_core::{Core, Schema};
 use ov_session::Ended;
 use ov_words::ending_of_open;
 use std::alloc::Global;
-use std::net::{Net, TcpListener, TcpStream};
-use std::rt::Clock as SystemClock;
-use std::sync::Wait;
-use std::thread::Threads;
 
 /// Opens the machine over what a keeper holds under a schema, listens at an address, HOST:PORT, accepts connections, and serves a
 /// session over each, all at the same time, from the first byte of its input to its end. Where the port is 0 the system chooses
@@ -30,12 +27,7 @@ pub fn serve_at<R, K, D>(
     count: Option<usize>,
 ) -> Ended<K>
 where
-    R: Net<Listener = TcpListener, Stream = TcpStream>
-        + Threads
-        + Wait
-        + SystemClock
-        + Eprint
-        + Sync,
+    R: System,
     K: Keeper + Drop,
     D: Draws + Drop,
     ensures { EndsChainAt K.Keeper keeper schema draws count result.ending result.keeper }

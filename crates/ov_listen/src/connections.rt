@@ -4,6 +4,7 @@ ghost use Rattle.ov_listen.specs.Chain.{EndsConnections, EndsListener, EndsListe
 use crate::endings::ending_of_listening;
 use crate::links::serve_sessions;
 use crate::lobby::serve_whoever;
+use crate::system::System;
 use ov_core::Core;
 use ov_core::early::{Draws, Keeper};
 use ov_session::{Ended, MonotonicClock};
@@ -114,12 +115,7 @@ pub(crate) fn serve_listening<R, K, D>(
     count: Option<usize>,
 ) -> Ended<K>
 where
-    R: Net<Listener = TcpListener, Stream = TcpStream>
-        + Threads
-        + Wait
-        + SystemClock
-        + Eprint
-        + Sync,
+    R: System,
     K: Keeper + Drop,
     D: Draws + Drop,
     ensures { EndsListening K.Keeper core count result.ending result.keeper }

@@ -9,6 +9,7 @@ mod links;
 mod lobby;
 mod place;
 mod stores;
+mod system;
 
 pub use address::serve_at;
 pub use connections::serve_connections;
@@ -16,3 +17,4 @@ pub use endings::{ending_of_listening, ending_of_serving};
 pub use links::serve_sessions;
 pub use place::{Place, serve_place};
 pub use stores::{serve_file, serve_memory};
+pub use system::System;

@@ -3,6 +3,7 @@
 ghost use Rattle.ov_listen.specs.Places.{EndsPlace};
 
 use crate::address::serve_at;
+use crate::system::System;
 use ov_base::Text;
 use ov_core::Schema;
 use ov_core::early::{Draws, Keeper};
@@ -10,10 +11,6 @@ use ov_ends::Clock;
 use ov_session::{Ended, MonotonicClock, serve_over};
 use std::alloc::Global;
 use std::io::{Read, Write};
-use std::net::{Net, TcpListener, TcpStream};
-use std::rt::Clock as SystemClock;
-use std::sync::Wait;
-use std::thread::Threads;
 
 /// Where sessions are served.
 #[derive(Drop)]
@@ -35,12 +32,7 @@ pub fn serve_place<'a, R, K, D, I, O>(
     place: Place<I, O>,
 ) -> Ended<K>
 where
-    R: Net<Listener = TcpListener, Stream = TcpStream>
-        + Threads
-        + Wait
-        + SystemClock
-        + Eprint
-        + Sync,
+    R: System,
     K: Keeper + Drop,
     D: Draws + Drop,
     I: Read + Drop,

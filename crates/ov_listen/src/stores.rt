@@ -5,6 +5,7 @@ ghost use Rattle.ov_listen.specs.Places.{EndsPlace, EndsStore};
 ghost use Rattle.ov_listen.specs.Stores.{IsNewKeeper, IsOfFiles};
 
 use crate::place::{Place, serve_place};
+use crate::system::System;
 use ov_base::Text;
 use ov_core::Schema;
 use ov_core::early::{Draws, KeepFault, Keeper};
@@ -16,10 +17,6 @@ use ov_words::{Ending, ending_of_keeping};
 use sqlite::{FileFrom, FileStore, Start};
 use std::alloc::Global;
 use std::io::{Read, Write};
-use std::net::{Net, TcpListener, TcpStream};
-use std::rt::Clock as SystemClock;
-use std::sync::Wait;
-use std::thread::Threads;
 
 /// Serves sessions of a new database in memory, as `serve_place` does. `text` is the schema's. No device is below it, so what is
 /// promised of an honest one needs no premise here.
@@ -32,12 +29,7 @@ pub fn serve_memory<'a, R, D, I, O>(
     place: Place<I, O>,
 ) -> Ending
 where
-    R: Net<Listener = TcpListener, Stream = TcpStream>
-        + Threads
-        + Wait
-        + SystemClock
-        + Eprint
-        + Sync,
+    R: System,
     D: Draws + Drop,
     I: Read + Drop,
     O: Write + Drop,
@@ -64,12 +56,7 @@ pub fn serve_file<'a, R, S, D, I, O>(
     place: Place<I, O>,
 ) -> Ending
 where
-    R: Net<Listener = TcpListener, Stream = TcpStream>
-        + Threads
-        + Wait
-        + SystemClock
-        + Eprint
-        + Sync,
+    R: System,
     S: Start,
     D: Draws + Drop,
     I: Read + Drop,
@@ -99,12 +86,7 @@ fn serve_store<'a, R, K, D, I, O>(
     place: Place<I, O>,
 ) -> Ended<Option<K>>
 where
-    R: Net<Listener = TcpListener, Stream = TcpStream>
-        + Threads
-        + Wait
-        + SystemClock
-        + Eprint
-        + Sync,
+    R: System,
     K: Keeper + Drop,
     D: Draws + Drop,
     I: Read + Drop,

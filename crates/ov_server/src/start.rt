@@ -5,7 +5,7 @@ use crate::draws::RandomDraws;
 use ov_base::Text;
 use ov_core::Schema;
 use ov_core::early::Draws;
-use ov_listen::{Place, serve_file, serve_memory};
+use ov_listen::{Place, System, serve_file, serve_memory};
 use ov_schema::text_of;
 use ov_schema_text::read_schema;
 use ov_words::{Ending, Settings, ending_of_schema, ending_of_words, read_words};
@@ -14,11 +14,8 @@ use std::alloc::Global;
 use std::env;
 use std::env::Env;
 use std::io::{ErrorKind, Read, Write};
-use std::net::{Net, TcpListener, TcpStream};
 use std::random::RandomSource;
-use std::rt::{Clock, Files};
-use std::sync::Wait;
-use std::thread::Threads;
+use std::rt::Files;
 
 /// Where the arguments ask for sessions: at an address, or over the reader and the writer.
 fn place_of<I, O>(listen: Option<Text>, sessions: Option<u64>, input: I, output: O) -> Place<I, O>
@@ -36,13 +33,7 @@ where
 /// then in the address. `start` stands for what the database's file and its log hold.
 pub fn run<R, S, I, O>(host: &HostRuntime, rt: &R, start: S, input: I, output: O) -> Ending
 where
-    R: Net<Listener = TcpListener, Stream = TcpStream>
-        + Threads
-        + Wait
-        + RandomSource
-        + Clock
-        + Eprint
-        + Sync,
+    R: System + RandomSource,
     S: Start,
     I: Read + Drop,
     O: Write + Drop,
@@ -83,7 +74,7 @@ fn serve<R, S, D, I, O>(
     place: Place<I, O>,
 ) -> Ending
 where
-    R: Net<Listener = TcpListener, Stream = TcpStream> + Threads + Wait + Clock + Eprint + Sync,
+    R: System,
     S: Start,
     D: Draws + Drop,
     I: Read + Drop,
