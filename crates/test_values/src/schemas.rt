@@ -1,5 +1,6 @@
+use ov_atoms::AtomKind;
 use ov_base::Text;
-use ov_schema::{Schema, SchemaFault, Table};
+use ov_schema::{BaseType, Column, ColumnType, Reference, Schema, SchemaFault, Table};
 use ov_schema_text::schema_of_tree;
 use std::alloc::Global;
 use std::test::Fail;
@@ -195,6 +196,53 @@ fn a_column_is_found_wherever_it_is_looked_for(rt: HostRuntime) -> Result<(), Fa
     let places = [0, 1, 2, 3, 9, usize::MAX - 1, usize::MAX];
     assert!(rt; are_found_near(alloc, table, &places)?);
     assert!(rt; table.column_near(0, "no such column").is_none());
+    Ok(())
+}
+
+/// A column of references to rows of `Port`, which keep them, of any number.
+fn column_of_ports(alloc: Global) -> Result<Column, Fail> {
+    let refers = Reference::new(Text::from_str(alloc, "Port")?, true);
+    let key = BaseType::new(AtomKind::Uuid, None, None, None, None, None, Some(refers));
+    Ok(Column::new(ColumnType::new(key, None, 0, None), true, false))
+}
+
+#[test]
+fn a_column_is_made_of_its_parts(rt: HostRuntime) -> Result<(), Fail> {
+    let column = column_of_ports(rt.alloc())?;
+    let refers = column.key_refers().ok_or("no reference")?;
+    assert_eq!(rt; refers.table(), "Port");
+    assert!(rt; refers.is_strong());
+    assert!(rt; column.is_ephemeral());
+    assert!(rt; !column.is_mutable());
+    assert_eq!(rt; column.min(), 0);
+    Ok(())
+}
+
+/// A table of one column and one index, with those limits.
+fn table_of_ports(alloc: Global) -> Result<Table, Fail> {
+    let mut columns = Vec::new(alloc);
+    columns.push((String::from_str(alloc, "ports")?, column_of_ports(alloc)?))?;
+    let mut index = Vec::new(alloc);
+    index.push(Text::from_str(alloc, "ports")?)?;
+    let mut indexes = Vec::new(alloc);
+    indexes.push(index)?;
+    Ok(Table::new(alloc, columns, Some(3), true, indexes)?)
+}
+
+/// Beside its own columns it has those of each row.
+#[test]
+fn a_table_is_made_of_its_parts(rt: HostRuntime) -> Result<(), Fail> {
+    let table = table_of_ports(rt.alloc())?;
+    assert_eq!(rt;
+        names_of_columns(rt.alloc(), &table)?.as_str(),
+        "_uuid,_version,ports,"
+    );
+    assert_eq!(rt;
+        text_of_indexes(rt.alloc(), table.indexes())?.as_str(),
+        "ports;"
+    );
+    assert_eq!(rt; table.max_rows(), Some(3));
+    assert!(rt; table.is_root());
     Ok(())
 }
 
