@@ -1,6 +1,8 @@
 //! Clients over the loopback interface, whose sessions are served together.
 
-use ov_listen::{serve_at, serve_connections};
+use ov_base::Text;
+use ov_listen::{Place, System, serve_at, serve_connections, serve_memory};
+use ov_schema::text_of;
 use ov_sockets::{accept_all, listen};
 use ov_words::Ending;
 use std::alloc::Global;
@@ -122,10 +124,7 @@ fn two_clients_share_a_lock(rt: HostRuntime) -> Result<(), Fail> {
 }
 
 /// How a session at an address ends, of a new database Net in memory.
-fn ending_at<R>(rt: &R, alloc: Global, address: &str) -> Result<Ending, Fail>
-where
-    R: Net<Listener = TcpListener, Stream = TcpStream> + Threads + Wait + Clock + Eprint + Sync,
-{
+fn ending_at<R: System>(rt: &R, alloc: Global, address: &str) -> Result<Ending, Fail> {
     let schema = net(alloc)?;
     let keeper = net_keeper(alloc, Faults::NONE)?;
     Ok(serve_at(rt, alloc, keeper, schema, Counter::new(), address, Some(1)).ending)
@@ -146,5 +145,35 @@ fn a_port_in_use_ends_as_streams(rt: HostRuntime) -> Result<(), Fail> {
         ending_at(&rt, rt.alloc(), named.as_str())?,
         Ending::Streams
     );
+    Ok(())
+}
+
+/// How sessions end where they are asked for, of a new database Net in memory.
+fn ending_of<R: System, I: Read + Drop, O: Write + Drop>(
+    rt: &R,
+    alloc: Global,
+    place: Place<I, O>,
+) -> Result<Ending, Fail> {
+    let schema = net(alloc)?;
+    let text = text_of(alloc, &schema)?;
+    Ok(serve_memory(rt, alloc, text, schema, Counter::new(), place))
+}
+
+#[test]
+fn a_session_is_served_over_streams(rt: HostRuntime) -> Result<(), Fail> {
+    let mut output = Vec::new(rt.alloc());
+    let input = br#"{"id":1,"method":"echo","params":[2]}"#.as_slice();
+    let ending = ending_of(&rt, rt.alloc(), Place::Streams(input, &mut output))?;
+    assert_eq!(rt; ending, Ending::InputEnded);
+    let replies = br#"{"error":null,"id":1,"result":[2]}"#.as_slice();
+    assert_eq!(rt; output.as_slice(), replies);
+    Ok(())
+}
+
+#[test]
+fn nothing_is_served_where_no_address_is(rt: HostRuntime) -> Result<(), Fail> {
+    let address = Text::from_str(rt.alloc(), "127.0.0.1")?;
+    let place: Place<&[u8], Vec<u8>> = Place::Address(address, Some(1));
+    assert_eq!(rt; ending_of(&rt, rt.alloc(), place)?, Ending::Streams);
     Ok(())
 }
