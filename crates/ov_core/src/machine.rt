@@ -33,7 +33,6 @@ use std::marker::Model;
 
 /// The machine over a keeper, with the newest 4,096 entries of its history (our own, over RFC 7047, 4). Up to 64 sessions may be
 /// open at a time. A call goes by a session's serial, whatever its key.
-#[derive(Drop)]
 pub struct Core<K: Keeper, D> {
     live: Live<K>,
     source: D,
@@ -69,6 +68,22 @@ impl<K: Keeper, D> Model for Core<K, D> {
     } };
 
     ghost invariant = { λ c. HasHistory (state_of c.live c.moment) c.history × (c.live.waiting.untried ≡ []) };
+}
+
+impl<K: Keeper + Drop, D: Drop> Drop for Core<K, D> {
+    // A drop of its own, so that whoever drops a machine need not prove the drops of all that it holds once more.
+    fn drop(self) {
+        let Core {
+            live,
+            source,
+            moment: _,
+            history,
+            alloc: _,
+        } = self;
+        drop(live);
+        drop(source);
+        drop(history);
+    }
 }
 
 impl<K: Keeper + Drop, D: Draws + Drop> Core<K, D> {
