@@ -11,16 +11,16 @@ use Rattle.ov_specs.specs.rows.Lines.{Contents, LineChange, Lines, after_changes
 use Rattle.ov_keeper.specs.Keeping.{LeavesNoMore, LeavesChanged, MayLeaveChanged, LeavesRefused, IsCommitFault, changed}
 use Rattle.ov_keeper.specs.declared.fault.KeepFault.{KeepFault}
 use Rattle.ov_keeper.specs.declared.fault.KeepFault.TheVariants.{Memory, Device, NotOurs, Format, TooLarge}
-use Rattle.ov_store.specs.Format.{held, stored_schema, stored_lines, IsMeta, rows_of_meta, rows_of_line}
-use Rattle.ov_store.specs.Changing.{MayBeStored, KeepsOthers, Stores, IsCommitImage}
+use Rattle.ov_sqlite.specs.Format.{held, stored_schema, stored_lines, IsMeta, rows_of_meta, rows_of_line}
+use Rattle.ov_sqlite.specs.Changing.{MayBeStored, KeepsOthers, Stores, IsCommitImage}
 use Rattle.ov_store.specs.StoreState.{MayFind, LeavesOthers, LeavesTables}
-use Rattle.ov_store.specs.Making.{IsNew}
-use Rattle.ov_store.proofs.OpenLemmas.{schema_is}
+use Rattle.ov_sqlite.specs.Making.{IsNew}
+use Rattle.ov_sqlite.proofs.OpenLemmas.{schema_is}
 use Rattle.std.specs.FinMap.{empty}
 use Rattle.sqlite.proofs.StateLemmas.{survives_then}
-use Rattle.ov_store.specs.declared.write.WriteError.{WriteError}
-use Rattle.ov_store.specs.WriteError.{IsBefore}
-use Rattle.ov_store.proofs.RunLemmas.{nothing_then, survives_as, others_now}
+use Rattle.ov_sqlite.specs.declared.write.WriteError.{WriteError}
+use Rattle.ov_sqlite.specs.WriteError.{IsBefore}
+use Rattle.ov_sqlite.proofs.RunLemmas.{nothing_then, survives_as, others_now}
 
 pub is_zero : (n : ℕ) → true ≡ (n == 0) → n ≡ 0
 is_zero n e = grind (arith, nat_tests)

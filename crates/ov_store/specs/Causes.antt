@@ -13,7 +13,7 @@ use Rattle.sqlite_wal.specs.Recovery.{Image}
 use Rattle.ov_keeper.specs.declared.fault.KeepFault.{KeepFault}
 use Rattle.ov_keeper.specs.declared.fault.KeepFault.TheVariants.{Memory, Device, NotOurs}
 use Rattle.ov_store.specs.Refusing.{fault_of_open}
-use Rattle.ov_store.specs.Tables.{no_schema, HasOurTables}
+use Rattle.ov_sqlite.specs.Tables.{no_schema, HasOurTables}
 
 -- the files hold a database, or none was made yet
 abbrev pub IsOpenable : Image → Type 0

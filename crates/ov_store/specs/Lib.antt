@@ -1,13 +1,5 @@
-pub mod Tables
-pub mod Format
-pub mod Changing
-pub mod WriteError
 pub mod StoreState
 pub mod SomeHeld
-pub mod Reading
-pub mod Querying
-pub mod LineColumns
-pub mod Making
 pub mod Refusing
 pub mod Causes
 pub mod Finding

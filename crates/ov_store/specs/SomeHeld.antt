@@ -3,7 +3,7 @@ use Rattle.std.proofs.Common.{◌≡◌, refl}
 use Rattle.std.proofs.Math.Logic.{∥∥₁_map}
 use Rattle.sqlite.specs.Tree.{Trees}
 use Rattle.ov_specs.specs.rows.Lines.{Contents}
-use Rattle.ov_store.specs.Format.{held}
+use Rattle.ov_sqlite.specs.Format.{held}
 
 -- what some trees hold is found where some trees are found
 pub some_held : (recovers : Trees → Type 0) → ∥ ((db : Trees) × recovers db) ∥₁ → ∥ ((contents : Contents) × ((trees : Trees) × recovers trees × (contents ≡ held trees))) ∥₁

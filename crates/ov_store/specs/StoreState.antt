@@ -7,8 +7,8 @@ use Rattle.sqlite.specs.State.{HasCleanDisk}
 use Rattle.sqlite.specs.Change.{KeepsRows}
 use Rattle.sqlite.specs.Held.{Held as Connected, held_code, state}
 use Rattle.ov_specs.specs.rows.Lines.{Contents}
-use Rattle.ov_store.specs.Format.{held}
-use Rattle.ov_store.specs.Changing.{MayBeStored, KeepsOthers}
+use Rattle.ov_sqlite.specs.Format.{held}
+use Rattle.ov_sqlite.specs.Changing.{MayBeStored, KeepsOthers}
 
 -- a connection, the text of the schema, and how often the device has failed
 pub record StoreState (S : Type 0) : Type 0 where

@@ -3,13 +3,13 @@ ghost use Rattle.sqlite.specs.State.{HasCleanDisk, Survives, KeepsCommit, IsUnch
 ghost use Rattle.sqlite.specs.Held.{state};
 ghost use Rattle.ov_keeper.specs.Views.{changes_view};
 ghost use Rattle.ov_keeper.specs.Keeping.{LeavesChanged, LeavesRefused, IsCommitFault};
-ghost use Rattle.ov_store.specs.WriteError.{IsBefore};
-ghost use Rattle.ov_store.specs.Changing.{MayBeStored};
+ghost use Rattle.ov_sqlite.specs.WriteError.{IsBefore};
+ghost use Rattle.ov_sqlite.specs.Changing.{MayBeStored};
 ghost use Rattle.ov_store.specs.StoreState.{MayFind, LeavesOthers};
 
 use crate::store::Store;
-use crate::write::{WriteError, is_up, write_all};
 use ov_keeper::{Change, KeepFault};
+use ov_sqlite::{WriteError, is_up, write_all};
 use sqlite::{Alter, Connection, Error, ErrorCode};
 
 /// Which refusal an error is, if the device has no part in it.

@@ -1,6 +1,7 @@
 //! Lines in SQLite, as a keeper: all of a commit is kept or nothing of it, also over a crash.
 //!
-//! The store is generic over the kit's `Alter`: nothing but `file` and `memory` knows which files stand below.
+//! The store is generic over the kit's `Alter`: nothing but `file` and `memory` knows which files stand below. The tables that
+//! the lines stand in, and what is asked of SQLite, are those of `ov_sqlite`.
 #![tactic(auto)]
 
 mod close;
@@ -8,23 +9,14 @@ mod commit;
 mod crash;
 mod file;
 mod keep;
-mod line;
 mod load;
 mod look;
-mod make;
 mod memory;
 mod memory_disk;
-mod meta;
 mod open;
 mod over;
-mod query;
-mod room;
-mod rows;
-mod schema;
 mod store;
 mod unopened;
-mod value;
-mod write;
 
 pub use close::close_in_file;
 pub use crash::reopen_after_crash;

@@ -6,10 +6,9 @@ ghost use Rattle.ov_keeper.specs.ListKeeper.{lines_of};
 ghost use Rattle.ov_store.specs.StoreState.{MayFind};
 
 use crate::commit::refusal;
-use crate::query::line_rows;
-use crate::rows;
 use crate::store::Store;
 use ov_keeper::{KeepFault, Line};
+use ov_sqlite::line_rows;
 use sqlite::Alter;
 use std::alloc::Global;
 
@@ -33,7 +32,7 @@ impl<S: Alter> Store<S> {
                 _ => return Err(self.count_failure()),
             },
         };
-        match rows::lines_of(alloc, rows.as_slice()) {
+        match ov_sqlite::lines_of(alloc, rows.as_slice()) {
             Ok(Some(lines)) => Ok(lines),
             // A line was changed behind this store, or read wrongly.
             Ok(None) => Err(self.count_failure()),

@@ -6,14 +6,13 @@ ghost use Rattle.sqlite.specs.Opening.{is_open_error};
 ghost use Rattle.ov_store.specs.Causes.{IsCopyRefused, IsLookRefused, IsOpenRefused};
 ghost use Rattle.ov_store.specs.Finding.{HasText, IsNobodyElses};
 ghost use Rattle.ov_store.specs.Refusing.{fault_of_open};
-ghost use Rattle.ov_store.specs.Tables.{no_schema, HasOurTables, create_meta, create_line};
+ghost use Rattle.ov_sqlite.specs.Tables.{no_schema, HasOurTables, create_meta, create_line};
 
 use crate::file::fault_of_open;
-use crate::make::{CREATE_LINE, CREATE_META};
 use crate::memory::open_memory_files;
 use crate::memory_disk::MemoryDisk;
-use crate::schema::{is_blank, is_ours};
 use ov_keeper::KeepFault;
+use ov_sqlite::{CREATE_LINE, CREATE_META, is_blank, is_ours};
 use sqlite::{Alter, Connection, Error, ErrorCode, FileStore, Files};
 use sqlite_disk::Disk;
 use sqlite_schema::schema::Schema;

@@ -4,24 +4,19 @@ ghost use Rattle.std.specs.FinMap.{empty};
 ghost use Rattle.sqlite.specs.State.{HasCleanDisk, Survives};
 ghost use Rattle.sqlite.specs.Held.{state};
 ghost use Rattle.ov_keeper.specs.Keeping.{IsCommitFault};
-ghost use Rattle.ov_store.specs.Tables.{with_ours, HasRoom, HasOurTables};
-ghost use Rattle.ov_store.specs.Format.{IsLine, IsMeta, IsFormat, rows_of_meta, rows_of_line};
-ghost use Rattle.ov_store.specs.Changing.{IsNumbered, IsStored};
-ghost use Rattle.ov_store.specs.Making.{MayMake, IsNew, IsNewBeside};
-ghost use Rattle.ov_store.specs.Querying.{IsAsBefore};
+ghost use Rattle.ov_sqlite.specs.Tables.{with_ours, HasRoom, HasOurTables};
+ghost use Rattle.ov_sqlite.specs.Format.{IsLine, IsMeta, IsFormat, rows_of_meta, rows_of_line};
+ghost use Rattle.ov_sqlite.specs.Changing.{IsNumbered, IsStored};
+ghost use Rattle.ov_sqlite.specs.Making.{MayMake, IsNew, IsNewBeside};
+ghost use Rattle.ov_sqlite.specs.Querying.{IsAsBefore};
 ghost use Rattle.ov_store.specs.StoreState.{MayFind, LeavesTables};
 
 use crate::commit::{fault_at, fault_of};
-use crate::make::make;
-use crate::meta::schema_text_of;
-use crate::query::{line_rows, meta_rows};
-use crate::room::has_room;
-use crate::rows::test_rows;
-use crate::schema::is_ours;
 use crate::store::Store;
 use crate::unopened::Unopened;
 use ov_base::Text;
 use ov_keeper::KeepFault;
+use ov_sqlite::{has_room, is_ours, line_rows, make_tables, meta_rows, schema_text_of, test_rows};
 use sqlite::{Alter, Connection};
 use std::alloc::Global;
 
@@ -61,7 +56,7 @@ fn make_new<S: Alter>(conn: &mut Connection<S>, schema: &Text) -> Result<(), Kee
     ensures left { MayMake (state S.Store conn.old)
         → IfErr result (λ fault. Survives (state S.Store conn.old) (state S.Store conn.new) (λ trees. (fault ≡ KeepFault.Device) × IsNewBeside schema.now (state S.Store conn.old) trees)) }
 {
-    let Err(failure) = make(conn, schema) else {
+    let Err(failure) = make_tables(conn, schema) else {
         return Ok(());
     };
     let fault = fault_at(conn, &failure);

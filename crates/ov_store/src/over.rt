@@ -1,15 +1,15 @@
-ghost use Rattle.std.specs.Prelude.{◌≡◌, ◌≢◌, ◌↔◌, false, IfOk, IfErr, IsTrue};
+ghost use Rattle.std.specs.Prelude.{◌≡◌, ◌≢◌, false, IfOk, IfErr};
 ghost use Rattle.sqlite.specs.Files.{over_files};
-ghost use Rattle.ov_store.specs.Tables.{no_schema};
+ghost use Rattle.ov_sqlite.specs.Tables.{no_schema};
 ghost use Rattle.ov_store.specs.Finding.{IsNewStore, IsOldStore, IsStoreOf, IsRefused};
 
 use crate::store::Store;
 use crate::unopened::Unopened;
 use ov_base::Text;
 use ov_keeper::KeepFault;
+use ov_sqlite::is_blank;
 use sqlite::{Alter, Connection, FileStore};
 use sqlite_disk::Disk;
-use sqlite_schema::schema::Schema;
 use std::alloc::Global;
 
 /// The store over a connection that was just opened: a new one, with this text of a schema and no line, where there is no
@@ -66,13 +66,6 @@ pub(crate) fn store_over_files<D: Disk + Drop>(
     ensures refused { IfErr result (λ fault. (left : _) × IsRefused over_files schema connection left fault) }
 {
     store_or_fault(alloc, connection, schema)
-}
-
-/// Whether nothing was made yet.
-fn is_blank(schema: &Schema) -> bool
-    ensures { IsTrue result ↔ (schema.now ≡ no_schema) }
-{
-    schema.tables.is_empty() && schema.indexes.is_empty() && schema.views.is_empty()
 }
 
 /// The new store of a connection that has nothing.

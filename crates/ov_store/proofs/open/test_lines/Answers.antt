@@ -1,9 +1,9 @@
 use Rattle.std.proofs.Common.{sym, subst, Result, Ok, Err, OnOk}
 use Rattle.std.specs.List.{AllByRecursion}
 use Rattle.sqlite.specs.Held.{state}
-use Rattle.ov_store.specs.Format.{IsLine, rows_of_line}
-use Rattle.ov_store.specs.Changing.{IsNumbered}
-use Rattle.ov_store.proofs.OpenLemmas.{lines_stored, lines_read, numbers_stored}
+use Rattle.ov_sqlite.specs.Format.{IsLine, rows_of_line}
+use Rattle.ov_sqlite.specs.Changing.{IsNumbered}
+use Rattle.ov_sqlite.proofs.OpenLemmas.{lines_stored, lines_read, numbers_stored}
 use Rattle.ov_store.proofs.open.test_lines.Goals as goal
 
 both_ok : {X E A B C : Type 0} (r : Result X E) → (A → B → C) → OnOk r A → OnOk r B → OnOk r C

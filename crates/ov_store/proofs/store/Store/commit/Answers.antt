@@ -7,10 +7,10 @@ use Rattle.ov_keeper.specs.Keeping.{LeavesNoMore, LeavesChanged, MayLeaveChanged
 use Rattle.ov_keeper.specs.Views.{changes_view}
 use Rattle.sqlite.specs.Tree.{Trees}
 use Rattle.sqlite.proofs.StateLemmas.{survives_then}
-use Rattle.ov_store.specs.Changing.{MayBeStored, IsCommitImage}
+use Rattle.ov_sqlite.specs.Changing.{MayBeStored, IsCommitImage}
 use Rattle.ov_store.specs.StoreState.{StoreState, MayFind, LeavesOthers}
 use Rattle.ov_store.proofs.FoundLemmas.{is_zero, refused, stores_changes, crash_changes, kept_found, kept_left, survives_found, survives_left, others_same, others_stored, others_crashed}
-use Rattle.ov_store.proofs.RunLemmas.{nothing_then}
+use Rattle.ov_sqlite.proofs.RunLemmas.{nothing_then}
 use Rattle.ov_keeper.specs.declared.fault.KeepFault.TheVariants.{Device}
 use Rattle.ov_store.proofs.store.Store.commit.Goals as goal
 use Rattle.std.proofs.lemmas.List.{nil_from_length}

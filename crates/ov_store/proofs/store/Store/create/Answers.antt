@@ -1,10 +1,10 @@
 use Rattle.std.proofs.Common.{◌≡◌, inl, refl, sym, subst, IsTrue, false}
 use Rattle.sqlite.specs.Held.{state}
 use Rattle.ov_keeper.specs.Keeping.{IsCommitFault}
-use Rattle.ov_store.specs.Tables.{HasRoom}
-use Rattle.ov_store.specs.Making.{MayMake}
+use Rattle.ov_sqlite.specs.Tables.{HasRoom}
+use Rattle.ov_sqlite.specs.Making.{MayMake}
 use Rattle.ov_store.proofs.FoundLemmas.{new_found, new_beside}
-use Rattle.ov_store.proofs.RunLemmas.{nothing_now, survives_as}
+use Rattle.ov_sqlite.proofs.RunLemmas.{nothing_now, survives_as}
 use Rattle.ov_store.proofs.store.Store.create.Goals as goal
 
 pub returns-in-Ok-clause-ok : goal.returns-in-Ok-clause-ok

@@ -5,11 +5,11 @@ use Rattle.sqlite.specs.Held.{state}
 use Rattle.ov_specs.specs.rows.Lines.{Lines}
 use Rattle.ov_keeper.specs.Keeping.{LeavesNoMore}
 use Rattle.ov_keeper.specs.Views.{line_entry}
-use Rattle.ov_store.specs.Format.{entry}
+use Rattle.ov_sqlite.specs.Format.{entry}
 use Rattle.ov_store.specs.StoreState.{StoreState, MayFind}
 use Rattle.ov_store.proofs.FoundLemmas.{found_is, held_is, same_text, survives_found}
-use Rattle.ov_store.proofs.OpenLemmas.{as_before_stored}
-use Rattle.ov_store.proofs.KeyLemmas.{lines_same}
+use Rattle.ov_sqlite.proofs.OpenLemmas.{as_before_stored}
+use Rattle.ov_sqlite.proofs.KeyLemmas.{lines_same}
 use Rattle.ov_store.proofs.store.Store.load_all.Goals as goal
 
 pub returns-in-Ok-Some-clause-ok : goal.returns-in-Ok-Some-clause-ok

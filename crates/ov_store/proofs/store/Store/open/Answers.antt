@@ -1,7 +1,7 @@
 use Rattle.std.proofs.Common.{◌≡◌, ap, refl, sym, subst, Err, IsTrue, false}
-use Rattle.ov_store.specs.Tables.{HasOurTables}
-use Rattle.ov_store.specs.Changing.{IsStored}
-use Rattle.ov_store.proofs.RunLemmas.{nothing_now}
+use Rattle.ov_sqlite.specs.Tables.{HasOurTables}
+use Rattle.ov_sqlite.specs.Changing.{IsStored}
+use Rattle.ov_sqlite.proofs.RunLemmas.{nothing_now}
 use Rattle.ov_store.proofs.store.Store.open.Goals as goal
 
 pub returns-in-Err-clause-format : goal.returns-in-Err-clause-format

@@ -1,0 +1,110 @@
+-- What a query gives, and that it keeps the commit.
+use Rattle.std.proofs.Common.{◌≡◌, ◌⊎◌, inl, inr, ℕ, List, [], ◌∷◌, map, codes, refl, sym, ap, subst, ◌∙◌, Option, Some, None, IsTrue, true}
+use Rattle.std.specs.List.{flat_map}
+use Rattle.std.specs.List.Sorted.{IsPermutation}
+use Rattle.std.proofs.lemmas.List.Sorted.{IsPermutation-map}
+use Rattle.sqlite.specs.declared.types.Value.TheVariants.{Null}
+use Rattle.sqlite.specs.declared.error.Error.{Error}
+use Rattle.sqlite.specs.Order.{Row}
+use Rattle.sqlite.specs.Query.{IsAnswer, output, Output}
+use Rattle.sqlite.specs.Program.{overlay}
+use Rattle.sqlite.specs.State.{State, Shown, IsRolledBack, KeepsCommit, ShowsRows, FailsToQuery, FailsToShow, IsNotRun, IsTooLate}
+use Rattle.sqlite_resolve.specs.declared.compiled.Compiled.{Compiled}
+use Rattle.sqlite_schema.specs.declared.command.Returning.{Returning}
+use Rattle.sqlite.proofs.Callers.{IsPlain, command_of, reads_as}
+use Rattle.ov_sqlite.specs.Tables.{HasOurTables, tree_of, select_text, meta_select_text}
+use Rattle.ov_sqlite.proofs.ListingLemmas.{line_stands, line_rows_are, meta_stands, meta_rows_are}
+use Rattle.ov_sqlite.specs.Reading.{line_selected, meta_selected}
+use Rattle.ov_sqlite.specs.Querying.{IsAsBefore}
+use Rattle.ov_sqlite.proofs.Statements.{selects as draft, selects_meta as meta_draft, runs}
+use Rattle.ov_sqlite.proofs.LineTexts.{select_is, select_listed}
+use Rattle.ov_sqlite.proofs.MetaTexts.{meta_select_is, meta_select_listed}
+use Rattle.sqlite_draft.specs.Query.{query_of}
+use Rattle.sqlite.specs.Effect.{IsDatabase}
+use Rattle.ov_sqlite.specs.Format.{rows_of_meta, rows_of_line}
+use Rattle.sqlite.specs.Command.TheVariants.{Select}
+use Rattle.ov_sqlite.proofs.RowLemmas.{map_then}
+use Rattle.ov_sqlite.proofs.RunLemmas.{unchanged_keeps, rolled_keeps}
+
+each : {X Y : Type 0} (f : X → Y) (xs : List X) → flat_map (λ x. f x ∷ []) xs ≡ map f xs
+each f [] = refl
+each f (x ∷ xs) = ap (λ ys. f x ∷ ys) (each f xs)
+
+pub selects : (old new : State) (rows : List Row) → HasOurTables old.now.schema → IsDatabase old.now → Shown select_text [] old new rows → IsPermutation (map line_selected (rows_of_line old.now.trees)) rows
+selects old new rows has sound h =
+    let schema = old.now.schema in
+    let tree = tree_of schema (codes "line") in
+    let stood = line_stands old.now has sound in
+    let at = stood.0 in
+    let it = stood.1 in
+    let known = select_is schema at tree it in
+    let query = query_of (draft tree) in
+    let read = reads_as select_text [] old new schema refl (Select (runs (draft tree)) (codes "rowid" ∷ codes "tbl" ∷ codes "id" ∷ codes "ver" ∷ codes "body" ∷ [])) (ap command_of known) (subst IsPlain (sym known) (refl, refl)) (select_listed schema at tree it) rows h in
+    let db = old.now.trees in
+    let a : IsAnswer query (overlay db []) [] rows = read.answer Null in
+    let here : overlay db [] tree ≡ rows_of_line db = rw it.not_high (sym (line_rows_are old.now has sound)) in
+    let kept : a.kept ≡ map (λ r. ([], line_selected r)) (rows_of_line db) =
+    a.distinct ∙ ap (map (output query)) (a.grouped ∙ each (λ r. [] ∷ r ∷ []) (overlay db [] tree)) ∙ map_then (λ r. [] ∷ r ∷ []) (output query) (overlay db [] tree) ∙ ap (map (λ r. ([], line_selected r))) here in
+    let same : IsPermutation (map (λ (o : Output). o.1) (map (λ r. ([], line_selected r)) (rows_of_line db))) (map (λ (o : Output). o.1) a.ordered) =
+    IsPermutation-map (λ (o : Output). o.1) _ _ (subst (λ k. IsPermutation k a.ordered) kept a.same) in
+    subst (λ xs. IsPermutation xs rows) (map_then (λ r. ([], line_selected r)) (λ (o : Output). o.1) (rows_of_line db)) (subst (IsPermutation _) (sym a.shown) same)
+
+pub selects_meta : (old new : State) (rows : List Row) → HasOurTables old.now.schema → IsDatabase old.now → Shown meta_select_text [] old new rows → IsPermutation (map meta_selected (rows_of_meta old.now.trees)) rows
+selects_meta old new rows has sound h =
+    let schema = old.now.schema in
+    let tree = tree_of schema (codes "meta") in
+    let stood = meta_stands old.now has sound in
+    let at = stood.0 in
+    let it = stood.1 in
+    let known = meta_select_is schema at tree it in
+    let query = query_of (meta_draft tree) in
+    let read = reads_as meta_select_text [] old new schema refl (Select (runs (meta_draft tree)) (codes "k" ∷ codes "v" ∷ [])) (ap command_of known) (subst IsPlain (sym known) (refl, refl)) (meta_select_listed schema at tree it) rows h in
+    let db = old.now.trees in
+    let a : IsAnswer query (overlay db []) [] rows = read.answer Null in
+    let here : overlay db [] tree ≡ rows_of_meta db = rw it.not_high (sym (meta_rows_are old.now has sound)) in
+    let kept : a.kept ≡ map (λ r. ([], meta_selected r)) (rows_of_meta db) =
+    a.distinct ∙ ap (map (output query)) (a.grouped ∙ each (λ r. [] ∷ r ∷ []) (overlay db [] tree)) ∙ map_then (λ r. [] ∷ r ∷ []) (output query) (overlay db [] tree) ∙ ap (map (λ r. ([], meta_selected r))) here in
+    let same : IsPermutation (map (λ (o : Output). o.1) (map (λ r. ([], meta_selected r)) (rows_of_meta db))) (map (λ (o : Output). o.1) a.ordered) =
+    IsPermutation-map (λ (o : Output). o.1) _ _ (subst (λ k. IsPermutation k a.ordered) kept a.same) in
+    subst (λ xs. IsPermutation xs rows) (map_then (λ r. ([], meta_selected r)) (λ (o : Output). o.1) (rows_of_meta db)) (subst (IsPermutation _) (sym a.shown) same)
+
+opened_by : (sql : List ℕ) (old new : State) (c : Compiled) (params : Row) (rows : List Row) (o : Option Returning) → ShowsRows old new sql c params rows o → IsTrue old.is_open
+opened_by sql old new c params rows None h = h.3.0.was_open
+opened_by sql old new c params rows (Some what) h = h.1.shown.was_open
+
+-- a statement that shows rows was run
+pub shown_open : (sql : List ℕ) (params : Row) (old new : State) (rows : List Row) → Shown sql params old new rows → IsTrue old.is_open
+unfolding Shown
+shown_open sql params old new rows h = opened_by sql old new h.0 _ rows h.0.returning h.2
+
+rows_keep : (sql : List ℕ) (a b : State) (c : Compiled) (params : Row) (rows : List Row) (o : Option Returning) → a.in_transaction ≡ true → ShowsRows a b sql c params rows o → KeepsCommit a b
+rows_keep sql a b c params rows None mode h = unchanged_keeps a b h.3
+rows_keep sql a b c params rows (Some what) mode h = record { was_open = λ _. h.1.shown.was_open; committed = λ _. rw mode at h.1.shown.committed_is }
+
+-- within a transaction a query keeps the commit, whether it gives rows or fails
+pub shown_keeps : (sql : List ℕ) (params : Row) (a b : State) (rows : List Row) → a.in_transaction ≡ true → Shown sql params a b rows → KeepsCommit a b
+unfolding Shown
+shown_keeps sql params a b rows mode h = rows_keep sql a b h.0 _ rows h.0.returning mode h.2
+
+not_run_keeps : (sql : List ℕ) (params : Row) (a b : State) (e : Error) → IsNotRun a b sql params e → KeepsCommit a b
+unfolding IsNotRun
+not_run_keeps sql params a b e (inl refused) = unchanged_keeps a b refused.1
+not_run_keeps sql params a b e (inr fails) = rolled_keeps a b fails.3
+
+show_keeps : (sql : List ℕ) (params : Row) (a b : State) (c : Compiled) (e : Error) (o : Option Returning) → FailsToShow a b sql c params e o → KeepsCommit a b
+show_keeps sql params a b c e None h = unchanged_keeps a b h.3
+show_keeps sql params a b c e (Some what) (inl refused) = unchanged_keeps a b refused.1
+show_keeps sql params a b c e (Some what) (inr fails) = rolled_keeps a b fails.3
+
+pub fails_keeps : (sql : List ℕ) (params : Row) (a b : State) (e : Error) → FailsToQuery sql params a b e ⊎ IsTooLate sql params a b e → KeepsCommit a b
+unfolding FailsToQuery
+fails_keeps sql params a b e (inl (inl none)) = not_run_keeps sql params a b e none
+fails_keeps sql params a b e (inl (inr h)) = show_keeps sql _ a b h.0 e h.0.returning h.2
+fails_keeps sql params a b e (inr late) = unchanged_keeps a b late.5
+
+-- and then the rollback gives back what was there
+pub rolled_as_before : (old begun mid new : State) → (IsTrue begun.is_open → IsTrue old.is_open) → (IsTrue begun.is_open → begun.committed ≡ old.now) → KeepsCommit begun mid → IsRolledBack mid new → IsAsBefore old new
+rolled_as_before old begun mid new opens settled kept back = record {
+  was_open = λ up. opens (kept.was_open (back.was_open up));
+  now = λ up. (back.undone up).0 ∙ kept.committed (back.was_open up) ∙ settled (kept.was_open (back.was_open up));
+}

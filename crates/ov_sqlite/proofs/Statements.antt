@@ -1,0 +1,161 @@
+-- The statements as they are parsed. Their terms are written out, so that what they ask for needs no text.
+use Rattle.std.proofs.Common.{◌≡◌, ℕ, Bool, List, [], ◌∷◌, codes, false, None, Some, Ok, refl, pos, negsuc}
+use Rattle.sqlite.specs.Collation.TheVariants.{Binary}
+use Rattle.sqlite.specs.declared.types.Value.TheVariants.{Null, Int}
+use Rattle.sqlite.specs.Term.{Term, lit, col, op2}
+use Rattle.sqlite.specs.Query.{inner, end}
+use Rattle.sqlite_sql.specs.declared.ops.BinaryOp.TheVariants.{Compare}
+use Rattle.sqlite_sql.specs.declared.ops.CompareOp.TheVariants.{Eq}
+use Rattle.sqlite_tied.specs.Compute.{everything}
+use Rattle.sqlite.specs.Schema.{Schema}
+use Rattle.sqlite_schema.specs.declared.command.Command.{Command}
+use Rattle.sqlite_schema.specs.declared.program.Program.{Program}
+use Rattle.sqlite_resolve.specs.declared.scope.Output.{Output}
+use Rattle.sqlite_resolve.specs.declared.state.Carried.{Carried}
+use Rattle.sqlite_resolve.specs.declared.compiled.Compiled.{Compiled}
+use Rattle.sqlite_draft.specs.Query.{query_of}
+use Rattle.sqlite_syntax.specs.declared.statement.Parsed.{Parsed}
+use Rattle.sqlite_ast.specs.declared.Expr.{Expr}
+use Rattle.sqlite_ast.specs.declared.Expr.TheVariants as expr
+use Rattle.sqlite_ast.specs.declared.Binary.TheVariants as binary
+use Rattle.sqlite_ast.specs.declared.Rows.TheVariants as rows
+use Rattle.sqlite_ast.specs.declared.Conflict.TheVariants as conflict
+use Rattle.sqlite_ast.specs.declared.Shown.{Shown}
+use Rattle.sqlite_ast.specs.declared.Shown.TheVariants as shown
+use Rattle.sqlite_ast.specs.declared.Origin.TheVariants as origin
+use Rattle.sqlite_ast.specs.declared.Select as ast_select
+use Rattle.sqlite_ast.specs.declared.Core as ast_core
+use Rattle.sqlite_ast.specs.declared.Source as ast_source
+use Rattle.sqlite_ast.specs.declared.Statement.TheVariants as written
+use Rattle.sqlite_resolve.specs.Compile.{first}
+use Rattle.sqlite_resolve.specs.Scope.{Context}
+use Rattle.sqlite_draft.specs.declared.query.Draft.{Draft}
+use Rattle.ov_sqlite.specs.Tables.{insert_text, meta_insert_text, delete_text, update_text, select_text, meta_select_text}
+
+abbrev pub named : List ℕ → Expr
+named name = expr.Column None name
+
+abbrev pub equals : Expr → Expr → Expr
+equals a b = expr.Binary binary.Eq a b
+
+abbrev pub key_test : Expr
+key_test = expr.Binary binary.And (equals (named (codes "tbl")) (expr.Parameter 1)) (equals (named (codes "id")) (expr.Parameter 2))
+
+abbrev pub shows : List ℕ → Shown
+shows name = shown.One (named name) None name
+
+abbrev pub source_of : List ℕ → ast_source.Source
+source_of table = ast_source.roll-Source (record { is_left = false; origin = origin.Table table; alias = None; on = None; using = [] })
+
+abbrev pub core_of : List Shown → List ℕ → ast_core.Core
+core_of columns table = ast_core.roll-Core (record { distinct = false; shown = columns; from = source_of table ∷ []; filter = None; group = []; having = None })
+
+abbrev pub selection : List Shown → List ℕ → ast_select.Select
+selection columns table = ast_select.roll-Select (record {
+  with = [];
+  first = core_of columns table;
+  others = [];
+  order = [];
+  limit = None;
+  offset = None;
+})
+
+abbrev pub insert_parsed : Parsed
+insert_parsed = record { statement = written.Insert conflict.Abort (codes "line") (codes "tbl" ∷ codes "id" ∷ codes "ver" ∷ codes "body" ∷ []) (rows.Values ((expr.Parameter 1 ∷ expr.Parameter 2 ∷ expr.Parameter 3 ∷ expr.Parameter 4 ∷ []) ∷ [])) [] []; names = codes "?1" ∷ codes "?2" ∷ codes "?3" ∷ codes "?4" ∷ []; formats = []; start = 0; end = 53; tail = 53 }
+
+pub insert_first : first insert_text ≡ Ok insert_parsed
+unfolding everything
+insert_first = refl
+
+abbrev pub meta_insert_parsed : Parsed
+meta_insert_parsed = record { statement = written.Insert conflict.Abort (codes "meta") (codes "k" ∷ codes "v" ∷ []) (rows.Values ((expr.Parameter 1 ∷ expr.Parameter 2 ∷ []) ∷ [])) [] []; names = codes "?1" ∷ codes "?2" ∷ []; formats = []; start = 0; end = 35; tail = 35 }
+
+pub meta_insert_first : first meta_insert_text ≡ Ok meta_insert_parsed
+unfolding everything
+meta_insert_first = refl
+
+abbrev pub delete_parsed : Parsed
+delete_parsed = record { statement = written.Delete (codes "line") (Some key_test) []; names = codes "?1" ∷ codes "?2" ∷ []; formats = []; start = 0; end = 39; tail = 39 }
+
+pub delete_first : first delete_text ≡ Ok delete_parsed
+unfolding everything
+delete_first = refl
+
+abbrev pub update_parsed : Parsed
+update_parsed = record { statement = written.Update (codes "line") ((codes "ver", expr.Parameter 3) ∷ (codes "body", expr.Parameter 4) ∷ []) (Some key_test) []; names = codes "?1" ∷ codes "?2" ∷ codes "?3" ∷ codes "?4" ∷ []; formats = []; start = 0; end = 53; tail = 53 }
+
+pub update_first : first update_text ≡ Ok update_parsed
+unfolding everything
+update_first = refl
+
+abbrev pub select_parsed : Parsed
+select_parsed = record { statement = written.Select (selection (shows (codes "rowid") ∷ shows (codes "tbl") ∷ shows (codes "id") ∷ shows (codes "ver") ∷ shows (codes "body") ∷ []) (codes "line")); names = []; formats = []; start = 0; end = 38; tail = 38 }
+
+pub select_first : first select_text ≡ Ok select_parsed
+unfolding everything
+select_first = refl
+
+abbrev pub meta_select_parsed : Parsed
+meta_select_parsed = record { statement = written.Select (selection (shows (codes "k") ∷ shows (codes "v") ∷ []) (codes "meta")); names = []; formats = []; start = 0; end = 20; tail = 20 }
+
+pub meta_select_first : first meta_select_text ≡ Ok meta_select_parsed
+unfolding everything
+meta_select_first = refl
+
+-- a statement that was parsed, with what it asks for
+abbrev pub does : Parsed → Command → Compiled
+does p command = record { command = command; returning = None; names = p.names; formats = []; start = p.start; end = p.end; tail = p.tail }
+
+-- a query of one table's rows
+abbrev pub drafts : ℕ → List Term → List Term → Draft
+drafts tree filter project = record {
+  from = inner tree end;
+  filter = filter;
+  group = None;
+  project = project;
+  distinct = false;
+  collations = [];
+  order = [];
+  limit = lit (Int (negsuc 0));
+  offset = lit (Int (pos 0));
+}
+
+abbrev pub plain_carried : Carried
+plain_carried = record { collation = Some Binary; is_written = false }
+
+abbrev pub free_carried : Carried
+free_carried = record { collation = None; is_written = false }
+
+-- one table in slot 1
+abbrev pub within : Schema → ℕ → List ℕ → List Output → Bool → Bool → Context
+within schema at name shown aggregate alias = record { schema = schema; levels = (record { tables = (record { name = name; table = at; slot = 1; shared = [] }) ∷ []; shown = shown }) ∷ []; may_aggregate = aggregate; may_alias = alias }
+
+-- the two tests of a line's key
+abbrev pub key_terms : List Term
+key_terms = op2 (Compare Eq Binary) (col 1 1) (col 0 0) ∷ op2 (Compare Eq Binary) (col 1 2) (col 0 1) ∷ []
+
+-- the number of each line with the key
+abbrev pub deletes : ℕ → Draft
+deletes tree = drafts tree key_terms (col 1 0 ∷ [])
+
+-- what the UPDATE puts for each: its number as it was and as it will be, and its columns
+abbrev pub changes : ℕ → Draft
+changes tree = drafts tree key_terms (col 1 0 ∷ col 1 0 ∷ col 1 1 ∷ col 1 2 ∷ col 0 2 ∷ col 0 3 ∷ [])
+
+-- the number and the columns of each line
+abbrev pub selects : ℕ → Draft
+selects tree = drafts tree [] (col 1 0 ∷ col 1 1 ∷ col 1 2 ∷ col 1 3 ∷ col 1 4 ∷ [])
+
+-- the columns of each row of `meta`
+abbrev pub selects_meta : ℕ → Draft
+selects_meta tree = drafts tree [] (col 1 1 ∷ col 1 2 ∷ [])
+
+-- the program of one query
+abbrev pub runs : Draft → Program
+runs d = record { lets = []; body = query_of d }
+
+abbrev pub insert_terms : List Term
+insert_terms = lit Null ∷ col 0 0 ∷ col 0 1 ∷ col 0 2 ∷ col 0 3 ∷ []
+
+abbrev pub meta_insert_terms : List Term
+meta_insert_terms = lit Null ∷ col 0 0 ∷ col 0 1 ∷ []

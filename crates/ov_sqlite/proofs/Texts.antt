@@ -1,0 +1,79 @@
+-- What `sqlite` understands the CREATE TABLE texts as, wherever the names are free.
+use Rattle.std.proofs.Common.{◌≡◌, ℕ, List, ◌∷◌, [], None, false, Ok, refl, codes}
+use Rattle.sqlite.specs.Schema.{Schema}
+use Rattle.sqlite.specs.Command.TheVariants.{CreateTable}
+use Rattle.sqlite.specs.Compile.{table_defined_by}
+use Rattle.sqlite_schema.specs.Names.{same_name, table_named, index_named, view_named}
+use Rattle.sqlite_ast.specs.declared.Statement.TheVariants as written
+use Rattle.sqlite_ast.specs.declared.Rule.TheVariants as rule
+use Rattle.sqlite_ast.specs.declared.Keyed.{Keyed}
+use Rattle.sqlite_ast.specs.declared.CreateTable as ast
+use Rattle.sqlite_syntax.specs.declared.statement.Parsed.{Parsed}
+use Rattle.sqlite_resolve.specs.Compile.{first}
+use Rattle.sqlite_resolve.specs.Define as define
+use Rattle.sqlite_tied.specs.Compute.{everything}
+use Rattle.sqlite.specs.Listing.{understood}
+use Rattle.ov_sqlite.specs.Tables.{meta_table, line_table, create_meta, create_line}
+use Rattle.ov_sqlite.proofs.Statements.{does}
+
+abbrev keyed : List ℕ → Keyed
+keyed name = record { name = name; collation = None; descending = false }
+
+abbrev meta_def : ast.CreateTable
+meta_def = record { if_missing = false; name = codes "meta"; body = record { columns = (codes "k", codes "TEXT") ∷ (codes "v", codes "BLOB") ∷ []; rules = rule.PrimaryKey (keyed (codes "k") ∷ []) ∷ [] }; is_strict = false; resolves = false }
+
+abbrev line_def : ast.CreateTable
+line_def = record {
+  if_missing = false;
+  name = codes "line";
+  body = record { columns = (codes "tbl", codes "TEXT") ∷ (codes "id", codes "BLOB") ∷ (codes "ver", codes "BLOB") ∷ (codes "body", codes "BLOB") ∷ []; rules = rule.PrimaryKey (keyed (codes "tbl") ∷ keyed (codes "id") ∷ []) ∷ [] };
+  is_strict = false;
+  resolves = false;
+}
+
+abbrev pub meta_parsed : Parsed
+meta_parsed = record { statement = written.CreateTable meta_def; names = []; formats = []; start = 0; end = 45; tail = 45 }
+
+abbrev pub line_parsed : Parsed
+line_parsed = record { statement = written.CreateTable line_def; names = []; formats = []; start = 0; end = 78; tail = 78 }
+
+meta_first : first create_meta ≡ Ok meta_parsed
+unfolding everything
+meta_first = refl
+
+line_first : first create_line ≡ Ok line_parsed
+unfolding everything
+line_first = refl
+
+meta_is : define.table [] meta_def ≡ Ok (meta_table 0)
+unfolding everything
+meta_is = refl
+
+line_is : define.table [] line_def ≡ Ok (line_table 0)
+unfolding everything
+line_is = refl
+
+pub meta_defined : table_defined_by create_meta ≡ Ok (meta_table 0)
+unfolding table_defined_by Rattle.sqlite_resolve.specs.Compile.table_in
+meta_defined = rw (meta_first, meta_is) refl
+
+pub line_defined : table_defined_by create_line ≡ Ok (line_table 0)
+unfolding table_defined_by Rattle.sqlite_resolve.specs.Compile.table_in
+line_defined = rw (line_first, line_is) refl
+
+module _ (schema : Schema) where
+  pub meta_understood : table_named schema (codes "meta") ≡ None → index_named schema (codes "meta") ≡ None → view_named schema (codes "meta") ≡ None → understood schema create_meta ≡ Ok (does meta_parsed CreateTable)
+  unfolding
+      understood same_name Rattle.sqlite_resolve.specs.Compile.compiled Rattle.sqlite_resolve.specs.Compile.planned
+      Rattle.sqlite_resolve.specs.Compile.meaning Rattle.sqlite_resolve.specs.Compile.timed Rattle.sqlite_resolve.specs.Compile.returning
+      Rattle.sqlite_resolve.specs.Compile.command Rattle.sqlite_resolve.specs.Compile.create_table Rattle.sqlite_resolve.specs.Compile.is_attached
+      Rattle.sqlite_resolve.specs.Compile.creates Rattle.sqlite_resolve.specs.Compile.is_reserved
+  meta_understood no_table no_index no_view = rw (meta_first, no_table, no_index, no_view, meta_is) refl
+
+  pub line_understood : table_named schema (codes "line") ≡ None → index_named schema (codes "line") ≡ None → view_named schema (codes "line") ≡ None → understood schema create_line ≡ Ok (does line_parsed CreateTable)
+  unfolding
+      understood same_name Rattle.sqlite_resolve.specs.Compile.compiled Rattle.sqlite_resolve.specs.Compile.planned
+      Rattle.sqlite_resolve.specs.Compile.meaning Rattle.sqlite_resolve.specs.Compile.timed Rattle.sqlite_resolve.specs.Compile.returning
+      Rattle.sqlite_resolve.specs.Compile.command Rattle.sqlite_resolve.specs.Compile.create_table Rattle.sqlite_resolve.specs.Compile.is_attached
+      Rattle.sqlite_resolve.specs.Compile.creates Rattle.sqlite_resolve.specs.Compile.is_reserved
+  line_understood no_table no_index no_view = rw (line_first, no_table, no_index, no_view, line_is) refl

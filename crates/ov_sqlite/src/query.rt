@@ -1,0 +1,59 @@
+//! Queries that change nothing.
+
+ghost use Rattle.std.specs.Prelude.{◌≡◌, IfOk, map, true, false, [], IsTrue};
+ghost use Rattle.std.specs.List.Sorted.{IsPermutation};
+ghost use Rattle.sqlite.specs.State.{HasCleanDisk, Survives, Shown};
+ghost use Rattle.sqlite.specs.Effect.{IsDatabase};
+ghost use Rattle.sqlite.specs.Held.{state};
+ghost use Rattle.ov_sqlite.specs.Format.{rows_of_line, rows_of_meta};
+ghost use Rattle.ov_sqlite.specs.Tables.{HasOurTables};
+ghost use Rattle.ov_sqlite.specs.Querying.{IsAsBefore};
+ghost use Rattle.ov_sqlite.specs.Reading.{line_selected, meta_selected};
+
+use sqlite::{Alter, Connection, Error, Row};
+
+/// The rows that a query gives. It runs in a transaction that is rolled back, so nothing is committed.
+fn query<S: Alter>(conn: &mut Connection<S>, sql: &str) -> Result<Vec<Row>, Error>
+    requires { conn.old.in_transaction ≡ false }
+    ensures mode { conn.new.in_transaction ≡ false }
+    ensures rows { HasCleanDisk (state S.Store conn.new) → IfOk result (λ rows. (mid : _) × Shown sql.now [] (state S.Store (record conn.old { in_transaction = true })) (state S.Store mid) rows.items) }
+    ensures settled { IsTrue (state S.Store conn.old).is_open → ((state S.Store conn.old).now ≡ (state S.Store conn.old).committed) × IsDatabase (state S.Store conn.old).now }
+    ensures same { HasCleanDisk (state S.Store conn.new) → IsAsBefore (state S.Store conn.old) (state S.Store conn.new) }
+    ensures survives { Survives (state S.Store conn.old) (state S.Store conn.new) (λ _. ⊥) }
+{
+    if !conn.is_autocommit() {
+        return Err(Error::InvalidQuery);
+    }
+    // Its clause says that the rows obey the schema.
+    let _schema = conn.schema();
+    let mut tx = conn.transaction();
+    let rows = tx.query_all(sql, &[]);
+    tx.rollback();
+    rows
+}
+
+/// The rows of `line`.
+pub fn line_rows<S: Alter>(conn: &mut Connection<S>) -> Result<Vec<Row>, Error>
+    requires { conn.old.in_transaction ≡ false }
+    ensures mode { conn.new.in_transaction ≡ false }
+    ensures rows { HasCleanDisk (state S.Store conn.new) → (IsTrue (state S.Store conn.old).is_open → HasOurTables (state S.Store conn.old).now.schema)
+        → IfOk result (λ rows. IsTrue (state S.Store conn.old).is_open × IsPermutation (map line_selected (rows_of_line (state S.Store conn.old).now.trees)) rows.items) }
+    ensures settled { IsTrue (state S.Store conn.old).is_open → ((state S.Store conn.old).now ≡ (state S.Store conn.old).committed) × IsDatabase (state S.Store conn.old).now }
+    ensures same { HasCleanDisk (state S.Store conn.new) → IsAsBefore (state S.Store conn.old) (state S.Store conn.new) }
+    ensures survives { Survives (state S.Store conn.old) (state S.Store conn.new) (λ _. ⊥) }
+{
+    query(conn, "SELECT rowid,tbl,id,ver,body FROM line")
+}
+
+/// The rows of `meta`.
+pub fn meta_rows<S: Alter>(conn: &mut Connection<S>) -> Result<Vec<Row>, Error>
+    requires { conn.old.in_transaction ≡ false }
+    ensures mode { conn.new.in_transaction ≡ false }
+    ensures rows { HasCleanDisk (state S.Store conn.new) → (IsTrue (state S.Store conn.old).is_open → HasOurTables (state S.Store conn.old).now.schema)
+        → IfOk result (λ rows. IsTrue (state S.Store conn.old).is_open × IsPermutation (map meta_selected (rows_of_meta (state S.Store conn.old).now.trees)) rows.items) }
+    ensures settled { IsTrue (state S.Store conn.old).is_open → ((state S.Store conn.old).now ≡ (state S.Store conn.old).committed) × IsDatabase (state S.Store conn.old).now }
+    ensures same { HasCleanDisk (state S.Store conn.new) → IsAsBefore (state S.Store conn.old) (state S.Store conn.new) }
+    ensures survives { Survives (state S.Store conn.old) (state S.Store conn.new) (λ _. ⊥) }
+{
+    query(conn, "SELECT k,v FROM meta")
+}

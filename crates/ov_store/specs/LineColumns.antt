@@ -1,7 +1,0 @@
--- The columns of a row that is a line, as its key and the rest. What names no source is our own.
-use Rattle.ov_specs.specs.rows.Lines.{LineKey, LineBody}
-use Rattle.ov_store.specs.declared.line.LineColumns.{LineColumns}
-
--- the key and the rest
-abbrev pub columns_entry : LineColumns → LineKey × LineBody
-columns_entry parts = ((parts.table.now, parts.id), (parts.version, parts.body.now))
