@@ -6,3 +6,4 @@ pub mod Reading
 pub mod Querying
 pub mod LineColumns
 pub mod Making
+pub mod HasText

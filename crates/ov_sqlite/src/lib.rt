@@ -1,14 +1,17 @@
-//! The two tables of stored format 1, asked of SQLite and read from it: how they are made, written and read, and what their
-//! rows are.
+//! The two tables of stored format 1, asked of SQLite and read from it: how they are found and made, what is written to them,
+//! what their rows are, and which fault an error is meanwhile.
 //!
-//! Everything here is about a connection that is open and what stands in it. How one is opened over files, what keeps lines in
-//! it, and what its errors are to the program stands in `ov_store`, which sees no text of SQL that asks. The calls are generic
-//! over the kit's `Alter`. What names no source is our own.
+//! Everything here is about a connection that is open and what stands in it. How one is opened over files, and what keeps lines
+//! in it, stands in `ov_store`, where no SQL is written. The calls are generic over the kit's `Alter`. What names no source is
+//! our own.
 #![tactic(auto)]
 
+mod fault;
+mod format;
 mod line;
 mod make;
 mod meta;
+mod page;
 mod query;
 mod room;
 mod rows;
@@ -16,10 +19,12 @@ mod schema;
 mod value;
 mod write;
 
-pub use make::{CREATE_LINE, CREATE_META, make_tables};
-pub use meta::schema_text_of;
-pub use query::{line_rows, meta_rows};
+pub use fault::{fault_at, refusal};
+pub use format::test_format;
+pub use make::make_tables;
+pub use page::lists_tables;
+pub use query::line_rows;
 pub use room::has_room;
-pub use rows::{lines_of, test_rows};
+pub use rows::lines_of;
 pub use schema::{is_blank, is_ours};
-pub use write::{WriteError, is_up, write_all};
+pub use write::{WriteError, write_all};

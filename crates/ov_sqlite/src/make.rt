@@ -13,10 +13,10 @@ use sqlite::types::ValueRef;
 use sqlite::{Alter, Connection, Error, Transaction};
 
 /// The statement that makes `meta`, as SQLite lists it too.
-pub const CREATE_META: &str = "CREATE TABLE meta(k TEXT PRIMARY KEY, v BLOB)";
+pub(crate) const CREATE_META: &str = "CREATE TABLE meta(k TEXT PRIMARY KEY, v BLOB)";
 
 /// The statement that makes `line`, as SQLite lists it too.
-pub const CREATE_LINE: &str =
+pub(crate) const CREATE_LINE: &str =
     "CREATE TABLE line(tbl TEXT, id BLOB, ver BLOB, body BLOB, PRIMARY KEY(tbl,id))";
 
 fn make_meta<S: Alter>(tx: &mut Transaction<'_, S>) -> Result<(), Error>

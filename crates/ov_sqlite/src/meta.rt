@@ -24,7 +24,7 @@ fn schema_in(row: &Row) -> Option<&str>
 }
 
 /// The schema's text, if the rows are those of stored format 1.
-pub fn schema_text_of(rows: &[Row]) -> Option<&str>
+pub(crate) fn schema_text_of(rows: &[Row]) -> Option<&str>
     ensures { MatchOption result ((text : _) → ¬ ReadsMeta text rows.now) (λ text. ReadsMeta text.now rows.now) }
 {
     let [first, second] = rows else {

@@ -23,7 +23,7 @@ fn is_above(number: i64, last: Option<i64>) -> bool
 
 /// Whether each row is a line, and the numbers rise: `Format` where one is no line. Numbers that do not rise are a wrong
 /// answer of the device, since a table is read in the order of its numbers.
-pub fn test_rows(rows: &[Row]) -> Result<(), KeepFault>
+pub(crate) fn test_rows(rows: &[Row]) -> Result<(), KeepFault>
     ensures lines { OnOk result (AllByRecursion IsLine rows.now) }
     ensures numbered { OnOk result (IsNumbered rows.now) }
     ensures format { result ≡ Err KeepFault.Format → ¬ AllByRecursion IsLine rows.now }

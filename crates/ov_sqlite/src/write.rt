@@ -162,7 +162,7 @@ pub fn write_all<S: Alter>(conn: &mut Connection<S>, changes: &[Change]) -> Resu
 }
 
 /// Whether the connection is open, by a call that does nothing else.
-pub fn is_up<S: Alter>(conn: &mut Connection<S>) -> bool
+pub(crate) fn is_up<S: Alter>(conn: &mut Connection<S>) -> bool
     requires { conn.old.in_transaction ≡ false }
     ensures mode { conn.new.in_transaction ≡ false }
     ensures up { HasCleanDisk (state S.Store conn.new) → IsTrue result → IsUnchanged (state S.Store conn.old) (state S.Store conn.new) }

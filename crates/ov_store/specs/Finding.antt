@@ -1,5 +1,5 @@
 -- What the store of a connection that was just opened holds. What names no source is our own.
-use Rattle.std.specs.Prelude.{◌≡◌, ◌≢◌, ◌↔◌, ◌⊎◌, ◌++◌, ℕ, List, drop, Result, Ok, Err}
+use Rattle.std.specs.Prelude.{◌≡◌, ◌≢◌, ◌↔◌, ◌⊎◌, ℕ, List, Result, Ok, Err}
 use Rattle.std.specs.FinMap.{empty}
 use Rattle.sqlite.specs.Store.{Ghosts}
 use Rattle.sqlite.specs.declared.error.Error.{Error}
@@ -84,10 +84,6 @@ pub record IsNobodyElses (image : Image) : Type 0 where
   pub sound : IsDatabase db
   pub found : AreFoundIn image db.trees
   pub ours : (db.schema ≡ no_schema) ⊎ HasOurTables db.schema
-
--- the text stands somewhere in the bytes
-abbrev pub HasText : List ℕ → List ℕ → Type 0
-HasText text bytes = (at : ℕ) × (rest : List ℕ) × (drop at bytes ≡ text ++ rest)
 
 module _ {D : Type 0} {g : disk.Ghosts D} where
   -- SQLite opened the files and found what they held, and that has no store

@@ -54,12 +54,7 @@ fn crash_and_reopen<S: Alter + Reopen + Drop>(
     ensures kinds { IfErr result (λ e. IsLoadFault e.0) }
     ensures cause { IfErr result (λ e. IsClean (S.Store.view e.1) → e.0 ≡ KeepFault.Device → MoreFaults (S.Store.faults store.connection.store) (S.Store.faults e.1)) }
 {
-    let Store {
-        connection,
-        schema: _,
-        failures: _,
-    } = store;
-    let mut left = connection.into_store();
+    let mut left = store.close().into_store();
     if let Err(error) = left.crash_and_reopen() {
         return Err((fault_below(error), left));
     }

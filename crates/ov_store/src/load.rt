@@ -5,10 +5,9 @@ ghost use Rattle.ov_keeper.specs.Keeping.{LeavesNoMore, IsLoadFault};
 ghost use Rattle.ov_keeper.specs.ListKeeper.{lines_of};
 ghost use Rattle.ov_store.specs.StoreState.{MayFind};
 
-use crate::commit::refusal;
 use crate::store::Store;
 use ov_keeper::{KeepFault, Line};
-use ov_sqlite::line_rows;
+use ov_sqlite::{line_rows, refusal};
 use sqlite::Alter;
 use std::alloc::Global;
 

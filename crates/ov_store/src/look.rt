@@ -4,24 +4,21 @@ ghost use Rattle.std.specs.Prelude.{◌≡◌, ◌≢◌, ◌⊎◌, IfErr, IsTr
 ghost use Rattle.sqlite.specs.declared.error.Error.TheVariants.{SqliteFailure};
 ghost use Rattle.sqlite.specs.Opening.{is_open_error};
 ghost use Rattle.ov_store.specs.Causes.{IsCopyRefused, IsLookRefused, IsOpenRefused};
-ghost use Rattle.ov_store.specs.Finding.{HasText, IsNobodyElses};
+ghost use Rattle.ov_store.specs.Finding.{IsNobodyElses};
 ghost use Rattle.ov_store.specs.Refusing.{fault_of_open};
-ghost use Rattle.ov_sqlite.specs.Tables.{no_schema, HasOurTables, create_meta, create_line};
+ghost use Rattle.ov_sqlite.specs.Tables.{no_schema, HasOurTables};
 
 use crate::file::fault_of_open;
 use crate::memory::open_memory_files;
 use crate::memory_disk::MemoryDisk;
 use ov_keeper::KeepFault;
-use ov_sqlite::{CREATE_LINE, CREATE_META, is_blank, is_ours};
+use ov_sqlite::{is_blank, is_ours, lists_tables};
 use sqlite::{Alter, Connection, Error, ErrorCode, FileStore, Files};
 use sqlite_disk::Disk;
 use sqlite_schema::schema::Schema;
 use std::alloc::Global;
 use std::fs;
 use std::io::{self, ErrorKind, Read};
-
-/// The first bytes of a file that SQLite made.
-const MAGIC: &[u8] = b"SQLite format 3\0";
 
 /// A log of fewer bytes has no commit.
 const LOG_HEADER: u64 = 56;
@@ -111,29 +108,6 @@ fn first_page(rt: &HostRuntime, path: &str) -> io::Result<[u8; 4096]> {
         Err(error) => Err(error),
         Ok(()) => Ok(page),
     }
-}
-
-/// Whether a first page is that of a file in write-ahead mode with four objects, of which two are the tables.
-fn lists_tables(page: &[u8]) -> bool
-    ensures { IsTrue result → HasText create_meta page.now × HasText create_line page.now }
-{
-    page.starts_with(MAGIC)
-        && page.get(18..20) == Some(&[2, 2])
-        && page.get(103..105) == Some(&[0, 4])
-        && has_text(page, CREATE_META.as_bytes())
-        && has_text(page, CREATE_LINE.as_bytes())
-}
-
-/// Whether the text stands somewhere in the bytes.
-fn has_text(bytes: &[u8], text: &[u8]) -> bool
-    ensures { IsTrue result → HasText text.now bytes.now }
-{
-    for at in 0..bytes.len() {
-        if bytes[at..].starts_with(text) {
-            return true;
-        }
-    }
-    false
 }
 
 /// Opens the copies as files are opened, and passes just what is nobody else's.

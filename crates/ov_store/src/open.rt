@@ -1,49 +1,21 @@
-ghost use Rattle.std.specs.Prelude.{◌≡◌, ◌≢◌, ◌↔◌, false, IfOk, IfErr, OnOk, OnErr, IsTrue, Err};
-ghost use Rattle.std.specs.List.{AllByRecursion};
+ghost use Rattle.std.specs.Prelude.{◌≡◌, ◌≢◌, ◌↔◌, false, IfOk, IfErr, OnOk, OnErr};
 ghost use Rattle.std.specs.FinMap.{empty};
 ghost use Rattle.sqlite.specs.State.{HasCleanDisk, Survives};
 ghost use Rattle.sqlite.specs.Held.{state};
 ghost use Rattle.ov_keeper.specs.Keeping.{IsCommitFault};
 ghost use Rattle.ov_sqlite.specs.Tables.{with_ours, HasRoom, HasOurTables};
-ghost use Rattle.ov_sqlite.specs.Format.{IsLine, IsMeta, IsFormat, rows_of_meta, rows_of_line};
-ghost use Rattle.ov_sqlite.specs.Changing.{IsNumbered, IsStored};
+ghost use Rattle.ov_sqlite.specs.Format.{IsFormat};
 ghost use Rattle.ov_sqlite.specs.Making.{MayMake, IsNew, IsNewBeside};
 ghost use Rattle.ov_sqlite.specs.Querying.{IsAsBefore};
 ghost use Rattle.ov_store.specs.StoreState.{MayFind, LeavesTables};
 
-use crate::commit::{fault_at, fault_of};
 use crate::store::Store;
 use crate::unopened::Unopened;
 use ov_base::Text;
 use ov_keeper::KeepFault;
-use ov_sqlite::{has_room, is_ours, line_rows, make_tables, meta_rows, schema_text_of, test_rows};
+use ov_sqlite::{fault_at, has_room, is_ours, make_tables, test_format};
 use sqlite::{Alter, Connection};
 use std::alloc::Global;
-
-/// The schema's text, read from `meta`.
-fn read_meta<S: Alter>(alloc: Global, conn: &mut Connection<S>) -> Result<Text, KeepFault>
-    requires { conn.old.in_transaction ≡ false }
-    ensures mode { conn.new.in_transaction ≡ false }
-    ensures ok { HasCleanDisk (state S.Store conn.new) → HasOurTables (state S.Store conn.old).now.schema
-        → IfOk result (λ text. IsTrue (state S.Store conn.old).is_open × IsMeta text (rows_of_meta (state S.Store conn.old).now.trees)) }
-    ensures format { HasCleanDisk (state S.Store conn.new) → HasOurTables (state S.Store conn.old).now.schema
-        → result ≡ Err KeepFault.Format → (text : _) → ¬ IsMeta text (rows_of_meta (state S.Store conn.old).now.trees) }
-    ensures ours { result ≢ Err KeepFault.NotOurs }
-    ensures same { HasCleanDisk (state S.Store conn.new) → IsAsBefore (state S.Store conn.old) (state S.Store conn.new) }
-    ensures survives { Survives (state S.Store conn.old) (state S.Store conn.new) (λ _. ⊥) }
-{
-    let rows = match meta_rows(conn) {
-        Ok(rows) => rows,
-        Err(error) => return Err(fault_of(&error)),
-    };
-    let Some(text) = schema_text_of(rows.as_slice()) else {
-        return Err(KeepFault::Format);
-    };
-    match Text::from_str(alloc, text) {
-        Ok(text) => Ok(text),
-        Err(_) => Err(KeepFault::Memory),
-    }
-}
 
 /// Makes the tables, or tells why there are none.
 fn make_new<S: Alter>(conn: &mut Connection<S>, schema: &Text) -> Result<(), KeepFault>
@@ -63,48 +35,6 @@ fn make_new<S: Alter>(conn: &mut Connection<S>, schema: &Text) -> Result<(), Kee
     // Its clause says that all is committed.
     let _after = conn.is_autocommit();
     Err(fault)
-}
-
-/// Tests the rows of `line`.
-fn test_lines<S: Alter>(conn: &mut Connection<S>) -> Result<(), KeepFault>
-    requires { conn.old.in_transaction ≡ false }
-    ensures mode { conn.new.in_transaction ≡ false }
-    ensures ok { HasCleanDisk (state S.Store conn.new) → (IsTrue (state S.Store conn.old).is_open → HasOurTables (state S.Store conn.old).now.schema)
-        → OnOk result (IsTrue (state S.Store conn.old).is_open × AllByRecursion IsLine (rows_of_line (state S.Store conn.old).now.trees) × IsNumbered (rows_of_line (state S.Store conn.old).now.trees)) }
-    ensures format { HasCleanDisk (state S.Store conn.new) → (IsTrue (state S.Store conn.old).is_open → HasOurTables (state S.Store conn.old).now.schema)
-        → result ≡ Err KeepFault.Format → IsTrue (state S.Store conn.old).is_open × (¬ AllByRecursion IsLine (rows_of_line (state S.Store conn.old).now.trees)) }
-    ensures ours { result ≢ Err KeepFault.NotOurs }
-    ensures same { HasCleanDisk (state S.Store conn.new) → IsAsBefore (state S.Store conn.old) (state S.Store conn.new) }
-    ensures survives { Survives (state S.Store conn.old) (state S.Store conn.new) (λ _. ⊥) }
-{
-    match line_rows(conn) {
-        Ok(rows) => test_rows(rows.as_slice()),
-        Err(error) => Err(fault_of(&error)),
-    }
-}
-
-/// Tests all rows, and gives the schema's text.
-fn test_format<S: Alter>(alloc: Global, conn: &mut Connection<S>) -> Result<Text, KeepFault>
-    requires { conn.old.in_transaction ≡ false }
-    ensures mode { conn.new.in_transaction ≡ false }
-    ensures ok { HasCleanDisk (state S.Store conn.new) → HasOurTables (state S.Store conn.old).now.schema
-        → IfOk result (λ text. IsTrue (state S.Store conn.old).is_open × IsStored text (state S.Store conn.old).now) }
-    ensures format { HasCleanDisk (state S.Store conn.new) → HasOurTables (state S.Store conn.old).now.schema
-        → result ≡ Err KeepFault.Format → (text : _) → ¬ IsFormat text (state S.Store conn.old).now }
-    ensures ours { result ≢ Err KeepFault.NotOurs }
-    ensures same { HasCleanDisk (state S.Store conn.new) → IsAsBefore (state S.Store conn.old) (state S.Store conn.new) }
-    ensures survives { Survives (state S.Store conn.old) (state S.Store conn.new) (λ _. ⊥) }
-{
-    // Its clause says that the rows obey the schema.
-    let _schema = conn.schema();
-    let text = match read_meta(alloc, conn) {
-        Ok(text) => text,
-        Err(fault) => return Err(fault),
-    };
-    match test_lines(conn) {
-        Ok(()) => Ok(text),
-        Err(fault) => Err(fault),
-    }
 }
 
 impl<S: Alter + Drop> Store<S> {

@@ -7,7 +7,7 @@ use Rattle.sqlite.specs.Held.{state}
 use Rattle.ov_sqlite.specs.Tables.{HasOurTables}
 use Rattle.ov_sqlite.specs.Format.{IsLine, rows_of_line}
 use Rattle.ov_sqlite.specs.Changing.{IsNumbered}
-use Rattle.ov_store.proofs.open.test_format.Goals as goal
+use Rattle.ov_sqlite.proofs.format.test_format.Goals as goal
 
 same_fault : {X : Type 0} {a b : KeepFault} → ◌≡◌ {A = Result X KeepFault} (Err a) (Err b) → a ≡ b
 same_fault e = cc

@@ -4,7 +4,7 @@ use Rattle.sqlite.specs.Held.{state}
 use Rattle.ov_sqlite.specs.Format.{IsLine, rows_of_line}
 use Rattle.ov_sqlite.specs.Changing.{IsNumbered}
 use Rattle.ov_sqlite.proofs.OpenLemmas.{lines_stored, lines_read, numbers_stored}
-use Rattle.ov_store.proofs.open.test_lines.Goals as goal
+use Rattle.ov_sqlite.proofs.format.test_lines.Goals as goal
 
 both_ok : {X E A B C : Type 0} (r : Result X E) → (A → B → C) → OnOk r A → OnOk r B → OnOk r C
 both_ok (Ok x) f a b = f a b

@@ -3,7 +3,7 @@ use Rattle.sqlite.specs.Held.{state}
 use Rattle.ov_sqlite.specs.Format.{IsMeta, rows_of_meta}
 use Rattle.ov_sqlite.specs.Reading.{ReadsMeta}
 use Rattle.ov_sqlite.proofs.OpenLemmas.{meta_stored, meta_read}
-use Rattle.ov_store.proofs.open.read_meta.Goals as goal
+use Rattle.ov_sqlite.proofs.format.read_meta.Goals as goal
 
 pub returns-in_default-clause-format : goal.returns-in_default-clause-format
 returns-in_default-clause-format g c clean has err text m =
