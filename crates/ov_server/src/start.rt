@@ -14,8 +14,11 @@ use std::alloc::Global;
 use std::env;
 use std::env::Env;
 use std::io::{ErrorKind, Read, Write};
+use std::net::{Net, TcpListener, TcpStream};
 use std::random::RandomSource;
-use std::rt::Files;
+use std::rt::{Clock, Files};
+use std::sync::Wait;
+use std::thread::Threads;
 
 /// Where the arguments ask for sessions: at an address, or over the reader and the writer.
 fn place_of<I, O>(listen: Option<Text>, sessions: Option<u64>, input: I, output: O) -> Place<I, O>
@@ -33,7 +36,13 @@ where
 /// then in the address. `start` stands for what the database's file and its log hold.
 pub fn run<R, S, I, O>(host: &HostRuntime, rt: &R, start: S, input: I, output: O) -> Ending
 where
-    R: System + RandomSource,
+    R: Net<Listener = TcpListener, Stream = TcpStream>
+        + Threads
+        + Wait
+        + RandomSource
+        + Clock
+        + Eprint
+        + Sync,
     S: Start,
     I: Read + Drop,
     O: Write + Drop,

@@ -1,7 +1,7 @@
 //! Clients over the loopback interface, whose sessions are served together.
 
 use ov_base::Text;
-use ov_listen::{Place, System, serve_at, serve_connections, serve_memory};
+use ov_listen::{Place, serve_at, serve_connections, serve_memory};
 use ov_schema::text_of;
 use ov_sockets::{accept_all, listen};
 use ov_words::Ending;
@@ -124,7 +124,10 @@ fn two_clients_share_a_lock(rt: HostRuntime) -> Result<(), Fail> {
 }
 
 /// How a session at an address ends, of a new database Net in memory.
-fn ending_at<R: System>(rt: &R, alloc: Global, address: &str) -> Result<Ending, Fail> {
+fn ending_at<R>(rt: &R, alloc: Global, address: &str) -> Result<Ending, Fail>
+where
+    R: Net<Listener = TcpListener, Stream = TcpStream> + Threads + Wait + Clock + Eprint + Sync,
+{
     let schema = net(alloc)?;
     let keeper = net_keeper(alloc, Faults::NONE)?;
     Ok(serve_at(rt, alloc, keeper, schema, Counter::new(), address, Some(1)).ending)
@@ -149,11 +152,12 @@ fn a_port_in_use_ends_as_streams(rt: HostRuntime) -> Result<(), Fail> {
 }
 
 /// How sessions end where they are asked for, of a new database Net in memory.
-fn ending_of<R: System, I: Read + Drop, O: Write + Drop>(
-    rt: &R,
-    alloc: Global,
-    place: Place<I, O>,
-) -> Result<Ending, Fail> {
+fn ending_of<R, I, O>(rt: &R, alloc: Global, place: Place<I, O>) -> Result<Ending, Fail>
+where
+    R: Net<Listener = TcpListener, Stream = TcpStream> + Threads + Wait + Clock + Eprint + Sync,
+    I: Read + Drop,
+    O: Write + Drop,
+{
     let schema = net(alloc)?;
     let text = text_of(alloc, &schema)?;
     Ok(serve_memory(rt, alloc, text, schema, Counter::new(), place))
