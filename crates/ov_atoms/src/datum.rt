@@ -14,7 +14,6 @@ use std::collections::BTreeMap;
 use std::marker::Model;
 
 /// A value of a column: a finite set of atoms or a finite map (RFC 7047, 5.1, `<value>`). A scalar is a set of one.
-#[derive(Drop)]
 pub struct Datum {
     pub(crate) parts: SortedElements,
 }
@@ -38,6 +37,14 @@ impl Model for Datum {
     ghost view = { λ d. sorted_view d.parts };
 
     ghost invariant = { λ d. IsAscending d.parts };
+}
+
+impl Drop for Datum {
+    // A drop of its own, so that crates above do not prove the drop of its parts again.
+    fn drop(self) {
+        let Datum { parts } = self;
+        drop(parts);
+    }
 }
 
 impl Datum {

@@ -9,7 +9,6 @@ use std::alloc::{AllocError, Global};
 use std::marker::Model;
 
 /// JSON trees without reals, in order.
-#[derive(Drop)]
 pub struct Trees {
     items: Vec<Value>,
 }
@@ -28,6 +27,14 @@ impl Model for Trees {
     ghost view = { λ t. items_view t.items.items };
 
     ghost invariant = { λ t. items_have_real (items_view t.items.items) ≡ false };
+}
+
+impl Drop for Trees {
+    // A drop of its own, so that crates above do not prove the drop of a JSON value again.
+    fn drop(self) {
+        let Trees { items: held } = self;
+        drop(held);
+    }
 }
 
 impl Trees {

@@ -36,7 +36,6 @@ use uuid::Uuid;
 ///
 /// What an open now would find, also after a crash, are the rows as they are, or those that a commit that failed would
 /// have left.
-#[derive(Drop)]
 pub struct Db<K: Keeper> {
     schema: Schema,
     resident: Resident,
@@ -65,6 +64,22 @@ impl<K: Keeper> Model for Db<K> {
     ghost invariant = { λ d. (K.Keeper.is_honest d.keeper → MayHold (K.Keeper.leaves d.keeper) (compact_text d.schema.tree) d.resident.rows (option_map (λ delta. applied delta d.resident.rows) d.failed))
         × AreKept d.schema d.resident.rows (option_map (λ delta. applied delta d.resident.rows) d.failed)
         × IsBeside d.schema d.resident.rows d.resident };
+}
+
+impl<K: Keeper + Drop> Drop for Db<K> {
+    // A drop of its own, so that crates above do not prove the drop of its parts again.
+    fn drop(self) {
+        let Db {
+            schema,
+            resident,
+            failed,
+            keeper,
+        } = self;
+        drop(schema);
+        drop(resident);
+        drop(failed);
+        drop(keeper);
+    }
 }
 
 impl<K: Keeper + Drop> Db<K> {

@@ -10,7 +10,6 @@ use std::alloc::{AllocError, Global};
 use std::marker::Model;
 
 /// The values of a row (RFC 7047, 5.1, `<row>`), in the order of the names of their columns, which other rows share.
-#[derive(Drop)]
 pub struct Columns {
     pub(crate) names: ColumnNames,
     pub(crate) values: Vec<Datum>,
@@ -31,6 +30,15 @@ impl Model for Columns {
     ghost view = { λ c. columns_at c.names c.values.items };
 
     ghost invariant = { λ c. T (is_sorted name_cmp (zip c.names c.values.items)) × (length c.values.items ≡ length c.names) };
+}
+
+impl Drop for Columns {
+    // A drop of its own, so that crates above do not prove the drop of its parts again.
+    fn drop(self) {
+        let Columns { names, values } = self;
+        drop(names);
+        drop(values);
+    }
 }
 
 impl Columns {

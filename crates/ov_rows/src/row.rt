@@ -3,7 +3,6 @@ use std::marker::Model;
 use uuid::Uuid;
 
 /// A row (RFC 7047, 3.2).
-#[derive(Drop)]
 pub struct Row {
     /// Its version, the column `_version`.
     pub version: Uuid,
@@ -20,4 +19,15 @@ impl Model for Row {
     ghost coded = { row_code };
 
     ghost view = { λ r. record { version = r.version; columns = r.columns } };
+}
+
+impl Drop for Row {
+    // A drop of its own, so that crates above do not prove the drop of its parts again.
+    fn drop(self) {
+        let Row {
+            columns,
+            version: _,
+        } = self;
+        drop(columns);
+    }
 }

@@ -14,7 +14,6 @@ use std::marker::Model;
 use uuid::Uuid;
 
 /// The rows of a database, by their tables and identifiers (RFC 7047, 3.2). Contracts see them by their keys.
-#[derive(Drop)]
 pub struct Rows {
     /// A table that has lost its last row stays.
     tables: BTreeMap<String, TableRows>,
@@ -35,6 +34,14 @@ impl Model for Rows {
     ghost view = { λ r. nested_of r.tables.entries };
 
     ghost invariant = { λ r. T (is_sorted name_cmp (named r.tables.entries)) };
+}
+
+impl Drop for Rows {
+    // A drop of its own, so that crates above do not prove the drop of its parts again.
+    fn drop(self) {
+        let Rows { tables } = self;
+        drop(tables);
+    }
 }
 
 impl Rows {

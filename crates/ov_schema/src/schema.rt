@@ -10,7 +10,6 @@ use ov_base::{Text, Tree};
 use std::marker::Model;
 
 /// A database's schema (RFC 7047, 3.2), with the whole tree that it was read from.
-#[derive(Drop)]
 pub struct Schema {
     name: Text,
     version: Option<Text>,
@@ -31,6 +30,22 @@ impl Model for Schema {
     ghost view = { λ s. schema_of_parts s.name s.version s.tables.items s.tree };
 
     ghost invariant = { λ s. IsAccepted (schema_of_parts s.name s.version s.tables.items s.tree) };
+}
+
+impl Drop for Schema {
+    // A drop of its own, so that crates above do not prove the drop of its parts again.
+    fn drop(self) {
+        let Schema {
+            name,
+            version: number,
+            tables,
+            tree,
+        } = self;
+        drop(name);
+        drop(number);
+        drop(tables);
+        drop(tree);
+    }
 }
 
 impl Schema {

@@ -18,7 +18,6 @@ const OWN_COLUMNS: usize = 2;
 
 /// A table of a schema (RFC 7047, 3.2, `<table-schema>`). It has the columns `_uuid` and `_version` beside those that
 /// are declared.
-#[derive(Drop)]
 pub struct Table {
     columns: Vec<(Text, Column)>,
     row_names: ColumnNames,
@@ -42,6 +41,22 @@ impl Model for Table {
     ghost view = { λ t. record { columns = from_entries t.columns.items; max_rows = t.max_rows; is_root = t.is_root; indexes = indexes_in t.indexes.items } };
 
     ghost invariant = { λ t. T (is_sorted types.name_cmp t.columns.items) × (t.row_names ≡ without_own (map (λ c. c.0) t.columns.items)) };
+}
+
+impl Drop for Table {
+    // A drop of its own, so that crates above do not prove the drop of its parts again.
+    fn drop(self) {
+        let Table {
+            columns,
+            row_names,
+            indexes,
+            max_rows: _,
+            is_root: _,
+        } = self;
+        drop(columns);
+        drop(row_names);
+        drop(indexes);
+    }
 }
 
 impl Table {

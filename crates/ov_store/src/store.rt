@@ -8,7 +8,6 @@ use sqlite::{Alter, Connection};
 use std::marker::Model;
 
 /// Lines in the two tables of stored format 1, over a connection.
-#[derive(Drop)]
 pub struct Store<S: Alter> {
     pub(crate) connection: Connection<S>,
     pub(crate) schema: Text,
@@ -25,6 +24,19 @@ impl<S: Alter> Model for Store<S> {
     ghost view = { λ s. record { connection = s.connection; schema = s.schema; failures = s.failures } };
 
     ghost invariant = { λ s. IsAtRest S.Store s.schema s.connection };
+}
+
+impl<S: Alter + Drop> Drop for Store<S> {
+    // A drop of its own, so that crates above do not prove the drop of its parts again.
+    fn drop(self) {
+        let Store {
+            connection,
+            schema,
+            failures: _,
+        } = self;
+        drop(connection);
+        drop(schema);
+    }
 }
 
 impl<S: Alter> Store<S> {
