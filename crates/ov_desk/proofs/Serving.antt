@@ -8,13 +8,14 @@ use Rattle.ov_workers.specs.Reading.{SourceState}
 use Rattle.ov_workers.specs.Writing.{SinkState}
 use Rattle.ov_core.specs.Following.{CoreState}
 use Rattle.ov_lanes.specs.Lanes.{Serves}
+use Rattle.ov_lanes.specs.Places.{has_places}
 use Rattle.ov_lanes.specs.declared.lane.Lane.{Lane}
 use Rattle.ov_desk.specs.declared.link.Link.{Link}
 use Rattle.ov_desk.specs.declared.link.End.{End}
 use Rattle.ov_desk.specs.Pairs.{Pairwise, Threewise}
 use Rattle.ov_desk.specs.Ends.{EndsLane, ServesAll}
 use Rattle.ov_desk.specs.Opening.{OpensAll, ClosesAgain}
-use Rattle.ov_desk.specs.Serving.{ComesToEnd, has_places}
+use Rattle.ov_desk.specs.Serving.{ComesToEnd}
 use Rattle.ov_desk.proofs.Closing.{closes_none, closes_all}
 use Rattle.ov_desk.proofs.Ends.{all_end}
 

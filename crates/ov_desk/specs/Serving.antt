@@ -1,12 +1,11 @@
 -- What serving links makes of a core, and when it is refused. What names no source is our own.
-use Rattle.std.specs.Prelude.{◌≡◌, ℕ, ◌-◌, ◌&&◌, nat_le, List, length, Bool, true, false}
-use Rattle.ov_specs.specs.machine.Machine.{State}
-use Rattle.ov_sessions.specs.Sessions.{most_sessions, beyond_serials}
+use Rattle.std.specs.Prelude.{◌≡◌, ℕ, List, true, false}
 use Rattle.ov_workers.specs.Reading.{SourceState}
 use Rattle.ov_workers.specs.Writing.{SinkState}
 use Rattle.ov_core.specs.Following.{CoreState}
 use Rattle.ov_lanes.specs.Since.{Since}
 use Rattle.ov_lanes.specs.Lanes.{AllFit}
+use Rattle.ov_lanes.specs.Places.{has_places}
 use Rattle.ov_lanes.specs.declared.lane.Lane.{Lane}
 use Rattle.ov_desk.specs.declared.link.End.{End}
 use Rattle.ov_desk.specs.declared.fault.ServeFault.{ServeFault}
@@ -14,10 +13,6 @@ use Rattle.ov_desk.specs.declared.fault.ServeFault.TheVariants as fault
 use Rattle.ov_desk.specs.Pairs.{Threewise}
 use Rattle.ov_desk.specs.Ends.{EndsLane}
 use Rattle.ov_desk.specs.Opening.{ClosesAgain}
-
--- places and serials are left for so many sessions more
-abbrev pub has_places : ℕ → State → Bool
-has_places count s = nat_le count (most_sessions - length s.sessions) && nat_le count (beyond_serials - s.next)
 
 -- When serving so many links is refused, and what it leaves of the core. For want of memory the sessions may have been opened:
 -- then they were closed again.

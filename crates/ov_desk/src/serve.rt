@@ -5,10 +5,11 @@ ghost use Rattle.ov_workers.specs.Reading.{source_state};
 ghost use Rattle.ov_workers.specs.Writing.{sink_state};
 ghost use Rattle.ov_core.specs.Following.{CoreState};
 ghost use Rattle.ov_lanes.specs.Lanes.{Serves};
+ghost use Rattle.ov_lanes.specs.Places.{has_places};
 ghost use Rattle.ov_desk.specs.Pairs.{Pairwise};
 ghost use Rattle.ov_desk.specs.Room.{IsRoom};
 ghost use Rattle.ov_desk.specs.Ends.{ServesAll};
-ghost use Rattle.ov_desk.specs.Serving.{ComesToEnd, RefusesLinks, has_places};
+ghost use Rattle.ov_desk.specs.Serving.{ComesToEnd, RefusesLinks};
 
 use crate::desk::Desk;
 use crate::fault::ServeFault;
@@ -23,7 +24,7 @@ use crate::workers::Workers;
 use ov_core::Core;
 use ov_core::early::{Draws, Keeper};
 use ov_ends::{Clock, Sink, Source};
-use ov_lanes::Lane;
+use ov_lanes::{Lane, has_places};
 use ov_order::{Bell, Order};
 use ov_workers::Gate;
 use std::alloc::{AllocError, Global};
@@ -300,17 +301,6 @@ where
     in_scope(
         rt, alloc, &order, &bells, gate, core, first, links, room, all, clock,
     )
-}
-
-/// Whether the machine has places and serials left for so many sessions more.
-fn has_places<K: Keeper + Drop, D: Draws + Drop>(core: &Core<K, D>, count: usize) -> bool
-    ensures { result ≡ has_places count core.now.state }
-{
-    let serials = match core.next_serial() {
-        Some(next) => u64::MAX - next,
-        None => 0,
-    };
-    count <= core.free_places() && count as u64 <= serials
 }
 
 /// Serves each link as a session, all at the same time, to its end (our own, over RFC 7047, 4). The sessions get the next

@@ -3,3 +3,4 @@ pub mod Since
 pub mod Fitting
 pub mod Lanes
 pub mod Moving
+pub mod Places

@@ -5,7 +5,9 @@
 mod all;
 mod lane;
 mod moves;
+mod places;
 
 pub use all::{is_over, pass_where_due, settle_all, take_news, turn_at};
 pub use lane::Lane;
 pub use moves::{settle, turn_lane};
+pub use places::has_places;
