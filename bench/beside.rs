@@ -1,5 +1,5 @@
 //! A driver for the server in memory beside Open vSwitch's ovsdb-server: echoes of all sizes, the memory that they leave behind,
-//! selects and inserts.
+//! selects of all rows, and inserts.
 //!
 //! Each reply is compared with the one that is wanted, byte by byte; the rows of a select may stand in any order. Those that are
 //! compared take turns in one run. Plain Rust, std only; `bench/run` builds and starts it.
@@ -10,8 +10,8 @@ mod turns;
 use std::collections::BTreeSet;
 use std::process::ExitCode;
 use std::time::Duration;
-use systems::{Exchange, Measured, Outcome, Server, inserts, say, search, transact};
-use turns::Bench;
+use systems::{Exchange, Measured, Outcome, Server, System, figure_of, inserts, say, transact};
+use turns::{Bench, MILLISECONDS, Medians, say_growth};
 
 /// The size of a piece, in bytes: what the server reads at once.
 const PIECE: usize = 4_096;
@@ -73,23 +73,24 @@ impl Bench {
             small_echo(id)
         };
         let all = self.in_turns(0, |server, measured| measured.add_turn(server, depth, ECHOES_IN_A_TURN, &mut next))?;
-        self.say_rates(&format!("small echo, depth {depth}"), &all)
+        self.say_rates(&format!("small echo, depth {depth}"), &all).map(drop)
     }
 
-    /// The median time of an echo of so many bytes that comes in pieces.
-    fn long_echoes(&self, name: &str, length: usize) -> Outcome<f64> {
+    /// The median times of an echo of so many bytes that comes in pieces.
+    fn long_echoes(&self, name: &str, length: usize) -> Outcome<Medians> {
         let exchange = long_echo(length);
         let all = self.in_turns(0, |server, measured| measured.time(|| ask_in_pieces(server, &exchange)))?;
-        self.say_medians(name, &all)
+        self.say_medians(name, &all, MILLISECONDS)
     }
 
-    /// The resident memory after ever more small echoes.
+    /// The resident memory after ever more small echoes, and how it grew.
     fn memory(&self) -> Outcome<()> {
         let folder = self.folder()?;
         let mut servers = self.started(&folder, 0)?;
+        let mut looks: [Vec<(System, f64)>; ECHOES_BEFORE_A_LOOK.len()] = Default::default();
         for server in &mut servers {
             let mut sent = 0;
-            for count in ECHOES_BEFORE_A_LOOK {
+            for (count, look) in ECHOES_BEFORE_A_LOOK.into_iter().zip(&mut looks) {
                 let mut next = |_: &mut Server| {
                     sent += 1;
                     small_echo(sent as u64)
@@ -97,9 +98,17 @@ impl Bench {
                 let more = count - ECHOES_BEFORE_A_LOOK.iter().filter(|&&before| before < count).max().unwrap_or(&0);
                 Measured::default().add_turn(server, 32, more, &mut next)?;
                 let name = format!("resident memory, {count} small echoes, {}", server.system.name());
-                say(&name, format!("{:>9} KiB", server.resident()?))?;
+                let resident = server.resident()?;
+                say(&name, format!("{resident:>9} KiB"))?;
+                look.push((server.system, resident as f64));
             }
         }
+        let [start, few, .., most] = &looks;
+        let grown = |from: &Medians| most.iter().zip(from).map(|((system, to), (_, from))| (*system, to - from)).collect::<Vec<_>>();
+        let [_, first, .., all] = ECHOES_BEFORE_A_LOOK;
+        figure_of("resident memory at the start", start, "KiB")?;
+        figure_of(&format!("growth over {all} small echoes"), &grown(start), "KiB")?;
+        figure_of(&format!("growth after the first {first} small echoes"), &grown(few), "KiB")?;
         servers.into_iter().try_for_each(Server::finish)
     }
 
@@ -114,22 +123,10 @@ impl Bench {
                     Ok(())
                 })
             })?;
-            medians.push(self.say_medians(&format!("select of all names, {rows} rows"), &all)?);
+            medians.push(self.say_medians(&format!("select of all names, {rows} rows"), &all, MILLISECONDS)?);
         }
-        if let [first, .., last] = medians.as_slice() {
-            say("select of all names, 20000 rows over 2000, ours", format!("{:>9.2} times as long", last / first))?;
-        }
-        Ok(())
-    }
-
-    /// Selects of one row by its name.
-    fn searches(&self, rows: usize) -> Outcome<()> {
-        let mut n = 0;
-        let all = self.in_turns(rows, |server, measured| {
-            n = (n + 7_919) % rows as u64;
-            measured.time(|| server.ask(&search(n)))
-        })?;
-        self.say_medians(&format!("select by name, {rows} rows"), &all).map(drop)
+        let [first, .., last] = TABLES;
+        say_growth(&format!("select of all names, {last} rows over {first}"), &medians[0], &medians[TABLES.len() - 1])
     }
 
     /// Inserts of one row a transaction, 32 under way.
@@ -140,7 +137,7 @@ impl Bench {
                 inserts(server.system, server.rows - 1, 1)
             })
         })?;
-        self.say_rates(&format!("insert, depth 32, {rows} rows and more"), &all)
+        self.say_rates(&format!("insert, depth 32, {rows} rows and more"), &all).map(drop)
     }
 
     fn figures(&self) -> Outcome<()> {
@@ -148,10 +145,10 @@ impl Bench {
         self.small_echoes(32)?;
         let shorter = self.long_echoes("64 KiB echo in pieces", 1 << 16)?;
         let longer = self.long_echoes("1 MiB echo in pieces", 1 << 20)?;
-        say("1 MiB over 64 KiB, time for a byte, ours", format!("{:>9.2} times as long", longer / shorter / 16.0))?;
+        let longer: Medians = longer.into_iter().map(|(system, median)| (system, median / 16.0)).collect();
+        say_growth("a byte of a 1 MiB echo over one of 64 KiB", &shorter, &longer)?;
         self.memory()?;
         self.selects()?;
-        self.searches(10_000)?;
         self.inserts(1_000)
     }
 }

@@ -10,7 +10,7 @@ use std::fs;
 use std::path::Path;
 use std::process::ExitCode;
 use std::time::{Duration, Instant};
-use systems::{Exchange, Folder, Measured, Outcome, Server, System, Systems, file_system, inserts, say};
+use systems::{Exchange, Folder, Measured, Outcome, Server, System, Systems, figure, figure_of, file_system, inserts, say};
 
 /// What is compared.
 const SYSTEMS: [System; 3] = [System::File, System::Memory, System::DurablePeer];
@@ -40,10 +40,20 @@ fn next_insert(server: &mut Server) -> Exchange {
     inserts(server.system, server.rows - 1, 1)
 }
 
+/// The resident memory of the systems with so many rows, in KiB.
+type Resident = Vec<(System, f64)>;
+
 /// What the driver works with: the systems, and the time for one figure.
 struct Bench {
     systems: Systems,
     limit: Duration,
+}
+
+/// A value of each system as figures: ours in a file beside the peer, and ours in memory alone.
+fn figures_of(what: &str, name: &str, all: &[(System, f64)], unit: &str) -> Outcome<()> {
+    let (memory, files): (Vec<_>, Vec<_>) = all.iter().copied().partition(|&(system, _)| system == System::Memory);
+    figure_of(&format!("{what} in a file, {name}"), &files, unit)?;
+    figure_of(&format!("{what} in memory, {name}"), &memory, unit)
 }
 
 impl Bench {
@@ -52,40 +62,51 @@ impl Bench {
     }
 
     /// One round of a figure: all systems insert in turns, into tables of so many rows, and what is measured of each is
-    /// added. The resident memory is printed in the first round.
-    fn round(&self, folder: &Path, rows: usize, depth: usize, all: &mut [Measured]) -> Outcome<()> {
+    /// added. It gives the resident memory of the filled tables.
+    fn round(&self, folder: &Path, rows: usize, depth: usize, all: &mut [Measured]) -> Outcome<Resident> {
         let mut servers = self.systems.filled(&self.present(), folder, rows)?;
-        if depth == DEPTHS[0] && all[0].times.is_empty() {
-            servers.iter().try_for_each(|server| {
-                let name = format!("resident memory, {rows} rows, {}", server.system.name());
-                say(&name, format!("{:>9} KiB", server.resident()?))
-            })?;
-        }
+        let resident = servers.iter().map(|server| Ok((server.system, server.resident()? as f64))).collect::<Outcome<_>>()?;
         for _ in 0..turns(rows) {
             let open = servers.iter_mut().zip(all.iter_mut()).filter(|(_, measured)| measured.whole < self.limit);
             open.into_iter().try_for_each(|(server, measured)| measured.add_turn(server, depth, INSERTS_IN_A_TURN, next_insert))?;
         }
-        servers.into_iter().try_for_each(Server::finish)
+        servers.into_iter().try_for_each(Server::finish)?;
+        Ok(resident)
     }
 
-    /// Measures inserts into a table of so many rows, and prints the lines of all systems. It gives the median of ours in a
-    /// file. Over the largest table it measures the starts too.
-    fn inserts(&self, above: &Path, rows: usize, depth: usize) -> Outcome<f64> {
+    /// Measures inserts into a table of so many rows, and prints the lines of all systems. It gives the resident memory of the
+    /// filled tables, of the first round. Over the largest table it measures the starts too.
+    fn inserts(&self, above: &Path, rows: usize, depth: usize) -> Outcome<Resident> {
         let mut all: Vec<Measured> = self.present().iter().map(|_| Measured::default()).collect();
+        let mut resident = Vec::new();
         for round in 0..ROUNDS {
             if all.iter().all(|measured| measured.whole >= self.limit) {
                 break;
             }
             let folder = Folder::make(above)?;
-            self.round(&folder.0, rows, depth, &mut all)?;
+            let filled = self.round(&folder.0, rows, depth, &mut all)?;
+            if round == 0 {
+                resident = filled;
+            }
             if round == 0 && rows == LARGEST && depth == DEPTHS[0] {
                 let counts: Vec<usize> = all.iter().map(|measured| rows + measured.times.len()).collect();
                 self.starts(&folder.0, &counts)?;
             }
         }
-        let name = format!("insert, depth {depth}, {rows} rows");
-        self.say_all(&name, &all)?;
-        Ok(all[0].median())
+        let name = format!("depth {depth}, {rows} rows");
+        self.say_all(&format!("insert, {name}"), &all)?;
+        let each = |value: fn(&Measured) -> f64| self.present().into_iter().zip(&all).map(move |(s, m)| (s, value(m)));
+        figures_of("insert", &name, &each(Measured::rate).collect::<Vec<_>>(), "per second")?;
+        figures_of("insert", &name, &each(Measured::median).collect::<Vec<_>>(), "us")?;
+        Ok(resident)
+    }
+
+    /// Prints the resident memory with so many rows.
+    fn say_resident(&self, rows: usize, resident: &Resident) -> Outcome<()> {
+        resident.iter().try_for_each(|(system, kib)| {
+            say(&format!("resident memory, {rows} rows, {}", system.name()), format!("{kib:>9} KiB"))
+        })?;
+        figures_of("resident memory", &format!("{rows} rows"), resident, "KiB")
     }
 
     /// Prints what was measured of each system, and how ours compares with the peer.
@@ -131,23 +152,26 @@ impl Bench {
             let name = format!("start to first reply, {LARGEST} rows, {}", system.name());
             say(&name, format!("{:>9.1} ms median  {:>5} starts", measured.median() / 1e3, measured.times.len()))?;
         }
-        Ok(())
+        let medians: Vec<_> = self.present().into_iter().zip(&all).map(|(system, m)| (system, m.median() / 1e3)).collect();
+        let files: Vec<_> = medians.into_iter().filter(|&(system, _)| system != System::Memory).collect();
+        figure_of(&format!("start to first reply, {LARGEST} rows"), &files, "ms")
     }
 
     /// All figures; the files lie in new folders in this one.
     fn figures(&self, above: &Path) -> Outcome<()> {
-        let mut medians = Vec::new();
+        let mut all = Vec::new();
         for (rows, depth) in TABLES.into_iter().flat_map(|rows| DEPTHS.map(|depth| (rows, depth))) {
-            let median = self.inserts(above, rows, depth)?;
+            let resident = self.inserts(above, rows, depth)?;
             if depth == DEPTHS[0] {
-                medians.push(median);
+                self.say_resident(rows, &resident)?;
+                all.push(resident);
             }
         }
-        if let [first, .., last] = medians.as_slice() {
-            let name = format!("growth of the median, {} to {LARGEST} rows, ours", TABLES[0]);
-            say(&name, format!("{:>9.2} times as long", last / first))?;
-        }
-        Ok(())
+        // Of ours in a file and of the peer, which is the last one, if it is there.
+        let more = (LARGEST - TABLES[0]) as f64;
+        let small = &all[0];
+        let a_row = |n: usize| Some((all[TABLES.len() - 1].get(n)?.1 - small.get(n)?.1) * 1_024.0 / more);
+        figure("resident memory of a row in a file", a_row(0), a_row(2), "bytes")
     }
 }
 

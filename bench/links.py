@@ -34,18 +34,25 @@ def median(program, *words):
     return [statistics.median(column) for column in zip(*runs)]
 
 
+def figure(name, ours, unit):
+    """Prints a figure as `bench/table` reads it."""
+    print("figure", name, f"{ours:.6g}", "", unit, sep="\t", flush=True)
+
+
 def main():
     (program,) = sys.argv[1:]
     for kind, total in (("echo", ECHOES), ("insert", INSERTS)):
         for depth in (1, 32):
             took, _, _, _ = median(program, "alone", kind, str(depth), str(total // 4))
             print(f"{kind}, alone, depth {depth}: {total // 4 / took:.0f} a second, {took / (total // 4) * 1e6:.1f} us each")
+            figure(f"threads: {kind}, none, depth {depth}", total // 4 / took, "per second")
             for links in LINKS:
                 took, system, all_of_it, sleeps = median(program, "threads", str(links), kind, str(depth), str(total // links))
                 print(
                     f"{kind}, {links} links, depth {depth}: {total / took:.0f} a second, {took / total * 1e6:.1f} us each,"
                     f" {sleeps / total:.2f} sleeps each, {100 * system / all_of_it:.0f} % of the processors' time in the system"
                 )
+                figure(f"threads: {kind}, links: {links}, depth {depth}", total / took, "per second")
 
 
 main()

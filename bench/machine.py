@@ -115,14 +115,21 @@ def idle(program):
     return (resident[1] - resident[0]) / (SESSIONS - 1)
 
 
+def figure(name, ours, unit):
+    """Prints a figure as `bench/table` reads it."""
+    print("figure", name, f"{ours:.6g}", "", unit, sep="\t", flush=True)
+
+
 def main():
     (program,) = sys.argv[1:]
     for waits in WAITS:
         took = commits(program, waits)
         print(f"a commit beside {waits} waits: {took:.1f} us, {1e6 / took:.0f} a second")
+        figure(f"machine: commit, waits: {waits}", took, "us")
     for held in LOCKS:
         took = locks(program, held)
         print(f"a lock or an unlock beside {held} locks: {took:.2f} us, {1e6 / took:.0f} a second")
+        figure(f"machine: lock or unlock, others held: {held}", took, "us")
     print(f"an idle session: {idle(program):.1f} KiB")
 
 

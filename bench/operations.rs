@@ -10,7 +10,7 @@ mod turns;
 
 use std::process::ExitCode;
 use systems::{Exchange, Measured, Outcome, Server, System, by_identifier, inserts, say, transact};
-use turns::{Bench, STEP};
+use turns::{Bench, Medians, STEP, say_growth};
 
 /// The tables, by their rows.
 const TABLES: [usize; 3] = [1_000, 10_000, 100_000];
@@ -161,9 +161,10 @@ fn remove_inserted(server: &mut Server) -> Outcome<()> {
 }
 
 impl Bench {
-    /// One operation on one row, by those of the servers that know it.
-    fn operation(&self, tables: &mut [Table], operation: Operation, key: Key) -> Outcome<()> {
-        let name = format!("{} by {}, {} rows", operation.name(), key.name(), tables[0].rows.len());
+    /// One operation on one row, by those of the servers that know it. It gives its name and the medians.
+    fn operation(&self, tables: &mut [Table], operation: Operation, key: Key) -> Outcome<(String, Medians)> {
+        let what = format!("{} by {}", operation.name(), key.name());
+        let name = format!("{what}, {} rows", tables[0].rows.len());
         let mut able = Vec::new();
         for table in tables {
             if operation.is_known(&mut table.server)? {
@@ -176,18 +177,18 @@ impl Bench {
         let measured = self.take_turns(&mut able, |table, measured| table.turn(operation, key, measured))?;
         let systems = able.iter().map(|table| table.server.system);
         let all: Vec<(System, Measured)> = systems.zip(measured).collect();
-        self.say_rates(&name, &all)
+        Ok((what, self.say_rates(&name, &all)?))
     }
 
-    /// All operations on one row of a table of so many.
-    fn operations(&self, rows: usize) -> Outcome<()> {
+    /// All operations on one row of a table of so many. It gives the medians of each.
+    fn operations(&self, rows: usize) -> Outcome<Vec<(String, Medians)>> {
         let folder = self.folder()?;
         let servers = self.started(&folder, 0)?;
         let mut tables: Vec<Table> = servers.into_iter().map(|server| Table::fill(server, rows)).collect::<Outcome<_>>()?;
-        for (operation, key) in Operation::ALL.into_iter().flat_map(|operation| Key::ALL.map(|key| (operation, key))) {
-            self.operation(&mut tables, operation, key)?;
-        }
-        tables.into_iter().try_for_each(|table| table.server.finish())
+        let kinds = Operation::ALL.into_iter().flat_map(|operation| Key::ALL.map(|key| (operation, key)));
+        let medians = kinds.map(|(operation, key)| self.operation(&mut tables, operation, key)).collect::<Outcome<_>>()?;
+        tables.into_iter().try_for_each(|table| table.server.finish())?;
+        Ok(medians)
     }
 
     /// Transactions of many inserts into a table of so many rows.
@@ -206,15 +207,19 @@ impl Bench {
         if let Some(system) = growing {
             say(&format!("{name}, {}", system.name()), "and more, since delete is unknown".into())?;
         }
-        self.say_rates(&name, &all)
+        self.say_rates(&name, &all).map(drop)
     }
 
     fn all_operations(&self) -> Outcome<()> {
+        let mut medians = Vec::new();
         for rows in TABLES {
-            self.operations(rows)?;
+            medians.push(self.operations(rows)?);
             self.long_transactions(rows)?;
         }
-        Ok(())
+        let [first, .., last] = TABLES;
+        medians[0].iter().zip(&medians[TABLES.len() - 1]).try_for_each(|((name, small), (_, large))| {
+            say_growth(&format!("{name}, {last} rows over {first}"), small, large)
+        })
     }
 }
 

@@ -1,6 +1,5 @@
 //! A driver for commits by the rules of RFC 7047, 3.2, in memory beside Open vSwitch's ovsdb-server: an insert into a table
-//! with an index, an update of an indexed column, a delete that takes a referenced row with it, and a select by an indexed
-//! name, in tables of three sizes.
+//! with an index, an update of an indexed column, and a delete that takes a referenced row with it, in tables of three sizes.
 //!
 //! Each switch has one port, which goes with it. Each reply is compared with the one that is wanted, byte by byte; where an
 //! identifier is drawn, any one will do. What a transaction did is looked at, and undone, outside the clock. Plain Rust, std
@@ -12,7 +11,7 @@ mod turns;
 use std::process::ExitCode;
 use std::time::Instant;
 use systems::{Exchange, Measured, Outcome, Server, System, by_identifier, deletion, inserted, transact};
-use turns::{Bench, STEP};
+use turns::{Bench, Medians, STEP, say_growth};
 
 /// The tables, by their switches.
 const TABLES: [usize; 3] = [1_000, 10_000, 100_000];
@@ -26,18 +25,16 @@ enum Figure {
     Insert,
     Rename,
     Delete,
-    Select,
 }
 
 impl Figure {
-    const ALL: [Figure; 4] = [Figure::Insert, Figure::Rename, Figure::Delete, Figure::Select];
+    const ALL: [Figure; 3] = [Figure::Insert, Figure::Rename, Figure::Delete];
 
     fn name(self) -> &'static str {
         match self {
             Figure::Insert => "insert of a switch",
             Figure::Rename => "update of an indexed name by _uuid",
             Figure::Delete => "delete by _uuid, its port goes too",
-            Figure::Select => "select by an indexed name",
         }
     }
 }
@@ -139,16 +136,6 @@ impl Table {
         Ok(())
     }
 
-    /// One select of a switch by its name.
-    fn select(&mut self, n: usize, measured: &mut Measured) -> Outcome<()> {
-        let name = &self.switches[n].name;
-        let operation = format!(
-            ",{{\"op\":\"select\",\"table\":\"Switch\",\"where\":[[\"name\",\"==\",\"{name}\"]],\"columns\":[\"load\"]}}"
-        );
-        let exchange = transact(n as u64, &operation, format!("[{{\"rows\":[{{\"load\":{n}}}]}}]"));
-        measured.time(|| self.server.ask(&exchange))
-    }
-
     /// A turn of one figure.
     fn turn(&mut self, figure: Figure, measured: &mut Measured) -> Outcome<()> {
         turns::turn(|| {
@@ -158,29 +145,34 @@ impl Table {
                 Figure::Insert => self.insert(n, measured),
                 Figure::Rename => self.rename(n, measured),
                 Figure::Delete => self.delete(n, measured),
-                Figure::Select => self.select(n, measured),
             }
         })
     }
 }
 
 impl Bench {
-    /// All figures of tables of so many switches.
-    fn figures(&self, switches: usize) -> Outcome<()> {
+    /// All figures of tables of so many switches. It gives the medians of each.
+    fn figures(&self, switches: usize) -> Outcome<Vec<Medians>> {
         let folder = self.folder()?;
         let servers = self.started(&folder, 0)?;
         let mut tables: Vec<Table> = servers.into_iter().map(|server| Table::fill(server, switches)).collect::<Outcome<_>>()?;
+        let mut medians = Vec::new();
         for figure in Figure::ALL {
             let measured = self.take_turns(&mut tables, |table, measured| table.turn(figure, measured))?;
             let systems = tables.iter().map(|table| table.server.system);
             let all: Vec<(System, Measured)> = systems.zip(measured).collect();
-            self.say_rates(&format!("{}, {switches} switches", figure.name()), &all)?;
+            medians.push(self.say_rates(&format!("{}, {switches} switches", figure.name()), &all)?);
         }
-        tables.into_iter().try_for_each(|table| table.server.finish())
+        tables.into_iter().try_for_each(|table| table.server.finish())?;
+        Ok(medians)
     }
 
     fn all_figures(&self) -> Outcome<()> {
-        TABLES.into_iter().try_for_each(|switches| self.figures(switches))
+        let medians: Vec<_> = TABLES.into_iter().map(|switches| self.figures(switches)).collect::<Outcome<_>>()?;
+        let [first, .., last] = TABLES;
+        Figure::ALL.into_iter().zip(medians[0].iter().zip(&medians[TABLES.len() - 1])).try_for_each(|(figure, (small, large))| {
+            say_growth(&format!("{}, {last} switches over {first}", figure.name()), small, large)
+        })
     }
 }
 

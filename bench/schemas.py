@@ -61,10 +61,19 @@ def start(program, path, name):
     return took
 
 
-def median(program, path):
+def name_of(path):
     with open(path, encoding="utf-8") as file:
-        name = json.load(file)["name"]
+        return json.load(file)["name"]
+
+
+def median(program, path):
+    name = name_of(path)
     return statistics.median(start(program, path, name) for _ in range(STARTS))
+
+
+def figure(name, ours, unit):
+    """Prints a figure as `bench/table` reads it."""
+    print("figure", name, f"{ours:.6g}", "", unit, sep="\t", flush=True)
 
 
 def main():
@@ -80,9 +89,12 @@ def main():
             took = median(program, path)
             growth = "" if before is None else f", {took / before:.2f} times as long"
             print(f"{count} tables, {os.path.getsize(path) // 1024} KiB: {took:.1f} ms{growth}", flush=True)
+            figure(f"start with a schema of {count} tables", took, "ms")
             before = took
     for path in files:
-        print(f"{path}, {os.path.getsize(path) // 1024} KiB: {median(program, path):.1f} ms", flush=True)
+        took = median(program, path)
+        print(f"{path}, {os.path.getsize(path) // 1024} KiB: {took:.1f} ms", flush=True)
+        figure(f"start with the schema {name_of(path)}", took, "ms")
 
 
 main()

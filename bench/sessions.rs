@@ -12,8 +12,8 @@ mod watched;
 use std::collections::BTreeMap;
 use std::process::ExitCode;
 use std::time::Instant;
-use systems::{Exchange, Measured, Outcome, Server, deletion, inserts, say, transact};
-use turns::Bench;
+use systems::{Exchange, Measured, Outcome, Server, System, deletion, figure_of, inserts, say, transact};
+use turns::{Bench, MILLISECONDS};
 use watched::{Row, call, monitor};
 
 /// How many waits are outstanding. With the last, ours takes one transaction more and no more.
@@ -179,7 +179,7 @@ impl Bench {
             |server, measured| turns::turn(|| insert_and_delete(server, measured)),
             |server| meet_all(server, waits),
         )?;
-        self.say_rates(&format!("insert or delete, {waits} waits"), &all)
+        self.say_rates(&format!("insert or delete, {waits} waits"), &all).map(drop)
     }
 
     /// Pairs of `lock` and `unlock` of one name, in a session that holds so many other locks.
@@ -195,7 +195,7 @@ impl Bench {
             |server, measured| turns::turn(|| measured.time(|| pair(server))),
             |server| with_locks(server, 1..=others, unlock),
         )?;
-        self.say_rates(&format!("lock and unlock, others held: {others}"), &all)
+        self.say_rates(&format!("lock and unlock, others held: {others}"), &all).map(drop)
     }
 
     /// Commits that so many monitors are told of.
@@ -206,37 +206,36 @@ impl Bench {
             |watched, measured| turns::turn(|| watched.commit(measured)),
             Watched::end,
         )?;
-        self.say_rates(&format!("update, monitors: {monitors}"), &all)?;
-        all.iter().try_for_each(|(system, measured)| {
-            let name = format!("updates delivered, monitors: {monitors}, {}", system.name());
-            say(&name, format!("{:>9.0} per second", measured.rate() * monitors as f64))
-        })
+        self.say_rates(&format!("update, monitors: {monitors}"), &all).map(drop)
     }
 
     /// First answers of a monitor over a table.
     fn first_answers(&self) -> Outcome<()> {
         let all = self.made_ready(0, |server| Filled::fill(server, ROWS), Filled::first_answer, |filled| Ok(filled.server))?;
-        self.say_medians(&format!("first answer of a monitor, {ROWS} rows"), &all).map(drop)
+        self.say_medians(&format!("first answer of a monitor, {ROWS} rows"), &all, MILLISECONDS).map(drop)
     }
 
-    /// The resident memory of a session that was greeted alone, of one with a table, and of one with a monitor over it.
+    /// The resident memory of a session with a table, and of one with a monitor over it.
     fn memory(&self) -> Outcome<()> {
         let folder = self.folder()?;
+        let names = [format!("resident memory, {ROWS} rows"), format!("resident memory, a monitor of {ROWS} rows")];
+        let mut looks: [Vec<(System, f64)>; 2] = Default::default();
         for server in self.started(&folder, 0)? {
-            let name = server.system.name();
-            let look = |what: &str, server: &Server| {
-                say(&format!("resident memory, {what}, {name}"), format!("{:>9} KiB", server.resident()?))
+            let system = server.system;
+            let mut look = |n: usize, server: &Server| {
+                let resident = server.resident()?;
+                looks[n].push((system, resident as f64));
+                say(&format!("{}, {}", names[n], system.name()), format!("{resident:>9} KiB"))
             };
-            look("idle", &server)?;
             let mut filled = Filled::fill(server, ROWS)?;
-            look(&format!("{ROWS} rows"), &filled.server)?;
+            look(0, &filled.server)?;
             let exchange = monitor(0, &filled.rows);
             filled.server.send(&exchange.request)?;
             filled.server.take(&exchange)?;
-            look(&format!("a monitor of {ROWS} rows"), &filled.server)?;
+            look(1, &filled.server)?;
             filled.server.finish()?;
         }
-        Ok(())
+        names.iter().zip(&looks).try_for_each(|(name, look)| figure_of(name, look, "KiB"))
     }
 
     fn all_figures(&self) -> Outcome<()> {

@@ -11,8 +11,8 @@ mod watched;
 use std::process::ExitCode;
 use std::sync::Barrier;
 use std::thread;
-use systems::{Exchange, Host, Measured, Outcome, Server, System, file_system, inserts, say, search};
-use turns::{Bench, STEP, SYSTEMS};
+use systems::{Exchange, Host, Measured, Outcome, Server, System, figure_of, file_system, inserts, say, search};
+use turns::{Bench, MICROSECONDS, STEP, SYSTEMS};
 use watched::{Row, call, monitor};
 
 /// What is compared where each commit is synced before its reply.
@@ -162,13 +162,13 @@ impl Bench {
 
     fn echoes(&self, count: usize, depth: usize) -> Outcome<()> {
         let all = self.sessions(&SYSTEMS, count, depth, ECHOES_IN_A_TURN, next_echo)?;
-        self.say_rates(&format!("echo, sessions: {count}, depth {depth}"), &all)
+        self.say_rates(&format!("echo, sessions: {count}, depth {depth}"), &all).map(drop)
     }
 
     fn durable_inserts(&self) -> Outcome<()> {
-        let kind = file_system(&self.folder()?.0)?;
+        say("files on", file_system(&self.folder()?.0)?)?;
         let all = self.sessions(&DURABLE, INSERTING, 1, INSERTS_IN_A_TURN, next_insert)?;
-        self.say_rates(&format!("insert on {kind}, sessions: {INSERTING}"), &all)
+        self.say_rates(&format!("insert in a file, sessions: {INSERTING}"), &all).map(drop)
     }
 
     fn selects(&self) -> Outcome<()> {
@@ -184,7 +184,7 @@ impl Bench {
             measured.add_turn(session, 1, SELECTS_IN_A_TURN, next_search)
         })?;
         let all: Vec<_> = hosts.iter().map(|host| host.system).zip(measured).collect();
-        self.say_medians(&format!("select by name, {ROWS} rows"), &all).map(drop)
+        self.say_medians(&format!("select by name over TCP, {ROWS} rows"), &all, MICROSECONDS).map(drop)
     }
 
     fn monitors(&self) -> Outcome<()> {
@@ -201,23 +201,28 @@ impl Bench {
             let name = format!("updates delivered, sessions: {WATCHING}, ours / peer");
             say(&name, format!("{:>9.2} times as many", rate(ours) / rate(peer)))?;
         }
-        Ok(())
+        let rates: Vec<_> = all.iter().zip(&measured).map(|(watched, measured)| (watched.host.system, rate(measured))).collect();
+        figure_of(&format!("updates delivered, sessions: {WATCHING}"), &rates, "per second")
     }
 
     /// The resident memory of a server with one session, and with as many as it has at most, each of which was greeted.
     fn memory(&self) -> Outcome<()> {
         let folder = self.folder()?;
+        let (mut one, mut most) = (Vec::new(), Vec::new());
         for host in self.listening(&SYSTEMS, &folder)? {
             let name = host.system.name();
             let mut sessions = vec![host.session()?];
             let before = host.resident()?;
             (1..MOST).try_for_each(|_| host.session().map(|session| sessions.push(session)))?;
-            let behind = host.resident()?;
+            let after = host.resident()?;
             sessions.into_iter().try_for_each(Server::finish)?;
             say(&format!("resident memory, sessions: 1, {name}"), format!("{before:>9} KiB"))?;
-            say(&format!("resident memory, sessions: {MOST}, {name}"), format!("{behind:>9} KiB"))?;
+            say(&format!("resident memory, sessions: {MOST}, {name}"), format!("{after:>9} KiB"))?;
+            one.push((host.system, before as f64));
+            most.push((host.system, after as f64));
         }
-        Ok(())
+        figure_of("resident memory, sessions: 1", &one, "KiB")?;
+        figure_of(&format!("resident memory, sessions: {MOST}"), &most, "KiB")
     }
 
     fn all_figures(&self) -> Outcome<()> {

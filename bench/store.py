@@ -191,8 +191,13 @@ def file_system(folder):
     return told.split()[-1]
 
 
+def figure(name, ours, peer, unit):
+    """Prints a figure as `bench/table` reads it."""
+    print("figure", name, f"{ours:.6g}", f"{peer:.6g}", unit, sep="\t", flush=True)
+
+
 def tell(place, runs):
-    """Prints the figures of all runs: the medians, and behind them the means, which have the checkpoints in them and each
+    """Prints the figures of all runs: the medians, and after them the means, which have the checkpoints in them and each
     moment at which the disk or the machine stood still."""
     both = {}
     for name in runs[0]:
@@ -203,11 +208,14 @@ def tell(place, runs):
         means = "{:,.1f} and {:,.1f} us".format(*map(statistics.mean, both[name]))
         line = f"{ours:>11,.1f} us  sqlite3 {theirs:>11,.1f} us  {ours / theirs:>5.2f} times as long; means {means}"
         print(f"{place}, {name}".ljust(42), line, flush=True)
+        unit, size = ("ms", 1_000) if name.startswith(("growth", "load")) else ("us", 1)
+        figure(f"store, {place}, {name}", ours / size, theirs / size, unit)
     for what in ("a new row", "a row put again"):
         few, many = (both[f"{what}, {size:,} rows"] for size in (SIZES[0], SIZES[-1]))
         ours, theirs = (statistics.median(many[side]) / statistics.median(few[side]) for side in (0, 1))
         sizes = f"at {SIZES[-1]:,} rows than at {SIZES[0]:,}"
         print(f"{place}, {what}".ljust(42), f"{ours:>5.2f} times as long {sizes}; sqlite3 {theirs:.2f}", flush=True)
+        figure(f"store, {place}, {what}, {SIZES[-1]} rows over {SIZES[0]}", ours, theirs, "times")
 
 
 def main():
@@ -216,8 +224,9 @@ def main():
     program = os.path.abspath(sys.argv[1])
     times = int(sys.argv[2]) if len(sys.argv) == 3 else 3
     print(f"sqlite3 {sqlite3.sqlite_version}; {times} times {COMMITS} commits for a figure")
-    for folder in (os.path.dirname(program), "/dev/shm"):
-        tell(file_system(folder), [times_on_files(program, folder) for _ in range(times)])
+    print(f"the disk has {file_system(os.path.dirname(program))}")
+    for place, folder in (("disk", os.path.dirname(program)), ("tmpfs", "/dev/shm")):
+        tell(place, [times_on_files(program, folder) for _ in range(times)])
     tell("memory", [times_in_memory(program) for _ in range(times)])
 
 

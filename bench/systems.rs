@@ -67,7 +67,7 @@ impl System {
         }
     }
 
-    fn is_peer(self) -> bool {
+    pub fn is_peer(self) -> bool {
         matches!(self, System::Peer | System::DurablePeer)
     }
 }
@@ -596,6 +596,25 @@ impl Measured {
 /// Prints the line of one figure.
 pub fn say(name: &str, value: String) -> Outcome<()> {
     writeln!(std::io::stdout(), "{name:<52} {value}").map_err(|e| format!("printing a figure: {e}"))
+}
+
+/// Prints a figure as `bench/table` reads it: its name, ours, the peer's, and the unit, with tabs between. One that was not
+/// measured is empty.
+pub fn figure(name: &str, ours: Option<f64>, peer: Option<f64>, unit: &str) -> Outcome<()> {
+    let text = |value: Option<f64>| {
+        value.map_or(String::new(), |value| {
+            let places = if value < 10.0 { 3 } else if value < 1_000.0 { 1 } else { 0 };
+            format!("{value:.places$}")
+        })
+    };
+    writeln!(std::io::stdout(), "figure\t{name}\t{}\t{}\t{unit}", text(ours), text(peer))
+        .map_err(|e| format!("printing a figure: {e}"))
+}
+
+/// Prints a figure of which each system has a value.
+pub fn figure_of(name: &str, all: &[(System, f64)], unit: &str) -> Outcome<()> {
+    let value = |is_peer| all.iter().find(|(system, _)| system.is_peer() == is_peer).map(|&(_, value)| value);
+    figure(name, value(false), value(true), unit)
 }
 
 /// The program, and the peer if it is there.

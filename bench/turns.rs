@@ -6,7 +6,7 @@
 // Each driver uses some of it.
 #![allow(dead_code)]
 
-use crate::systems::{Folder, Host, Measured, Outcome, Server, System, Systems, say};
+use crate::systems::{Folder, Host, Measured, Outcome, Server, System, Systems, figure_of, say};
 use std::path::{Path, PathBuf};
 use std::process::ExitCode;
 use std::time::{Duration, Instant};
@@ -92,8 +92,8 @@ impl Bench {
         Ok(systems.into_iter().zip(measured).collect())
     }
 
-    /// Prints how many a second each system answered, and the ratio.
-    pub fn say_rates(&self, name: &str, all: &[(System, Measured)]) -> Outcome<()> {
+    /// Prints how many a second each system answered, and the ratio. It gives the medians.
+    pub fn say_rates(&self, name: &str, all: &[(System, Measured)]) -> Outcome<Medians> {
         for (system, measured) in all {
             let (rate, median) = (measured.rate(), measured.median());
             say(&format!("{name}, {}", system.name()), format!("{rate:>9.0} per second  {median:>11.1} us median"))?;
@@ -101,11 +101,12 @@ impl Bench {
         if let [(_, ours), (_, peer)] = all {
             say(&format!("{name}, ours / peer"), format!("{:>9.2} times as many", ours.rate() / peer.rate()))?;
         }
-        Ok(())
+        figure_of(name, &each(all, Measured::rate), "per second")?;
+        Ok(each(all, Measured::median))
     }
 
-    /// Prints the medians of each system, and the ratio. It gives ours.
-    pub fn say_medians(&self, name: &str, all: &[(System, Measured)]) -> Outcome<f64> {
+    /// Prints the medians of each system, and the ratio. The figure has this unit, of so many microseconds. It gives the medians.
+    pub fn say_medians(&self, name: &str, all: &[(System, Measured)], (unit, size): (&str, f64)) -> Outcome<Medians> {
         for (system, measured) in all {
             let value = format!("{:>11.1} us median  {:>6} requests", measured.median(), measured.times.len());
             say(&format!("{name}, {}", system.name()), value)?;
@@ -113,8 +114,33 @@ impl Bench {
         if let [(_, ours), (_, peer)] = all {
             say(&format!("{name}, ours / peer"), format!("{:>9.2} times as long", ours.median() / peer.median()))?;
         }
-        Ok(all.first().map_or(0.0, |(_, measured)| measured.median()))
+        figure_of(name, &each(all, |measured| measured.median() / size), unit)?;
+        Ok(each(all, Measured::median))
     }
+}
+
+/// The medians of the systems, in microseconds.
+pub type Medians = Vec<(System, f64)>;
+
+/// The units of figures, and how many microseconds each has.
+pub const MICROSECONDS: (&str, f64) = ("us", 1.0);
+pub const MILLISECONDS: (&str, f64) = ("ms", 1_000.0);
+
+/// A value of what was measured of each system.
+fn each(all: &[(System, Measured)], value: impl Fn(&Measured) -> f64) -> Medians {
+    all.iter().map(|(system, measured)| (*system, value(measured))).collect()
+}
+
+/// Prints how many times as long each system takes in one case as in another.
+pub fn say_growth(name: &str, small: &Medians, large: &Medians) -> Outcome<()> {
+    let of_both = |&(system, large): &(System, f64)| {
+        small.iter().find(|(other, _)| *other == system).map(|(_, small)| (system, large / small))
+    };
+    let growth: Medians = large.iter().filter_map(of_both).collect();
+    for (system, growth) in &growth {
+        say(&format!("{name}, {}", system.name()), format!("{growth:>9.2} times as long"))?;
+    }
+    figure_of(name, &growth, "times")
 }
 
 /// Looks for the systems. The peer takes a path of its own folder for the current one, so that of the files must be absolute.

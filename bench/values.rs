@@ -115,6 +115,7 @@ fn all_figures(program: &str, schema: &str) -> Outcome<()> {
     ] {
         let [alone, whole] = once(program, [alone, work], text)?;
         println!("{name:<30} {:>8.1} us as JSON alone  {:>8.1} us  {:>5.2} times as long", alone / 1e3, whole / 1e3, whole / alone);
+        println!("figure\t{name}\t{:.1}\t{:.1}\tus", whole / 1e3, alone / 1e3);
     }
     Ok(())
 }
