@@ -104,7 +104,9 @@ impl Bench {
             }
         }
         let [start, few, .., most] = &looks;
-        let grown = |from: &Medians| most.iter().zip(from).map(|((system, to), (_, from))| (*system, to - from)).collect::<Vec<_>>();
+        let grown = |from: &[(System, f64)]| -> Vec<(System, f64)> {
+            most.iter().zip(from).map(|((system, to), (_, from))| (*system, to - from)).collect()
+        };
         let [_, first, .., all] = ECHOES_BEFORE_A_LOOK;
         figure_of("resident memory at the start", start, "KiB")?;
         figure_of(&format!("growth over {all} small echoes"), &grown(start), "KiB")?;
