@@ -1,4 +1,4 @@
-//! A driver for the server in memory beside Open vSwitch's ovsdb-server: echoes of all sizes, the memory that they leave behind,
+//! A driver for the server in memory beside Open vSwitch's ovsdb-server: echoes of all sizes, the memory after them,
 //! selects of all rows, and inserts.
 //!
 //! Each reply is compared with the one that is wanted, byte by byte; the rows of a select may stand in any order. Those that are
@@ -35,7 +35,7 @@ fn small_echo(id: u64) -> Exchange {
     }
 }
 
-/// An echo of one text in a request of so many bytes.
+/// An echo of one text in a request of `length` bytes.
 fn long_echo(length: usize) -> Exchange {
     let begin = "{\"id\":0,\"method\":\"echo\",\"params\":[\"";
     let text = "a".repeat(length - begin.len() - "\"]}".len());
@@ -76,7 +76,7 @@ impl Bench {
         self.say_rates(&format!("small echo, depth {depth}"), &all).map(drop)
     }
 
-    /// The median times of an echo of so many bytes that comes in pieces.
+    /// The median times of an echo in a request of `length` bytes that is sent in pieces.
     fn long_echoes(&self, name: &str, length: usize) -> Outcome<Medians> {
         let exchange = long_echo(length);
         let all = self.in_turns(0, |server, measured| measured.time(|| ask_in_pieces(server, &exchange)))?;

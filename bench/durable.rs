@@ -34,13 +34,13 @@ fn turns(rows: usize) -> usize {
     (rows / 20 / INSERTS_IN_A_TURN).max(5)
 }
 
-/// An insert of the row behind those that the server has.
+/// An insert of the row after those that the server has.
 fn next_insert(server: &mut Server) -> Exchange {
     server.rows += 1;
     inserts(server.system, server.rows - 1, 1)
 }
 
-/// The resident memory of the systems with so many rows, in KiB.
+/// The resident memory of each system, in KiB.
 type Resident = Vec<(System, f64)>;
 
 /// What the driver works with: the systems, and the time for one figure.
@@ -61,8 +61,8 @@ impl Bench {
         self.systems.present(&SYSTEMS)
     }
 
-    /// One round of a figure: all systems insert in turns, into tables of so many rows, and what is measured of each is
-    /// added. It gives the resident memory of the filled tables.
+    /// One round of a figure: all systems insert in turns, into tables of `rows` rows, and what is measured of each is
+    /// added. Returns the resident memory with the filled tables.
     fn round(&self, folder: &Path, rows: usize, depth: usize, all: &mut [Measured]) -> Outcome<Resident> {
         let mut servers = self.systems.filled(&self.present(), folder, rows)?;
         let resident = servers.iter().map(|server| Ok((server.system, server.resident()? as f64))).collect::<Outcome<_>>()?;
@@ -74,8 +74,8 @@ impl Bench {
         Ok(resident)
     }
 
-    /// Measures inserts into a table of so many rows, and prints the lines of all systems. It gives the resident memory of the
-    /// filled tables, of the first round. Over the largest table it measures the starts too.
+    /// Measures inserts into a table of `rows` rows, and prints the lines of all systems. Returns the resident memory with the
+    /// filled tables of the first round. With the largest table it measures the starts too.
     fn inserts(&self, above: &Path, rows: usize, depth: usize) -> Outcome<Resident> {
         let mut all: Vec<Measured> = self.present().iter().map(|_| Measured::default()).collect();
         let mut resident = Vec::new();
@@ -101,7 +101,7 @@ impl Bench {
         Ok(resident)
     }
 
-    /// Prints the resident memory with so many rows.
+    /// Prints the resident memory with `rows` rows.
     fn say_resident(&self, rows: usize, resident: &Resident) -> Outcome<()> {
         resident.iter().try_for_each(|(system, kib)| {
             say(&format!("resident memory, {rows} rows, {}", system.name()), format!("{kib:>9} KiB"))

@@ -1,7 +1,7 @@
 #!/usr/bin/env python3
-"""Tells how fast sessions are served by threads, in memory: echoes and inserts a second over 1 to 64 links, the time of one echo
-where each waits for the one before, beside one session that is served by the thread which has the machine, and what of the time
-goes to wake-ups.
+"""Measures how fast sessions are served by threads, in memory: echoes and inserts a second over 1 to 64 links, the time of one
+echo where each waits for the one before, beside one session that is served by the thread which has the machine, and what of the
+time goes to wake-ups.
 
 It starts `ov_links_bench`, whose path is the first word. Each client waits at a bell for its answer, as one at a socket waits in
 its read. A figure is the median of several runs; each run compares what was answered.

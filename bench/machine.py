@@ -1,6 +1,6 @@
 #!/usr/bin/env python3
-"""Tells what the machine does with many sessions, in memory and with no stream around it: commits beside transactions that wait,
-locks asked for and given up beside others that are held, and the memory of a session that does nothing.
+"""Measures the machine with many sessions, in memory and without streams: commits beside transactions that wait, locks taken and
+released beside others that are held, and the memory of an idle session.
 
 It starts `ov_machine_bench`, whose path is the first word. Messages are read as they come from a stream; each figure is the
 median of several runs of many pairs, an insert and a delete or a lock and an unlock. At the end what was sent is compared.

@@ -79,7 +79,7 @@ impl Key {
     }
 }
 
-/// A row as it must be in a server's table. Its name tells its number.
+/// A row as it must be in a server's table. Its name has its number.
 struct Row {
     identifier: String,
     load: usize,
@@ -93,7 +93,7 @@ struct Table {
 }
 
 impl Table {
-    /// Brings a server's empty table to so many rows.
+    /// Fills a server's empty table with `rows` rows.
     fn fill(mut server: Server, rows: usize) -> Outcome<Table> {
         let identifiers = server.fill(rows)?;
         let rows = (0..).zip(identifiers).map(|(load, identifier)| Row { identifier, load }).collect();
@@ -161,7 +161,7 @@ fn remove_inserted(server: &mut Server) -> Outcome<()> {
 }
 
 impl Bench {
-    /// One operation on one row, by those of the servers that know it. It gives its name and the medians.
+    /// One operation on one row, by those of the servers that know it. Returns its name and the medians.
     fn operation(&self, tables: &mut [Table], operation: Operation, key: Key) -> Outcome<(String, Medians)> {
         let what = format!("{} by {}", operation.name(), key.name());
         let name = format!("{what}, {} rows", tables[0].rows.len());
@@ -180,7 +180,7 @@ impl Bench {
         Ok((what, self.say_rates(&name, &all)?))
     }
 
-    /// All operations on one row of a table of so many. It gives the medians of each.
+    /// All operations on one row of a table of `rows`. Returns the medians of each.
     fn operations(&self, rows: usize) -> Outcome<Vec<(String, Medians)>> {
         let folder = self.folder()?;
         let servers = self.started(&folder, 0)?;
@@ -191,7 +191,7 @@ impl Bench {
         Ok(medians)
     }
 
-    /// Transactions of many inserts into a table of so many rows.
+    /// Transactions of many inserts into a table of `rows` rows.
     fn long_transactions(&self, rows: usize) -> Outcome<()> {
         let mut growing = None;
         let all = self.in_turns(rows, |server, measured| {

@@ -69,7 +69,7 @@ struct Table {
 }
 
 impl Table {
-    /// Brings a server's empty tables to so many switches and ports.
+    /// Fills a server's empty tables with `switches` switches and as many ports.
     fn fill(server: Server, switches: usize) -> Outcome<Table> {
         let mut table = Table { server, switches: Vec::new(), last: 0 };
         while table.switches.len() < switches {
@@ -151,7 +151,7 @@ impl Table {
 }
 
 impl Bench {
-    /// All figures of tables of so many switches. It gives the medians of each.
+    /// All figures of tables of `switches` switches. Returns the medians of each.
     fn figures(&self, switches: usize) -> Outcome<Vec<Medians>> {
         let folder = self.folder()?;
         let servers = self.started(&folder, 0)?;

@@ -1,12 +1,12 @@
 #!/usr/bin/env python3
-"""Tells how long a start takes with schemas of more and more tables, and with schemas in files: from the start of the program to
-its reply to `list_dbs`, over pipes, with a database in memory.
+"""Measures how long a start takes with schemas of more and more tables, and with schemas in files: from the start of the program
+to its reply to `list_dbs`, over pipes, with a database in memory.
 
     bench/schemas.py PROGRAM [FILE..]
 
-Each table has eight columns: four that refer to other tables, strongly and weakly, a map, an enumeration, a set of bounded integers
-and a text, which is an index. Each figure is the median of five starts. The growth stands beside it: how many times as long as with
-half of the tables, so 2 where it grows with their number, and 4 where with its square.
+Each table has eight columns: four that refer to other tables, strongly and weakly, a map, an enumeration, a set of bounded
+integers and a text, which is an index. Each figure is the median of five starts. The growth stands beside it: how many times as
+long as with half of the tables, so 2 where it is linear in their number, and 4 where it is quadratic.
 """
 
 import json

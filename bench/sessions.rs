@@ -1,5 +1,5 @@
-//! A driver for what a session keeps, in memory beside Open vSwitch's ovsdb-server: commits with waits outstanding, locks asked
-//! for and given up beside others, commits that monitors are told of, the first answer of a monitor, and the memory it leaves.
+//! A driver for what a session keeps, in memory beside Open vSwitch's ovsdb-server: commits with waits outstanding, locks taken
+//! and released beside others, commits with monitors, the first answer of a monitor, and the memory after it.
 //!
 //! Each figure is of one session of each server. Each reply and each update is compared with the one that is wanted, byte by
 //! byte; where an identifier is drawn, any one will do. The rows of a first answer may stand in any order. Plain Rust, std only;
@@ -25,7 +25,7 @@ const LOCKS: [u64; 2] = [1, 255];
 /// How many monitors there are.
 const MONITORS: [usize; 3] = [1, 8, 32];
 
-/// How many rows the table has that a first answer tells.
+/// How many rows the table has that a first answer lists.
 const ROWS: usize = 10_000;
 
 /// The number of the first row that is waited for.
@@ -40,13 +40,13 @@ fn wait(n: u64) -> Exchange {
     transact(n, &operation, "[{}]".into())
 }
 
-/// A session with so many waits outstanding.
+/// A session with `waits` waits outstanding.
 fn waiting(mut server: Server, waits: u64) -> Outcome<Server> {
     (AWAITED..AWAITED + waits).try_for_each(|n| server.send(&wait(n).request))?;
     Ok(server)
 }
 
-/// Two commits: an insert of a row that nobody waits for, and a delete of it.
+/// Two commits: an insert of a row that no wait is for, and a delete of it.
 fn insert_and_delete(server: &mut Server, measured: &mut Measured) -> Outcome<()> {
     let insert = inserts(server.system, 0, 1);
     let begin = Instant::now();
@@ -97,7 +97,7 @@ impl Filled {
         Ok(Filled { server, rows })
     }
 
-    /// Asks for a monitor, and compares the rows of its first answer, behind the clock. Then the monitor is canceled.
+    /// Asks for a monitor, and compares the rows of its first answer, off the clock. Then the monitor is canceled.
     fn first_answer(&mut self, measured: &mut Measured) -> Outcome<()> {
         let exchange = monitor(0, &self.rows);
         let (time, reply) = self.server.ask_on_the_clock(&exchange)?;
@@ -117,7 +117,7 @@ fn rows_told(reply: &str) -> BTreeMap<&str, &str> {
     rows.filter_map(|(front, values)| Some((front.rsplit('"').nth(1)?, values))).collect()
 }
 
-/// A session with a table of one row, and its monitors in the order in which a commit tells them.
+/// A session with a table of one row, and its monitors in the order of their updates after a commit.
 struct Watched {
     server: Server,
     row: Row,
@@ -139,7 +139,7 @@ impl Watched {
         self.row.change()
     }
 
-    /// The first commit, which tells the order of the monitors. Ours has that of their creation, the peer that of its hashes.
+    /// The first commit, which shows the order of the monitors: ours has that of their creation, the peer that of its hashes.
     fn learn(&mut self, monitors: usize) -> Outcome<()> {
         let change = self.change();
         self.server.send(&change.request)?;
@@ -171,7 +171,7 @@ impl Watched {
 }
 
 impl Bench {
-    /// Commits with so many waits outstanding, each on another row, which is not there.
+    /// Commits with `waits` waits outstanding, each for another row, which is not there.
     fn waits(&self, waits: u64) -> Outcome<()> {
         let all = self.made_ready(
             0,
@@ -182,7 +182,7 @@ impl Bench {
         self.say_rates(&format!("insert or delete, {waits} waits"), &all).map(drop)
     }
 
-    /// Pairs of `lock` and `unlock` of one name, in a session that holds so many other locks.
+    /// Pairs of `lock` and `unlock` of one name, in a session that holds `others` other locks.
     fn locks(&self, others: u64) -> Outcome<()> {
         let (lock_it, unlock_it) = (lock(0), unlock(0));
         let pair = |server: &mut Server| {
@@ -198,7 +198,7 @@ impl Bench {
         self.say_rates(&format!("lock and unlock, others held: {others}"), &all).map(drop)
     }
 
-    /// Commits that so many monitors are told of.
+    /// Commits with `monitors` monitors.
     fn monitors(&self, monitors: usize) -> Outcome<()> {
         let all = self.made_ready(
             0,

@@ -1,5 +1,5 @@
 //! A driver for many sessions over TCP, beside Open vSwitch's ovsdb-server: echoes of one session and of sixteen, durable
-//! inserts of sixteen, selects of one row, updates that thirty-two sessions are told of, and the memory of sixty-four.
+//! inserts of sixteen, selects of one row, updates sent to thirty-two sessions, and the memory of sixty-four.
 //!
 //! Each reply and each update is compared with the one that is wanted, byte by byte; where an identifier is drawn, any one will
 //! do. Those that are compared take turns in one run. Plain Rust, std only; `bench/run` builds and starts it.
@@ -22,7 +22,7 @@ const DURABLE: [System; 2] = [System::File, System::DurablePeer];
 const ECHOING: [usize; 2] = [1, 16];
 const DEPTHS: [usize; 2] = [1, 32];
 
-/// How many sessions insert, and how many are told of updates.
+/// How many sessions insert, and how many are sent updates.
 const INSERTING: usize = 16;
 const WATCHING: usize = 32;
 
@@ -83,7 +83,7 @@ fn next_echo(session: &mut Server) -> Exchange {
     call(id, "echo", &format!("\"hello\",{id}"), format!("[\"hello\",{id}]"))
 }
 
-/// An insert of the row behind those of the session.
+/// An insert of the row after those of the session.
 fn next_insert(session: &mut Server) -> Exchange {
     session.rows += 1;
     inserts(session.system, session.rows - 1, 1)
@@ -117,7 +117,7 @@ impl Watched {
         Ok(Watched { row, changing, watching, host })
     }
 
-    /// Adds a turn: updates one after the other, until all sessions are told of all. Before it each of these sends an echo, since
+    /// Adds a turn: updates one after the other, until all sessions have read all. Before it each of these sends an echo, since
     /// the peer asks a session that is silent for long whether it is there.
     fn add_turn(&mut self, measured: &mut Measured) -> Outcome<()> {
         self.watching.iter_mut().try_for_each(|(_, session)| {
@@ -144,7 +144,7 @@ impl Watched {
 }
 
 impl Bench {
-    /// Measures one figure of so many sessions of each system.
+    /// Measures one figure of `count` sessions of each system.
     fn sessions(
         &self,
         systems: &[System],

@@ -1,5 +1,5 @@
 #!/usr/bin/env python3
-"""Tells how long the store takes for commits and loads, beside sqlite3 with the same tables, statements and durability.
+"""Measures how long the store takes for commits and loads, beside sqlite3 with the same tables, statements and durability.
 
 It starts `ov_store_bench`, does the same work by Python's module sqlite3, and both take turns, a few commits each at each size,
 so that all of them meet the same disk and the same machine. At the end the two databases are compared, row by row. Words: the
@@ -69,7 +69,7 @@ class Store:
         self.process.stdin.close()
         rest = self.process.stdout.read()
         if rest or self.process.wait() != 0:
-            sys.exit(f"store: the program ended with status {self.process.wait()} and told more: {rest}")
+            sys.exit(f"store: the program ended with status {self.process.wait()} and printed more: {rest}")
 
 
 class Peer:
@@ -201,7 +201,7 @@ def tell(place, runs):
     moment at which the disk or the machine stood still."""
     both = {}
     for name in runs[0]:
-        # A growth is told as a whole.
+        # A growth counts as a whole.
         lists = [[[sum(taken)] if name.startswith("growth") else taken for taken in run[name]] for run in runs]
         both[name] = [sum((taken[side] for taken in lists), []) for side in (0, 1)]
         ours, theirs = map(statistics.median, both[name])

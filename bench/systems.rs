@@ -112,8 +112,8 @@ pub fn deletion(id: u64, identifier: &str) -> Exchange {
     transact(id, &operation, "[{\"count\":1}]".into())
 }
 
-/// One transaction that inserts rows of the numbers from `first` on. The peer is told that it must be on the disk before
-/// the reply (RFC 7047, 5.2.7); ours always is.
+/// One transaction that inserts rows of the numbers from `first` on. The peer is asked to sync before the reply
+/// (RFC 7047, 5.2.7); ours always does.
 pub fn inserts(system: System, first: u64, rows: usize) -> Exchange {
     let mut operations: String = (first..)
         .take(rows)
@@ -190,7 +190,7 @@ impl Server {
         self.input.write_all(text.as_bytes()).map_err(|e| format!("a write to the server: {e}"))
     }
 
-    /// Waits for bytes, and puts them behind those that nobody has compared.
+    /// Waits for bytes, and appends them to those that were not compared yet.
     fn read(&mut self) -> Outcome<()> {
         let n = self.output.read(&mut self.chunk).map_err(|e| format!("a read from the server: {e}"))?;
         if n == 0 {
@@ -217,7 +217,7 @@ impl Server {
         Ok((time, self.take_bytes(length)?))
     }
 
-    /// Reads until so many bytes are there.
+    /// Reads until `length` bytes are there.
     fn read_until(&mut self, length: usize) -> Outcome<()> {
         while self.unread.len() < length {
             self.read()?;
@@ -225,7 +225,7 @@ impl Server {
         Ok(())
     }
 
-    /// Reads so many bytes, and gives them.
+    /// Reads `length` bytes, and returns them.
     pub fn take_bytes(&mut self, length: usize) -> Outcome<String> {
         self.read_until(length)?;
         String::from_utf8(self.unread.drain(..length).collect()).map_err(|e| format!("a reply: {e}"))
@@ -261,7 +261,7 @@ impl Server {
     fn wait(&mut self, exchange: &Exchange, orders: &[Order]) -> Outcome<(Order, usize)> {
         let length = exchange.reply(self.order).len();
         while self.unread.len() < length {
-            // Where a wrong reply is shorter than the wanted one, nothing comes behind it.
+            // Where a wrong reply is shorter than the wanted one, nothing comes after it.
             if self.unread.ends_with(b"}") {
                 self.fitting(&self.unread, exchange, orders)?;
             }
@@ -297,7 +297,7 @@ impl Server {
         drawn.into_iter().next().ok_or("an insert without an identifier".into())
     }
 
-    /// Asks, and tells whether the reply is the wanted one; a transaction whose one operation is unknown to the server
+    /// Asks, and returns whether the reply is the wanted one; a transaction whose one operation is unknown to the server
     /// (RFC 7047, 4.1.3) has another.
     pub fn ask_if_known(&mut self, exchange: &Exchange) -> Outcome<bool> {
         self.send(&exchange.request)?;
@@ -309,7 +309,7 @@ impl Server {
         Ok(false)
     }
 
-    /// The first request: its reply tells the order of the members of all others.
+    /// The first request: its reply shows the order of the members of all others.
     pub fn greet(&mut self) -> Outcome<()> {
         let exchange = list_dbs(self.system);
         self.send(&exchange.request)?;
@@ -319,7 +319,7 @@ impl Server {
         Ok(())
     }
 
-    /// Brings the table to so many rows, and gives the identifiers of the new ones.
+    /// Fills the table up to `rows` rows, and returns the identifiers of the new ones.
     pub fn fill(&mut self, rows: usize) -> Outcome<Vec<String>> {
         let mut identifiers = Vec::new();
         while self.rows < rows as u64 {
@@ -344,12 +344,12 @@ impl Server {
         let Server { system, process, input, mut output, unread: mut rest, .. } = self;
         drop(input);
         let Some(mut process) = process.filter(|_| !system.is_peer()) else {
-            return if rest.is_empty() { Ok(()) } else { Err("bytes that nobody asked for".into()) };
+            return if rest.is_empty() { Ok(()) } else { Err("unexpected bytes".into()) };
         };
         output.read_to_end(&mut rest).map_err(|e| format!("the last read: {e}"))?;
         let status = process.0.wait().map_err(|e| format!("waiting for the server: {e}"))?;
         if !status.success() || !rest.is_empty() {
-            return Err(format!("the server ended with {status} and {} bytes that nobody asked for", rest.len()));
+            return Err(format!("the server ended with {status} and {} unexpected bytes", rest.len()));
         }
         Ok(())
     }
@@ -412,7 +412,7 @@ impl Peer {
         Ok(Server::new(system, Some(process), Box::new(input), Box::new(stream)))
     }
 
-    /// The command of the peer that listens on a port of its own, which it tells on standard error.
+    /// The command of the peer that listens on a port of its own, which it writes to standard error.
     fn listen(&self, folder: &Path) -> Command {
         let mut command = self.command(&self.server);
         command
@@ -433,7 +433,7 @@ pub struct Host {
 }
 
 impl Host {
-    /// Starts a server, and waits until it tells its port.
+    /// Starts a server, and waits until it writes its port.
     fn start(system: System, mut command: Command) -> Outcome<Host> {
         let spawned = command.stdin(Stdio::null()).stdout(Stdio::null()).stderr(Stdio::piped()).spawn();
         let mut process = Process(spawned.map_err(|e| format!("{}: {e}", system.name()))?);
@@ -442,7 +442,7 @@ impl Host {
             let mut line = String::new();
             let length = errors.read_line(&mut line).map_err(|e| format!("standard error: {e}"))?;
             if length == 0 {
-                return Err(format!("{} ended before it told its port", system.name()));
+                return Err(format!("{} ended before it wrote its port", system.name()));
             }
             let line = line.trim_end();
             let port = line.strip_prefix("ov_server: listening at 127.0.0.1:").or(line.split(": listening on port ").nth(1));
@@ -536,7 +536,7 @@ impl Measured {
         times.get(times.len() / 2).map_or(0.0, |time| time.as_secs_f64() * 1e6)
     }
 
-    /// Adds a turn: so many requests, as `make` says, with up to `depth` under way. New ones are sent when half of them are
+    /// Adds a turn: `count` requests, as `make` gives them, with up to `depth` under way. New ones are sent when half of them are
     /// answered.
     pub fn add_turn(
         &mut self,
@@ -670,7 +670,7 @@ impl Systems {
         Host::start(system, command)
     }
 
-    /// Systems that are started anew in a folder, each with a table of so many rows.
+    /// Systems that are started anew in a folder, each with a table of `rows` rows.
     pub fn filled(&self, systems: &[System], folder: &Path, rows: usize) -> Outcome<Vec<Server>> {
         self.prepare(folder)?;
         let start = |&system: &System| {

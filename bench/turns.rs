@@ -11,7 +11,7 @@ use std::path::{Path, PathBuf};
 use std::process::ExitCode;
 use std::time::{Duration, Instant};
 
-/// A turn has so many requests, or as many as begin in this time.
+/// A turn has this many requests, or as many as begin in this time.
 const REQUESTS_IN_A_TURN: usize = 100;
 const LONGEST_TURN: Duration = Duration::from_millis(50);
 
@@ -41,7 +41,7 @@ impl Bench {
         Folder::make(&self.above)
     }
 
-    /// The systems, started anew in a folder, each with a table of so many rows.
+    /// The systems, started anew in a folder, each with a table of `rows` rows.
     pub fn started(&self, folder: &Folder, rows: usize) -> Outcome<Vec<Server>> {
         self.systems.filled(&self.systems.present(&SYSTEMS), &folder.0, rows)
     }
@@ -92,7 +92,7 @@ impl Bench {
         Ok(systems.into_iter().zip(measured).collect())
     }
 
-    /// Prints how many a second each system answered, and the ratio. It gives the medians.
+    /// Prints how many a second each system answered, and the ratio. Returns the medians.
     pub fn say_rates(&self, name: &str, all: &[(System, Measured)]) -> Outcome<Medians> {
         for (system, measured) in all {
             let (rate, median) = (measured.rate(), measured.median());
@@ -105,7 +105,7 @@ impl Bench {
         Ok(each(all, Measured::median))
     }
 
-    /// Prints the medians of each system, and the ratio. The figure has this unit, of so many microseconds. It gives the medians.
+    /// Prints the median of each system, and the ratio. The figure has this unit, of `size` microseconds. Returns the medians.
     pub fn say_medians(&self, name: &str, all: &[(System, Measured)], (unit, size): (&str, f64)) -> Outcome<Medians> {
         for (system, measured) in all {
             let value = format!("{:>11.1} us median  {:>6} requests", measured.median(), measured.times.len());

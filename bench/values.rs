@@ -1,4 +1,4 @@
-//! Tells how much longer it takes to read a text as values or as a schema, and to write them again, than to read and print
+//! Measures how much longer it takes to read a text as values or as a schema, and to write them again, than to read and print
 //! it as JSON alone. It starts `ov_bench`, which does one piece of work a number of times, for few times and for many, so
 //! that the start falls out, and takes the processor's time. Plain Rust, std only; `bench/run` builds and starts it.
 

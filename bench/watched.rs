@@ -1,4 +1,4 @@
-//! What the drivers share that have monitors: the request for one, a row as it tells it, and a commit that it tells of.
+//! What the drivers with monitors share: the request for a monitor, a row in its updates, and a commit.
 //!
 //! Plain Rust, std only.
 
@@ -9,14 +9,14 @@ pub fn call(id: u64, method: &str, params: &str, result: String) -> Exchange {
     Exchange { id, request: format!("{{\"id\":{id},\"method\":\"{method}\",\"params\":[{params}]}}"), result }
 }
 
-/// The request for a monitor, whose first answer tells these rows.
+/// The request for a monitor, whose first answer lists these rows.
 pub fn monitor(n: usize, rows: &[Row]) -> Exchange {
     let rows: Vec<String> = rows.iter().map(|row| format!("\"{}\":{{\"new\":{{{}}}}}", row.identifier, row.values())).collect();
     let params = format!("\"Net\",\"monitor {n:02}\",{{\"Switch\":{{\"columns\":[\"name\",\"load\"]}}}}");
     call(n as u64, "monitor", &params, format!("{{\"Switch\":{{{}}}}}", rows.join(",")))
 }
 
-/// A row as a monitor tells it.
+/// A row as a monitor sends it.
 pub struct Row {
     pub identifier: String,
     pub n: usize,
