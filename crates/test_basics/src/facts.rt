@@ -1,0 +1,18 @@
+use std::alloc::Global;
+use std::test::Fail;
+
+/// Fails with both texts if the one that a test found is not the one that it wants.
+pub fn is_text(alloc: Global, found: &str, wanted: &str) -> Result<(), Fail> {
+    if found == wanted {
+        return Ok(());
+    }
+    Err(Fail::new(format!(in alloc; "found {found}, wanted {wanted}")?))
+}
+
+/// Fails with the name of a fact if it is not so.
+pub fn holds(alloc: Global, is_so: bool, what: &str) -> Result<(), Fail> {
+    if is_so {
+        return Ok(());
+    }
+    Err(Fail::new(format!(in alloc; "not so: {what}")?))
+}
