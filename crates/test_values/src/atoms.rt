@@ -8,9 +8,8 @@ use ov_atoms::{
 use ov_base::Text;
 use serde_json::Value;
 use std::alloc::{AllocError, Global};
-use std::cmp::Ordering;
 use std::test::Fail;
-use test_basics::{Scripted, agrees};
+use test_basics::{Scripted, agrees, holds, is_text};
 use uuid::Uuid;
 
 const INTEGERS: Kinds = Kinds::Single(AtomKind::Integer);
@@ -157,6 +156,12 @@ fn a_uuid_has_hyphens_and_is_written_in_lower_case(rt: HostRuntime) -> Result<()
     are_rewritten(rt.alloc(), UUIDS, IDENTIFIERS)
 }
 
+/// Identifiers that name the row, another one, no identifier, and the row and more.
+const NAMED: &str = r#"["named-uuid","a"] -> true
+["named-uuid","b"] -> false
+["named-uuid","a b"] -> false
+["named-uuid","a","a"] -> false"#;
+
 /// Whether a text reads as an identifier, where one row has a name.
 fn is_named(alloc: Global, text: &str) -> Result<bool, Fail> {
     let tree = Value::from_str(alloc, text)?;
@@ -164,46 +169,57 @@ fn is_named(alloc: Global, text: &str) -> Result<bool, Fail> {
     Ok(atom.is_ok_and(|atom| atom.kind() == AtomKind::Uuid))
 }
 
+/// The commands are texts that may read as an identifier.
+#[derive(Drop)]
+struct Named;
+
+impl Scripted for Named {
+    fn answer(&mut self, alloc: Global, command: &str) -> Result<String, Fail> {
+        let is_named = is_named(alloc, command)?;
+        Ok(format!(in alloc; "{is_named}")?)
+    }
+}
+
 #[test]
 fn a_name_is_read_as_the_row_that_has_it(rt: HostRuntime) -> Result<(), Fail> {
-    assert!(rt; is_named(rt.alloc(), "[\"named-uuid\",\"a\"]")?);
-    assert!(rt; !is_named(rt.alloc(), "[\"named-uuid\",\"b\"]")?);
-    assert!(rt; !is_named(rt.alloc(), "[\"named-uuid\",\"a b\"]")?);
-    assert!(rt; !is_named(rt.alloc(), "[\"named-uuid\",\"a\",\"a\"]")?);
-    Ok(())
+    agrees(rt.alloc(), Named, NAMED)
+}
+
+/// Texts, and whether each is a name.
+const NAMES: &str = "_a1 -> true
+1a -> false
+ -> false
+a-b -> false";
+
+/// The commands are texts that may be a name.
+#[derive(Drop)]
+struct Ids;
+
+impl Scripted for Ids {
+    fn answer(&mut self, alloc: Global, command: &str) -> Result<String, Fail> {
+        Ok(format!(in alloc; "{}", is_id(command))?)
+    }
 }
 
 #[test]
 fn a_name_is_an_identifier(rt: HostRuntime) -> Result<(), Fail> {
-    assert!(rt; is_id("_a1") && !is_id("1a") && !is_id("") && !is_id("a-b"));
     has_sixteen_bytes(&Uuid::nil());
-    Ok(())
+    agrees(rt.alloc(), Ids, NAMES)
 }
+
+/// Values, each with its facts as `facts_of` has them.
+const SET: &str = "set -> 2 Some(2) None true";
+
+const ONE_ATOM: &str = "one -> 1 Some(1) None true";
+
+const MAP: &str = "map -> 1 None Some(1) true";
+
+const DEFAULTS: &str = "nothing -> 0 None Some(0) true
+default -> 1 None Some(1) true";
 
 /// The set of two numbers.
 fn numbers(alloc: Global) -> Result<Datum, AllocError> {
     Datum::of_atoms(vec![in alloc; Atom::Integer(2), Atom::Integer(1)]?)
-}
-
-/// Whether a value is equal to its copy.
-fn is_copied(alloc: Global, datum: &Datum) -> Result<bool, AllocError> {
-    Ok(*datum == datum.copy(alloc)?)
-}
-
-#[test]
-fn sets_are_made_of_atoms(rt: HostRuntime) -> Result<(), Fail> {
-    let set = numbers(rt.alloc())?;
-    assert_eq!(rt; set.count(), 2);
-    assert!(rt; is_copied(rt.alloc(), &set)?);
-    Ok(())
-}
-
-#[test]
-fn one_atom_is_a_set(rt: HostRuntime) -> Result<(), Fail> {
-    let one = Datum::of_atom(Atom::Boolean(true));
-    assert_eq!(rt; one.atoms().map(|atoms| atoms.len()), Some(1));
-    assert!(rt; numbers(rt.alloc())? < one);
-    Ok(())
 }
 
 /// The map of a number to a text.
@@ -213,25 +229,85 @@ fn pair(alloc: Global) -> Result<Datum, Fail> {
     Ok(Datum::of_pairs(alloc, pairs)?.ok_or("a clash")?)
 }
 
+/// The value of a word.
+fn value_of(alloc: Global, word: &str) -> Result<Datum, Fail> {
+    match word {
+        "set" => Ok(numbers(alloc)?),
+        "one" => Ok(Datum::of_atom(Atom::Boolean(true))),
+        "map" => pair(alloc),
+        "nothing" => Ok(Datum::nothing_of(alloc, COUNTS)),
+        _ => Ok(Datum::one_default_of(alloc, COUNTS)?),
+    }
+}
+
+/// Whether a value is equal to its copy.
+fn is_copied(alloc: Global, datum: &Datum) -> Result<bool, AllocError> {
+    Ok(*datum == datum.copy(alloc)?)
+}
+
+/// How many elements a value has, how many as atoms and as pairs, and whether it is equal to its copy.
+fn facts_of(alloc: Global, datum: &Datum) -> Result<String, Fail> {
+    let count = datum.count();
+    let atoms = datum.atoms().map(|atoms| atoms.len());
+    let pairs = datum.pairs().map(|pairs| pairs.len());
+    let is_copied = is_copied(alloc, datum)?;
+    Ok(format!(in alloc; "{count} {atoms:?} {pairs:?} {is_copied}")?)
+}
+
+/// The commands are words of values.
+#[derive(Drop)]
+struct Made;
+
+impl Scripted for Made {
+    fn answer(&mut self, alloc: Global, command: &str) -> Result<String, Fail> {
+        let datum = value_of(alloc, command)?;
+        facts_of(alloc, &datum)
+    }
+}
+
+#[test]
+fn sets_are_made_of_atoms(rt: HostRuntime) -> Result<(), Fail> {
+    agrees(rt.alloc(), Made, SET)
+}
+
+/// Whether a set of numbers stands before a truth value.
+fn are_numbers_first(alloc: Global) -> Result<bool, AllocError> {
+    Ok(numbers(alloc)? < Datum::of_atom(Atom::Boolean(true)))
+}
+
+#[test]
+fn one_atom_is_a_set(rt: HostRuntime) -> Result<(), Fail> {
+    let are_first = are_numbers_first(rt.alloc())?;
+    holds(rt.alloc(), are_first, "numbers stand before truth values")?;
+    agrees(rt.alloc(), Made, ONE_ATOM)
+}
+
 #[test]
 fn maps_are_made_of_pairs(rt: HostRuntime) -> Result<(), Fail> {
-    let map = pair(rt.alloc())?;
-    assert_eq!(rt; map.pairs().map(|pairs| pairs.len()), Some(1));
-    assert!(rt; map.atoms().is_none());
-    Ok(())
+    agrees(rt.alloc(), Made, MAP)
 }
 
 #[test]
 fn a_default_has_one_pair_or_none(rt: HostRuntime) -> Result<(), Fail> {
-    assert_eq!(rt; Datum::nothing_of(rt.alloc(), COUNTS).count(), 0);
-    assert_eq!(rt; Datum::one_default_of(rt.alloc(), COUNTS)?.count(), 1);
-    Ok(())
+    agrees(rt.alloc(), Made, DEFAULTS)
+}
+
+/// Whether an atom is equal to its copy, whether it stands after a number, and how -1 stands to 0.
+fn orders_of(alloc: Global, atom: &Atom) -> Result<String, Fail> {
+    let is_copied = *atom == atom.copy(alloc)?;
+    let is_last = Atom::Integer(9) < *atom;
+    let order = Atom::Integer(-1).cmp(&Atom::Integer(0));
+    Ok(format!(in alloc; "{is_copied} {is_last} {order:?}")?)
+}
+
+/// The same of a text.
+fn orders_of_text(alloc: Global) -> Result<String, Fail> {
+    let text = Atom::Text(Text::from_str(alloc, "a")?);
+    orders_of(alloc, &text)
 }
 
 #[test]
 fn atoms_stand_in_order(rt: HostRuntime) -> Result<(), Fail> {
-    let text = Atom::Text(Text::from_str(rt.alloc(), "a")?);
-    assert!(rt; text == text.copy(rt.alloc())? && Atom::Integer(9) < text);
-    assert_eq!(rt; Atom::Integer(-1).cmp(&Atom::Integer(0)), Ordering::Less);
-    Ok(())
+    let found = orders_of_text(rt.alloc())?;
+    is_text(rt.alloc(), found.as_str(), "true true Less")
 }

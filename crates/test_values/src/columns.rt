@@ -1,4 +1,4 @@
-use ov_atoms::{NoNames, read_datum, write_datum};
+use ov_atoms::{Datum, NoNames, read_datum, write_datum};
 use ov_schema::{Column, Schema};
 use serde_json::Value;
 use std::alloc::Global;
@@ -48,17 +48,33 @@ fn column(schema: &Schema) -> Result<&Column, Fail> {
     Ok(table.column("c").ok_or("no column")?)
 }
 
-/// The default of a column, as it is written.
-fn default_of(alloc: Global, column: &Column) -> Result<String, Fail> {
-    let datum = column.default_of(alloc)?;
-    Ok(write_datum(alloc, &datum)?.to_string(alloc)?)
+/// A value as it is written.
+fn written(alloc: Global, datum: &Datum) -> Result<String, Fail> {
+    Ok(write_datum(alloc, datum)?.to_string(alloc)?)
 }
 
-/// Whether a value fits a column.
-fn fits(alloc: Global, column: &Column, value: &str) -> Result<bool, Fail> {
-    let tree = Value::from_str(alloc, value)?;
-    let datum = read_datum(alloc, &tree, column.kinds(), &NoNames)?;
+/// The default of that column of a schema.
+fn default_of(alloc: Global, schema: &Schema) -> Result<String, Fail> {
+    let datum = column(schema)?.default_of(alloc)?;
+    written(alloc, &datum)
+}
+
+/// Whether the value of a tree fits a column.
+fn fits(alloc: Global, column: &Column, tree: &Value) -> Result<bool, Fail> {
+    let datum = read_datum(alloc, tree, column.kinds(), &NoNames)?;
     Ok(column.fits(&datum))
+}
+
+/// Whether the value of a text fits a column.
+fn text_fits(alloc: Global, column: &Column, value: &str) -> Result<bool, Fail> {
+    let tree = Value::from_str(alloc, value)?;
+    fits(alloc, column, &tree)
+}
+
+/// Whether the value of a text fits that column of a schema.
+fn text_fits_schema(alloc: Global, schema: &Schema, value: &str) -> Result<String, Fail> {
+    let fits = text_fits(alloc, column(schema)?, value)?;
+    Ok(format!(in alloc; "{fits}")?)
 }
 
 /// The default of a type.
@@ -68,7 +84,7 @@ struct Defaults;
 impl Scripted for Defaults {
     fn answer(&mut self, alloc: Global, command: &str) -> Result<String, Fail> {
         let schema = of_type(alloc, command)?;
-        default_of(alloc, column(&schema)?)
+        default_of(alloc, &schema)
     }
 }
 
@@ -80,8 +96,7 @@ impl Scripted for Fitting {
     fn answer(&mut self, alloc: Global, command: &str) -> Result<String, Fail> {
         let (value, type_text) = command.split_once(" ").ok_or("no type")?;
         let schema = of_type(alloc, type_text)?;
-        let fits = fits(alloc, column(&schema)?, value)?;
-        Ok(format!(in alloc; "{fits}")?)
+        text_fits_schema(alloc, &schema, value)
     }
 }
 

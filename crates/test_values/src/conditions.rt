@@ -122,13 +122,35 @@ fn put(
     Ok(values.insert(String::from_str(alloc, name)?, datum)?)
 }
 
-/// A row of these values.
-fn row_of(alloc: Global, table: &Table, row: &str) -> Result<Row, Fail> {
-    let row = Value::from_str(alloc, row)?;
-    let mut values = NamedValues::new(alloc);
-    for (name, tree) in row.as_object().ok_or("no object")? {
-        put(alloc, table, &mut values, name.as_str(), tree)?;
+/// Puts the values that the members of a tree give.
+fn put_all(
+    alloc: Global,
+    table: &Table,
+    values: &mut NamedValues,
+    tree: &Value,
+) -> Result<(), Fail> {
+    for (name, member) in tree.as_object().ok_or("no object")? {
+        put(alloc, table, values, name.as_str(), member)?;
     }
+    Ok(())
+}
+
+/// The values that the members of a tree give.
+fn values_of(alloc: Global, table: &Table, tree: &Value) -> Result<NamedValues, Fail> {
+    let mut values = NamedValues::new(alloc);
+    put_all(alloc, table, &mut values, tree)?;
+    Ok(values)
+}
+
+/// The same of a text.
+fn values_of_text(alloc: Global, table: &Table, text: &str) -> Result<NamedValues, Fail> {
+    let tree = Value::from_str(alloc, text)?;
+    values_of(alloc, table, &tree)
+}
+
+/// A row of these values.
+fn row_of(alloc: Global, table: &Table, text: &str) -> Result<Row, Fail> {
+    let values = values_of_text(alloc, table, text)?;
     Ok(Row {
         version: Uuid::from_u128(0x4000_8000_0000_0000_0002),
         columns: Columns::with_own_names(alloc, values)?,
@@ -154,6 +176,28 @@ fn judged(alloc: Global, table: &Table, row: &Row, tree: &Value) -> &'static str
     }
 }
 
+/// The same of the text of a condition.
+fn judged_by_text(
+    alloc: Global,
+    table: &Table,
+    row: &Row,
+    condition: &str,
+) -> Result<&'static str, Fail> {
+    let tree = Value::from_str(alloc, condition)?;
+    Ok(judged(alloc, table, row, &tree))
+}
+
+/// The same of the text of a row.
+fn judged_text(
+    alloc: Global,
+    table: &Table,
+    row: &str,
+    condition: &str,
+) -> Result<&'static str, Fail> {
+    let row = row_of(alloc, table, row)?;
+    judged_by_text(alloc, table, &row, condition)
+}
+
 /// The commands are a row and a condition behind it.
 #[derive(Drop)]
 struct Conditions {
@@ -164,9 +208,7 @@ impl Scripted for Conditions {
     fn answer(&mut self, alloc: Global, command: &str) -> Result<String, Fail> {
         let (row, condition) = command.split_once(" ").ok_or("no condition")?;
         let table = self.schema.table("Port").ok_or("no table")?;
-        let condition = Value::from_str(alloc, condition)?;
-        let row = row_of(alloc, table, row)?;
-        let word = judged(alloc, table, &row, &condition);
+        let word = judged_text(alloc, table, row, condition)?;
         Ok(String::from_str(alloc, word)?)
     }
 }

@@ -1,10 +1,10 @@
 ghost use Rattle.std.specs.Prelude.{◌+◌, ◌≤◌, length};
 
 use ov_base::Bytes;
-use ov_cut::{CutFault, Cutter};
+use ov_cut::{CutFault, Cutter, Fed};
 use std::alloc::{AllocError, Global};
 use std::test::Fail;
-use test_basics::{Scripted, agrees};
+use test_basics::{Scripted, agrees, holds, is_text};
 
 /// Three inputs, one behind the other: of one message, of one with a brace in a literal, and of two.
 const JOINED: &str =
@@ -49,14 +49,25 @@ impl Cut {
         }
     }
 
-    /// Feeds a piece.
-    fn feed(&mut self, alloc: Global, piece: &[u8]) -> Result<Option<CutFault>, Fail> {
-        let fed = self.cutter.feed(alloc, piece);
-        for message in &fed.messages {
+    /// Puts messages behind the others.
+    fn put(&mut self, messages: &[Bytes]) -> Result<(), Fail> {
+        for message in messages {
             self.messages.push_str(str::from_utf8(message.as_slice())?)?;
             self.messages.push_str("|")?;
         }
+        Ok(())
+    }
+
+    /// Takes what a piece brought.
+    fn take(&mut self, fed: &Fed) -> Result<Option<CutFault>, Fail> {
+        self.put(fed.messages.as_slice())?;
         Ok(fed.fault)
+    }
+
+    /// Feeds a piece.
+    fn feed(&mut self, alloc: Global, piece: &[u8]) -> Result<Option<CutFault>, Fail> {
+        let fed = self.cutter.feed(alloc, piece);
+        self.take(&fed)
     }
 
     /// Whether the messages of all inputs were cut, and nothing is left.
@@ -78,18 +89,37 @@ impl Scripted for Cut {
     }
 }
 
-/// Whether all messages are cut, where their bytes come in two pieces.
-fn is_cut_at(alloc: Global, place: usize) -> Result<bool, Fail> {
-    let (first, second) = JOINED.split_at_checked(place).ok_or("no place")?;
-    let mut cut = Cut::new(alloc);
+/// Whether all messages are cut, where their bytes come in these two pieces.
+fn is_cut_in_two(alloc: Global, cut: &mut Cut, first: &str, second: &str) -> Result<bool, Fail> {
     let is_good = cut.feed(alloc, first.as_bytes())?.is_none();
     let is_good_still = cut.feed(alloc, second.as_bytes())?.is_none();
     Ok(is_good && is_good_still && cut.is_whole())
 }
 
+/// Whether all messages are cut, where their bytes come in two pieces.
+fn is_cut_at(alloc: Global, place: usize) -> Result<bool, Fail> {
+    let (first, second) = JOINED.split_at_checked(place).ok_or("no place")?;
+    is_cut_in_two(alloc, &mut Cut::new(alloc), first, second)
+}
+
+/// The first place at which the bytes come in two pieces, and not all messages are cut.
+fn first_uncut(alloc: Global) -> Result<Option<usize>, Fail> {
+    for place in 0..=JOINED.len() {
+        if !is_cut_at(alloc, place)? {
+            return Ok(Some(place));
+        }
+    }
+    Ok(None)
+}
+
+#[test]
+fn joined_inputs_may_be_cut_at_any_place(rt: HostRuntime) -> Result<(), Fail> {
+    let found = format!(in rt.alloc(); "{:?}", first_uncut(rt.alloc())?)?;
+    is_text(rt.alloc(), found.as_str(), "None")
+}
+
 /// Whether all messages are cut, where their bytes come one by one.
-fn is_cut_by_bytes(alloc: Global) -> Result<bool, Fail> {
-    let mut cut = Cut::new(alloc);
+fn is_cut_by_bytes(alloc: Global, cut: &mut Cut) -> Result<bool, Fail> {
     for byte in JOINED.as_bytes() {
         if cut.feed(alloc, &[*byte])?.is_some() {
             return Ok(false);
@@ -99,17 +129,10 @@ fn is_cut_by_bytes(alloc: Global) -> Result<bool, Fail> {
 }
 
 #[test]
-fn joined_inputs_may_be_cut_at_any_place(rt: HostRuntime) -> Result<(), Fail> {
-    for place in 0..=JOINED.len() {
-        assert!(rt; is_cut_at(rt.alloc(), place)?, "cut at {place}");
-    }
-    Ok(())
-}
-
-#[test]
 fn joined_inputs_may_come_byte_by_byte(rt: HostRuntime) -> Result<(), Fail> {
-    assert!(rt; is_cut_by_bytes(rt.alloc())?);
-    Ok(())
+    let alloc = rt.alloc();
+    let is_cut = is_cut_by_bytes(alloc, &mut Cut::new(alloc))?;
+    holds(alloc, is_cut, "all messages are cut")
 }
 
 #[test]
@@ -135,15 +158,32 @@ fn long_echo(alloc: Global, letters: usize) -> Result<Vec<u8>, AllocError> {
     Ok(text)
 }
 
+/// How many messages a text brought, whether the text is the only one, and the fault.
+fn brought(alloc: Global, fed: &Fed, text: &[u8]) -> Result<String, Fail> {
+    let count = fed.messages.len();
+    let is_given = match fed.messages.as_slice() {
+        [message] => message.as_slice() == text,
+        _ => false,
+    };
+    Ok(format!(in alloc; "{count} {is_given} {:?}", fed.fault)?)
+}
+
+/// The same where all of the text comes at once.
+fn brought_at_once(alloc: Global, text: &[u8]) -> Result<String, Fail> {
+    let fed = Cutter::new(alloc).feed(alloc, text);
+    brought(alloc, &fed, text)
+}
+
+/// The same of an echo of a text of so many letters.
+fn brought_by_echo(alloc: Global, letters: usize) -> Result<String, Fail> {
+    let text = long_echo(alloc, letters)?;
+    brought_at_once(alloc, &text)
+}
+
 #[test]
 fn the_longest_message_is_given(rt: HostRuntime) -> Result<(), Fail> {
-    let alloc = rt.alloc();
-    let text = long_echo(alloc, 1_048_538)?;
-    let fed = Cutter::new(alloc).feed(alloc, &text);
-    assert_eq!(rt; fed.fault, None);
-    assert_eq!(rt; fed.messages.len(), 1);
-    assert!(rt; fed.messages[0].as_slice() == text.as_slice());
-    Ok(())
+    let found = brought_by_echo(rt.alloc(), 1_048_538)?;
+    is_text(rt.alloc(), found.as_str(), "1 true None")
 }
 
 /// The last message that ends where the text comes byte by byte. Each byte is looked at once at most, however many came before.
@@ -160,25 +200,34 @@ fn last_by_bytes(alloc: Global, cutter: &mut Cutter, text: &[u8]) -> Option<Byte
     last
 }
 
+/// Whether a text that comes byte by byte is given, and nothing is left.
+fn is_given_by_bytes(alloc: Global, cutter: &mut Cutter, text: &[u8]) -> bool {
+    match last_by_bytes(alloc, cutter, text) {
+        Some(message) => message.as_slice() == text && cutter.rest().is_empty(),
+        None => false,
+    }
+}
+
+/// The same of the longest message.
+fn is_longest_given(alloc: Global) -> Result<bool, AllocError> {
+    let text = long_echo(alloc, 1_048_538)?;
+    Ok(is_given_by_bytes(alloc, &mut Cutter::new(alloc), &text))
+}
+
 #[test]
 fn the_longest_message_may_come_byte_by_byte(rt: HostRuntime) -> Result<(), Fail> {
-    let alloc = rt.alloc();
-    let text = long_echo(alloc, 1_048_538)?;
-    let mut cutter = Cutter::new(alloc);
-    let message = last_by_bytes(alloc, &mut cutter, &text).ok_or("no message")?;
-    assert!(rt; message.as_slice() == text.as_slice());
-    assert!(rt; cutter.rest().is_empty());
-    Ok(())
+    let is_given = is_longest_given(rt.alloc())?;
+    holds(
+        rt.alloc(),
+        is_given,
+        "the longest message is given, and nothing is left",
+    )
 }
 
 #[test]
 fn a_byte_more_is_too_long(rt: HostRuntime) -> Result<(), Fail> {
-    let alloc = rt.alloc();
-    let text = long_echo(alloc, 1_048_539)?;
-    let fed = Cutter::new(alloc).feed(alloc, &text);
-    assert_eq!(rt; fed.fault, Some(CutFault::TooLong));
-    assert!(rt; fed.messages.is_empty());
-    Ok(())
+    let found = brought_by_echo(rt.alloc(), 1_048_539)?;
+    is_text(rt.alloc(), found.as_str(), "0 false Some(TooLong)")
 }
 
 /// The beginning of an echo, which has 1,048,576 bytes.
@@ -188,38 +237,61 @@ fn long_beginning(alloc: Global) -> Result<Vec<u8>, AllocError> {
     Ok(text)
 }
 
+/// The fault of a piece, and how many bytes are left.
+fn fault_and_rest(alloc: Global, cutter: &mut Cutter, piece: &[u8]) -> Result<String, Fail> {
+    let fault = cutter.feed(alloc, piece).fault;
+    Ok(format!(in alloc; "{fault:?} {}", cutter.rest().len())?)
+}
+
+/// Fails unless the beginning is left, and a byte more is too long.
+fn is_full(alloc: Global, cutter: &mut Cutter, beginning: &[u8]) -> Result<(), Fail> {
+    let found = fault_and_rest(alloc, cutter, beginning)?;
+    is_text(alloc, found.as_str(), "None 1048576")?;
+    let found = fault_and_rest(alloc, cutter, b"a")?;
+    is_text(alloc, found.as_str(), "Some(TooLong) 0")
+}
+
 #[test]
 fn an_unfinished_message_may_be_too_long(rt: HostRuntime) -> Result<(), Fail> {
     let alloc = rt.alloc();
     let text = long_beginning(alloc)?;
-    let mut cutter = Cutter::new(alloc);
-    assert_eq!(rt; cutter.feed(alloc, &text).fault, None);
-    assert_eq!(rt; cutter.rest().len(), 1_048_576);
-    assert_eq!(rt; cutter.feed(alloc, b"a").fault, Some(CutFault::TooLong));
-    assert!(rt; cutter.rest().is_empty());
-    Ok(())
+    is_full(alloc, &mut Cutter::new(alloc), &text)
+}
+
+/// Fails unless a text brings no message and is damaged at its first byte.
+fn is_damage(alloc: Global, text: &[u8]) -> Result<(), Fail> {
+    let found = brought_at_once(alloc, text)?;
+    is_text(alloc, found.as_str(), "0 false Some(Damaged(0))")
 }
 
 #[test]
-fn a_byte_order_mark_is_damage_and_so_is_a_closing_brace(rt: HostRuntime) {
-    for text in [b"\xEF\xBB\xBF{}".as_slice(), b"}{"] {
-        let fed = Cutter::new(rt.alloc()).feed(rt.alloc(), text);
-        assert_eq!(rt; fed.fault, Some(CutFault::Damaged(0)));
-        assert!(rt; fed.messages.is_empty());
-    }
+fn a_byte_order_mark_is_damage_and_so_is_a_closing_brace(rt: HostRuntime) -> Result<(), Fail> {
+    is_damage(rt.alloc(), b"\xEF\xBB\xBF{}")?;
+    is_damage(rt.alloc(), b"}{")
+}
+
+/// Fails unless a fault has this sentence.
+fn has_sentence(alloc: Global, fault: CutFault, sentence: &str) -> Result<(), Fail> {
+    let found = fault.to_string(alloc)?;
+    is_text(alloc, found.as_str(), sentence)
 }
 
 #[test]
 fn each_fault_has_a_sentence(rt: HostRuntime) -> Result<(), Fail> {
-    for (fault, sentence) in [
-        (
-            CutFault::Damaged(40),
-            "byte 40 of the stream begins no message",
-        ),
-        (CutFault::TooLong, "a message has more than 1048576 bytes"),
-        (CutFault::Memory, "no memory is left for the next message"),
-    ] {
-        assert_eq!(rt; fault.to_string(rt.alloc())?.as_str(), sentence);
-    }
-    Ok(())
+    let alloc = rt.alloc();
+    has_sentence(
+        alloc,
+        CutFault::Damaged(40),
+        "byte 40 of the stream begins no message",
+    )?;
+    has_sentence(
+        alloc,
+        CutFault::TooLong,
+        "a message has more than 1048576 bytes",
+    )?;
+    has_sentence(
+        alloc,
+        CutFault::Memory,
+        "no memory is left for the next message",
+    )
 }

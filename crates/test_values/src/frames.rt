@@ -4,7 +4,7 @@ use ov_rpc::{append_item, failure, note, reply, reply_with};
 use serde_json::Value;
 use std::alloc::Global;
 use std::test::Fail;
-use test_basics::{Scripted, agrees, array_text, tree, trees};
+use test_basics::{Scripted, agrees, array_text, is_text, tree, trees};
 use uuid::Uuid;
 
 /// Each frame is these bytes.
@@ -39,38 +39,75 @@ fn note_of(alloc: Global, method: &str, params: &str) -> Result<String, Fail> {
     text_of(note(alloc, method, trees(alloc, params)?)?)
 }
 
+/// A reply, and one item more behind its results.
+fn appended_to(alloc: Global, reply: &Bytes, is_first: bool, item: &str) -> Result<String, Fail> {
+    let item = tree(alloc, item)?;
+    text_of(append_item(alloc, reply, is_first, &item)?)
+}
+
 /// A reply with these results, and one item more behind them.
 fn appended(alloc: Global, results: &str, item: &str) -> Result<String, Fail> {
     let results = trees(alloc, results)?;
     let is_first = results.as_slice().is_empty();
     let reply = reply(alloc, tree(alloc, "\"]}\"")?, results.into_tree())?;
-    text_of(append_item(alloc, &reply, is_first, &tree(alloc, item)?)?)
+    appended_to(alloc, &reply, is_first, item)
+}
+
+/// Puts a tree behind the others of an array.
+fn put(alloc: Global, array: &mut ArrayText, item: Value) -> Result<(), Fail> {
+    if has_real(&item) {
+        return Err(Fail::new("a real"));
+    }
+    Ok(array.push(alloc, Tree::new(item).into())?)
+}
+
+/// Puts trees behind the others of an array.
+fn put_all(alloc: Global, array: &mut ArrayText, items: Vec<Value>) -> Result<(), Fail> {
+    for item in items {
+        put(alloc, array, item)?;
+    }
+    Ok(())
+}
+
+/// The items of a text that is an array.
+fn items_of(alloc: Global, text: &str) -> Result<Vec<Value>, Fail> {
+    match Value::from_str(alloc, text)? {
+        Value::Array(items) => Ok(items),
+        _ => Err(Fail::new("no array")),
+    }
 }
 
 /// The trees of an array, one put behind the other.
-fn array_of(alloc: Global, items: Vec<Value>) -> Result<ArrayText, Fail> {
+fn array_of(alloc: Global, text: &str) -> Result<ArrayText, Fail> {
     let mut array = ArrayText::new(alloc);
-    for item in items {
-        if has_real(&item) {
-            return Err(Fail::new("a real"));
-        }
-        array.push(alloc, Tree::new(item).into())?;
-    }
+    put_all(alloc, &mut array, items_of(alloc, text)?)?;
     Ok(array)
 }
 
-/// A reply with these results, or with the one of a select of these rows.
-fn reply_of_results(alloc: Global, id: &str, items: &str, are_rows: bool) -> Result<String, Fail> {
-    let Value::Array(items) = Value::from_str(alloc, items)? else {
-        return Err(Fail::new("no array"));
-    };
-    let mut results = array_of(alloc, items)?;
-    if are_rows {
-        let rows = results;
-        results = ArrayText::new(alloc);
-        results.push(alloc, OpResult::of_rows(rows))?;
-    }
-    text_of(reply_with(alloc, &tree(alloc, id)?, &results)?)
+/// The one result of a select of these rows.
+fn result_of_rows(alloc: Global, rows: &str) -> Result<ArrayText, Fail> {
+    let rows = array_of(alloc, rows)?;
+    let mut results = ArrayText::new(alloc);
+    results.push(alloc, OpResult::of_rows(rows))?;
+    Ok(results)
+}
+
+/// A reply with the results of an array.
+fn reply_of_array(alloc: Global, id: &str, results: &ArrayText) -> Result<String, Fail> {
+    let id = tree(alloc, id)?;
+    text_of(reply_with(alloc, &id, results)?)
+}
+
+/// A reply with these results.
+fn reply_of_results(alloc: Global, id: &str, results: &str) -> Result<String, Fail> {
+    let results = array_of(alloc, results)?;
+    reply_of_array(alloc, id, &results)
+}
+
+/// A reply with the one result of a select of these rows.
+fn reply_of_rows(alloc: Global, id: &str, rows: &str) -> Result<String, Fail> {
+    let results = result_of_rows(alloc, rows)?;
+    reply_of_array(alloc, id, &results)
 }
 
 /// The commands are `reply ID RESULT`, `results ID RESULTS`, `rows ID ROWS`, `failure ID ERROR`, `note METHOD PARAMS` and
@@ -84,8 +121,8 @@ impl Scripted for Frames {
         let (first, second) = rest.split_once(" ").ok_or("one part")?;
         match kind {
             "reply" => reply_of(alloc, first, second),
-            "results" => reply_of_results(alloc, first, second, false),
-            "rows" => reply_of_results(alloc, first, second, true),
+            "results" => reply_of_results(alloc, first, second),
+            "rows" => reply_of_rows(alloc, first, second),
             "failure" => failure_of(alloc, first, second),
             "append" => appended(alloc, first, second),
             _ => note_of(alloc, first, second),
@@ -98,31 +135,95 @@ fn each_frame_is_these_bytes(rt: HostRuntime) -> Result<(), Fail> {
     agrees(rt.alloc(), Frames, FRAMES)
 }
 
+/// The result of an insert, alone and behind another.
+const INSERTED: &str = r#"insert -> {"uuid":["uuid","0a1b2c3d-4e5f-4aaa-bfff-0123456789ab"]}
+push {}
+put
+text -> [{},{"uuid":["uuid","0a1b2c3d-4e5f-4aaa-bfff-0123456789ab"]}]"#;
+
+/// What is put makes an array that is not empty.
+const PUT: &str = "reserve
+empty -> true
+push {}
+empty -> false
+text -> [{}]";
+
+/// An array of results, behind a script.
+///
+/// The commands are `empty`, `reserve`, `push TREE`, `insert`, answered with the result of an insert, `put`, which puts that
+/// result, and `text`.
+#[derive(Drop)]
+struct Results {
+    array: ArrayText,
+}
+
+/// The result of an insert.
+fn result_of_insert() -> OpResult {
+    OpResult::of_new_row(Uuid::from_u128(0x0a1b_2c3d_4e5f_4aaa_bfff_0123_4567_89ab))
+}
+
+/// The text of that result.
+fn text_of_insert(alloc: Global) -> Result<String, Fail> {
+    let result = result_of_insert();
+    text_of(result.to_bytes(alloc)?)
+}
+
+impl Results {
+    fn is_empty(&self, alloc: Global) -> Result<String, Fail> {
+        Ok(format!(in alloc; "{}", self.array.is_empty())?)
+    }
+
+    fn reserve(&mut self, alloc: Global) -> Result<String, Fail> {
+        self.array.reserve(1_000)?;
+        Ok(String::new(alloc))
+    }
+
+    fn push(&mut self, alloc: Global, text: &str) -> Result<String, Fail> {
+        self.array.push(alloc, tree(alloc, text)?.into())?;
+        Ok(String::new(alloc))
+    }
+
+    fn put(&mut self, alloc: Global) -> Result<String, Fail> {
+        self.array.push(alloc, result_of_insert())?;
+        Ok(String::new(alloc))
+    }
+}
+
+impl Scripted for Results {
+    fn answer(&mut self, alloc: Global, command: &str) -> Result<String, Fail> {
+        let (word, text) = command.split_once(" ").unwrap_or((command, ""));
+        match word {
+            "empty" => self.is_empty(alloc),
+            "reserve" => self.reserve(alloc),
+            "push" => self.push(alloc, text),
+            "insert" => text_of_insert(alloc),
+            "put" => self.put(alloc),
+            _ => array_text(alloc, &self.array),
+        }
+    }
+}
+
+/// An empty array does what the script says.
+fn results_agree(alloc: Global, script: &str) -> Result<(), Fail> {
+    let array = ArrayText::new(alloc);
+    agrees(alloc, Results { array }, script)
+}
+
 #[test]
 fn the_result_of_an_insert_is_its_identifier(rt: HostRuntime) -> Result<(), Fail> {
-    let alloc = rt.alloc();
-    let id = Uuid::from_u128(0x0a1b_2c3d_4e5f_4aaa_bfff_0123_4567_89ab);
-    let want = r#"{"uuid":["uuid","0a1b2c3d-4e5f-4aaa-bfff-0123456789ab"]}"#;
-    let bytes = OpResult::of_new_row(id).to_bytes(alloc)?;
-    assert_eq!(rt; text_of(bytes)?.as_str(), want);
-    let mut array = ArrayText::new(alloc);
-    array.push(alloc, tree(alloc, "{}")?.into())?;
-    array.push(alloc, OpResult::of_new_row(id))?;
-    let want = format!(in alloc; "[{{}},{want}]")?;
-    assert_eq!(rt; array_text(alloc, &array)?.as_str(), want.as_str());
-    Ok(())
+    results_agree(rt.alloc(), INSERTED)
 }
 
 #[test]
 fn an_array_is_empty_until_something_is_put(rt: HostRuntime) -> Result<(), Fail> {
-    let alloc = rt.alloc();
-    let mut array = ArrayText::new(alloc);
-    array.reserve(1_000)?;
-    assert!(rt; array.is_empty());
-    array.push(alloc, tree(alloc, "{}")?.into())?;
-    assert!(rt; !array.is_empty());
-    assert_eq!(rt; array_text(alloc, &array)?.as_str(), "[{}]");
-    Ok(())
+    results_agree(rt.alloc(), PUT)
+}
+
+/// Fails unless the error of a failure is printed with these escapes.
+fn is_printed(alloc: Global, text: &str, want: &str) -> Result<(), Fail> {
+    let frame = failure_of(alloc, "null", text)?;
+    let want = format!(in alloc; "{{\"error\":\"{want}\",\"id\":null,\"result\":null}}")?;
+    is_text(alloc, frame.as_str(), want.as_str())
 }
 
 #[test]
@@ -140,9 +241,7 @@ fn texts_are_printed_with_these_escapes(rt: HostRuntime) -> Result<(), Fail> {
             "\u{80}\u{e9}\u{20ac}\u{2028}\u{feff}\u{1f600}",
         ),
     ] {
-        let frame = failure_of(rt.alloc(), "null", text)?;
-        let want = format!(in rt.alloc(); "{{\"error\":\"{want}\",\"id\":null,\"result\":null}}")?;
-        assert_eq!(rt; frame.as_str(), want.as_str(), "at {want}");
+        is_printed(rt.alloc(), text, want)?;
     }
     Ok(())
 }

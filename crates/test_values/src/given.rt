@@ -1,14 +1,14 @@
 use ov_atoms::Names;
 use ov_base::{Text, Trees};
 use ov_given::{
-    GivenRow, NamedRows, given_over, given_values, is_met, mutated_columns, mutations_of,
+    GivenRow, NamedRows, Until, given_over, given_values, is_met, mutated_columns, mutations_of,
     name_fault, new_row, timeout_of, told_rows, until_of,
 };
-use ov_projection::OpFault;
+use ov_projection::{OpFault, ShownRow};
 use ov_rows::Columns;
 use ov_schema::{Schema, Table};
-use serde_json::Value;
-use std::alloc::Global;
+use serde_json::{Map, Value};
+use std::alloc::{AllocError, Global};
 use std::test::Fail;
 use test_basics::{Scripted, agrees, schema_of_text, trees};
 use uuid::Uuid;
@@ -107,34 +107,63 @@ fn told(fault: OpFault) -> &'static str {
     }
 }
 
+/// The text of columns.
+fn text_of(alloc: Global, columns: &Columns) -> Result<String, Fail> {
+    Ok(String::from_utf8(columns.text(alloc)?.into_vec())?)
+}
+
 /// The text of a row's columns, or of their fault.
-fn shown(alloc: Global, columns: Result<Columns, OpFault>) -> Result<String, Fail> {
+fn shown(alloc: Global, columns: &Result<Columns, OpFault>) -> Result<String, Fail> {
     match columns {
-        Ok(columns) => Ok(String::from_utf8(columns.text(alloc)?.into_vec())?),
-        Err(fault) => Ok(String::from_str(alloc, told(fault))?),
+        Ok(columns) => text_of(alloc, columns),
+        Err(fault) => Ok(String::from_str(alloc, told(*fault))?),
     }
 }
 
 /// The number of an identifier.
 fn number(alloc: Global, id: Option<Uuid>) -> Result<String, Fail> {
     match id {
-        Some(id) => {
-            let number = id.as_u128();
-            Ok(format!(in alloc; "{number}")?)
-        }
+        Some(id) => Ok(format!(in alloc; "{}", id.as_u128())?),
         None => Ok(String::from_str(alloc, "none")?),
     }
 }
 
-/// What is wrong with the name behind a place.
-fn named(alloc: Global, rows: &NamedRows<'_>, text: &str) -> Result<String, Fail> {
-    let (place, name) = text.split_once(" ").ok_or("no name")?;
-    let name = Value::from_str(alloc, name)?;
-    let word = match name_fault(rows, place.parse::<usize>()?, Some(&name)) {
+/// What is wrong with a name at a place.
+fn fault_at(rows: &NamedRows<'_>, place: usize, name: &Value) -> &'static str {
+    match name_fault(rows, place, Some(name)) {
         Some(error) => error.text(),
         None => "none",
-    };
-    Ok(String::from_str(alloc, word)?)
+    }
+}
+
+/// What is wrong with the name behind a place.
+fn fault(alloc: Global, rows: &NamedRows<'_>, text: &str) -> Result<String, Fail> {
+    let (place, name) = text.split_once(" ").ok_or("no name")?;
+    let place = place.parse::<usize>()?;
+    let name = Value::from_str(alloc, name)?;
+    Ok(String::from_str(alloc, fault_at(rows, place, &name))?)
+}
+
+/// The columns of a new row of a tree.
+fn new_columns(
+    alloc: Global,
+    table: &Table,
+    rows: &NamedRows<'_>,
+    tree: &Value,
+) -> Result<Result<Columns, OpFault>, Fail> {
+    let members = tree.as_object().ok_or("no object")?;
+    Ok(new_row(alloc, table, members, rows))
+}
+
+/// The same, as they are shown.
+fn inserted_tree(
+    alloc: Global,
+    table: &Table,
+    rows: &NamedRows<'_>,
+    tree: &Value,
+) -> Result<String, Fail> {
+    let columns = new_columns(alloc, table, rows, tree)?;
+    shown(alloc, &columns)
 }
 
 /// The columns of a new row.
@@ -143,72 +172,151 @@ fn inserted(
     table: &Table,
     rows: &NamedRows<'_>,
     text: &str,
-) -> Result<Result<Columns, OpFault>, Fail> {
+) -> Result<String, Fail> {
     let tree = Value::from_str(alloc, text)?;
-    let members = tree.as_object().ok_or("no object")?;
-    Ok(new_row(alloc, table, members, rows))
+    inserted_tree(alloc, table, rows, &tree)
 }
 
 /// The columns of a row whose number is 1.
 fn row_of_one(alloc: Global, table: &Table, rows: &NamedRows<'_>) -> Result<Columns, Fail> {
-    match inserted(alloc, table, rows, r#"{"n":1}"#)? {
+    let tree = Value::from_str(alloc, r#"{"n":1}"#)?;
+    match new_columns(alloc, table, rows, &tree)? {
         Ok(columns) => Ok(columns),
         Err(_) => Err(Fail::new("no row")),
     }
 }
 
-/// The columns of that row with the given ones in their places.
-fn updated(
+/// Columns with the given ones in their places.
+fn columns_over(
     alloc: Global,
     table: &Table,
     rows: &NamedRows<'_>,
-    text: &str,
-) -> Result<Result<Columns, OpFault>, Fail> {
+    members: &Map<String, Value>,
+    columns: &Columns,
+) -> Result<Columns, OpFault> {
+    let given = given_values(alloc, GivenRow::Changed, table, members, rows)?;
+    Ok(given_over(alloc, &given, columns)?)
+}
+
+/// The same, as they are shown.
+fn updated_tree(
+    alloc: Global,
+    table: &Table,
+    rows: &NamedRows<'_>,
+    tree: &Value,
+    columns: &Columns,
+) -> Result<String, Fail> {
+    let members = tree.as_object().ok_or("no object")?;
+    let over = columns_over(alloc, table, rows, members, columns);
+    shown(alloc, &over)
+}
+
+/// The columns of that row with the given ones in their places.
+fn updated(alloc: Global, table: &Table, rows: &NamedRows<'_>, text: &str) -> Result<String, Fail> {
     let columns = row_of_one(alloc, table, rows)?;
     let tree = Value::from_str(alloc, text)?;
-    let members = tree.as_object().ok_or("no object")?;
-    match given_values(alloc, GivenRow::Changed, table, members, rows) {
-        Ok(given) => Ok(Ok(given_over(alloc, &given, &columns)?)),
-        Err(fault) => Ok(Err(fault)),
-    }
+    updated_tree(alloc, table, rows, &tree, &columns)
+}
+
+/// What mutations make of columns.
+fn columns_by(
+    alloc: Global,
+    table: &Table,
+    rows: &NamedRows<'_>,
+    items: &[Value],
+    columns: &Columns,
+) -> Result<Columns, OpFault> {
+    let mutations = mutations_of(alloc, table, items, rows)?;
+    mutated_columns(alloc, mutations.as_slice(), columns)
+}
+
+/// The same, as they are shown.
+fn mutated_tree(
+    alloc: Global,
+    table: &Table,
+    rows: &NamedRows<'_>,
+    tree: &Value,
+    columns: &Columns,
+) -> Result<String, Fail> {
+    let items = tree.as_array().ok_or("no array")?;
+    let mutated = columns_by(alloc, table, rows, items.as_slice(), columns);
+    shown(alloc, &mutated)
 }
 
 /// What mutations make of the columns of that row.
-fn mutated(
+fn mutated(alloc: Global, table: &Table, rows: &NamedRows<'_>, text: &str) -> Result<String, Fail> {
+    let columns = row_of_one(alloc, table, rows)?;
+    let tree = Value::from_str(alloc, text)?;
+    mutated_tree(alloc, table, rows, &tree, &columns)
+}
+
+/// The column that is compared.
+fn compared(alloc: Global) -> Result<Vec<Text>, AllocError> {
+    Ok(vec![in alloc; Text::from_str(alloc, "n")?]?)
+}
+
+/// What is told of rows, by their numbers alone.
+fn told_numbers(
     alloc: Global,
     table: &Table,
     rows: &NamedRows<'_>,
-    text: &str,
-) -> Result<Result<Columns, OpFault>, Fail> {
-    let columns = row_of_one(alloc, table, rows)?;
-    let tree = Value::from_str(alloc, text)?;
-    let items = tree.as_array().ok_or("no array")?;
-    match mutations_of(alloc, table, items.as_slice(), rows) {
-        Ok(mutations) => Ok(mutated_columns(alloc, mutations.as_slice(), &columns)),
-        Err(fault) => Ok(Err(fault)),
+    items: &[Value],
+) -> Result<Vec<ShownRow>, OpFault> {
+    let compared = compared(alloc)?;
+    told_rows(alloc, table, &compared, items, rows)
+}
+
+/// Whether what is waited for has come of two arrays of rows.
+fn has_come(
+    alloc: Global,
+    table: &Table,
+    rows: &NamedRows<'_>,
+    until: Until,
+    seen: &[Value],
+    known: &[Value],
+) -> Result<bool, OpFault> {
+    let seen = told_numbers(alloc, table, rows, seen)?;
+    let known = told_numbers(alloc, table, rows, known)?;
+    Ok(is_met(alloc, until, seen.as_slice(), known.as_slice())?)
+}
+
+/// The text of whether it has come, or of the fault.
+fn come_text(alloc: Global, has_come: Result<bool, OpFault>) -> Result<String, Fail> {
+    match has_come {
+        Ok(has_come) => Ok(format!(in alloc; "{has_come}")?),
+        Err(fault) => Ok(String::from_str(alloc, told(fault))?),
     }
 }
 
-/// Whether what a word says of two arrays of rows, by their numbers alone, has come.
+/// The same of the texts of both arrays.
+fn waited_until(
+    alloc: Global,
+    table: &Table,
+    rows: &NamedRows<'_>,
+    until: Until,
+    arrays: &str,
+) -> Result<String, Fail> {
+    let (seen, known) = arrays.split_once(" ").ok_or("no other rows")?;
+    let seen = trees(alloc, seen)?;
+    let known = trees(alloc, known)?;
+    let has_come = has_come(alloc, table, rows, until, seen.as_slice(), known.as_slice());
+    come_text(alloc, has_come)
+}
+
+/// Whether what a word says of two arrays of rows has come.
 fn waited(alloc: Global, table: &Table, rows: &NamedRows<'_>, text: &str) -> Result<String, Fail> {
     let (word, arrays) = text.split_once(" ").ok_or("no rows")?;
-    let (seen, told_text) = arrays.split_once(" ").ok_or("no other rows")?;
-    let Some(until) = until_of(word) else {
-        return Ok(String::from_str(alloc, "none")?);
-    };
-    let compared = vec![in alloc; Text::from_str(alloc, "n")?]?;
-    let seen = Value::from_str(alloc, seen)?;
-    let seen = seen.as_array().ok_or("no array")?;
-    let known = Value::from_str(alloc, told_text)?;
-    let known = known.as_array().ok_or("no array")?;
-    match told_rows(alloc, table, compared.as_slice(), seen.as_slice(), rows) {
-        Ok(seen) => match told_rows(alloc, table, compared.as_slice(), known.as_slice(), rows) {
-            Ok(known) => {
-                let met = is_met(alloc, until, seen.as_slice(), known.as_slice())?;
-                Ok(format!(in alloc; "{met}")?)
-            }
-            Err(fault) => Ok(String::from_str(alloc, told(fault))?),
-        },
+    match until_of(word) {
+        Some(until) => waited_until(alloc, table, rows, until, arrays),
+        None => Ok(String::from_str(alloc, "none")?),
+    }
+}
+
+/// The text of a timeout.
+fn timeout_text(alloc: Global, timeout: Result<Option<u64>, OpFault>) -> Result<String, Fail> {
+    match timeout {
+        Ok(Some(milliseconds)) => Ok(format!(in alloc; "{milliseconds}")?),
+        Ok(None) => Ok(String::from_str(alloc, "none")?),
         Err(fault) => Ok(String::from_str(alloc, told(fault))?),
     }
 }
@@ -216,10 +324,32 @@ fn waited(alloc: Global, table: &Table, rows: &NamedRows<'_>, text: &str) -> Res
 /// The milliseconds of a timeout.
 fn timed(alloc: Global, text: &str) -> Result<String, Fail> {
     let tree = Value::from_str(alloc, text)?;
-    match timeout_of(Some(&tree)) {
-        Ok(Some(milliseconds)) => Ok(format!(in alloc; "{milliseconds}")?),
-        Ok(None) => Ok(String::from_str(alloc, "none")?),
-        Err(fault) => Ok(String::from_str(alloc, told(fault))?),
+    timeout_text(alloc, timeout_of(Some(&tree)))
+}
+
+/// The number of the row that an operation makes.
+fn number_at(alloc: Global, rows: &NamedRows<'_>, place: &str) -> Result<String, Fail> {
+    number(alloc, rows.id_at(place.parse::<usize>()?))
+}
+
+/// What a command comes to.
+fn answered(
+    alloc: Global,
+    table: &Table,
+    rows: &NamedRows<'_>,
+    word: &str,
+    text: &str,
+) -> Result<String, Fail> {
+    match word {
+        "named" => number(alloc, rows.uuid_of(text)),
+        "at" => number_at(alloc, rows, text),
+        "fault" => fault(alloc, rows, text),
+        "insert" => inserted(alloc, table, rows, text),
+        "update" => updated(alloc, table, rows, text),
+        "mutate" => mutated(alloc, table, rows, text),
+        "wait" => waited(alloc, table, rows, text),
+        "timeout" => timed(alloc, text),
+        _ => Err(Fail::new("no such command")),
     }
 }
 
@@ -228,17 +358,7 @@ impl Scripted for Given {
         let (word, text) = command.split_once(" ").ok_or("no text")?;
         let table = self.schema.table("T").ok_or("no table")?;
         let rows = NamedRows::new(alloc, self.ids.as_slice(), &self.operations)?;
-        match word {
-            "named" => number(alloc, rows.uuid_of(text)),
-            "at" => number(alloc, rows.id_at(text.parse::<usize>()?)),
-            "fault" => named(alloc, &rows, text),
-            "insert" => shown(alloc, inserted(alloc, table, &rows, text)?),
-            "update" => shown(alloc, updated(alloc, table, &rows, text)?),
-            "mutate" => shown(alloc, mutated(alloc, table, &rows, text)?),
-            "wait" => waited(alloc, table, &rows, text),
-            "timeout" => timed(alloc, text),
-            _ => Err(Fail::new("no such command")),
-        }
+        answered(alloc, table, &rows, word, text)
     }
 }
 

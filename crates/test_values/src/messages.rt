@@ -1,8 +1,8 @@
-use ov_base::{Text, Trees};
+use ov_base::{Text, Tree, Trees};
 use ov_rpc::{BadKind, Message, RpcFault, reply};
 use std::alloc::{AllocError, Global};
 use std::test::Fail;
-use test_basics::{Scripted, agrees, compact};
+use test_basics::{Scripted, agrees, compact, is_text};
 
 /// An id of any kind but null makes a call.
 const IDS: &str = r#"0 -> call 0 m []
@@ -97,31 +97,42 @@ fn words(alloc: Global, text: &[u8]) -> Result<String, Fail> {
 
 fn words_of(alloc: Global, message: &Message) -> Result<String, Fail> {
     match message {
-        Message::Call { id, method, params } => {
-            let id = compact(alloc, id)?;
-            let request = request(alloc, method, params)?;
-            Ok(format!(in alloc; "call {id} {request}")?)
-        }
-        Message::Note { method, params } => {
-            let request = request(alloc, method, params)?;
-            Ok(format!(in alloc; "note {request}")?)
-        }
+        Message::Call { id, method, params } => words_of_call(alloc, id, method, params),
+        Message::Note { method, params } => words_of_note(alloc, method, params),
         Message::Answer => Ok(String::from_str(alloc, "answer")?),
-        Message::Bad { id, kind } => {
-            let id = compact(alloc, id)?;
-            let kind = match kind {
-                BadKind::Syntax => "syntax",
-                BadKind::Reals => "reals",
-            };
-            Ok(format!(in alloc; "bad {id} {kind}")?)
-        }
+        Message::Bad { id, kind } => words_of_bad(alloc, id, kind),
     }
 }
 
+fn words_of_call(alloc: Global, id: &Tree, method: &Text, params: &Trees) -> Result<String, Fail> {
+    let id = compact(alloc, id)?;
+    let request = request(alloc, method, params)?;
+    Ok(format!(in alloc; "call {id} {request}")?)
+}
+
+fn words_of_note(alloc: Global, method: &Text, params: &Trees) -> Result<String, Fail> {
+    let request = request(alloc, method, params)?;
+    Ok(format!(in alloc; "note {request}")?)
+}
+
+fn words_of_bad(alloc: Global, id: &Tree, kind: &BadKind) -> Result<String, Fail> {
+    let id = compact(alloc, id)?;
+    let kind = match kind {
+        BadKind::Syntax => "syntax",
+        BadKind::Reals => "reals",
+    };
+    Ok(format!(in alloc; "bad {id} {kind}")?)
+}
+
+/// The compact text of parameters.
+fn text_of_params(alloc: Global, params: &Trees) -> Result<String, Fail> {
+    let tree = params.copy_as_tree(alloc)?;
+    compact(alloc, &tree)
+}
+
 fn request(alloc: Global, method: &Text, params: &Trees) -> Result<String, Fail> {
-    let params = compact(alloc, &params.copy_as_tree(alloc)?)?;
-    let method = method.as_str();
-    Ok(format!(in alloc; "{method} {params}")?)
+    let params = text_of_params(alloc, params)?;
+    Ok(format!(in alloc; "{} {params}", method.as_str())?)
 }
 
 /// The commands are texts of messages, or ids of calls.
@@ -164,8 +175,8 @@ fn a_text_is_read_as_its_members_say(rt: HostRuntime) -> Result<(), Fail> {
 fn white_space_and_order_and_unknown_members_mean_nothing(rt: HostRuntime) -> Result<(), Fail> {
     let text =
         b" {\n\t\"params\" : [ ] ,\r \"x\" : {} , \"method\" : \"m\" , \"id\" : 1 } ".as_slice();
-    assert_eq!(rt; words(rt.alloc(), text)?.as_str(), "call 1 m []");
-    Ok(())
+    let found = words(rt.alloc(), text)?;
+    is_text(rt.alloc(), found.as_str(), "call 1 m []")
 }
 
 #[test]
@@ -193,6 +204,24 @@ fn a_text_that_is_no_json_is_unreadable(rt: HostRuntime) -> Result<(), Fail> {
     are_read(&rt, NO_JSON)
 }
 
+/// Bytes in a literal that are not UTF-8.
+const NOT_UTF8: &str = "a byte of none -> unreadable
+a zero in two bytes -> unreadable
+a surrogate -> unreadable
+beyond the last -> unreadable
+a part -> unreadable";
+
+/// The bytes of these words.
+fn bytes_of(words: &str) -> &'static [u8] {
+    match words {
+        "a byte of none" => b"\xff",
+        "a zero in two bytes" => b"\xc0\x80",
+        "a surrogate" => b"\xed\xa0\x80",
+        "beyond the last" => b"\xf4\x90\x80\x80",
+        _ => b"\xe2\x82",
+    }
+}
+
 /// A text with these bytes in a literal.
 fn text_with(alloc: Global, inside: &[u8]) -> Result<Vec<u8>, AllocError> {
     let mut text = Vec::from_slice(alloc, b"{\"id\":1,\"method\":\"m\",\"params\":[\"")?;
@@ -201,90 +230,136 @@ fn text_with(alloc: Global, inside: &[u8]) -> Result<Vec<u8>, AllocError> {
     Ok(text)
 }
 
+/// The commands are words of bytes in a literal.
+#[derive(Drop)]
+struct Literals;
+
+impl Scripted for Literals {
+    fn answer(&mut self, alloc: Global, command: &str) -> Result<String, Fail> {
+        let text = text_with(alloc, bytes_of(command))?;
+        words(alloc, &text)
+    }
+}
+
 #[test]
 fn a_text_that_is_not_utf8_is_unreadable(rt: HostRuntime) -> Result<(), Fail> {
-    for inside in [
-        b"\xff".as_slice(),
-        b"\xc0\x80",
-        b"\xed\xa0\x80",
-        b"\xf4\x90\x80\x80",
-        b"\xe2\x82",
-    ] {
-        let text = text_with(rt.alloc(), inside)?;
-        assert_eq!(rt;
-            words(rt.alloc(), &text)?.as_str(),
-            "unreadable",
-            "at {inside:?}"
-        );
+    agrees(rt.alloc(), Literals, NOT_UTF8)
+}
+
+/// How many levels the first parameter of a call has, arrays or objects, and whether the call is read.
+const NESTED: &str = "array 1 -> true
+array 125 -> true
+array 126 -> false
+array 5000 -> false
+object 1 -> true
+object 125 -> true
+object 126 -> false
+object 5000 -> false";
+
+/// Puts so many copies of a piece behind a text.
+fn put_times(text: &mut Vec<u8>, times: u32, piece: &[u8]) -> Result<(), AllocError> {
+    for _ in 0..times {
+        text.extend_from_slice(piece)?;
     }
     Ok(())
 }
 
-/// A call whose first parameter goes this many levels deep: each level is `open`, and then come as many of `close`.
+/// Puts a value of so many levels behind a text: each is `open`, and then come as many of `close`.
+fn put_nest(text: &mut Vec<u8>, levels: u32, open: &[u8], close: &[u8]) -> Result<(), AllocError> {
+    put_times(text, levels, open)?;
+    text.extend_from_slice(b"1")?;
+    put_times(text, levels, close)?;
+    text.extend_from_slice(b"]}")?;
+    Ok(())
+}
+
+/// A call whose first parameter goes this many levels deep.
 fn deep_call(alloc: Global, levels: u32, open: &[u8], close: &[u8]) -> Result<Vec<u8>, AllocError> {
     let mut text = Vec::from_slice(alloc, b"{\"id\":1,\"method\":\"m\",\"params\":[")?;
-    for _ in 0..levels {
-        text.extend_from_slice(open)?;
-    }
-    text.extend_from_slice(b"1")?;
-    for _ in 0..levels {
-        text.extend_from_slice(close)?;
-    }
-    text.extend_from_slice(b"]}")?;
+    put_nest(&mut text, levels, open, close)?;
     Ok(text)
 }
 
 /// Whether such a call is read.
 fn is_deep_call_read(alloc: Global, levels: u32, open: &[u8], close: &[u8]) -> Result<bool, Fail> {
     let text = deep_call(alloc, levels, open, close)?;
-    Ok(words(alloc, &text)?.as_str() != "unreadable")
+    let words = words(alloc, &text)?;
+    Ok(words.as_str() != "unreadable")
+}
+
+/// The same of arrays or of objects.
+fn is_nest_read(alloc: Global, kind: &str, levels: u32) -> Result<bool, Fail> {
+    match kind {
+        "array" => is_deep_call_read(alloc, levels, b"[", b"]"),
+        _ => is_deep_call_read(alloc, levels, b"{\"a\":", b"}"),
+    }
+}
+
+/// The commands are a kind, and a number of levels behind it.
+#[derive(Drop)]
+struct Nests;
+
+impl Scripted for Nests {
+    fn answer(&mut self, alloc: Global, command: &str) -> Result<String, Fail> {
+        let (kind, levels) = command.split_once(" ").ok_or("no levels")?;
+        let is_read = is_nest_read(alloc, kind, levels.parse::<u32>()?)?;
+        Ok(format!(in alloc; "{is_read}")?)
+    }
 }
 
 #[test]
 fn nesting_ends_at_127_levels_with_the_message_and_its_params(rt: HostRuntime) -> Result<(), Fail> {
-    for (open, close) in [(b"[".as_slice(), b"]".as_slice()), (b"{\"a\":", b"}")] {
-        for (levels, want) in [(1, true), (125, true), (126, false), (5000, false)] {
-            let is_read = is_deep_call_read(rt.alloc(), levels, open, close)?;
-            assert_eq!(rt; is_read, want, "at {levels} levels of {open:?}");
-        }
-    }
-    Ok(())
+    agrees(rt.alloc(), Nests, NESTED)
 }
 
 /// A call of a mebibyte.
 fn long_call(alloc: Global) -> Result<Vec<u8>, AllocError> {
     let mut text = Vec::from_slice(alloc, b"{\"id\":1,\"method\":\"echo\",\"params\":[0")?;
-    for _ in 0..349_513 {
-        text.extend_from_slice(b",12")?;
-    }
+    put_times(&mut text, 349_513, b",12")?;
     text.extend_from_slice(b"]}")?;
     Ok(text)
 }
 
-/// How many bytes the echo of a call has.
-fn length_of_echo(alloc: Global, text: &[u8]) -> Result<usize, Fail> {
-    let Message::Call { id, params, .. } = Message::read(alloc, text)? else {
-        return Err(Fail::new("no call"));
-    };
+/// How many bytes a reply has.
+fn length_of_reply(alloc: Global, id: Tree, params: Trees) -> Result<usize, Fail> {
     let frame = reply(alloc, id, params.into_tree())?;
     Ok(frame.as_slice().len())
 }
 
+/// How many bytes the echo of a call has.
+fn length_of_echo(alloc: Global, text: &[u8]) -> Result<usize, Fail> {
+    match Message::read(alloc, text)? {
+        Message::Call { id, params, .. } => length_of_reply(alloc, id, params),
+        _ => Err(Fail::new("no call")),
+    }
+}
+
+/// How many bytes a call has, and its echo.
+fn lengths_of(alloc: Global, text: &[u8]) -> Result<String, Fail> {
+    let echo = length_of_echo(alloc, text)?;
+    Ok(format!(in alloc; "{} {echo}", text.len())?)
+}
+
+/// The same of the call of a mebibyte.
+fn lengths(alloc: Global) -> Result<String, Fail> {
+    let text = long_call(alloc)?;
+    lengths_of(alloc, &text)
+}
+
 #[test]
 fn a_call_of_a_mebibyte_is_echoed(rt: HostRuntime) -> Result<(), Fail> {
-    let text = long_call(rt.alloc())?;
-    assert_eq!(rt; text.len(), 1_048_576);
-    assert_eq!(rt; length_of_echo(rt.alloc(), &text)?, 1_048_573);
-    Ok(())
+    let found = lengths(rt.alloc())?;
+    is_text(rt.alloc(), found.as_str(), "1048576 1048573")
+}
+
+/// Fails unless a fault has this sentence.
+fn has_sentence(alloc: Global, fault: RpcFault, sentence: &str) -> Result<(), Fail> {
+    let found = format!(in alloc; "{fault}")?;
+    is_text(alloc, found.as_str(), sentence)
 }
 
 #[test]
 fn a_fault_is_told_in_words(rt: HostRuntime) -> Result<(), Fail> {
-    for (fault, want) in [
-        (RpcFault::Unreadable, "the text is no message"),
-        (RpcFault::Memory, "out of memory"),
-    ] {
-        assert_eq!(rt; format!(in rt.alloc(); "{fault}")?.as_str(), want);
-    }
-    Ok(())
+    has_sentence(rt.alloc(), RpcFault::Unreadable, "the text is no message")?;
+    has_sentence(rt.alloc(), RpcFault::Memory, "out of memory")
 }

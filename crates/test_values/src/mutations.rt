@@ -136,28 +136,68 @@ null ["counts","delete",["map",[["a",1],["a",5]]]] -> clash
 null ["counts","delete",["map",["a"]]] -> syntax
 null ["counts","delete",1] -> syntax"#;
 
+/// A value as it is written.
+fn written(alloc: Global, datum: &Datum) -> Result<String, Fail> {
+    Ok(write_datum(alloc, datum)?.to_string(alloc)?)
+}
+
+/// The word of what is wrong with a value.
+fn fault_of_value(fault: MutateFault) -> &'static str {
+    match fault {
+        MutateFault::Domain => "domain",
+        MutateFault::Range => "range",
+        MutateFault::Constraint => "constraint",
+        MutateFault::Memory => "memory",
+    }
+}
+
 /// What a mutation makes of a value of its column, as it is written, or the word of its fault.
 fn changed(alloc: Global, mutation: &Mutation<'_>, before: &Datum) -> Result<String, Fail> {
-    let word = match mutation.mutate(alloc, before) {
-        Ok(datum) => return Ok(write_datum(alloc, &datum)?.to_string(alloc)?),
-        Err(MutateFault::Domain) => "domain",
-        Err(MutateFault::Range) => "range",
-        Err(MutateFault::Constraint) => "constraint",
-        Err(MutateFault::Memory) => "memory",
-    };
-    Ok(String::from_str(alloc, word)?)
+    match mutation.mutate(alloc, before) {
+        Ok(datum) => written(alloc, &datum),
+        Err(fault) => Ok(String::from_str(alloc, fault_of_value(fault))?),
+    }
+}
+
+/// The same of the tree of a value.
+fn changed_tree(
+    alloc: Global,
+    table: &Table,
+    mutation: &Mutation<'_>,
+    tree: &Value,
+) -> Result<String, Fail> {
+    let before = value_of(alloc, table, mutation.column(), tree)?;
+    changed(alloc, mutation, &before)
 }
 
 /// The same of the text of a value.
-fn applied(
+fn changed_text(
     alloc: Global,
     table: &Table,
     mutation: &Mutation<'_>,
     before: &str,
 ) -> Result<String, Fail> {
     let tree = Value::from_str(alloc, before)?;
-    let before = value_of(alloc, table, mutation.column(), &tree)?;
-    changed(alloc, mutation, &before)
+    changed_tree(alloc, table, mutation, &tree)
+}
+
+/// The word of what is wrong with a mutation.
+fn fault_of_mutation(fault: MutationFault) -> &'static str {
+    match fault {
+        MutationFault::Syntax => "syntax",
+        MutationFault::UnknownColumn => "column",
+        MutationFault::Clash => "clash",
+        MutationFault::NotMutable => "fixed",
+        MutationFault::Memory => "memory",
+    }
+}
+
+/// What the mutation of a tree makes of a value, or the word of its fault.
+fn applied(alloc: Global, table: &Table, tree: &Value, before: &str) -> Result<String, Fail> {
+    match Mutation::read(alloc, table, tree, &NoNames) {
+        Ok(mutation) => changed_text(alloc, table, &mutation, before),
+        Err(fault) => Ok(String::from_str(alloc, fault_of_mutation(fault))?),
+    }
 }
 
 /// The commands are a value and a mutation behind it.
@@ -170,16 +210,8 @@ impl Scripted for Mutations {
     fn answer(&mut self, alloc: Global, command: &str) -> Result<String, Fail> {
         let (before, mutation) = command.split_once(" ").ok_or("no mutation")?;
         let table = self.schema.table("Port").ok_or("no table")?;
-        let mutation = Value::from_str(alloc, mutation)?;
-        let word = match Mutation::read(alloc, table, &mutation, &NoNames) {
-            Ok(mutation) => return applied(alloc, table, &mutation, before),
-            Err(MutationFault::Syntax) => "syntax",
-            Err(MutationFault::UnknownColumn) => "column",
-            Err(MutationFault::Clash) => "clash",
-            Err(MutationFault::NotMutable) => "fixed",
-            Err(MutationFault::Memory) => "memory",
-        };
-        Ok(String::from_str(alloc, word)?)
+        let tree = Value::from_str(alloc, mutation)?;
+        applied(alloc, table, &tree, before)
     }
 }
 

@@ -2,7 +2,7 @@ use ov_base::Trees;
 use ov_given::{NamedRows, new_row};
 use ov_refs::{Holders, KeySet, Links, Target, targets_of};
 use ov_rows::{Columns, Row, RowKey, Rows};
-use ov_schema::Schema;
+use ov_schema::{Schema, Table};
 use serde_json::Value;
 use std::alloc::Global;
 use std::test::Fail;
@@ -60,6 +60,20 @@ struct Referring {
     rows: Rows,
 }
 
+/// The columns of a new row of a tree.
+fn columns_of_tree(
+    alloc: Global,
+    table: &Table,
+    names: &NamedRows<'_>,
+    tree: &Value,
+) -> Result<Columns, Fail> {
+    let members = tree.as_object().ok_or("no object")?;
+    match new_row(alloc, table, members, names) {
+        Ok(columns) => Ok(columns),
+        Err(_) => Err(Fail::new("no row")),
+    }
+}
+
 /// The columns of a new row of a table.
 fn columns_of(
     alloc: Global,
@@ -70,11 +84,7 @@ fn columns_of(
 ) -> Result<Columns, Fail> {
     let table = schema.table(table).ok_or("no table")?;
     let tree = Value::from_str(alloc, text)?;
-    let members = tree.as_object().ok_or("no object")?;
-    match new_row(alloc, table, members, names) {
-        Ok(columns) => Ok(columns),
-        Err(_) => Err(Fail::new("no row")),
-    }
+    columns_of_tree(alloc, table, names, &tree)
 }
 
 /// A table's name, and a number.
@@ -90,14 +100,22 @@ fn key_text(alloc: Global, key: &RowKey) -> Result<String, Fail> {
     Ok(format!(in alloc; "{table} {id}")?)
 }
 
+/// Puts the text of a key behind others, with a comma between, and a word before it.
+fn put_key(alloc: Global, text: &mut String, word: &str, key: &RowKey) -> Result<(), Fail> {
+    if !text.is_empty() {
+        text.push_str(", ")?;
+    }
+    text.push_str(word)?;
+    let key = key_text(alloc, key)?;
+    Ok(text.push_str(key.as_str())?)
+}
+
 /// The texts of what is referred to, with commas between.
 fn targets_text(alloc: Global, targets: &[Target]) -> Result<String, Fail> {
     let mut text = String::new(alloc);
     for target in targets {
-        let how = if target.is_strong { "strong" } else { "weak" };
-        let key = key_text(alloc, &target.key)?;
-        let comma = if text.is_empty() { "" } else { ", " };
-        text = format!(in alloc; "{text}{comma}{how} {key}")?;
+        let how = if target.is_strong { "strong " } else { "weak " };
+        put_key(alloc, &mut text, how, &target.key)?;
     }
     Ok(text)
 }
@@ -106,24 +124,38 @@ fn targets_text(alloc: Global, targets: &[Target]) -> Result<String, Fail> {
 fn keys_text(alloc: Global, keys: &KeySet) -> Result<String, Fail> {
     let mut text = String::new(alloc);
     for key in keys.iter() {
-        let key = key_text(alloc, key)?;
-        let comma = if text.is_empty() { "" } else { ", " };
-        text = format!(in alloc; "{text}{comma}{key}")?;
+        put_key(alloc, &mut text, "", key)?;
     }
     Ok(text)
 }
 
 /// Those that refer to the row of a key.
-fn holders_text(alloc: Global, holders: &Holders, text: &str) -> Result<String, Fail> {
-    let key = key_of(alloc, text)?;
-    match holders.of(&key) {
+fn holders_of(alloc: Global, holders: &Holders, key: &RowKey) -> Result<String, Fail> {
+    match holders.of(key) {
         Some(keys) => keys_text(alloc, keys),
         None => Ok(String::new(alloc)),
     }
 }
 
+/// The same of the text of a key.
+fn holders_text(alloc: Global, holders: &Holders, text: &str) -> Result<String, Fail> {
+    let key = key_of(alloc, text)?;
+    holders_of(alloc, holders, &key)
+}
+
+/// What columns of a row of a table refer to.
+fn targets_of_columns(
+    alloc: Global,
+    schema: &Schema,
+    table: &str,
+    columns: &Columns,
+) -> Result<String, Fail> {
+    let targets = targets_of(alloc, schema, table, columns)?;
+    targets_text(alloc, targets.as_slice())
+}
+
 /// What a row of a table would refer to.
-fn told_targets(
+fn targets_of_row(
     alloc: Global,
     schema: &Schema,
     names: &NamedRows<'_>,
@@ -131,46 +163,55 @@ fn told_targets(
 ) -> Result<String, Fail> {
     let (table, row) = text.split_once(" ").ok_or("no row")?;
     let columns = columns_of(alloc, schema, names, table, row)?;
-    let targets = targets_of(alloc, schema, table, &columns)?;
-    targets_text(alloc, targets.as_slice())
+    targets_of_columns(alloc, schema, table, &columns)
 }
 
-/// The key and the columns of a row that is to be put.
-fn row_of(
-    alloc: Global,
-    schema: &Schema,
-    names: &NamedRows<'_>,
-    text: &str,
-) -> Result<(RowKey, Columns), Fail> {
-    let (table, rest) = text.split_once(" ").ok_or("no row")?;
-    let (id, row) = rest.split_once(" ").ok_or("no values")?;
-    let key = RowKey::new(alloc, table, number(id)?)?;
-    Ok((key, columns_of(alloc, schema, names, table, row)?))
+impl Referring {
+    fn targets(&self, alloc: Global, text: &str) -> Result<String, Fail> {
+        let names = NamedRows::new(alloc, self.ids.as_slice(), &self.operations)?;
+        targets_of_row(alloc, &self.schema, &names, text)
+    }
+
+    fn strong(&self, alloc: Global, text: &str) -> Result<String, Fail> {
+        let links = Links::of(alloc, &self.schema, &self.rows)?;
+        holders_text(alloc, links.strong(), text)
+    }
+
+    fn weak(&self, alloc: Global, text: &str) -> Result<String, Fail> {
+        let links = Links::of(alloc, &self.schema, &self.rows)?;
+        holders_text(alloc, links.weak(), text)
+    }
+
+    /// The columns of a row that is to be put.
+    fn columns(&self, alloc: Global, table: &str, row: &str) -> Result<Columns, Fail> {
+        let names = NamedRows::new(alloc, self.ids.as_slice(), &self.operations)?;
+        columns_of(alloc, &self.schema, &names, table, row)
+    }
+
+    /// Puts a row with these columns.
+    fn put_columns(&mut self, alloc: Global, key: &RowKey, columns: Columns) -> Result<(), Fail> {
+        let version = Uuid::from_u128(9);
+        Ok(self.rows.insert(alloc, key, Row { version, columns })?)
+    }
+
+    fn put(&mut self, alloc: Global, text: &str) -> Result<String, Fail> {
+        let (table, rest) = text.split_once(" ").ok_or("no row")?;
+        let (id, row) = rest.split_once(" ").ok_or("no values")?;
+        let columns = self.columns(alloc, table, row)?;
+        let key = RowKey::new(alloc, table, number(id)?)?;
+        self.put_columns(alloc, &key, columns)?;
+        Ok(String::new(alloc))
+    }
 }
 
 impl Scripted for Referring {
     fn answer(&mut self, alloc: Global, command: &str) -> Result<String, Fail> {
         let (word, text) = command.split_once(" ").ok_or("no text")?;
         match word {
-            "targets" => {
-                let names = NamedRows::new(alloc, self.ids.as_slice(), &self.operations)?;
-                told_targets(alloc, &self.schema, &names, text)
-            }
-            "strong" => {
-                let links = Links::of(alloc, &self.schema, &self.rows)?;
-                holders_text(alloc, links.strong(), text)
-            }
-            "weak" => {
-                let links = Links::of(alloc, &self.schema, &self.rows)?;
-                holders_text(alloc, links.weak(), text)
-            }
-            "put" => {
-                let names = NamedRows::new(alloc, self.ids.as_slice(), &self.operations)?;
-                let (key, columns) = row_of(alloc, &self.schema, &names, text)?;
-                let version = Uuid::from_u128(9);
-                self.rows.insert(alloc, &key, Row { version, columns })?;
-                Ok(String::new(alloc))
-            }
+            "targets" => self.targets(alloc, text),
+            "strong" => self.strong(alloc, text),
+            "weak" => self.weak(alloc, text),
+            "put" => self.put(alloc, text),
             _ => Err(Fail::new("no such command")),
         }
     }
@@ -200,33 +241,124 @@ fn who_refers_to_a_row_is_listed_once(rt: HostRuntime) -> Result<(), Fail> {
     refers(rt.alloc(), HOLDERS)
 }
 
+/// Two rows that refer to the first, of which one is taken out.
+const TAKEN_OUT: &str = "empty -> true
+add T 1, T 2
+add T 1, S 3
+of T 1 -> S 3, T 2
+remove T 1, S 3
+remove T 2, S 3
+of T 1 -> T 2";
+
+/// Who refers to which rows, behind a script.
+///
+/// The commands are `empty`, `add KEY, HOLDER`, `remove KEY, HOLDER` and `of KEY`.
+#[derive(Drop)]
+struct Holding {
+    holders: Holders,
+}
+
+/// The keys of two texts with a comma between.
+fn keys_of(alloc: Global, text: &str) -> Result<(RowKey, RowKey), Fail> {
+    let (to, from) = text.split_once(", ").ok_or("one key")?;
+    let to = key_of(alloc, to)?;
+    Ok((to, key_of(alloc, from)?))
+}
+
+impl Holding {
+    fn is_empty(&self, alloc: Global) -> Result<String, Fail> {
+        Ok(format!(in alloc; "{}", self.holders.map().is_empty())?)
+    }
+
+    fn add(&mut self, alloc: Global, text: &str) -> Result<String, Fail> {
+        let (to, from) = keys_of(alloc, text)?;
+        self.holders.add(alloc, to, from)?;
+        Ok(String::new(alloc))
+    }
+
+    fn remove(&mut self, alloc: Global, text: &str) -> Result<String, Fail> {
+        let (to, from) = keys_of(alloc, text)?;
+        self.holders.remove(&to, &from);
+        Ok(String::new(alloc))
+    }
+}
+
+impl Scripted for Holding {
+    fn answer(&mut self, alloc: Global, command: &str) -> Result<String, Fail> {
+        let (word, text) = command.split_once(" ").unwrap_or((command, ""));
+        match word {
+            "empty" => self.is_empty(alloc),
+            "add" => self.add(alloc, text),
+            "remove" => self.remove(alloc, text),
+            _ => holders_text(alloc, &self.holders, text),
+        }
+    }
+}
+
 #[test]
 fn a_holder_that_is_taken_out_is_none(rt: HostRuntime) -> Result<(), Fail> {
-    let alloc = rt.alloc();
-    let mut holders = Holders::new(alloc);
-    assert!(rt; holders.map().is_empty());
-    holders.add(alloc, key_of(alloc, "T 1")?, key_of(alloc, "T 2")?)?;
-    holders.add(alloc, key_of(alloc, "T 1")?, key_of(alloc, "S 3")?)?;
-    assert_eq!(rt; holders_text(alloc, &holders, "T 1")?.as_str(), "S 3, T 2");
-    holders.remove(&key_of(alloc, "T 1")?, &key_of(alloc, "S 3")?);
-    holders.remove(&key_of(alloc, "T 2")?, &key_of(alloc, "S 3")?);
-    assert_eq!(rt; holders_text(alloc, &holders, "T 1")?.as_str(), "T 2");
-    Ok(())
+    let holders = Holders::new(rt.alloc());
+    agrees(rt.alloc(), Holding { holders }, TAKEN_OUT)
+}
+
+/// Two keys that are put twice, of which one is taken out.
+const PUT_TWICE: &str = "empty -> true
+insert T 2
+insert T 2
+all -> T 2
+insert T 1
+insert T 2
+all -> T 1, T 2
+remove T 2
+empty -> false
+has T 1 -> true
+has T 2 -> false";
+
+/// A set of keys, behind a script.
+///
+/// The commands are `empty`, `insert KEY`, `remove KEY`, `has KEY` and `all`.
+#[derive(Drop)]
+struct Keys {
+    keys: KeySet,
+}
+
+impl Keys {
+    fn is_empty(&self, alloc: Global) -> Result<String, Fail> {
+        Ok(format!(in alloc; "{}", self.keys.is_empty())?)
+    }
+
+    fn insert(&mut self, alloc: Global, text: &str) -> Result<String, Fail> {
+        self.keys.insert(alloc, key_of(alloc, text)?)?;
+        Ok(String::new(alloc))
+    }
+
+    fn remove(&mut self, alloc: Global, text: &str) -> Result<String, Fail> {
+        let key = key_of(alloc, text)?;
+        self.keys.remove(&key);
+        Ok(String::new(alloc))
+    }
+
+    fn has(&self, alloc: Global, text: &str) -> Result<String, Fail> {
+        let key = key_of(alloc, text)?;
+        Ok(format!(in alloc; "{}", self.keys.contains(&key))?)
+    }
+}
+
+impl Scripted for Keys {
+    fn answer(&mut self, alloc: Global, command: &str) -> Result<String, Fail> {
+        let (word, text) = command.split_once(" ").unwrap_or((command, ""));
+        match word {
+            "empty" => self.is_empty(alloc),
+            "insert" => self.insert(alloc, text),
+            "remove" => self.remove(alloc, text),
+            "has" => self.has(alloc, text),
+            _ => keys_text(alloc, &self.keys),
+        }
+    }
 }
 
 #[test]
 fn a_set_of_keys_has_each_once(rt: HostRuntime) -> Result<(), Fail> {
-    let alloc = rt.alloc();
-    let mut keys = KeySet::new();
-    assert!(rt; keys.is_empty());
-    keys.insert(alloc, key_of(alloc, "T 2")?)?;
-    keys.insert(alloc, key_of(alloc, "T 2")?)?;
-    assert_eq!(rt; keys_text(alloc, &keys)?.as_str(), "T 2");
-    keys.insert(alloc, key_of(alloc, "T 1")?)?;
-    keys.insert(alloc, key_of(alloc, "T 2")?)?;
-    assert_eq!(rt; keys_text(alloc, &keys)?.as_str(), "T 1, T 2");
-    keys.remove(&key_of(alloc, "T 2")?);
-    assert!(rt; !keys.is_empty() && keys.contains(&key_of(alloc, "T 1")?));
-    assert!(rt; !keys.contains(&key_of(alloc, "T 2")?));
-    Ok(())
+    let keys = KeySet::new();
+    agrees(rt.alloc(), Keys { keys }, PUT_TWICE)
 }

@@ -3,7 +3,7 @@ use ov_schema_text::{SchemaFileFault, schema_from, schema_of};
 use std::alloc::Global;
 use std::io::ErrorKind;
 use std::test::Fail;
-use test_basics::{Scripted, SlowReader, agrees};
+use test_basics::{Scripted, SlowReader, agrees, is_text};
 
 /// A text, and the schema's own text, or why it is none.
 const TEXTS: &str = r#"{ "tables": {}, "name": "N" } -> {"name":"N","tables":{}}
@@ -15,12 +15,30 @@ const TEXTS: &str = r#"{ "tables": {}, "name": "N" } -> {"name":"N","tables":{}}
 {"name":"","tables":{},"more":1.0} -> the schema has reals, which are not supported
 {"name":"N","tables":{},"version":"1.0","more":1.5} -> the schema has reals, which are not supported"#;
 
+/// The text of a schema, in a string.
+fn schema_text(alloc: Global, schema: &Schema) -> Result<String, Fail> {
+    let text = text_of(alloc, schema)?;
+    Ok(String::from_str(alloc, text.as_str())?)
+}
+
 /// The text of an answer.
-fn told(alloc: Global, answer: Result<Schema, SchemaFileFault>) -> Result<String, Fail> {
+fn answer_text(alloc: Global, answer: &Result<Schema, SchemaFileFault>) -> Result<String, Fail> {
     match answer {
-        Ok(schema) => Ok(String::from_str(alloc, text_of(alloc, &schema)?.as_str())?),
+        Ok(schema) => schema_text(alloc, schema),
         Err(fault) => Ok(format!(in alloc; "{fault}")?),
     }
+}
+
+/// What a text is.
+fn answer_of(alloc: Global, text: &[u8]) -> Result<String, Fail> {
+    let answer = schema_of(alloc, text);
+    answer_text(alloc, &answer)
+}
+
+/// What a reader of a text gives.
+fn answer_from(alloc: Global, text: &[u8]) -> Result<String, Fail> {
+    let answer = schema_from(alloc, text);
+    answer_text(alloc, &answer)
 }
 
 /// What a text is, or what a reader of it gives.
@@ -31,15 +49,11 @@ struct Texts {
 
 impl Scripted for Texts {
     fn answer(&mut self, alloc: Global, command: &str) -> Result<String, Fail> {
-        let text = command.as_bytes();
-        told(
-            alloc,
-            if self.are_read {
-                schema_from(alloc, text)
-            } else {
-                schema_of(alloc, text)
-            },
-        )
+        if self.are_read {
+            answer_from(alloc, command.as_bytes())
+        } else {
+            answer_of(alloc, command.as_bytes())
+        }
     }
 }
 
@@ -49,37 +63,39 @@ fn a_text_is_a_schema_or_refused(rt: HostRuntime) -> Result<(), Fail> {
     agrees(rt.alloc(), Texts { are_read: true }, TEXTS)
 }
 
+/// Fails unless a text is no JSON.
+fn is_no_json(alloc: Global, text: &[u8]) -> Result<(), Fail> {
+    let answer = answer_of(alloc, text)?;
+    is_text(alloc, answer.as_str(), "the schema is no JSON")
+}
+
 #[test]
 fn a_text_is_utf8_without_a_mark(rt: HostRuntime) -> Result<(), Fail> {
-    for text in [
-        b"{\"name\":\"\xff\",\"tables\":{}}".as_slice(),
-        b"\xef\xbb\xbf{\"name\":\"N\",\"tables\":{}}",
-    ] {
-        let answer = told(rt.alloc(), schema_of(rt.alloc(), text))?;
-        assert_eq!(rt; answer.as_str(), "the schema is no JSON");
-    }
-    Ok(())
+    is_no_json(rt.alloc(), b"{\"name\":\"\xff\",\"tables\":{}}")?;
+    is_no_json(rt.alloc(), b"\xef\xbb\xbf{\"name\":\"N\",\"tables\":{}}")
 }
 
 /// The text of the answer where a reader fails behind its first byte.
-fn told_of_failure(alloc: Global, error: ErrorKind) -> Result<String, Fail> {
+fn answer_of_failure(alloc: Global, error: ErrorKind) -> Result<String, Fail> {
     let reader = SlowReader {
         rest: b"{",
         most: 1,
         calls: 1,
         error,
     };
-    told(alloc, schema_from(alloc, reader))
+    let answer = schema_from(alloc, reader);
+    answer_text(alloc, &answer)
+}
+
+/// Fails unless a read that fails by this error has this answer.
+fn fails_by(alloc: Global, error: ErrorKind, want: &str) -> Result<(), Fail> {
+    let answer = answer_of_failure(alloc, error)?;
+    is_text(alloc, answer.as_str(), want)
 }
 
 #[test]
 fn a_read_that_fails_gives_no_schema(rt: HostRuntime) -> Result<(), Fail> {
-    for (error, want) in [
-        (ErrorKind::Other, "the file of the schema can't be read"),
-        (ErrorKind::OutOfMemory, "out of memory"),
-    ] {
-        let answer = told_of_failure(rt.alloc(), error)?;
-        assert_eq!(rt; answer.as_str(), want);
-    }
-    Ok(())
+    let want = "the file of the schema can't be read";
+    fails_by(rt.alloc(), ErrorKind::Other, want)?;
+    fails_by(rt.alloc(), ErrorKind::OutOfMemory, "out of memory")
 }

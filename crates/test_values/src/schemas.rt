@@ -4,7 +4,7 @@ use ov_schema::{BaseType, Column, ColumnType, Reference, Schema, SchemaFault, Ta
 use ov_schema_text::schema_of_tree;
 use std::alloc::Global;
 use std::test::Fail;
-use test_basics::{Scripted, agrees, compact, schema_of_text, tree};
+use test_basics::{Scripted, agrees, compact, holds, is_text, schema_of_text, tree};
 
 /// A schema with each limit of tables and columns. It is the compact text of its tree.
 const LIMITED: &str =
@@ -56,12 +56,18 @@ const ANSWERS: &str = r#"{"name":"Net","tables":{},"own":null} -> accepted
 #[derive(Drop)]
 struct Answers;
 
+/// The text of an answer.
+fn answer_text(alloc: Global, answer: &Result<Schema, SchemaFault>) -> Result<String, Fail> {
+    match answer {
+        Ok(_) => Ok(String::from_str(alloc, "accepted")?),
+        Err(fault) => Ok(format!(in alloc; "{fault:?}")?),
+    }
+}
+
 impl Scripted for Answers {
     fn answer(&mut self, alloc: Global, command: &str) -> Result<String, Fail> {
-        match schema_of_tree(alloc, tree(alloc, command)?) {
-            Ok(_) => Ok(String::from_str(alloc, "accepted")?),
-            Err(fault) => Ok(format!(in alloc; "{fault:?}")?),
-        }
+        let answer = schema_of_tree(alloc, tree(alloc, command)?);
+        answer_text(alloc, &answer)
     }
 }
 
@@ -115,37 +121,53 @@ fn marks_of_columns(alloc: Global, table: &Table) -> Result<String, Fail> {
     Ok(marks)
 }
 
+/// What a table says of the word.
+fn facts_of_table(alloc: Global, table: &Table, word: &str) -> Result<String, Fail> {
+    match word {
+        "is_root" => Ok(format!(in alloc; "{}", table.is_root())?),
+        "max_rows" => Ok(format!(in alloc; "{:?}", table.max_rows())?),
+        "indexes" => text_of_indexes(alloc, table.indexes()),
+        "columns" => names_of_columns(alloc, table),
+        "marks" => marks_of_columns(alloc, table),
+        _ => Err(Fail::new("no command")),
+    }
+}
+
 /// A schema, and what it says.
 #[derive(Drop)]
-struct Told {
+struct SchemaFacts {
     schema: Schema,
 }
 
-impl Told {
-    fn table(&self, name: &str) -> Result<&Table, Fail> {
-        Ok(self.schema.table(name).ok_or("no table")?)
+impl SchemaFacts {
+    fn name(&self, alloc: Global) -> Result<String, Fail> {
+        Ok(String::from_str(alloc, self.schema.name().as_str())?)
     }
 
     fn version(&self, alloc: Global) -> Result<String, Fail> {
         let version = self.schema.version().ok_or("no version")?;
         Ok(String::from_str(alloc, version.as_str())?)
     }
+
+    fn has(&self, alloc: Global, name: &str) -> Result<String, Fail> {
+        Ok(format!(in alloc; "{}", self.schema.table(name).is_some())?)
+    }
+
+    fn table(&self, alloc: Global, word: &str, name: &str) -> Result<String, Fail> {
+        let table = self.schema.table(name).ok_or("no table")?;
+        facts_of_table(alloc, table, word)
+    }
 }
 
-impl Scripted for Told {
+impl Scripted for SchemaFacts {
     fn answer(&mut self, alloc: Global, command: &str) -> Result<String, Fail> {
         let (word, name) = command.split_once(" ").unwrap_or((command, ""));
         match word {
-            "name" => Ok(String::from_str(alloc, self.schema.name().as_str())?),
+            "name" => self.name(alloc),
             "version" => self.version(alloc),
             "tree" => compact(alloc, self.schema.tree()),
-            "has" => Ok(format!(in alloc; "{}", self.schema.table(name).is_some())?),
-            "is_root" => Ok(format!(in alloc; "{}", self.table(name)?.is_root())?),
-            "max_rows" => Ok(format!(in alloc; "{:?}", self.table(name)?.max_rows())?),
-            "indexes" => text_of_indexes(alloc, self.table(name)?.indexes()),
-            "columns" => names_of_columns(alloc, self.table(name)?),
-            "marks" => marks_of_columns(alloc, self.table(name)?),
-            _ => Err(Fail::new("no command")),
+            "has" => self.has(alloc, name),
+            _ => self.table(alloc, word, name),
         }
     }
 }
@@ -153,7 +175,7 @@ impl Scripted for Told {
 /// What the schema says is as in the script.
 fn are_told(alloc: Global, script: &str) -> Result<(), Fail> {
     let schema = schema_of_text(alloc, LIMITED)?;
-    agrees(alloc, Told { schema }, script)
+    agrees(alloc, SchemaFacts { schema }, script)
 }
 
 #[test]
@@ -173,14 +195,21 @@ fn a_table_tells_its_columns_in_order(rt: HostRuntime) -> Result<(), Fail> {
     are_told(rt.alloc(), COLUMNS)
 }
 
+/// Whether a column is the one of its name, where it is looked for at a place.
+fn is_found_near(table: &Table, name: &str, column: &Column, place: usize) -> Result<bool, Fail> {
+    let found = table.column_near(place, name).ok_or("no column")?;
+    Ok(
+        found.is_mutable() == column.is_mutable()
+            && found.is_ephemeral() == column.is_ephemeral()
+            && found.min() == column.min(),
+    )
+}
+
 /// Whether each column is the one of its name, whatever the place that it is looked for at.
-fn are_found_near(alloc: Global, table: &Table, places: &[usize]) -> Result<bool, Fail> {
+fn are_found_near(table: &Table, places: &[usize]) -> Result<bool, Fail> {
     for (name, column) in table.columns() {
         for place in places {
-            let found = table.column_near(*place, name.as_str()).ok_or("no column")?;
-            if (found.is_mutable(), found.is_ephemeral(), found.min())
-                != (column.is_mutable(), column.is_ephemeral(), column.min())
-            {
+            if !is_found_near(table, name.as_str(), column, *place)? {
                 return Ok(false);
             }
         }
@@ -188,15 +217,23 @@ fn are_found_near(alloc: Global, table: &Table, places: &[usize]) -> Result<bool
     Ok(true)
 }
 
-#[test]
-fn a_column_is_found_wherever_it_is_looked_for(rt: HostRuntime) -> Result<(), Fail> {
-    let alloc = rt.alloc();
-    let schema = schema_of_text(alloc, LIMITED)?;
+/// Fails unless each column of a schema is found wherever it is looked for, and no other is.
+fn are_columns_found(alloc: Global, schema: &Schema) -> Result<(), Fail> {
     let table = schema.table("Switch").ok_or("no table")?;
     let places = [0, 1, 2, 3, 9, usize::MAX - 1, usize::MAX];
-    assert!(rt; are_found_near(alloc, table, &places)?);
-    assert!(rt; table.column_near(0, "no such column").is_none());
-    Ok(())
+    holds(
+        alloc,
+        are_found_near(table, &places)?,
+        "each column is found",
+    )?;
+    let other = table.column_near(0, "no such column");
+    holds(alloc, other.is_none(), "no other column is found")
+}
+
+#[test]
+fn a_column_is_found_wherever_it_is_looked_for(rt: HostRuntime) -> Result<(), Fail> {
+    let schema = schema_of_text(rt.alloc(), LIMITED)?;
+    are_columns_found(rt.alloc(), &schema)
 }
 
 /// A column of references to rows of `Port`, which keep them, of any number.
@@ -206,52 +243,73 @@ fn column_of_ports(alloc: Global) -> Result<Column, Fail> {
     Ok(Column::new(ColumnType::new(key, None, 0, None), true, false))
 }
 
+/// The table that a column refers to, whether it does so strongly, whether it is ephemeral, and mutable, and its least number.
+fn parts_of_column(alloc: Global, column: &Column) -> Result<String, Fail> {
+    let refers = column.key_refers().ok_or("no reference")?;
+    let is_ephemeral = column.is_ephemeral();
+    let is_mutable = column.is_mutable();
+    let min = column.min();
+    Ok(format!(in alloc;
+        "{} {} {is_ephemeral} {is_mutable} {min}",
+        refers.table(),
+        refers.is_strong()
+    )?)
+}
+
 #[test]
 fn a_column_is_made_of_its_parts(rt: HostRuntime) -> Result<(), Fail> {
     let column = column_of_ports(rt.alloc())?;
-    let refers = column.key_refers().ok_or("no reference")?;
-    assert_eq!(rt; refers.table(), "Port");
-    assert!(rt; refers.is_strong());
-    assert!(rt; column.is_ephemeral());
-    assert!(rt; !column.is_mutable());
-    assert_eq!(rt; column.min(), 0);
-    Ok(())
+    let parts = parts_of_column(rt.alloc(), &column)?;
+    is_text(rt.alloc(), parts.as_str(), "Port true true false 0")
+}
+
+/// What a table says that is made of its parts. Beside its own columns it has those of each row.
+const PARTS: &str = "columns -> _uuid,_version,ports,
+indexes -> ports;
+max_rows -> Some(3)
+is_root -> true";
+
+/// A table, and what it says.
+#[derive(Drop)]
+struct TableFacts {
+    table: Table,
+}
+
+impl Scripted for TableFacts {
+    fn answer(&mut self, alloc: Global, command: &str) -> Result<String, Fail> {
+        facts_of_table(alloc, &self.table, command)
+    }
+}
+
+/// That column, by its name.
+fn columns_of_ports(alloc: Global) -> Result<Vec<(String, Column)>, Fail> {
+    let mut columns = Vec::new(alloc);
+    columns.push((String::from_str(alloc, "ports")?, column_of_ports(alloc)?))?;
+    Ok(columns)
+}
+
+/// An index of that column.
+fn indexes_of_ports(alloc: Global) -> Result<Vec<Vec<Text>>, Fail> {
+    let index = vec![in alloc; Text::from_str(alloc, "ports")?]?;
+    Ok(vec![in alloc; index]?)
 }
 
 /// A table of one column and one index, with those limits.
 fn table_of_ports(alloc: Global) -> Result<Table, Fail> {
-    let mut columns = Vec::new(alloc);
-    columns.push((String::from_str(alloc, "ports")?, column_of_ports(alloc)?))?;
-    let mut index = Vec::new(alloc);
-    index.push(Text::from_str(alloc, "ports")?)?;
-    let mut indexes = Vec::new(alloc);
-    indexes.push(index)?;
+    let columns = columns_of_ports(alloc)?;
+    let indexes = indexes_of_ports(alloc)?;
     Ok(Table::new(alloc, columns, Some(3), true, indexes)?)
 }
 
-/// Beside its own columns it has those of each row.
 #[test]
 fn a_table_is_made_of_its_parts(rt: HostRuntime) -> Result<(), Fail> {
     let table = table_of_ports(rt.alloc())?;
-    assert_eq!(rt;
-        names_of_columns(rt.alloc(), &table)?.as_str(),
-        "_uuid,_version,ports,"
-    );
-    assert_eq!(rt;
-        text_of_indexes(rt.alloc(), table.indexes())?.as_str(),
-        "ports;"
-    );
-    assert_eq!(rt; table.max_rows(), Some(3));
-    assert!(rt; table.is_root());
-    Ok(())
+    agrees(rt.alloc(), TableFacts { table }, PARTS)
 }
 
 #[test]
 fn a_fault_is_told_in_words(rt: HostRuntime) -> Result<(), Fail> {
-    let told = format!(in rt.alloc(); "{}", SchemaFault::UnknownRefTable)?;
-    assert_eq!(rt;
-        told.as_str(),
-        "a column refers to a table that the schema does not have"
-    );
-    Ok(())
+    let found = format!(in rt.alloc(); "{}", SchemaFault::UnknownRefTable)?;
+    let want = "a column refers to a table that the schema does not have";
+    is_text(rt.alloc(), found.as_str(), want)
 }

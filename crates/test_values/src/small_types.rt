@@ -3,7 +3,7 @@ use ov_rows::RowId;
 use serde_json::Value;
 use std::alloc::Global;
 use std::test::Fail;
-use test_basics::{Scripted, agrees, compact, tree, trees};
+use test_basics::{Scripted, agrees, compact, holds, is_text, tree, trees};
 use uuid::Uuid;
 
 /// A real is a number that no integer of 64 bits is.
@@ -42,16 +42,53 @@ fn a_real_is_a_number_that_no_64_bit_integer_is(rt: HostRuntime) -> Result<(), F
     agrees(rt.alloc(), Reals, REALS)
 }
 
+const BYTES: &[u8] = b"\x00ab\xff";
+
+/// Fails unless bytes are those four.
+fn are_bytes(alloc: Global, bytes: &[u8]) -> Result<(), Fail> {
+    let found = format!(in alloc; "{bytes:?}")?;
+    is_text(alloc, found.as_str(), "[0, 97, 98, 255]")
+}
+
+/// The bytes of a vector that is moved in and out again.
+fn moved(bytes: Bytes) -> Vec<u8> {
+    Bytes::from_vec(bytes.into_vec()).into_vec()
+}
+
+fn are_bytes_kept(alloc: Global) -> Result<(), Fail> {
+    let bytes = Bytes::from_slice(alloc, BYTES)?;
+    are_bytes(alloc, bytes.as_slice())
+}
+
+fn are_bytes_moved(alloc: Global) -> Result<(), Fail> {
+    let bytes = moved(Bytes::from_slice(alloc, BYTES)?);
+    are_bytes(alloc, &bytes)
+}
+
 #[test]
 fn bytes_give_back_what_they_were_made_of(rt: HostRuntime) -> Result<(), Fail> {
-    let bytes = Bytes::from_slice(rt.alloc(), b"\x00ab\xff")?;
-    assert_eq!(rt; bytes.as_slice(), b"\x00ab\xff".as_slice());
-    assert_eq!(rt;
-        Bytes::from_vec(bytes.into_vec()).into_vec().as_slice(),
-        b"\x00ab\xff".as_slice()
-    );
-    Ok(())
+    are_bytes_kept(rt.alloc())?;
+    are_bytes_moved(rt.alloc())
 }
+
+/// Sixteen bytes lie in the text itself, and seventeen do not.
+const TEXTS: &str = "kept -> true
+kept éa -> true
+kept sixteen letters. -> true
+kept seventeen letters -> true
+kept seventeen letters, and then some that are more -> true";
+
+/// A tree is printed and copied with its members in order.
+const TREE: &str = r#"printed {"b": [1, "x"], "a": null} -> {"a":null,"b":[1,"x"]}
+object {"b": [1, "x"], "a": null} -> true"#;
+
+const TREE_COPY: &str = r#"copied {"b": [1, "x"], "a": null} -> {"a":null,"b":[1,"x"]}"#;
+
+const TREES: &str = r#"count [true,{"c":-5}] -> 2
+joined [true,{"c":-5}] -> [true,{"c":-5}]
+copied_as_tree [true,{"c":-5}] -> [true,{"c":-5}]"#;
+
+const SLICE_COPY: &str = r#"copied_from_slice [true,{"c":-5}] -> [true,{"c":-5}]"#;
 
 /// Whether a text is the same, copied and not copied.
 fn is_kept(alloc: Global, text: &str) -> Result<bool, Fail> {
@@ -60,22 +97,23 @@ fn is_kept(alloc: Global, text: &str) -> Result<bool, Fail> {
     Ok(copied.as_str() == text && moved.as_str() == text)
 }
 
-/// Sixteen bytes lie in the text itself, and seventeen do not.
-#[test]
-fn texts_give_back_what_they_were_made_of(rt: HostRuntime) -> Result<(), Fail> {
-    assert!(rt; is_kept(rt.alloc(), "")?);
-    assert!(rt; is_kept(rt.alloc(), "\u{e9}a")?);
-    assert!(rt; is_kept(rt.alloc(), "sixteen letters.")?);
-    assert!(rt; is_kept(rt.alloc(), "seventeen letters")?);
-    assert!(rt; is_kept(rt.alloc(), "seventeen letters, and then some that are more")?);
-    Ok(())
+/// The same, as a text.
+fn kept(alloc: Global, text: &str) -> Result<String, Fail> {
+    let is_kept = is_kept(alloc, text)?;
+    Ok(format!(in alloc; "{is_kept}")?)
 }
 
-const OBJECT: &str = r#"{"b": [1, "x"], "a": null}"#;
+/// A tree, as it is printed.
+fn printed(alloc: Global, text: &str) -> Result<String, Fail> {
+    let tree = tree(alloc, text)?;
+    compact(alloc, &tree)
+}
 
-const PRINTED: &str = r#"{"a":null,"b":[1,"x"]}"#;
-
-const ARRAY: &str = r#"[true,{"c":-5}]"#;
+/// Whether a tree is an object.
+fn object(alloc: Global, text: &str) -> Result<String, Fail> {
+    let is_object = tree(alloc, text)?.into_value().is_object();
+    Ok(format!(in alloc; "{is_object}")?)
+}
 
 /// The copy of a tree, as it is printed.
 fn copied(alloc: Global, text: &str) -> Result<String, Fail> {
@@ -83,18 +121,10 @@ fn copied(alloc: Global, text: &str) -> Result<String, Fail> {
     compact(alloc, &copy)
 }
 
-#[test]
-fn a_tree_is_printed_whole(rt: HostRuntime) -> Result<(), Fail> {
-    let tree = tree(rt.alloc(), OBJECT)?;
-    assert_eq!(rt; compact(rt.alloc(), &tree)?.as_str(), PRINTED);
-    assert!(rt; tree.into_value().is_object());
-    Ok(())
-}
-
-#[test]
-fn a_tree_is_copied_whole(rt: HostRuntime) -> Result<(), Fail> {
-    assert_eq!(rt; copied(rt.alloc(), OBJECT)?.as_str(), PRINTED);
-    Ok(())
+/// How many trees there are.
+fn count(alloc: Global, text: &str) -> Result<String, Fail> {
+    let count = trees(alloc, text)?.as_slice().len();
+    Ok(format!(in alloc; "{count}")?)
 }
 
 /// Trees as one tree, as it is printed.
@@ -115,27 +145,63 @@ fn copied_from_slice(alloc: Global, text: &str) -> Result<String, Fail> {
     compact(alloc, &copy.into_tree())
 }
 
+/// The commands are a word for what is made of a text, and the text.
+#[derive(Drop)]
+struct Made;
+
+impl Scripted for Made {
+    fn answer(&mut self, alloc: Global, command: &str) -> Result<String, Fail> {
+        let (word, text) = command.split_once(" ").unwrap_or((command, ""));
+        match word {
+            "kept" => kept(alloc, text),
+            "printed" => printed(alloc, text),
+            "object" => object(alloc, text),
+            "copied" => copied(alloc, text),
+            "count" => count(alloc, text),
+            "joined" => joined(alloc, text),
+            "copied_as_tree" => copied_as_tree(alloc, text),
+            _ => copied_from_slice(alloc, text),
+        }
+    }
+}
+
+#[test]
+fn texts_give_back_what_they_were_made_of(rt: HostRuntime) -> Result<(), Fail> {
+    agrees(rt.alloc(), Made, TEXTS)
+}
+
+#[test]
+fn a_tree_is_printed_whole(rt: HostRuntime) -> Result<(), Fail> {
+    agrees(rt.alloc(), Made, TREE)
+}
+
+#[test]
+fn a_tree_is_copied_whole(rt: HostRuntime) -> Result<(), Fail> {
+    agrees(rt.alloc(), Made, TREE_COPY)
+}
+
 #[test]
 fn trees_are_copied_and_printed_whole(rt: HostRuntime) -> Result<(), Fail> {
-    let alloc = rt.alloc();
-    assert_eq!(rt; trees(alloc, ARRAY)?.as_slice().len(), 2);
-    assert_eq!(rt; joined(alloc, ARRAY)?.as_str(), ARRAY);
-    assert_eq!(rt; copied_as_tree(alloc, ARRAY)?.as_str(), ARRAY);
-    Ok(())
+    agrees(rt.alloc(), Made, TREES)
 }
 
 #[test]
 fn trees_are_copied_from_a_slice(rt: HostRuntime) -> Result<(), Fail> {
-    assert_eq!(rt; copied_from_slice(rt.alloc(), ARRAY)?.as_str(), ARRAY);
-    Ok(())
+    agrees(rt.alloc(), Made, SLICE_COPY)
+}
+
+/// The bytes that a trace takes which has some.
+fn size_of_trace() -> usize {
+    let mut trace = ByteTrace::new();
+    trace.add(b"ab");
+    trace.add(b"");
+    size_of::<ByteTrace>()
 }
 
 #[test]
-fn a_tape_takes_no_room(rt: HostRuntime) {
-    let mut told = ByteTrace::new();
-    told.add(b"ab");
-    told.add(b"");
-    assert_eq!(rt; size_of::<ByteTrace>(), 0);
+fn a_tape_takes_no_room(rt: HostRuntime) -> Result<(), Fail> {
+    let size = format!(in rt.alloc(); "{}", size_of_trace())?;
+    is_text(rt.alloc(), size.as_str(), "0")
 }
 
 #[test]
@@ -143,7 +209,8 @@ fn identifiers_stand_in_the_order_of_their_bytes(rt: HostRuntime) -> Result<(), 
     let first = RowId::new(Uuid::from_u128(0xff));
     let second = RowId::new(Uuid::from_u128(0x100));
     let third = RowId::new(Uuid::from_u128(1 << 120));
-    assert!(rt; first < second && second < third && third == third);
-    assert_eq!(rt; *third.as_uuid(), Uuid::from_u128(1 << 120));
-    Ok(())
+    let are_in_order = first < second && second < third && third == third;
+    holds(rt.alloc(), are_in_order, "the three stand in order")?;
+    let is_given_back = *third.as_uuid() == Uuid::from_u128(1 << 120);
+    holds(rt.alloc(), is_given_back, "the third is given back")
 }
