@@ -5,7 +5,7 @@ use sqlite_disk::{Fuse, Memory};
 use sqlite_trees::store::Reopen;
 use std::alloc::Global;
 use std::test::Fail;
-use test_basics::{Keeping, NET, Scripted};
+use test_basics::{Keeping, NET, Scripted, is_text};
 
 /// Two commits of several changes each.
 const SCRIPT: &str = "put Switch 1 0 one
@@ -28,12 +28,29 @@ made 1:Port 1 1 port;Switch 2 1 two again;
 made 2:Port 1 1 port;Switch 2 1 two again;";
 
 /// Which lines a store has that was not made.
-fn lines_of_refused<S: Alter + Drop>(alloc: Global, store: Store<S>) -> Result<&'static str, Fail> {
-    let mut store = store;
+fn lines_of_refused<S: Alter + Drop>(
+    alloc: Global,
+    store: &mut Store<S>,
+) -> Result<&'static str, Fail> {
     if store.load_all(alloc)?.is_empty() {
         Ok("refused: a store")
     } else {
         Ok("refused: lines")
+    }
+}
+
+/// The same of a store that is not used again.
+fn found_in_refused<S: Alter + Drop>(alloc: Global, store: Store<S>) -> Result<&'static str, Fail> {
+    let mut store = store;
+    lines_of_refused(alloc, &mut store)
+}
+
+/// What a database has that is no store.
+fn found_beside<S: Alter + Drop>(connection: &Connection<S>) -> &'static str {
+    if connection.schema().tables.is_empty() {
+        "refused: nothing"
+    } else {
+        "refused: a part"
     }
 }
 
@@ -42,14 +59,9 @@ fn found_again<S: Alter + Drop>(alloc: Global, again: Connection<S>) -> Result<&
     if !again.is_autocommit() {
         return Err(Fail::new("in a transaction"));
     }
-    let refused = match Store::open(alloc, again) {
-        Ok(store) => return lines_of_refused(alloc, store),
-        Err(refused) => refused,
-    };
-    if refused.connection.schema().tables.is_empty() {
-        Ok("refused: nothing")
-    } else {
-        Ok("refused: a part")
+    match Store::open(alloc, again) {
+        Ok(store) => found_in_refused(alloc, store),
+        Err(refused) => Ok(found_beside(&refused.connection)),
     }
 }
 
@@ -68,6 +80,15 @@ fn found_of_refused<S: Alter + Reopen + Drop>(
     }
 }
 
+/// The same, as a text.
+fn text_of_refused<S: Alter + Reopen + Drop>(
+    alloc: Global,
+    connection: Connection<S>,
+) -> Result<String, Fail> {
+    let found = found_of_refused(alloc, connection)?;
+    Ok(String::from_str(alloc, found)?)
+}
+
 /// How many commits of the script are made, up to the first that is not.
 fn made<S: Scripted>(alloc: Global, keeping: &mut S) -> Result<u64, Fail> {
     let mut made: u64 = 0;
@@ -83,47 +104,59 @@ fn made<S: Scripted>(alloc: Global, keeping: &mut S) -> Result<u64, Fail> {
 }
 
 /// What is found after that many commits.
-fn told<S: Alter + Drop>(alloc: Global, made: u64, again: Store<S>) -> Result<String, Fail> {
+fn found_in_store<S: Alter + Drop>(
+    alloc: Global,
+    made: u64,
+    again: Store<S>,
+) -> Result<String, Fail> {
     let lines = Keeping::new(alloc, again).answer(alloc, "lines")?;
     Ok(format!(in alloc; "made {made}:{lines}")?)
+}
+
+/// What is found after that many commits and a crash.
+fn found_after<S: Alter + Reopen + Drop>(
+    alloc: Global,
+    made: u64,
+    store: Store<S>,
+) -> Result<String, Fail> {
+    match reopen_after_crash(alloc, store) {
+        Ok(Ok(again)) => found_in_store(alloc, made, again),
+        Ok(Err(_)) => Ok(String::from_str(alloc, "opened again, and no store")?),
+        Err(_) => Ok(String::from_str(alloc, "not opened again")?),
+    }
 }
 
 /// What is found after a crash behind the script.
 fn found_of_made<S: Alter + Reopen + Drop>(alloc: Global, store: Store<S>) -> Result<String, Fail> {
     let mut keeping = Keeping::new(alloc, store);
     let made = made(alloc, &mut keeping)?;
-    match reopen_after_crash(alloc, keeping.into_keeper()) {
-        Ok(Ok(again)) => told(alloc, made, again),
-        Ok(Err(_)) => Ok(String::from_str(alloc, "opened again, and no store")?),
-        Err(_) => Ok(String::from_str(alloc, "not opened again")?),
-    }
+    found_after(alloc, made, keeping.into_keeper())
 }
 
 /// Makes a store, runs the script until a commit fails, and tells what is found after a crash.
 fn found<S: Alter + Reopen + Drop>(
     alloc: Global,
     connection: Connection<S>,
+    schema: Text,
 ) -> Result<String, Fail> {
     if !connection.is_autocommit() {
         return Err(Fail::new("in a transaction"));
     }
-    match Store::create(connection, Text::from_str(alloc, NET)?) {
+    match Store::create(connection, schema) {
         Ok(store) => found_of_made(alloc, store),
-        Err(refused) => {
-            let told = found_of_refused(alloc, refused.connection)?;
-            Ok(String::from_str(alloc, told)?)
-        }
+        Err(refused) => text_of_refused(alloc, refused.connection),
     }
 }
 
 /// The same over two files in memory, each of which fails after so many calls.
 fn found_over_fuses(alloc: Global, log_calls: u64, file_calls: u64) -> Result<String, Fail> {
+    let schema = Text::from_str(alloc, NET)?;
     let files = Files {
         log: Fuse::new(Memory::new(alloc), log_calls),
         db: Fuse::new(Memory::new(alloc), file_calls),
     };
     match Connection::open_files(alloc, files, Options::new(3)) {
-        Ok(connection) => found(alloc, connection),
+        Ok(connection) => found(alloc, connection, schema),
         Err(_) => Ok(String::from_str(alloc, "no database")?),
     }
 }
@@ -138,20 +171,30 @@ fn is_allowed(found: &str) -> bool {
     false
 }
 
-/// The first thing that is found and not allowed, where the log fails after each number of calls in turn, or the file does;
-/// otherwise what is found where neither fails.
-fn first_foreign(alloc: Global, is_log: bool) -> Result<String, Fail> {
-    for calls in 0..60u64 {
-        let answer = if is_log {
-            found_over_fuses(alloc, calls, u64::MAX)?
-        } else {
-            found_over_fuses(alloc, u64::MAX, calls)?
-        };
-        if !is_allowed(answer.as_str()) {
-            return Ok(format!(in alloc; "{calls} {answer}")?);
-        }
+/// What is found where the log fails after so many calls, or the file does.
+fn found_over_fuse(alloc: Global, is_log: bool, calls: u64) -> Result<String, Fail> {
+    if is_log {
+        found_over_fuses(alloc, calls, u64::MAX)
+    } else {
+        found_over_fuses(alloc, u64::MAX, calls)
     }
-    found_over_fuses(alloc, u64::MAX, u64::MAX)
+}
+
+/// Fails unless that is allowed.
+fn leaves_no_part(alloc: Global, is_log: bool, calls: u64) -> Result<(), Fail> {
+    let found = found_over_fuse(alloc, is_log, calls)?;
+    if is_allowed(found.as_str()) {
+        return Ok(());
+    }
+    Err(Fail::new(format!(in alloc; "{calls} {found}")?))
+}
+
+/// Fails unless what is found is allowed where the log fails after each number of calls in turn, or the file does.
+fn leave_no_part(alloc: Global, is_log: bool) -> Result<(), Fail> {
+    for calls in 0..60u64 {
+        leaves_no_part(alloc, is_log, calls)?;
+    }
+    Ok(())
 }
 
 /// What is found where nothing fails.
@@ -159,7 +202,8 @@ const WHOLE: &str = "made 2:Port 1 1 port;Switch 2 1 two again;";
 
 #[test]
 fn a_crash_leaves_no_part_of_a_commit(rt: HostRuntime) -> Result<(), Fail> {
-    assert_eq!(rt; first_foreign(rt.alloc(), true)?.as_str(), WHOLE);
-    assert_eq!(rt; first_foreign(rt.alloc(), false)?.as_str(), WHOLE);
-    Ok(())
+    leave_no_part(rt.alloc(), true)?;
+    leave_no_part(rt.alloc(), false)?;
+    let whole = found_over_fuses(rt.alloc(), u64::MAX, u64::MAX)?;
+    is_text(rt.alloc(), whole.as_str(), WHOLE)
 }

@@ -1,18 +1,42 @@
 use ov_store::MemoryDisk;
 use sqlite_disk::Disk;
+use std::alloc::Global;
 use std::test::Fail;
+use test_basics::is_text;
+
+/// Fails unless a disk has so many bytes.
+fn has_length(alloc: Global, disk: &mut MemoryDisk, want: &str) -> Result<(), Fail> {
+    let found = format!(in alloc; "{}", disk.len()?)?;
+    is_text(alloc, found.as_str(), want)
+}
+
+/// What a read of four bytes from the third on gives.
+fn read(alloc: Global, disk: &mut MemoryDisk) -> Result<String, Fail> {
+    let mut read = [0u8; 4];
+    match disk.read_at(2, &mut read) {
+        Ok(()) => Ok(format!(in alloc; "{read:?}")?),
+        Err(_) => Ok(String::from_str(alloc, "refused")?),
+    }
+}
+
+/// Fails unless that read gives this.
+fn reads(alloc: Global, disk: &mut MemoryDisk, want: &str) -> Result<(), Fail> {
+    let found = read(alloc, disk)?;
+    is_text(alloc, found.as_str(), want)
+}
+
+/// Fails unless an empty disk is written, read and cut.
+fn is_written(alloc: Global, disk: &mut MemoryDisk) -> Result<(), Fail> {
+    disk.write_at(3, b"abc")?;
+    disk.sync()?;
+    has_length(alloc, disk, "6")?;
+    reads(alloc, disk, "[0, 97, 98, 99]")?;
+    disk.set_len(4)?;
+    has_length(alloc, disk, "4")?;
+    reads(alloc, disk, "refused")
+}
 
 #[test]
 fn what_is_written_is_read(rt: HostRuntime) -> Result<(), Fail> {
-    let mut disk = MemoryDisk::new(rt.alloc());
-    disk.write_at(3, b"abc")?;
-    disk.sync()?;
-    assert_eq!(rt; disk.len()?, 6);
-    let mut read = [0u8; 4];
-    disk.read_at(2, &mut read)?;
-    assert_eq!(rt; read, *b"\0abc");
-    disk.set_len(4)?;
-    assert_eq!(rt; disk.len()?, 4);
-    assert!(rt; disk.read_at(2, &mut read).is_err());
-    Ok(())
+    is_written(rt.alloc(), &mut MemoryDisk::new(rt.alloc()))
 }

@@ -7,6 +7,7 @@ use ov_store::{close_in_file, store_in_file};
 use sqlite::{Connection, Unknown};
 use std::fs;
 use std::test::Fail;
+use test_basics::{holds, is_text};
 
 const FOLDER: &str = "test_storage_files";
 
@@ -39,18 +40,28 @@ fn refused(rt: &HostRuntime) -> Result<Option<KeepFault>, Fail> {
     }
 }
 
-/// Whether there is a log.
-fn has_log(rt: &HostRuntime) -> bool {
-    fs::metadata(rt, LOG).is_ok()
+/// Fails unless the file has no store, since it is not ours.
+fn is_not_ours(rt: &HostRuntime) -> Result<(), Fail> {
+    let found = format!(in rt.alloc(); "{:?}", refused(rt)?)?;
+    is_text(rt.alloc(), found.as_str(), "Some(NotOurs)")
+}
+
+/// Fails if there is a log.
+fn has_no_log(rt: &HostRuntime) -> Result<(), Fail> {
+    holds(
+        rt.alloc(),
+        fs::metadata(rt, LOG).is_err(),
+        "there is no log",
+    )
 }
 
 #[test]
 fn a_closed_file_has_all(rt: HostRuntime) -> Result<(), Fail> {
     clear(&rt)?;
     served(&rt, TWO_COMMITS)?;
-    assert!(rt; !has_log(&rt));
+    has_no_log(&rt)?;
     served(&rt, FOUND)?;
-    assert!(rt; !has_log(&rt));
+    has_no_log(&rt)?;
     let _ = fs::remove_dir_all(&rt, FOLDER);
     Ok(())
 }
@@ -74,18 +85,40 @@ fn turned(rt: &HostRuntime, at: usize, by: u8) -> Result<Vec<u8>, Fail> {
     Ok(bytes)
 }
 
+/// Whether the file has these bytes.
+fn has_bytes(rt: &HostRuntime, bytes: &[u8]) -> Result<bool, Fail> {
+    Ok(fs::read(rt, PATH)?.as_slice() == bytes)
+}
+
+/// Fails unless the file is refused and left with these bytes, and without a log.
+fn is_left(rt: &HostRuntime, bytes: &[u8]) -> Result<(), Fail> {
+    is_not_ours(rt)?;
+    holds(rt.alloc(), has_bytes(rt, bytes)?, "the file is as before")?;
+    has_no_log(rt)
+}
+
+/// The same where a byte of the file is turned.
+fn is_left_turned(rt: &HostRuntime, at: usize) -> Result<(), Fail> {
+    let bytes = turned(rt, at, 3)?;
+    is_left(rt, &bytes)
+}
+
 #[test]
 fn a_foreign_file_is_left_as_it_is(rt: HostRuntime) -> Result<(), Fail> {
     clear(&rt)?;
     make_foreign(&rt)?;
     // The two bytes that name the mode: with a log, and without.
-    for at in 18..20 {
-        let bytes = turned(&rt, at, 3)?;
-        assert!(rt; refused(&rt)? == Some(KeepFault::NotOurs));
-        assert!(rt; fs::read(&rt, PATH)? == bytes);
-        assert!(rt; !has_log(&rt));
-    }
+    is_left_turned(&rt, 18)?;
+    is_left_turned(&rt, 19)?;
     let _ = fs::remove_dir_all(&rt, FOLDER);
+    Ok(())
+}
+
+/// Fails unless the file is refused where a bit of a byte is turned, which is turned back then.
+fn is_found_turned(rt: &HostRuntime, at: usize) -> Result<(), Fail> {
+    turned(rt, at, 1)?;
+    is_not_ours(rt)?;
+    turned(rt, at, 1)?;
     Ok(())
 }
 
@@ -93,11 +126,9 @@ fn a_foreign_file_is_left_as_it_is(rt: HostRuntime) -> Result<(), Fail> {
 fn a_turned_bit_is_found(rt: HostRuntime) -> Result<(), Fail> {
     clear(&rt)?;
     served(&rt, TWO_COMMITS)?;
-    for at in [200usize, 5000, 9000] {
-        turned(&rt, at, 1)?;
-        assert!(rt; refused(&rt)? == Some(KeepFault::NotOurs));
-        turned(&rt, at, 1)?;
-    }
+    is_found_turned(&rt, 200)?;
+    is_found_turned(&rt, 5000)?;
+    is_found_turned(&rt, 9000)?;
     served(&rt, FOUND)?;
     let _ = fs::remove_dir_all(&rt, FOLDER);
     Ok(())

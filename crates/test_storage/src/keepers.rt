@@ -2,7 +2,7 @@ use ov_db::OpenFault;
 use ov_keeper::KeepFault;
 use std::alloc::Global;
 use std::test::Fail;
-use test_basics::{Faults, Keeping, NET, agrees, net_keeper};
+use test_basics::{Faults, Keeping, NET, agrees, is_text, net_keeper};
 
 /// Runs a script over a new keeper in memory of the schema Net, which fails as it is told.
 fn keeps(alloc: Global, faults: Faults, script: &str) -> Result<(), Fail> {
@@ -63,7 +63,6 @@ failures -> 1";
 
 #[test]
 fn a_fault_is_told_in_words(rt: HostRuntime) -> Result<(), Fail> {
-    let told = format!(in rt.alloc(); "{}", OpenFault::Keeping(KeepFault::Device))?;
-    assert_eq!(rt; told.as_str(), "the device failed");
-    Ok(())
+    let found = format!(in rt.alloc(); "{}", OpenFault::Keeping(KeepFault::Device))?;
+    is_text(rt.alloc(), found.as_str(), "the device failed")
 }

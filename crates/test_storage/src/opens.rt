@@ -3,7 +3,7 @@ use ov_keeper::{Line, ListKeeper};
 use ov_rows::{Row, Rows, TableRows};
 use std::alloc::Global;
 use std::test::Fail;
-use test_basics::{NET, Scripted, agrees, keeper_of, line_of, net, schema_of_text};
+use test_basics::{NET, Scripted, agrees, is_text, keeper_of, line_of, net, schema_of_text};
 use test_commits::put_line;
 use uuid::Uuid;
 
@@ -71,11 +71,23 @@ fn text_of_row(alloc: Global, table: &str, id: &Uuid, row: &Row) -> Result<Strin
     Ok(format!(in alloc; "{table} {id} {version} {body}")?)
 }
 
+/// Adds the text of a row, with the end of its line.
+fn push_row(
+    alloc: Global,
+    text: &mut String,
+    table: &str,
+    id: &Uuid,
+    row: &Row,
+) -> Result<(), Fail> {
+    let line = text_of_row(alloc, table, id, row)?;
+    text.push_str(line.as_str())?;
+    Ok(text.push_str("\n")?)
+}
+
 /// Adds the texts of a table's rows, each with the end of its line.
 fn push_rows(alloc: Global, text: &mut String, table: &str, rows: &TableRows) -> Result<(), Fail> {
     for (id, row) in rows.map() {
-        text.push_str(text_of_row(alloc, table, id.as_uuid(), row)?.as_str())?;
-        text.push_str("\n")?;
+        push_row(alloc, text, table, id.as_uuid(), row)?;
     }
     Ok(())
 }
@@ -103,10 +115,21 @@ fn opened(alloc: Global, stored: &str, lines: &str, schema: &str) -> Result<Stri
     rows_of(alloc, keeper_of(alloc, stored, lines)?, schema)
 }
 
+/// Fails unless that is this text.
+fn opens_as(
+    alloc: Global,
+    stored: &str,
+    lines: &str,
+    schema: &str,
+    want: &str,
+) -> Result<(), Fail> {
+    let found = opened(alloc, stored, lines, schema)?;
+    is_text(alloc, found.as_str(), want)
+}
+
 #[test]
 fn rows_are_opened_as_they_were_stored(rt: HostRuntime) -> Result<(), Fail> {
-    assert_eq!(rt; opened(rt.alloc(), NET, STORED, NET)?.as_str(), STORED);
-    Ok(())
+    opens_as(rt.alloc(), NET, STORED, NET, STORED)
 }
 
 /// The line of a switch that refers to the port 2.
@@ -117,15 +140,22 @@ const HOLDER: &str =
 #[derive(Drop)]
 struct Bodies;
 
+/// The first line of a text.
+fn first_line(alloc: Global, text: &str) -> Result<String, Fail> {
+    let (first, _) = text.split_once("\n").unwrap_or((text, ""));
+    Ok(String::from_str(alloc, first)?)
+}
+
+/// What the first of lines is opened as.
+fn first_opened(alloc: Global, lines: &str) -> Result<String, Fail> {
+    let text = opened(alloc, NET, lines, NET)?;
+    first_line(alloc, text.as_str())
+}
+
 impl Scripted for Bodies {
     fn answer(&mut self, alloc: Global, command: &str) -> Result<String, Fail> {
         let lines = format!(in alloc; "Port 2 1 {command}\n{HOLDER}")?;
-        let told = opened(alloc, NET, lines.as_str(), NET)?;
-        let (first, _) = told
-            .as_str()
-            .split_once("\n")
-            .unwrap_or((told.as_str(), ""));
-        Ok(String::from_str(alloc, first)?)
+        first_opened(alloc, lines.as_str())
     }
 }
 
@@ -138,16 +168,17 @@ fn bodies_that_are_no_row_are_refused(rt: HostRuntime) -> Result<(), Fail> {
 #[derive(Drop)]
 struct EveryBodies;
 
+/// Whether a line is opened as it is.
+fn is_kept(alloc: Global, line: &str) -> Result<bool, Fail> {
+    let text = opened(alloc, EVERY, line, EVERY)?;
+    Ok(text.as_str().trim_end() == line)
+}
+
 impl Scripted for EveryBodies {
     fn answer(&mut self, alloc: Global, command: &str) -> Result<String, Fail> {
         let line = format!(in alloc; "All 2 1 {command}")?;
-        let told = opened(alloc, EVERY, line.as_str(), EVERY)?;
-        let answer = if told.as_str().trim_end() == line.as_str() {
-            "kept"
-        } else {
-            "refused"
-        };
-        Ok(String::from_str(alloc, answer)?)
+        let is_kept = is_kept(alloc, line.as_str())?;
+        Ok(String::from_str(alloc, if is_kept { "kept" } else { "refused" })?)
     }
 }
 
@@ -160,28 +191,22 @@ fn values_of_every_kind_are_opened(rt: HostRuntime) -> Result<(), Fail> {
 fn a_line_of_another_table_is_refused(rt: HostRuntime) -> Result<(), Fail> {
     let lines = r#"Port 2 1 {"name":"p1","peer":["set",[]],"tag":7}
 ports 2 1 {}"#;
-    assert_eq!(rt;
-        opened(rt.alloc(), NET, lines, NET)?.as_str(),
-        "a stored row does not fit the schema"
-    );
-    Ok(())
+    let want = "a stored row does not fit the schema";
+    opens_as(rt.alloc(), NET, lines, NET, want)
 }
 
 /// The schema is looked at before the lines.
 #[test]
 fn another_schema_is_refused(rt: HostRuntime) -> Result<(), Fail> {
     let alloc = rt.alloc();
-    assert_eq!(rt;
-        opened(alloc, NET, "ports 2 1 {}", NET_0)?.as_str(),
-        "the stored schema is another one"
-    );
+    let want = "the stored schema is another one";
+    opens_as(alloc, NET, "ports 2 1 {}", NET_0, want)?;
     let spaced = format!(in alloc; "{NET} ")?;
-    assert_eq!(rt;
-        opened(alloc, spaced.as_str(), "", NET)?.as_str(),
-        "the stored schema is another one"
-    );
-    Ok(())
+    opens_as(alloc, spaced.as_str(), "", NET, want)
 }
+
+/// Why rows that a commit would refuse or change are not opened.
+const BREAKS: &str = "the stored rows break a constraint";
 
 /// Rows that a commit would refuse or change: two switches of one name; a port that no row refers to, or itself alone, or by a
 /// weak reference; and a strong and a weak reference to a row that is not there.
@@ -199,10 +224,7 @@ Switch 1 1 {"load":0,"main":["uuid","00000000-0000-0000-0000-000000000002"],"nam
 #[test]
 fn rows_that_a_commit_would_not_leave_are_refused(rt: HostRuntime) -> Result<(), Fail> {
     for lines in BROKEN {
-        assert_eq!(rt;
-            opened(rt.alloc(), NET, lines, NET)?.as_str(),
-            "the stored rows break a constraint"
-        );
+        opens_as(rt.alloc(), NET, lines, NET, BREAKS)?;
     }
     Ok(())
 }
@@ -215,8 +237,7 @@ Port 5 4 {"name":"p2","peer":["uuid","00000000-0000-0000-0000-000000000003"],"ta
 
 #[test]
 fn rows_that_support_each_other_are_opened(rt: HostRuntime) -> Result<(), Fail> {
-    assert_eq!(rt; opened(rt.alloc(), NET, PEERS, NET)?.as_str(), PEERS);
-    Ok(())
+    opens_as(rt.alloc(), NET, PEERS, NET, PEERS)
 }
 
 /// A table of one row at most.
@@ -226,13 +247,9 @@ const ONE: &str =
 #[test]
 fn a_table_with_too_many_rows_is_refused(rt: HostRuntime) -> Result<(), Fail> {
     let one = "T 1 1 {\"n\":7}\n";
-    assert_eq!(rt; opened(rt.alloc(), ONE, one, ONE)?.as_str(), one);
+    opens_as(rt.alloc(), ONE, one, ONE, one)?;
     let two = "T 1 1 {\"n\":7}\nT 2 1 {\"n\":8}";
-    assert_eq!(rt;
-        opened(rt.alloc(), ONE, two, ONE)?.as_str(),
-        "the stored rows break a constraint"
-    );
-    Ok(())
+    opens_as(rt.alloc(), ONE, two, ONE, BREAKS)
 }
 
 /// What the keeper holds after the row of a line was committed beside what is opened.
@@ -256,13 +273,13 @@ fn committed_rows_are_opened_again(rt: HostRuntime) -> Result<(), Fail> {
 Switch 6 1 {"load":0,"main":["set",[]],"name":"s1","ports":["uuid","00000000-0000-0000-0000-000000000003"]}"#;
     let switch =
         r#"Switch 2 1 {"load":0,"main":["uuid","00000000-0000-0000-0000-000000000003"],"name":"s2","ports":["set",[]]}"#;
-    let told = opened_again(rt.alloc(), lines, switch)?;
-    assert_eq!(rt;
-        told.as_str(),
+    let found = opened_again(rt.alloc(), lines, switch)?;
+    is_text(
+        rt.alloc(),
+        found.as_str(),
         r#"Port 3 1 {"name":"p1","peer":["set",[]],"tag":["set",[]]}
 Switch 2 1 {"load":0,"main":["uuid","00000000-0000-0000-0000-000000000003"],"name":"s2","ports":["set",[]]}
 Switch 6 1 {"load":0,"main":["set",[]],"name":"s1","ports":["uuid","00000000-0000-0000-0000-000000000003"]}
-"#
-    );
-    Ok(())
+"#,
+    )
 }

@@ -83,11 +83,28 @@ foreign line_view -> not a database of this program
 foreign line_index -> not a database of this program
 key -> not a database of this program";
 
+/// What is made of a database in which a store was made.
+const MADE_AGAIN: &str = " -> not a database of this program";
+
+/// Whether the other table has its row after a commit, where it was made after those of the store.
+const KEPT_BEHIND: &str = "meta line schema format foreign seven_there -> true";
+
+/// The same where it was made before them.
+const KEPT_BEFORE: &str = "foreign seven_there line meta format schema -> true";
+
+/// The same of a new store.
+const KEPT_BY_NEW: &str = "foreign seven_there view -> true";
+
 /// The schema's text that a store has, and how many lines.
-fn told<S: Alter + Drop>(alloc: Global, store: Store<S>) -> Result<String, Fail> {
-    let mut store = store;
+fn contents<S: Alter + Drop>(alloc: Global, store: &mut Store<S>) -> Result<String, Fail> {
     let lines = store.load_all(alloc)?.len();
     Ok(format!(in alloc; "{} {lines}", store.schema_text().as_str())?)
+}
+
+/// The same of a store that is not used again.
+fn text_of_store<S: Alter + Drop>(alloc: Global, store: Store<S>) -> Result<String, Fail> {
+    let mut store = store;
+    contents(alloc, &mut store)
 }
 
 /// Why there is no store.
@@ -95,47 +112,152 @@ fn refused(alloc: Global, fault: KeepFault) -> Result<String, Fail> {
     Ok(format!(in alloc; "{fault}")?)
 }
 
-/// How a store comes of a database.
+/// What an open gives of the database of a connection.
+fn text_of_opened<S: Alter + Drop>(
+    alloc: Global,
+    connection: Connection<S>,
+) -> Result<String, Fail> {
+    if !connection.is_autocommit() {
+        return Err(Fail::new("in a transaction"));
+    }
+    match Store::open(alloc, connection) {
+        Ok(store) => text_of_store(alloc, store),
+        Err(refusal) => refused(alloc, refusal.fault),
+    }
+}
+
+/// What is made or opened of it.
+fn text_of_made_or_opened<S: Alter + Drop>(
+    alloc: Global,
+    connection: Connection<S>,
+    schema: Text,
+) -> Result<String, Fail> {
+    if !connection.is_autocommit() {
+        return Err(Fail::new("in a transaction"));
+    }
+    match store_over(alloc, connection, schema) {
+        Ok(store) => text_of_store(alloc, store),
+        Err(refusal) => refused(alloc, refusal.fault),
+    }
+}
+
+/// What is made beside it.
+fn text_of_made<S: Alter + Drop>(
+    alloc: Global,
+    connection: Connection<S>,
+    schema: Text,
+) -> Result<String, Fail> {
+    if !connection.is_autocommit() {
+        return Err(Fail::new("in a transaction"));
+    }
+    match Store::create(connection, schema) {
+        Ok(store) => text_of_store(alloc, store),
+        Err(refusal) => refused(alloc, refusal.fault),
+    }
+}
+
+/// What is made beside a store that was made of it.
+fn text_of_made_again<S: Alter + Drop>(
+    alloc: Global,
+    connection: Connection<S>,
+    schema: Text,
+) -> Result<String, Fail> {
+    let store = created(alloc, connection)?;
+    text_of_made(alloc, store.close(), schema)
+}
+
+/// Whether the other table has its row.
+fn has_other_row<S: Alter + Drop>(connection: &mut Connection<S>) -> Result<bool, Fail> {
+    let rows = connection
+        .transaction()
+        .query_all("SELECT a FROM other", &[])?;
+    Ok(match rows.as_slice() {
+        [row] => matches!(row.get_ref(0), Ok(ValueRef::Int(7))),
+        _ => false,
+    })
+}
+
+/// The same, as it is told.
+fn text_of_other_row<S: Alter + Drop>(
+    alloc: Global,
+    connection: &mut Connection<S>,
+) -> Result<String, Fail> {
+    let has_row = has_other_row(connection)?;
+    Ok(format!(in alloc; "{has_row}")?)
+}
+
+/// Whether the other table has its row after a commit beside it.
+fn text_of_kept<S: Alter + Drop>(alloc: Global, store: Store<S>) -> Result<String, Fail> {
+    let script = "put Switch 1 0 one
+commit -> made
+lines -> Switch 1 0 one;";
+    let mut connection = kept(alloc, store, script)?.close();
+    text_of_other_row(alloc, &mut connection)
+}
+
+/// The same of a commit to the store of the database.
+fn text_of_kept_by_opened<S: Alter + Drop>(
+    alloc: Global,
+    connection: Connection<S>,
+) -> Result<String, Fail> {
+    text_of_kept(alloc, opened(alloc, connection)?)
+}
+
+/// The same of a commit to a new store.
+fn text_of_kept_by_new<S: Alter + Drop>(
+    alloc: Global,
+    connection: Connection<S>,
+) -> Result<String, Fail> {
+    text_of_kept(alloc, created(alloc, connection)?)
+}
+
+/// What is done with a database.
 #[derive(Clone, Copy)]
 enum Way {
     Open,
     MakeOrOpen,
     Make,
+    MakeAgain,
+    CommitToOpened,
+    CommitToNew,
 }
 
 /// What comes of the database of a connection.
-fn store_by<S: Alter + Drop>(
+fn text_by<S: Alter + Drop>(
     alloc: Global,
     connection: Connection<S>,
     way: Way,
+    schema: Text,
 ) -> Result<String, Fail> {
-    if !connection.is_autocommit() {
-        return Err(Fail::new("in a transaction"));
-    }
-    let schema = Text::from_str(alloc, "new")?;
-    let store = match way {
-        Way::Open => Store::open(alloc, connection),
-        Way::MakeOrOpen => store_over(alloc, connection, schema),
-        Way::Make => Store::create(connection, schema),
-    };
-    match store {
-        Ok(store) => told(alloc, store),
-        Err(refusal) => refused(alloc, refusal.fault),
+    match way {
+        Way::Open => text_of_opened(alloc, connection),
+        Way::MakeOrOpen => text_of_made_or_opened(alloc, connection, schema),
+        Way::Make => text_of_made(alloc, connection, schema),
+        Way::MakeAgain => text_of_made_again(alloc, connection, schema),
+        Way::CommitToOpened => text_of_kept_by_opened(alloc, connection),
+        Way::CommitToNew => text_of_kept_by_new(alloc, connection),
     }
 }
 
-/// The same after these statements.
+/// Runs the statements of these words.
+fn execute<S: Alter + Drop>(connection: &mut Connection<S>, words: &str) -> Result<(), Fail> {
+    for word in words.split_whitespace() {
+        connection.execute_batch(statement(word))?;
+    }
+    Ok(())
+}
+
+/// What comes of it after these statements.
 fn found<S: Alter + Drop>(
     alloc: Global,
     connection: Connection<S>,
     way: Way,
+    schema: Text,
     words: &str,
 ) -> Result<String, Fail> {
     let mut connection = connection;
-    for word in words.split_whitespace() {
-        connection.execute_batch(statement(word))?;
-    }
-    store_by(alloc, connection, way)
+    execute(&mut connection, words)?;
+    text_by(alloc, connection, way, schema)
 }
 
 /// The commands are the words of statements.
@@ -146,110 +268,48 @@ struct Databases {
 
 impl Scripted for Databases {
     fn answer(&mut self, alloc: Global, command: &str) -> Result<String, Fail> {
+        let schema = Text::from_str(alloc, "new")?;
         let connection = Connection::open_in_memory(alloc)?;
-        found(alloc, connection, self.way, command)
+        found(alloc, connection, self.way, schema, command)
     }
+}
+
+/// What comes of databases is as in the script.
+fn are_found(alloc: Global, way: Way, script: &str) -> Result<(), Fail> {
+    agrees(alloc, Databases { way }, script)
 }
 
 #[test]
 fn an_open_tells_what_is_no_store(rt: HostRuntime) -> Result<(), Fail> {
-    agrees(rt.alloc(), Databases { way: Way::Open }, OPENED)
+    are_found(rt.alloc(), Way::Open, OPENED)
 }
 
 #[test]
 fn a_database_is_new_or_ours_or_foreign(rt: HostRuntime) -> Result<(), Fail> {
-    agrees(
-        rt.alloc(),
-        Databases {
-            way: Way::MakeOrOpen,
-        },
-        MADE_OR_OPENED,
-    )
+    are_found(rt.alloc(), Way::MakeOrOpen, MADE_OR_OPENED)
 }
 
 #[test]
 fn tables_are_made_beside_others(rt: HostRuntime) -> Result<(), Fail> {
-    agrees(rt.alloc(), Databases { way: Way::Make }, MADE)
-}
-
-/// Why a second store is not made of a database.
-fn made_again<S: Alter + Drop>(alloc: Global, connection: Connection<S>) -> Result<String, Fail> {
-    let connection = created(alloc, connection)?.close();
-    if !connection.is_autocommit() {
-        return Err(Fail::new("in a transaction"));
-    }
-    match Store::create(connection, Text::from_str(alloc, "again")?) {
-        Ok(_) => Err(Fail::new("made again")),
-        Err(refusal) => refused(alloc, refusal.fault),
-    }
+    are_found(rt.alloc(), Way::Make, MADE)
 }
 
 #[test]
 fn tables_are_made_once(rt: HostRuntime) -> Result<(), Fail> {
-    let connection = Connection::open_in_memory(rt.alloc())?;
-    let told = made_again(rt.alloc(), connection)?;
-    assert_eq!(rt; told.as_str(), "not a database of this program");
-    Ok(())
-}
-
-/// The store of a connection after these statements, which is new where they make none.
-fn store_after<S: Alter + Drop>(
-    alloc: Global,
-    connection: Connection<S>,
-    words: &str,
-    is_new: bool,
-) -> Result<Store<S>, Fail> {
-    let mut connection = connection;
-    for word in words.split_whitespace() {
-        connection.execute_batch(statement(word))?;
-    }
-    if is_new {
-        return created(alloc, connection);
-    }
-    opened(alloc, connection)
-}
-
-/// Whether the other table of these statements has its row after a commit beside it.
-fn keeps_other_rows<S: Alter + Drop>(
-    alloc: Global,
-    connection: Connection<S>,
-    words: &str,
-    is_new: bool,
-) -> Result<bool, Fail> {
-    let store = store_after(alloc, connection, words, is_new)?;
-    let script = "put Switch 1 0 one
-commit -> made
-lines -> Switch 1 0 one;";
-    let mut connection = kept(alloc, store, script)?.close();
-    let rows = connection
-        .transaction()
-        .query_all("SELECT a FROM other", &[])?;
-    Ok(match rows.as_slice() {
-        [row] => matches!(row.get_ref(0), Ok(ValueRef::Int(7))),
-        _ => false,
-    })
+    are_found(rt.alloc(), Way::MakeAgain, MADE_AGAIN)
 }
 
 #[test]
 fn a_commit_keeps_the_tables_behind(rt: HostRuntime) -> Result<(), Fail> {
-    let connection = Connection::open_in_memory(rt.alloc())?;
-    let words = "meta line schema format foreign seven_there";
-    assert!(rt; keeps_other_rows(rt.alloc(), connection, words, false)?);
-    Ok(())
+    are_found(rt.alloc(), Way::CommitToOpened, KEPT_BEHIND)
 }
 
 #[test]
 fn a_commit_keeps_the_tables_before(rt: HostRuntime) -> Result<(), Fail> {
-    let connection = Connection::open_in_memory(rt.alloc())?;
-    let words = "foreign seven_there line meta format schema";
-    assert!(rt; keeps_other_rows(rt.alloc(), connection, words, false)?);
-    Ok(())
+    are_found(rt.alloc(), Way::CommitToOpened, KEPT_BEFORE)
 }
 
 #[test]
 fn a_new_store_keeps_the_tables_before(rt: HostRuntime) -> Result<(), Fail> {
-    let connection = Connection::open_in_memory(rt.alloc())?;
-    let words = "foreign seven_there view";
-    assert!(rt; keeps_other_rows(rt.alloc(), connection, words, true)?);
-    Ok(())
+    are_found(rt.alloc(), Way::CommitToNew, KEPT_BY_NEW)
 }

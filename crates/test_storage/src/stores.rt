@@ -95,6 +95,12 @@ fn kept_by_failing<S: Alter + Drop>(
     agrees(alloc, Keeping::new(alloc, keeper), script)
 }
 
+/// The same over a new database in memory.
+fn kept_in_memory(alloc: Global, faults: Faults, script: &str) -> Result<(), Fail> {
+    let connection = Connection::open_in_memory(alloc)?;
+    kept_by_failing(alloc, connection, faults, script)
+}
+
 #[test]
 fn a_device_that_fails_leaves_the_former_lines(rt: HostRuntime) -> Result<(), Fail> {
     let script = "put Switch 1 0 one
@@ -110,8 +116,7 @@ lines -> Switch 1 0 two;";
         good: 1,
         bad: 1,
     };
-    let connection = Connection::open_in_memory(rt.alloc())?;
-    kept_by_failing(rt.alloc(), connection, faults, script)
+    kept_in_memory(rt.alloc(), faults, script)
 }
 
 #[test]
@@ -127,6 +132,5 @@ lines -> Switch 1 0 one;";
         good: 9,
         bad: 1,
     };
-    let connection = Connection::open_in_memory(rt.alloc())?;
-    kept_by_failing(rt.alloc(), connection, faults, script)
+    kept_in_memory(rt.alloc(), faults, script)
 }

@@ -89,12 +89,22 @@ const IDENTIFIERS: &str =
 "550e8400-e29b-41d4-a716-446655440000" -> syntax
 ["named-uuid","a"] -> syntax"#;
 
-/// A value as it is written, as a tree and at once.
-fn text_of(alloc: Global, datum: &Datum) -> Result<String, Fail> {
-    let written = write_datum(alloc, datum)?.to_string(alloc)?;
+/// A value as it is written as a tree.
+fn text_of_tree(alloc: Global, datum: &Datum) -> Result<String, Fail> {
+    Ok(write_datum(alloc, datum)?.to_string(alloc)?)
+}
+
+/// A value as it is written at once.
+fn text_at_once(alloc: Global, datum: &Datum) -> Result<String, Fail> {
     let mut out = Writer::new(Vec::new(alloc));
     put_datum(&mut out, datum)?;
-    let put = String::from_utf8(out.into_inner())?;
+    Ok(String::from_utf8(out.into_inner())?)
+}
+
+/// A value as it is written both ways.
+fn text_of(alloc: Global, datum: &Datum) -> Result<String, Fail> {
+    let written = text_of_tree(alloc, datum)?;
+    let put = text_at_once(alloc, datum)?;
     if put.as_str() == written.as_str() {
         Ok(put)
     } else {
@@ -102,7 +112,30 @@ fn text_of(alloc: Global, datum: &Datum) -> Result<String, Fail> {
     }
 }
 
-/// What a text of these kinds reads as, copied and written again, or the word of its refusal.
+/// A copy of a value as it is written.
+fn text_of_copy(alloc: Global, datum: &Datum) -> Result<String, Fail> {
+    let copy = datum.copy(alloc)?;
+    text_of(alloc, &copy)
+}
+
+/// The word of a refusal.
+fn word_of(fault: AtomFault) -> &'static str {
+    match fault {
+        AtomFault::Syntax => "syntax",
+        AtomFault::Clash => "clash",
+        AtomFault::Memory => "memory",
+    }
+}
+
+/// What a tree of these kinds reads as, copied and written again, or the word of its refusal.
+fn rewritten(alloc: Global, kinds: Kinds, tree: &Value) -> Result<String, Fail> {
+    match read_datum(alloc, tree, kinds, &NoNames) {
+        Ok(datum) => text_of_copy(alloc, &datum),
+        Err(fault) => Ok(String::from_str(alloc, word_of(fault))?),
+    }
+}
+
+/// The commands are texts of these kinds.
 #[derive(Drop)]
 struct Rewritten {
     kinds: Kinds,
@@ -111,13 +144,7 @@ struct Rewritten {
 impl Scripted for Rewritten {
     fn answer(&mut self, alloc: Global, command: &str) -> Result<String, Fail> {
         let tree = Value::from_str(alloc, command)?;
-        let word = match read_datum(alloc, &tree, self.kinds, &NoNames) {
-            Ok(datum) => return text_of(alloc, &datum.copy(alloc)?),
-            Err(AtomFault::Syntax) => "syntax",
-            Err(AtomFault::Clash) => "clash",
-            Err(AtomFault::Memory) => "memory",
-        };
-        Ok(String::from_str(alloc, word)?)
+        rewritten(alloc, self.kinds, &tree)
     }
 }
 
