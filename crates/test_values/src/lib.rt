@@ -1,5 +1,4 @@
-//! Tests of what is told by the arguments alone: cuts, messages and frames, trees, values, schemas, conditions and mutations, and
-//! what rows refer to.
+//! Tests of what the arguments alone determine: values, schemas, conditions and mutations, and what rows refer to.
 #![tactic(auto)]
 
 #[cfg(test)]
@@ -9,13 +8,7 @@ mod columns;
 #[cfg(test)]
 mod conditions;
 #[cfg(test)]
-mod cuts;
-#[cfg(test)]
-mod frames;
-#[cfg(test)]
 mod given;
-#[cfg(test)]
-mod messages;
 #[cfg(test)]
 mod mutations;
 #[cfg(test)]
@@ -26,5 +19,3 @@ mod schema_files;
 mod schemas;
 #[cfg(test)]
 mod shapes;
-#[cfg(test)]
-mod small_types;

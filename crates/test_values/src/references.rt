@@ -1,12 +1,12 @@
 use ov_base::Trees;
 use ov_given::{NamedRows, new_row};
 use ov_refs::{Holders, KeySet, Links, Target, targets_of};
-use ov_rows::{Columns, Row, RowKey, Rows};
+use ov_rows::{Columns, Row, RowId, RowKey, Rows};
 use ov_schema::{Schema, Table};
 use serde_json::Value;
 use std::alloc::Global;
 use std::test::Fail;
-use test_basics::{Scripted, agrees, number, schema_of_text, trees};
+use test_basics::{Scripted, agrees, holds, number, schema_of_text, trees};
 use uuid::Uuid;
 
 /// Rows that refer to rows of their own table and of another: strongly in a set and as the keys of a map, weakly as the values of
@@ -361,4 +361,15 @@ impl Scripted for Keys {
 fn a_set_of_keys_has_each_once(rt: HostRuntime) -> Result<(), Fail> {
     let keys = KeySet::new();
     agrees(rt.alloc(), Keys { keys }, PUT_TWICE)
+}
+
+#[test]
+fn identifiers_stand_in_the_order_of_their_bytes(rt: HostRuntime) -> Result<(), Fail> {
+    let first = RowId::new(Uuid::from_u128(0xff));
+    let second = RowId::new(Uuid::from_u128(0x100));
+    let third = RowId::new(Uuid::from_u128(1 << 120));
+    let are_in_order = first < second && second < third && third == third;
+    holds(rt.alloc(), are_in_order, "the three stand in order")?;
+    let is_given_back = *third.as_uuid() == Uuid::from_u128(1 << 120);
+    holds(rt.alloc(), is_given_back, "the third is given back")
 }

@@ -1,10 +1,8 @@
 use ov_base::{ByteTrace, Bytes, Text, Trees, has_real};
-use ov_rows::RowId;
 use serde_json::Value;
 use std::alloc::Global;
 use std::test::Fail;
-use test_basics::{Scripted, agrees, compact, holds, is_text, tree, trees};
-use uuid::Uuid;
+use test_basics::{Scripted, agrees, compact, is_text, tree, trees};
 
 /// A real is a number that no integer of 64 bits is.
 const REALS: &str = r#"0 -> false
@@ -202,15 +200,4 @@ fn size_of_trace() -> usize {
 fn a_tape_takes_no_room(rt: HostRuntime) -> Result<(), Fail> {
     let size = format!(in rt.alloc(); "{}", size_of_trace())?;
     is_text(rt.alloc(), size.as_str(), "0")
-}
-
-#[test]
-fn identifiers_stand_in_the_order_of_their_bytes(rt: HostRuntime) -> Result<(), Fail> {
-    let first = RowId::new(Uuid::from_u128(0xff));
-    let second = RowId::new(Uuid::from_u128(0x100));
-    let third = RowId::new(Uuid::from_u128(1 << 120));
-    let are_in_order = first < second && second < third && third == third;
-    holds(rt.alloc(), are_in_order, "the three stand in order")?;
-    let is_given_back = *third.as_uuid() == Uuid::from_u128(1 << 120);
-    holds(rt.alloc(), is_given_back, "the third is given back")
 }
