@@ -1,4 +1,5 @@
 use crate::holding::{HoldingGate, Mark};
+use ov_core::Cause;
 use ov_desk::{End, Link};
 use ov_ends::Watched;
 use std::alloc::Global;
@@ -117,14 +118,22 @@ pub(crate) fn links_of<'g, 'r, 's, R: Clock>(
     Ok(links)
 }
 
-/// The line of what is left of a client: its serial, why its session was closed, and what it was written.
-fn line_of<R: Clock>(
-    alloc: Global,
-    end: End<ClientReader<'_, '_, '_, R>, ClientWriter>,
-) -> Result<String, Fail> {
-    let (serial, cause) = (end.serial, end.cause);
-    let taken = String::from_utf8(end.writer.into_inner().taken)?;
-    Ok(format!(in alloc; "{serial} {cause:?} {taken}\n")?)
+/// The serial of a client, why its session was closed, and what it was written.
+type Told = (u64, Cause, Vec<u8>);
+
+/// This of what is left of a client.
+fn told_of<R: Clock>(end: End<ClientReader<'_, '_, '_, R>, ClientWriter>) -> Told {
+    let taken = end.writer.into_inner().taken;
+    (end.serial, end.cause, taken)
+}
+
+/// Adds its line.
+fn push_line(alloc: Global, lines: &mut String, told: Told) -> Result<(), Fail> {
+    let (serial, cause, taken) = told;
+    let taken = String::from_utf8(taken)?;
+    let line = format!(in alloc; "{serial} {cause:?} {taken}\n")?;
+    lines.push_str(line.as_str())?;
+    Ok(())
 }
 
 /// The lines of what is left of clients. Where one of them has waited too long, that stands behind them.
@@ -135,7 +144,7 @@ pub(crate) fn lines_of<R: Clock>(
 ) -> Result<String, Fail> {
     let mut lines = String::new(alloc);
     for end in ends {
-        lines.push_str(line_of(alloc, end)?.as_str())?;
+        push_line(alloc, &mut lines, told_of(end))?;
     }
     if gate.is_late() {
         lines.push_str("too late\n")?;

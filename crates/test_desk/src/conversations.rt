@@ -1,9 +1,13 @@
 //! Clients of a desk, with a line for what is left of each: its serial, why its session was closed, and what it was written.
 
 use crate::clients::{ALL, Client, client_of};
-use crate::desks::converse;
+use crate::desks::{converse, conversed};
 use std::alloc::Global;
+use std::rt::Clock;
+use std::sync::Wait;
 use std::test::Fail;
+use std::thread::Threads;
+use test_basics::holds;
 
 const LIST: &str = r#"{"id":0,"method":"list_dbs","params":[]}"#;
 
@@ -19,14 +23,8 @@ const MET: &str = r#"1 InputEnded {"error":null,"id":0,"result":["Net"]}
 
 #[test]
 fn sessions_at_the_same_time(rt: HostRuntime) -> Result<(), Fail> {
-    let told = converse(
-        &rt,
-        rt.alloc(),
-        MEETING,
-        &[client_of(LIST), client_of(LIST)],
-    )?;
-    assert_eq!(rt; told.as_str(), MET);
-    Ok(())
+    let clients = [client_of(LIST), client_of(LIST)];
+    conversed(&rt, rt.alloc(), MEETING, &clients, MET)
 }
 
 /// Waits for a row that never comes, and ends once the reply is there.
@@ -39,9 +37,7 @@ const TIMED_OUT: &str = r#"1 InputEnded {"error":null,"id":1,"result":[{"error":
 
 #[test]
 fn ticks_are_given(rt: HostRuntime) -> Result<(), Fail> {
-    let told = converse(&rt, rt.alloc(), "", &[client_of(WAITING)])?;
-    assert_eq!(rt; told.as_str(), TIMED_OUT);
-    Ok(())
+    conversed(&rt, rt.alloc(), "", &[client_of(WAITING)], TIMED_OUT)
 }
 
 /// Owns the lock, and gives it up once the other was told to wait.
@@ -61,9 +57,8 @@ const GIVEN_ON: &str =
 
 #[test]
 fn a_lock_is_given_on(rt: HostRuntime) -> Result<(), Fail> {
-    let told = converse(&rt, rt.alloc(), "", &[client_of(OWNER), client_of(WAITER)])?;
-    assert_eq!(rt; told.as_str(), GIVEN_ON);
-    Ok(())
+    let clients = [client_of(OWNER), client_of(WAITER)];
+    conversed(&rt, rt.alloc(), "", &clients, GIVEN_ON)
 }
 
 /// The third read fails.
@@ -84,9 +79,7 @@ const ENDED_BADLY: &str =
 #[test]
 fn what_came_before_a_bad_end_is_answered(rt: HostRuntime) -> Result<(), Fail> {
     let clients = [client_of(FAILING), client_of(DAMAGED), client_of(LIST)];
-    let told = converse(&rt, rt.alloc(), "", &clients)?;
-    assert_eq!(rt; told.as_str(), ENDED_BADLY);
-    Ok(())
+    conversed(&rt, rt.alloc(), "", &clients, ENDED_BADLY)
 }
 
 /// The first writer takes all, byte by byte, and the second takes twenty bytes.
@@ -94,58 +87,77 @@ const CUT: &str = r#"1 InputEnded {"error":null,"id":0,"result":["Net"]}
 2 WriteFault {"error":null,"id":0
 "#;
 
-#[test]
-fn writers_take_byte_by_byte(rt: HostRuntime) -> Result<(), Fail> {
-    let slow = |left| Client {
+/// A client that asks for the list, whose writer takes byte by byte, and as many bytes as these.
+fn slow_client(left: usize) -> Client<'static> {
+    Client {
         script: LIST,
         most: 1,
         left,
-    };
-    let told = converse(&rt, rt.alloc(), "", &[slow(ALL), slow(20)])?;
-    assert_eq!(rt; told.as_str(), CUT);
-    Ok(())
+    }
+}
+
+#[test]
+fn writers_take_byte_by_byte(rt: HostRuntime) -> Result<(), Fail> {
+    let clients = [slow_client(ALL), slow_client(20)];
+    conversed(&rt, rt.alloc(), "", &clients, CUT)
 }
 
 /// Texts with a number in their middle, from 0 on.
-fn numbered(alloc: Global, count: u64, before: &str, behind: &str) -> Result<String, Fail> {
+fn numbered(alloc: Global, count: u64, before: &str, after: &str) -> Result<String, Fail> {
     let mut text = String::new(alloc);
     for number in 0..count {
-        text.push_str(format!(in alloc; "{before}{number}{behind}")?.as_str())?;
+        text.push_str(format!(in alloc; "{before}{number}{after}")?.as_str())?;
     }
     Ok(text)
 }
 
-/// What is told where so many echoes were answered.
+/// Calls of `echo`, with ids from 0 on.
+fn echoes(alloc: Global, count: u64) -> Result<String, Fail> {
+    let after = ",\"method\":\"echo\",\"params\":[]}";
+    numbered(alloc, count, "{\"id\":", after)
+}
+
+/// What two clients are told, of whom the first is overrun after so many replies.
 fn overrun(alloc: Global, count: u64) -> Result<String, Fail> {
     let replies = numbered(alloc, count, "{\"error\":null,\"id\":", ",\"result\":[]}")?;
     let beside = r#"{"error":null,"id":0,"result":["Net"]}"#;
     Ok(format!(in alloc; "1 Overrun {replies}\n2 InputEnded {beside}\n")?)
 }
 
-/// A writer is held up until its reader has come to the end behind 1,100 echoes, all but 64 of which were taken by then. Its ring
-/// has room for 1,024 frames, and the writer may have taken one more before it was held up.
+/// Whether they are told this.
+fn is_overrun(alloc: Global, told: &str, count: u64) -> Result<bool, Fail> {
+    let wanted = overrun(alloc, count)?;
+    Ok(told == wanted.as_str())
+}
+
+/// Fails unless they are told this of 1,024 replies, or of one more.
+fn tells_overrun(alloc: Global, told: &str) -> Result<(), Fail> {
+    let is_so = is_overrun(alloc, told, 1_024)? || is_overrun(alloc, told, 1_025)?;
+    let what = format!(in alloc; "overrun, in {} bytes", told.len())?;
+    holds(alloc, is_so, what.as_str())
+}
+
+/// Holds the writer of a client up until its reader has come to the end of 1,100 echoes. Another client is served meanwhile.
+fn is_overrun_by<R: Threads + Wait + Clock + Sync>(
+    rt: &R,
+    alloc: Global,
+    script: &str,
+) -> Result<(), Fail> {
+    let clients = [client_of(script), client_of(LIST)];
+    let told = converse(rt, alloc, "1 frame 1 until 1 push 1101", &clients)?;
+    tells_overrun(alloc, told.as_str())
+}
+
+/// When the reader comes to the end, all but 64 echoes were taken. The writer's ring has room for 1,024 frames, and it may have
+/// taken one more before it was held up.
 #[test]
 fn a_writer_that_is_slow_is_overrun(rt: HostRuntime) -> Result<(), Fail> {
-    let alloc = rt.alloc();
-    let echoes = numbered(
-        alloc,
-        1_100,
-        "{\"id\":",
-        ",\"method\":\"echo\",\"params\":[]}",
-    )?;
-    let clients = [client_of(echoes.as_str()), client_of(LIST)];
-    let told = converse(&rt, alloc, "1 frame 1 until 1 push 1101", &clients)?;
-    let (fewer, more) = (overrun(alloc, 1_024)?, overrun(alloc, 1_025)?);
-    let is_wanted = told.as_str() == fewer.as_str() || told.as_str() == more.as_str();
-    assert!(rt; is_wanted, "{} bytes", told.len());
-    Ok(())
+    let script = echoes(rt.alloc(), 1_100)?;
+    is_overrun_by(&rt, rt.alloc(), script.as_str())
 }
 
 #[test]
 fn no_links_and_too_many(rt: HostRuntime) -> Result<(), Fail> {
-    let none = converse(&rt, rt.alloc(), "", &[])?;
-    assert_eq!(rt; none.as_str(), "");
-    let many = converse(&rt, rt.alloc(), "", &[client_of(LIST); 65])?;
-    assert_eq!(rt; many.as_str(), "TooMany 65 0");
-    Ok(())
+    conversed(&rt, rt.alloc(), "", &[], "")?;
+    conversed(&rt, rt.alloc(), "", &[client_of(LIST); 65], "TooMany 65 0")
 }

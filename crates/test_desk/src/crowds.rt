@@ -1,7 +1,7 @@
 //! 64 clients at once, each with an echo, a monitor, an insert and an echo, against the history that their desk kept.
 
 use crate::clients::{Client, ClientReader, ClientWriter, client_of, lines_of, links_of};
-use crate::desks::{ClientsServed, converse_at, serve};
+use crate::desks::{ClientsServed, converse_at, refusal, serve};
 use crate::holding::HoldingGate;
 use ov_core::{Entry, Event};
 use ov_desk::{Desk, End, Link, Served};
@@ -11,7 +11,7 @@ use std::rt::Clock;
 use std::sync::Wait;
 use std::test::Fail;
 use std::thread::Threads;
-use test_basics::Faults;
+use test_basics::{Counter, Faults, NetKeeper, is_text};
 use test_support::net_core;
 
 /// How many clients there are.
@@ -20,27 +20,65 @@ const CLIENTS: u64 = 64;
 /// The place of the insert among a client's messages. The monitor comes before it.
 const INSERT: u64 = 2;
 
+/// What is asked for to be told of each new switch.
+const MONITOR: &str =
+    r#""monitor","params":["Net","m",{"Switch":{"columns":["name"],"select":{"initial":false}}}]"#;
+
+/// An owned text.
+fn text_of(alloc: Global, text: &str) -> Result<String, Fail> {
+    Ok(String::from_str(alloc, text)?)
+}
+
+/// The method and the params of an insert.
+fn insert_of(alloc: Global, serial: u64) -> Result<String, Fail> {
+    Ok(format!(in alloc;
+        "\"transact\",\"params\":[\"Net\",{{\"op\":\"insert\",\"table\":\"Switch\",\"row\":{{\"name\":\"s{serial}\"}}}}]"
+    )?)
+}
+
+/// The method and the params of an echo.
+fn echo_of(alloc: Global, serial: u64) -> Result<String, Fail> {
+    Ok(format!(in alloc; "\"echo\",\"params\":[{serial}]")?)
+}
+
+/// The method and the params of a client's message at a place.
+fn asked_of(alloc: Global, serial: u64, place: u64) -> Result<String, Fail> {
+    match place {
+        1 => text_of(alloc, MONITOR),
+        INSERT => insert_of(alloc, serial),
+        _ => echo_of(alloc, serial),
+    }
+}
+
 /// A client's message at a place. Each has an id of its own.
 fn message_of(alloc: Global, serial: u64, place: u64) -> Result<String, Fail> {
-    let asked = match place {
-        1 => format!(in alloc;
-            "\"monitor\",\"params\":[\"Net\",\"m\",{{\"Switch\":{{\"columns\":[\"name\"],\"select\":{{\"initial\":false}}}}}}]"
-        )?,
-        INSERT => format!(in alloc;
-            "\"transact\",\"params\":[\"Net\",{{\"op\":\"insert\",\"table\":\"Switch\",\"row\":{{\"name\":\"s{serial}\"}}}}]"
-        )?,
-        _ => format!(in alloc; "\"echo\",\"params\":[{serial}]")?,
-    };
+    let asked = asked_of(alloc, serial, place)?;
     Ok(format!(in alloc; "{{\"id\":[{serial},{place}],\"method\":{asked}}}")?)
 }
 
-/// The reply to it, where it is the insert of so many.
+/// The result of the insert of so many.
+fn inserted(alloc: Global, inserts: u64) -> Result<String, Fail> {
+    let row = row_of(alloc, inserts)?;
+    Ok(format!(in alloc; "[{{\"uuid\":[\"uuid\",\"{row}\"]}}]")?)
+}
+
+/// The result of an echo.
+fn echoed(alloc: Global, serial: u64) -> Result<String, Fail> {
+    Ok(format!(in alloc; "[{serial}]")?)
+}
+
+/// The result of a client's message at a place, where it is the insert of so many.
+fn result_of(alloc: Global, serial: u64, place: u64, inserts: u64) -> Result<String, Fail> {
+    match place {
+        1 => text_of(alloc, "{}"),
+        INSERT => inserted(alloc, inserts),
+        _ => echoed(alloc, serial),
+    }
+}
+
+/// The reply to it.
 fn reply_of(alloc: Global, serial: u64, place: u64, inserts: u64) -> Result<String, Fail> {
-    let result = match place {
-        1 => String::from_str(alloc, "{}")?,
-        INSERT => format!(in alloc; "[{{\"uuid\":[\"uuid\",\"{}\"]}}]", row_of(alloc, inserts)?)?,
-        _ => format!(in alloc; "[{serial}]")?,
-    };
+    let result = result_of(alloc, serial, place, inserts)?;
     Ok(format!(in alloc; "{{\"error\":null,\"id\":[{serial},{place}],\"result\":{result}}}")?)
 }
 
@@ -121,12 +159,24 @@ fn wanted_of(alloc: Global, history: &VecDeque<Entry>, serial: u64) -> Result<St
     Ok(wanted.text)
 }
 
+/// Adds the line of a client, by the history.
+fn push_wanted(
+    alloc: Global,
+    lines: &mut String,
+    history: &VecDeque<Entry>,
+    serial: u64,
+) -> Result<(), Fail> {
+    let wanted = wanted_of(alloc, history, serial)?;
+    let line = format!(in alloc; "{serial} InputEnded {wanted}\n")?;
+    lines.push_str(line.as_str())?;
+    Ok(())
+}
+
 /// The lines of all clients, by the history.
 fn wanted_lines(alloc: Global, history: &VecDeque<Entry>) -> Result<String, Fail> {
     let mut lines = String::new(alloc);
     for serial in 1..CLIENTS + 1 {
-        let wanted = wanted_of(alloc, history, serial)?;
-        lines.push_str(format!(in alloc; "{serial} InputEnded {wanted}\n")?.as_str())?;
+        push_wanted(alloc, &mut lines, history, serial)?;
     }
     Ok(lines)
 }
@@ -135,6 +185,12 @@ fn wanted_lines(alloc: Global, history: &VecDeque<Entry>) -> Result<String, Fail
 const COUNTING: &str =
     r#"{"id":0,"method":"transact","params":["Net",{"op":"mutate","table":"Switch","where":[],"mutations":[["load","+=",1]]}]}"#;
 
+/// Fails where these lines of clients are not as the history tells.
+fn are_wanted(alloc: Global, history: &VecDeque<Entry>, lines: &str) -> Result<(), Fail> {
+    let wanted = wanted_lines(alloc, history)?;
+    is_text(alloc, lines, wanted.as_str())
+}
+
 /// Fails where what is left of clients is not as the history tells.
 fn agree<R: Clock>(
     alloc: Global,
@@ -142,25 +198,48 @@ fn agree<R: Clock>(
     history: &VecDeque<Entry>,
     ends: VecDeque<End<ClientReader<'_, '_, '_, R>, ClientWriter>>,
 ) -> Result<(), Fail> {
-    if lines_of(alloc, gate, ends)? != wanted_lines(alloc, history)? {
-        return Err(Fail::new("not as the history tells"));
-    }
-    Ok(())
+    let lines = lines_of(alloc, gate, ends)?;
+    are_wanted(alloc, history, lines.as_str())
 }
 
 /// What one more client is told at the desk of others, where what is left of these is as the history tells.
-fn counted<'g, 'r, 's, 't, R: Threads + Wait + Clock + Sync>(
+fn counted<'g, 'r, 's, R: Threads + Wait + Clock + Sync>(
     rt: &R,
     alloc: Global,
     gate: &HoldingGate<'r, R>,
     served: ClientsServed<'g, 'r, 's, R>,
-    more: VecDeque<Link<ClientReader<'g, 'r, 't, R>, ClientWriter>>,
 ) -> Result<String, Fail> {
     let Served { desk, ends } = served;
     match agree(alloc, gate, desk.core().history(), ends) {
-        Ok(()) => converse_at(rt, alloc, desk, more, gate),
+        Ok(()) => converse_at(rt, alloc, desk, &[client_of(COUNTING)], gate),
         Err(fail) => Err(fail),
     }
+}
+
+/// What one more client is told, once these were served at a desk.
+fn counted_after<'g, 'r, 's, R: Threads + Wait + Clock + Sync>(
+    rt: &R,
+    alloc: Global,
+    desk: Desk<NetKeeper, Counter>,
+    links: VecDeque<Link<ClientReader<'g, 'r, 's, R>, ClientWriter>>,
+    gate: &HoldingGate<'r, R>,
+) -> Result<String, Fail> {
+    match serve(rt, alloc, desk, links, gate) {
+        Ok(served) => counted(rt, alloc, gate, served),
+        Err(unserved) => refusal(alloc, unserved),
+    }
+}
+
+/// The same at a new desk.
+fn counted_at_new_desk<R: Threads + Wait + Clock + Sync>(
+    rt: &R,
+    alloc: Global,
+    clients: &[Client<'_>],
+    gate: &HoldingGate<'_, R>,
+) -> Result<String, Fail> {
+    let core = net_core(alloc, Faults::NONE)?;
+    let links = links_of(alloc, gate, clients)?;
+    counted_after(rt, alloc, Desk::new(core), links, gate)
 }
 
 /// What a client is told that counts the rows, once these were served at a new desk.
@@ -170,28 +249,51 @@ fn served<R: Threads + Wait + Clock + Sync>(
     clients: &[Client<'_>],
 ) -> Result<String, Fail> {
     let gate = HoldingGate::new(rt, alloc, "")?;
-    let links = links_of(alloc, &gate, clients)?;
-    let more = links_of(alloc, &gate, &[client_of(COUNTING)])?;
-    let core = net_core(alloc, Faults::NONE)?;
-    match serve(rt, alloc, Desk::new(core), links, &gate) {
-        Ok(served) => counted(rt, alloc, &gate, served, more),
-        Err(_) => Err(Fail::new("not served")),
-    }
+    counted_at_new_desk(rt, alloc, clients, &gate)
 }
 
-#[test]
-fn sixty_four_clients_at_once(rt: HostRuntime) -> Result<(), Fail> {
-    let alloc = rt.alloc();
+const COUNTED: &str = "65 InputEnded {\"error\":null,\"id\":0,\"result\":[{\"count\":64}]}\n";
+
+/// A client counts 64 rows, once these were served.
+fn are_served<R: Threads + Wait + Clock + Sync>(
+    rt: &R,
+    alloc: Global,
+    clients: &[Client<'_>],
+) -> Result<(), Fail> {
+    let told = served(rt, alloc, clients)?;
+    is_text(alloc, told.as_str(), COUNTED)
+}
+
+/// The scripts of all clients.
+fn scripts_of_all(alloc: Global) -> Result<Vec<String>, Fail> {
     let mut scripts = Vec::new(alloc);
     for serial in 1..CLIENTS + 1 {
         scripts.push(script_of(alloc, serial)?)?;
     }
+    Ok(scripts)
+}
+
+/// Clients with these scripts.
+fn clients_of(alloc: Global, scripts: &Vec<String>) -> Result<Vec<Client<'_>>, Fail> {
     let mut clients = Vec::new(alloc);
-    for script in &scripts {
+    for script in scripts {
         clients.push(client_of(script.as_str()))?;
     }
-    let told = served(&rt, alloc, clients.as_slice())?;
-    let rows = "65 InputEnded {\"error\":null,\"id\":0,\"result\":[{\"count\":64}]}\n";
-    assert_eq!(rt; told.as_str(), rows);
-    Ok(())
+    Ok(clients)
+}
+
+/// The clients with these scripts are served.
+fn are_followed<R: Threads + Wait + Clock + Sync>(
+    rt: &R,
+    alloc: Global,
+    scripts: &Vec<String>,
+) -> Result<(), Fail> {
+    let clients = clients_of(alloc, scripts)?;
+    are_served(rt, alloc, clients.as_slice())
+}
+
+#[test]
+fn sixty_four_clients_at_once(rt: HostRuntime) -> Result<(), Fail> {
+    let scripts = scripts_of_all(rt.alloc())?;
+    are_followed(&rt, rt.alloc(), &scripts)
 }

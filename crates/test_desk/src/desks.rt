@@ -1,6 +1,6 @@
 use crate::clients::{Client, ClientReader, ClientWriter, lines_of, links_of};
 use crate::holding::HoldingGate;
-use ov_desk::{Desk, Link, Served, Unserved, serve_links};
+use ov_desk::{Desk, Link, ServeFault, Served, Unserved, serve_links};
 use ov_ends::Clock;
 use std::alloc::Global;
 use std::collections::VecDeque;
@@ -8,7 +8,7 @@ use std::rt::Clock as SystemClock;
 use std::sync::Wait;
 use std::test::Fail;
 use std::thread::Threads;
-use test_basics::{Counter, Faults, NetKeeper};
+use test_basics::{Counter, Faults, NetKeeper, is_text};
 use test_support::net_core;
 
 /// A clock that tells a later moment at each call.
@@ -54,18 +54,28 @@ pub(crate) fn serve<'g, 'r, 's, R: Threads + Wait + SystemClock + Sync>(
     serve_links(rt, alloc, desk, links, gate, &mut RisingClock { moment: 0 })
 }
 
+/// A fault, and how many links and entries of the history there are.
+fn fault_line(
+    alloc: Global,
+    fault: ServeFault,
+    links: usize,
+    entries: usize,
+) -> Result<String, Fail> {
+    Ok(format!(in alloc; "{fault:?} {links} {entries}")?)
+}
+
 /// Why clients are not served, and how many links and entries of the history there are then.
-fn refusal<R: SystemClock>(
+pub(crate) fn refusal<R: SystemClock>(
     alloc: Global,
     unserved: ClientsUnserved<'_, '_, '_, R>,
 ) -> Result<String, Fail> {
     let Unserved { fault, desk, links } = unserved;
     let entries = desk.core().history().len();
-    Ok(format!(in alloc; "{fault:?} {} {entries}", links.len())?)
+    fault_line(alloc, fault, links.len(), entries)
 }
 
-/// What comes of clients at a desk: a line for each client, or why they are not served.
-pub(crate) fn converse_at<'g, 'r, 's, R: Threads + Wait + SystemClock + Sync>(
+/// A line for each of the links that are served at a desk, or why they are not served.
+fn lines_at<'g, 'r, 's, R: Threads + Wait + SystemClock + Sync>(
     rt: &R,
     alloc: Global,
     desk: Desk<NetKeeper, Counter>,
@@ -78,6 +88,29 @@ pub(crate) fn converse_at<'g, 'r, 's, R: Threads + Wait + SystemClock + Sync>(
     }
 }
 
+/// What comes of clients at a desk, behind their gate: a line for each client, or why they are not served.
+pub(crate) fn converse_at<R: Threads + Wait + SystemClock + Sync>(
+    rt: &R,
+    alloc: Global,
+    desk: Desk<NetKeeper, Counter>,
+    clients: &[Client<'_>],
+    gate: &HoldingGate<'_, R>,
+) -> Result<String, Fail> {
+    let links = links_of(alloc, gate, clients)?;
+    lines_at(rt, alloc, desk, links, gate)
+}
+
+/// What comes of clients at a new desk, behind their gate.
+fn converse_behind<R: Threads + Wait + SystemClock + Sync>(
+    rt: &R,
+    alloc: Global,
+    clients: &[Client<'_>],
+    gate: &HoldingGate<'_, R>,
+) -> Result<String, Fail> {
+    let core = net_core(alloc, Faults::NONE)?;
+    converse_at(rt, alloc, Desk::new(core), clients, gate)
+}
+
 /// What comes of clients at a new desk, whose workers are held up as it is told.
 pub(crate) fn converse<R: Threads + Wait + SystemClock + Sync>(
     rt: &R,
@@ -86,7 +119,17 @@ pub(crate) fn converse<R: Threads + Wait + SystemClock + Sync>(
     clients: &[Client<'_>],
 ) -> Result<String, Fail> {
     let gate = HoldingGate::new(rt, alloc, holds)?;
-    let links = links_of(alloc, &gate, clients)?;
-    let core = net_core(alloc, Faults::NONE)?;
-    converse_at(rt, alloc, Desk::new(core), links, &gate)
+    converse_behind(rt, alloc, clients, &gate)
+}
+
+/// Fails unless this comes of clients at a new desk.
+pub(crate) fn conversed<R: Threads + Wait + SystemClock + Sync>(
+    rt: &R,
+    alloc: Global,
+    holds: &str,
+    clients: &[Client<'_>],
+    wanted: &str,
+) -> Result<(), Fail> {
+    let told = converse(rt, alloc, holds, clients)?;
+    is_text(alloc, told.as_str(), wanted)
 }

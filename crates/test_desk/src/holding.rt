@@ -41,13 +41,17 @@ impl Mark {
 /// A worker that comes to the one mark is held up until the other was come to.
 type Hold = (Mark, Mark);
 
-/// The holds of a text: a line `MARK until MARK` for each.
+/// The hold of a line `MARK until MARK`.
+fn hold_of(line: &str) -> Option<Hold> {
+    let (held, until) = line.split_once(" until ")?;
+    Some((Mark::read(held)?, Mark::read(until)?))
+}
+
+/// The holds of a text, one in each line.
 fn holds_of(alloc: Global, text: &str) -> Result<Vec<Hold>, Fail> {
     let mut holds = Vec::new(alloc);
     for line in text.lines() {
-        let (held, until) = line.split_once(" until ").ok_or("no hold")?;
-        let held = Mark::read(held).ok_or("no mark")?;
-        holds.push((held, Mark::read(until).ok_or("no mark")?))?;
+        holds.push(hold_of(line).ok_or("no hold")?)?;
     }
     Ok(holds)
 }

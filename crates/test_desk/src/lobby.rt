@@ -16,7 +16,7 @@ use std::test::Fail;
 use std::thread::Threads;
 use std::time::Duration;
 use std::{io, thread};
-use test_basics::Faults;
+use test_basics::{Faults, is_text};
 use test_support::net_core;
 
 /// How many clients there are at most.
@@ -103,9 +103,14 @@ impl<'r, R: Wait + Clock> Board<'r, R> {
         };
         let closed = seen.closed.load(Ordering::SeqCst);
         let text = seen.text.lock(self.rt);
-        let text = std::str::from_utf8(text.as_slice())?;
-        Ok(format!(in alloc; "{closed} {text}\n")?)
+        line_of(alloc, closed, text.as_slice())
     }
+}
+
+/// A line of how many ends of a client are closed, and what it was written.
+fn line_of(alloc: Global, closed: u64, text: &[u8]) -> Result<String, Fail> {
+    let text = std::str::from_utf8(text)?;
+    Ok(format!(in alloc; "{closed} {text}\n")?)
 }
 
 /// A client's reader, which follows a script: a line is sent at once, and a line `after FACT` before it says what is waited for
@@ -253,23 +258,6 @@ fn serve_clients<R: Threads + Wait + Clock + Sync, K: Keeper + Drop, D: Draws + 
     }
 }
 
-/// What comes of clients at a lobby: how many entries the history has then, and a line for each client.
-fn converse<R: Threads + Wait + Clock + Sync>(
-    rt: &R,
-    alloc: Global,
-    clients: &[Coming<'_>],
-) -> Result<String, Fail> {
-    let board = Board::new(rt, alloc)?;
-    let listener = LobbyListener {
-        board: &board,
-        client: 0,
-        clients,
-    };
-    let desk = Desk::new(net_core(alloc, Faults::NONE)?);
-    let entries = serve_clients(rt, alloc, desk, listener).ok_or("no lobby")?;
-    told_of(alloc, &board, entries, clients.len())
-}
-
 /// How many entries there are, and what is seen of so many clients.
 fn told_of<R: Wait + Clock>(
     alloc: Global,
@@ -287,13 +275,63 @@ fn told_of<R: Wait + Clock>(
     Ok(told)
 }
 
+/// What comes of clients at a lobby whose board this is: how many entries the history has then, and a line for each client.
+fn converse_on<R: Threads + Wait + Clock + Sync>(
+    rt: &R,
+    alloc: Global,
+    board: &Board<'_, R>,
+    clients: &[Coming<'_>],
+) -> Result<String, Fail> {
+    let desk = Desk::new(net_core(alloc, Faults::NONE)?);
+    let listener = LobbyListener {
+        board,
+        client: 0,
+        clients,
+    };
+    let entries = serve_clients(rt, alloc, desk, listener);
+    told_of(alloc, board, entries.ok_or("no lobby")?, clients.len())
+}
+
+/// The same with a board of its own.
+fn converse<R: Threads + Wait + Clock + Sync>(
+    rt: &R,
+    alloc: Global,
+    clients: &[Coming<'_>],
+) -> Result<String, Fail> {
+    let board = Board::new(rt, alloc)?;
+    converse_on(rt, alloc, &board, clients)
+}
+
+/// Fails unless this comes of clients at a lobby.
+fn conversed<R: Threads + Wait + Clock + Sync>(
+    rt: &R,
+    alloc: Global,
+    clients: &[Coming<'_>],
+    wanted: &str,
+) -> Result<(), Fail> {
+    let told = converse(rt, alloc, clients)?;
+    is_text(alloc, told.as_str(), wanted)
+}
+
 const LIST: &str = r#"{"id":0,"method":"list_dbs","params":[]}"#;
 
 #[test]
 fn a_lobby_where_nobody_comes(rt: HostRuntime) -> Result<(), Fail> {
-    let told = converse(&rt, rt.alloc(), &[])?;
-    assert_eq!(rt; told.as_str(), "0\n");
-    Ok(())
+    conversed(&rt, rt.alloc(), &[], "0\n")
+}
+
+/// Goes on once nobody is listened to any more.
+const LAST: &str = r#"{"id":0,"method":"list_dbs","params":[]}
+after listener closed
+{"id":1,"method":"echo","params":[2]}"#;
+
+const LAST_SERVED: &str = r#"4
+2 {"error":null,"id":0,"result":["Net"]}{"error":null,"id":1,"result":[2]}
+"#;
+
+#[test]
+fn nobody_is_listened_to_while_the_last_is_served(rt: HostRuntime) -> Result<(), Fail> {
+    conversed(&rt, rt.alloc(), &[("", LAST)], LAST_SERVED)
 }
 
 /// Goes on once the other is closed.
@@ -301,39 +339,55 @@ const PATIENT: &str = r#"{"id":0,"method":"list_dbs","params":[]}
 after 1 closed
 {"id":1,"method":"echo","params":[2]}"#;
 
-/// Goes on once nobody is listened to any more.
-const LAST: &str = r#"{"id":0,"method":"list_dbs","params":[]}
-after listener closed
-{"id":1,"method":"echo","params":[2]}"#;
-
-#[test]
-fn nobody_is_listened_to_while_the_last_is_served(rt: HostRuntime) -> Result<(), Fail> {
-    let told = converse(&rt, rt.alloc(), &[("", LAST)])?;
-    let wanted = r#"4
-2 {"error":null,"id":0,"result":["Net"]}{"error":null,"id":1,"result":[2]}
-"#;
-    assert_eq!(rt; told.as_str(), wanted);
-    Ok(())
-}
-
 /// Is damaged behind its message, once the other was answered.
 const DAMAGED: &str = r#"after 0 told
 {"id":0,"method":"list_dbs","params":[]}]
 after 9 told"#;
 
-#[test]
-fn a_client_goes_on_beside_one_that_is_damaged(rt: HostRuntime) -> Result<(), Fail> {
-    let told = converse(&rt, rt.alloc(), &[("", PATIENT), ("", DAMAGED)])?;
-    let wanted = r#"7
+const BOTH_SERVED: &str = r#"7
 2 {"error":null,"id":0,"result":["Net"]}{"error":null,"id":1,"result":[2]}
 2 {"error":null,"id":0,"result":["Net"]}
 "#;
-    assert_eq!(rt; told.as_str(), wanted);
-    Ok(())
+
+#[test]
+fn a_client_goes_on_beside_one_that_is_damaged(rt: HostRuntime) -> Result<(), Fail> {
+    let clients = [("", PATIENT), ("", DAMAGED)];
+    conversed(&rt, rt.alloc(), &clients, BOTH_SERVED)
 }
 
 /// What a client that asks for the list is written.
 const LISTED: &str = "2 {\"error\":null,\"id\":0,\"result\":[\"Net\"]}\n";
+
+/// What is told of so many clients that ask for the list, where one of them may be turned away.
+fn listed(alloc: Global, entries: u64, count: usize, away: Option<usize>) -> Result<String, Fail> {
+    let mut told = format!(in alloc; "{entries}\n")?;
+    for client in 0..count {
+        told.push_str(if away == Some(client) { "2 \n" } else { LISTED })?;
+    }
+    Ok(told)
+}
+
+/// Fails unless that is told of clients.
+fn are_listed<R: Threads + Wait + Clock + Sync>(
+    rt: &R,
+    alloc: Global,
+    clients: &[Coming<'_>],
+    entries: u64,
+    away: Option<usize>,
+) -> Result<(), Fail> {
+    let wanted = listed(alloc, entries, clients.len(), away)?;
+    conversed(rt, alloc, clients, wanted.as_str())
+}
+
+/// What clients wait for: the first comes at once, and each other once the one before has gone.
+fn facts_in_turn(alloc: Global) -> Result<Vec<String>, Fail> {
+    let mut facts = Vec::new(alloc);
+    facts.push(String::new(alloc))?;
+    for client in 1..CLIENTS {
+        facts.push(format!(in alloc; "{} closed", client - 1)?)?;
+    }
+    Ok(facts)
+}
 
 /// Clients that say the same, each once its fact is told.
 fn clients_after<'a>(
@@ -348,25 +402,20 @@ fn clients_after<'a>(
     Ok(clients)
 }
 
+/// Fails unless a client is listed once each fact is told.
+fn are_listed_after<R: Threads + Wait + Clock + Sync>(
+    rt: &R,
+    alloc: Global,
+    facts: &Vec<String>,
+) -> Result<(), Fail> {
+    let clients = clients_after(alloc, facts, LIST)?;
+    are_listed(rt, alloc, clients.as_slice(), 210, None)
+}
+
 #[test]
 fn a_place_is_free_again(rt: HostRuntime) -> Result<(), Fail> {
-    let alloc = rt.alloc();
-    let mut facts = Vec::new(alloc);
-    // The first comes at once, and each other once the one before has gone.
-    facts.push(String::new(alloc))?;
-    for client in 1..CLIENTS {
-        facts.push(format!(in alloc; "{} closed", client - 1)?)?;
-    }
-    let clients = clients_after(alloc, &facts, LIST)?;
-    let mut wanted = String::from_str(alloc, "210\n")?;
-    for _ in 0..CLIENTS {
-        wanted.push_str(LISTED)?;
-    }
-    assert_eq!(rt;
-        converse(&rt, alloc, clients.as_slice())?.as_str(),
-        wanted.as_str()
-    );
-    Ok(())
+    let facts = facts_in_turn(rt.alloc())?;
+    are_listed_after(&rt, rt.alloc(), &facts)
 }
 
 /// Holds its place until one was turned away.
@@ -374,22 +423,19 @@ const HOLDING: &str = r#"{"id":0,"method":"list_dbs","params":[]}
 after 64 closed
 "#;
 
-#[test]
-fn the_sixty_fifth_is_turned_away(rt: HostRuntime) -> Result<(), Fail> {
-    let alloc = rt.alloc();
+/// 64 clients that hold their places, one more, and one that comes once the first has gone.
+fn one_too_many(alloc: Global) -> Result<Vec<(&'static str, &'static str)>, Fail> {
     let mut clients = Vec::new(alloc);
     for _ in 0..64 {
         clients.push(("", HOLDING))?;
     }
     clients.push(("", LIST))?;
     clients.push(("0 closed", LIST))?;
-    let mut wanted = String::from_str(alloc, "195\n")?;
-    for client in 0..66 {
-        wanted.push_str(if client == 64 { "2 \n" } else { LISTED })?;
-    }
-    assert_eq!(rt;
-        converse(&rt, alloc, clients.as_slice())?.as_str(),
-        wanted.as_str()
-    );
-    Ok(())
+    Ok(clients)
+}
+
+#[test]
+fn the_sixty_fifth_is_turned_away(rt: HostRuntime) -> Result<(), Fail> {
+    let clients = one_too_many(rt.alloc())?;
+    are_listed(&rt, rt.alloc(), clients.as_slice(), 195, Some(64))
 }

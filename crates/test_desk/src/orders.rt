@@ -4,7 +4,7 @@ ghost use Rattle.ov_order.specs.declared.items.Brought.TheVariants.{Message, End
 
 use ov_base::Bytes;
 use ov_order::{Brought, Order, OrderBook, Sent, inbound_ring, outbound_ring};
-use rtrb::Producer;
+use rtrb::{PopError, Producer};
 use std::alloc::Global;
 use std::marker::Brand;
 use std::sync::Wait;
@@ -12,8 +12,20 @@ use std::sync::ledger::{Blank, Ledger, Share};
 use std::test::Fail;
 use std::thread;
 use std::thread::Threads;
+use test_basics::is_text;
 
-/// What a book answers, in the order of the calls: two workers note, the desk takes, and the shares are put together again.
+/// What a book answered, in the order of the calls.
+fn answers_of(
+    alloc: Global,
+    begun: [Option<bool>; 2],
+    notes: [bool; 3],
+    taken: [Option<u64>; 4],
+    noted: u64,
+) -> Result<String, Fail> {
+    Ok(format!(in alloc; "{begun:?} {notes:?} {taken:?} {noted}")?)
+}
+
+/// What a book answers: two workers note, the desk takes, and the shares are put together again.
 fn book_answers<L: Ledger>(alloc: Global, blank: Blank) -> Result<String, Fail>
     requires name { blank.name ≡ L.name }
     requires parts { (blank.parts ≡ L.parts) × (blank.parts ≡ 2) }
@@ -29,19 +41,30 @@ fn book_answers<L: Ledger>(alloc: Global, blank: Blank) -> Result<String, Fail>
         book.note(&mut second, 9),
         book.note(&mut first, 7),
     ];
-    let taken = [book.next(), book.next()];
+    let (third, fourth) = (book.next(), book.next());
     first.merge(second);
     let noted = book.noted(&mut first);
-    let rest = [book.next(), book.next()];
-    Ok(format!(in alloc; "{unsaid:?} {said:?} {notes:?} {taken:?} {noted} {rest:?}")?)
+    let taken = [third, fourth, book.next(), book.next()];
+    answers_of(alloc, [unsaid, said], notes, taken, noted)
 }
 
 #[test]
 fn notes_are_taken_in_order_and_counted(rt: HostRuntime) -> Result<(), Fail> {
     let answers = book_answers::<Brand>(rt.alloc(), Blank::new(2))?;
-    let wanted = "None Some(true) [true, true, true] [Some(7), Some(9)] 3 [Some(7), None]";
-    assert_eq!(rt; answers.as_str(), wanted);
-    Ok(())
+    let wanted = "[None, Some(true)] [true, true, true] [Some(7), Some(9), Some(7), None] 3";
+    is_text(rt.alloc(), answers.as_str(), wanted)
+}
+
+/// What an order answered.
+fn told_of(
+    alloc: Global,
+    begun: (bool, bool),
+    serials: (u64, Option<u64>),
+    noted: u64,
+) -> Result<String, Fail> {
+    let (go, is_noted) = begun;
+    let (serial, next) = serials;
+    Ok(format!(in alloc; "{go} {is_noted} {serial} {next:?} {noted}")?)
 }
 
 /// What an order answers where nobody has to wait: a worker brings a message and notes once more, and the desk takes both notes.
@@ -60,40 +83,86 @@ fn order_answers<R: Wait, L: Ledger>(rt: &R, alloc: Global, blank: Blank) -> Res
     let serial = order.wait_next(rt);
     let next = order.lock(rt).next();
     let noted = order.lock(rt).noted(&mut share);
-    Ok(format!(in alloc; "{go} {is_noted} {serial} {next:?} {noted}")?)
+    told_of(alloc, (go, is_noted), (serial, next), noted)
 }
 
 #[test]
 fn an_order_answers_where_nobody_has_to_wait(rt: HostRuntime) -> Result<(), Fail> {
     let answers = order_answers::<HostRuntime, Brand>(&rt, rt.alloc(), Blank::new(1))?;
-    assert_eq!(rt; answers.as_str(), "false true 5 Some(6) 2");
-    Ok(())
+    is_text(rt.alloc(), answers.as_str(), "false true 5 Some(6) 2")
+}
+
+/// What an item is: a message or the end, and its number.
+fn brought_word(item: Result<Brought<u64, u8>, PopError>) -> (&'static str, u64) {
+    match item {
+        Ok(Brought::Message(number)) => ("message", number),
+        Ok(Brought::End(number)) => ("end", u64::from(number)),
+        Err(_) => ("nothing", 0),
+    }
+}
+
+/// How many slots a ring has left, and what its items are.
+fn ring_text(
+    alloc: Global,
+    slots: usize,
+    first: (&str, u64),
+    second: (&str, u64),
+) -> Result<String, Fail> {
+    Ok(format!(in alloc; "{slots} {first:?} {second:?}")?)
+}
+
+/// This of a ring to the desk, to which a message and the end are brought.
+fn brought_items(alloc: Global) -> Result<String, Fail> {
+    let (mut reader, mut desk) = inbound_ring::<u64, u8>(alloc)?;
+    reader.push_reserved(Brought::Message(3));
+    reader.push_reserved(Brought::End(1));
+    let slots = reader.slots_beside(&mut desk);
+    let first = brought_word(desk.pop());
+    let second = brought_word(desk.pop());
+    ring_text(alloc, slots, first, second)
 }
 
 #[test]
 fn a_message_and_the_end_are_brought(rt: HostRuntime) -> Result<(), Fail> {
-    let (mut reader, mut desk) = inbound_ring::<u64, u8>(rt.alloc())?;
-    reader.push_reserved(Brought::Message(3));
-    reader.push_reserved(Brought::End(1));
-    assert_eq!(rt; reader.slots_beside(&mut desk), 62);
-    assert!(rt; matches!(desk.pop(), Ok(Brought::Message(3))));
-    assert!(rt; matches!(desk.pop(), Ok(Brought::End(1))));
-    Ok(())
+    let told = brought_items(rt.alloc())?;
+    let wanted = "62 (\"message\", 3) (\"end\", 1)";
+    is_text(rt.alloc(), told.as_str(), wanted)
+}
+
+/// Whether an item is this frame.
+fn is_frame(item: Result<Sent, PopError>, wanted: &[u8]) -> bool {
+    match item {
+        Ok(Sent::Frame(frame)) => frame.as_slice() == wanted,
+        _ => false,
+    }
+}
+
+/// Whether an item is the end.
+fn is_end(item: Result<Sent, PopError>) -> bool {
+    matches!(item, Ok(Sent::End))
+}
+
+/// How many slots a ring has left, and whether its items are the frame and the end that were sent.
+fn sent_text(alloc: Global, slots: usize, is_frame: bool, is_end: bool) -> Result<String, Fail> {
+    Ok(format!(in alloc; "{slots} {is_frame} {is_end}")?)
+}
+
+/// This of a ring to a writer, to which a frame and the end are sent.
+fn sent_items(alloc: Global) -> Result<String, Fail> {
+    let frame = Bytes::from_slice(alloc, b"{}")?;
+    let (mut desk, mut writer) = outbound_ring(alloc)?;
+    desk.push_reserved(Sent::Frame(frame));
+    desk.push_reserved(Sent::End);
+    let slots = desk.slots_beside(&mut writer);
+    let is_sent = is_frame(writer.pop(), b"{}");
+    let is_ended = is_end(writer.pop());
+    sent_text(alloc, slots, is_sent, is_ended)
 }
 
 #[test]
 fn a_frame_and_the_end_are_sent(rt: HostRuntime) -> Result<(), Fail> {
-    let alloc = rt.alloc();
-    let (mut desk, mut writer) = outbound_ring(alloc)?;
-    desk.push_reserved(Sent::Frame(Bytes::from_slice(alloc, b"{}")?));
-    desk.push_reserved(Sent::End);
-    assert_eq!(rt; desk.slots_beside(&mut writer), 1_023);
-    let Ok(Sent::Frame(frame)) = writer.pop() else {
-        return Err("no frame")?;
-    };
-    assert!(rt; frame.as_slice() == b"{}".as_slice());
-    assert!(rt; matches!(writer.pop(), Ok(Sent::End)));
-    Ok(())
+    let told = sent_items(rt.alloc())?;
+    is_text(rt.alloc(), told.as_str(), "1023 true true")
 }
 
 /// What a worker hands back: its end of the ring, and its share.
@@ -160,10 +229,14 @@ fn across_threads<R: Threads + Wait + Sync, L: Ledger + Send + Sync>(
     Ok((taken, noted))
 }
 
+/// Fails unless a desk took these three notes.
+fn is_taken(alloc: Global, taken: (u64, u64, u64), noted: u64) -> Result<(), Fail> {
+    let told = format!(in alloc; "{taken:?} {noted}")?;
+    is_text(alloc, told.as_str(), "(7, 7, 7) 3")
+}
+
 #[test]
 fn a_worker_brings_while_the_desk_takes(rt: HostRuntime) -> Result<(), Fail> {
     let (taken, noted) = across_threads::<HostRuntime, Brand>(&rt, rt.alloc(), Blank::new(1))?;
-    assert_eq!(rt; taken, (7, 7, 7));
-    assert_eq!(rt; noted, 3);
-    Ok(())
+    is_taken(rt.alloc(), taken, noted)
 }

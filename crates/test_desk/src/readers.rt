@@ -13,6 +13,7 @@ use std::marker::Brand;
 use std::sync::Wait;
 use std::sync::ledger::{Blank, Ledger};
 use std::test::Fail;
+use test_basics::is_text;
 
 /// Two messages, with white space before the second.
 pub(crate) const STREAM: &[u8] =
@@ -48,24 +49,60 @@ pub(crate) fn reader_of(rest: &[u8], most: usize) -> PieceReader<'_> {
     }
 }
 
-/// What lies in the ring: the texts of the messages, and the causes of the end marks, a line each.
+/// Adds the text of a message.
+fn push_message(lines: &mut Vec<u8>, received: Received) -> Result<(), Fail> {
+    let (_message, text) = received.into_parts();
+    lines.extend_from_slice(text.as_slice())?;
+    Ok(())
+}
+
+/// Adds the cause of an end mark.
+fn push_cause(alloc: Global, lines: &mut Vec<u8>, cause: ReadCause) -> Result<(), Fail> {
+    let word = format!(in alloc; "{cause:?}")?;
+    lines.extend_from_slice(word.as_bytes())?;
+    Ok(())
+}
+
+/// Adds the line of an item: the text of a message, or the cause of an end mark.
+fn push_item(
+    alloc: Global,
+    lines: &mut Vec<u8>,
+    item: Brought<Received, ReadCause>,
+) -> Result<(), Fail> {
+    match item {
+        Brought::Message(received) => push_message(lines, received)?,
+        Brought::End(cause) => push_cause(alloc, lines, cause)?,
+    }
+    lines.push(b'\n')?;
+    Ok(())
+}
+
+/// The lines of what lies in the ring.
 fn lines_of(alloc: Global, ring: Consumer<Brought<Received, ReadCause>>) -> Result<Vec<u8>, Fail> {
     let mut ring = ring;
     let mut lines = Vec::new(alloc);
     for _ in 0..64 {
-        match ring.pop() {
-            Ok(Brought::Message(received)) => {
-                let (_message, text) = received.into_parts();
-                lines.extend_from_slice(text.as_slice())?;
-            }
-            Ok(Brought::End(cause)) => {
-                let word = format!(in alloc; "{cause:?}")?;
-                lines.extend_from_slice(word.as_bytes())?;
-            }
-            Err(_) => break,
-        }
-        lines.push(b'\n')?;
+        let Ok(item) = ring.pop() else {
+            break;
+        };
+        push_item(alloc, &mut lines, item)?;
     }
+    Ok(lines)
+}
+
+/// The lines of what lies in the ring, and then how many notes were made, the first of them, how often the gate was passed, and
+/// the cause.
+fn told_of(
+    alloc: Global,
+    ring: Consumer<Brought<Received, ReadCause>>,
+    noted: u64,
+    first: Option<u64>,
+    passed: u64,
+    cause: Option<ReadCause>,
+) -> Result<Vec<u8>, Fail> {
+    let mut lines = lines_of(alloc, ring)?;
+    let told = format!(in alloc; "{noted} {first:?} {passed} {cause:?}")?;
+    lines.extend_from_slice(told.as_bytes())?;
     Ok(lines)
 }
 
@@ -97,14 +134,9 @@ fn read_by<R: Wait, L: Ledger>(
         share,
     );
     let mut share = end.share;
-    let cause = end.cause;
     let noted = order.lock(rt).noted(&mut share);
-    let mut lines = lines_of(alloc, desk)?;
     let first = order.lock(rt).next();
-    let passed = gate.passed();
-    let told = format!(in alloc; "{noted} {first:?} {passed} {cause:?}")?;
-    lines.extend_from_slice(told.as_bytes())?;
-    Ok(lines)
+    told_of(alloc, desk, noted, first, gate.passed(), end.cause)
 }
 
 /// The same, of a ledger of its own.
@@ -117,41 +149,50 @@ fn read<R: Wait>(
     read_by::<R, Brand>(rt, alloc, Blank::new(1), go, reader)
 }
 
+/// Fails unless these bytes are this text.
+pub(crate) fn are_text(alloc: Global, bytes: &[u8], wanted: &str) -> Result<(), Fail> {
+    is_text(alloc, str::from_utf8(bytes)?, wanted)
+}
+
+/// Fails unless a worker brings this of a reader.
+fn brings<R: Wait>(
+    rt: &R,
+    alloc: Global,
+    go: bool,
+    reader: PieceReader<'_>,
+    wanted: &str,
+) -> Result<(), Fail> {
+    let lines = read(rt, alloc, go, reader)?;
+    are_text(alloc, lines.as_slice(), wanted)
+}
+
+const TWO_MESSAGES: &str = r#"{"id":0,"method":"echo","params":[]}
+{"id":1,"method":"echo","params":["}"]}
+InputEnded
+3 Some(7) 3 Some(InputEnded)"#;
+
 #[test]
 fn messages_and_the_end_are_brought(rt: HostRuntime) -> Result<(), Fail> {
-    let wanted =
-        b"{\"id\":0,\"method\":\"echo\",\"params\":[]}\n{\"id\":1,\"method\":\"echo\",\"params\":[\"}\"]}\nInputEnded\n3 Some(7) 3 Some(InputEnded)".as_slice();
     for most in [1, 7, 4_096] {
-        let lines = read(&rt, rt.alloc(), true, reader_of(STREAM, most))?;
-        assert_eq!(rt; lines.as_slice(), wanted, "in pieces of {most}");
+        brings(&rt, rt.alloc(), true, reader_of(STREAM, most), TWO_MESSAGES)?;
     }
     Ok(())
 }
 
+const ONE_AND_DAMAGE: &str = "{\"result\":0}\nDamaged\n2 Some(7) 2 Some(Damaged)";
+
+/// By a stray letter, and by a text that can't be read.
 #[test]
 fn damage_ends_a_stream(rt: HostRuntime) -> Result<(), Fail> {
-    let stray = read(
-        &rt,
-        rt.alloc(),
-        true,
-        reader_of(b"{\"result\":0} x {\"result\":1}", 9),
-    )?;
-    assert_eq!(rt;
-        stray.as_slice(),
-        b"{\"result\":0}\nDamaged\n2 Some(7) 2 Some(Damaged)".as_slice()
-    );
-    let unreadable = read(
-        &rt,
-        rt.alloc(),
-        true,
-        reader_of(b"{\"result\":0} {x} {\"result\":1}", 9),
-    )?;
-    assert_eq!(rt;
-        unreadable.as_slice(),
-        b"{\"result\":0}\nDamaged\n2 Some(7) 2 Some(Damaged)".as_slice()
-    );
-    Ok(())
+    let stray = reader_of(b"{\"result\":0} x {\"result\":1}", 9);
+    brings(&rt, rt.alloc(), true, stray, ONE_AND_DAMAGE)?;
+    let unreadable = reader_of(b"{\"result\":0} {x} {\"result\":1}", 9);
+    brings(&rt, rt.alloc(), true, unreadable, ONE_AND_DAMAGE)
 }
+
+const ONE_AND_FAULT: &str = r#"{"id":0,"method":"echo","params":[]}
+ReadFault
+2 Some(7) 2 Some(ReadFault)"#;
 
 #[test]
 fn the_second_read_fails(rt: HostRuntime) -> Result<(), Fail> {
@@ -160,16 +201,11 @@ fn the_second_read_fails(rt: HostRuntime) -> Result<(), Fail> {
         most: 40,
         calls: 1,
     };
-    let lines = read(&rt, rt.alloc(), true, reader)?;
-    let wanted =
-        b"{\"id\":0,\"method\":\"echo\",\"params\":[]}\nReadFault\n2 Some(7) 2 Some(ReadFault)".as_slice();
-    assert_eq!(rt; lines.as_slice(), wanted);
-    Ok(())
+    brings(&rt, rt.alloc(), true, reader, ONE_AND_FAULT)
 }
 
 #[test]
 fn a_reader_that_may_not_begin_brings_nothing(rt: HostRuntime) -> Result<(), Fail> {
-    let lines = read(&rt, rt.alloc(), false, reader_of(STREAM, 7))?;
-    assert_eq!(rt; lines.as_slice(), b"0 None 0 None".as_slice());
-    Ok(())
+    let reader = reader_of(STREAM, 7);
+    brings(&rt, rt.alloc(), false, reader, "0 None 0 None")
 }

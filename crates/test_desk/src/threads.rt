@@ -17,6 +17,7 @@ use std::sync::ledger::{Blank, Ledger, Share};
 use std::test::Fail;
 use std::thread::{Scope, Threads};
 use std::{io, thread};
+use test_basics::is_text;
 
 /// A writer that keeps what it is given, and rings a bell at each flush.
 #[derive(Drop)]
@@ -48,8 +49,22 @@ struct Ends<'a, R: Wait, L: Ledger> {
     to_writer: Consumer<Sent>,
 }
 
-/// What a desk makes of a session: it sends these frames, each once the writer has handed on the one before, and joins the
-/// workers. It tells the reader's cause, and what was written.
+/// Sends three frames, each once the writer has handed on the one before, and the end. A frame that there is no memory for is not
+/// sent, and is then missing in what was written.
+fn send<R: Wait>(rt: &R, alloc: Global, bell: &Bell, flushed: &Bell, out: Producer<Sent>) {
+    let mut out = out;
+    for text in [b"[1]".as_slice(), b"[2]".as_slice(), b"[3]".as_slice()] {
+        if let Ok(frame) = Bytes::from_slice(alloc, text) {
+            let _ = out.push(Sent::Frame(frame));
+            bell.ring(rt);
+            flushed.wait(rt);
+        }
+    }
+    let _ = out.push(Sent::End);
+    bell.ring(rt);
+}
+
+/// What a desk makes of a session: it sends three frames and joins the workers. It tells the reader's cause, and what was written.
 fn serve_in<'s, E, R: Threads + Wait + Sync, L: Ledger + Send + Sync + 's>(
     rt: &'s R,
     alloc: Global,
@@ -60,7 +75,6 @@ fn serve_in<'s, E, R: Threads + Wait + Sync, L: Ledger + Send + Sync + 's>(
     gate: &'s CountingGate,
     ends: Ends<'s, R, L>,
     out: Producer<Sent>,
-    frames: Vec<Bytes>,
 ) -> Result<(Option<ReadCause>, Vec<u8>), Fail>
     requires reader { (0 < ends.share.parts) × (sent ends.to_desk ≡ []) × (ends.share.amount ≡ 0) }
     requires writer { received ends.to_writer ≡ [] }
@@ -72,7 +86,6 @@ fn serve_in<'s, E, R: Threads + Wait + Sync, L: Ledger + Send + Sync + 's>(
         writer,
         to_writer,
     } = ends;
-    let mut out = out;
     let Ok(reads) = start_reader(
         rt, alloc, scope, order, &FreeGate, 7, reader, to_desk, share,
     ) else {
@@ -83,13 +96,7 @@ fn serve_in<'s, E, R: Threads + Wait + Sync, L: Ledger + Send + Sync + 's>(
     };
     order.lock(rt).begin(true);
     order.wake();
-    for frame in frames {
-        let _ = out.push(Sent::Frame(frame));
-        bell.ring(rt);
-        flushed.wait(rt);
-    }
-    let _ = out.push(Sent::End);
-    bell.ring(rt);
+    send(rt, alloc, bell, flushed, out);
     let read = reads.join(rt);
     let written = writes.join(rt);
     Ok((read.cause, written.writer.into_inner().taken))
@@ -105,7 +112,6 @@ fn in_scope<'a, R: Threads + Wait + Sync, L: Ledger + Send + Sync>(
     gate: &'a CountingGate,
     ends: Ends<'a, R, L>,
     out: Producer<Sent>,
-    frames: Vec<Bytes>,
 ) -> Result<(Option<ReadCause>, Vec<u8>), Fail>
     requires reader { (0 < ends.share.parts) × (sent ends.to_desk ≡ []) × (ends.share.amount ≡ 0) }
     requires writer { received ends.to_writer ≡ [] }
@@ -116,20 +122,28 @@ fn in_scope<'a, R: Threads + Wait + Sync, L: Ledger + Send + Sync>(
         move |scope| -> Result<(Option<ReadCause>, Vec<u8>), Fail>
             requires reader { (0 < ends.share.parts) × (sent ends.to_desk ≡ []) × (ends.share.amount ≡ 0) }
             requires writer { received ends.to_writer ≡ [] }
-        {
-            serve_in(
-                rt, alloc, scope, order, bell, flushed, gate, ends, out, frames,
-            )
-        },
+        { serve_in(rt, alloc, scope, order, bell, flushed, gate, ends, out) },
     )
 }
 
-/// The same, of a ledger and an order of its own, then the first serial that was noted, and how often the writer passed the gate.
+/// The reader's cause and what was written, then the first serial that was noted, and how often the writer passed the gate.
+fn told_of(
+    alloc: Global,
+    served: Result<(Option<ReadCause>, Vec<u8>), Fail>,
+    first: Option<u64>,
+    passed: u64,
+) -> Result<String, Fail> {
+    let (cause, written) = served?;
+    let written = String::from_utf8(written)?;
+    Ok(format!(in alloc; "{cause:?} {written} {first:?} {passed}")?)
+}
+
+/// What is told of a session with a ledger and an order of its own.
 fn serve<R: Threads + Wait + Sync, L: Ledger + Send + Sync>(
     rt: &R,
     alloc: Global,
     blank: Blank,
-) -> Result<(Option<ReadCause>, Vec<u8>, Option<u64>, u64), Fail>
+) -> Result<String, Fail>
     requires name { blank.name ≡ L.name }
     requires parts { (blank.parts ≡ L.parts) × (blank.parts ≡ 1) }
 {
@@ -137,10 +151,6 @@ fn serve<R: Threads + Wait + Sync, L: Ledger + Send + Sync>(
     let (to_desk, _desk) = inbound_ring(alloc)?;
     let (out, to_writer) = outbound_ring(alloc)?;
     let order = Order::new(alloc, ledger)?;
-    let mut frames = Vec::new(alloc);
-    for text in [b"[1]".as_slice(), b"[2]".as_slice(), b"[3]".as_slice()] {
-        frames.push(Bytes::from_slice(alloc, text)?)?;
-    }
     let flushed = Bell::new();
     let writer = RingingWriter {
         rt,
@@ -156,20 +166,14 @@ fn serve<R: Threads + Wait + Sync, L: Ledger + Send + Sync>(
     };
     let gate = CountingGate::new(Point::BeforeWrite);
     let bell = Bell::new();
-    let (cause, written) = in_scope(rt, alloc, &order, &bell, &flushed, &gate, ends, out, frames)?;
+    let served = in_scope(rt, alloc, &order, &bell, &flushed, &gate, ends, out);
     let first = order.lock(rt).next();
-    Ok((cause, written, first, gate.passed()))
+    told_of(alloc, served, first, gate.passed())
 }
 
 #[test]
 fn both_workers_of_a_session_run_in_threads(rt: HostRuntime) -> Result<(), Fail> {
-    let (cause, written, first, passed) = serve::<HostRuntime, Brand>(
-        &rt,
-        rt.alloc(),
-        Blank::new(1),
-    )?;
-    assert_eq!(rt; cause, Some(ReadCause::InputEnded));
-    assert_eq!(rt; written.as_slice(), b"[1][2][3]".as_slice());
-    assert_eq!(rt; (first, passed), (Some(7), 3));
-    Ok(())
+    let told = serve::<HostRuntime, Brand>(&rt, rt.alloc(), Blank::new(1))?;
+    let wanted = "Some(InputEnded) [1][2][3] Some(7) 3";
+    is_text(rt.alloc(), told.as_str(), wanted)
 }

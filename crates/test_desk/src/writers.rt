@@ -1,6 +1,7 @@
 ghost use Rattle.std.specs.Prelude.{◌≡◌};
 
 use crate::gates::CountingGate;
+use crate::readers::are_text;
 use ov_base::Bytes;
 use ov_ends::Watched;
 use ov_order::{Bell, Order, Sent, outbound_ring};
@@ -67,8 +68,23 @@ fn send(alloc: Global, ring: Producer<Sent>) -> Result<(), Fail> {
     Ok(())
 }
 
-/// What a worker writes of two frames to such a writer, where it may begin or may not. Behind that stands whether it began,
-/// whether it failed, whether its ring is empty, how often it passed the gate, and how often it flushed.
+/// What was written. Behind that stands whether the worker began, whether it failed, whether its ring is empty, how often it
+/// passed the gate, and how often it flushed.
+fn told_of(
+    alloc: Global,
+    taken: Vec<u8>,
+    ends: (bool, bool, bool),
+    passed: u64,
+    flushes: u64,
+) -> Result<Vec<u8>, Fail> {
+    let mut lines = taken;
+    let (begun, failed, is_empty) = ends;
+    let told = format!(in alloc; " {begun} {failed} {is_empty} {passed} {flushes}")?;
+    lines.extend_from_slice(told.as_bytes())?;
+    Ok(lines)
+}
+
+/// What a worker writes of two frames to such a writer, where it may begin or may not.
 fn written_by<R: Wait, L: Ledger>(
     rt: &R,
     alloc: Global,
@@ -82,24 +98,19 @@ fn written_by<R: Wait, L: Ledger>(
 {
     let (ledger, _share) = blank.open::<L>();
     let (desk, ring) = outbound_ring(alloc)?;
+    send(alloc, desk)?;
     let order = Order::new(alloc, ledger)?;
     let bell = Bell::new();
     let gate = CountingGate::new(Point::BeforeWrite);
     let writer = Watched::new(writer_of(alloc, left, fails));
     order.lock(rt).begin(go);
-    send(alloc, desk)?;
     bell.ring(rt);
     let end = write_worker(rt, &order, &bell, &gate, 7, writer, ring);
     let mut ring = end.ring;
     let is_empty = ring.pop().is_err();
-    let (begun, failed) = (end.begun, end.failed);
-    let passed = gate.passed();
+    let ends = (end.begun, end.failed, is_empty);
     let writer = end.writer.into_inner();
-    let flushes = writer.flushes;
-    let mut lines = writer.taken;
-    let told = format!(in alloc; " {begun} {failed} {is_empty} {passed} {flushes}")?;
-    lines.extend_from_slice(told.as_bytes())?;
-    Ok(lines)
+    told_of(alloc, writer.taken, ends, gate.passed(), writer.flushes)
 }
 
 /// The same, of a ledger of its own.
@@ -113,25 +124,35 @@ fn written<R: Wait>(
     written_by::<R, Brand>(rt, alloc, Blank::new(1), go, left, fails)
 }
 
+/// Fails unless a worker writes this.
+fn writes<R: Wait>(
+    rt: &R,
+    alloc: Global,
+    go: bool,
+    left: usize,
+    fails: bool,
+    wanted: &str,
+) -> Result<(), Fail> {
+    let lines = written(rt, alloc, go, left, fails)?;
+    are_text(alloc, lines.as_slice(), wanted)
+}
+
 #[test]
 fn frames_are_written_in_short_writes(rt: HostRuntime) -> Result<(), Fail> {
-    let all = written(&rt, rt.alloc(), true, 9, false)?;
-    assert_eq!(rt; all.as_slice(), b"[12][345] true false true 2 1".as_slice());
-    Ok(())
+    let wanted = "[12][345] true false true 2 1";
+    writes(&rt, rt.alloc(), true, 9, false, wanted)
 }
 
 #[test]
 fn a_writer_that_takes_nothing_or_fails_gets_no_more(rt: HostRuntime) -> Result<(), Fail> {
     for fails in [false, true] {
-        let some = written(&rt, rt.alloc(), true, 3, fails)?;
-        assert_eq!(rt; some.as_slice(), b"[12 true true true 1 0".as_slice());
+        writes(&rt, rt.alloc(), true, 3, fails, "[12 true true true 1 0")?;
     }
     Ok(())
 }
 
 #[test]
 fn a_writer_that_may_not_begin_takes_nothing(rt: HostRuntime) -> Result<(), Fail> {
-    let none = written(&rt, rt.alloc(), false, 9, false)?;
-    assert_eq!(rt; none.as_slice(), b" false false false 0 0".as_slice());
-    Ok(())
+    let wanted = " false false false 0 0";
+    writes(&rt, rt.alloc(), false, 9, false, wanted)
 }
