@@ -1,10 +1,12 @@
+use crate::sessions::client_of;
 use ov_desk::Link;
 use ov_ends::{Sink, Source};
 use ov_sockets::{SocketReader, SocketWriter, accept_all, links_of, listen};
 use std::alloc::Global;
 use std::io::{Read, Write};
-use std::net::{Shutdown, TcpStream};
+use std::net::{Net, Shutdown, TcpListener, TcpStream};
 use std::test::Fail;
+use test_basics::{holds, is_text};
 
 /// Reads up to 16 bytes and sends them back. It tells how many.
 fn echo(link: &mut Link<SocketReader<'_>, SocketWriter<'_>>) -> Option<usize> {
@@ -21,51 +23,98 @@ fn crosses<S: Send, W: Send>(link: Link<S, W>) -> Link<S, W> {
     link
 }
 
+/// The same as `echo`, of a link that is dropped then.
+fn echo_once(link: Link<SocketReader<'_>, SocketWriter<'_>>) -> Option<usize> {
+    let mut link = crosses(link);
+    echo(&mut link)
+}
+
 /// The same, of each connection in order.
 fn echo_all(alloc: Global, streams: &Vec<TcpStream>) -> Result<Vec<usize>, Fail> {
     let mut lengths = Vec::new(alloc);
     for link in links_of(alloc, streams)? {
-        let mut link = crosses(link);
-        lengths.push(echo(&mut link).ok_or("no echo")?)?;
+        lengths.push(echo_once(link).ok_or("no echo")?)?;
     }
     Ok(lengths)
 }
 
-fn sends(client: &TcpStream, bytes: &[u8]) -> Result<bool, Fail> {
-    let mut writer = client;
-    Ok(writer.write(bytes)? == bytes.len())
+/// Fails unless so many bytes are sent back.
+fn echoes(alloc: Global, streams: &Vec<TcpStream>, wanted: &str) -> Result<(), Fail> {
+    let lengths = echo_all(alloc, streams)?;
+    let told = format!(in alloc; "{lengths:?}")?;
+    is_text(alloc, told.as_str(), wanted)
 }
 
-/// Whether the client reads these bytes, of up to 16.
-fn reads(client: &TcpStream, bytes: &[u8]) -> Result<bool, Fail> {
+/// Fails unless the client sends all of a text.
+fn sends(alloc: Global, client: &TcpStream, text: &str) -> Result<(), Fail> {
+    let mut writer = client;
+    let n = writer.write(text.as_bytes())?;
+    holds(alloc, n == text.len(), "all of it is sent")
+}
+
+/// Fails unless the client reads this text, of up to 16 bytes.
+fn reads(alloc: Global, client: &TcpStream, wanted: &str) -> Result<(), Fail> {
     let mut reader = client;
     let mut piece = [0; 16];
     let n = reader.read(&mut piece)?;
-    Ok(&piece[..n] == bytes)
+    is_text(alloc, str::from_utf8(&piece[..n])?, wanted)
+}
+
+/// Both clients are answered, and the second goes on once the first has ended.
+fn are_answered(
+    alloc: Global,
+    streams: &Vec<TcpStream>,
+    first: &TcpStream,
+    second: &TcpStream,
+) -> Result<(), Fail> {
+    sends(alloc, first, "[1]")?;
+    sends(alloc, second, "[22]")?;
+    echoes(alloc, streams, "[3, 4]")?;
+    reads(alloc, first, "[1]")?;
+    reads(alloc, second, "[22]")?;
+    first.shutdown(Shutdown::Write)?;
+    sends(alloc, second, "{}")?;
+    echoes(alloc, streams, "[0, 2]")?;
+    reads(alloc, second, "{}")
+}
+
+/// The same of new connections, until they are dropped.
+fn are_accepted(
+    alloc: Global,
+    listener: &TcpListener,
+    first: &TcpStream,
+    second: &TcpStream,
+) -> Result<(), Fail> {
+    let streams = accept_all(alloc, listener, 2)?;
+    are_answered(alloc, &streams, first, second)
+}
+
+/// The same, and then both clients meet the end.
+fn meet_their_ends(
+    alloc: Global,
+    listener: &TcpListener,
+    first: &TcpStream,
+    second: &TcpStream,
+) -> Result<(), Fail> {
+    are_accepted(alloc, listener, first, second)?;
+    reads(alloc, first, "")?;
+    reads(alloc, second, "")
+}
+
+/// The same of new clients.
+fn two_meet_their_ends<R: Net<Listener = TcpListener, Stream = TcpStream>>(
+    rt: &R,
+    alloc: Global,
+    listener: &TcpListener,
+) -> Result<(), Fail> {
+    let first = client_of(rt, listener)?;
+    let second = client_of(rt, listener)?;
+    meet_their_ends(alloc, listener, &first, &second)
 }
 
 /// Two clients are served over a connection of their own, and each sees its end once it is dropped.
 #[test]
 fn clients_meet_the_ends_of_their_connections(rt: HostRuntime) -> Result<(), Fail> {
     let listener = listen(&rt, "127.0.0.1:0")?;
-    let address = listener.local_addr()?;
-    let first = TcpStream::connect(&rt, address)?;
-    let second = TcpStream::connect(&rt, address)?;
-    let streams = accept_all(rt.alloc(), &listener, 2)?;
-    assert!(rt; sends(&first, b"[1]")? && sends(&second, b"[22]")?);
-    assert_eq!(rt;
-        echo_all(rt.alloc(), &streams)?.as_slice(),
-        [3, 4].as_slice()
-    );
-    assert!(rt; reads(&first, b"[1]")? && reads(&second, b"[22]")?);
-    first.shutdown(Shutdown::Write)?;
-    assert!(rt; sends(&second, b"{}")?);
-    assert_eq!(rt;
-        echo_all(rt.alloc(), &streams)?.as_slice(),
-        [0, 2].as_slice()
-    );
-    assert!(rt; reads(&second, b"{}")?);
-    drop(streams);
-    assert!(rt; reads(&first, b"")? && reads(&second, b"")?);
-    Ok(())
+    two_meet_their_ends(&rt, rt.alloc(), &listener)
 }

@@ -8,12 +8,12 @@ use ov_lobby::{Listen, serve_lobby};
 use ov_sockets::listen;
 use ov_workers::FreeGate;
 use std::alloc::Global;
-use std::net::{Shutdown, TcpListener, TcpStream};
+use std::net::{Net, Shutdown, TcpListener, TcpStream};
 use std::sync::Wait;
 use std::test::Fail;
 use std::thread;
 use std::thread::Threads;
-use test_basics::Faults;
+use test_basics::{Faults, is_text};
 use test_support::net_core;
 
 /// A clock that stands still.
@@ -88,18 +88,45 @@ fn talk_and_end(alloc: Global, first: &TcpStream, second: &TcpStream) -> Option<
     meets_end(first)
 }
 
+/// Fails unless both have talked, and each was opened, asked once, and was closed.
+fn is_served(
+    alloc: Global,
+    entries: Result<Option<usize>, Fail>,
+    talked: Option<()>,
+) -> Result<(), Fail> {
+    let entries = entries?;
+    let told = format!(in alloc; "{entries:?} {talked:?}")?;
+    is_text(alloc, told.as_str(), "Some(6) Some(())")
+}
+
+/// The same of clients that talk while they are served.
+fn are_served<R: Threads + Wait + Sync>(
+    rt: &R,
+    alloc: Global,
+    listener: &TcpListener,
+    first: &TcpStream,
+    second: &TcpStream,
+) -> Result<(), Fail> {
+    let (entries, talked) = thread::join(
+        rt,
+        || serve_two(rt, alloc, listener),
+        || talk_and_end(alloc, first, second),
+    );
+    is_served(alloc, entries, talked)
+}
+
+/// The same of new clients.
+fn two_are_served<R>(rt: &R, alloc: Global, listener: &TcpListener) -> Result<(), Fail>
+where
+    R: Net<Listener = TcpListener, Stream = TcpStream> + Threads + Wait + Sync,
+{
+    let first = client_of(rt, listener)?;
+    let second = client_of(rt, listener)?;
+    are_served(rt, alloc, listener, &first, &second)
+}
+
 #[test]
 fn one_is_closed_for_damage_while_another_stays(rt: HostRuntime) -> Result<(), Fail> {
-    let alloc = rt.alloc();
     let listener = listen(&rt, "127.0.0.1:0")?;
-    let (first, second) = (client_of(&rt, &listener)?, client_of(&rt, &listener)?);
-    let (entries, talked) = thread::join(
-        &rt,
-        || serve_two(&rt, alloc, &listener),
-        || talk_and_end(alloc, &first, &second),
-    );
-    // Each is opened, asks once, and is closed.
-    assert_eq!(rt; entries?, Some(6));
-    assert!(rt; talked.is_some());
-    Ok(())
+    two_are_served(&rt, rt.alloc(), &listener)
 }

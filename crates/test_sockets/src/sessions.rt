@@ -1,5 +1,6 @@
 //! Clients over the loopback interface, whose sessions are served together.
 
+use crate::addresses::address_of;
 use ov_base::Text;
 use ov_listen::{Place, serve_at, serve_connections, serve_memory};
 use ov_schema::text_of;
@@ -14,7 +15,7 @@ use std::test::Fail;
 use std::thread;
 use std::thread::Threads;
 use std::time::Duration;
-use test_basics::{Counter, Faults, net, net_keeper};
+use test_basics::{Counter, Faults, holds, is_text, net, net_keeper};
 use test_support::net_core;
 
 /// How many seconds a client waits for what it is sent.
@@ -107,20 +108,49 @@ pub(crate) fn client_of<R: Net<Listener = TcpListener, Stream = TcpStream>>(
     Ok(client)
 }
 
+/// Fails unless sessions end so.
+fn is_ending(alloc: Global, ending: Ending, wanted: &str) -> Result<(), Fail> {
+    let told = format!(in alloc; "{ending:?}")?;
+    is_text(alloc, told.as_str(), wanted)
+}
+
+/// Fails unless sessions end with their input, and their clients have talked.
+fn have_talked(alloc: Global, ended: Result<Ending, Fail>, is_as_told: bool) -> Result<(), Fail> {
+    is_ending(alloc, ended?, "InputEnded")?;
+    holds(alloc, is_as_told, "the clients have talked to the end")
+}
+
+/// The same of clients that talk while these connections are served.
+fn share_a_lock<R: Threads + Wait + Clock + Sync>(
+    rt: &R,
+    alloc: Global,
+    listener: &TcpListener,
+    first: &TcpStream,
+    second: &TcpStream,
+) -> Result<(), Fail> {
+    let streams = accept_all(alloc, listener, 2)?;
+    let (ended, is_as_told) = thread::join(
+        rt,
+        || served(rt, alloc, &streams),
+        || talk_to_end(alloc, first, second, GIVEN_ON),
+    );
+    have_talked(alloc, ended, is_as_told)
+}
+
+/// The same of new clients.
+fn two_share_a_lock<R>(rt: &R, alloc: Global, listener: &TcpListener) -> Result<(), Fail>
+where
+    R: Net<Listener = TcpListener, Stream = TcpStream> + Threads + Wait + Clock + Sync,
+{
+    let first = client_of(rt, listener)?;
+    let second = client_of(rt, listener)?;
+    share_a_lock(rt, alloc, listener, &first, &second)
+}
+
 #[test]
 fn two_clients_share_a_lock(rt: HostRuntime) -> Result<(), Fail> {
-    let alloc = rt.alloc();
     let listener = listen(&rt, "127.0.0.1:0")?;
-    let (first, second) = (client_of(&rt, &listener)?, client_of(&rt, &listener)?);
-    let streams = accept_all(alloc, &listener, 2)?;
-    let (ended, is_as_told) = thread::join(
-        &rt,
-        || served(&rt, alloc, &streams),
-        || talk_to_end(alloc, &first, &second, GIVEN_ON),
-    );
-    assert_eq!(rt; ended?, Ending::InputEnded);
-    assert!(rt; is_as_told);
-    Ok(())
+    two_share_a_lock(&rt, rt.alloc(), &listener)
 }
 
 /// How a session at an address ends, of a new database Net in memory.
@@ -128,27 +158,37 @@ fn ending_at<R>(rt: &R, alloc: Global, address: &str) -> Result<Ending, Fail>
 where
     R: Net<Listener = TcpListener, Stream = TcpStream> + Threads + Wait + Clock + Eprint + Sync,
 {
-    let schema = net(alloc)?;
     let keeper = net_keeper(alloc, Faults::NONE)?;
+    let schema = net(alloc)?;
     Ok(serve_at(rt, alloc, keeper, schema, Counter::new(), address, Some(1)).ending)
+}
+
+/// Fails unless it ends so.
+fn ends_at<R>(rt: &R, alloc: Global, address: &str, wanted: &str) -> Result<(), Fail>
+where
+    R: Net<Listener = TcpListener, Stream = TcpStream> + Threads + Wait + Clock + Eprint + Sync,
+{
+    is_ending(alloc, ending_at(rt, alloc, address)?, wanted)
 }
 
 #[test]
 fn no_address_ends_as_streams(rt: HostRuntime) -> Result<(), Fail> {
-    assert_eq!(rt; ending_at(&rt, rt.alloc(), "127.0.0.1")?, Ending::Streams);
-    Ok(())
+    ends_at(&rt, rt.alloc(), "127.0.0.1", "Streams")
+}
+
+/// Fails unless a session ends so at the address of another listener.
+fn ends_beside<R>(rt: &R, alloc: Global, listener: &TcpListener, wanted: &str) -> Result<(), Fail>
+where
+    R: Net<Listener = TcpListener, Stream = TcpStream> + Threads + Wait + Clock + Eprint + Sync,
+{
+    let address = address_of(alloc, listener)?;
+    ends_at(rt, alloc, address.as_str(), wanted)
 }
 
 #[test]
 fn a_port_in_use_ends_as_streams(rt: HostRuntime) -> Result<(), Fail> {
     let listener = listen(&rt, "127.0.0.1:0")?;
-    let address = listener.local_addr()?;
-    let named = format!(in rt.alloc(); "{address}")?;
-    assert_eq!(rt;
-        ending_at(&rt, rt.alloc(), named.as_str())?,
-        Ending::Streams
-    );
-    Ok(())
+    ends_beside(&rt, rt.alloc(), &listener, "Streams")
 }
 
 /// How sessions end where they are asked for, of a new database Net in memory.
@@ -163,21 +203,34 @@ where
     Ok(serve_memory(rt, alloc, text, schema, Counter::new(), place))
 }
 
+/// How a session over streams ended, and what it wrote.
+fn told_of(alloc: Global, ended: Result<Ending, Fail>, output: Vec<u8>) -> Result<String, Fail> {
+    let ending = ended?;
+    let output = String::from_utf8(output)?;
+    Ok(format!(in alloc; "{ending:?} {output}")?)
+}
+
+/// The same of a session over this input.
+fn told_over_streams<R>(rt: &R, alloc: Global, input: &[u8]) -> Result<String, Fail>
+where
+    R: Net<Listener = TcpListener, Stream = TcpStream> + Threads + Wait + Clock + Eprint + Sync,
+{
+    let mut output = Vec::new(alloc);
+    let ended = ending_of(rt, alloc, Place::Streams(input, &mut output));
+    told_of(alloc, ended, output)
+}
+
 #[test]
 fn a_session_is_served_over_streams(rt: HostRuntime) -> Result<(), Fail> {
-    let mut output = Vec::new(rt.alloc());
     let input = br#"{"id":1,"method":"echo","params":[2]}"#.as_slice();
-    let ending = ending_of(&rt, rt.alloc(), Place::Streams(input, &mut output))?;
-    assert_eq!(rt; ending, Ending::InputEnded);
-    let replies = br#"{"error":null,"id":1,"result":[2]}"#.as_slice();
-    assert_eq!(rt; output.as_slice(), replies);
-    Ok(())
+    let told = told_over_streams(&rt, rt.alloc(), input)?;
+    let wanted = r#"InputEnded {"error":null,"id":1,"result":[2]}"#;
+    is_text(rt.alloc(), told.as_str(), wanted)
 }
 
 #[test]
 fn nothing_is_served_where_no_address_is(rt: HostRuntime) -> Result<(), Fail> {
     let address = Text::from_str(rt.alloc(), "127.0.0.1")?;
     let place: Place<&[u8], Vec<u8>> = Place::Address(address, Some(1));
-    assert_eq!(rt; ending_of(&rt, rt.alloc(), place)?, Ending::Streams);
-    Ok(())
+    is_ending(rt.alloc(), ending_of(&rt, rt.alloc(), place)?, "Streams")
 }
