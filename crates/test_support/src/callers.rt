@@ -1,6 +1,7 @@
 use crate::machine::{NetCore, net_core};
+use crate::texts::{fact_text, session_of, step_text};
 use ov_base::Bytes;
-use ov_core::{Cause, Event, Session, Stepped};
+use ov_core::{Cause, Event, Session};
 use ov_rpc::Received;
 use std::alloc::Global;
 use std::test::Fail;
@@ -17,14 +18,6 @@ struct Callers {
     core: NetCore,
 }
 
-/// The session of a serial's text. Its key is not known here, and the machine goes by serials.
-fn session_of(serial: &str) -> Result<Session, Fail> {
-    Ok(Session {
-        key: 0,
-        serial: serial.parse::<u64>()?,
-    })
-}
-
 /// The message of a call: its id, its method and its params.
 fn message_of(alloc: Global, call: &str) -> Result<Received, Fail> {
     let (id, rest) = call.split_once(" ").ok_or("no method")?;
@@ -36,20 +29,22 @@ fn message_of(alloc: Global, call: &str) -> Result<Received, Fail> {
 impl Callers {
     /// Enters an event.
     fn step(&mut self, alloc: Global, moment: u64, event: Event<Received>) -> Result<String, Fail> {
-        match self.core.step(alloc, moment, event) {
-            Stepped::Opened(session) => Ok(format!(in alloc; "{}", session.serial)?),
-            Stepped::Done => Ok(String::new(alloc)),
-            stepped => Ok(format!(in alloc; "{stepped:?}")?),
-        }
+        step_text(alloc, self.core.step(alloc, moment, event))
+    }
+
+    /// Opens a session, and adds its serial.
+    fn push_opened(&mut self, alloc: Global, serials: &mut String) -> Result<(), Fail> {
+        let serial = self.step(alloc, 0, Event::Open)?;
+        serials.push_str(serial.as_str())?;
+        serials.push_str(";")?;
+        Ok(())
     }
 
     /// Opens so many sessions, and tells their serials.
     fn open(&mut self, alloc: Global, count: u64) -> Result<String, Fail> {
         let mut serials = String::new(alloc);
         for _ in 0..count {
-            let serial = self.step(alloc, 0, Event::Open)?;
-            serials.push_str(serial.as_str())?;
-            serials.push_str(";")?;
+            self.push_opened(alloc, &mut serials)?;
         }
         Ok(serials)
     }
@@ -83,10 +78,7 @@ impl Callers {
             "call" => self.call(alloc, session, rest),
             "got" => self.got(alloc, session),
             "end" => self.step(alloc, 0, Event::Close(session, Cause::InputEnded)),
-            "close" => {
-                let is_closed = self.core.close(session, Cause::Overrun);
-                Ok(format!(in alloc; "{is_closed}")?)
-            }
+            "close" => fact_text(alloc, self.core.close(session, Cause::Overrun)),
             _ => Err(Fail::new("no command")),
         }
     }
@@ -96,10 +88,11 @@ impl Scripted for Callers {
     fn answer(&mut self, alloc: Global, command: &str) -> Result<String, Fail> {
         let (word, rest) = command.split_once(" ").unwrap_or((command, ""));
         let (number, rest) = rest.split_once(" ").unwrap_or((rest, ""));
+        let number = number.parse::<u64>()?;
         match word {
-            "open" => self.open(alloc, number.parse::<u64>()?),
-            "tick" => self.step(alloc, number.parse::<u64>()?, Event::Tick),
-            _ => self.act(alloc, word, session_of(number)?, rest),
+            "open" => self.open(alloc, number),
+            "tick" => self.step(alloc, number, Event::Tick),
+            _ => self.act(alloc, word, session_of(number), rest),
         }
     }
 }

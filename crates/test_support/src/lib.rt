@@ -10,9 +10,11 @@ mod lookups;
 mod machine;
 mod owning;
 mod server;
+mod texts;
 
 pub use callers::{calls, calls_over};
 pub use looked::{Looked, looks};
 pub use machine::{NetCore, net_core, steps};
 pub use owning::OwnsOne;
 pub use server::{converses, converses_over};
+pub use texts::{number_or_none, session_of, step_text};

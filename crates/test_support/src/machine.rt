@@ -1,3 +1,4 @@
+use crate::texts::{fact_text, number_or_none, number_text, push_number, session_of, step_word};
 use ov_base::Bytes;
 use ov_core::{Cause, Core, Event, Session, Stepped};
 use ov_rpc::{MessageText, Received};
@@ -15,18 +16,42 @@ pub fn net_core(alloc: Global, faults: Faults) -> Result<NetCore, Fail> {
     Ok(Core::open(alloc, keeper, schema, Counter::new())?)
 }
 
-/// The session of a serial. Its key is not known here, and the machine goes by serials.
-fn session_of(serial: u64) -> Session {
-    Session { key: 0, serial }
+/// The text of a message that was taken.
+fn message_text(alloc: Global, text: &MessageText) -> Result<String, Fail> {
+    Ok(String::from_utf8(Vec::from_slice(alloc, text.as_slice())?)?)
+}
+
+/// The word of an event that is no message.
+fn event_word(event: &Event<MessageText>) -> &'static str {
+    match event {
+        Event::Open => "open",
+        Event::Take(..) => "take",
+        Event::Close(..) => "close",
+        Event::Tick => "tick",
+    }
 }
 
 /// An event of the history: the text of a message that was taken, or a word.
 fn event_text(alloc: Global, event: &Event<MessageText>) -> Result<String, Fail> {
     match event {
-        Event::Open => Ok(String::from_str(alloc, "open")?),
-        Event::Take(_, text) => Ok(String::from_utf8(Vec::from_slice(alloc, text.as_slice())?)?),
-        Event::Close(..) => Ok(String::from_str(alloc, "close")?),
-        Event::Tick => Ok(String::from_str(alloc, "tick")?),
+        Event::Take(_, text) => message_text(alloc, text),
+        other => Ok(String::from_str(alloc, event_word(other))?),
+    }
+}
+
+/// Adds the key of a session that was opened.
+fn push_key(alloc: Global, keys: &mut String, stepped: Stepped) -> Result<(), Fail> {
+    match stepped {
+        Stepped::Opened(session) => push_number(alloc, keys, session.key as u64),
+        _ => Err(Fail::new("not opened")),
+    }
+}
+
+/// The text of a frame, or `none`.
+fn frame_text(alloc: Global, frame: Option<Bytes>) -> Result<String, Fail> {
+    match frame {
+        Some(frame) => Ok(String::from_utf8(frame.into_vec())?),
+        None => Ok(String::from_str(alloc, "none")?),
     }
 }
 
@@ -46,8 +71,7 @@ struct Machine {
 impl Machine {
     /// Enters an event.
     fn step(&mut self, alloc: Global, moment: u64, event: Event<Received>) -> Result<String, Fail> {
-        let stepped = self.core.step(alloc, moment, event);
-        Ok(format!(in alloc; "{stepped:?}")?)
+        step_word(alloc, self.core.step(alloc, moment, event))
     }
 
     /// Takes the message of a session.
@@ -64,8 +88,8 @@ impl Machine {
     }
 
     /// Takes echoes of session 1.
-    fn echoes(&mut self, alloc: Global, first: u64, beyond: u64) -> Result<String, Fail> {
-        for id in first..beyond {
+    fn echoes(&mut self, alloc: Global, first: u64, beyond: &str) -> Result<String, Fail> {
+        for id in first..beyond.parse::<u64>()? {
             self.echo(alloc, id)?;
         }
         Ok(String::new(alloc))
@@ -81,10 +105,7 @@ impl Machine {
     fn opens(&mut self, alloc: Global, count: u64) -> Result<String, Fail> {
         let mut keys = String::new(alloc);
         for _ in 0..count {
-            let Stepped::Opened(session) = self.core.step(alloc, 0, Event::Open) else {
-                return Err(Fail::new("not opened"));
-            };
-            keys.push_str(format!(in alloc; "{};", session.key)?.as_str())?;
+            push_key(alloc, &mut keys, self.core.step(alloc, 0, Event::Open))?;
         }
         Ok(keys)
     }
@@ -93,28 +114,6 @@ impl Machine {
     fn discard(&mut self, alloc: Global, session: Session) -> Result<String, Fail> {
         self.core.discard(session);
         Ok(String::new(alloc))
-    }
-
-    /// The serial of the next session.
-    fn next(&self, alloc: Global) -> Result<String, Fail> {
-        match self.core.next_serial() {
-            Some(serial) => Ok(format!(in alloc; "{serial}")?),
-            None => Ok(String::from_str(alloc, "none")?),
-        }
-    }
-
-    /// Closes a session that did not take what was sent to it.
-    fn close(&mut self, alloc: Global, session: Session) -> Result<String, Fail> {
-        let is_closed = self.core.close(session, Cause::Overrun);
-        Ok(format!(in alloc; "{is_closed}")?)
-    }
-
-    /// The oldest frame that waits for a session.
-    fn frame(&mut self, alloc: Global, session: Session) -> Result<String, Fail> {
-        match self.core.next_frame(session) {
-            Some(frame) => Ok(String::from_utf8(frame.into_vec())?),
-            None => Ok(String::from_str(alloc, "none")?),
-        }
     }
 
     /// All frames that wait for a session.
@@ -128,7 +127,7 @@ impl Machine {
         self.core.left();
         let mut text = String::new(alloc);
         for entry in self.core.history() {
-            text.push_str(format!(in alloc; "{};", entry.choice.moment)?.as_str())?;
+            push_number(alloc, &mut text, entry.choice.moment)?;
         }
         Ok(text)
     }
@@ -142,30 +141,34 @@ impl Machine {
             "tick" => self.step(alloc, number, Event::Tick),
             "take" => self.take(alloc, session, text),
             "end" => self.step(alloc, 0, Event::Close(session, Cause::InputEnded)),
-            "close" => self.close(alloc, session),
-            "is_open" => Ok(format!(in alloc; "{}", self.core.is_open(session))?),
-            "frame" => self.frame(alloc, session),
+            "close" => fact_text(alloc, self.core.close(session, Cause::Overrun)),
+            "is_open" => fact_text(alloc, self.core.is_open(session)),
+            "frame" => frame_text(alloc, self.core.next_frame(session)),
             "output" => self.output(alloc, session),
             "discard" => self.discard(alloc, session),
-            "echoes" => self.echoes(alloc, number, text.parse::<u64>()?),
+            "echoes" => self.echoes(alloc, number, text),
             _ => Err(Fail::new("no command")),
         }
+    }
+
+    /// What comes of a command with a number behind it, and maybe a text.
+    fn act_on(&mut self, alloc: Global, command: &str) -> Result<String, Fail> {
+        let (word, rest) = command.split_once(" ").ok_or("no number")?;
+        let (number, text) = rest.split_once(" ").unwrap_or((rest, ""));
+        self.act(alloc, word, number.parse::<u64>()?, text)
     }
 }
 
 impl Scripted for Machine {
     fn answer(&mut self, alloc: Global, command: &str) -> Result<String, Fail> {
         match command {
-            "moments" => return self.moments(alloc),
-            "entries" => return Ok(format!(in alloc; "{}", self.core.history().len())?),
-            "first" => return self.first(alloc),
-            "free" => return Ok(format!(in alloc; "{}", self.core.free_places())?),
-            "next" => return self.next(alloc),
-            _ => {}
+            "moments" => self.moments(alloc),
+            "entries" => number_text(alloc, self.core.history().len() as u64),
+            "first" => self.first(alloc),
+            "free" => number_text(alloc, self.core.free_places() as u64),
+            "next" => number_or_none(alloc, self.core.next_serial()),
+            _ => self.act_on(alloc, command),
         }
-        let (word, rest) = command.split_once(" ").ok_or("no number")?;
-        let (number, text) = rest.split_once(" ").unwrap_or((rest, ""));
-        self.act(alloc, word, number.parse::<u64>()?, text)
     }
 }
 

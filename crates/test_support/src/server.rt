@@ -1,4 +1,5 @@
 use crate::machine::net_core;
+use crate::texts::{fact_text, number_text};
 use ov_base::Bytes;
 use ov_streams::{StreamEvent, Streams};
 use std::alloc::Global;
@@ -26,7 +27,7 @@ impl Server {
     /// Serves one event, and tells whether it was.
     fn run(&mut self, alloc: Global, event: StreamEvent) -> Result<String, Fail> {
         let ran = self.streams.run(alloc, vec![in alloc; event]?);
-        Ok(format!(in alloc; "{}", ran.refused.is_none())?)
+        fact_text(alloc, ran.refused.is_none())
     }
 
     /// Feeds a session.
@@ -47,7 +48,18 @@ impl Server {
 
     /// How many entries the history has.
     fn entries(&self, alloc: Global) -> Result<String, Fail> {
-        Ok(format!(in alloc; "{}", self.streams.core().history().len())?)
+        number_text(alloc, self.streams.core().history().len() as u64)
+    }
+
+    /// What comes of an event, or how many entries there are.
+    fn act(&mut self, alloc: Global, word: &str) -> Result<String, Fail> {
+        match word {
+            "open" => self.run(alloc, StreamEvent::Open),
+            "tick" => self.run(alloc, StreamEvent::Tick(50)),
+            "finish" => self.run(alloc, StreamEvent::Finish(1)),
+            "entries" => self.entries(alloc),
+            _ => Err(Fail::new("no command")),
+        }
     }
 }
 
@@ -65,13 +77,7 @@ impl Scripted for Server {
         if let Some(want) = command.strip_prefix("2<") {
             return self.output(alloc, 2, want);
         }
-        match command {
-            "open" => self.run(alloc, StreamEvent::Open),
-            "tick" => self.run(alloc, StreamEvent::Tick(50)),
-            "finish" => self.run(alloc, StreamEvent::Finish(1)),
-            "entries" => self.entries(alloc),
-            _ => Err(Fail::new("no command")),
-        }
+        self.act(alloc, command)
     }
 }
 
