@@ -1,8 +1,10 @@
 use ov_core::Core;
-use ov_core::early::{KeepFault, Keeper, OpenFault, RefusedOpen};
+use ov_core::early::{Keeper, OpenFault, RefusedOpen};
 use std::alloc::Global;
 use std::test::Fail;
-use test_basics::{Counter, Faults, NET, NetKeeper, failing, keeper_of, net, net_keeper};
+use test_basics::{
+    Counter, Faults, NET, NetKeeper, failing, holds, is_text, keeper_of, net, net_keeper,
+};
 use test_support::{NetCore, steps};
 
 /// Up to 64 sessions are open, each with a key of its own, and the key of one that is closed is given again.
@@ -141,26 +143,41 @@ fn the_newest_entries_are_kept(rt: HostRuntime) -> Result<(), Fail> {
     steps(rt.alloc(), NEWEST)
 }
 
-/// Why a machine is not opened over a keeper of this schema's text and of these lines.
-fn refusal(alloc: Global, stored: &str, lines: &str) -> Result<Option<OpenFault>, Fail> {
-    let schema = net(alloc)?;
-    let keeper = failing(keeper_of(alloc, stored, lines)?, Faults::NONE);
-    match Core::open(alloc, keeper, schema, Counter::new()) {
-        Ok(_) => Ok(None),
-        Err(refused) => Ok(Some(refused.fault)),
+/// Why a machine is not opened.
+fn fault_of(opened: Result<NetCore, RefusedOpen<NetKeeper>>) -> Option<OpenFault> {
+    match opened {
+        Ok(_) => None,
+        Err(refused) => Some(refused.fault),
     }
 }
 
+/// Why a machine is not opened over a keeper of this schema's text and of these lines.
+fn refusal(alloc: Global, stored: &str, lines: &str) -> Result<Option<OpenFault>, Fail> {
+    let keeper = failing(keeper_of(alloc, stored, lines)?, Faults::NONE);
+    let schema = net(alloc)?;
+    Ok(fault_of(Core::open(alloc, keeper, schema, Counter::new())))
+}
+
+/// Fails unless this is why.
+fn refuses(alloc: Global, stored: &str, lines: &str, wanted: &str) -> Result<(), Fail> {
+    let fault = refusal(alloc, stored, lines)?;
+    let told = format!(in alloc; "{fault:?}")?;
+    is_text(alloc, told.as_str(), wanted)
+}
+
+/// A port that no row refers to.
+const UNUSED: &str = r#"Port 1 0 {"name":"p1","peer":["set",[]],"tag":7}"#;
+
 #[test]
 fn a_database_that_does_not_fit_is_not_opened(rt: HostRuntime) -> Result<(), Fail> {
-    let other = refusal(rt.alloc(), "{\"name\":\"Other\"}", "")?;
-    assert_eq!(rt; other, Some(OpenFault::SchemaDiffers));
-    let filled = refusal(rt.alloc(), NET, "Port 1 0 {}")?;
-    assert_eq!(rt; filled, Some(OpenFault::BadBody));
-    let port = r#"Port 1 0 {"name":"p1","peer":["set",[]],"tag":7}"#;
-    let unused = refusal(rt.alloc(), NET, port)?;
-    assert_eq!(rt; unused, Some(OpenFault::Broken));
-    Ok(())
+    refuses(
+        rt.alloc(),
+        "{\"name\":\"Other\"}",
+        "",
+        "Some(SchemaDiffers)",
+    )?;
+    refuses(rt.alloc(), NET, "Port 1 0 {}", "Some(BadBody)")?;
+    refuses(rt.alloc(), NET, UNUSED, "Some(Broken)")
 }
 
 /// A machine over a keeper that holds a switch.
@@ -170,23 +187,36 @@ fn over_a_switch(alloc: Global) -> Result<NetCore, Fail> {
     Ok(Core::open(alloc, keeper, net(alloc)?, Counter::new())?)
 }
 
+/// How many failures it has counted.
+fn failures_over_a_switch(alloc: Global) -> Result<u64, Fail> {
+    let core = over_a_switch(alloc)?;
+    core.kept();
+    Ok(core.failures())
+}
+
 /// What a machine keeps true of its rows is told without a call of the keeper.
 #[test]
 fn a_machine_tells_that_its_rows_are_whole(rt: HostRuntime) -> Result<(), Fail> {
-    let core = over_a_switch(rt.alloc())?;
-    core.kept();
-    assert_eq!(rt; core.failures(), 0);
-    Ok(())
+    let failures = failures_over_a_switch(rt.alloc())?;
+    holds(rt.alloc(), failures == 0, "the keeper has not failed")
+}
+
+/// The refusal of a machine, where it is refused.
+fn refused(
+    opened: Result<NetCore, RefusedOpen<NetKeeper>>,
+) -> Result<RefusedOpen<NetKeeper>, Fail> {
+    match opened {
+        Ok(_) => Err(Fail::new("opened")),
+        Err(refused) => Ok(refused),
+    }
 }
 
 /// The refusal of a machine over a keeper whose first load fails.
 fn refused_at_the_load(alloc: Global) -> Result<RefusedOpen<NetKeeper>, Fail> {
     let mut keeper = net_keeper(alloc, Faults::NONE)?;
     keeper.bad_loads = 1;
-    match Core::open(alloc, keeper, net(alloc)?, Counter::new()) {
-        Ok(_) => Err(Fail::new("opened")),
-        Err(refused) => Ok(refused),
-    }
+    let schema = net(alloc)?;
+    refused(Core::open(alloc, keeper, schema, Counter::new()))
 }
 
 /// How many failures a machine over this keeper has counted, as it is opened.
@@ -195,12 +225,17 @@ fn failures_of(alloc: Global, keeper: NetKeeper) -> Result<u64, Fail> {
     Ok(core.failures())
 }
 
+/// Fails unless the device has failed once, as the keeper tells and then a machine over it.
+fn is_failed_once(alloc: Global, fault: OpenFault, before: u64, after: u64) -> Result<(), Fail> {
+    let told = format!(in alloc; "{fault:?} {before} {after}")?;
+    is_text(alloc, told.as_str(), "Keeping(Device) 1 1")
+}
+
 /// The device's failure is told and counted, and the keeper that is given back can be opened.
 #[test]
 fn a_refused_opening_gives_the_keeper_back(rt: HostRuntime) -> Result<(), Fail> {
     let RefusedOpen { fault, keeper } = refused_at_the_load(rt.alloc())?;
-    assert_eq!(rt; fault, OpenFault::Keeping(KeepFault::Device));
-    assert_eq!(rt; keeper.failures(), 1);
-    assert_eq!(rt; failures_of(rt.alloc(), keeper)?, 1);
-    Ok(())
+    let before = keeper.failures();
+    let after = failures_of(rt.alloc(), keeper)?;
+    is_failed_once(rt.alloc(), fault, before, after)
 }

@@ -1,4 +1,4 @@
-use ov_core::Cause;
+use ov_core::{Cause, StepFault};
 use ov_ends::{Clock, Source, Watched};
 use ov_serve::serve_one;
 use std::alloc::Global;
@@ -7,12 +7,12 @@ use std::io;
 use std::io::{ErrorKind, Read, Write};
 use std::sync::Wait;
 use std::test::Fail;
-use test_basics::{Faults, SlowReader, SlowWriter};
+use test_basics::{Faults, SlowReader, SlowWriter, is_text};
 use test_support::net_core;
 
 const REQUEST: &[u8] = b"{\"id\":0,\"method\":\"list_dbs\",\"params\":[]}";
 
-const REPLY: &[u8] = b"{\"error\":null,\"id\":0,\"result\":[\"Net\"]}";
+const REPLY: &str = r#"{"error":null,"id":0,"result":["Net"]}"#;
 
 /// No limit.
 const ALL: usize = 1_000_000;
@@ -51,6 +51,28 @@ fn writer_of(alloc: Global) -> SlowWriter {
     }
 }
 
+/// Why a session ended, which is the end of its input where its reader has ended.
+fn cause_of(served: Result<Cause, StepFault>, has_ended: bool) -> Result<Cause, Fail> {
+    let cause = served?;
+    if has_ended != (cause == Cause::InputEnded) {
+        return Err(Fail::new("an end that is no end"));
+    }
+    Ok(cause)
+}
+
+/// Why a session over a new machine ended, by a clock.
+fn serve_by<H: Wait, R: Read + Drop, W: Write + Drop, C: Clock>(
+    rt: &H,
+    alloc: Global,
+    reader: &mut Watched<R>,
+    writer: &mut Watched<W>,
+    clock: &mut C,
+) -> Result<Cause, Fail> {
+    let mut core = net_core(alloc, Faults::NONE)?;
+    let served = serve_one(rt, &mut core, alloc, reader, writer, clock);
+    cause_of(served, reader.ended())
+}
+
 /// What comes of a session by a clock, and its reader and writer behind it.
 fn served_by<H: Wait, R: Read + Drop, W: Write + Drop, C: Clock>(
     rt: &H,
@@ -59,13 +81,9 @@ fn served_by<H: Wait, R: Read + Drop, W: Write + Drop, C: Clock>(
     writer: W,
     clock: &mut C,
 ) -> Result<(Cause, R, W), Fail> {
-    let mut core = net_core(alloc, Faults::NONE)?;
     let mut reader = Watched::new(reader);
     let mut writer = Watched::new(writer);
-    let cause = serve_one(rt, &mut core, alloc, &mut reader, &mut writer, clock)?;
-    if reader.ended() != (cause == Cause::InputEnded) {
-        return Err(Fail::new("an end that is no end"));
-    }
+    let cause = serve_by(rt, alloc, &mut reader, &mut writer, clock)?;
     Ok((cause, reader.into_inner(), writer.into_inner()))
 }
 
@@ -79,75 +97,125 @@ fn served<H: Wait, R: Read + Drop, W: Write + Drop>(
     served_by(rt, alloc, reader, writer, &mut StillClock)
 }
 
-/// What comes of a session, and what was written.
-fn answered<H: Wait>(
+/// Why a session ended, and what was written.
+fn told_of(alloc: Global, cause: Cause, taken: Vec<u8>) -> Result<String, Fail> {
+    let taken = String::from_utf8(taken)?;
+    Ok(format!(in alloc; "{cause:?} {taken}")?)
+}
+
+/// This of a session.
+fn told<H: Wait>(
     rt: &H,
     alloc: Global,
     reader: SlowReader<'_>,
     writer: SlowWriter,
-) -> Result<(Cause, Vec<u8>), Fail> {
+) -> Result<String, Fail> {
     let (cause, _, writer) = served(rt, alloc, reader, writer)?;
-    Ok((cause, writer.taken))
+    told_of(alloc, cause, writer.taken)
 }
+
+/// Fails unless this comes of a session.
+fn tells<H: Wait>(
+    rt: &H,
+    alloc: Global,
+    reader: SlowReader<'_>,
+    writer: SlowWriter,
+    wanted: &str,
+) -> Result<(), Fail> {
+    let told = told(rt, alloc, reader, writer)?;
+    is_text(alloc, told.as_str(), wanted)
+}
+
+/// The request is answered, and then the input ends.
+const ANSWERED: &str = r#"InputEnded {"error":null,"id":0,"result":["Net"]}"#;
+
+/// The request is answered, and then a read fails.
+const READ_FAULT: &str = r#"ReadFault {"error":null,"id":0,"result":["Net"]}"#;
+
+/// The request is answered, and then a flush fails.
+const WRITE_FAULT: &str = r#"WriteFault {"error":null,"id":0,"result":["Net"]}"#;
 
 #[test]
 fn a_request_is_answered(rt: HostRuntime) -> Result<(), Fail> {
-    let (cause, told) = answered(&rt, rt.alloc(), reader_of(REQUEST), writer_of(rt.alloc()))?;
-    assert_eq!(rt; cause, Cause::InputEnded);
-    assert_eq!(rt; told.as_slice(), REPLY);
-    Ok(())
+    let (reader, writer) = (reader_of(REQUEST), writer_of(rt.alloc()));
+    tells(&rt, rt.alloc(), reader, writer, ANSWERED)
+}
+
+/// Fails unless this comes of a session whose reader gives at most so many bytes a call, and fails after so many calls.
+fn tells_of_reads<H: Wait>(
+    rt: &H,
+    alloc: Global,
+    most: usize,
+    calls: usize,
+    wanted: &str,
+) -> Result<(), Fail> {
+    let reader = SlowReader {
+        rest: REQUEST,
+        most,
+        calls,
+        error: ErrorKind::Other,
+    };
+    tells(rt, alloc, reader, writer_of(alloc), wanted)
 }
 
 #[test]
 fn a_slow_reader_is_read_to_its_end_or_its_failure(rt: HostRuntime) -> Result<(), Fail> {
-    for (most, calls, cause, reply) in [
-        (1, ALL, Cause::InputEnded, REPLY),
-        (ALL, 0, Cause::ReadFault, b"".as_slice()),
-        (ALL, 1, Cause::ReadFault, REPLY),
-        (1, REQUEST.len(), Cause::ReadFault, REPLY),
-        (1, REQUEST.len() - 1, Cause::ReadFault, b"".as_slice()),
+    for (most, calls, wanted) in [
+        (1, ALL, ANSWERED),
+        (ALL, 0, "ReadFault "),
+        (ALL, 1, READ_FAULT),
+        (1, REQUEST.len(), READ_FAULT),
+        (1, REQUEST.len() - 1, "ReadFault "),
     ] {
-        let mut reader = reader_of(REQUEST);
-        reader.most = most;
-        reader.calls = calls;
-        let (why, told) = answered(&rt, rt.alloc(), reader, writer_of(rt.alloc()))?;
-        assert_eq!(rt; why, cause, "at {most} and {calls}");
-        assert_eq!(rt; told.as_slice(), reply, "at {most} and {calls}");
+        tells_of_reads(&rt, rt.alloc(), most, calls, wanted)?;
     }
     Ok(())
 }
 
 #[test]
 fn a_stream_that_stops_or_is_damaged_ends(rt: HostRuntime) -> Result<(), Fail> {
-    for (bytes, cause) in [
-        (&REQUEST[..9], Cause::InputEnded),
-        (b"".as_slice(), Cause::InputEnded),
-        (b"x".as_slice(), Cause::Damaged),
-        (b"{]".as_slice(), Cause::InputEnded),
+    for (bytes, wanted) in [
+        (&REQUEST[..9], "InputEnded "),
+        (b"".as_slice(), "InputEnded "),
+        (b"x".as_slice(), "Damaged "),
+        (b"{]".as_slice(), "InputEnded "),
     ] {
-        let (why, told) = answered(&rt, rt.alloc(), reader_of(bytes), writer_of(rt.alloc()))?;
-        assert_eq!(rt; why, cause);
-        assert_eq!(rt; told.len(), 0);
+        let (reader, writer) = (reader_of(bytes), writer_of(rt.alloc()));
+        tells(&rt, rt.alloc(), reader, writer, wanted)?;
     }
     Ok(())
 }
 
+/// Fails unless this comes of a session whose writer takes at most so many bytes a call, and so many in all. Then it fails, or
+/// takes no byte.
+fn tells_of_writes<H: Wait>(
+    rt: &H,
+    alloc: Global,
+    most: usize,
+    left: usize,
+    fails: bool,
+    wanted: &str,
+) -> Result<(), Fail> {
+    let writer = SlowWriter {
+        taken: Vec::new(alloc),
+        most,
+        left,
+        fails,
+        flushes: true,
+    };
+    tells(rt, alloc, reader_of(REQUEST), writer, wanted)
+}
+
 #[test]
 fn a_writer_gets_all_or_the_session_ends(rt: HostRuntime) -> Result<(), Fail> {
-    for (most, left, fails, cause, count) in [
-        (1, ALL, false, Cause::InputEnded, REPLY.len()),
-        (ALL, 0, false, Cause::WriteFault, 0),
-        (ALL, 0, true, Cause::WriteFault, 0),
-        (2, 5, false, Cause::WriteFault, 5),
-        (2, 5, true, Cause::WriteFault, 5),
+    for (most, left, fails, wanted) in [
+        (1, ALL, false, ANSWERED),
+        (ALL, 0, false, "WriteFault "),
+        (ALL, 0, true, "WriteFault "),
+        (2, 5, false, "WriteFault {\"err"),
+        (2, 5, true, "WriteFault {\"err"),
     ] {
-        let mut writer = writer_of(rt.alloc());
-        writer.most = most;
-        writer.left = left;
-        writer.fails = fails;
-        let (why, told) = answered(&rt, rt.alloc(), reader_of(REQUEST), writer)?;
-        assert_eq!(rt; why, cause, "at {most} and {left}");
-        assert_eq!(rt; told.as_slice(), &REPLY[..count], "at {most} and {left}");
+        tells_of_writes(&rt, rt.alloc(), most, left, fails, wanted)?;
     }
     Ok(())
 }
@@ -156,9 +224,7 @@ fn a_writer_gets_all_or_the_session_ends(rt: HostRuntime) -> Result<(), Fail> {
 fn a_flush_that_fails_is_a_write_fault(rt: HostRuntime) -> Result<(), Fail> {
     let mut writer = writer_of(rt.alloc());
     writer.flushes = false;
-    let (cause, _) = answered(&rt, rt.alloc(), reader_of(REQUEST), writer)?;
-    assert_eq!(rt; cause, Cause::WriteFault);
-    Ok(())
+    tells(&rt, rt.alloc(), reader_of(REQUEST), writer, WRITE_FAULT)
 }
 
 /// A reader of two requests, one a call, which counts the calls before which not all answers were handed on.
@@ -203,8 +269,13 @@ impl Write for HandingWriter<'_> {
     }
 }
 
-#[test]
-fn answers_are_handed_on_before_more_is_read(rt: HostRuntime) -> Result<(), Fail> {
+/// Why a session ended, how often its reader was called, and how often before all answers were handed on.
+fn asked_text(alloc: Global, cause: Cause, calls: usize, early: usize) -> Result<String, Fail> {
+    Ok(format!(in alloc; "{cause:?} {calls} {early}")?)
+}
+
+/// This of a session of two requests.
+fn asked<H: Wait>(rt: &H, alloc: Global) -> Result<String, Fail> {
     let handed_on = Cell::new(0);
     let reader = AskingReader {
         handed_on: &handed_on,
@@ -215,10 +286,14 @@ fn answers_are_handed_on_before_more_is_read(rt: HostRuntime) -> Result<(), Fail
         handed_on: &handed_on,
         taken: 0,
     };
-    let (cause, reader, _) = served(&rt, rt.alloc(), reader, writer)?;
-    assert_eq!(rt; cause, Cause::InputEnded);
-    assert_eq!(rt; (reader.calls, reader.early), (3, 0));
-    Ok(())
+    let (cause, reader, _) = served(rt, alloc, reader, writer)?;
+    asked_text(alloc, cause, reader.calls, reader.early)
+}
+
+#[test]
+fn answers_are_handed_on_before_more_is_read(rt: HostRuntime) -> Result<(), Fail> {
+    let told = asked(&rt, rt.alloc())?;
+    is_text(rt.alloc(), told.as_str(), "InputEnded 3 0")
 }
 
 /// A reader that gives one piece a call, and then none.
@@ -262,26 +337,30 @@ impl Clock for LeapingClock {
 const WAIT: &[u8] =
     b"{\"id\":1,\"method\":\"transact\",\"params\":[\"Net\",{\"op\":\"wait\",\"table\":\"Switch\",\"timeout\":50,\"where\":[[\"name\",\"==\",\"s9\"]],\"columns\":[\"name\"],\"until\":\"==\",\"rows\":[{\"name\":\"s9\"}]}]}";
 
-const TIMED_OUT: &[u8] = b"{\"error\":null,\"id\":1,\"result\":[{\"error\":\"timed out\"}]}";
+/// The wait runs out once the request is answered.
+const TIMED_OUT: &str =
+    r#"{"error":null,"id":0,"result":["Net"]}{"error":null,"id":1,"result":[{"error":"timed out"}]}"#;
 
 /// What is written of a session whose second piece comes at a moment.
-fn told_at<H: Wait>(rt: &H, alloc: Global, later: u64) -> Result<Vec<u8>, Fail> {
+fn told_at<H: Wait>(rt: &H, alloc: Global, later: u64) -> Result<String, Fail> {
     let reader = PieceReader {
         first: WAIT,
         second: REQUEST,
     };
     let mut clock = LeapingClock { later, told: false };
     let (_, _, writer) = served_by(rt, alloc, reader, writer_of(alloc), &mut clock)?;
-    Ok(writer.taken)
+    Ok(String::from_utf8(writer.taken)?)
+}
+
+/// Fails unless this is written.
+fn tells_at<H: Wait>(rt: &H, alloc: Global, later: u64, wanted: &str) -> Result<(), Fail> {
+    let told = told_at(rt, alloc, later)?;
+    is_text(alloc, told.as_str(), wanted)
 }
 
 /// Behind the piece that comes where a wait runs out, time passes. It does not before.
 #[test]
 fn ticks_are_given(rt: HostRuntime) -> Result<(), Fail> {
-    let told = told_at(&rt, rt.alloc(), 49)?;
-    assert_eq!(rt; told.as_slice(), REPLY);
-    let told = told_at(&rt, rt.alloc(), 50)?;
-    assert_eq!(rt; &told[..REPLY.len().min(told.len())], REPLY);
-    assert_eq!(rt; &told[REPLY.len().min(told.len())..], TIMED_OUT);
-    Ok(())
+    tells_at(&rt, rt.alloc(), 49, REPLY)?;
+    tells_at(&rt, rt.alloc(), 50, TIMED_OUT)
 }

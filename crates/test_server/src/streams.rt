@@ -1,5 +1,6 @@
 use std::alloc::Global;
 use std::test::Fail;
+use test_basics::is_text;
 use test_support::converses;
 
 const LISTED: &str = r#">{"id":0,"method":"list_dbs","params":[]}
@@ -30,29 +31,39 @@ fn cut_at(alloc: Global, place: usize) -> Result<String, Fail> {
     Ok(format!(in alloc; ">{first}\n>{second}\n<{ANSWERED}")?)
 }
 
+/// Holds that conversation.
+fn converses_cut_at(alloc: Global, place: usize) -> Result<(), Fail> {
+    let conversation = cut_at(alloc, place)?;
+    converses(alloc, conversation.as_str())
+}
+
 #[test]
 fn cut_at_every_place(rt: HostRuntime) -> Result<(), Fail> {
     for place in 0..CONVERSATION.len() + 1 {
-        converses(rt.alloc(), cut_at(rt.alloc(), place)?.as_str())?;
+        converses_cut_at(rt.alloc(), place)?;
     }
     Ok(())
 }
 
-/// A conversation in which the input comes byte by byte, and nothing is sent behind the answers.
-fn cut_everywhere(alloc: Global) -> Result<String, Fail> {
-    let mut conversation = String::new(alloc);
+/// The lines in which the input comes byte by byte.
+fn bytes_of_input(alloc: Global) -> Result<String, Fail> {
+    let mut lines = String::new(alloc);
     for byte in CONVERSATION.chars() {
-        conversation.push_str(format!(in alloc; ">{byte}\n")?.as_str())?;
+        lines.push_str(format!(in alloc; ">{byte}\n")?.as_str())?;
     }
-    conversation.push_str("<")?;
-    conversation.push_str(ANSWERED)?;
-    conversation.push_str("\n<")?;
-    Ok(conversation)
+    Ok(lines)
+}
+
+/// A conversation of these lines, in which nothing is sent behind the answers.
+fn cut_everywhere(alloc: Global) -> Result<String, Fail> {
+    let lines = bytes_of_input(alloc)?;
+    Ok(format!(in alloc; "{lines}<{ANSWERED}\n<")?)
 }
 
 #[test]
 fn answered_byte_by_byte(rt: HostRuntime) -> Result<(), Fail> {
-    converses(rt.alloc(), cut_everywhere(rt.alloc())?.as_str())
+    let conversation = cut_everywhere(rt.alloc())?;
+    converses(rt.alloc(), conversation.as_str())
 }
 
 /// What is sent for an input, and how many entries the history then has: for damage, an unfinished message, a real in an id and a
@@ -95,30 +106,68 @@ fn small_inputs(rt: HostRuntime) -> Result<(), Fail> {
     Ok(())
 }
 
+/// A text of so many letters.
+fn letters(alloc: Global, count: usize) -> Result<String, Fail> {
+    Ok(String::from_utf8(vec![in alloc; b'a'; count]?)?)
+}
+
 /// An echo of a text of so many letters.
-fn echo_of(alloc: Global, letters: usize) -> Result<String, Fail> {
-    let letters = vec![in alloc; b'a'; letters]?;
-    let text = str::from_utf8(&letters)?;
+fn echo_of(alloc: Global, count: usize) -> Result<String, Fail> {
+    let text = letters(alloc, count)?;
     Ok(format!(in alloc; "{{\"id\":0,\"method\":\"echo\",\"params\":[\"{text}\"]}}")?)
 }
 
 /// The reply to it.
-fn reply_of(alloc: Global, letters: usize) -> Result<String, Fail> {
-    let letters = vec![in alloc; b'a'; letters]?;
-    let text = str::from_utf8(&letters)?;
+fn reply_of(alloc: Global, count: usize) -> Result<String, Fail> {
+    let text = letters(alloc, count)?;
     Ok(format!(in alloc; "{{\"error\":null,\"id\":0,\"result\":[\"{text}\"]}}")?)
+}
+
+/// How many bytes these have.
+fn lengths(alloc: Global, count: usize) -> Result<(usize, usize), Fail> {
+    let echo = echo_of(alloc, count)?.len();
+    let reply = reply_of(alloc, count)?.len();
+    Ok((echo, reply))
+}
+
+/// Fails unless they have so many.
+fn are_lengths(alloc: Global, count: usize, wanted: &str) -> Result<(), Fail> {
+    let lengths = lengths(alloc, count)?;
+    let told = format!(in alloc; "{lengths:?}")?;
+    is_text(alloc, told.as_str(), wanted)
+}
+
+/// A conversation in which an echo is answered.
+fn answered(alloc: Global, count: usize) -> Result<String, Fail> {
+    let echo = echo_of(alloc, count)?;
+    let reply = reply_of(alloc, count)?;
+    Ok(format!(in alloc; ">{echo}\n<{reply}")?)
+}
+
+/// A conversation in which it is not.
+fn unanswered(alloc: Global, count: usize) -> Result<String, Fail> {
+    let echo = echo_of(alloc, count)?;
+    Ok(format!(in alloc; ">{echo}\n<")?)
+}
+
+/// Holds the conversation in which an echo is answered.
+fn is_answered(alloc: Global, count: usize) -> Result<(), Fail> {
+    let conversation = answered(alloc, count)?;
+    converses(alloc, conversation.as_str())
+}
+
+/// Holds the conversation in which it is not.
+fn is_not_answered(alloc: Global, count: usize) -> Result<(), Fail> {
+    let conversation = unanswered(alloc, count)?;
+    converses(alloc, conversation.as_str())
 }
 
 /// A message of 1,048,576 bytes is answered, and one with a byte more is not.
 #[test]
 fn longest_message(rt: HostRuntime) -> Result<(), Fail> {
-    let alloc = rt.alloc();
-    let echo = echo_of(alloc, 1_048_538)?;
-    let reply = reply_of(alloc, 1_048_538)?;
-    assert_eq!(rt; (echo.len(), reply.len()), (1_048_576, 1_048_573));
-    converses(alloc, format!(in alloc; ">{echo}\n<{reply}")?.as_str())?;
-    let echo = echo_of(alloc, 1_048_539)?;
-    converses(alloc, format!(in alloc; ">{echo}\n<")?.as_str())
+    are_lengths(rt.alloc(), 1_048_538, "(1048576, 1048573)")?;
+    is_answered(rt.alloc(), 1_048_538)?;
+    is_not_answered(rt.alloc(), 1_048_539)
 }
 
 /// What comes of a closed session does nothing.

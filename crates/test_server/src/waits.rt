@@ -1,10 +1,10 @@
 use ov_base::Bytes;
-use ov_core::{Cause, Event, Session, Stepped};
+use ov_core::{Attempt, Cause, Event};
 use ov_rpc::Received;
 use std::alloc::Global;
 use std::test::Fail;
 use test_basics::{Faults, Scripted, agrees};
-use test_support::{NetCore, net_core};
+use test_support::{NetCore, net_core, number_or_none, session_of, step_text};
 
 /// A machine behind a script, for transactions that wait.
 ///
@@ -16,14 +16,6 @@ use test_support::{NetCore, net_core};
 #[derive(Drop)]
 struct Waits {
     core: NetCore,
-}
-
-/// The session of a serial's text.
-fn session_of(serial: &str) -> Result<Session, Fail> {
-    Ok(Session {
-        key: 0,
-        serial: serial.parse::<u64>()?,
-    })
 }
 
 /// The operation that waits for a switch of a name.
@@ -40,35 +32,46 @@ fn insert_of(alloc: Global, name: &str) -> Result<String, Fail> {
     )?)
 }
 
-/// The text of a number.
-fn number_text(alloc: Global, number: u64) -> Result<String, Fail> {
-    Ok(format!(in alloc; "{number}")?)
-}
-
-/// What comes of an event, in the words of the code.
-fn word_of(alloc: Global, stepped: Stepped) -> Result<String, Fail> {
-    Ok(format!(in alloc; "{stepped:?}")?)
-}
-
-/// What comes of an event: the serial of the session that was opened, nothing where the event is done, and else a word.
-fn told(alloc: Global, stepped: Stepped) -> Result<String, Fail> {
-    match stepped {
-        Stepped::Opened(session) => number_text(alloc, session.serial),
-        Stepped::Done => Ok(String::new(alloc)),
-        stepped => word_of(alloc, stepped),
+/// The operation of a `wait` command: a name, with a timeout behind it or without one.
+fn wait_of(alloc: Global, rest: &str) -> Result<String, Fail> {
+    match rest.split_once(" ") {
+        Some((name, timeout)) => wait_within(alloc, name, timeout),
+        None => wait_for(alloc, rest, ""),
     }
+}
+
+/// The operation that waits for a switch of a name, with a timeout.
+fn wait_within(alloc: Global, name: &str, timeout: &str) -> Result<String, Fail> {
+    let timeout = format!(in alloc; "\"timeout\":{timeout},")?;
+    wait_for(alloc, name, timeout.as_str())
+}
+
+/// The operations that wait for one switch and insert another.
+fn chain_of(alloc: Global, names: &str) -> Result<String, Fail> {
+    let (name, other) = names.split_once(" ").ok_or("no name")?;
+    let wait = wait_for(alloc, name, "")?;
+    let insert = insert_of(alloc, other)?;
+    Ok(format!(in alloc; "{wait},{insert}")?)
+}
+
+/// Adds an attempt.
+fn push_attempt(alloc: Global, text: &mut String, attempt: &Attempt) -> Result<(), Fail> {
+    let item = format!(in alloc; "{} {:?};", attempt.number, attempt.outcome)?;
+    text.push_str(item.as_str())?;
+    Ok(())
 }
 
 impl Waits {
     /// Enters an event at a moment.
     fn step(&mut self, alloc: Global, moment: u64, event: Event<Received>) -> Result<String, Fail> {
-        told(alloc, self.core.step(alloc, moment, event))
+        step_text(alloc, self.core.step(alloc, moment, event))
     }
 
     /// Takes a message of a session.
     fn take(&mut self, alloc: Global, serial: &str, text: &str) -> Result<String, Fail> {
+        let session = session_of(serial.parse::<u64>()?);
         let received = Received::read(alloc, Bytes::from_slice(alloc, text.as_bytes())?)?;
-        self.step(alloc, 0, Event::Take(session_of(serial)?, received))
+        self.step(alloc, 0, Event::Take(session, received))
     }
 
     /// Takes a transaction of a session.
@@ -99,22 +102,25 @@ impl Waits {
         id: &str,
         names: &str,
     ) -> Result<String, Fail> {
-        let (name, other) = names.split_once(" ").ok_or("no name")?;
-        let wait = wait_for(alloc, name, "")?;
-        let insert = insert_of(alloc, other)?;
-        let operations = format!(in alloc; "{wait},{insert}")?;
+        let operations = chain_of(alloc, names)?;
         self.transact(alloc, serial, id, operations.as_str())
     }
 
     /// Takes a transaction that waits for a switch.
     fn wait(&mut self, alloc: Global, serial: &str, id: &str, rest: &str) -> Result<String, Fail> {
-        let operation = match rest.split_once(" ") {
-            Some((name, timeout)) => {
-                let timeout = format!(in alloc; "\"timeout\":{timeout},")?;
-                wait_for(alloc, name, timeout.as_str())?
-            }
-            None => wait_for(alloc, rest, "")?,
-        };
+        let operation = wait_of(alloc, rest)?;
+        self.transact(alloc, serial, id, operation.as_str())
+    }
+
+    /// Takes a transaction that inserts a switch.
+    fn insert(
+        &mut self,
+        alloc: Global,
+        serial: &str,
+        id: &str,
+        name: &str,
+    ) -> Result<String, Fail> {
+        let operation = insert_of(alloc, name)?;
         self.transact(alloc, serial, id, operation.as_str())
     }
 
@@ -135,7 +141,8 @@ impl Waits {
 
     /// What a session was sent.
     fn got(&mut self, alloc: Global, serial: &str) -> Result<String, Fail> {
-        let output = self.core.take_output(alloc, session_of(serial)?)?;
+        let session = session_of(serial.parse::<u64>()?);
+        let output = self.core.take_output(alloc, session)?;
         Ok(String::from_utf8(output.into_vec())?)
     }
 
@@ -144,20 +151,20 @@ impl Waits {
         let entry = self.core.history().back().ok_or("no entry")?;
         let mut text = String::new(alloc);
         for attempt in &entry.choice.outcomes {
-            text.push_str(format!(in alloc;
-                "{} {:?};",
-                attempt.number, attempt.outcome
-            )?.as_str())?;
+            push_attempt(alloc, &mut text, attempt)?;
         }
         Ok(text)
     }
 
-    /// When the first of the transactions times out.
-    fn due(&self, alloc: Global) -> Result<String, Fail> {
-        match self.core.due() {
-            Some(due) => Ok(format!(in alloc; "{due}")?),
-            None => Ok(String::from_str(alloc, "none")?),
-        }
+    /// Lets time pass to a moment.
+    fn tick(&mut self, alloc: Global, moment: &str) -> Result<String, Fail> {
+        self.step(alloc, moment.parse::<u64>()?, Event::Tick)
+    }
+
+    /// Ends the input of a session.
+    fn finish(&mut self, alloc: Global, serial: &str) -> Result<String, Fail> {
+        let session = session_of(serial.parse::<u64>()?);
+        self.step(alloc, 0, Event::Close(session, Cause::InputEnded))
     }
 
     /// What comes of a transaction of a session.
@@ -168,10 +175,7 @@ impl Waits {
             "waits" => self.waits(alloc, serial, id, rest),
             "chain" => self.chain(alloc, serial, id, rest),
             "cancel" => self.cancel(alloc, serial, id),
-            "insert" => {
-                let operation = insert_of(alloc, rest)?;
-                self.transact(alloc, serial, id, operation.as_str())
-            }
+            "insert" => self.insert(alloc, serial, id, rest),
             _ => Err(Fail::new("no command")),
         }
     }
@@ -183,14 +187,11 @@ impl Scripted for Waits {
         let (serial, others) = rest.split_once(" ").unwrap_or((rest, ""));
         match word {
             "open" => self.step(alloc, 0, Event::Open),
-            "tick" => self.step(alloc, rest.parse::<u64>()?, Event::Tick),
-            "finish" => {
-                let session = session_of(serial)?;
-                self.step(alloc, 0, Event::Close(session, Cause::InputEnded))
-            }
+            "tick" => self.tick(alloc, rest),
+            "finish" => self.finish(alloc, serial),
             "got" => self.got(alloc, serial),
             "outcomes" => self.outcomes(alloc),
-            "due" => self.due(alloc),
+            "due" => number_or_none(alloc, self.core.due()),
             _ => self.act(alloc, word, serial, others),
         }
     }
@@ -282,13 +283,25 @@ insert 1 65 s9
 got 2
 got 1 -> {"error":null,"id":65,"result":[{"uuid":["uuid","00000000-0000-4000-8000-000000000043"]}]}"#;
 
+/// The replies to what waits under the ids from 2 to 64.
+fn replies(alloc: Global) -> Result<String, Fail> {
+    let mut text = String::new(alloc);
+    for id in 2..65 {
+        let reply = format!(in alloc; "{{\"error\":null,\"id\":{id},\"result\":[{{}}]}}")?;
+        text.push_str(reply.as_str())?;
+    }
+    Ok(text)
+}
+
+/// The script with these replies.
+fn sixty_four(alloc: Global) -> Result<String, Fail> {
+    let replies = replies(alloc)?;
+    Ok(format!(in alloc; "{SIXTY_FOUR}{replies}")?)
+}
+
 #[test]
 fn sixty_four_wait_at_most(rt: HostRuntime) -> Result<(), Fail> {
-    let mut script = String::from_str(rt.alloc(), SIXTY_FOUR)?;
-    for id in 2..65 {
-        let reply = format!(in rt.alloc(); "{{\"error\":null,\"id\":{id},\"result\":[{{}}]}}")?;
-        script.push_str(reply.as_str())?;
-    }
+    let script = sixty_four(rt.alloc())?;
     waits_over(rt.alloc(), Faults::NONE, script.as_str())
 }
 

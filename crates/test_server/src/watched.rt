@@ -1,6 +1,9 @@
 use ov_ends::{Sink, Source, Watched};
+use std::alloc::Global;
 use std::io;
 use std::io::{ErrorKind, Read, Write};
+use std::test::Fail;
+use test_basics::is_text;
 
 /// A reader that counts its calls. Each gives two bytes, or fails.
 #[derive(Drop)]
@@ -78,16 +81,28 @@ fn flushed_once(fails: bool) -> (bool, u64, u64) {
     (flushed, failures, writer.into_inner().flushes)
 }
 
-#[test]
-fn a_failure_is_one_of_what_is_watched(rt: HostRuntime) {
-    assert_eq!(rt; read_once(false), (Some(2), 0, 1));
-    assert_eq!(rt; read_once(true), (None, 1, 1));
-    assert_eq!(rt; written_once(false), (Some(2), 0, 1));
-    assert_eq!(rt; written_once(true), (None, 1, 1));
+/// Fails unless this came of a call.
+fn is_once(alloc: Global, found: (Option<usize>, u64, u64), wanted: &str) -> Result<(), Fail> {
+    let told = format!(in alloc; "{found:?}")?;
+    is_text(alloc, told.as_str(), wanted)
 }
 
 #[test]
-fn what_is_watched_is_flushed(rt: HostRuntime) {
-    assert_eq!(rt; flushed_once(false), (true, 0, 1));
-    assert_eq!(rt; flushed_once(true), (false, 1, 1));
+fn a_failure_is_one_of_what_is_watched(rt: HostRuntime) -> Result<(), Fail> {
+    is_once(rt.alloc(), read_once(false), "(Some(2), 0, 1)")?;
+    is_once(rt.alloc(), read_once(true), "(None, 1, 1)")?;
+    is_once(rt.alloc(), written_once(false), "(Some(2), 0, 1)")?;
+    is_once(rt.alloc(), written_once(true), "(None, 1, 1)")
+}
+
+/// Fails unless this came of a flush.
+fn is_flushed(alloc: Global, found: (bool, u64, u64), wanted: &str) -> Result<(), Fail> {
+    let told = format!(in alloc; "{found:?}")?;
+    is_text(alloc, told.as_str(), wanted)
+}
+
+#[test]
+fn what_is_watched_is_flushed(rt: HostRuntime) -> Result<(), Fail> {
+    is_flushed(rt.alloc(), flushed_once(false), "(true, 0, 1)")?;
+    is_flushed(rt.alloc(), flushed_once(true), "(false, 1, 1)")
 }

@@ -2,7 +2,7 @@ use ov_base::Text;
 use ov_words::{Ending, Settings, WordFault, error_line_of, read_words, status_of};
 use std::alloc::Global;
 use std::test::Fail;
-use test_basics::{Scripted, agrees};
+use test_basics::{Scripted, agrees, is_text};
 
 /// Arguments behind the program's name, with a comma behind each, and the settings: the schema, the database, the address, how
 /// many sessions, and whether the streams are named.
@@ -97,6 +97,15 @@ fn text_of(alloc: Global, settings: &Settings) -> Result<String, Fail> {
     Ok(format!(in alloc; "{schema}|{db}|{listen}|{sessions}|{is_on_streams}")?)
 }
 
+/// What arguments give.
+fn told(alloc: Global, read: Result<Settings, WordFault>) -> Result<String, Fail> {
+    match read {
+        Ok(settings) => text_of(alloc, &settings),
+        Err(WordFault::Refused) => Ok(String::from_str(alloc, "refused")?),
+        Err(WordFault::Memory) => Err(Fail::new("out of memory")),
+    }
+}
+
 /// The settings that arguments give.
 #[derive(Drop)]
 struct Words;
@@ -104,11 +113,7 @@ struct Words;
 impl Scripted for Words {
     fn answer(&mut self, alloc: Global, command: &str) -> Result<String, Fail> {
         let words = words_of(alloc, command)?;
-        match read_words(alloc, words.as_slice()) {
-            Ok(settings) => text_of(alloc, &settings),
-            Err(WordFault::Refused) => Ok(String::from_str(alloc, "refused")?),
-            Err(WordFault::Memory) => Err(Fail::new("out of memory")),
-        }
+        told(alloc, read_words(alloc, words.as_slice()))
     }
 }
 
@@ -122,18 +127,26 @@ fn refuses_words(rt: HostRuntime) -> Result<(), Fail> {
     agrees(rt.alloc(), Words, REFUSED)
 }
 
+/// Fails unless an ending has this status and this line, or none.
+fn ends(alloc: Global, ending: Ending, wanted: &str) -> Result<(), Fail> {
+    let status = status_of(ending);
+    let line = error_line_of(ending).unwrap_or("no line");
+    let told = format!(in alloc; "{status} {line}")?;
+    is_text(alloc, told.as_str(), wanted)
+}
+
 /// Each ending has its status, and its line where the status is not 0.
 #[test]
-fn tells_each_ending(rt: HostRuntime) {
-    assert!(rt; status_of(Ending::InputEnded) == 0 && error_line_of(Ending::InputEnded).is_none());
-    let rows = [
-        (Ending::Arguments, 2, "ov_server: arguments"),
-        (Ending::Schema, 3, "ov_server: schema"),
-        (Ending::Database, 4, "ov_server: database"),
-        (Ending::Streams, 5, "ov_server: input or output"),
-        (Ending::Memory, 6, "ov_server: memory"),
-    ];
-    for (ending, status, line) in rows.as_slice() {
-        assert!(rt; status_of(*ending) == *status && error_line_of(*ending) == Some(*line));
+fn tells_each_ending(rt: HostRuntime) -> Result<(), Fail> {
+    for (ending, wanted) in [
+        (Ending::InputEnded, "0 no line"),
+        (Ending::Arguments, "2 ov_server: arguments"),
+        (Ending::Schema, "3 ov_server: schema"),
+        (Ending::Database, "4 ov_server: database"),
+        (Ending::Streams, "5 ov_server: input or output"),
+        (Ending::Memory, "6 ov_server: memory"),
+    ] {
+        ends(rt.alloc(), ending, wanted)?;
     }
+    Ok(())
 }
