@@ -199,14 +199,20 @@ const LAST: &str = r#"call 2 1 lock ["L256"] -> {"error":null,"id":1,"result":{"
 call 1 256 lock ["L256"] -> {"error":null,"id":256,"result":{"locked":false}}
 "#;
 
+/// Adds the call by which session 1 asks for the lock of a number.
+fn push_request(alloc: Global, script: &mut String, id: u64) -> Result<(), Fail> {
+    let line = format!(in alloc;
+        "call 1 {id} lock [\"L{id}\"] -> {{\"error\":null,\"id\":{id},\"result\":{{\"locked\":true}}}}\n"
+    )?;
+    script.push_str(line.as_str())?;
+    Ok(())
+}
+
 /// Session 1 asks for 256 locks, and waits for the last of them; then it asks for more.
 fn many_requests(alloc: Global) -> Result<String, Fail> {
     let mut script = String::from_str(alloc, "open 2 -> 1;2;\n")?;
     for id in 1..256 {
-        let line = format!(in alloc;
-            "call 1 {id} lock [\"L{id}\"] -> {{\"error\":null,\"id\":{id},\"result\":{{\"locked\":true}}}}\n"
-        )?;
-        script.push_str(line.as_str())?;
+        push_request(alloc, &mut script, id)?;
     }
     script.push_str(LAST)?;
     script.push_str(TOO_MANY)?;
@@ -235,16 +241,27 @@ const WRONG: [&str; 12] = [
     r#"["é"]"#,
 ];
 
+/// Adds the call of a method that refuses params.
+fn push_refused(
+    alloc: Global,
+    script: &mut String,
+    method: &str,
+    params: &str,
+) -> Result<(), Fail> {
+    let line = format!(in alloc;
+        "\ncall 1 1 {method} {params} -> {{\"error\":\"syntax error\",\"id\":1,\"result\":null}}"
+    )?;
+    script.push_str(line.as_str())?;
+    Ok(())
+}
+
 /// Each of the three methods refuses all of these.
 fn wrong_params(alloc: Global) -> Result<String, Fail> {
     let mut script = String::from_str(alloc, "open 1 -> 1;")?;
-    for method in ["lock", "steal", "unlock"] {
-        for params in WRONG {
-            let line = format!(in alloc;
-                "\ncall 1 1 {method} {params} -> {{\"error\":\"syntax error\",\"id\":1,\"result\":null}}"
-            )?;
-            script.push_str(line.as_str())?;
-        }
+    for params in WRONG {
+        push_refused(alloc, &mut script, "lock", params)?;
+        push_refused(alloc, &mut script, "steal", params)?;
+        push_refused(alloc, &mut script, "unlock", params)?;
     }
     Ok(script)
 }

@@ -20,11 +20,20 @@ impl<K: Keeper> Ready<K> for Unprepared {
 }
 
 /// A database, and the keys of all rows that it has or had, with those at which they stand or stood in indexes.
-#[derive(Drop)]
 pub struct Looked {
     db: Db<NetKeeper>,
     draws: Counter,
     lookups: Lookups,
+}
+
+impl Drop for Looked {
+    // A drop of its own, so that whoever drops one need not prove the drops of all that it holds once more.
+    fn drop(self) {
+        let Looked { db, draws, lookups } = self;
+        drop(db);
+        drop(draws);
+        drop(lookups);
+    }
 }
 
 impl Looked {
