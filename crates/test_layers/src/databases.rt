@@ -1,4 +1,5 @@
 use crate::rows::key_of;
+use crate::texts::{fact_text, number_text, owned};
 use ov_db::{Db, StoreAnswer};
 use ov_keeper::Line;
 use ov_rows::Row;
@@ -12,14 +13,28 @@ use uuid::Uuid;
 ///
 /// The commands are commits of one switch, `put NUMBER NAME` and `remove NUMBER`, and one of `nothing`; `row KEY`, whether there is a
 /// row of a key; `rows`, the switches; `sealed` and `failures`.
-#[derive(Drop)]
-struct Database {
-    db: Db<NetKeeper>,
+pub(crate) struct Database {
+    pub(crate) db: Db<NetKeeper>,
+}
+
+impl Drop for Database {
+    // A drop of its own, so that whoever drops one need not prove the drops of all that it holds once more.
+    fn drop(self) {
+        let Database { db } = self;
+        drop(db);
+    }
 }
 
 /// The database of what a keeper holds.
-fn opened(alloc: Global, keeper: NetKeeper) -> Result<Db<NetKeeper>, Fail> {
-    Ok(Db::open(alloc, keeper, net(alloc)?)?)
+fn opened(alloc: Global, keeper: NetKeeper) -> Result<Database, Fail> {
+    let schema = net(alloc)?;
+    let db = Db::open(alloc, keeper, schema)?;
+    Ok(Database { db })
+}
+
+/// A new database over a keeper that keeps all.
+pub(crate) fn new_database(alloc: Global) -> Result<Database, Fail> {
+    opened(alloc, net_keeper(alloc, Faults::NONE)?)
 }
 
 /// The line of a switch of this number and name.
@@ -39,7 +54,7 @@ fn word_of(alloc: Global, answer: StoreAnswer) -> Result<String, Fail> {
         StoreAnswer::Exhausted => "exhausted",
         StoreAnswer::Failed => "failed",
     };
-    Ok(String::from_str(alloc, word)?)
+    owned(alloc, word)
 }
 
 /// The text of a switch: its number and its body.
@@ -70,17 +85,23 @@ impl Database {
     /// Whether there is a row of a key.
     fn has_row(&self, alloc: Global, key: &str) -> Result<String, Fail> {
         let key = key_of(alloc, key)?;
-        let has_row = self.db.row(key.table(), key.id()).is_some();
-        Ok(format!(in alloc; "{has_row}")?)
+        fact_text(alloc, self.db.row(key.table(), key.id()).is_some())
     }
 
     /// What comes of a command for one row.
-    fn act(&mut self, alloc: Global, word: &str, row: &str) -> Result<String, Fail> {
+    fn act(&mut self, alloc: Global, command: &str) -> Result<String, Fail> {
+        let (word, row) = command.split_once(" ").ok_or("no number")?;
         match word {
             "put" => self.put(alloc, row),
             "remove" => self.remove(alloc, row),
             _ => self.has_row(alloc, row),
         }
+    }
+
+    /// Gives the database up, and its keeper back.
+    fn into_keeper(self) -> NetKeeper {
+        let Database { db } = self;
+        db.into_keeper()
     }
 
     /// The switches.
@@ -101,29 +122,24 @@ impl Scripted for Database {
         match command {
             "nothing" => self.commit_nothing(alloc),
             "rows" => self.switches(alloc),
-            "sealed" => Ok(format!(in alloc; "{}", self.db.sealed())?),
-            "failures" => Ok(format!(in alloc; "{}", self.db.failures())?),
-            _ => {
-                let (word, rest) = command.split_once(" ").ok_or("no number")?;
-                self.act(alloc, word, rest)
-            }
+            "sealed" => fact_text(alloc, self.db.sealed()),
+            "failures" => number_text(alloc, self.db.failures()),
+            _ => self.act(alloc, command),
         }
     }
 }
 
-/// Gives a database up, and opens what its keeper then has.
-fn reopened(alloc: Global, database: Database) -> Result<Database, Fail> {
-    let Database { db } = database;
-    let db = opened(alloc, db.into_keeper())?;
-    Ok(Database { db })
+/// Runs a script over a new database whose keeper fails as it is told, and gives the keeper back.
+fn followed(alloc: Global, faults: Faults, script: &str) -> Result<NetKeeper, Fail> {
+    let mut database = opened(alloc, net_keeper(alloc, faults)?)?;
+    follows(alloc, &mut database, script)?;
+    Ok(database.into_keeper())
 }
 
-/// Runs a script over a new database whose keeper fails as it is told, and another over what the keeper then has.
+/// The same, and then another over what the keeper then has.
 fn commits(alloc: Global, faults: Faults, script: &str, again: &str) -> Result<(), Fail> {
-    let db = opened(alloc, net_keeper(alloc, faults)?)?;
-    let mut database = Database { db };
-    follows(alloc, &mut database, script)?;
-    agrees(alloc, reopened(alloc, database)?, again)
+    let keeper = followed(alloc, faults, script)?;
+    agrees(alloc, opened(alloc, keeper)?, again)
 }
 
 /// All changes are made.

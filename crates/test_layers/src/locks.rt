@@ -1,3 +1,4 @@
+use crate::texts::{number_text, owned};
 use ov_base::Bytes;
 use ov_locks::{LockFault, LockTable};
 use std::alloc::Global;
@@ -75,6 +76,11 @@ fn sent(alloc: Global, session: u64, frame: Bytes) -> Result<String, Fail> {
     Ok(format!(in alloc; "{session} {text}")?)
 }
 
+/// Why there is none.
+fn fault_text(alloc: Global, fault: LockFault) -> Result<String, Fail> {
+    Ok(format!(in alloc; "{fault}")?)
+}
+
 /// Whom a frame is for and the frame, if there is one, or why there is none.
 fn answered(
     alloc: Global,
@@ -83,48 +89,53 @@ fn answered(
 ) -> Result<String, Fail> {
     match told {
         Ok(Some((session, frame))) => sent(alloc, session, frame),
-        Ok(None) => Ok(String::from_str(alloc, done)?),
-        Err(fault) => Ok(format!(in alloc; "{fault}")?),
+        Ok(None) => owned(alloc, done),
+        Err(fault) => fault_text(alloc, fault),
+    }
+}
+
+/// Whether a session is the owner of a lock that it asked for.
+fn locked(alloc: Global, is_owner: Result<bool, LockFault>) -> Result<String, Fail> {
+    match is_owner {
+        Ok(true) => owned(alloc, "locked"),
+        Ok(false) => owned(alloc, "waits"),
+        Err(fault) => fault_text(alloc, fault),
+    }
+}
+
+/// Whom a frame is for and the frame, if there is one.
+fn freed(alloc: Global, told: Option<(u64, Bytes)>) -> Result<String, Fail> {
+    match told {
+        Some((session, frame)) => sent(alloc, session, frame),
+        None => Ok(String::new(alloc)),
+    }
+}
+
+/// A session, or that there is none.
+fn owner_text(alloc: Global, owner: Option<u64>) -> Result<String, Fail> {
+    match owner {
+        Some(session) => number_text(alloc, session),
+        None => owned(alloc, "nobody"),
     }
 }
 
 impl Locks {
-    fn lock(&mut self, alloc: Global, session: u64, name: &str) -> Result<String, Fail> {
-        match self.table.lock(alloc, session, name) {
-            Ok(true) => Ok(String::from_str(alloc, "locked")?),
-            Ok(false) => Ok(String::from_str(alloc, "waits")?),
-            Err(fault) => Ok(format!(in alloc; "{fault}")?),
-        }
+    fn steal(&mut self, alloc: Global, session: u64, name: &str) -> Result<String, Fail> {
+        answered(alloc, self.table.steal(alloc, session, name), "locked")
     }
 
-    fn freed(&mut self, alloc: Global) -> Result<String, Fail> {
-        match self.table.next_freed() {
-            Some((session, frame)) => sent(alloc, session, frame),
-            None => Ok(String::new(alloc)),
-        }
+    fn leave(&mut self, alloc: Global, session: &str) -> Result<String, Fail> {
+        self.table.leave_all(session.parse::<u64>()?);
+        Ok(String::new(alloc))
     }
 
-    fn owner(&self, alloc: Global, name: &str) -> Result<String, Fail> {
-        match self.table.owner(name) {
-            Some(session) => Ok(format!(in alloc; "{session}")?),
-            None => Ok(String::from_str(alloc, "nobody")?),
-        }
-    }
-
-    /// What a session asks of the lock of this name.
-    fn asked(
-        &mut self,
-        alloc: Global,
-        word: &str,
-        session: u64,
-        name: &str,
-    ) -> Result<String, Fail> {
+    /// What a session asks of the lock of a name.
+    fn asked(&mut self, alloc: Global, word: &str, rest: &str) -> Result<String, Fail> {
+        let (session, name) = rest.split_once(" ").ok_or("no name")?;
+        let session = session.parse::<u64>()?;
         match word {
-            "lock" => self.lock(alloc, session, name),
-            "steal" => {
-                let told = self.table.steal(alloc, session, name);
-                answered(alloc, told, "locked")
-            }
+            "lock" => locked(alloc, self.table.lock(alloc, session, name)),
+            "steal" => self.steal(alloc, session, name),
             _ => answered(alloc, self.table.unlock(session, name), "unlocked"),
         }
     }
@@ -134,16 +145,10 @@ impl Scripted for Locks {
     fn answer(&mut self, alloc: Global, command: &str) -> Result<String, Fail> {
         let (word, rest) = command.split_once(" ").unwrap_or((command, ""));
         match word {
-            "freed" => self.freed(alloc),
-            "owner" => self.owner(alloc, rest),
-            "leave" => {
-                self.table.leave_all(rest.parse::<u64>()?);
-                Ok(String::new(alloc))
-            }
-            _ => {
-                let (session, name) = rest.split_once(" ").ok_or("no name")?;
-                self.asked(alloc, word, session.parse::<u64>()?, name)
-            }
+            "freed" => freed(alloc, self.table.next_freed()),
+            "owner" => owner_text(alloc, self.table.owner(rest)),
+            "leave" => self.leave(alloc, rest),
+            _ => self.asked(alloc, word, rest),
         }
     }
 }
@@ -183,14 +188,20 @@ lock 1 N -> resources exhausted
 leave 1
 lock 1 N -> locked"#;
 
-/// A session asks for 256 locks, of which it owns every second one.
+/// Session 1 asks for a lock, which it does not own where its number is even.
+fn ask_for_one(alloc: Global, table: &mut LockTable, number: u64) -> Result<(), Fail> {
+    let name = format!(in alloc; "L{number}")?;
+    if number % 2 == 0 {
+        table.lock(alloc, 2, name.as_str())?;
+    }
+    table.lock(alloc, 1, name.as_str())?;
+    Ok(())
+}
+
+/// It asks for 256 locks.
 fn ask_for_many(alloc: Global, table: &mut LockTable) -> Result<(), Fail> {
     for number in 0..256 {
-        let name = format!(in alloc; "L{number}")?;
-        if number % 2 == 0 {
-            table.lock(alloc, 2, name.as_str())?;
-        }
-        table.lock(alloc, 1, name.as_str())?;
+        ask_for_one(alloc, table, number)?;
     }
     Ok(())
 }

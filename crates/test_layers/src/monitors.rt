@@ -1,17 +1,18 @@
-use ov_base::{Text, Trees};
+use crate::databases::{Database, new_database};
+use crate::texts::owned;
+use ov_base::{Text, Tree, Trees};
 use ov_db::{Db, Delta, row_of};
 use ov_keeper::{Change, Line};
 use ov_rows::RowKey;
+use ov_schema::Schema;
 use ov_stage::Stage;
-use ov_watch::Monitors;
-use serde_json::Value;
+use ov_watch::{Monitors, WatchFault};
 use std::alloc::Global;
 use std::mem;
 use std::test::Fail;
-use test_basics::{
-    Faults, NetKeeper, Scripted, agrees, compact, line_of, net, net_keeper, number, tree, value,
-};
+use test_basics::{NetKeeper, Scripted, agrees, compact, line_of, net, number, tree, value};
 use test_commits::{put_line, remove_row};
+use uuid::Uuid;
 
 /// A row that comes, one whose name changes, and one that goes are told; a change of its load alone is not. Then the monitor is
 /// asked for again, and canceled twice.
@@ -107,11 +108,24 @@ cancel "n" -> unknown monitor"#;
 /// The commands are `monitor ID REQUESTS`, answered with what the monitor is told at first, or why there is none; `cancel ID`;
 /// the changes `put NUMBER VERSION NAME LOAD` and `remove NUMBER` of switches; and `commit`, answered with the params of each
 /// update that tells of these.
-#[derive(Drop)]
 struct Watching {
-    db: Db<NetKeeper>,
+    database: Database,
     monitors: Monitors,
     changes: Vec<Change>,
+}
+
+impl Drop for Watching {
+    // A drop of its own, as that of a database.
+    fn drop(self) {
+        let Watching {
+            database,
+            monitors,
+            changes,
+        } = self;
+        drop(database);
+        drop(monitors);
+        drop(changes);
+    }
 }
 
 /// The line of a switch of this number, version, name and load.
@@ -133,6 +147,26 @@ fn removal_of(alloc: Global, id: &str) -> Result<Change, Fail> {
     Ok(Change::Remove { table, id })
 }
 
+/// Puts a row within a transaction.
+fn stage_row(
+    alloc: Global,
+    db: &Db<NetKeeper>,
+    stage: &mut Stage<'_>,
+    line: &Line,
+) -> Result<(), Fail> {
+    let row = row_of(alloc, db.schema(), line)?;
+    let key = RowKey::new(alloc, line.table.as_str(), line.id)?;
+    stage.put(key, line.version, row.columns)?;
+    Ok(())
+}
+
+/// Removes a row within a transaction.
+fn stage_removal(alloc: Global, stage: &mut Stage<'_>, table: &str, id: Uuid) -> Result<(), Fail> {
+    let key = RowKey::new(alloc, table, id)?;
+    stage.remove(key)?;
+    Ok(())
+}
+
 /// Makes a change within a transaction.
 fn stage_change(
     alloc: Global,
@@ -141,14 +175,9 @@ fn stage_change(
     change: &Change,
 ) -> Result<(), Fail> {
     match change {
-        Change::Put(line) => {
-            let key = RowKey::new(alloc, line.table.as_str(), line.id)?;
-            let row = row_of(alloc, db.schema(), line)?;
-            stage.put(key, line.version, row.columns)?;
-        }
-        Change::Remove { table, id } => stage.remove(RowKey::new(alloc, table.as_str(), *id)?)?,
+        Change::Put(line) => stage_row(alloc, db, stage, line),
+        Change::Remove { table, id } => stage_removal(alloc, stage, table.as_str(), *id),
     }
-    Ok(())
 }
 
 /// Commits a change.
@@ -168,57 +197,115 @@ fn commit_each(alloc: Global, db: &mut Db<NetKeeper>, changes: &[Change]) -> Res
     Ok(())
 }
 
+/// Adds the params of an update, with a space before all but the first.
+fn push_update(alloc: Global, text: &mut String, params: Trees) -> Result<(), Fail> {
+    if !text.is_empty() {
+        text.push_str(" ")?;
+    }
+    push_tree(alloc, text, &params.into_tree())
+}
+
+/// Adds the text of a tree.
+fn push_tree(alloc: Global, text: &mut String, tree: &Tree) -> Result<(), Fail> {
+    let item = compact(alloc, tree)?;
+    text.push_str(item.as_str())?;
+    Ok(())
+}
+
 /// The params of updates, with a space between them.
 fn text_of(alloc: Global, updates: Vec<Trees>) -> Result<String, Fail> {
     let mut text = String::new(alloc);
     for params in updates {
-        if !text.is_empty() {
-            text.push_str(" ")?;
-        }
-        text.push_str(compact(alloc, &params.into_tree())?.as_str())?;
+        push_update(alloc, &mut text, params)?;
     }
     Ok(text)
 }
 
+/// Why a monitor is not added, or what it is told at first.
+fn first_text(alloc: Global, told: Option<Tree>) -> Result<String, Fail> {
+    match told {
+        Some(told) => compact(alloc, &told),
+        None => Err(Fail::new("no monitor")),
+    }
+}
+
+/// The word of a call of the monitors that is done, or why it is not.
+fn word_of(done: Result<(), WatchFault>, word: &'static str) -> &'static str {
+    match done {
+        Ok(()) => word,
+        Err(fault) => fault.text(),
+    }
+}
+
 impl Watching {
-    /// Adds a monitor, and what it is told at first.
-    fn monitor(&mut self, alloc: Global, id: &str, requests: &str) -> Result<String, Fail> {
-        let id = tree(alloc, id)?;
+    /// Adds a monitor: nothing, or why there is none.
+    fn add(&mut self, alloc: Global, id: &str, requests: &str) -> Result<&'static str, Fail> {
         let requests = value(alloc, requests)?;
-        let schema = self.db.schema();
-        if let Err(fault) = self.monitors.add(alloc, schema, id.copy()?, &requests) {
-            return Ok(String::from_str(alloc, fault.text())?);
-        }
-        match self.monitors.initial(alloc, &self.db, &id)? {
-            Some(told) => compact(alloc, &told),
-            None => Err(Fail::new("no monitor")),
+        let id = tree(alloc, id)?;
+        let schema = self.database.db.schema();
+        Ok(word_of(self.monitors.add(alloc, schema, id, &requests), ""))
+    }
+
+    /// What a monitor is told at first.
+    fn first(&self, alloc: Global, id: &str) -> Result<String, Fail> {
+        let id = tree(alloc, id)?;
+        let told = self.monitors.initial(alloc, &self.database.db, &id)?;
+        first_text(alloc, told)
+    }
+
+    /// Adds a monitor, and what it is told at first.
+    fn monitor(&mut self, alloc: Global, asked: &str) -> Result<String, Fail> {
+        let (id, requests) = asked.split_once(" ").ok_or("no requests")?;
+        match self.add(alloc, id, requests)? {
+            "" => self.first(alloc, id),
+            fault => owned(alloc, fault),
         }
     }
 
     fn cancel(&mut self, alloc: Global, id: &str) -> Result<String, Fail> {
-        let text = match self.monitors.cancel(alloc, &tree(alloc, id)?) {
-            Ok(()) => "canceled",
-            Err(fault) => fault.text(),
-        };
-        Ok(String::from_str(alloc, text)?)
+        let id = tree(alloc, id)?;
+        let canceled = self.monitors.cancel(alloc, &id);
+        owned(alloc, word_of(canceled, "canceled"))
+    }
+
+    fn put(&mut self, alloc: Global, row: &str) -> Result<String, Fail> {
+        self.changes.push(Change::Put(line_of_switch(alloc, row)?))?;
+        Ok(String::new(alloc))
+    }
+
+    fn remove(&mut self, alloc: Global, id: &str) -> Result<String, Fail> {
+        self.changes.push(removal_of(alloc, id)?)?;
+        Ok(String::new(alloc))
     }
 
     /// The changes of a transaction that makes these.
     fn delta(&self, alloc: Global) -> Result<Delta, Fail> {
-        let mut stage = Stage::new(alloc, self.db.rows());
+        let db = &self.database.db;
+        let mut stage = Stage::new(alloc, db.rows());
         for change in &self.changes {
-            stage_change(alloc, &self.db, &mut stage, change)?;
+            stage_change(alloc, db, &mut stage, change)?;
         }
         Ok(stage.into_delta())
     }
 
+    /// What is told of the changes.
+    fn told(&self, alloc: Global) -> Result<String, Fail> {
+        let delta = self.delta(alloc)?;
+        let updates = self.monitors.updates(alloc, &self.database.db, &delta)?;
+        text_of(alloc, updates)
+    }
+
+    /// Commits the changes.
+    fn commit_changes(&mut self, alloc: Global) -> Result<(), Fail> {
+        let changes = mem::replace(&mut self.changes, Vec::new(alloc));
+        commit_each(alloc, &mut self.database.db, changes.as_slice())
+    }
+
     /// What is told of the changes, which are committed.
     fn commit(&mut self, alloc: Global) -> Result<String, Fail> {
-        let delta = self.delta(alloc)?;
-        let updates = self.monitors.updates(alloc, &self.db, &delta)?;
-        let changes = mem::replace(&mut self.changes, Vec::new(alloc));
-        commit_each(alloc, &mut self.db, changes.as_slice())?;
-        text_of(alloc, updates)
+        let told = self.told(alloc)?;
+        self.commit_changes(alloc)?;
+        Ok(told)
     }
 }
 
@@ -226,34 +313,28 @@ impl Scripted for Watching {
     fn answer(&mut self, alloc: Global, command: &str) -> Result<String, Fail> {
         let (word, rest) = command.split_once(" ").unwrap_or((command, ""));
         match word {
-            "monitor" => {
-                let (id, requests) = rest.split_once(" ").ok_or("no requests")?;
-                return self.monitor(alloc, id, requests);
-            }
-            "cancel" => return self.cancel(alloc, rest),
-            "put" => self
-                .changes
-                .push(Change::Put(line_of_switch(alloc, rest)?))?,
-            "remove" => self.changes.push(removal_of(alloc, rest)?)?,
-            _ => return self.commit(alloc),
+            "monitor" => self.monitor(alloc, rest),
+            "cancel" => self.cancel(alloc, rest),
+            "put" => self.put(alloc, rest),
+            "remove" => self.remove(alloc, rest),
+            _ => self.commit(alloc),
         }
-        Ok(String::new(alloc))
     }
 }
 
-/// A new database, and these monitors.
-fn watched_by(alloc: Global, monitors: Monitors) -> Result<Watching, Fail> {
-    let keeper = net_keeper(alloc, Faults::NONE)?;
-    Ok(Watching {
-        db: Db::open(alloc, keeper, net(alloc)?)?,
+/// These monitors of a new database tell what the script says.
+fn watches_with(alloc: Global, monitors: Monitors, script: &str) -> Result<(), Fail> {
+    let watching = Watching {
+        database: new_database(alloc)?,
         monitors,
         changes: Vec::new(alloc),
-    })
+    };
+    agrees(alloc, watching, script)
 }
 
 /// The monitors of a new database tell what the script says.
 fn watches(alloc: Global, script: &str) -> Result<(), Fail> {
-    agrees(alloc, watched_by(alloc, Monitors::new(alloc))?, script)
+    watches_with(alloc, Monitors::new(alloc), script)
 }
 
 #[test]
@@ -295,20 +376,37 @@ monitor 64 {"Swich":[]} -> unknown table
 monitor 64 {} -> {}
 monitor 7 {} -> resources exhausted"#;
 
+/// Adds a monitor of nothing, with a number for its name.
+fn add_one(
+    alloc: Global,
+    schema: &Schema,
+    monitors: &mut Monitors,
+    number: u64,
+) -> Result<(), Fail> {
+    let nothing = value(alloc, "{}")?;
+    let id = format!(in alloc; "{number}")?;
+    monitors.add(alloc, schema, tree(alloc, id.as_str())?, &nothing)?;
+    Ok(())
+}
+
+/// Adds as many monitors as a session may have.
+fn add_many(alloc: Global, schema: &Schema, monitors: &mut Monitors) -> Result<(), Fail> {
+    for number in 0..64 {
+        add_one(alloc, schema, monitors, number)?;
+    }
+    Ok(())
+}
+
 /// As many monitors as a session may have.
 fn many(alloc: Global) -> Result<Monitors, Fail> {
     let schema = net(alloc)?;
-    let nothing = Value::from_str(alloc, "{}")?;
     let mut monitors = Monitors::new(alloc);
-    for number in 0..64 {
-        let id = format!(in alloc; "{number}")?;
-        monitors.add(alloc, &schema, tree(alloc, id.as_str())?, &nothing)?;
-    }
+    add_many(alloc, &schema, &mut monitors)?;
     Ok(monitors)
 }
 
 #[test]
 fn a_session_has_64_monitors(rt: HostRuntime) -> Result<(), Fail> {
     let monitors = many(rt.alloc())?;
-    agrees(rt.alloc(), watched_by(rt.alloc(), monitors)?, TOO_MANY)
+    watches_with(rt.alloc(), monitors, TOO_MANY)
 }

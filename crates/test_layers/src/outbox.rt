@@ -3,8 +3,9 @@
 ghost use Rattle.std.specs.Prelude.{◌≡◌, ◌≤◌, ◌+◌, ℕ, IfOk};
 ghost use Rattle.ov_outbox.specs.Frames.{count_of, places_for};
 
+use crate::texts::{fact_text, owned};
 use ov_base::Bytes;
-use ov_locks::LockCall;
+use ov_locks::{LockCall, LockFault};
 use ov_outbox::{FrameQueues, Outbox, Prepared};
 use std::alloc::{AllocError, Global};
 use std::mem;
@@ -66,13 +67,13 @@ fn prepare_three(alloc: Global, queues: &mut FrameQueues) -> Result<Prepared, Fa
 
 impl Frames {
     /// Puts a frame in a place that is kept for it; false where there is no memory for the place.
-    fn kept(&mut self, alloc: Global, session: u64, text: &str) -> Result<bool, Fail> {
+    fn kept(&mut self, alloc: Global, session: u64, text: &str) -> Result<String, Fail> {
         let frame = frame_of(alloc, text)?;
-        if !self.queues.keep_place(alloc, session) {
-            return Ok(false);
+        let is_kept = self.queues.keep_place(alloc, session);
+        if is_kept {
+            self.queues.push_kept(session, frame);
         }
-        self.queues.push_kept(session, frame);
-        Ok(true)
+        fact_text(alloc, is_kept)
     }
 
     /// Sends what is prepared.
@@ -97,6 +98,12 @@ impl Frames {
         Ok(())
     }
 
+    /// Sends a frame, where there is memory for it.
+    fn push(&mut self, alloc: Global, session: u64, text: &str) -> Result<String, Fail> {
+        let frame = frame_of(alloc, text)?;
+        fact_text(alloc, self.queues.push(alloc, session, frame))
+    }
+
     /// What is told of a session, by a command that tells.
     fn tell(
         &mut self,
@@ -106,21 +113,12 @@ impl Frames {
         text: &str,
     ) -> Result<String, Fail> {
         match word {
-            "push" => {
-                let is_sent = self.queues.push(alloc, session, frame_of(alloc, text)?);
-                Ok(format!(in alloc; "{is_sent}")?)
-            }
-            "keep" => {
-                let is_kept = self.queues.keep_place(alloc, session);
-                Ok(format!(in alloc; "{is_kept}")?)
-            }
-            "kept" => {
-                let is_sent = self.kept(alloc, session, text)?;
-                Ok(format!(in alloc; "{is_sent}")?)
-            }
+            "push" => self.push(alloc, session, text),
+            "keep" => fact_text(alloc, self.queues.keep_place(alloc, session)),
+            "kept" => self.kept(alloc, session, text),
             "pop" => text_of(alloc, self.queues.pop(session)),
             "joined" => text_of(alloc, Some(self.queues.joined_for(alloc, session)?)),
-            "empty" => Ok(format!(in alloc; "{}", self.queues.is_empty(session))?),
+            "empty" => fact_text(alloc, self.queues.is_empty(session)),
             _ => Err(Fail::new("no command")),
         }
     }
@@ -183,13 +181,16 @@ joined 1 -> axzw
 pop 2 -> y
 pop 2 -> none";
 
+/// New frames wait as the script says.
+fn wait(alloc: Global, script: &str) -> Result<(), Fail> {
+    let queues = FrameQueues::new(alloc);
+    agrees(alloc, Frames { queues }, script)
+}
+
 #[test]
 fn frames_wait_for_their_sessions(rt: HostRuntime) -> Result<(), Fail> {
-    for script in [WAITING, PREPARED] {
-        let queues = FrameQueues::new(rt.alloc());
-        agrees(rt.alloc(), Frames { queues }, script)?;
-    }
-    Ok(())
+    wait(rt.alloc(), WAITING)?;
+    wait(rt.alloc(), PREPARED)
 }
 
 /// An outbox behind a script.
@@ -210,6 +211,14 @@ fn taken_apart(outbox: Outbox) -> Outbox {
     Outbox::from_parts(frames, locks)
 }
 
+/// Nothing, or why a call is refused.
+fn asked_text(alloc: Global, asked: Result<(), LockFault>) -> Result<String, Fail> {
+    match asked {
+        Ok(()) => Ok(String::new(alloc)),
+        Err(fault) => owned(alloc, fault.text()),
+    }
+}
+
 impl Sending {
     /// What a session asks of a lock, under an id.
     fn ask(
@@ -221,10 +230,13 @@ impl Sending {
     ) -> Result<String, Fail> {
         let (id, name) = text.split_once(" ").ok_or("no name")?;
         let id = tree(alloc, id)?;
-        match self.outbox.ask(alloc, call, session, &id, name) {
-            Ok(()) => Ok(String::new(alloc)),
-            Err(fault) => Ok(String::from_str(alloc, fault.text())?),
-        }
+        asked_text(alloc, self.outbox.ask(alloc, call, session, &id, name))
+    }
+
+    /// Sends a frame, where there is memory for it.
+    fn push(&mut self, alloc: Global, session: u64, text: &str) -> Result<String, Fail> {
+        let frame = frame_of(alloc, text)?;
+        fact_text(alloc, self.outbox.push(alloc, session, frame))
     }
 
     /// What is told of a session, by a command that tells.
@@ -239,15 +251,18 @@ impl Sending {
             "lock" => self.ask(alloc, LockCall::Lock, session, text),
             "steal" => self.ask(alloc, LockCall::Steal, session, text),
             "unlock" => self.ask(alloc, LockCall::Unlock, session, text),
-            "owns" => Ok(format!(in alloc; "{}", self.outbox.owns(session, text))?),
-            "push" => {
-                let is_sent = self.outbox.push(alloc, session, frame_of(alloc, text)?);
-                Ok(format!(in alloc; "{is_sent}")?)
-            }
+            "owns" => fact_text(alloc, self.outbox.owns(session, text)),
+            "push" => self.push(alloc, session, text),
             "pop" => text_of(alloc, self.outbox.pop(session)),
             "joined" => text_of(alloc, Some(self.outbox.joined_for(alloc, session)?)),
             _ => Err(Fail::new("no command")),
         }
+    }
+
+    /// Takes the outbox apart, and puts it together.
+    fn take_apart(&mut self, alloc: Global) {
+        let outbox = mem::replace(&mut self.outbox, Outbox::new(alloc));
+        self.outbox = taken_apart(outbox);
     }
 }
 
@@ -260,10 +275,7 @@ impl Scripted for Sending {
             "leave" => self.outbox.leave(session),
             "clear" => self.outbox.clear(session),
             "forget" => self.outbox.forget(session),
-            "apart" => {
-                let outbox = mem::replace(&mut self.outbox, Outbox::new(alloc));
-                self.outbox = taken_apart(outbox);
-            }
+            "apart" => self.take_apart(alloc),
             _ => return self.tell(alloc, word, session, text),
         }
         Ok(String::new(alloc))
@@ -312,11 +324,14 @@ apart 0
 push 2 d -> true
 joined 2 -> d";
 
+/// A new outbox does what the script says.
+fn tells(alloc: Global, script: &str) -> Result<(), Fail> {
+    let outbox = Outbox::new(alloc);
+    agrees(alloc, Sending { outbox }, script)
+}
+
 #[test]
 fn sessions_are_told_of_locks(rt: HostRuntime) -> Result<(), Fail> {
-    for script in [TOLD, PUT] {
-        let outbox = Outbox::new(rt.alloc());
-        agrees(rt.alloc(), Sending { outbox }, script)?;
-    }
-    Ok(())
+    tells(rt.alloc(), TOLD)?;
+    tells(rt.alloc(), PUT)
 }

@@ -1,11 +1,13 @@
+use crate::texts::{fact_text, number_text, owned, push_item};
 use ov_atoms::{Atom, Datum};
 use ov_base::Text;
 use ov_db::Delta;
-use ov_rows::{Columns, NamedValues, RowKey, Rows, TableRows};
-use std::alloc::{AllocError, Global};
+use ov_rows::{Columns, NamedValues, Row, RowKey, Rows, TableRows};
+use ov_schema::Table;
+use std::alloc::Global;
 use std::mem;
 use std::test::Fail;
-use test_basics::{Scripted, agrees, net, number, switch};
+use test_basics::{Scripted, agrees, is_text, net, number, switch};
 
 /// Columns are found by name and written in order.
 const COLUMNS: &str = r#"get name -> atoms
@@ -38,7 +40,7 @@ impl Cells {
 impl Scripted for Cells {
     fn answer(&mut self, alloc: Global, command: &str) -> Result<String, Fail> {
         match command.split_once(" ") {
-            Some(("get", name)) => Ok(String::from_str(alloc, self.get(name))?),
+            Some(("get", name)) => owned(alloc, self.get(name)),
             _ => text_of(alloc, &self.columns),
         }
     }
@@ -68,9 +70,12 @@ struct Gathered {
 
 impl Gathered {
     /// Puts a text at a column.
-    fn put(&mut self, alloc: Global, name: &str, text: &str) -> Result<(), AllocError> {
+    fn put(&mut self, alloc: Global, cell: &str) -> Result<String, Fail> {
+        let (name, text) = cell.split_once(" ").ok_or("no text")?;
+        let name = String::from_str(alloc, name)?;
         let datum = Datum::of_atom(Atom::Text(Text::from_str(alloc, text)?));
-        self.values.insert(String::from_str(alloc, name)?, datum)
+        self.values.insert(name, datum)?;
+        Ok(String::new(alloc))
     }
 
     /// The columns of these values. No value is left.
@@ -85,12 +90,8 @@ impl Scripted for Gathered {
     fn answer(&mut self, alloc: Global, command: &str) -> Result<String, Fail> {
         let (word, rest) = command.split_once(" ").unwrap_or((command, ""));
         match word {
-            "put" => {
-                let (name, text) = rest.split_once(" ").ok_or("no text")?;
-                self.put(alloc, name, text)?;
-                Ok(String::new(alloc))
-            }
-            "has" => Ok(format!(in alloc; "{}", self.values.contains(rest))?),
+            "put" => self.put(alloc, rest),
+            "has" => fact_text(alloc, self.values.contains(rest)),
             _ => self.text(alloc),
         }
     }
@@ -102,17 +103,31 @@ fn values_are_gathered_by_their_names(rt: HostRuntime) -> Result<(), Fail> {
     agrees(rt.alloc(), Gathered { values }, GATHERED)
 }
 
+/// Names with a semicolon behind each.
+fn joined(alloc: Global, names: &[String]) -> Result<String, Fail> {
+    let mut text = String::new(alloc);
+    for name in names {
+        push_item(&mut text, name.as_str())?;
+    }
+    Ok(text)
+}
+
+/// The names of a row's columns, shared.
+fn names_of(alloc: Global, table: &Table) -> Result<String, Fail> {
+    let names = table.names_of_row().share()?;
+    joined(alloc, names.as_slice())
+}
+
+/// Those of a switch.
+fn names_of_switch(alloc: Global) -> Result<String, Fail> {
+    let schema = net(alloc)?;
+    names_of(alloc, schema.table("Switch").ok_or("no table")?)
+}
+
 #[test]
 fn names_are_shared(rt: HostRuntime) -> Result<(), Fail> {
-    let schema = net(rt.alloc())?;
-    let table = schema.table("Switch").ok_or("no table")?;
-    let names = table.names_of_row().share()?;
-    let mut told = String::new(rt.alloc());
-    for name in names.as_slice() {
-        told.push_str(format!(in rt.alloc(); "{name};")?.as_str())?;
-    }
-    assert_eq!(rt; told.as_str(), "load;main;name;ports;");
-    Ok(())
+    let names = names_of_switch(rt.alloc())?;
+    is_text(rt.alloc(), names.as_str(), "load;main;name;ports;")
 }
 
 /// The key of a table and a number.
@@ -144,11 +159,16 @@ pub(crate) struct Standing {
     pub(crate) rows: Rows,
 }
 
+/// Adds a key.
+fn push_key(alloc: Global, text: &mut String, table: &str, id: u128) -> Result<(), Fail> {
+    let key = format!(in alloc; "{table} {id}")?;
+    push_item(text, key.as_str())
+}
+
 /// Adds the keys of a table's rows.
 fn push_keys(alloc: Global, text: &mut String, table: &str, rows: &TableRows) -> Result<(), Fail> {
     for (id, _row) in rows.map() {
-        let id = id.as_uuid().as_u128();
-        text.push_str(format!(in alloc; "{table} {id};")?.as_str())?;
+        push_key(alloc, text, table, id.as_uuid().as_u128())?;
     }
     Ok(())
 }
@@ -162,22 +182,27 @@ impl Standing {
         Ok(text)
     }
 
-    fn put(&mut self, alloc: Global, key: &str) -> Result<(), Fail> {
+    fn put(&mut self, alloc: Global, key: &str) -> Result<String, Fail> {
         let key = key_of(alloc, key)?;
         let row = switch(alloc, "s1", 4)?;
         self.rows.insert(alloc, &key, row)?;
-        Ok(())
+        Ok(String::new(alloc))
+    }
+
+    fn remove(&mut self, alloc: Global, key: &str) -> Result<String, Fail> {
+        let key = key_of(alloc, key)?;
+        self.rows.remove(&key);
+        Ok(String::new(alloc))
     }
 }
 
 impl Scripted for Standing {
     fn answer(&mut self, alloc: Global, command: &str) -> Result<String, Fail> {
         match command.split_once(" ") {
-            Some(("put", key)) => self.put(alloc, key)?,
-            Some(("remove", key)) => self.rows.remove(&key_of(alloc, key)?),
-            _ => return self.keys(alloc),
+            Some(("put", key)) => self.put(alloc, key),
+            Some(("remove", key)) => self.remove(alloc, key),
+            _ => self.keys(alloc),
         }
-        Ok(String::new(alloc))
     }
 }
 
@@ -214,29 +239,35 @@ struct Changing {
     delta: Delta,
 }
 
+/// What a change is.
+fn word_of(change: Option<&Option<Row>>) -> &'static str {
+    match change {
+        Some(Some(_)) => "a row",
+        Some(None) => "none",
+        None => "nothing",
+    }
+}
+
 impl Changing {
     /// Puts a row at the key.
-    fn put(&mut self, alloc: Global, key: &str) -> Result<(), Fail> {
+    fn put(&mut self, alloc: Global, key: &str) -> Result<String, Fail> {
         let key = key_of(alloc, key)?;
         let row = switch(alloc, "s1", 4)?;
         self.delta.insert(key, Some(row))?;
-        Ok(())
+        Ok(String::new(alloc))
     }
 
     /// Puts none in its place.
-    fn remove(&mut self, alloc: Global, key: &str) -> Result<(), Fail> {
+    fn remove(&mut self, alloc: Global, key: &str) -> Result<String, Fail> {
         let key = key_of(alloc, key)?;
         self.delta.insert(key, None)?;
-        Ok(())
+        Ok(String::new(alloc))
     }
 
     /// What is said of the key.
-    fn change(&self, key: &RowKey) -> &'static str {
-        match self.delta.change(key) {
-            Some(Some(_)) => "a row",
-            Some(None) => "none",
-            None => "nothing",
-        }
+    fn change(&self, alloc: Global, key: &str) -> Result<String, Fail> {
+        let key = key_of(alloc, key)?;
+        owned(alloc, word_of(self.delta.change(&key)))
     }
 }
 
@@ -244,16 +275,12 @@ impl Scripted for Changing {
     fn answer(&mut self, alloc: Global, command: &str) -> Result<String, Fail> {
         let (word, key) = command.split_once(" ").unwrap_or((command, ""));
         match word {
-            "put" => self.put(alloc, key)?,
-            "remove" => self.remove(alloc, key)?,
-            "change" => {
-                let change = self.change(&key_of(alloc, key)?);
-                return Ok(String::from_str(alloc, change)?);
-            }
-            "empty" => return Ok(format!(in alloc; "{}", self.delta.is_empty())?),
-            _ => return Ok(format!(in alloc; "{}", self.delta.map().len())?),
+            "put" => self.put(alloc, key),
+            "remove" => self.remove(alloc, key),
+            "change" => self.change(alloc, key),
+            "empty" => fact_text(alloc, self.delta.is_empty()),
+            _ => number_text(alloc, self.delta.map().len() as u64),
         }
-        Ok(String::new(alloc))
     }
 }
 

@@ -1,15 +1,15 @@
 //! The open sessions, and their monitors, call by call.
 
-use ov_base::Trees;
-use ov_db::{Db, Delta};
+use crate::databases::{Database, new_database};
+use crate::texts::{fact_text, number_text, owned, push_item};
+use ov_base::{Tree, Trees};
+use ov_db::Delta;
 use ov_rows::RowKey;
 use ov_sessions::{Session, Sessions};
-use ov_watch::Watchers;
+use ov_watch::{WatchFault, Watchers};
 use std::alloc::Global;
 use std::test::Fail;
-use test_basics::{
-    Faults, NetKeeper, Scripted, agrees, compact, net, net_keeper, number, switch, tree, value,
-};
+use test_basics::{Scripted, agrees, compact, number, switch, tree, value};
 
 /// Sessions behind a script. The commands are `open`, `close SERIAL`, `is_open SERIAL`, `free`, `full`, `next` and `serials`.
 #[derive(Drop)]
@@ -17,31 +17,52 @@ struct Opening {
     sessions: Sessions,
 }
 
+/// The key and the serial of a session.
+fn session_text(alloc: Global, session: Session) -> Result<String, Fail> {
+    let Session { key, serial } = session;
+    Ok(format!(in alloc; "{key} {serial}")?)
+}
+
+/// Adds a serial.
+fn push_serial(alloc: Global, text: &mut String, serial: u64) -> Result<(), Fail> {
+    let item = number_text(alloc, serial)?;
+    push_item(text, item.as_str())
+}
+
+/// A serial, or that there is none.
+fn serial_text(alloc: Global, serial: Option<u64>) -> Result<String, Fail> {
+    match serial {
+        Some(serial) => number_text(alloc, serial),
+        None => owned(alloc, "none"),
+    }
+}
+
 impl Opening {
     /// Opens a session, where there is room for it.
     fn open(&mut self, alloc: Global) -> Result<String, Fail> {
         if self.sessions.is_full() {
-            return Ok(String::from_str(alloc, "full")?);
+            return owned(alloc, "full");
         }
-        let Session { key, serial } = self.sessions.open()?;
-        Ok(format!(in alloc; "{key} {serial}")?)
+        session_text(alloc, self.sessions.open()?)
+    }
+
+    fn close(&mut self, alloc: Global, serial: &str) -> Result<String, Fail> {
+        self.sessions.close(serial.parse::<u64>()?);
+        Ok(String::new(alloc))
+    }
+
+    fn is_open(&self, alloc: Global, serial: &str) -> Result<String, Fail> {
+        let serial = serial.parse::<u64>()?;
+        fact_text(alloc, self.sessions.is_open(serial))
     }
 
     /// The serials of the open sessions.
     fn serials(&self, alloc: Global) -> Result<String, Fail> {
         let mut text = String::new(alloc);
         for serial in self.sessions.serials() {
-            text.push_str(format!(in alloc; "{serial};")?.as_str())?;
+            push_serial(alloc, &mut text, serial)?;
         }
         Ok(text)
-    }
-
-    /// The serial of the next session.
-    fn next(&self, alloc: Global) -> Result<String, Fail> {
-        match self.sessions.next_serial() {
-            Some(serial) => Ok(format!(in alloc; "{serial}")?),
-            None => Ok(String::from_str(alloc, "none")?),
-        }
     }
 }
 
@@ -49,17 +70,11 @@ impl Scripted for Opening {
     fn answer(&mut self, alloc: Global, command: &str) -> Result<String, Fail> {
         match command.split_once(" ").unwrap_or((command, "")) {
             ("open", _) => self.open(alloc),
-            ("close", serial) => {
-                self.sessions.close(serial.parse::<u64>()?);
-                Ok(String::new(alloc))
-            }
-            ("is_open", serial) => {
-                let is_open = self.sessions.is_open(serial.parse::<u64>()?);
-                Ok(format!(in alloc; "{is_open}")?)
-            }
-            ("free", _) => Ok(format!(in alloc; "{}", self.sessions.free_places())?),
-            ("full", _) => Ok(format!(in alloc; "{}", self.sessions.is_full())?),
-            ("next", _) => self.next(alloc),
+            ("close", serial) => self.close(alloc, serial),
+            ("is_open", serial) => self.is_open(alloc, serial),
+            ("free", _) => number_text(alloc, self.sessions.free_places() as u64),
+            ("full", _) => fact_text(alloc, self.sessions.is_full()),
+            ("next", _) => serial_text(alloc, self.sessions.next_serial()),
             _ => self.serials(alloc),
         }
     }
@@ -91,57 +106,90 @@ fn sessions_are_opened_and_closed(rt: HostRuntime) -> Result<(), Fail> {
 ///
 /// The commands are `add SESSION ID REQUESTS` and `cancel SESSION ID`, which tell why they are refused, `initial SESSION ID`,
 /// `updates SESSION`, `leave SESSION` and `empty 0`.
-#[derive(Drop)]
 struct Watching {
-    db: Db<NetKeeper>,
+    database: Database,
     watchers: Watchers,
+}
+
+impl Drop for Watching {
+    // A drop of its own, as that of a database.
+    fn drop(self) {
+        let Watching { database, watchers } = self;
+        drop(database);
+        drop(watchers);
+    }
+}
+
+/// Adds the text of a tree.
+fn push_tree(alloc: Global, text: &mut String, tree: &Tree) -> Result<(), Fail> {
+    let item = compact(alloc, tree)?;
+    text.push_str(item.as_str())?;
+    Ok(())
 }
 
 /// The params of updates.
 fn text_of(alloc: Global, updates: Vec<Trees>) -> Result<String, Fail> {
     let mut text = String::new(alloc);
     for params in updates {
-        text.push_str(compact(alloc, &params.into_tree())?.as_str())?;
+        push_tree(alloc, &mut text, &params.into_tree())?;
     }
     Ok(text)
+}
+
+/// Nothing, or why a call of the monitors is refused.
+fn done_text(alloc: Global, done: Result<(), WatchFault>) -> Result<String, Fail> {
+    match done {
+        Ok(()) => Ok(String::new(alloc)),
+        Err(fault) => owned(alloc, fault.text()),
+    }
+}
+
+/// What a monitor is told at first, or that there is none.
+fn first_text(alloc: Global, told: Option<Tree>) -> Result<String, Fail> {
+    match told {
+        Some(told) => compact(alloc, &told),
+        None => owned(alloc, "none"),
+    }
 }
 
 impl Watching {
     /// Adds a monitor.
     fn add(&mut self, alloc: Global, session: u64, asked: &str) -> Result<String, Fail> {
         let (id, requests) = asked.split_once(" ").ok_or("no requests")?;
-        let id = tree(alloc, id)?;
         let requests = value(alloc, requests)?;
-        let schema = self.db.schema();
-        match self.watchers.add(alloc, schema, session, id, &requests) {
-            Ok(()) => Ok(String::new(alloc)),
-            Err(fault) => Ok(String::from_str(alloc, fault.text())?),
-        }
+        let id = tree(alloc, id)?;
+        let schema = self.database.db.schema();
+        let added = self.watchers.add(alloc, schema, session, id, &requests);
+        done_text(alloc, added)
     }
 
     /// Cancels a monitor.
     fn cancel(&mut self, alloc: Global, session: u64, id: &str) -> Result<String, Fail> {
         let id = tree(alloc, id)?;
-        match self.watchers.cancel(alloc, session, &id) {
-            Ok(()) => Ok(String::new(alloc)),
-            Err(fault) => Ok(String::from_str(alloc, fault.text())?),
-        }
+        done_text(alloc, self.watchers.cancel(alloc, session, &id))
     }
 
     /// What a monitor is told at first.
     fn initial(&self, alloc: Global, session: u64, id: &str) -> Result<String, Fail> {
         let id = tree(alloc, id)?;
-        match self.watchers.initial(alloc, &self.db, session, &id)? {
-            Some(told) => compact(alloc, &told),
-            None => Ok(String::from_str(alloc, "none")?),
-        }
+        let told = self
+            .watchers
+            .initial(alloc, &self.database.db, session, &id)?;
+        first_text(alloc, told)
     }
 
     /// What the monitors of a session are told of the change.
     fn updates(&self, alloc: Global, session: u64) -> Result<String, Fail> {
         let delta = one_switch(alloc)?;
-        let updates = self.watchers.updates(alloc, &self.db, &delta, session)?;
+        let updates = self
+            .watchers
+            .updates(alloc, &self.database.db, &delta, session)?;
         text_of(alloc, updates)
+    }
+
+    fn leave(&mut self, alloc: Global, session: u64) -> Result<String, Fail> {
+        self.watchers.leave(session);
+        Ok(String::new(alloc))
     }
 }
 
@@ -155,11 +203,8 @@ impl Scripted for Watching {
             "cancel" => self.cancel(alloc, session, text),
             "initial" => self.initial(alloc, session, text),
             "updates" => self.updates(alloc, session),
-            "empty" => Ok(format!(in alloc; "{}", self.watchers.is_empty())?),
-            "leave" => {
-                self.watchers.leave(session);
-                Ok(String::new(alloc))
-            }
+            "empty" => fact_text(alloc, self.watchers.is_empty()),
+            "leave" => self.leave(alloc, session),
             _ => Err(Fail::new("no command")),
         }
     }
@@ -191,18 +236,18 @@ empty 0 -> true"#;
 
 /// The change that puts switch 1.
 fn one_switch(alloc: Global) -> Result<Delta, Fail> {
-    let mut delta = Delta::new(alloc);
     let key = RowKey::new(alloc, "Switch", number("1")?)?;
-    delta.insert(key, Some(switch(alloc, "s1", 4)?))?;
+    let row = switch(alloc, "s1", 4)?;
+    let mut delta = Delta::new(alloc);
+    delta.insert(key, Some(row))?;
     Ok(delta)
 }
 
 #[test]
 fn sessions_have_monitors_of_their_own(rt: HostRuntime) -> Result<(), Fail> {
-    let alloc = rt.alloc();
     let watching = Watching {
-        db: Db::open(alloc, net_keeper(alloc, Faults::NONE)?, net(alloc)?)?,
-        watchers: Watchers::new(alloc),
+        database: new_database(rt.alloc())?,
+        watchers: Watchers::new(rt.alloc()),
     };
-    agrees(alloc, watching, WATCHED)
+    agrees(rt.alloc(), watching, WATCHED)
 }

@@ -1,9 +1,11 @@
 use crate::rows::Standing;
+use crate::texts::{fact_text, number_text, owned, push_item};
 use ov_atoms::NoNames;
 use ov_base::Text;
+use ov_conds::Condition;
 use ov_projection::{OpFault, compared_columns, listed_columns, shown_tree};
 use ov_rows::{RowKey, RowView, Rows};
-use ov_schema::Schema;
+use ov_schema::{Schema, Table};
 use ov_stage::{Stage, conditions_of};
 use serde_json::Value;
 use std::alloc::Global;
@@ -71,7 +73,7 @@ put Switch 3";
 /// `compared NAMES`, `apart NAMES`, `shown NAMES`, and `changes`, which begins again. They are about switches.
 #[derive(Drop)]
 struct Staged<'a> {
-    schema: Schema,
+    schema: &'a Schema,
     rows: &'a Rows,
     stage: Stage<'a>,
 }
@@ -81,52 +83,119 @@ fn switch_key(alloc: Global, id: &str) -> Result<RowKey, Fail> {
     Ok(RowKey::new(alloc, "Switch", number(id)?)?)
 }
 
+/// Adds a row's identifier and version.
+fn push_row(alloc: Global, text: &mut String, row: &RowView<'_>) -> Result<(), Fail> {
+    let stored = row.row;
+    let (id, version) = (row.id.as_u128(), stored.version.as_u128());
+    let item = format!(in alloc; "{id}/{version}")?;
+    push_item(text, item.as_str())
+}
+
 /// The rows' identifiers and versions.
 fn text_of(alloc: Global, rows: &[RowView<'_>]) -> Result<String, Fail> {
     let mut text = String::new(alloc);
     for row in rows {
-        let id = row.id.as_u128();
-        let stored = row.row;
-        let version = stored.version.as_u128();
-        text.push_str(format!(in alloc; "{id}/{version};")?.as_str())?;
+        push_row(alloc, &mut text, row)?;
+    }
+    Ok(text)
+}
+
+/// Names with a semicolon behind each.
+fn joined(alloc: Global, names: &[Text]) -> Result<String, Fail> {
+    let mut text = String::new(alloc);
+    for name in names {
+        push_item(&mut text, name.as_str())?;
     }
     Ok(text)
 }
 
 /// The names, or that they are refused.
 fn names_of(alloc: Global, names: Result<Vec<Text>, OpFault>) -> Result<String, Fail> {
-    let mut text = String::new(alloc);
     match names {
-        Ok(names) => {
-            for name in &names {
-                text.push_str(format!(in alloc; "{};", name.as_str())?.as_str())?;
-            }
-        }
-        Err(_) => text.push_str("refused")?,
+        Ok(names) => joined(alloc, names.as_slice()),
+        Err(_) => owned(alloc, "refused"),
+    }
+}
+
+/// The names, which are not refused.
+fn chosen_of(names: Result<Vec<Text>, OpFault>) -> Result<Vec<Text>, Fail> {
+    match names {
+        Ok(names) => Ok(names),
+        Err(_) => Err(Fail::new("refused")),
+    }
+}
+
+/// Adds the columns of these names of a row.
+fn push_shown(
+    alloc: Global,
+    text: &mut String,
+    names: &[Text],
+    row: &RowView<'_>,
+) -> Result<(), Fail> {
+    let tree = shown_tree(alloc, names, row)?;
+    let item = compact(alloc, &tree)?;
+    text.push_str(item.as_str())?;
+    Ok(())
+}
+
+/// The columns of these names of rows.
+fn shown_of(alloc: Global, names: &[Text], rows: &[RowView<'_>]) -> Result<String, Fail> {
+    let mut text = String::new(alloc);
+    for row in rows {
+        push_shown(alloc, &mut text, names, row)?;
     }
     Ok(text)
 }
 
+/// The columns of these names, or all, of a table.
+fn compared_of(alloc: Global, table: &Table, names: &str) -> Result<String, Fail> {
+    let tree = Value::from_str(alloc, names)?;
+    names_of(alloc, compared_columns(alloc, table, Some(&tree)))
+}
+
 impl Staged<'_> {
-    fn put(&mut self, alloc: Global, row: &str) -> Result<(), Fail> {
+    fn put(&mut self, alloc: Global, row: &str) -> Result<String, Fail> {
         let (id, rest) = row.split_once(" ").ok_or("no version")?;
         let (version, load) = rest.split_once(" ").ok_or("no load")?;
-        let columns = switch(alloc, "s1", load.parse::<i64>()?)?.columns;
-        self.stage
-            .put(switch_key(alloc, id)?, number(version)?, columns)?;
-        Ok(())
+        let load = load.parse::<i64>()?;
+        let version = number(version)?;
+        let key = switch_key(alloc, id)?;
+        let row = switch(alloc, "s1", load)?;
+        self.stage.put(key, version, row.columns)?;
+        Ok(String::new(alloc))
+    }
+
+    fn remove(&mut self, alloc: Global, id: &str) -> Result<String, Fail> {
+        let key = switch_key(alloc, id)?;
+        self.stage.remove(key)?;
+        Ok(String::new(alloc))
+    }
+
+    fn has(&self, alloc: Global, id: &str) -> Result<String, Fail> {
+        let key = switch_key(alloc, id)?;
+        fact_text(alloc, self.stage.contains(&key))
+    }
+
+    /// The rows that meet conditions.
+    fn matching(&self, alloc: Global, conditions: &[Condition]) -> Result<String, Fail> {
+        let rows = self.stage.matching(alloc, "Switch", conditions)?;
+        text_of(alloc, rows.as_slice())
+    }
+
+    /// The rows that meet the conditions of these items.
+    fn meeting(&self, alloc: Global, items: &[Value]) -> Result<String, Fail> {
+        let table = self.schema.table("Switch").ok_or("no table")?;
+        let Ok(conditions) = conditions_of(alloc, table, items, &NoNames) else {
+            return Err(Fail::new("refused"));
+        };
+        self.matching(alloc, conditions.as_slice())
     }
 
     /// The rows that meet the conditions.
     fn found(&self, alloc: Global, conditions: &str) -> Result<String, Fail> {
-        let table = self.schema.table("Switch").ok_or("no table")?;
         let tree = Value::from_str(alloc, conditions)?;
         let items = tree.as_array().ok_or("no array")?;
-        let Ok(conditions) = conditions_of(alloc, table, items.as_slice(), &NoNames) else {
-            return Err(Fail::new(String::from_str(alloc, "refused")?));
-        };
-        let rows = self.stage.matching(alloc, "Switch", conditions.as_slice())?;
-        text_of(alloc, rows.as_slice())
+        self.meeting(alloc, items.as_slice())
     }
 
     fn listed(&self, alloc: Global, names: &str) -> Result<String, Fail> {
@@ -135,51 +204,44 @@ impl Staged<'_> {
         names_of(alloc, listed_columns(alloc, table, &tree))
     }
 
+    /// The columns of these names that are compared; without names all.
     fn compared(&self, alloc: Global, names: &str) -> Result<String, Fail> {
         let table = self.schema.table("Switch").ok_or("no table")?;
-        let tree = Value::from_str(alloc, names)?;
-        names_of(alloc, compared_columns(alloc, table, Some(&tree)))
-    }
-
-    /// The columns that are compared without names.
-    fn compared_by_default(&self, alloc: Global) -> Result<String, Fail> {
-        let table = self.schema.table("Switch").ok_or("no table")?;
-        names_of(alloc, compared_columns(alloc, table, None))
+        if names.is_empty() {
+            return names_of(alloc, compared_columns(alloc, table, None));
+        }
+        compared_of(alloc, table, names)
     }
 
     /// Whether the stage tells the switches apart by these columns.
     fn apart(&self, alloc: Global, names: &str) -> Result<String, Fail> {
         let names = self.chosen(alloc, names)?;
-        let are_apart = self.stage.tells_apart("Switch", names.as_slice());
-        Ok(format!(in alloc; "{are_apart}")?)
+        fact_text(alloc, self.stage.tells_apart("Switch", names.as_slice()))
     }
 
     /// These columns of all switches.
+    fn shown_by(&self, alloc: Global, names: &[Text]) -> Result<String, Fail> {
+        let rows = self.stage.rows_of(alloc, "Switch")?;
+        shown_of(alloc, names, rows.as_slice())
+    }
+
+    /// The columns of these names of all switches.
     fn shown(&self, alloc: Global, names: &str) -> Result<String, Fail> {
         let names = self.chosen(alloc, names)?;
-        let rows = self.stage.rows_of(alloc, "Switch")?;
-        let mut text = String::new(alloc);
-        for row in &rows {
-            let tree = shown_tree(alloc, names.as_slice(), row)?;
-            text.push_str(compact(alloc, &tree)?.as_str())?;
-        }
-        Ok(text)
+        self.shown_by(alloc, names.as_slice())
     }
 
     /// The columns of these names, each of which there must be.
     fn chosen(&self, alloc: Global, names: &str) -> Result<Vec<Text>, Fail> {
         let table = self.schema.table("Switch").ok_or("no table")?;
         let tree = Value::from_str(alloc, names)?;
-        match listed_columns(alloc, table, &tree) {
-            Ok(names) => Ok(names),
-            Err(_) => Err(Fail::new(String::from_str(alloc, "refused")?)),
-        }
+        chosen_of(listed_columns(alloc, table, &tree))
     }
 
     /// How many changes there are.
     fn changes(&mut self, alloc: Global) -> Result<String, Fail> {
         let stage = mem::replace(&mut self.stage, Stage::new(alloc, self.rows));
-        Ok(format!(in alloc; "{}", stage.into_delta().map().len())?)
+        number_text(alloc, stage.into_delta().map().len() as u64)
     }
 }
 
@@ -187,42 +249,38 @@ impl Scripted for Staged<'_> {
     fn answer(&mut self, alloc: Global, command: &str) -> Result<String, Fail> {
         let (word, rest) = command.split_once(" ").unwrap_or((command, ""));
         match word {
-            "put" => self.put(alloc, rest)?,
-            "remove" => self.stage.remove(switch_key(alloc, rest)?)?,
-            "has" => {
-                let key = switch_key(alloc, rest)?;
-                return Ok(format!(in alloc; "{}", self.stage.contains(&key))?);
-            }
-            "where" => return self.found(alloc, rest),
-            "listed" => return self.listed(alloc, rest),
-            "compared" if rest.is_empty() => return self.compared_by_default(alloc),
-            "compared" => return self.compared(alloc, rest),
-            "apart" => return self.apart(alloc, rest),
-            "shown" => return self.shown(alloc, rest),
-            _ => return self.changes(alloc),
+            "put" => self.put(alloc, rest),
+            "remove" => self.remove(alloc, rest),
+            "has" => self.has(alloc, rest),
+            "where" => self.found(alloc, rest),
+            "listed" => self.listed(alloc, rest),
+            "compared" => self.compared(alloc, rest),
+            "apart" => self.apart(alloc, rest),
+            "shown" => self.shown(alloc, rest),
+            _ => self.changes(alloc),
         }
-        Ok(String::new(alloc))
     }
 }
 
-/// A stage over two switches and a port does what the script says.
+/// A stage over these rows does what the script says.
+fn stages_over(alloc: Global, schema: &Schema, rows: &Rows, script: &str) -> Result<(), Fail> {
+    let stage = Stage::new(alloc, rows);
+    let staged = Staged {
+        schema,
+        rows,
+        stage,
+    };
+    agrees(alloc, staged, script)
+}
+
+/// A stage over two switches and a port does.
 fn stages(alloc: Global, script: &str) -> Result<(), Fail> {
     let mut standing = Standing {
         rows: Rows::new(alloc),
     };
     follows(alloc, &mut standing, COMMITTED)?;
     let schema = net(alloc)?;
-    let rows = &standing.rows;
-    let stage = Stage::new(alloc, rows);
-    agrees(
-        alloc,
-        Staged {
-            schema,
-            rows,
-            stage,
-        },
-        script,
-    )
+    stages_over(alloc, &schema, &standing.rows, script)
 }
 
 #[test]

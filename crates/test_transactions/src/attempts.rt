@@ -1,3 +1,4 @@
+use ov_base::Tree;
 use ov_db::{Db, Delta, StoreAnswer};
 use ov_keeper::Keeper;
 use ov_schema::Schema;
@@ -33,11 +34,51 @@ impl<K: Keeper> Ready<K> for Prepared {
 /// Attempts of transactions on a database, each with an age and its operations. What is told of one are the results that it is
 /// answered with; or the store's answer, the results that were made ready, how many rows they change, and what stands behind
 /// them; or how long it waits. `refuse` refuses memory to what is made ready from then on.
-#[derive(Drop)]
 pub(crate) struct Attempts<D> {
     db: Db<NetKeeper>,
     draws: D,
     prepared: Prepared,
+}
+
+impl<D: Drop> Drop for Attempts<D> {
+    // A drop of its own, so that whoever drops them need not prove the drops of all that they hold once more.
+    fn drop(self) {
+        let Attempts {
+            db,
+            draws,
+            prepared,
+        } = self;
+        drop(db);
+        drop(draws);
+        drop(prepared);
+    }
+}
+
+/// What is told of changes that the store keeps.
+fn kept_text(alloc: Global, results: &str, changes: usize) -> Result<String, Fail> {
+    Ok(format!(in alloc; "kept {results} {changes}")?)
+}
+
+/// What is told of changes that it does not keep.
+fn unkept_text(alloc: Global, word: &str, results: &str, error: &Tree) -> Result<String, Fail> {
+    let error = compact(alloc, error)?;
+    Ok(format!(in alloc; "{word} {results} {error}")?)
+}
+
+/// What is told of a store's answer, where these replies were made ready.
+fn answer_text(
+    alloc: Global,
+    answer: StoreAnswer,
+    replies: &Replies,
+    changes: usize,
+) -> Result<String, Fail> {
+    let results = array_text(alloc, &replies.kept)?;
+    let text = results.as_str();
+    match answer {
+        StoreAnswer::Kept => kept_text(alloc, text, changes),
+        StoreAnswer::Exhausted => unkept_text(alloc, "exhausted", text, &replies.exhausted),
+        StoreAnswer::Failed => unkept_text(alloc, "failed", text, &replies.failed),
+    }
 }
 
 /// What is told of a store's answer.
@@ -47,19 +88,14 @@ fn told_stored(
     prepared: &mut Prepared,
 ) -> Result<String, Fail> {
     let replies = prepared.replies.take().ok_or("nothing is ready")?;
-    let Replies {
-        kept,
-        exhausted,
-        failed,
-    } = replies;
-    let results = array_text(alloc, &kept)?;
-    let exhausted = compact(alloc, &exhausted)?;
-    let failed = compact(alloc, &failed)?;
-    let changes = prepared.changes;
-    match answer {
-        StoreAnswer::Kept => Ok(format!(in alloc; "kept {results} {changes}")?),
-        StoreAnswer::Exhausted => Ok(format!(in alloc; "exhausted {results} {exhausted}")?),
-        StoreAnswer::Failed => Ok(format!(in alloc; "failed {results} {failed}")?),
+    answer_text(alloc, answer, &replies, prepared.changes)
+}
+
+/// What is told of a transaction that waits.
+pub(crate) fn wait_text(alloc: Global, timeout: Option<u64>) -> Result<String, Fail> {
+    match timeout {
+        Some(timeout) => Ok(format!(in alloc; "waits {timeout}")?),
+        None => Ok(String::from_str(alloc, "waits")?),
     }
 }
 
@@ -68,13 +104,13 @@ fn told(alloc: Global, tried: Tried, prepared: &mut Prepared) -> Result<String, 
     match tried {
         Tried::Answer(results) => array_text(alloc, &results),
         Tried::Stored(answer) => told_stored(alloc, answer, prepared),
-        Tried::Blocked(Some(timeout)) => Ok(format!(in alloc; "waits {timeout}")?),
-        Tried::Blocked(None) => Ok(String::from_str(alloc, "waits")?),
+        Tried::Blocked(timeout) => wait_text(alloc, timeout),
         Tried::NoMemory => Ok(String::from_str(alloc, "no memory")?),
     }
 }
 
 impl<D: Draws> Attempts<D> {
+    /// Attempts a transaction of an age.
     fn attempt(&mut self, alloc: Global, age: u64, operations: &str) -> Result<String, Fail> {
         let txn = Txn::read(alloc, trees(alloc, operations)?, &mut self.draws)?;
         let mut tries = Tries::new();
@@ -89,15 +125,20 @@ impl<D: Draws> Attempts<D> {
         );
         told(alloc, tried, &mut self.prepared)
     }
+
+    /// Refuses memory to what is made ready.
+    fn refuse(&mut self, alloc: Global) -> Result<String, Fail> {
+        self.prepared.is_refused = true;
+        Ok(String::new(alloc))
+    }
 }
 
 impl<D: Draws> Scripted for Attempts<D> {
     fn answer(&mut self, alloc: Global, command: &str) -> Result<String, Fail> {
-        let Some((age, operations)) = command.split_once(" ") else {
-            self.prepared.is_refused = true;
-            return Ok(String::new(alloc));
-        };
-        self.attempt(alloc, age.parse::<u64>()?, operations)
+        match command.split_once(" ") {
+            Some((age, operations)) => self.attempt(alloc, age.parse::<u64>()?, operations),
+            None => self.refuse(alloc),
+        }
     }
 }
 

@@ -2,10 +2,10 @@
 //! `Attempts` tells them: where the store was asked, what is told begins with `kept`. After each of them the database tells of its
 //! references and indexes what one tells that is opened from its lines.
 
-use crate::attempts::attempts_on;
+use crate::attempts::{Attempts, attempts_on};
 use std::alloc::Global;
 use std::test::Fail;
-use test_basics::{NET, Scripted, agrees};
+use test_basics::{Counter, NET, Scripted, agrees, follows, is_text};
 use test_support::{Looked, converses, looks};
 
 /// The attempts of a script come to what it says, on a new database of the schema of a text; and what is told after them of its
@@ -325,21 +325,22 @@ fn next_node(alloc: Global, former: u64) -> Result<String, Fail> {
     )?)
 }
 
-/// An attempt that inserts so many nodes behind a first one, and a root that refers to the last of them.
-fn chain(alloc: Global, last: u64) -> Result<String, Fail> {
-    let mut text = String::from_str(
-        alloc,
-        r#"0 [{"op":"insert","table":"Node","uuid-name":"n0","row":{}},"#,
-    )?;
+/// The inserts of so many nodes behind a first one.
+fn next_nodes(alloc: Global, last: u64) -> Result<String, Fail> {
+    let mut text = String::new(alloc);
     for former in 0..last {
         text.push_str(next_node(alloc, former)?.as_str())?;
         text.push_str(",")?;
     }
-    let root = format!(in alloc;
-        r#"{{"op":"insert","table":"Root","row":{{"first":["named-uuid","n{last}"]}}}}]"#
-    )?;
-    text.push_str(root.as_str())?;
     Ok(text)
+}
+
+/// An attempt that inserts so many nodes behind a first one, and a root that refers to the last of them.
+fn chain(alloc: Global, last: u64) -> Result<String, Fail> {
+    let nodes = next_nodes(alloc, last)?;
+    Ok(format!(in alloc;
+        r#"0 [{{"op":"insert","table":"Node","uuid-name":"n0","row":{{}}}},{nodes}{{"op":"insert","table":"Root","row":{{"first":["named-uuid","n{last}"]}}}}]"#
+    )?)
 }
 
 /// The thousand nodes of a chain go in one commit.
@@ -347,12 +348,23 @@ const FALLEN: &str = r#"0 [{"op":"update","table":"Node","where":[],"row":{}}] -
 0 [{"op":"update","table":"Root","where":[],"row":{"first":["set",[]]}}] -> kept [{"count":1}] 1001
 0 [{"op":"select","table":"Node","where":[],"columns":["name"]}] -> [{"rows":[]}]"#;
 
+/// Inserts the chain.
+fn insert_chain(alloc: Global, attempts: &mut Attempts<Counter>) -> Result<(), Fail> {
+    let chain = chain(alloc, 999)?;
+    attempts.answer(alloc, chain.as_str())?;
+    Ok(())
+}
+
+/// It falls as the script says.
+fn falls(alloc: Global, attempts: &mut Attempts<Counter>) -> Result<(), Fail> {
+    insert_chain(alloc, attempts)?;
+    follows(alloc, attempts, FALLEN)
+}
+
 #[test]
 fn a_chain_falls_together(rt: HostRuntime) -> Result<(), Fail> {
-    let alloc = rt.alloc();
-    let mut attempts = attempts_on(alloc, NODES)?;
-    attempts.answer(alloc, chain(alloc, 999)?.as_str())?;
-    agrees(alloc, attempts, FALLEN)
+    let mut attempts = attempts_on(rt.alloc(), NODES)?;
+    falls(rt.alloc(), &mut attempts)
 }
 
 /// Two switches of which the first refers to a port strongly, and both weakly, and the port refers to itself; then the second
@@ -379,29 +391,21 @@ Switch index 0 00000000-0000-4000-8000-000000000003
 ",
 ];
 
-/// What is told after a step.
-fn told_after(alloc: Global, looked: &mut Looked, step: &str) -> Result<String, Fail> {
+/// Fails unless this is told after a step.
+fn tells_after(alloc: Global, looked: &mut Looked, step: &str, wanted: &str) -> Result<(), Fail> {
     looked.look(alloc, step)?;
-    looked.told(alloc)
+    let told = looked.told(alloc)?;
+    is_text(alloc, told.as_str(), wanted)
 }
 
-/// What is told after each of the two steps.
-fn told_after_both(alloc: Global, looked: &mut Looked) -> Result<(String, String), Fail> {
-    let first = told_after(alloc, looked, HELD[0])?;
-    let second = told_after(alloc, looked, HELD[1])?;
-    Ok((first, second))
-}
-
-/// The same of a new database.
-fn told_of_held(alloc: Global) -> Result<(String, String), Fail> {
-    let mut looked = Looked::new(alloc, NET)?;
-    told_after_both(alloc, &mut looked)
+/// The same of each of the two steps.
+fn tells_after_both(alloc: Global, looked: &mut Looked) -> Result<(), Fail> {
+    tells_after(alloc, looked, HELD[0], HELD_TOLD[0])?;
+    tells_after(alloc, looked, HELD[1], HELD_TOLD[1])
 }
 
 #[test]
 fn holders_and_the_row_of_an_index_are_told(rt: HostRuntime) -> Result<(), Fail> {
-    let (first, second) = told_of_held(rt.alloc())?;
-    assert_eq!(rt; first.as_str(), HELD_TOLD[0]);
-    assert_eq!(rt; second.as_str(), HELD_TOLD[1]);
-    Ok(())
+    let mut looked = Looked::new(rt.alloc(), NET)?;
+    tells_after_both(rt.alloc(), &mut looked)
 }

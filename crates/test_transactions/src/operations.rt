@@ -1,14 +1,16 @@
-use crate::rows::Standing;
+use crate::attempts::wait_text;
 use ov_base::Trees;
 use ov_given::NamedRows;
 use ov_ops::{OpCtx, OpOutcome, run_op};
-use ov_rows::Rows;
+use ov_results::OpResult;
+use ov_rows::{RowKey, Rows};
 use ov_schema::Schema;
 use ov_stage::Stage;
 use ov_txn::Txn;
+use serde_json::Value;
 use std::alloc::{AllocError, Global};
 use std::test::Fail;
-use test_basics::{Counter, Scripted, agrees, follows, net, trees};
+use test_basics::{Counter, Scripted, agrees, net, number, switch, trees};
 use test_support::OwnsOne;
 use uuid::Uuid;
 
@@ -21,45 +23,96 @@ struct Operations {
     age: u64,
 }
 
-/// The results so far, with what comes of one operation more, and whether the next one is tried.
-fn told(alloc: Global, results: String, outcome: OpOutcome) -> Result<(String, bool), Fail> {
+/// Adds a result, behind which the next operation is tried.
+fn push_result(alloc: Global, results: &mut String, result: &OpResult) -> Result<bool, Fail> {
+    let result = String::from_utf8(result.to_bytes(alloc)?.into_vec())?;
+    results.push_str(result.as_str())?;
+    results.push_str(" ")?;
+    Ok(true)
+}
+
+/// Adds an error, behind which none is tried.
+fn push_error(results: &mut String, error: &str) -> Result<bool, Fail> {
+    results.push_str(error)?;
+    Ok(false)
+}
+
+/// Adds how long a transaction waits.
+fn push_wait(alloc: Global, results: &mut String, timeout: Option<u64>) -> Result<bool, Fail> {
+    let wait = wait_text(alloc, timeout)?;
+    push_error(results, wait.as_str())
+}
+
+/// Adds what comes of an operation, and tells whether the next one is tried.
+fn push_outcome(alloc: Global, results: &mut String, outcome: OpOutcome) -> Result<bool, Fail> {
     match outcome {
-        OpOutcome::Done(result) => {
-            let result = String::from_utf8(result.to_bytes(alloc)?.into_vec())?;
-            Ok((format!(in alloc; "{results}{result} ")?, true))
-        }
-        OpOutcome::Fault(error) => {
-            let error = error.text();
-            Ok((format!(in alloc; "{results}{error}")?, false))
-        }
-        OpOutcome::Blocked(Some(timeout)) => {
-            Ok((format!(in alloc; "{results}waits {timeout}")?, false))
-        }
-        OpOutcome::Blocked(None) => Ok((format!(in alloc; "{results}waits")?, false)),
+        OpOutcome::Done(result) => push_result(alloc, results, &result),
+        OpOutcome::Fault(error) => push_error(results, error.text()),
+        OpOutcome::Blocked(timeout) => push_wait(alloc, results, timeout),
         OpOutcome::NoMemory => Err(AllocError.into()),
     }
 }
 
+/// Adds what comes of operations, and tells whether all of them are done.
+fn push_outcomes<'a>(
+    alloc: Global,
+    results: &mut String,
+    stage: &mut Stage<'_>,
+    ctx: &OpCtx<'a, '_, '_, '_, OwnsOne>,
+    trees: &'a [Value],
+) -> Result<bool, Fail> {
+    for place in 0..trees.len() {
+        let outcome = run_op(alloc, stage, ctx, place, &trees[place]);
+        if !push_outcome(alloc, results, outcome)? {
+            return Ok(false);
+        }
+    }
+    Ok(true)
+}
+
+/// Adds how many rows a stage changes.
+fn push_changes(alloc: Global, results: &mut String, stage: Stage<'_>) -> Result<(), Fail> {
+    let changes = stage.into_delta().map().len();
+    let text = format!(in alloc; "{changes}")?;
+    results.push_str(text.as_str())?;
+    Ok(())
+}
+
 impl Operations {
-    fn run<'a>(
+    /// Adds what comes of operations on the rows, and how many they change.
+    fn push_all<'a>(
         &self,
         alloc: Global,
+        results: &mut String,
         ctx: &OpCtx<'a, '_, '_, '_, OwnsOne>,
         operations: &'a Trees,
-    ) -> Result<String, Fail> {
+    ) -> Result<(), Fail> {
         let mut stage = Stage::new(alloc, &self.rows);
-        let mut results = String::new(alloc);
-        let trees = operations.as_slice();
-        for place in 0..trees.len() {
-            let outcome = run_op(alloc, &mut stage, ctx, place, &trees[place]);
-            let (more, goes_on) = told(alloc, results, outcome)?;
-            if !goes_on {
-                return Ok(more);
-            }
-            results = more;
+        if push_outcomes(alloc, results, &mut stage, ctx, operations.as_slice())? {
+            push_changes(alloc, results, stage)?;
         }
-        let changes = stage.into_delta().map().len();
-        Ok(format!(in alloc; "{results}{changes}")?)
+        Ok(())
+    }
+
+    /// What comes of operations for which this version and these identifiers were drawn.
+    fn run(
+        &self,
+        alloc: Global,
+        operations: &Trees,
+        version: Uuid,
+        ids: &[Uuid],
+    ) -> Result<String, Fail> {
+        let inserts = NamedRows::new(alloc, ids, operations)?;
+        let ctx = OpCtx {
+            schema: &self.schema,
+            inserts: &inserts,
+            owns: &OwnsOne { lock: "mine" },
+            version,
+            age: self.age,
+        };
+        let mut results = String::new(alloc);
+        self.push_all(alloc, &mut results, &ctx, operations)?;
+        Ok(results)
     }
 }
 
@@ -68,26 +121,37 @@ impl Scripted for Operations {
         let operations = trees(alloc, command)?;
         let txn = Txn::read(alloc, trees(alloc, command)?, &mut Counter::new())?;
         let (version, ids) = txn.draws().split_at(1);
-        let inserts = NamedRows::new(alloc, ids, &operations)?;
-        let ctx = OpCtx {
-            schema: &self.schema,
-            inserts: &inserts,
-            owns: &OwnsOne { lock: "mine" },
-            version: version[0],
-            age: self.age,
-        };
-        self.run(alloc, &ctx, &operations)
+        self.run(alloc, &operations, version[0], ids)
     }
 }
 
-/// The operations of each line come to what it says, on the rows that a script puts.
-fn run_over(alloc: Global, rows: &str, age: u64, script: &str) -> Result<(), Fail> {
+/// The key of a switch or a port, of a text: its table, and the number that its identifier is.
+fn key_of(alloc: Global, text: &str) -> Result<RowKey, Fail> {
+    let (table, id) = text.split_once(" ").ok_or("no identifier")?;
+    Ok(RowKey::new(alloc, table, number(id)?)?)
+}
+
+/// Puts a switch at a key.
+fn put_row(alloc: Global, rows: &mut Rows, text: &str) -> Result<(), Fail> {
+    let key = key_of(alloc, text)?;
+    let row = switch(alloc, "s1", 4)?;
+    rows.insert(alloc, &key, row)?;
+    Ok(())
+}
+
+/// A switch at each of these keys.
+fn rows_at(alloc: Global, keys: &str) -> Result<Rows, Fail> {
+    let mut rows = Rows::new(alloc);
+    for key in keys.lines() {
+        put_row(alloc, &mut rows, key)?;
+    }
+    Ok(rows)
+}
+
+/// The operations of each line come to what it says, on a switch at each of these keys.
+fn run_over(alloc: Global, keys: &str, age: u64, script: &str) -> Result<(), Fail> {
+    let rows = rows_at(alloc, keys)?;
     let schema = net(alloc)?;
-    let mut standing = Standing {
-        rows: Rows::new(alloc),
-    };
-    follows(alloc, &mut standing, rows)?;
-    let Standing { rows } = standing;
     agrees(alloc, Operations { schema, rows, age }, script)
 }
 
@@ -118,9 +182,9 @@ fn named_uuid_used_before(rt: HostRuntime) -> Result<(), Fail> {
 }
 
 /// Two switches that were committed, and a port.
-const COMMITTED: &str = "put Switch 9
-put Port 4
-put Switch 3";
+const COMMITTED: &str = "Switch 9
+Port 4
+Switch 3";
 
 /// No row, one, and all of them; a row that is as it was before is no change.
 const CHANGED: &str =
@@ -241,21 +305,44 @@ fn unknown_names(rt: HostRuntime) -> Result<(), Fail> {
     run_over(rt.alloc(), "", 0, OTHERS)
 }
 
-/// A select shows each of so many rows, in ascending order of their identifiers.
-fn shows_all(alloc: Global, count: u64) -> Result<(), Fail> {
-    let mut rows = String::new(alloc);
+/// The keys of so many switches.
+fn keys_of(alloc: Global, count: u64) -> Result<String, Fail> {
+    let mut keys = String::new(alloc);
+    for number in 0..count {
+        keys.push_str(format!(in alloc; "Switch {number}\n")?.as_str())?;
+    }
+    Ok(keys)
+}
+
+/// How a select shows the switch of a number.
+fn shown_row(alloc: Global, number: u64) -> Result<String, Fail> {
+    let id = Uuid::from_u128(u128::from(number));
+    let comma = if number == 0 { "" } else { "," };
+    Ok(format!(in alloc; "{comma}{{\"_uuid\":[\"uuid\",\"{id}\"],\"name\":\"s1\"}}")?)
+}
+
+/// How it shows so many.
+fn shown_rows(alloc: Global, count: u64) -> Result<String, Fail> {
     let mut shown = String::new(alloc);
     for number in 0..count {
-        let id = Uuid::from_u128(u128::from(number));
-        let comma = if number == 0 { "" } else { "," };
-        rows = format!(in alloc; "{rows}put Switch {number}\n")?;
-        shown = format!(in alloc;
-            "{shown}{comma}{{\"_uuid\":[\"uuid\",\"{id}\"],\"name\":\"s1\"}}"
-        )?;
+        shown.push_str(shown_row(alloc, number)?.as_str())?;
     }
-    let select = r#"[{"op":"select","table":"Switch","where":[],"columns":["_uuid","name"]}]"#;
-    let script = format!(in alloc; "{select} -> {{\"rows\":[{shown}]}} 0")?;
-    run_over(alloc, rows.as_str(), 0, script.as_str())
+    Ok(shown)
+}
+
+/// A select that shows so many, in ascending order of their identifiers.
+fn select_all(alloc: Global, count: u64) -> Result<String, Fail> {
+    let shown = shown_rows(alloc, count)?;
+    Ok(format!(in alloc;
+        r#"[{{"op":"select","table":"Switch","where":[],"columns":["_uuid","name"]}}] -> {{"rows":[{shown}]}} 0"#
+    )?)
+}
+
+/// A select shows each of so many rows.
+fn shows_all(alloc: Global, count: u64) -> Result<(), Fail> {
+    let keys = keys_of(alloc, count)?;
+    let script = select_all(alloc, count)?;
+    run_over(alloc, keys.as_str(), 0, script.as_str())
 }
 
 /// Rows are looked at 64 at a time.
