@@ -7,7 +7,6 @@ use ov_ends::Watched;
 use ov_lobby::{Listen, serve_lobby};
 use ov_workers::FreeGate;
 use std::alloc::Global;
-use std::collections::VecDeque;
 use std::io::{Read, Write};
 use std::rt::Clock;
 use std::sync::atomic::{AtomicBool, AtomicU64, Ordering};

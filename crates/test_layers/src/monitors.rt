@@ -221,7 +221,7 @@ fn text_of(alloc: Global, updates: Vec<Trees>) -> Result<String, Fail> {
     Ok(text)
 }
 
-/// Why a monitor is not added, or what it is told at first.
+/// What a monitor is told at first.
 fn first_text(alloc: Global, told: Option<Tree>) -> Result<String, Fail> {
     match told {
         Some(told) => compact(alloc, &told),
@@ -229,21 +229,21 @@ fn first_text(alloc: Global, told: Option<Tree>) -> Result<String, Fail> {
     }
 }
 
-/// The word of a call of the monitors that is done, or why it is not.
-fn word_of(done: Result<(), WatchFault>, word: &'static str) -> &'static str {
-    match done {
-        Ok(()) => word,
-        Err(fault) => fault.text(),
+/// That a monitor is canceled, or why it is not.
+fn canceled_text(alloc: Global, canceled: Result<(), WatchFault>) -> Result<String, Fail> {
+    match canceled {
+        Ok(()) => owned(alloc, "canceled"),
+        Err(fault) => owned(alloc, fault.text()),
     }
 }
 
 impl Watching {
-    /// Adds a monitor: nothing, or why there is none.
-    fn add(&mut self, alloc: Global, id: &str, requests: &str) -> Result<&'static str, Fail> {
+    /// Adds a monitor, or tells why there is none.
+    fn add(&mut self, alloc: Global, id: &str, requests: &str) -> Result<Option<WatchFault>, Fail> {
         let requests = value(alloc, requests)?;
         let id = tree(alloc, id)?;
         let schema = self.database.db.schema();
-        Ok(word_of(self.monitors.add(alloc, schema, id, &requests), ""))
+        Ok(self.monitors.add(alloc, schema, id, &requests).err())
     }
 
     /// What a monitor is told at first.
@@ -257,15 +257,14 @@ impl Watching {
     fn monitor(&mut self, alloc: Global, asked: &str) -> Result<String, Fail> {
         let (id, requests) = asked.split_once(" ").ok_or("no requests")?;
         match self.add(alloc, id, requests)? {
-            "" => self.first(alloc, id),
-            fault => owned(alloc, fault),
+            None => self.first(alloc, id),
+            Some(fault) => owned(alloc, fault.text()),
         }
     }
 
     fn cancel(&mut self, alloc: Global, id: &str) -> Result<String, Fail> {
         let id = tree(alloc, id)?;
-        let canceled = self.monitors.cancel(alloc, &id);
-        owned(alloc, word_of(canceled, "canceled"))
+        canceled_text(alloc, self.monitors.cancel(alloc, &id))
     }
 
     fn put(&mut self, alloc: Global, row: &str) -> Result<String, Fail> {

@@ -67,13 +67,18 @@ fn prepare_three(alloc: Global, queues: &mut FrameQueues) -> Result<Prepared, Fa
 
 impl Frames {
     /// Puts a frame in a place that is kept for it; false where there is no memory for the place.
+    fn push_kept(&mut self, alloc: Global, session: u64, frame: Bytes) -> bool {
+        if !self.queues.keep_place(alloc, session) {
+            return false;
+        }
+        self.queues.push_kept(session, frame);
+        true
+    }
+
+    /// Whether a frame could be put so.
     fn kept(&mut self, alloc: Global, session: u64, text: &str) -> Result<String, Fail> {
         let frame = frame_of(alloc, text)?;
-        let is_kept = self.queues.keep_place(alloc, session);
-        if is_kept {
-            self.queues.push_kept(session, frame);
-        }
-        fact_text(alloc, is_kept)
+        fact_text(alloc, self.push_kept(alloc, session, frame))
     }
 
     /// Sends what is prepared.

@@ -13,7 +13,8 @@ const SCHEMA: &str = r#"{"name":"A","version":"1.0.0","tables":{"T":{"columns":{
 
 /// The operations of each line come to what it says, on no row of that table.
 pub(crate) fn are_told(alloc: Global, script: &str) -> Result<(), Fail> {
-    run_without_rows(alloc, schema_of_text(alloc, SCHEMA)?, script)
+    let schema = schema_of_text(alloc, SCHEMA)?;
+    run_without_rows(alloc, &schema, script)
 }
 
 /// An insert without a member or with a wrong one: `table`, `uuid`, `uuid-name` and `row`.

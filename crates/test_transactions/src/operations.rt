@@ -17,9 +17,9 @@ use uuid::Uuid;
 /// Operations on the rows of a database Net, as those of a transaction of this age. What comes of them are their results, and then
 /// how many rows they change; or the error of the last one, or how long it waits.
 #[derive(Drop)]
-struct Operations {
-    schema: Schema,
-    rows: Rows,
+struct Operations<'a> {
+    schema: &'a Schema,
+    rows: &'a Rows,
     age: u64,
 }
 
@@ -78,7 +78,7 @@ fn push_changes(alloc: Global, results: &mut String, stage: Stage<'_>) -> Result
     Ok(())
 }
 
-impl Operations {
+impl Operations<'_> {
     /// Adds what comes of operations on the rows, and how many they change.
     fn push_all<'a>(
         &self,
@@ -87,7 +87,7 @@ impl Operations {
         ctx: &OpCtx<'a, '_, '_, '_, OwnsOne>,
         operations: &'a Trees,
     ) -> Result<(), Fail> {
-        let mut stage = Stage::new(alloc, &self.rows);
+        let mut stage = Stage::new(alloc, self.rows);
         if push_outcomes(alloc, results, &mut stage, ctx, operations.as_slice())? {
             push_changes(alloc, results, stage)?;
         }
@@ -104,7 +104,7 @@ impl Operations {
     ) -> Result<String, Fail> {
         let inserts = NamedRows::new(alloc, ids, operations)?;
         let ctx = OpCtx {
-            schema: &self.schema,
+            schema: self.schema,
             inserts: &inserts,
             owns: &OwnsOne { lock: "mine" },
             version,
@@ -116,7 +116,7 @@ impl Operations {
     }
 }
 
-impl Scripted for Operations {
+impl Scripted for Operations<'_> {
     fn answer(&mut self, alloc: Global, command: &str) -> Result<String, Fail> {
         let operations = trees(alloc, command)?;
         let txn = Txn::read(alloc, trees(alloc, command)?, &mut Counter::new())?;
@@ -152,15 +152,20 @@ fn rows_at(alloc: Global, keys: &str) -> Result<Rows, Fail> {
 fn run_over(alloc: Global, keys: &str, age: u64, script: &str) -> Result<(), Fail> {
     let rows = rows_at(alloc, keys)?;
     let schema = net(alloc)?;
-    agrees(alloc, Operations { schema, rows, age }, script)
+    let operations = Operations {
+        schema: &schema,
+        rows: &rows,
+        age,
+    };
+    agrees(alloc, operations, script)
 }
 
 /// The same on no row of a database of this schema.
-pub(crate) fn run_without_rows(alloc: Global, schema: Schema, script: &str) -> Result<(), Fail> {
+pub(crate) fn run_without_rows(alloc: Global, schema: &Schema, script: &str) -> Result<(), Fail> {
     let rows = Rows::new(alloc);
     let operations = Operations {
         schema,
-        rows,
+        rows: &rows,
         age: 0,
     };
     agrees(alloc, operations, script)
