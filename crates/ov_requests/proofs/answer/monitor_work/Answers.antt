@@ -21,4 +21,4 @@ returns-in-None c =
 
 pub returns : goal.returns
 returns c =
-    IfOk-weaker c.refused_work-else-eq.result _ _ (λ w is s session same. refused_asked s session c.args.id (codes "unknown database") (monitor_call s session c.args.id c.args.params) w is (monitor_requests s session c.args.id c.in-Some.database c.in-Some.name c.in-Some.requests c.args.params true c.in-Some.ensures (sym (c.if-not-is_object.ensures ∙ ap (λ (x : Data). is_some (as_object x)) c.as_value.ensures.same)) ∙ (ap (λ (n : Option (List ℕ)). monitor_call_on s session c.args.id n c.in-Some.name c.in-Some.requests) (sym (c.in-Some-as_str.ensures ∙ ap as_str c.as_value-2.ensures.same)) ∙ monitor_elsewhere s session c.args.id c.in-Some-as_str.text.now c.in-Some.name c.in-Some.requests (eq_at c.in-Some-as_str.text.now c.as_str-in-Some-as_str.result.now s.schema.name false c.if-eq.ensures (c.as_str-in-Some-as_str.ensures ∙ (c.name-in-Some-as_str.ensures ∙ sym (ap (λ (x : Schema). x.name) same))))))) c.refused_work-else-eq.ensures
+    IfOk-weaker c.refused_work-else-eq.result _ _ (λ w is s session same. refused_asked s session c.args.id (codes "unknown database") (monitor_call s session c.args.id c.args.params) w is (monitor_requests s session c.args.id c.in-Some.database c.in-Some.name c.in-Some.requests c.args.params true c.in-Some.ensures (sym (c.if-not-is_object.ensures ∙ ap (λ (x : Data). is_some (as_object x)) c.as_value.ensures.same)) ∙ (ap (λ (n : Option (List ℕ)). monitor_call_on s session c.args.id n c.in-Some.name c.in-Some.requests) (sym (c.in-Some-as_str.ensures ∙ ap as_str c.as_value-2.ensures.same)) ∙ monitor_elsewhere s session c.args.id c.in-Some-as_str.text.now c.in-Some.name c.in-Some.requests (eq_at c.in-Some-as_str.text.now c.as_str-in-Some-as_str.result.now s.schema.name false c.if-eq.ensures (c.as_str-in-Some-as_str.ensures ∙ (c.name.ensures ∙ sym (ap (λ (x : Schema). x.name) same))))))) c.refused_work-else-eq.ensures
