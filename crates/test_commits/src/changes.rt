@@ -8,7 +8,7 @@ use ov_atoms::has_sixteen_bytes;
 use ov_db::{Db, Delta, StoreAnswer, row_of};
 use ov_integrity::{Finished, finish};
 use ov_keeper::{Keeper, Line};
-use ov_rows::RowKey;
+use ov_rows::{Row, RowKey};
 use ov_stage::Stage;
 use std::alloc::{AllocError, Global};
 use std::test::Fail;
@@ -45,10 +45,10 @@ pub fn put_line<K: Keeper + Drop>(
     has_sixteen_bytes(&line.id);
     has_sixteen_bytes(&line.version);
     db.kept();
-    let row = row_of(alloc, db.schema(), line)?;
+    let Row { columns, .. } = row_of(alloc, db.schema(), line)?;
     let key = RowKey::new(alloc, line.table.as_str(), line.id)?;
     let mut stage = Stage::new(alloc, db.rows());
-    stage.put(key, line.version, row.columns)?;
+    stage.put(key, line.version, columns)?;
     let delta = finished(alloc, db, line.version, stage)?;
     Ok(db.commit(alloc, delta))
 }
