@@ -115,18 +115,23 @@ fn reply_of_rows(alloc: Global, id: &str, rows: &str) -> Result<String, Fail> {
 #[derive(Drop)]
 struct Frames;
 
+/// The frame of a kind and its two parts.
+fn frame_of(alloc: Global, kind: &str, first: &str, second: &str) -> Result<String, Fail> {
+    match kind {
+        "reply" => reply_of(alloc, first, second),
+        "results" => reply_of_results(alloc, first, second),
+        "rows" => reply_of_rows(alloc, first, second),
+        "failure" => failure_of(alloc, first, second),
+        "append" => appended(alloc, first, second),
+        _ => note_of(alloc, first, second),
+    }
+}
+
 impl Scripted for Frames {
     fn answer(&mut self, alloc: Global, command: &str) -> Result<String, Fail> {
         let (kind, rest) = command.split_once(" ").ok_or("no kind")?;
         let (first, second) = rest.split_once(" ").ok_or("one part")?;
-        match kind {
-            "reply" => reply_of(alloc, first, second),
-            "results" => reply_of_results(alloc, first, second),
-            "rows" => reply_of_rows(alloc, first, second),
-            "failure" => failure_of(alloc, first, second),
-            "append" => appended(alloc, first, second),
-            _ => note_of(alloc, first, second),
-        }
+        frame_of(alloc, kind, first, second)
     }
 }
 
@@ -187,11 +192,8 @@ impl Results {
         self.array.push(alloc, result_of_insert())?;
         Ok(String::new(alloc))
     }
-}
 
-impl Scripted for Results {
-    fn answer(&mut self, alloc: Global, command: &str) -> Result<String, Fail> {
-        let (word, text) = command.split_once(" ").unwrap_or((command, ""));
+    fn call(&mut self, alloc: Global, word: &str, text: &str) -> Result<String, Fail> {
         match word {
             "empty" => self.is_empty(alloc),
             "reserve" => self.reserve(alloc),
@@ -200,6 +202,13 @@ impl Scripted for Results {
             "put" => self.put(alloc),
             _ => array_text(alloc, &self.array),
         }
+    }
+}
+
+impl Scripted for Results {
+    fn answer(&mut self, alloc: Global, command: &str) -> Result<String, Fail> {
+        let (word, text) = command.split_once(" ").unwrap_or((command, ""));
+        self.call(alloc, word, text)
     }
 }
 

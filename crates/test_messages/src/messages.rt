@@ -295,6 +295,12 @@ fn is_nest_read(alloc: Global, kind: &str, levels: u32) -> Result<bool, Fail> {
     }
 }
 
+/// The same, as a text.
+fn text_of_nest(alloc: Global, kind: &str, levels: u32) -> Result<String, Fail> {
+    let is_read = is_nest_read(alloc, kind, levels)?;
+    Ok(format!(in alloc; "{is_read}")?)
+}
+
 /// The commands are a kind, and a number of levels behind it.
 #[derive(Drop)]
 struct Nests;
@@ -302,8 +308,7 @@ struct Nests;
 impl Scripted for Nests {
     fn answer(&mut self, alloc: Global, command: &str) -> Result<String, Fail> {
         let (kind, levels) = command.split_once(" ").ok_or("no levels")?;
-        let is_read = is_nest_read(alloc, kind, levels.parse::<u32>()?)?;
-        Ok(format!(in alloc; "{is_read}")?)
+        text_of_nest(alloc, kind, levels.parse::<u32>()?)
     }
 }
 

@@ -147,19 +147,24 @@ fn copied_from_slice(alloc: Global, text: &str) -> Result<String, Fail> {
 #[derive(Drop)]
 struct Made;
 
+/// What is made of a text.
+fn made_of(alloc: Global, word: &str, text: &str) -> Result<String, Fail> {
+    match word {
+        "kept" => kept(alloc, text),
+        "printed" => printed(alloc, text),
+        "object" => object(alloc, text),
+        "copied" => copied(alloc, text),
+        "count" => count(alloc, text),
+        "joined" => joined(alloc, text),
+        "copied_as_tree" => copied_as_tree(alloc, text),
+        _ => copied_from_slice(alloc, text),
+    }
+}
+
 impl Scripted for Made {
     fn answer(&mut self, alloc: Global, command: &str) -> Result<String, Fail> {
         let (word, text) = command.split_once(" ").unwrap_or((command, ""));
-        match word {
-            "kept" => kept(alloc, text),
-            "printed" => printed(alloc, text),
-            "object" => object(alloc, text),
-            "copied" => copied(alloc, text),
-            "count" => count(alloc, text),
-            "joined" => joined(alloc, text),
-            "copied_as_tree" => copied_as_tree(alloc, text),
-            _ => copied_from_slice(alloc, text),
-        }
+        made_of(alloc, word, text)
     }
 }
 

@@ -202,11 +202,8 @@ impl Referring {
         self.put_columns(alloc, &key, columns)?;
         Ok(String::new(alloc))
     }
-}
 
-impl Scripted for Referring {
-    fn answer(&mut self, alloc: Global, command: &str) -> Result<String, Fail> {
-        let (word, text) = command.split_once(" ").ok_or("no text")?;
+    fn call(&mut self, alloc: Global, word: &str, text: &str) -> Result<String, Fail> {
         match word {
             "targets" => self.targets(alloc, text),
             "strong" => self.strong(alloc, text),
@@ -214,6 +211,13 @@ impl Scripted for Referring {
             "put" => self.put(alloc, text),
             _ => Err(Fail::new("no such command")),
         }
+    }
+}
+
+impl Scripted for Referring {
+    fn answer(&mut self, alloc: Global, command: &str) -> Result<String, Fail> {
+        let (word, text) = command.split_once(" ").ok_or("no text")?;
+        self.call(alloc, word, text)
     }
 }
 
@@ -281,17 +285,21 @@ impl Holding {
         self.holders.remove(&to, &from);
         Ok(String::new(alloc))
     }
-}
 
-impl Scripted for Holding {
-    fn answer(&mut self, alloc: Global, command: &str) -> Result<String, Fail> {
-        let (word, text) = command.split_once(" ").unwrap_or((command, ""));
+    fn call(&mut self, alloc: Global, word: &str, text: &str) -> Result<String, Fail> {
         match word {
             "empty" => self.is_empty(alloc),
             "add" => self.add(alloc, text),
             "remove" => self.remove(alloc, text),
             _ => holders_text(alloc, &self.holders, text),
         }
+    }
+}
+
+impl Scripted for Holding {
+    fn answer(&mut self, alloc: Global, command: &str) -> Result<String, Fail> {
+        let (word, text) = command.split_once(" ").unwrap_or((command, ""));
+        self.call(alloc, word, text)
     }
 }
 
@@ -342,11 +350,8 @@ impl Keys {
         let key = key_of(alloc, text)?;
         Ok(format!(in alloc; "{}", self.keys.contains(&key))?)
     }
-}
 
-impl Scripted for Keys {
-    fn answer(&mut self, alloc: Global, command: &str) -> Result<String, Fail> {
-        let (word, text) = command.split_once(" ").unwrap_or((command, ""));
+    fn call(&mut self, alloc: Global, word: &str, text: &str) -> Result<String, Fail> {
         match word {
             "empty" => self.is_empty(alloc),
             "insert" => self.insert(alloc, text),
@@ -354,6 +359,13 @@ impl Scripted for Keys {
             "has" => self.has(alloc, text),
             _ => keys_text(alloc, &self.keys),
         }
+    }
+}
+
+impl Scripted for Keys {
+    fn answer(&mut self, alloc: Global, command: &str) -> Result<String, Fail> {
+        let (word, text) = command.split_once(" ").unwrap_or((command, ""));
+        self.call(alloc, word, text)
     }
 }
 

@@ -157,18 +157,22 @@ impl SchemaFacts {
         let table = self.schema.table(name).ok_or("no table")?;
         facts_of_table(alloc, table, word)
     }
-}
 
-impl Scripted for SchemaFacts {
-    fn answer(&mut self, alloc: Global, command: &str) -> Result<String, Fail> {
-        let (word, name) = command.split_once(" ").unwrap_or((command, ""));
+    fn call(&self, alloc: Global, word: &str, text: &str) -> Result<String, Fail> {
         match word {
             "name" => self.name(alloc),
             "version" => self.version(alloc),
             "tree" => compact(alloc, self.schema.tree()),
-            "has" => self.has(alloc, name),
-            _ => self.table(alloc, word, name),
+            "has" => self.has(alloc, text),
+            _ => self.table(alloc, word, text),
         }
+    }
+}
+
+impl Scripted for SchemaFacts {
+    fn answer(&mut self, alloc: Global, command: &str) -> Result<String, Fail> {
+        let (word, text) = command.split_once(" ").unwrap_or((command, ""));
+        self.call(alloc, word, text)
     }
 }
 
