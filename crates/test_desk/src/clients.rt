@@ -123,8 +123,8 @@ type Told = (u64, Cause, Vec<u8>);
 
 /// This of what is left of a client.
 fn told_of<R: Clock>(end: End<ClientReader<'_, '_, '_, R>, ClientWriter>) -> Told {
-    let taken = end.writer.into_inner().taken;
-    (end.serial, end.cause, taken)
+    let (serial, cause) = (end.serial, end.cause);
+    (serial, cause, end.writer.into_inner().taken)
 }
 
 /// Adds its line.

@@ -110,7 +110,8 @@ fn written_by<R: Wait, L: Ledger>(
     let is_empty = ring.pop().is_err();
     let ends = (end.begun, end.failed, is_empty);
     let writer = end.writer.into_inner();
-    told_of(alloc, writer.taken, ends, gate.passed(), writer.flushes)
+    let flushes = writer.flushes;
+    told_of(alloc, writer.taken, ends, gate.passed(), flushes)
 }
 
 /// The same, of a ledger of its own.
