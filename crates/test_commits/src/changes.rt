@@ -8,7 +8,7 @@ use ov_atoms::has_sixteen_bytes;
 use ov_db::{Db, Delta, StoreAnswer, row_of};
 use ov_integrity::{Finished, finish};
 use ov_keeper::{Keeper, Line};
-use ov_rows::{Row, RowKey};
+use ov_rows::RowKey;
 use ov_stage::Stage;
 use std::alloc::{AllocError, Global};
 use std::test::Fail;
@@ -45,7 +45,8 @@ pub fn put_line<K: Keeper + Drop>(
     has_sixteen_bytes(&line.id);
     has_sixteen_bytes(&line.version);
     db.kept();
-    let Row { columns, .. } = row_of(alloc, db.schema(), line)?;
+    let row = row_of(alloc, db.schema(), line)?;
+    let columns = row.columns.copy(alloc)?;
     let key = RowKey::new(alloc, line.table.as_str(), line.id)?;
     let mut stage = Stage::new(alloc, db.rows());
     stage.put(key, line.version, columns)?;

@@ -3,7 +3,7 @@ use crate::texts::owned;
 use ov_base::{Text, Tree, Trees};
 use ov_db::{Db, Delta, row_of};
 use ov_keeper::{Change, Line};
-use ov_rows::{Row, RowKey};
+use ov_rows::RowKey;
 use ov_schema::Schema;
 use ov_stage::Stage;
 use ov_watch::{Monitors, WatchFault};
@@ -154,9 +154,9 @@ fn stage_row(
     stage: &mut Stage<'_>,
     line: &Line,
 ) -> Result<(), Fail> {
-    let Row { columns, .. } = row_of(alloc, db.schema(), line)?;
+    let row = row_of(alloc, db.schema(), line)?;
     let key = RowKey::new(alloc, line.table.as_str(), line.id)?;
-    stage.put(key, line.version, columns)?;
+    stage.put(key, line.version, row.columns.copy(alloc)?)?;
     Ok(())
 }
 

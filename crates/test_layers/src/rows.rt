@@ -48,7 +48,7 @@ impl Scripted for Cells {
 
 #[test]
 fn columns_are_found_by_name_and_written_in_order(rt: HostRuntime) -> Result<(), Fail> {
-    let Row { columns, .. } = switch(rt.alloc(), "s1", 4)?;
+    let columns = switch(rt.alloc(), "s1", 4)?.columns.copy(rt.alloc())?;
     agrees(rt.alloc(), Cells { columns }, COLUMNS)
 }
 

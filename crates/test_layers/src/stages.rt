@@ -4,7 +4,7 @@ use ov_atoms::NoNames;
 use ov_base::Text;
 use ov_conds::Condition;
 use ov_projection::{OpFault, compared_columns, listed_columns, shown_tree};
-use ov_rows::{Row, RowKey, RowView, Rows};
+use ov_rows::{RowKey, RowView, Rows};
 use ov_schema::{Schema, Table};
 use ov_stage::{Stage, conditions_of};
 use serde_json::Value;
@@ -160,7 +160,7 @@ impl Staged<'_> {
         let load = load.parse::<i64>()?;
         let version = number(version)?;
         let key = switch_key(alloc, id)?;
-        let Row { columns, .. } = switch(alloc, "s1", load)?;
+        let columns = switch(alloc, "s1", load)?.columns.copy(alloc)?;
         self.stage.put(key, version, columns)?;
         Ok(String::new(alloc))
     }

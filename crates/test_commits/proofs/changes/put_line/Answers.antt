@@ -21,7 +21,7 @@ finished-requires-clause-suits g c =
     let first : Stage = c.new-stage.result in
     let at_first : first ≡ record { before = c.args.db.now.committed; now = c.args.db.now.committed } =
     c.new-stage.ensures ∙ ap (λ (rows : Database). record { before = rows; now = rows }) c.rows.ensures in
-    let columns : c.row.inside.columns ≡ row.columns = ap (λ (r : Row). r.columns) c.row.view_is in
+    let columns : c.in_ok-columns.columns ≡ row.columns = c.in_ok-columns.ensures ∙ ap (λ (r : Row). r.columns) c.row.view_is in
     let put : c.put.new.self.now ≡ insert first.now c.in_ok-key.key (row_now first.before c.args.line.now.version c.in_ok-key.key row.columns) =
     ap (λ (s : Stage). s.now) c.in_ok-put.ensures.ok ∙ ap (λ (x : Columns). insert first.now c.in_ok-key.key (row_now first.before c.args.line.now.version c.in_ok-key.key x)) columns in
     let over : c.put.new.self.now ≡ insert c.args.db.now.committed entry.0 (row_now c.args.db.now.committed entry.1.0 entry.0 row.columns) =
