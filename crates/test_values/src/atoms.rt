@@ -128,7 +128,7 @@ fn word_of(fault: AtomFault) -> &'static str {
 }
 
 /// What a tree of these kinds reads as, copied and written again, or the word of its refusal.
-fn rewritten(alloc: Global, kinds: Kinds, tree: &Value) -> Result<String, Fail> {
+fn text_rewritten(alloc: Global, kinds: Kinds, tree: &Value) -> Result<String, Fail> {
     match read_datum(alloc, tree, kinds, &NoNames) {
         Ok(datum) => text_of_copy(alloc, &datum),
         Err(fault) => Ok(String::from_str(alloc, word_of(fault))?),
@@ -144,7 +144,7 @@ struct Rewritten {
 impl Scripted for Rewritten {
     fn answer(&mut self, alloc: Global, command: &str) -> Result<String, Fail> {
         let tree = Value::from_str(alloc, command)?;
-        rewritten(alloc, self.kinds, &tree)
+        text_rewritten(alloc, self.kinds, &tree)
     }
 }
 
