@@ -60,7 +60,7 @@ impl Opening {
     fn serials(&self, alloc: Global) -> Result<String, Fail> {
         let mut text = String::new(alloc);
         for serial in self.sessions.serials() {
-            push_serial(alloc, &mut text, serial)?;
+            push_serial(alloc, &mut text, *serial)?;
         }
         Ok(text)
     }
