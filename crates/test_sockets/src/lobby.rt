@@ -109,8 +109,8 @@ fn are_served<R: Threads + Wait + Sync>(
 ) -> Result<(), Fail> {
     let (entries, talked) = thread::join(
         rt,
-        || serve_two(rt, alloc, listener),
-        || talk_and_end(alloc, first, second),
+        move || serve_two(rt, alloc, listener),
+        move || talk_and_end(alloc, first, second),
     );
     is_served(alloc, entries, talked)
 }

@@ -128,11 +128,12 @@ fn share_a_lock<R: Threads + Wait + Clock + Sync>(
     first: &TcpStream,
     second: &TcpStream,
 ) -> Result<(), Fail> {
-    let streams = accept_all(alloc, listener, 2)?;
+    let accepted = accept_all(alloc, listener, 2)?;
+    let streams = &accepted;
     let (ended, is_as_told) = thread::join(
         rt,
-        || served(rt, alloc, &streams),
-        || talk_to_end(alloc, first, second, GIVEN_ON),
+        move || served(rt, alloc, streams),
+        move || talk_to_end(alloc, first, second, GIVEN_ON),
     );
     have_talked(alloc, ended, is_as_told)
 }
