@@ -1,3 +1,5 @@
+ghost use Rattle.std.specs.Prelude.{◌≡◌, false};
+
 use crate::stores::{created, kept, opened};
 use ov_base::Text;
 use ov_keeper::KeepFault;
@@ -167,7 +169,9 @@ fn text_of_made_again<S: Alter + Drop>(
 }
 
 /// Whether the other table has its row.
-fn has_other_row<S: Alter + Drop>(connection: &mut Connection<S>) -> Result<bool, Fail> {
+fn has_other_row<S: Alter + Drop>(connection: &mut Connection<S>) -> Result<bool, Fail>
+    requires { connection.old.in_transaction ≡ false }
+{
     let rows = connection
         .transaction()
         .query_all("SELECT a FROM other", &[])?;
@@ -181,7 +185,9 @@ fn has_other_row<S: Alter + Drop>(connection: &mut Connection<S>) -> Result<bool
 fn text_of_other_row<S: Alter + Drop>(
     alloc: Global,
     connection: &mut Connection<S>,
-) -> Result<String, Fail> {
+) -> Result<String, Fail>
+    requires { connection.old.in_transaction ≡ false }
+{
     let has_row = has_other_row(connection)?;
     Ok(format!(in alloc; "{has_row}")?)
 }
