@@ -24,9 +24,9 @@ struct Operations<'a> {
 }
 
 /// Adds a result, behind which the next operation is tried.
-fn push_result(alloc: Global, results: &mut String, result: &OpResult) -> Result<bool, Fail> {
-    let result = String::from_utf8(result.to_bytes(alloc)?.into_vec())?;
-    results.push_str(result.as_str())?;
+fn push_result(alloc: Global, results: &mut String, made: &OpResult) -> Result<bool, Fail> {
+    let text = String::from_utf8(made.to_bytes(alloc)?.into_vec())?;
+    results.push_str(text.as_str())?;
     results.push_str(" ")?;
     Ok(true)
 }
