@@ -132,8 +132,8 @@ const ANSWERED: &str = r#"InputEnded {"error":null,"id":0,"result":["Net"]}"#;
 /// The request is answered, and then a read fails.
 const READ_FAULT: &str = r#"ReadFault {"error":null,"id":0,"result":["Net"]}"#;
 
-/// The request is answered, and then a flush fails.
-const WRITE_FAULT: &str = r#"WriteFault {"error":null,"id":0,"result":["Net"]}"#;
+/// The flush before the first read fails, so nothing is read or written.
+const WRITE_FAULT: &str = "WriteFault ";
 
 #[test]
 fn a_request_is_answered(rt: HostRuntime) -> Result<(), Fail> {
