@@ -5,4 +5,5 @@ pub mod Settling
 pub mod Preparing
 pub mod Following
 pub mod Stepping
+pub mod Passing
 pub mod Leaving

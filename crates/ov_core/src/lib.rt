@@ -4,7 +4,6 @@
 #![tactic(auto)]
 
 mod attempt;
-pub mod early;
 mod frames;
 mod handle;
 mod live;

@@ -12,7 +12,9 @@ ghost use Rattle.ov_outbox.specs.Frames.{waiting_for, has_queue};
 ghost use Rattle.ov_history.specs.History.{HasHistory};
 ghost use Rattle.ov_core.specs.Following.{Follows, none_given, and_handed, and_all_handed};
 ghost use Rattle.ov_sessions.specs.Sessions.{most_sessions, serial_left};
-ghost use Rattle.ov_core.specs.Stepping.{StepIs, Closes};
+ghost use Rattle.ov_history.specs.declared.event.Stepped.TheVariants.{Opened, Done};
+ghost use Rattle.ov_core.specs.Stepping.{StepIs, IsEntered, RefusesStep, Closes};
+ghost use Rattle.ov_core.specs.Passing.{is_due, TicksIf};
 ghost use Rattle.ov_core.specs.Leaving.{LeavesItsOwn};
 ghost use Rattle.ov_db.specs.Committing.{AreKept, MayFind};
 
@@ -157,7 +159,10 @@ impl<K: Keeper + Drop, D: Draws + Drop> Core<K, D> {
     {
         let moment = moment.max(self.moment);
         match event {
-            Event::Open => self.open_session(moment),
+            Event::Open => match self.open_at(moment) {
+                Ok(opened) => Stepped::Opened(opened),
+                Err(fault) => Stepped::Refused(fault),
+            },
             Event::Take(session, received) => self.take(alloc, moment, session, received),
             Event::Close(session, cause) => {
                 if self.close_at(moment, session, cause) {
@@ -166,7 +171,46 @@ impl<K: Keeper + Drop, D: Draws + Drop> Core<K, D> {
                     Stepped::Refused(StepFault::NotOpen)
                 }
             }
-            Event::Tick => self.tick(alloc, moment),
+            Event::Tick => match self.tick_at(alloc, moment) {
+                Ok(()) => Stepped::Done,
+                Err(fault) => Stepped::Refused(fault),
+            },
+        }
+    }
+
+    /// Opens a session at the last moment, with the next serial: an `Open` by itself. Refused as `TooMany` while 64 sessions are
+    /// open and where no serial is left, else only as `Memory`; then nothing is changed.
+    pub fn open_session(&mut self) -> Result<Session, StepFault>
+        ensures opened { IfOk result (λ session. IsEntered D.draws self.old.state.moment SpecOpen self.old (Opened session) self.new) }
+        ensures refused { IfErr result (λ fault. (self.new ≡ self.old) × RefusesStep SpecOpen self.old.state fault) }
+    {
+        let moment = self.moment;
+        self.open_at(moment)
+    }
+
+    /// Lets time pass to a moment in milliseconds, or to the last one if that is later: a `Tick` by itself. Refused only as
+    /// `Memory`, and only while transactions wait; then nothing is changed.
+    pub fn tick(&mut self, alloc: Global, moment: u64) -> Result<(), StepFault>
+        ensures ticked { OnOk result (IsEntered D.draws (max moment self.old.state.moment) SpecTick self.old Done self.new) }
+        ensures refused { IfErr result (λ fault. (self.new ≡ self.old) × RefusesStep SpecTick self.old.state fault) }
+    {
+        let at = moment.max(self.moment);
+        self.tick_at(alloc, at)
+    }
+
+    /// Lets time pass to a moment in milliseconds, where a transaction that waits is due by it, and tells whether it did. Refused
+    /// as a `Tick` is; then nothing is changed.
+    pub fn pass_where_due(&mut self, alloc: Global, moment: u64) -> Result<bool, StepFault>
+        ensures passes { IfOk result (λ ticks. TicksIf D.draws ticks moment self.old self.new) }
+        ensures due { IfOk result (λ ticks. ticks ≡ is_due moment self.old.state) }
+        ensures refused { IfErr result (λ fault. (self.new ≡ self.old) × (is_due moment self.old.state ≡ true) × RefusesStep SpecTick self.old.state fault) }
+    {
+        match self.due() {
+            Some(due) if due <= moment => {
+                self.tick(alloc, moment)?;
+                Ok(true)
+            }
+            _ => Ok(false),
         }
     }
 
@@ -321,28 +365,30 @@ impl<K: Keeper + Drop, D: Draws + Drop> Core<K, D> {
         self.live.database.kept();
     }
 
-    fn open_session(&mut self, moment: u64) -> Stepped
+    fn open_at(&mut self, moment: u64) -> Result<Session, StepFault>
         requires { self.old.state.moment ≤ moment }
-        ensures { StepIs D.draws moment SpecOpen self.old result self.new }
+        ensures opened { IfOk result (λ session. IsEntered D.draws moment SpecOpen self.old (Opened session) self.new) }
+        ensures refused { IfErr result (λ fault. (self.new ≡ self.old) × RefusesStep SpecOpen self.old.state fault) }
     {
         if self.live.sessions.is_full() {
-            return Stepped::Refused(StepFault::TooMany);
+            return Err(StepFault::TooMany);
         }
         let Ok(session) = self.live.open() else {
-            return Stepped::Refused(StepFault::Memory);
+            return Err(StepFault::Memory);
         };
         self.history
             .push(entry_without_choice(self.alloc, moment, Event::Open));
         self.moment = moment;
-        Stepped::Opened(session)
+        Ok(session)
     }
 
-    fn tick(&mut self, alloc: Global, moment: u64) -> Stepped
+    fn tick_at(&mut self, alloc: Global, moment: u64) -> Result<(), StepFault>
         requires { self.old.state.moment ≤ moment }
-        ensures { StepIs D.draws moment SpecTick self.old result self.new }
+        ensures ticked { OnOk result (IsEntered D.draws moment SpecTick self.old Done self.new) }
+        ensures refused { IfErr result (λ fault. (self.new ≡ self.old) × RefusesStep SpecTick self.old.state fault) }
     {
         let Ok(mut attempts) = Vec::with_capacity(alloc, self.live.waiting.len()) else {
-            return Stepped::Refused(StepFault::Memory);
+            return Err(StepFault::Memory);
         };
         self.live.tick(alloc, moment, &mut attempts);
         self.history.push(entry_with_choice(
@@ -353,7 +399,7 @@ impl<K: Keeper + Drop, D: Draws + Drop> Core<K, D> {
             attempts,
         ));
         self.moment = moment;
-        Stepped::Done
+        Ok(())
     }
 
     fn close_at(&mut self, moment: u64, session: Session, cause: Cause) -> bool

@@ -16,8 +16,8 @@ use Rattle.ov_lanes.specs.Since.{Since, HandsOut, course_of}
 use Rattle.ov_lanes.specs.declared.lane.Lane.{Lane}
 use Rattle.ov_lanes.proofs.Courses.{shuts, hands_on}
 use Rattle.ov_lanes.proofs.Own.{spares_along}
-use Rattle.ov_desk.specs.Opening.{OpensAll, ClosesDown, ClosesAgain, DropsSession, IsIdle, IsGivenUp, IsLeftAlone}
-use Rattle.ov_desk.proofs.Pairs.{popped_at, popped_rest}
+use Rattle.ov_lanes.specs.Opening.{OpensAll, ClosesDown, ClosesAgain, DropsSession, IsIdle, IsGivenUp, IsLeftAlone}
+use Rattle.ov_lanes.proofs.Pairs.{popped_at, popped_rest}
 
 -- ---- one session
 

@@ -2,20 +2,19 @@
 use Rattle.std.proofs.Common.{◌≡◌, ◌≤◌, ℕ, List, [], ◌∷◌, ◌++◌, refl, sym, ap, subst, ◌∙◌, append-nil, Bool, Option}
 use Rattle.std.specs.Option.{option_or}
 use Rattle.std.proofs.lemmas.Grind.{flat_map-append}
+use Rattle.ov_ends.specs.States.{SourceState, SinkState}
 use Rattle.ov_specs.specs.wire.Message.{Message}
 use Rattle.ov_specs.specs.machine.Machine as machine
 use Rattle.ov_specs.specs.machine.Machine.{opening}
 use Rattle.ov_specs.specs.machine.History.{requests, taken_by, frames_to, closed_by}
 use Rattle.ov_specs.proofs.laws.Histories.{closed_by_append}
 use Rattle.ov_outbox.specs.Frames.{waiting_for}
-use Rattle.ov_workers.specs.Reading.{SourceState}
-use Rattle.ov_workers.specs.Writing.{SinkState}
 use Rattle.ov_history.specs.declared.event.Cause.{Cause}
 use Rattle.ov_core.specs.Following.{CoreState}
 use Rattle.ov_lanes.specs.Since.{Since, course_of, and_then_handed}
 use Rattle.ov_desk.specs.Outcome.{Outcome}
 use Rattle.ov_desk.specs.Ending.{EndsBehind, is_written, CourseEnds, LinkEnds}
-use Rattle.ov_desk.proofs.Unopened.{later_is_unopened}
+use Rattle.ov_lanes.proofs.Unopened.{later_is_unopened}
 
 first_empty : {A : Type 0} (xs ys : List A) → xs ++ ys ≡ [] → xs ≡ []
 first_empty [] ys h = refl

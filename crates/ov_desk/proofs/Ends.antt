@@ -1,14 +1,13 @@
 -- What is left of all links, once their lanes fit what became of their sessions.
 use Rattle.std.proofs.Common.{◌≡◌, ℕ, suc, ◌+◌, ◌≤◌, List, [], ◌∷◌, sym, subst, ◌∙◌, arith}
-use Rattle.ov_workers.specs.Reading.{SourceState}
-use Rattle.ov_workers.specs.Writing.{SinkState}
+use Rattle.ov_ends.specs.States.{SourceState, SinkState}
 use Rattle.ov_core.specs.Following.{CoreState}
 use Rattle.ov_lanes.specs.Since.{Since, course_of}
 use Rattle.ov_lanes.specs.Lanes.{LaneFits, AllFit}
 use Rattle.ov_lanes.specs.declared.lane.Lane.{Lane}
-use Rattle.ov_desk.specs.declared.link.Link.{Link}
+use Rattle.ov_lanes.specs.declared.link.Link.{Link}
 use Rattle.ov_desk.specs.declared.link.End.{End}
-use Rattle.ov_desk.specs.Pairs.{Pairwise, Threewise}
+use Rattle.ov_lanes.specs.Pairs.{Pairwise, Threewise}
 use Rattle.ov_desk.specs.Ending.{CourseEnds, LinkEnds}
 use Rattle.ov_desk.specs.Ends.{EndsLane, AllEnd}
 use Rattle.ov_desk.proofs.Endings.{link_ends}

@@ -1,8 +1,5 @@
-pub mod Unopened
 pub mod Endings
 pub mod Sides
-pub mod Pairs
-pub mod Openings
 pub mod Closing
 pub mod Links
 pub mod Running

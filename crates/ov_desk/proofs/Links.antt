@@ -1,6 +1,6 @@
 -- Links that are given back.
 use Rattle.std.proofs.Common.{◌≡◌, List, ◌∷◌, ◌++◌, sym, ap, ◌∙◌}
-use Rattle.ov_desk.specs.declared.link.Link.{Link}
+use Rattle.ov_lanes.specs.declared.link.Link.{Link}
 
 -- the same reader and the same writer
 pub same_link : {S W : Type 0} (k r : Link S W) → k.reader ≡ r.reader → k.writer ≡ r.writer → k ≡ r

@@ -7,7 +7,7 @@ use Rattle.ov_lanes.specs.Lanes.{SameLane, SameLanes}
 use Rattle.ov_lanes.specs.declared.lane.Lane.{Lane}
 use Rattle.ov_desk.specs.declared.room.DeskRings.{DeskRings}
 use Rattle.ov_desk.specs.declared.room.WorkerRings.{WorkerRings}
-use Rattle.ov_desk.specs.Pairs.{Pairwise, Each}
+use Rattle.ov_lanes.specs.Pairs.{Pairwise, Each}
 use Rattle.ov_desk.specs.Room.{AreNew}
 
 -- nothing went through the desk's ends, and in what it sends there is room

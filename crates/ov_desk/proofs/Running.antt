@@ -3,7 +3,9 @@ use Rattle.std.proofs.Common.{ℕ, List}
 use Rattle.ov_core.specs.Following.{CoreState}
 use Rattle.ov_lanes.specs.Lanes.{Serves, SameLanes}
 use Rattle.ov_lanes.specs.declared.lane.Lane.{Lane}
-use Rattle.ov_lanes.proofs.AllLanes.{same_lanes, same_along}
+use Rattle.ov_lanes.specs.Since.{Since}
+use Rattle.ov_lanes.proofs.Courses.{Passes}
+use Rattle.ov_lanes.proofs.AllLanes.{same_lanes, same_along, serves_passed}
 use Rattle.ov_desk.specs.Running.{GoesOn}
 
 pub goes_on_none : {K D : Type 0} (a : CoreState K D) (ls : List Lane) → GoesOn a ls a ls
@@ -16,6 +18,6 @@ goes_on_along ls ms ns x y = record { serves = λ start base s. y.serves start b
 pub goes_on_by : {K D : Type 0} {a b : CoreState K D} (ls ms : List Lane) → ((start : CoreState K D) (base : ℕ) → Serves start base a ls → Serves start base b ms) → SameLanes ls ms → GoesOn a ls b ms
 goes_on_by ls ms serves rings = record { serves = serves; rings = rings }
 
--- by the clause of one that changes no lane
-pub goes_on_with : {K D : Type 0} {a b : CoreState K D} (ls : List Lane) → ((start : CoreState K D) (base : ℕ) (ms : List Lane) → Serves start base a ms → Serves start base b ms) → GoesOn a ls b ls
-goes_on_with ls serves = record { serves = λ start base s. serves start base ls s; rings = same_lanes ls }
+-- time passed, or not
+pub goes_on_passed : {K D : Type 0} {a b : CoreState K D} (ls : List Lane) → ((start : CoreState K D) (since : Since start a) → Passes since b) → GoesOn a ls b ls
+goes_on_passed ls passes = record { serves = λ start base s. serves_passed base ls s (λ since. passes start since); rings = same_lanes ls }

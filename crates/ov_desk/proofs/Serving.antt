@@ -2,19 +2,18 @@
 use Rattle.std.proofs.Common.{◌≡◌, ℕ, ◌+◌, ◌≤◌, ◌<◌, List, [], length, Bool, true, false, Some, None, cond, leb, refl, arith}
 use Rattle.std.specs.Prelude.{◌-◌, ◌^◌, unwrap_or}
 use Rattle.std.proofs.lemmas.Bool.{and_parts, leb-true, leb-false}
+use Rattle.ov_ends.specs.States.{SourceState, SinkState}
 use Rattle.ov_specs.specs.machine.Machine.{State}
 use Rattle.ov_sessions.specs.Sessions.{most_sessions, beyond_serials, serial_left}
-use Rattle.ov_workers.specs.Reading.{SourceState}
-use Rattle.ov_workers.specs.Writing.{SinkState}
 use Rattle.ov_core.specs.Following.{CoreState}
 use Rattle.ov_lanes.specs.Lanes.{Serves}
 use Rattle.ov_lanes.specs.Places.{has_places}
 use Rattle.ov_lanes.specs.declared.lane.Lane.{Lane}
-use Rattle.ov_desk.specs.declared.link.Link.{Link}
+use Rattle.ov_lanes.specs.declared.link.Link.{Link}
 use Rattle.ov_desk.specs.declared.link.End.{End}
-use Rattle.ov_desk.specs.Pairs.{Pairwise, Threewise}
+use Rattle.ov_lanes.specs.Pairs.{Pairwise, Threewise}
 use Rattle.ov_desk.specs.Ends.{EndsLane, ServesAll}
-use Rattle.ov_desk.specs.Opening.{OpensAll, ClosesAgain}
+use Rattle.ov_lanes.specs.Opening.{OpensAll, ClosesAgain}
 use Rattle.ov_desk.specs.Serving.{ComesToEnd}
 use Rattle.ov_desk.proofs.Closing.{closes_none, closes_all}
 use Rattle.ov_desk.proofs.Ends.{all_end}

@@ -3,6 +3,7 @@ use Rattle.std.proofs.Common.{◌≡◌, ◌≢◌, ℕ, List, [], ◌∷◌, �
 use Rattle.std.specs.Prelude.{not, unwrap_or, MatchBool, MatchOption}
 use Rattle.std.proofs.lemmas.Bool.{false≢true}
 use mathlib.Core.List.{IsPrefix}
+use Rattle.ov_ends.specs.States.{SourceState, SinkState}
 use Rattle.ov_specs.specs.wire.Message.{Message, Asked, asked}
 use Rattle.ov_specs.specs.machine.Machine as machine
 use Rattle.ov_specs.specs.machine.History.{joined}
@@ -12,8 +13,8 @@ use Rattle.ov_order.specs.declared.items.Sent.TheVariants.{End}
 use Rattle.ov_workers.specs.declared.cause.ReadCause.{ReadCause}
 use Rattle.ov_workers.specs.declared.cause.ReadCause.TheVariants as reads
 use Rattle.ov_workers.specs.Stream.{AreAskedFor}
-use Rattle.ov_workers.specs.Reading.{SourceState, SuitsSource, Brings as ReaderBrings}
-use Rattle.ov_workers.specs.Writing.{SinkState, Writes}
+use Rattle.ov_workers.specs.Reading.{SuitsSource, Brings as ReaderBrings}
+use Rattle.ov_workers.specs.Writing.{Writes}
 use Rattle.ov_ends.specs.Ends.{KeepsInput, GivesWritten}
 use Rattle.ov_ends.proofs.Tellings.{input-same}
 use Rattle.ov_ends.specs.Writing.{WritesOf}

@@ -1,14 +1,13 @@
 -- What is left of each link, beside its lane. What names no source is our own.
 use Rattle.std.specs.Prelude.{◌≡◌, ℕ, ◌+◌, List, [], ◌∷◌}
 use Rattle.rtrb.specs.Ring.{sent, received}
-use Rattle.ov_workers.specs.Reading.{SourceState}
-use Rattle.ov_workers.specs.Writing.{SinkState}
+use Rattle.ov_ends.specs.States.{SourceState, SinkState}
 use Rattle.ov_core.specs.Following.{CoreState}
 use Rattle.ov_lanes.specs.Courses.{Course}
 use Rattle.ov_lanes.specs.Fitting.{FitsCourse}
 use Rattle.ov_lanes.specs.Since.{Since}
 use Rattle.ov_lanes.specs.declared.lane.Lane.{Lane}
-use Rattle.ov_desk.specs.declared.link.Link.{Link}
+use Rattle.ov_lanes.specs.declared.link.Link.{Link}
 use Rattle.ov_desk.specs.declared.link.End.{End}
 use Rattle.ov_desk.specs.Ending.{CourseEnds, LinkEnds}
 

@@ -2,13 +2,12 @@
 use Rattle.std.specs.Prelude.{◌≡◌, ◌≢◌, ◌<◌, ℕ, ◌++◌, List, Bool, true, false, Option, Some, length}
 use Rattle.std.specs.Io.KnownBytes.{IsAtEnd}
 use mathlib.Core.List.{IsPrefix}
+use Rattle.ov_ends.specs.States.{SourceState, SinkState}
 use Rattle.ov_specs.specs.wire.Message.{Message, asked}
 use Rattle.ov_specs.specs.machine.Machine as machine
 use Rattle.ov_specs.specs.machine.History.{joined}
 use Rattle.ov_ends.specs.Ends.{one_more, KeepsInput, GivesWritten}
 use Rattle.ov_ends.specs.Writing.{WritesOf}
-use Rattle.ov_workers.specs.Reading.{SourceState}
-use Rattle.ov_workers.specs.Writing.{SinkState}
 use Rattle.ov_lanes.specs.Fitting.{is_of_reader, most_frames}
 
 -- what the reader tells of a closing for its end: the input ended and its stream is whole; or a read failed; or its stream is

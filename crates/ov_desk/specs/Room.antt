@@ -5,7 +5,7 @@ use Rattle.ov_order.specs.Rings.{IsNewRing}
 use Rattle.ov_desk.specs.declared.room.DeskRings.{DeskRings}
 use Rattle.ov_desk.specs.declared.room.WorkerRings.{WorkerRings}
 use Rattle.ov_desk.specs.declared.room.Room.{Room}
-use Rattle.ov_desk.specs.Pairs.{Pairwise}
+use Rattle.ov_lanes.specs.Pairs.{Pairwise}
 
 -- these are the ends of two rings through which nothing went
 abbrev pub AreNew : DeskRings → WorkerRings → Type 0

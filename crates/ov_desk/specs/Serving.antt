@@ -1,18 +1,17 @@
 -- What serving links makes of a core, and when it is refused. What names no source is our own.
 use Rattle.std.specs.Prelude.{◌≡◌, ℕ, List, true, false}
-use Rattle.ov_workers.specs.Reading.{SourceState}
-use Rattle.ov_workers.specs.Writing.{SinkState}
+use Rattle.ov_ends.specs.States.{SourceState, SinkState}
 use Rattle.ov_core.specs.Following.{CoreState}
 use Rattle.ov_lanes.specs.Since.{Since}
 use Rattle.ov_lanes.specs.Lanes.{AllFit}
 use Rattle.ov_lanes.specs.Places.{has_places}
 use Rattle.ov_lanes.specs.declared.lane.Lane.{Lane}
 use Rattle.ov_desk.specs.declared.link.End.{End}
-use Rattle.ov_desk.specs.declared.fault.ServeFault.{ServeFault}
-use Rattle.ov_desk.specs.declared.fault.ServeFault.TheVariants as fault
-use Rattle.ov_desk.specs.Pairs.{Threewise}
+use Rattle.ov_lanes.specs.declared.fault.ServeFault.{ServeFault}
+use Rattle.ov_lanes.specs.declared.fault.ServeFault.TheVariants as fault
+use Rattle.ov_lanes.specs.Pairs.{Threewise}
 use Rattle.ov_desk.specs.Ends.{EndsLane}
-use Rattle.ov_desk.specs.Opening.{ClosesAgain}
+use Rattle.ov_lanes.specs.Opening.{ClosesAgain}
 
 -- When serving so many links is refused, and what it leaves of the core. For want of memory the sessions may have been opened:
 -- then they were closed again.

@@ -1,12 +1,11 @@
 ghost use Rattle.std.specs.Prelude.{◌≡◌, ◌+◌, ◌<◌, ◌≤◌, ℕ, [], true, vec_len, slice_index_or, unwrap_or, MatchBool};
 ghost use Rattle.std.specs.VecDeque.{deque_capacity};
+ghost use Rattle.ov_ends.specs.States.{source_of, sink_of};
 ghost use Rattle.ov_lanes.specs.declared.lane.Lane.{Lane as SpecLane};
-ghost use Rattle.ov_desk.specs.Pairs.{Pairwise, Threewise};
+ghost use Rattle.ov_lanes.specs.Pairs.{Pairwise, Threewise};
 ghost use Rattle.ov_desk.specs.Ends.{EndsLane};
 ghost use Rattle.ov_history.specs.declared.event.Cause.TheVariants.{WriteFault, Memory};
 ghost use Rattle.rtrb.specs.Ring.{sent, received, IsPair};
-ghost use Rattle.ov_workers.specs.Reading.{source_state};
-ghost use Rattle.ov_workers.specs.Writing.{sink_state};
 ghost use Rattle.ov_lanes.specs.Courses.{Course};
 ghost use Rattle.ov_lanes.specs.Fitting.{FitsCourse};
 ghost use Rattle.ov_desk.specs.Ending.{CourseEnds};
@@ -64,10 +63,10 @@ where
     requires over { (lane.ended ≡ true) × (lane.marked ≡ true) }
     ensures ends { (c : Course) → FitsCourse c lane.cause (received lane.inbound) (sent lane.outbound) lane.marked lane.ended
         → CourseEnds c result.cause
-        (source_state (S.bytes_read workers.reads.promise.reader.value) (S.remaining workers.reads.promise.reader.value) (S.at_end workers.reads.promise.reader.value) (S.faults workers.reads.promise.reader.value))
-        (source_state (S.bytes_read result.reader) (S.remaining result.reader) (S.at_end result.reader) (S.faults result.reader))
-        (sink_state (W.bytes_written workers.writes.promise.writer.value) (W.contents workers.writes.promise.writer.value) (W.is_flushed workers.writes.promise.writer.value) (W.faults workers.writes.promise.writer.value))
-        (sink_state (W.bytes_written result.writer) (W.contents result.writer) (W.is_flushed result.writer) (W.faults result.writer)) }
+        (source_of S.Source workers.reads.promise.reader.value)
+        (source_of S.Source result.reader)
+        (sink_of W.Sink workers.writes.promise.writer.value)
+        (sink_of W.Sink result.writer) }
     ensures serial { result.serial ≡ lane.session.serial }
     ensures parts { all.new.parts ≡ all.old.parts + workers.reads.promise.share.value.parts }
 {
@@ -125,7 +124,7 @@ where
     requires room { (ends.items ≡ []) × (vec_len lanes ≤ deque_capacity ends) }
     requires over { (i : ℕ) (d : SpecLane) → i < vec_len lanes → ((slice_index_or lanes.items i d).ended ≡ true) × ((slice_index_or lanes.items i d).marked ≡ true) }
     requires pairs { Pairwise (λ l w. IsPair w.reads.promise.ring.value l.inbound × IsPair l.outbound w.writes.promise.ring.value × (w.reads.promise.share.value.parts ≡ 1)) lanes.items workers.items }
-    ensures ends { Threewise (λ l w e. EndsLane (λ s. source_state (S.bytes_read s) (S.remaining s) (S.at_end s) (S.faults s)) (λ k. sink_state (W.bytes_written k) (W.contents k) (W.is_flushed k) (W.faults k))
+    ensures ends { Threewise (λ l w e. EndsLane (source_of S.Source) (sink_of W.Sink)
         l w.reads.promise.reader.value w.writes.promise.writer.value e) lanes.items workers.items result.items }
     ensures parts { all.new.parts ≡ all.old.parts + vec_len workers }
 {

@@ -1,17 +1,8 @@
-use crate::desk::Desk;
-use crate::fault::ServeFault;
 use ov_core::Cause;
-use ov_core::early::{Draws, Keeper};
+use ov_keeper::Keeper;
+use ov_lanes::{Desk, Link, ServeFault};
+use ov_requests::Draws;
 use std::collections::VecDeque;
-
-/// The two ends of a session that is to be served.
-#[derive(Drop)]
-pub struct Link<S, W> {
-    /// What is read.
-    pub reader: S,
-    /// What is written to.
-    pub writer: W,
-}
 
 /// What is left of a link, once its session was closed and its workers have ended.
 #[derive(Drop)]

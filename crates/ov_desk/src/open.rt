@@ -1,23 +1,20 @@
-ghost use Rattle.std.specs.Prelude.{◌≡◌, ◌<◌, ◌≤◌, ◌+◌, ◌++◌, ◌∷◌, ℕ, List, [], true, false, None, vec_len, vec_capacity, IfOk, IfErr};
+ghost use Rattle.std.specs.Prelude.{◌≡◌, ◌<◌, ◌≤◌, ◌+◌, ◌++◌, ◌∷◌, ℕ, List, [], true, false, None, vec_len, vec_capacity};
 ghost use Rattle.std.specs.VecDeque.{deque_len};
 ghost use Rattle.ov_core.specs.Following.{CoreState};
-ghost use Rattle.ov_desk.specs.Pairs.{Pairwise, Each};
+ghost use Rattle.ov_lanes.specs.Pairs.{Pairwise, Each};
 ghost use Rattle.rtrb.specs.Ring.{sent, received, known_free};
-ghost use Rattle.ov_specs.specs.machine.Machine.{Open as SpecOpen};
-ghost use Rattle.ov_core.specs.Stepping.{IsEntered, RefusesStep};
-ghost use Rattle.ov_history.specs.declared.event.Stepped.TheVariants.{Opened};
-ghost use Rattle.ov_desk.specs.Opening.{OpensAll, ClosesAgain, DropsSession};
+ghost use Rattle.ov_lanes.specs.Opening.{OpensAll, ClosesAgain};
 ghost use Rattle.ov_lanes.specs.declared.lane.Lane.{Lane as SpecLane};
 
 use crate::room::DeskRings;
-use ov_core::early::{Draws, Keeper};
-use ov_core::{Cause, Core, Event, Session, StepFault, Stepped};
-use ov_lanes::Lane;
+use ov_core::{Core, Session};
+use ov_keeper::Keeper;
+use ov_lanes::{Lane, drop_session};
 use ov_order::{Brought, Sent};
+use ov_requests::Draws;
 use ov_rpc::Received;
 use ov_workers::ReadCause;
 use rtrb::{Consumer, Producer};
-use std::alloc::Global;
 use std::collections::VecDeque;
 
 /// Nothing was opened yet.
@@ -25,22 +22,6 @@ pub(crate) fn begin<K: Keeper + Drop, D: Draws + Drop>(core: &Core<K, D>)
     ensures { OpensAll core.now core.now.state.next core.now [] }
 {
     let _ = core.history();
-}
-
-/// Opens a session at the last moment, with the next serial. Refused as `TooMany` or as `Memory` where the core refuses it so, and
-/// then nothing is done.
-pub fn open_session<K: Keeper + Drop, D: Draws + Drop>(
-    core: &mut Core<K, D>,
-    alloc: Global,
-) -> Result<Session, StepFault>
-    ensures opened { IfOk result (λ session. IsEntered D.draws core.old.state.moment SpecOpen core.old (Opened session) core.new) }
-    ensures refused { IfErr result (λ fault. (core.new ≡ core.old) × RefusesStep SpecOpen core.old.state fault) }
-{
-    match core.step(alloc, 0, Event::Open) {
-        Stepped::Opened(session) => Ok(session),
-        Stepped::Refused(fault) => Err(fault),
-        Stepped::Done | Stepped::Closed => unreachable!(),
-    }
 }
 
 /// Puts the lane of a session that was opened behind the others.
@@ -64,7 +45,6 @@ pub(crate) fn push_lane(
 /// the sessions that were opened.
 pub(crate) fn open_all<K: Keeper + Drop, D: Draws + Drop>(
     core: &mut Core<K, D>,
-    alloc: Global,
     rings: VecDeque<DeskRings>,
     lanes: &mut Vec<Lane>,
 ) -> bool
@@ -75,7 +55,7 @@ pub(crate) fn open_all<K: Keeper + Drop, D: Draws + Drop>(
 {
     let mut rings = rings;
     while let Some(ring) = rings.pop_front() {
-        let session = match open_session(core, alloc) {
+        let session = match core.open_session() {
             Ok(session) => session,
             Err(_) => return false,
         };
@@ -83,15 +63,6 @@ pub(crate) fn open_all<K: Keeper + Drop, D: Draws + Drop>(
         push_lane(lanes, session, inbound, outbound);
     }
     true
-}
-
-/// Closes a session as out of memory, and drops what waits for it. Where it is not open nothing is done. It takes no memory.
-pub fn drop_session<K: Keeper + Drop, D: Draws + Drop>(core: &mut Core<K, D>, session: Session)
-    ensures { DropsSession session.serial core.old core.new }
-{
-    if core.close(session, Cause::Memory) {
-        core.discard(session);
-    }
 }
 
 /// Closes the sessions that were opened for these lanes again, as out of memory.
@@ -110,7 +81,6 @@ pub(crate) fn close_all<K: Keeper + Drop, D: Draws + Drop>(
 /// again as out of memory.
 pub(crate) fn open_or_close<K: Keeper + Drop, D: Draws + Drop>(
     core: &mut Core<K, D>,
-    alloc: Global,
     rings: VecDeque<DeskRings>,
     lanes: &mut Vec<Lane>,
 ) -> bool
@@ -121,7 +91,7 @@ pub(crate) fn open_or_close<K: Keeper + Drop, D: Draws + Drop>(
     ensures refused { result ≡ false → ClosesAgain core.old core.new }
 {
     begin(core);
-    if open_all(core, alloc, rings, lanes) {
+    if open_all(core, rings, lanes) {
         return true;
     }
     close_all(core, lanes);

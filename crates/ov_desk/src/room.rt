@@ -1,6 +1,6 @@
 ghost use Rattle.std.specs.Prelude.{◌≡◌, vec_len, IfOk};
 ghost use Rattle.std.specs.VecDeque.{deque_len};
-ghost use Rattle.ov_desk.specs.Pairs.{Pairwise};
+ghost use Rattle.ov_lanes.specs.Pairs.{Pairwise};
 ghost use Rattle.ov_desk.specs.Room.{AreNew, IsRoom};
 
 use crate::link::End;

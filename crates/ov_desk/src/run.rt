@@ -3,11 +3,13 @@ ghost use Rattle.ov_lanes.specs.declared.lane.Lane.{Lane as SpecLane};
 ghost use Rattle.ov_desk.specs.Running.{GoesOn};
 
 use ov_core::Core;
-use ov_core::early::{Draws, Keeper};
 use ov_ends::Clock;
-use ov_lanes::{Lane, is_over, pass_where_due, settle_all, take_news, turn_at};
+use ov_keeper::Keeper;
+use ov_lanes::{Lane, is_over, settle_all, take_news, turn_at};
 use ov_order::{Bell, Order};
+use ov_requests::Draws;
 use std::alloc::Global;
+use std::rt::Clock as SystemClock;
 use std::sync::Wait;
 use std::sync::ledger::Ledger;
 use std::thread;
@@ -76,7 +78,8 @@ fn serve_note<R: Wait, K: Keeper + Drop, D: Draws + Drop>(
 )
     ensures { GoesOn core.old lanes.old.items core.new lanes.new.items }
 {
-    pass_where_due(core, alloc, moment);
+    // Where memory is refused for that, the transactions get their turn with the next note.
+    let _ = core.pass_where_due(alloc, moment);
     let place = match note {
         Some(serial) => place_of(lanes, serial),
         None => None,
@@ -90,8 +93,8 @@ fn serve_note<R: Wait, K: Keeper + Drop, D: Draws + Drop>(
 /// Serves the sessions of the lanes, an item for each note, until each reader's end was taken and behind each session's last
 /// frame the end mark was put.
 ///
-/// While a transaction that waits may time out the desk doesn't sleep: it looks for a note, asks the clock, and yields.
-pub(crate) fn run<R: Wait, K: Keeper + Drop, D: Draws + Drop, L: Ledger, C: Clock>(
+/// While a transaction that waits may time out the desk sleeps for a millisecond at most, and asks the clock after each sleep.
+pub(crate) fn run<R: Wait + SystemClock, K: Keeper + Drop, D: Draws + Drop, L: Ledger, C: Clock>(
     rt: &R,
     order: &Order<L>,
     bells: &Vec<Bell>,
@@ -103,11 +106,16 @@ pub(crate) fn run<R: Wait, K: Keeper + Drop, D: Draws + Drop, L: Ledger, C: Cloc
     ensures goes { GoesOn core.old lanes.old.items core.new lanes.new.items }
     ensures over { (i : ℕ) (d : SpecLane) → i < vec_len lanes.new → ((slice_index_or lanes.new.items i d).ended ≡ true) × ((slice_index_or lanes.new.items i d).marked ≡ true) }
 {
+    let mut is_busy = true;
     for _ in rt.forever() {
         if is_over(lanes) {
             return;
         }
-        let note = order.next_note(rt, core.due().is_none());
+        let note = match core.due() {
+            None => Some(order.wait_next(rt)),
+            Some(_) => order.wait_briefly(rt, is_busy),
+        };
+        is_busy = note.is_some();
         serve_note(rt, core, alloc, clock.now(), lanes, note);
         ring_bells(rt, core, lanes, bells);
     }

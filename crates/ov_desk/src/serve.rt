@@ -1,20 +1,17 @@
 ghost use Rattle.std.specs.Prelude.{◌≡◌, ◌+◌, ◌<◌, ◌≤◌, ◌^◌, ℕ, List, [], true, false, vec_len, IfOk, IfErr};
 ghost use Rattle.std.specs.VecDeque.{deque_len, deque_capacity};
 ghost use Rattle.rtrb.specs.Ring.{IsPair};
-ghost use Rattle.ov_workers.specs.Reading.{source_state};
-ghost use Rattle.ov_workers.specs.Writing.{sink_state};
+ghost use Rattle.ov_ends.specs.States.{source_of, sink_of};
 ghost use Rattle.ov_core.specs.Following.{CoreState};
 ghost use Rattle.ov_lanes.specs.Lanes.{Serves};
 ghost use Rattle.ov_lanes.specs.Places.{has_places};
-ghost use Rattle.ov_desk.specs.Pairs.{Pairwise};
+ghost use Rattle.ov_lanes.specs.Pairs.{Pairwise};
 ghost use Rattle.ov_desk.specs.Room.{IsRoom};
 ghost use Rattle.ov_desk.specs.Ends.{ServesAll};
 ghost use Rattle.ov_desk.specs.Serving.{ComesToEnd, RefusesLinks};
 
-use crate::desk::Desk;
-use crate::fault::ServeFault;
 use crate::finish::finish_all;
-use crate::link::{End, Link, Served, Unserved};
+use crate::link::{End, Served, Unserved};
 use crate::open::{begin, open_or_close};
 use crate::room::{Room, all_bells, room_for};
 use crate::run::run;
@@ -22,14 +19,16 @@ use crate::start::start_all;
 use crate::stop::stop_all;
 use crate::workers::Workers;
 use ov_core::Core;
-use ov_core::early::{Draws, Keeper};
 use ov_ends::{Clock, Sink, Source};
-use ov_lanes::{Lane, has_places};
+use ov_keeper::Keeper;
+use ov_lanes::{Desk, Lane, Link, ServeFault, has_places};
 use ov_order::{Bell, Order};
+use ov_requests::Draws;
 use ov_workers::Gate;
 use std::alloc::{AllocError, Global};
 use std::collections::VecDeque;
 use std::marker::Brand;
+use std::rt::Clock as SystemClock;
 use std::sync::Wait;
 use std::sync::ledger::{Blank, Book, Ledger, Share};
 use std::thread;
@@ -52,7 +51,7 @@ fn serve_to_end<R, K, D, L, S, W, C>(
     clock: &mut C,
 ) -> VecDeque<End<S, W>>
 where
-    R: Threads + Wait,
+    R: Threads + Wait + SystemClock,
     K: Keeper + Drop,
     D: Draws + Drop,
     L: Ledger,
@@ -63,7 +62,7 @@ where
     requires pairs { Pairwise (λ l w. IsPair w.reads.promise.ring.value l.inbound × IsPair l.outbound w.writes.promise.ring.value × (w.reads.promise.share.value.parts ≡ 1)) lanes.items workers.items }
     requires parts { all.old.parts + vec_len workers ≡ L.parts }
     ensures { (start : CoreState K D) (base : ℕ) → Serves start base core.old lanes.items
-        → ComesToEnd (λ s. source_state (S.bytes_read s) (S.remaining s) (S.at_end s) (S.faults s)) (λ k. sink_state (W.bytes_written k) (W.contents k) (W.is_flushed k) (W.faults k))
+        → ComesToEnd (source_of S.Source) (sink_of W.Sink)
         (λ w. w.reads.promise.reader.value) (λ w. w.writes.promise.writer.value) start base core.new workers.items result.items }
 {
     order.lock(rt).begin(true);
@@ -92,7 +91,7 @@ fn serve_in<'s, E, R, K, D, L, G, S, W, C>(
     clock: &mut C,
 ) -> Result<VecDeque<End<S, W>>, ServeFault>
 where
-    R: Threads + Wait + Sync,
+    R: Threads + Wait + SystemClock + Sync,
     K: Keeper + Drop,
     D: Draws + Drop,
     L: Ledger + Send + Sync + 's,
@@ -105,7 +104,7 @@ where
     requires serials { first + deque_len links.old < 2 ^ 64 }
     requires share { (deque_len links.old < all.old.parts) × (all.old.amount ≡ 0) × (all.old.parts ≡ L.parts) }
     requires places { has_places (deque_len links.old) core.old.state ≡ true }
-    ensures served { IfOk result (λ ends. ServesAll (λ s. source_state (S.bytes_read s) (S.remaining s) (S.at_end s) (S.faults s)) (λ k. sink_state (W.bytes_written k) (W.contents k) (W.is_flushed k) (W.faults k))
+    ensures served { IfOk result (λ ends. ServesAll (source_of S.Source) (sink_of W.Sink)
         core.old core.new links.old.items ends.items) }
     ensures refused { IfErr result (λ fault. RefusesLinks (deque_len links.old) core.old fault core.new) }
     ensures links { IfErr result (λ fault. links.new.items ≡ links.old.items) }
@@ -133,7 +132,7 @@ where
     ) else {
         return Err(ServeFault::Threads);
     };
-    if !open_or_close(core, alloc, desk_rings, &mut lanes) {
+    if !open_or_close(core, desk_rings, &mut lanes) {
         order.lock(rt).begin(false);
         order.wake();
         stop_all(rt, workers, links);
@@ -160,7 +159,7 @@ fn serve_moved<'s, E, R, K, D, L, G, S, W, C>(
     clock: &mut C,
 ) -> Result<Served<K, D, S, W>, Unserved<K, D, S, W>>
 where
-    R: Threads + Wait + Sync,
+    R: Threads + Wait + SystemClock + Sync,
     K: Keeper + Drop,
     D: Draws + Drop,
     L: Ledger + Send + Sync + 's,
@@ -173,7 +172,7 @@ where
     requires serials { first + deque_len links < 2 ^ 64 }
     requires share { (deque_len links < all.parts) × (all.amount ≡ 0) × (all.parts ≡ L.parts) }
     requires places { has_places (deque_len links) core.state ≡ true }
-    ensures served { IfOk result (λ s. ServesAll (λ s. source_state (S.bytes_read s) (S.remaining s) (S.at_end s) (S.faults s)) (λ k. sink_state (W.bytes_written k) (W.contents k) (W.is_flushed k) (W.faults k))
+    ensures served { IfOk result (λ s. ServesAll (source_of S.Source) (sink_of W.Sink)
         core s.desk.core links.items s.ends.items) }
     ensures refused { IfErr result (λ r. RefusesLinks (deque_len links) core r.fault r.desk.core × (r.links.items ≡ links.items)) }
 {
@@ -184,12 +183,12 @@ where
         rt, alloc, scope, order, bells, gate, &mut core, first, &mut links, room, &mut all, clock,
     ) {
         Ok(ends) => Ok(Served {
-            desk: Desk { core },
+            desk: Desk::new(core),
             ends,
         }),
         Err(fault) => Err(Unserved {
             fault,
-            desk: Desk { core },
+            desk: Desk::new(core),
             links,
         }),
     }
@@ -210,7 +209,7 @@ fn in_scope<'a, R, K, D, L, G, S, W, C>(
     clock: &mut C,
 ) -> Result<Served<K, D, S, W>, Unserved<K, D, S, W>>
 where
-    R: Threads + Wait + Sync,
+    R: Threads + Wait + SystemClock + Sync,
     K: Keeper + Drop,
     D: Draws + Drop,
     L: Ledger + Send + Sync,
@@ -223,7 +222,7 @@ where
     requires serials { first + deque_len links < 2 ^ 64 }
     requires share { (deque_len links < all.parts) × (all.amount ≡ 0) × (all.parts ≡ L.parts) }
     requires places { has_places (deque_len links) core.state ≡ true }
-    ensures served { IfOk result (λ s. ServesAll (λ s. source_state (S.bytes_read s) (S.remaining s) (S.at_end s) (S.faults s)) (λ k. sink_state (W.bytes_written k) (W.contents k) (W.is_flushed k) (W.faults k))
+    ensures served { IfOk result (λ s. ServesAll (source_of S.Source) (sink_of W.Sink)
         core s.desk.core links.items s.ends.items) }
     ensures refused { IfErr result (λ r. RefusesLinks (deque_len links) core r.fault r.desk.core × (r.links.items ≡ links.items)) }
 {
@@ -236,7 +235,7 @@ where
             requires serials { first + deque_len links < 2 ^ 64 }
             requires share { (deque_len links < all.parts) × (all.amount ≡ 0) × (all.parts ≡ L.parts) }
             requires places { has_places (deque_len links) core.state ≡ true }
-            ensures served { IfOk result (λ s. ServesAll (λ s. source_state (S.bytes_read s) (S.remaining s) (S.at_end s) (S.faults s)) (λ k. sink_state (W.bytes_written k) (W.contents k) (W.is_flushed k) (W.faults k))
+            ensures served { IfOk result (λ s. ServesAll (source_of S.Source) (sink_of W.Sink)
                 core s.desk.core links.items s.ends.items) }
             ensures refused { IfErr result (λ r. RefusesLinks (deque_len links) core r.fault r.desk.core × (r.links.items ≡ links.items)) }
         {
@@ -273,7 +272,7 @@ fn serve_as<R, K, D, L, G, S, W, C>(
     clock: &mut C,
 ) -> Result<Served<K, D, S, W>, Unserved<K, D, S, W>>
 where
-    R: Threads + Wait + Sync,
+    R: Threads + Wait + SystemClock + Sync,
     K: Keeper + Drop,
     D: Draws + Drop,
     L: Ledger + Send + Sync,
@@ -284,7 +283,7 @@ where
     requires name { blank.name ≡ L.name }
     requires parts { (blank.parts ≡ L.parts) × (blank.parts ≡ 65) }
     requires places { has_places (deque_len links) core.state ≡ true }
-    ensures served { IfOk result (λ s. ServesAll (λ s. source_state (S.bytes_read s) (S.remaining s) (S.at_end s) (S.faults s)) (λ k. sink_state (W.bytes_written k) (W.contents k) (W.is_flushed k) (W.faults k))
+    ensures served { IfOk result (λ s. ServesAll (source_of S.Source) (sink_of W.Sink)
         core s.desk.core links.items s.ends.items) }
     ensures refused { IfErr result (λ r. RefusesLinks (deque_len links) core r.fault r.desk.core × (r.links.items ≡ links.items)) }
 {
@@ -294,7 +293,7 @@ where
         begin(&core);
         return Err(Unserved {
             fault: ServeFault::Memory,
-            desk: Desk { core },
+            desk: Desk::new(core),
             links,
         });
     };
@@ -311,7 +310,7 @@ where
 /// Each reader and each writer works in a thread of its own, and the machine in this one: a request's place in the history is
 /// the moment when the desk takes it. Up to 64 messages of a session wait for the desk; then its reader waits. The clock tells
 /// the desk the moment of what it takes, in milliseconds. A transaction whose `wait` runs out is answered then, though nobody
-/// sends anything: while one may run out the desk does not sleep.
+/// sends anything: while one may run out the desk sleeps for a millisecond at most.
 ///
 /// A session that is closed before its input ends takes what its reader still brings, and drops it: the call returns once each
 /// input has ended.
@@ -328,22 +327,22 @@ pub fn serve_links<R, K, D, G, S, W, C>(
     clock: &mut C,
 ) -> Result<Served<K, D, S, W>, Unserved<K, D, S, W>>
 where
-    R: Threads + Wait + Sync,
+    R: Threads + Wait + SystemClock + Sync,
     K: Keeper + Drop,
     D: Draws + Drop,
     G: Gate + Sync,
     S: Source + Send + Drop,
     W: Sink + Send + Drop,
     C: Clock,
-    ensures served { IfOk result (λ s. ServesAll (λ s. source_state (S.bytes_read s) (S.remaining s) (S.at_end s) (S.faults s)) (λ k. sink_state (W.bytes_written k) (W.contents k) (W.is_flushed k) (W.faults k))
+    ensures served { IfOk result (λ s. ServesAll (source_of S.Source) (sink_of W.Sink)
         desk.core s.desk.core links.items s.ends.items) }
     ensures refused { IfErr result (λ r. RefusesLinks (deque_len links) desk.core r.fault r.desk.core × (r.links.items ≡ links.items)) }
 {
-    let Desk { core } = desk;
+    let core = desk.into_core();
     if !has_places(&core, links.len()) {
         return Err(Unserved {
             fault: ServeFault::TooMany,
-            desk: Desk { core },
+            desk: Desk::new(core),
             links,
         });
     }

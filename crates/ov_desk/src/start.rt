@@ -1,13 +1,13 @@
 ghost use Rattle.std.specs.Prelude.{◌≡◌, ◌<◌, ◌≤◌, ◌+◌, ◌^◌, [], vec_len, vec_capacity, IfOk, IfErr, IfSome, IfNone};
 ghost use Rattle.std.specs.VecDeque.{deque_len, deque_capacity};
 ghost use Rattle.rtrb.specs.Ring.{sent, received};
-ghost use Rattle.ov_desk.specs.Pairs.{Pairwise, Each};
+ghost use Rattle.ov_lanes.specs.Pairs.{Pairwise, Each};
 
-use crate::link::Link;
 use crate::room::WorkerRings;
 use crate::stop::{stop_all, unread, unwritten};
 use crate::workers::Workers;
 use ov_ends::{Sink, Source};
+use ov_lanes::Link;
 use ov_order::{Bell, Brought, Order, Sent};
 use ov_rpc::Received;
 use ov_workers::{Gate, ReadCause, ReadEnd, WriteEnd, start_reader, start_writer};

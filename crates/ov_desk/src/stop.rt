@@ -1,11 +1,11 @@
 ghost use Rattle.std.specs.Prelude.{◌≡◌, ◌+◌, ◌≤◌, ◌++◌, List, None, false, vec_len};
 ghost use Rattle.std.specs.VecDeque.{deque_len, deque_capacity};
-ghost use Rattle.ov_desk.specs.Pairs.{Pairwise};
-ghost use Rattle.ov_desk.specs.declared.link.Link.{Link as SpecLink};
+ghost use Rattle.ov_lanes.specs.Pairs.{Pairwise};
+ghost use Rattle.ov_lanes.specs.declared.link.Link.{Link as SpecLink};
 
-use crate::link::Link;
 use crate::workers::Workers;
 use ov_ends::{Sink, Source};
+use ov_lanes::Link;
 use ov_workers::{ReadEnd, WriteEnd};
 use std::collections::VecDeque;
 use std::sync::Wait;

@@ -7,14 +7,13 @@ ghost use Rattle.ov_specs.specs.operations.Errors.{DuplicateName};
 ghost use Rattle.ov_specs.specs.operations.Insert.{name_fault};
 ghost use Rattle.ov_specs.specs.operations.NamedUuids.{declares, place_declared, is_declared_before, inserts_before, id_at};
 ghost use Rattle.ov_specs.specs.operations.OpOutcome.{OpContext};
-ghost use Rattle.ov_specs.specs.operations.Draws.{is_insert};
 ghost use Rattle.ov_specs.specs.schema.Schema.{is_some_and};
 ghost use Rattle.ov_given.specs.Naming.{ArePlaces, first_of, place_at};
 ghost use Rattle.ov_projection.specs.Errors.{error_view};
 
 use ov_atoms::{Names, is_id};
 use ov_base::Trees;
-use ov_projection::{OpError, text_at};
+use ov_projection::{OpError, is_insert, text_at};
 use serde_json::Value;
 use std::alloc::{AllocError, Global};
 use std::collections::BTreeMap;
@@ -110,16 +109,6 @@ impl<'a> Names for NamedRows<'a> {
             Some(place) => self.id_at(place),
             None => None,
         }
-    }
-}
-
-/// Whether an operation is an object whose `op` is `insert`, whatever else it has (RFC 7047, 5.2.1).
-pub fn is_insert(operation: &Value) -> bool
-    ensures { result ≡ is_insert (view operation.now) }
-{
-    match text_at(operation, "op") {
-        Some(op) => op == "insert",
-        None => false,
     }
 }
 

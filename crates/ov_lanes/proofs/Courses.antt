@@ -1,6 +1,6 @@
 -- What entries, and frames that are handed out, make of a core and of its sessions.
-use Rattle.std.proofs.Common.{◌≡◌, ◌≢◌, inl, inr, ℕ, List, [], ◌∷◌, ◌++◌, refl, sym, ap, subst, ◌∙◌, append_assoc, append-nil, cond, eqb, map, Bool, true, false, Option, Some}
-use Rattle.std.specs.Prelude.{option_to_list}
+use Rattle.std.proofs.Common.{◌≡◌, ◌≢◌, inl, inr, ℕ, List, [], ◌∷◌, ◌++◌, refl, sym, ap, subst, ◌∙◌, append_assoc, append-nil, cond, eqb, map, Bool, true, false, Option, Some, Result, Ok, Err}
+use Rattle.std.specs.Prelude.{option_to_list, IfOk, IfErr}
 use Rattle.std.specs.Option.{option_or}
 use Rattle.std.proofs.lemmas.Bool.{cases_eq, eq-eqb, ne_eqb}
 use Rattle.ov_specs.specs.wire.Message.{Message}
@@ -16,10 +16,12 @@ use Rattle.ov_outbox.proofs.Answered.{frames_to-append}
 use Rattle.ov_history.specs.declared.event.Cause.{Cause}
 use Rattle.ov_history.specs.declared.event.Stepped.{Stepped as Reply}
 use Rattle.ov_history.specs.declared.event.Stepped.TheVariants as answer
+use Rattle.ov_history.specs.declared.event.StepFault.{StepFault}
 use Rattle.ov_history.specs.declared.event.StepFault.TheVariants as fault
 use Rattle.ov_history.specs.Entries.{cause_view, entry_view}
 use Rattle.ov_core.specs.Following.{CoreState, Follows, EntersEntry, and_handed, and_all_handed}
-use Rattle.ov_core.specs.Stepping.{StepIs, Closes, closing}
+use Rattle.ov_core.specs.Stepping.{StepIs, RefusesStep, Closes, closing}
+use Rattle.ov_core.specs.Passing.{is_due, TicksIf}
 use Rattle.ov_history.proofs.Histories.{keeps_on}
 use Rattle.ov_lanes.specs.Courses.{Spares}
 use Rattle.ov_lanes.specs.Since.{HandsOut, and_then_handed, Since, course_of, Goes}
@@ -28,7 +30,7 @@ use Rattle.ov_lanes.proofs.Own.{spares_same, spares_along, OwnHanded, OwnClosed,
 use Rattle.ov_lanes.proofs.Silence.{away_silent, close_spares, close_of_open, known_in_order}
 
 -- the same frames were given
-given_same : {K D : Type 0} (before : State) (history : List Entry) (given given' : ℕ → List (List ℕ)) (core : CoreState K D) → ((s : ℕ) → given s ≡ given' s) → Follows before history given core → Follows before history given' core
+pub given_same : {K D : Type 0} (before : State) (history : List Entry) (given given' : ℕ → List (List ℕ)) (core : CoreState K D) → ((s : ℕ) → given s ≡ given' s) → Follows before history given core → Follows before history given' core
 given_same before history given given' core same f = record {
   sent = f.sent;
   legal = f.legal;
@@ -324,13 +326,11 @@ module _ {K D : Type 0} {first a : CoreState K D} (p : Since first a) where
   passes_none : Passes p a
   passes_none = record { after = p; all = λ n. spares_same (course_of p n) }
 
-  pub passes : (draws : D → Uuid → D → Type 0) (at : ℕ) (b : CoreState K D) (r : Reply) → StepIs draws at Tick a r b → Passes p b
-  passes draws at b (answer.Opened session) e = absurd e.tells
-  passes draws at b answer.Done e = passes_by_entry b e.entry e.moves e.tells
-  passes draws at b answer.Closed e = absurd e.tells
-  passes draws at b (answer.Refused fault.TooMany) (same, why) = absurd why
-  passes draws at b (answer.Refused fault.Memory) (same, why) = subst (λ (k : CoreState K D). Passes p k) (sym same) passes_none
-  passes draws at b (answer.Refused fault.NotOpen) (same, why) = absurd why
+  pub passes : (draws : D → Uuid → D → Type 0) (at : ℕ) (b : CoreState K D) (r : Result Bool StepFault) → IfOk r (λ ticks. TicksIf draws ticks at a b)
+      → IfErr r (λ fault. (b ≡ a) × (is_due at a.state ≡ true) × RefusesStep Tick a.state fault) → Passes p b
+  passes draws at b (Ok true) ticks refused = passes_by_entry b ticks.entry ticks.moves ticks.tells
+  passes draws at b (Ok false) ticks refused = subst (λ (k : CoreState K D). Passes p k) (sym ticks) passes_none
+  passes draws at b (Err fault) ticks refused = subst (λ (k : CoreState K D). Passes p k) (sym refused.0) passes_none
 
 -- ---- what calls of the core say
 

@@ -5,3 +5,6 @@ pub mod Fitting
 pub mod Moving
 pub mod Single
 pub mod AllLanes
+pub mod Unopened
+pub mod Pairs
+pub mod Openings

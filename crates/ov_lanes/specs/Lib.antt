@@ -4,3 +4,5 @@ pub mod Fitting
 pub mod Lanes
 pub mod Moving
 pub mod Places
+pub mod Pairs
+pub mod Opening

@@ -1,12 +1,13 @@
-ghost use Rattle.std.specs.Prelude.{◌≡◌, ◌<◌, ℕ, List, true, vec_len, slice_index_or};
+ghost use Rattle.std.specs.Prelude.{◌≡◌, ◌<◌, ℕ, true, vec_len, slice_index_or};
 ghost use Rattle.ov_core.specs.Following.{CoreState};
 ghost use Rattle.ov_lanes.specs.Lanes.{Serves, SameLanes, SameFlags};
 ghost use Rattle.ov_lanes.specs.declared.lane.Lane.{Lane as SpecLane};
 
 use crate::lane::Lane;
 use crate::moves::{settle, turn_lane};
-use ov_core::early::{Draws, Keeper};
-use ov_core::{Core, Event};
+use ov_core::Core;
+use ov_keeper::Keeper;
+use ov_requests::Draws;
 use std::alloc::Global;
 
 /// Moves what waits for the session of the lane at a place.
@@ -82,23 +83,6 @@ fn take_at<K: Keeper + Drop, D: Draws + Drop>(
 {
     let lane = &mut lanes[at];
     turn_lane(core, alloc, moment, lane)
-}
-
-/// Lets time pass to the moment in milliseconds, where a transaction that waits is due by it. Where memory is refused for that,
-/// nothing is done.
-pub fn pass_where_due<K: Keeper + Drop, D: Draws + Drop>(
-    core: &mut Core<K, D>,
-    alloc: Global,
-    moment: u64,
-)
-    ensures { (start : CoreState K D) (base : ℕ) (lanes : List SpecLane) → Serves start base core.old lanes → Serves start base core.new lanes }
-{
-    match core.due() {
-        Some(due) if due <= moment => {
-            let _ = core.step(alloc, moment, Event::Tick);
-        }
-        _ => {}
-    }
 }
 
 /// Whether something was put into the ring of the lane at a place since this was asked last.

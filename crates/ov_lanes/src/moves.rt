@@ -16,9 +16,10 @@ ghost use Rattle.ov_core.specs.Stepping.{StepIs};
 ghost use Rattle.ov_history.specs.declared.event.Stepped.{Stepped as SpecStepped};
 
 use crate::lane::Lane;
-use ov_core::early::{Draws, Keeper};
 use ov_core::{Cause, Core, Event, Session};
+use ov_keeper::Keeper;
 use ov_order::{Brought, Sent};
+use ov_requests::Draws;
 use ov_rpc::Received;
 use ov_workers::ReadCause;
 use std::alloc::Global;

@@ -2,7 +2,8 @@ ghost use Rattle.std.specs.Prelude.{◌≡◌};
 ghost use Rattle.ov_lanes.specs.Places.{has_places};
 
 use ov_core::Core;
-use ov_core::early::{Draws, Keeper};
+use ov_keeper::Keeper;
+use ov_requests::Draws;
 
 /// Whether the machine has places and serials left for this many more sessions. It allocates nothing.
 pub fn has_places<K: Keeper + Drop, D: Draws + Drop>(core: &Core<K, D>, count: usize) -> bool

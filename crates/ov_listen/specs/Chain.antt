@@ -4,6 +4,7 @@ use Rattle.std.specs.Borrow.{Bor}
 use Rattle.std.specs.declared.alloc.Global.{Global}
 use Rattle.std.specs.declared.io.buffered.BufWriter.{BufWriter}
 use Rattle.std.specs.declared.net.tcp.TcpStream.{TcpStream}
+use Rattle.ov_ends.specs.States.{SourceState, source_state, SinkState, sink_state}
 use Rattle.ov_specs.specs.rows.Lines.{Contents}
 use Rattle.ov_specs.specs.schema.SchemaTypes.{Schema}
 use Rattle.ov_keeper.specs.declared.keeper.Keeper as keeper
@@ -11,15 +12,11 @@ use Rattle.ov_db.specs.declared.fault.RefusedOpen.{RefusedOpen}
 use Rattle.ov_db.specs.Committing.{MayFind}
 use Rattle.ov_core.specs.Following.{CoreState}
 use Rattle.ov_core.specs.Leaving.{LeavesItsOwn}
-use Rattle.ov_ends.specs.declared.ends.Source as source
-use Rattle.ov_ends.specs.declared.ends.Sink as sink
 use Rattle.ov_ends.specs.declared.watched.Watched.{Watched}
-use Rattle.ov_workers.specs.Reading.{SourceState, source_state}
-use Rattle.ov_workers.specs.Writing.{SinkState, sink_state}
-use Rattle.ov_desk.specs.declared.link.Link.{Link}
+use Rattle.ov_lanes.specs.declared.link.Link.{Link}
 use Rattle.ov_desk.specs.declared.link.End.{End}
-use Rattle.ov_desk.specs.declared.fault.ServeFault.{ServeFault}
-use Rattle.ov_desk.specs.Pairs.{Pairwise}
+use Rattle.ov_lanes.specs.declared.fault.ServeFault.{ServeFault}
+use Rattle.ov_lanes.specs.Pairs.{Pairwise}
 use Rattle.ov_desk.specs.Ends.{ServesAll}
 use Rattle.ov_desk.specs.Serving.{RefusesLinks}
 use Rattle.ov_lobby.specs.Serving.{ServesLobby}
@@ -30,14 +27,6 @@ use Rattle.ov_words.specs.declared.ending.Ending.TheVariants as ending
 use Rattle.ov_words.specs.Causes.{by_open}
 use Rattle.ov_session.specs.Chain.{OpensCore, RefusesCore}
 use Rattle.ov_listen.specs.Endings.{by_listening, by_serving}
-
--- what contracts see of a reader
-abbrev pub source_of : {S : Type 0} → source.Ghosts S → S → SourceState
-source_of g s = source_state (g.bytes_read s) (g.remaining s) (g.at_end s) (g.faults s)
-
--- and of a writer
-abbrev pub sink_of : {W : Type 0} → sink.Ghosts W → W → SinkState
-sink_of g w = sink_state (g.bytes_written w) (g.contents w) (g.is_flushed w) (g.faults w)
 
 module _ {K D S W : Type 0} (k : keeper.Ghosts K) (source : S → SourceState) (sink : W → SinkState) where
   -- Each link was served to its end. A crash then leaves the lines of the core's database, and an open finds it.

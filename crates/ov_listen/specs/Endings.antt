@@ -3,8 +3,8 @@ use Rattle.ov_words.specs.declared.ending.Ending.{Ending}
 use Rattle.ov_words.specs.declared.ending.Ending.TheVariants as ending
 use Rattle.ov_sockets.specs.declared.fault.ListenFault.{ListenFault}
 use Rattle.ov_sockets.specs.declared.fault.ListenFault.TheVariants as listening
-use Rattle.ov_desk.specs.declared.fault.ServeFault.{ServeFault}
-use Rattle.ov_desk.specs.declared.fault.ServeFault.TheVariants as serving
+use Rattle.ov_lanes.specs.declared.fault.ServeFault.{ServeFault}
+use Rattle.ov_lanes.specs.declared.fault.ServeFault.TheVariants as serving
 
 -- where there are no connections
 abbrev pub by_listening : ListenFault → Ending

@@ -3,8 +3,9 @@ ghost use Rattle.ov_listen.specs.Chain.{EndsChainAt};
 
 use crate::connections::serve_listening;
 use crate::system::System;
-use ov_core::early::{Draws, Keeper};
 use ov_core::{Core, Schema};
+use ov_keeper::Keeper;
+use ov_requests::Draws;
 use ov_session::Ended;
 use ov_words::ending_of_open;
 use std::alloc::Global;

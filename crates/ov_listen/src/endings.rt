@@ -3,7 +3,7 @@
 ghost use Rattle.std.specs.Prelude.{◌≡◌};
 ghost use Rattle.ov_listen.specs.Endings.{by_listening, by_serving};
 
-use ov_desk::ServeFault;
+use ov_lanes::ServeFault;
 use ov_sockets::ListenFault;
 use ov_words::Ending;
 

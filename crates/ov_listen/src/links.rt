@@ -1,16 +1,20 @@
 ghost use Rattle.std.specs.Prelude.{◌≡◌};
-ghost use Rattle.ov_listen.specs.Chain.{EndsLinks, sink_of, source_of};
+ghost use Rattle.ov_ends.specs.States.{source_of, sink_of};
+ghost use Rattle.ov_listen.specs.Chain.{EndsLinks};
 
 use crate::endings::ending_of_serving;
 use ov_core::Core;
-use ov_core::early::{Draws, Keeper};
-use ov_desk::{Desk, Link, Served, Unserved, serve_links};
+use ov_desk::{Served, Unserved, serve_links};
 use ov_ends::{Clock, Sink, Source};
+use ov_keeper::Keeper;
+use ov_lanes::{Desk, Link};
+use ov_requests::Draws;
 use ov_session::Ended;
 use ov_words::Ending;
 use ov_workers::FreeGate;
 use std::alloc::Global;
 use std::collections::VecDeque;
+use std::rt::Clock as SystemClock;
 use std::sync::Wait;
 use std::thread::Threads;
 
@@ -24,7 +28,7 @@ pub fn serve_sessions<R, K, D, S, W, C>(
     clock: &mut C,
 ) -> Ended<K>
 where
-    R: Threads + Wait + Sync,
+    R: Threads + Wait + SystemClock + Sync,
     K: Keeper + Drop,
     D: Draws + Drop,
     S: Source + Send + Drop,

@@ -3,10 +3,11 @@ ghost use Rattle.ov_listen.specs.Chain.{EndsWhoever};
 
 use crate::endings::ending_of_serving;
 use ov_core::Core;
-use ov_core::early::{Draws, Keeper};
-use ov_desk::{Desk, Link};
 use ov_ends::Watched;
+use ov_keeper::Keeper;
+use ov_lanes::{Desk, Link};
 use ov_lobby::{Listen, RefusedLobby, serve_lobby};
+use ov_requests::Draws;
 use ov_session::{Ended, MonotonicClock};
 use ov_words::Ending;
 use ov_workers::FreeGate;

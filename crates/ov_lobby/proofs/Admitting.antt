@@ -20,8 +20,8 @@ use Rattle.ov_lanes.specs.declared.lane.Lane.{Lane}
 use Rattle.ov_lanes.proofs.Courses.{EnteredTo, since_enters, shuts, hands_on}
 use Rattle.ov_lanes.proofs.Own.{spares_along}
 use Rattle.ov_lanes.proofs.Single.{lane_fits}
-use Rattle.ov_desk.specs.Opening.{IsUntouched, DropsSession}
-use Rattle.ov_desk.proofs.Openings.{asks_same, closed_same, others_spared, is_there, fits_new}
+use Rattle.ov_lanes.specs.Opening.{IsUntouched, DropsSession}
+use Rattle.ov_lanes.proofs.Openings.{asks_same, closed_same, others_spared, is_there, fits_new}
 use Rattle.ov_lobby.specs.Places.{IsAt, IsNewLane, IsUntold, ServesPlaces, GoesOn}
 use Rattle.ov_lobby.proofs.Coming.{coming_away, coming_unclosed, coming_unasked, coming_unserved}
 use Rattle.ov_lobby.proofs.Served.{open_before, untold_spared, untold_open, untold_closed, lane_spared, serves_taken}

@@ -14,7 +14,7 @@ use Rattle.ov_lanes.specs.Since.{Since}
 use Rattle.ov_lanes.specs.Lanes.{LaneFits}
 use Rattle.ov_lanes.specs.declared.lane.Lane.{Lane}
 use Rattle.ov_lanes.proofs.Silence.{known_in_order}
-use Rattle.ov_desk.proofs.Unopened.{ToCome, Unopened, unopened}
+use Rattle.ov_lanes.proofs.Unopened.{ToCome, Unopened, unopened}
 
 module _ (n : ℕ) (s : State) (e : Entry) (t : Stepped) (h : step s e ≡ Some t) (away : s.next ≤ n → is_open s n ≡ false) where
   -- after one entry it is not open, where it is still to come then

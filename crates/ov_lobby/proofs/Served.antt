@@ -19,7 +19,7 @@ use Rattle.ov_lanes.proofs.Courses.{Passes, goes_same}
 use Rattle.ov_lanes.proofs.Fitting.{fits_spared}
 use Rattle.ov_lanes.proofs.Own.{spares_same}
 use Rattle.ov_lanes.proofs.Single.{lane_fits}
-use Rattle.ov_desk.proofs.Openings.{opens_none}
+use Rattle.ov_lanes.proofs.Openings.{opens_none}
 use Rattle.ov_lobby.specs.Places.{IsAt, PlaceFits, MovesPlace, LooksAt, LooksAtPlace, TendsPlace, has_left, AreFree, AreOver, IsUntold, ServesPlaces, GoesOn}
 use Rattle.ov_lobby.specs.Serving.{ServesLobby}
 

@@ -1,7 +1,7 @@
 ghost use Rattle.std.specs.Prelude.{◌≡◌, ◌<◌, false, Some, None, IfErr, MatchBool};
 
 use crate::listen::Listen;
-use ov_desk::Link;
+use ov_lanes::Link;
 use ov_order::{Brought, Order};
 use rtrb::Producer;
 use std::sync::Wait;

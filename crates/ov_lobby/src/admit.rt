@@ -7,12 +7,12 @@ use crate::admitted::{AdmitFault, Admitted};
 use crate::parts::Parts;
 use crate::rings::{Rings, new_rings};
 use crate::start::start_workers;
-use ov_core::early::{Draws, Keeper};
 use ov_core::{Core, Session};
-use ov_desk::{Link, drop_session, open_session};
 use ov_ends::{Sink, Source};
-use ov_lanes::Lane;
+use ov_keeper::Keeper;
+use ov_lanes::{Lane, Link, drop_session};
 use ov_order::{Bell, Order};
+use ov_requests::Draws;
 use ov_workers::Gate;
 use std::alloc::Global;
 use std::sync::Wait;
@@ -108,7 +108,7 @@ where
     ensures goes { GoesOn core.old places.old.items core.new places.new.items }
     ensures answer { (bells parts : ℕ) → Admits bells parts core.old places.old.items result core.new places.new.items }
 {
-    let session = match open_session(core, alloc) {
+    let session = match core.open_session() {
         Ok(session) => session,
         Err(fault) => return Admitted::Refused(AdmitFault::Machine(fault)),
     };

@@ -1,5 +1,6 @@
-use ov_core::early::{Draws, Keeper};
-use ov_desk::{Desk, ServeFault};
+use ov_keeper::Keeper;
+use ov_lanes::{Desk, ServeFault};
+use ov_requests::Draws;
 
 /// What comes back where no connection is served. None was accepted.
 #[derive(Drop)]

@@ -1,4 +1,4 @@
-use ov_desk::Link;
+use ov_lanes::Link;
 
 /// Gives connections, one after another.
 pub trait Listen<S, W> {

@@ -1,13 +1,13 @@
-ghost use Rattle.std.specs.Prelude.{◌≡◌, ◌<◌, List, Option, true, false, None, vec_len, slice_index_or, IfSome};
+ghost use Rattle.std.specs.Prelude.{◌≡◌, ◌<◌, true, false, None, vec_len, slice_index_or, IfSome};
 ghost use Rattle.ov_core.specs.Following.{CoreState};
 ghost use Rattle.ov_lanes.specs.Since.{Since};
-ghost use Rattle.ov_lanes.specs.declared.lane.Lane.{Lane as SpecLane};
 ghost use Rattle.ov_lobby.specs.Places.{PlaceFits, MovesPlace, GoesOn, LooksAt, LooksAtPlace, TendsPlace, has_left, AreOver};
 
-use ov_core::early::{Draws, Keeper};
-use ov_core::{Core, Event};
+use ov_core::Core;
+use ov_keeper::Keeper;
 use ov_lanes::{Lane, settle, turn_lane};
 use ov_order::Bell;
+use ov_requests::Draws;
 use std::alloc::Global;
 use std::sync::Wait;
 
@@ -93,23 +93,6 @@ pub(crate) fn turn_at<K: Keeper + Drop, D: Draws + Drop>(
 {
     let place = &mut places[at];
     turn_place(core, alloc, moment, place)
-}
-
-/// Lets time pass to the moment in milliseconds, where a transaction that waits is due by it. Where memory is refused for that,
-/// nothing is done.
-pub(crate) fn pass_where_due<K: Keeper + Drop, D: Draws + Drop>(
-    core: &mut Core<K, D>,
-    alloc: Global,
-    moment: u64,
-)
-    ensures { (places : List (Option SpecLane)) → GoesOn core.old places core.new places }
-{
-    match core.due() {
-        Some(due) if due <= moment => {
-            let _ = core.step(alloc, moment, Event::Tick);
-        }
-        _ => {}
-    }
 }
 
 /// Rings the writer's bell, where something was put for it.

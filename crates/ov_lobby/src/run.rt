@@ -5,16 +5,17 @@ ghost use Rattle.ov_lobby.specs.Places.{GoesOn, AreOver};
 use crate::accept::{Accepted, LOBBY};
 use crate::admit::admit;
 use crate::parts::Parts;
-use crate::places::{are_over, pass_where_due, place_of, settle_places, tend_places, turn_at};
+use crate::places::{are_over, place_of, settle_places, tend_places, turn_at};
 use ov_core::Core;
-use ov_core::early::{Draws, Keeper};
-use ov_desk::Link;
 use ov_ends::{Clock, Sink, Source};
-use ov_lanes::Lane;
+use ov_keeper::Keeper;
+use ov_lanes::{Lane, Link};
 use ov_order::{Bell, Brought, Order};
+use ov_requests::Draws;
 use ov_workers::Gate;
 use rtrb::Consumer;
 use std::alloc::Global;
+use std::rt::Clock as SystemClock;
 use std::sync::Wait;
 use std::sync::ledger::Ledger;
 use std::thread;
@@ -156,7 +157,8 @@ where
     W: Sink + Send + Drop + 's,
     ensures { GoesOn core.old hall.old.places.items core.new hall.new.places.items }
 {
-    pass_where_due(core, alloc, moment);
+    // Where memory is refused for that, the transactions get their turn with the next note.
+    let _ = core.pass_where_due(alloc, moment);
     take_item(
         rt, alloc, scope, order, bells, gate, core, hall, note, moment,
     );
@@ -168,7 +170,7 @@ where
 /// Serves whoever is accepted, an item for each note, until nobody is accepted any more, each reader's end was taken and behind
 /// each session's last frame the end mark was put.
 ///
-/// While a transaction that waits may time out the desk doesn't sleep: it looks for a note, asks the clock, and yields.
+/// While a transaction that waits may time out the desk sleeps for a millisecond at most, and asks the clock after each sleep.
 pub(crate) fn run<'s, E, R, K, D, L, G, S, W, C>(
     rt: &'s R,
     alloc: Global,
@@ -181,7 +183,7 @@ pub(crate) fn run<'s, E, R, K, D, L, G, S, W, C>(
     clock: &mut C,
 )
 where
-    R: Threads + Wait + Sync,
+    R: Threads + Wait + SystemClock + Sync,
     K: Keeper + Drop,
     D: Draws + Drop,
     L: Ledger + Send + Sync + 's,
@@ -192,11 +194,16 @@ where
     ensures goes { GoesOn core.old hall.old.places.items core.new hall.new.places.items }
     ensures over { AreOver hall.new.places.items }
 {
+    let mut is_busy = true;
     for _ in rt.forever() {
         if hall.is_closed && are_over(&hall.places) {
             return;
         }
-        let note = order.next_note(rt, core.due().is_none());
+        let note = match core.due() {
+            None => Some(order.wait_next(rt)),
+            Some(_) => order.wait_briefly(rt, is_busy),
+        };
+        is_busy = note.is_some();
         let moment = clock.now();
         serve_note(
             rt, alloc, scope, order, bells, gate, core, hall, note, moment,

@@ -1,5 +1,5 @@
 ghost use Rattle.std.specs.Prelude.{◌≡◌, ◌⊎◌, ◌<◌, ◌-◌, ◌^◌, IfOk, IfErr, OnOk};
-ghost use Rattle.ov_desk.specs.declared.fault.ServeFault.TheVariants as serve_fault;
+ghost use Rattle.ov_lanes.specs.declared.fault.ServeFault.TheVariants as serve_fault;
 ghost use Rattle.ov_lobby.specs.Places.{AreFree, ServesPlaces};
 ghost use Rattle.ov_lobby.specs.Serving.{ServesLobby};
 
@@ -9,15 +9,16 @@ use crate::listen::Listen;
 use crate::parts::Parts;
 use crate::run::{Hall, run};
 use ov_core::Core;
-use ov_core::early::{Draws, Keeper};
-use ov_desk::{Desk, Link, ServeFault};
 use ov_ends::{Clock, Sink, Source};
-use ov_lanes::Lane;
+use ov_keeper::Keeper;
+use ov_lanes::{Desk, Lane, Link, ServeFault};
 use ov_order::{Bell, Order, inbound_ring};
+use ov_requests::Draws;
 use ov_workers::Gate;
 use rtrb::{Consumer, Producer};
 use std::alloc::{AllocError, Global};
 use std::marker::Brand;
+use std::rt::Clock as SystemClock;
 use std::sync::Wait;
 use std::sync::ledger::{Blank, Book, Ledger, Share};
 use std::thread;
@@ -55,7 +56,7 @@ fn serve_in<'s, E, R, K, D, L, G, S, W, T, C>(
     clock: &mut C,
 ) -> Result<(), T>
 where
-    R: Threads + Wait + Sync,
+    R: Threads + Wait + SystemClock + Sync,
     K: Keeper + Drop,
     D: Draws + Drop,
     L: Ledger + Send + Sync + 's,
@@ -92,7 +93,7 @@ fn serve_moved<'s, E, R, K, D, L, G, S, W, T, C>(
     clock: &mut C,
 ) -> Result<Desk<K, D>, RefusedLobby<K, D, T>>
 where
-    R: Threads + Wait + Sync,
+    R: Threads + Wait + SystemClock + Sync,
     K: Keeper + Drop,
     D: Draws + Drop,
     L: Ledger + Send + Sync + 's,
@@ -136,7 +137,7 @@ fn in_scope<'a, R, K, D, L, G, S, W, T, C>(
     clock: &mut C,
 ) -> Result<Desk<K, D>, RefusedLobby<K, D, T>>
 where
-    R: Threads + Wait + Sync,
+    R: Threads + Wait + SystemClock + Sync,
     K: Keeper + Drop,
     D: Draws + Drop,
     L: Ledger + Send + Sync,
@@ -230,7 +231,7 @@ fn serve_as<R, K, D, L, G, S, W, T, C>(
     clock: &mut C,
 ) -> Result<Desk<K, D>, RefusedLobby<K, D, T>>
 where
-    R: Threads + Wait + Sync,
+    R: Threads + Wait + SystemClock + Sync,
     K: Keeper + Drop,
     D: Draws + Drop,
     L: Ledger + Send + Sync,
@@ -286,7 +287,8 @@ where
 /// gives none it is dropped, though sessions may still be served: whoever connects from then on is to be refused by the system.
 ///
 /// Each reader and each writer works in a thread of its own, the listener in one more, and the machine in this one. The clock tells
-/// the desk the moment of what it takes, in milliseconds. While a transaction that waits may run out the desk does not sleep.
+/// the desk the moment of what it takes, in milliseconds. While a transaction that waits may run out the desk sleeps for a
+/// millisecond at most.
 ///
 /// Refused as `Memory` or as `Threads`, before anything is accepted. Then the desk and the listener come back as they were.
 pub fn serve_lobby<R, K, D, G, S, W, T, C>(
@@ -298,7 +300,7 @@ pub fn serve_lobby<R, K, D, G, S, W, T, C>(
     clock: &mut C,
 ) -> Result<Desk<K, D>, RefusedLobby<K, D, T>>
 where
-    R: Threads + Wait + Sync,
+    R: Threads + Wait + SystemClock + Sync,
     K: Keeper + Drop,
     D: Draws + Drop,
     G: Gate + Sync,

@@ -1,8 +1,8 @@
 ghost use Rattle.std.specs.Prelude.{◌≡◌, ◌<◌, [], IfSome};
 ghost use Rattle.rtrb.specs.Ring.{sent, received};
 
-use ov_desk::Link;
 use ov_ends::{Sink, Source};
+use ov_lanes::Link;
 use ov_order::{Bell, Brought, Order, Sent};
 use ov_rpc::Received;
 use ov_workers::{Gate, ReadCause, ReadEnd, WriteEnd, read_worker, write_worker};

@@ -25,7 +25,7 @@ impl Bell {
         }
     }
 
-    /// Rings it, and wakes who waits for it. Call it behind each push into the ring, the end mark's too.
+    /// Rings it, and wakes who waits for it. Call it after each push into the ring, the end mark's too.
     pub fn ring<R: Wait>(&self, rt: &R) {
         {
             let mut rung = self.rung.lock(rt);

@@ -6,9 +6,14 @@ use crate::book::OrderBook;
 use crate::rings::wait_push;
 use rtrb::Producer;
 use std::alloc::{AllocError, Global};
+use std::rt::Clock;
 use std::sync::ledger::{Book, Ledger, Share};
 use std::sync::{Condvar, Mutex, MutexGuard, Wait};
 use std::thread;
+use std::time::Duration;
+
+/// How long the desk sleeps where it may not wait for a note without an end.
+const NAP: Duration = Duration::from_millis(1);
 
 /// An order book that the desk and all workers share. Whoever changes the book under its lock wakes those that wait for a change.
 ///
@@ -37,7 +42,7 @@ impl<L: Ledger> Order<L> {
         self.book.lock(rt)
     }
 
-    /// Wakes all that wait for a change of the book. Call it behind each `note` and `begin`, and best without the lock.
+    /// Wakes all that wait for a change of the book. Call it after each `note` and `begin`, and best without the lock.
     pub fn wake(&self) {
         self.changed.notify_all();
     }
@@ -109,16 +114,20 @@ impl<L: Ledger> Order<L> {
         }
     }
 
-    /// Takes the oldest note. Where the caller may not sleep none is waited for: without a note it yields once.
-    pub fn next_note<R: Wait>(&self, rt: &R, may_sleep: bool) -> Option<u64> {
-        if may_sleep {
-            return Some(self.wait_next(rt));
+    /// Takes the oldest note, where one comes within a millisecond. It sleeps until then. A caller that `looks` looks for one a
+    /// while before it sleeps; after a call without a note that would only cost processor time.
+    pub fn wait_briefly<R: Wait + Clock>(&self, rt: &R, looks: bool) -> Option<u64> {
+        if looks {
+            let note = self.look_for_next(rt);
+            if note.is_some() {
+                return note;
+            }
         }
-        let note = self.lock(rt).next();
-        if note.is_none() {
-            thread::yield_now();
-        }
-        note
+        let guard = self.lock(rt);
+        let (mut book, _) = self
+            .changed
+            .wait_timeout_while(rt, guard, NAP, |book| book.is_empty());
+        book.next()
     }
 
     /// Whether the workers may begin, once that was said.

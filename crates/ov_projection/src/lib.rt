@@ -8,6 +8,6 @@ mod projection;
 mod shown;
 
 pub use fault::{OpError, OpFault};
-pub use member::text_at;
+pub use member::{is_insert, text_at};
 pub use projection::{chosen_columns, compared_columns, is_among, listed_columns};
 pub use shown::{ShownRow, shown_tree};

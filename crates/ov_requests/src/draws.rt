@@ -7,7 +7,7 @@ ghost use Rattle.ov_requests.specs.Drawing.{DrawsFrom};
 
 use ov_atoms::has_sixteen_bytes;
 use ov_base::Trees;
-use ov_given::is_insert;
+use ov_projection::is_insert;
 use serde_json::Value;
 use std::alloc::{AllocError, Global};
 use uuid::Uuid;

@@ -12,7 +12,8 @@ use Rattle.ov_core.specs.Following.{CoreState, Extends}
 use Rattle.ov_core.specs.Stepping.{IsEntered}
 use Rattle.ov_streams.specs.Feeding.{IsFed, EntersPiece}
 use Rattle.ov_streams.proofs.Entering.{enters_more}
-use Rattle.ov_serve.specs.Serving.{Piece, piece_events, is_due, PassesWhereDue}
+use Rattle.ov_core.specs.Passing.{is_due, TicksIf}
+use Rattle.ov_serve.specs.Serving.{Piece, piece_events, PassesWhereDue}
 use Rattle.ov_serve.specs.Progress.{StandsAfter, PassesDue, PassesIf}
 use Rattle.ov_serve.proofs.Closings.{not_closed, feeds_stand, tick_stands}
 use Rattle.ov_serve.proofs.Passings.{fed_passes, tick_passes, passes_on}
@@ -32,6 +33,11 @@ passed_due draws at old new due e = record {
   adds = record { state = refl; enters = e.moves.follows };
   is = record { event = e.tells; moment = e.moment; step = e.moves.stepped };
 }
+
+-- a Tick there, or nothing
+pub passed_if : {K D : Type 0} (draws : D → Uuid → D → Type 0) (ticks : Bool) (at : ℕ) (old new : CoreState K D) → ticks ≡ is_due at old.state → TicksIf draws ticks at old new → PassesIf ticks at old new
+passed_if draws true at old new due entered = passed_due draws at old new (sym due) entered
+passed_if draws false at old new due same = same
 
 -- the piece, with whether time passes behind it
 abbrev pub piece_of : ℕ → List ℕ → Bool → Piece

@@ -8,7 +8,8 @@ use Rattle.ov_specs.specs.machine.Machine.{State, Entry, Take, Close, Tick, Caus
 use Rattle.ov_specs.specs.machine.History.{run, then_sends}
 use Rattle.ov_specs.specs.machine.Streams.{IsEntryAt, Feeds}
 use Rattle.ov_specs.proofs.laws.Histories.{Leads}
-use Rattle.ov_serve.specs.Serving.{has_come, is_due, PassesWhereDue}
+use Rattle.ov_core.specs.Passing.{has_come, is_due}
+use Rattle.ov_serve.specs.Serving.{PassesWhereDue}
 
 -- time passes nowhere among the entries
 abbrev NonePasses : List Entry → Type 0
@@ -48,14 +49,6 @@ feeds_pass at s n (message ∷ messages) damaged (e ∷ entries) new (t, inr (en
 
 pub fed_passes : (at : ℕ) (s : State) (n : ℕ) (messages : List Message) (damaged : Bool) (entries : List Entry) (new : State) → Feeds at s n messages damaged entries new → PassesWhereDue s entries
 fed_passes at s n messages damaged entries new f = none_passes entries (feeds_pass at s n messages damaged entries new f) s
-
--- a moment that is not above has come
-pub has-come : (o : Option ℕ) (moment at : ℕ) → o ≡ Some moment → moment ≤ at → has_come at o ≡ true
-has-come o moment at is h = ap (has_come at) is ∙ le-leb moment at h
-
--- one that is above has not
-pub has-not_come : (o : Option ℕ) (moment at : ℕ) → o ≡ Some moment → at < moment → has_come at o ≡ false
-has-not_come o moment at is h = ap (has_come at) is ∙ lt-leb moment at h
 
 -- what has come by one moment has come by a later one
 come_later : (at later : ℕ) (o : Option ℕ) → at ≤ later → has_come at o ≡ true → has_come later o ≡ true

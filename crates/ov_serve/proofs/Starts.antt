@@ -38,10 +38,10 @@ fed_nothing cutter stands = record {
 
 -- a session that was opened
 pub serving_opened : {K D C : Type 0} (draws : D → Uuid → D → Type 0) (tells : C → ℕ → C → Type 0) (session : Session) (old new : CoreState K D) (from : IoState C) (cutter : CutterState) → StandsFor [] [] cutter
-    → IsEntered draws (max 0 old.state.moment) machine.Open old (answer.Opened session) new → ServedAndFed tells session.serial old from new from cutter
+    → IsEntered draws old.state.moment machine.Open old (answer.Opened session) new → ServedAndFed tells session.serial old from new from cutter
 serving_opened {K} {D} {C} draws tells session old new from cutter stands entered =
     let t : machine.Stepped = record { state = new.state; sent = entered.moves.sent } in
-    let enters : streams.IsEntryAt 0 old.state machine.Open entered.entry t = record { event = entered.tells.0; moment = entered.moment; step = entered.moves.stepped } in
+    let enters : streams.IsEntryAt 0 old.state machine.Open entered.entry t = record { event = entered.tells.0; moment = entered.moment ∙ sym (zero-max old.state.moment); step = entered.moves.stepped } in
     let expands : Expands 0 old.state no_streams Opens (entered.entry ∷ []) new.state no_streams = (entered.entry, t, refl, enters, refl, refl) in
     let turn = turn_open session.serial old.state entered.entry t entered.moves.stepped entered.tells.0 in
     let there : is_open new.state session.serial ≡ true = turn.open_is ∙ rw (eq-eqb old.state.next session.serial (sym entered.tells.1)) (or_truth (is_open old.state session.serial)) in

@@ -8,10 +8,11 @@ use Rattle.ov_specs.specs.machine.Streams.{Streams, no_streams, ExpandsTimed}
 use Rattle.ov_cut.specs.CutterState.{CutterState}
 use Rattle.ov_outbox.specs.Frames.{waiting_for}
 use Rattle.ov_core.specs.Following.{CoreState}
+use Rattle.ov_core.specs.Passing.{is_due}
 use Rattle.ov_streams.specs.Entering.{ExtendsByStep}
 use Rattle.ov_streams.specs.Feeding.{IsFed, EntersPiece}
 use Rattle.ov_ends.specs.Writing.{WritesOf}
-use Rattle.ov_serve.specs.Serving.{IoState, ExtendsHanding, Pieces, ArePieces, bytes_of, events_of, TellsMoments, is_due, PassesWhereDue}
+use Rattle.ov_serve.specs.Serving.{IoState, ExtendsHanding, Pieces, ArePieces, bytes_of, events_of, TellsMoments, PassesWhereDue}
 
 -- ---- what is written
 

@@ -12,6 +12,7 @@ use Rattle.ov_history.specs.declared.event.Cause.{Cause}
 use Rattle.ov_history.specs.declared.event.Cause.TheVariants.{InputEnded, ReadFault, WriteFault, Damaged, Overrun, Memory}
 use Rattle.ov_outbox.specs.Frames.{waiting_for}
 use Rattle.ov_core.specs.Following.{CoreState, Follows, and_all_handed}
+use Rattle.ov_core.specs.Passing.{is_due}
 use Rattle.ov_history.specs.History.{KeepsNewest}
 use Rattle.ov_ends.specs.Ends.{one_more}
 use Rattle.ov_ends.specs.Writing.{WritesOf}
@@ -73,15 +74,6 @@ TellsMoments tells old [] new = new ≡ old
 TellsMoments {C} tells old (p ∷ pieces) new = (mid : C) × tells old p.moment mid × TellsMoments tells mid pieces new
 
 -- ---- when time passes
-
--- this moment, if there is one, has come by that one
-abbrev pub has_come : ℕ → Option ℕ → Bool
-has_come at None = false
-has_come at (Some moment) = nat_le moment at
-
--- a transaction that waits is due by the moment
-abbrev pub is_due : ℕ → State → Bool
-is_due at s = has_come at (due s)
 
 -- From this state on, time passes among the entries only where a transaction is due by then.
 abbrev pub PassesWhereDue : State → List machine.Entry → Type 0

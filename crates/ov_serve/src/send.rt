@@ -3,9 +3,10 @@ ghost use Rattle.ov_ends.specs.Ends.{GivesWritten};
 ghost use Rattle.ov_ends.specs.Writing.{CountsFailures};
 ghost use Rattle.ov_serve.specs.Progress.{Sends};
 
-use ov_core::early::{Draws, Keeper};
 use ov_core::{Core, Session};
 use ov_ends::{Sink, write_frame};
+use ov_keeper::Keeper;
+use ov_requests::Draws;
 
 /// Writes all that waits for the session, oldest first, and hands it on. False where the writer failed.
 pub(crate) fn write_waiting<K: Keeper + Drop, D: Draws + Drop, W: Sink>(

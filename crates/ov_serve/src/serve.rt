@@ -1,19 +1,20 @@
 ghost use Rattle.std.specs.Prelude.{◌≡◌, ◌⊎◌, ◌≤◌, ◌++◌, ℕ, List, [], ◌∷◌, map, length, true, is_ok, IfOk, IfErr};
 ghost use Rattle.std.specs.Io.KnownBytes.{IsAtEnd};
-ghost use Rattle.ov_specs.specs.machine.Machine.{is_open, Entry as SpecEntry, Open as SpecOpen, Tick as SpecTick};
+ghost use Rattle.ov_specs.specs.machine.Machine.{is_open, Entry as SpecEntry, Open as SpecOpen};
 ghost use Rattle.ov_history.specs.Entries.{cause_view, event_view, entry_view};
 ghost use Rattle.ov_core.specs.Following.{CoreState};
 ghost use Rattle.ov_core.specs.Stepping.{RefusesStep};
 ghost use Rattle.ov_streams.specs.Feeding.{IsFed};
 ghost use Rattle.ov_ends.specs.Ends.{KeepsInput, GivesWritten};
-ghost use Rattle.ov_serve.specs.Serving.{IoState, io_state, Served, is_written, CauseMatchesCounts, is_due, most_piece_bytes};
-ghost use Rattle.ov_serve.specs.Progress.{stream_cause, PassesIf, ServedAndFed, ServesPiece};
+ghost use Rattle.ov_serve.specs.Serving.{IoState, io_state, Served, is_written, CauseMatchesCounts, most_piece_bytes};
+ghost use Rattle.ov_serve.specs.Progress.{stream_cause, ServedAndFed, ServesPiece};
 
 use crate::send::write_waiting;
-use ov_core::early::{Draws, Keeper};
-use ov_core::{Cause, Core, Entry, Event, Session, StepFault, Stepped};
+use ov_core::{Cause, Core, Entry, Event, Session, StepFault};
 use ov_cut::Cutter;
 use ov_ends::{Clock, Sink, Source};
+use ov_keeper::Keeper;
+use ov_requests::Draws;
 use ov_rpc::MessageText;
 use ov_streams::feed_session;
 use std::alloc::Global;
@@ -29,7 +30,7 @@ const PIECE_BYTES: usize = 4096;
 ///
 /// It ends with the cause for which the history closed the session, and then all that was sent to it is written and flushed. With
 /// `WriteFault`, where the writer failed, a beginning of that is written, and the stream may have closed the session before.
-/// Where an `Open` is refused nothing is read or written, and the fault is that of `Core::step`.
+/// Where no session can be opened nothing is read or written, and the fault is that of `Core::open_session`.
 pub fn serve_one<R: Wait, K: Keeper + Drop, D: Draws + Drop, S: Source, W: Sink, C: Clock>(
     rt: &R,
     core: &mut Core<K, D>,
@@ -49,11 +50,7 @@ pub fn serve_one<R: Wait, K: Keeper + Drop, D: Draws + Drop, S: Source, W: Sink,
     ensures refused { IfErr result (λ fault. (core.new ≡ core.old) × RefusesStep SpecOpen core.old.state fault) }
     ensures untouched { IfErr result (λ fault. (reader.new ≡ reader.old) × (writer.new ≡ writer.old) × (clock.new ≡ clock.old)) }
 {
-    let session = match core.step(alloc, 0, Event::Open) {
-        Stepped::Opened(session) => session,
-        Stepped::Refused(fault) => return Err(fault),
-        Stepped::Done | Stepped::Closed => unreachable!(),
-    };
+    let session = core.open_session()?;
     let mut cutter = Cutter::new(alloc);
     Ok(serve_session(rt, core, alloc, session, &mut cutter, reader, writer, clock))
 }
@@ -123,29 +120,9 @@ fn serve_piece<K: Keeper + Drop, D: Draws + Drop, C: Clock>(
     let at = clock.now();
     feed_session(core, alloc, at, session, cutter, piece);
     if core.is_open(session) {
-        pass_where_due(core, alloc, at)?;
+        core.pass_where_due(alloc, at)?;
     }
     Ok(())
-}
-
-/// Lets time pass to the moment, where a transaction that waits is due by it, and tells whether it did. A refusal changes nothing.
-fn pass_where_due<K: Keeper + Drop, D: Draws + Drop>(
-    core: &mut Core<K, D>,
-    alloc: Global,
-    at: u64,
-) -> Result<bool, StepFault>
-    ensures passes { IfOk result (λ ticks. PassesIf ticks at core.old core.new) }
-    ensures due { IfOk result (λ ticks. ticks ≡ is_due at core.old.state) }
-    ensures refused { IfErr result (λ fault. (core.new ≡ core.old) × (is_due at core.old.state ≡ true) × RefusesStep SpecTick core.old.state fault) }
-{
-    match core.due() {
-        Some(due) if due <= at => match core.step(alloc, at, Event::Tick) {
-            Stepped::Done => Ok(true),
-            Stepped::Refused(fault) => Err(fault),
-            Stepped::Opened(_) | Stepped::Closed => unreachable!(),
-        },
-        _ => Ok(false),
-    }
 }
 
 /// Why the session that was closed last was closed, where its stream closed it: by damage, or when out of memory.

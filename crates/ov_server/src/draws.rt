@@ -1,4 +1,4 @@
-use ov_core::early::Draws;
+use ov_requests::Draws;
 use rand::make_rng;
 use rand::rngs::StdRng;
 use rand_core::Rng;

@@ -18,42 +18,20 @@ use Rattle.ov_core.specs.Following.{CoreState, Follows, none_given}
 use Rattle.ov_core.specs.Stepping.{RefusesStep}
 use Rattle.ov_core.specs.Leaving.{LeavesItsOwn}
 use Rattle.ov_ends.specs.Ends.{KeepsInput, GivesWritten}
+use Rattle.ov_ends.specs.States.{SourceState, source_state, SinkState, sink_state}
 use Rattle.ov_serve.specs.Serving.{IoState, io_state, Served, is_written, CauseMatchesCounts}
 use Rattle.ov_words.specs.declared.ending.Ending.{Ending}
 use Rattle.ov_words.specs.declared.ending.Ending.TheVariants as ending
 use Rattle.ov_words.specs.Causes.{by_open, by_step, by_cause}
 
--- What a reader tells: the bytes that were read, those that remain where they are known, whether it met its end, and its failures.
-pub record ReaderState : Type 0 where
-  pub read : List ℕ
-  pub remaining : Option (List ℕ)
-  pub at_end : Bool
-  pub failed : ℕ
-
--- What a writer tells: the bytes that were written, those that it was given where they are known, whether all is handed on, and
--- its failures.
-pub record WriterState : Type 0 where
-  pub written : List ℕ
-  pub contents : Option (List ℕ)
-  pub is_flushed : Bool
-  pub failed : ℕ
-
 -- a reader, a writer and a clock
 pub record Ends (C : Type 0) : Type 0 where
-  pub reader : ReaderState
-  pub writer : WriterState
+  pub reader : SourceState
+  pub writer : SinkState
   pub clock : C
 
--- these bytes, this end and these failures
-abbrev pub reader_state : List ℕ → Option (List ℕ) → Bool → ℕ → ReaderState
-reader_state read remaining at_end failed = record { read = read; remaining = remaining; at_end = at_end; failed = failed }
-
--- these bytes, this flush and these failures
-abbrev pub writer_state : List ℕ → Option (List ℕ) → Bool → ℕ → WriterState
-writer_state written contents is_flushed failed = record { written = written; contents = contents; is_flushed = is_flushed; failed = failed }
-
 -- these three
-abbrev pub ends : {C : Type 0} → ReaderState → WriterState → C → Ends C
+abbrev pub ends : {C : Type 0} → SourceState → SinkState → C → Ends C
 ends reader writer clock = record { reader = reader; writer = writer; clock = clock }
 
 -- the bytes and the clock of these
@@ -81,7 +59,7 @@ module _ {K D C : Type 0} (k : Ghosts K) (tells : C → ℕ → C → Type 0) wh
   pub record ServesCore (cause : Cause) (old : CoreState K D) (from : Ends C) (new : CoreState K D) (to : Ends C) : Type 0 where
     pub served : Served tells old.state.next old (io_of from) cause new (io_of to)
     pub flushed : is_written cause ≡ true → to.writer.is_flushed ≡ true
-    pub counts : CauseMatchesCounts cause to.reader.at_end from.reader.failed to.reader.failed from.writer.failed to.writer.failed
+    pub counts : CauseMatchesCounts cause to.reader.at_end from.reader.faults to.reader.faults from.writer.faults to.writer.faults
     pub input : KeepsInput from.reader.read from.reader.remaining to.reader.read to.reader.remaining
     pub all : cause ≡ InputEnded → IsAtEnd to.reader.remaining
     pub given : GivesWritten from.writer.written from.writer.contents to.writer.written to.writer.contents
@@ -108,5 +86,5 @@ module _ {K D C : Type 0} (k : Ghosts K) (tells : C → ℕ → C → Type 0) wh
   abbrev pub EndsOver : K → Schema → D → (remaining contents : Option (List ℕ)) → Ending → K → Type 0
   EndsOver keeper schema draws remaining contents told left =
       ((told ≡ ending.Memory) × (left ≡ keeper))
-      ⊎ ((from to : Ends C) × (from.reader ≡ reader_state [] remaining false 0) × (from.writer ≡ writer_state [] contents false 0)
+      ⊎ ((from to : Ends C) × (from.reader ≡ source_state [] remaining false 0) × (from.writer ≡ sink_state [] contents false 0)
       × EndsChain keeper schema draws from told left to)

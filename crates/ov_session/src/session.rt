@@ -1,10 +1,12 @@
 ghost use Rattle.std.specs.Prelude.{◌≢◌};
-ghost use Rattle.ov_session.specs.Chain.{EndsChain, EndsOver, EndsSession, ends, reader_state, writer_state};
+ghost use Rattle.ov_ends.specs.States.{source_of, sink_of};
+ghost use Rattle.ov_session.specs.Chain.{EndsChain, EndsOver, EndsSession, ends};
 
 use crate::clock::MonotonicClock;
-use ov_core::early::{Draws, Keeper};
 use ov_core::{Core, Schema};
 use ov_ends::{Clock, Sink, Source, Watched};
+use ov_keeper::Keeper;
+use ov_requests::Draws;
 use ov_serve::serve_one;
 use ov_words::{Ending, ending_of_cause, ending_of_open, ending_of_step};
 use std::alloc::Global;
@@ -68,11 +70,9 @@ pub fn serve<R: Wait, K: Keeper + Drop, D: Draws + Drop, S: Source, W: Sink, C: 
     clock: &mut C,
 ) -> Ended<K>
     ensures chain { EndsChain K.Keeper C.tells keeper schema draws
-        (ends (reader_state (S.bytes_read reader.old) (S.remaining reader.old) (S.at_end reader.old) (S.faults reader.old))
-        (writer_state (W.bytes_written writer.old) (W.contents writer.old) (W.is_flushed writer.old) (W.faults writer.old)) clock.old)
+        (ends (source_of S.Source reader.old) (sink_of W.Sink writer.old) clock.old)
         result.ending result.keeper
-        (ends (reader_state (S.bytes_read reader.new) (S.remaining reader.new) (S.at_end reader.new) (S.faults reader.new))
-        (writer_state (W.bytes_written writer.new) (W.contents writer.new) (W.is_flushed writer.new) (W.faults writer.new)) clock.new) }
+        (ends (source_of S.Source reader.new) (sink_of W.Sink writer.new) clock.new) }
     ensures kind { (result.ending ≢ Ending.Arguments) × (result.ending ≢ Ending.Schema) }
 {
     match Core::open(alloc, keeper, schema, draws) {
@@ -99,11 +99,9 @@ fn serve_core<R: Wait, K: Keeper + Drop, D: Draws + Drop, S: Source, W: Sink, C:
     clock: &mut C,
 ) -> Ending
     ensures told { EndsSession K.Keeper C.tells core.old
-        (ends (reader_state (S.bytes_read reader.old) (S.remaining reader.old) (S.at_end reader.old) (S.faults reader.old))
-        (writer_state (W.bytes_written writer.old) (W.contents writer.old) (W.is_flushed writer.old) (W.faults writer.old)) clock.old)
+        (ends (source_of S.Source reader.old) (sink_of W.Sink writer.old) clock.old)
         result core.new
-        (ends (reader_state (S.bytes_read reader.new) (S.remaining reader.new) (S.at_end reader.new) (S.faults reader.new))
-        (writer_state (W.bytes_written writer.new) (W.contents writer.new) (W.is_flushed writer.new) (W.faults writer.new)) clock.new) }
+        (ends (source_of S.Source reader.new) (sink_of W.Sink writer.new) clock.new) }
     ensures kind { (result ≢ Ending.Arguments) × (result ≢ Ending.Schema) }
 {
     let served = serve_one(rt, core, alloc, reader, writer, clock);

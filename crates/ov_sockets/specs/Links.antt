@@ -5,7 +5,7 @@ use Rattle.std.specs.Io.Buffered.{writer_buffer, writer_inner}
 use Rattle.std.specs.declared.io.buffered.BufWriter.{BufWriter}
 use Rattle.std.specs.declared.net.tcp.TcpStream.{TcpStream}
 use Rattle.ov_ends.specs.declared.watched.Watched.{Watched}
-use Rattle.ov_desk.specs.declared.link.Link.{Link}
+use Rattle.ov_lanes.specs.declared.link.Link.{Link}
 
 -- it was asked for nothing yet
 abbrev pub IsUnused : {T : Type 0} → Watched T → Type 0

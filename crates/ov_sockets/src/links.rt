@@ -1,10 +1,10 @@
 ghost use Rattle.std.specs.Prelude.{◌≡◌, IfOk, IfErr};
-ghost use Rattle.ov_desk.specs.Pairs.{Pairwise};
+ghost use Rattle.ov_lanes.specs.Pairs.{Pairwise};
 ghost use Rattle.ov_sockets.specs.Links.{IsLinkOf};
 
 use crate::fault::ListenFault;
-use ov_desk::Link;
 use ov_ends::Watched;
+use ov_lanes::Link;
 use std::alloc::Global;
 use std::collections::VecDeque;
 use std::io::BufWriter;

@@ -1,6 +1,7 @@
 -- Which lists of stream events suit after one event more.
 use Rattle.std.proofs.Common.{◌≡◌, ◌≢◌, ℕ, ◌+◌, ◌<◌, List, [], ◌∷◌, ◌++◌, refl, sym, ap, subst, ◌∙◌, cond, eqb, leb, max, Bool, true, false, Option, Some, None, zero, suc, inl, inr, length, arith, ◌-◌, append_assoc, take, get_or}
 use Rattle.std.specs.Prelude.{◌||◌, MatchBool, IsSomeAnd, filter, slice_get}
+use Rattle.std.proofs.Math.Nat.{zero-max}
 use Rattle.std.proofs.lemmas.List.{append-nil, take_more, map-append, get_or_default}
 use Rattle.std.proofs.lemmas.Option.{slice_get_cases}
 use Rattle.std.proofs.lemmas.Bool.{false≢true, cases_Bool, cases_eq, le-leb, lt-leb, eq-eqb, eqb-true, ne_eqb, MatchBool-at_true, MatchBool-at_false}
@@ -171,12 +172,12 @@ module _ {K D : Type 0} (cutter : CutterState) (old : StreamsState K D) (cutters
   pub not_opened : RunsEvents [] old (over old.core cutters)
   not_opened = with_cutters old cutters (λ schema database list h given s m there. next_has schema database list h given s m (λ _. there))
 
-  pub opened : (draws : D → Uuid → D → Type 0) (session : Session) (core : CoreState K D) → IsEntered draws (max 0 old.core.state.moment) machine.Open old.core (answer.Opened session) core → RunsEvents (streams.Opens ∷ []) old (over core cutters)
+  pub opened : (draws : D → Uuid → D → Type 0) (session : Session) (core : CoreState K D) → IsEntered draws old.core.state.moment machine.Open old.core (answer.Opened session) core → RunsEvents (streams.Opens ∷ []) old (over core cutters)
   opened draws session core e schema database list h given s =
       let t : Stepped = record { state = core.state; sent = e.moves.sent } in (
         e.entry ∷ [],
         suits_more schema database list h given old (over core cutters) s streams.Opens (e.entry ∷ []) s.fed e.moves.follows
-            (e.entry, t, refl, record { event = e.tells.0; moment = e.moment; step = e.moves.stepped }, refl, refl)
+            (e.entry, t, refl, record { event = e.tells.0; moment = e.moment ∙ sym (zero-max old.core.state.moment); step = e.moves.stepped }, refl, refl)
             (λ n there.
             let turned : (is_open old.core.state n || eqb old.core.state.next n) ≡ true = sym (turn_open n old.core.state e.entry t e.moves.stepped e.tells.0).open_is ∙ there in
             next_has schema database list h given s n (λ ne. only (is_open old.core.state n) (eqb old.core.state.next n) (ne_eqb old.core.state.next n (λ is. ne (sym is))) turned)),

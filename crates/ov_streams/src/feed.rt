@@ -5,9 +5,10 @@ ghost use Rattle.ov_streams.specs.Feeding.{IsFed, EntersPiece};
 ghost use Rattle.ov_streams.specs.Entering.{EntersTexts, EntersText, ClosesByEntry, cause_of_fault};
 
 use ov_base::Bytes;
-use ov_core::early::{Draws, Keeper};
 use ov_core::{Cause, Core, Event, Session};
 use ov_cut::{CutFault, Cutter, Fed};
+use ov_keeper::Keeper;
+use ov_requests::Draws;
 use ov_rpc::{Received, RpcFault};
 use std::alloc::Global;
 

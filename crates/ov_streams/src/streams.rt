@@ -12,9 +12,10 @@ ghost use Rattle.ov_streams.specs.Running.{FollowsEvents, RunsEvents, RefusesEve
 use crate::event::{Ran, StreamEvent};
 use crate::feed::feed_session;
 use ov_base::Bytes;
-use ov_core::early::{Draws, Keeper};
-use ov_core::{Cause, Core, Event, Session, StepFault, Stepped};
+use ov_core::{Cause, Core, Session, StepFault};
 use ov_cut::Cutter;
+use ov_keeper::Keeper;
+use ov_requests::Draws;
 use std::alloc::{AllocError, Global};
 use std::collections::BTreeMap;
 use std::marker::Model;
@@ -148,11 +149,8 @@ impl<K: Keeper + Drop, D: Draws + Drop> Streams<K, D> {
         let Ok(_) = self.cutters.insert(serial, Cutter::new(alloc)) else {
             return Err(StepFault::Memory);
         };
-        match self.core.step(alloc, 0, Event::Open) {
-            Stepped::Opened(_) => Ok(()),
-            Stepped::Refused(fault) => Err(fault),
-            Stepped::Done | Stepped::Closed => unreachable!(),
-        }
+        self.core.open_session()?;
+        Ok(())
     }
 
     /// Lets time pass.
@@ -161,11 +159,8 @@ impl<K: Keeper + Drop, D: Draws + Drop> Streams<K, D> {
             (λ _. RunsEvents (stream_event_view (StreamEvent.Tick moment) ∷ []) self.old self.new)
             (λ fault. RunsEvents [] self.old self.new × RefusesStep SpecTick self.new.core.state fault) }
     {
-        match self.core.step(alloc, moment, Event::Tick) {
-            Stepped::Done => Ok(()),
-            Stepped::Refused(fault) => Err(fault),
-            Stepped::Opened(_) | Stepped::Closed => unreachable!(),
-        }
+        self.core.tick(alloc, moment)?;
+        Ok(())
     }
 
     /// Closes the session, whose bytes ended, if it is open.

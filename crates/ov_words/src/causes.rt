@@ -5,8 +5,9 @@ ghost use Rattle.ov_words.specs.Causes.{by_words, by_schema, by_keeping, by_open
 
 use crate::ending::Ending;
 use crate::fault::WordFault;
-use ov_core::early::{KeepFault, OpenFault};
-use ov_core::{Cause, StepFault};
+use ov_db::OpenFault;
+use ov_history::{Cause, StepFault};
+use ov_keeper::KeepFault;
 use ov_schema_text::SchemaFileFault;
 
 /// Where the arguments give no settings.

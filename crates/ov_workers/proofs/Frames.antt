@@ -2,13 +2,14 @@
 use Rattle.std.proofs.Common.{◌≡◌, ℕ, List, [], ◌∷◌, ◌++◌, map, Bool, true, false, refl, sym, ap, ◌∙◌, append_assoc, append-nil}
 use Rattle.std.proofs.lemmas.List.{map-append}
 use Rattle.std.proofs.lemmas.Grind.{flat_map-append}
+use Rattle.ov_ends.specs.States.{SinkState}
 use Rattle.ov_specs.specs.machine.History.{joined}
 use Rattle.ov_ends.specs.Ends.{one_more, GivesWritten}
 use Rattle.ov_ends.specs.Writing.{WritesOf}
 use Rattle.ov_ends.proofs.Tellings.{given-more, given-same}
 use Rattle.ov_order.specs.declared.items.Sent.{Sent}
 use Rattle.ov_order.specs.declared.items.Sent.TheVariants.{Frame, End}
-use Rattle.ov_workers.specs.Writing.{SinkState, Writes}
+use Rattle.ov_workers.specs.Writing.{Writes}
 
 joined-append : (xs ys : List (List ℕ)) → joined (xs ++ ys) ≡ joined xs ++ joined ys
 joined-append xs ys = flat_map-append (λ (bytes : List ℕ). bytes) xs ys

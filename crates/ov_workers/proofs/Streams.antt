@@ -1,12 +1,13 @@
 -- A stream that was read, one piece after another.
 use Rattle.std.proofs.Common.{◌≡◌, ℕ, ◌<◌, List, [], ◌++◌, take, Some, refl, sym, ap, ◌∙◌, append_assoc, append-nil, arith}
 use Rattle.std.specs.Io.KnownBytes.{IsAtEnd}
+use Rattle.ov_ends.specs.States.{SourceState}
 use Rattle.ov_cut.specs.CutterState.{CutterState, StandsFor}
 use Rattle.ov_ends.specs.Ends.{one_more, met_end, KeepsInput}
 use Rattle.ov_ends.proofs.Tellings.{input-more, input-same}
 use Rattle.ov_workers.specs.declared.cause.ReadCause.{ReadCause}
 use Rattle.ov_workers.specs.declared.cause.ReadCause.TheVariants.{InputEnded, ReadFault, Damaged, Memory}
-use Rattle.ov_workers.specs.Reading.{SourceState, Item}
+use Rattle.ov_workers.specs.Reading.{Item}
 use Rattle.ov_workers.specs.Bringing.{IsBrought, BroughtSoFar, ReadsToEnd}
 use Rattle.ov_workers.proofs.Texts.{brought_none, at_input_end, at_read_fault}
 

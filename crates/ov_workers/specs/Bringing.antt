@@ -1,5 +1,6 @@
 -- What was brought of a stream so far; for private clauses. What names no source is our own.
 use Rattle.std.specs.Prelude.{◌≡◌, ℕ, ◌++◌, List, [], ◌∷◌, map, Option, Some, None}
+use Rattle.ov_ends.specs.States.{SourceState}
 use Rattle.ov_specs.specs.wire.Message as wire
 use Rattle.ov_specs.specs.wire.Message.{asked, message_in}
 use Rattle.ov_cut.specs.declared.fault.CutFault.{CutFault}
@@ -10,7 +11,7 @@ use Rattle.ov_order.specs.declared.items.Brought.TheVariants.{Message}
 use Rattle.ov_workers.specs.declared.cause.ReadCause.{ReadCause}
 use Rattle.ov_workers.specs.declared.cause.ReadCause.TheVariants.{InputEnded, ReadFault, Damaged, Memory}
 use Rattle.ov_workers.specs.Stream.{AreAskedFor}
-use Rattle.ov_workers.specs.Reading.{Item, SourceState, SuitsSource}
+use Rattle.ov_workers.specs.Reading.{Item, SuitsSource}
 
 -- each of the texts is the message at its place
 abbrev pub AreTextsOf : List (List ℕ) → List wire.Message → Type 0

@@ -1,26 +1,15 @@
 -- What a reader's worker did from its beginning to its end. It is our own.
-use Rattle.std.specs.Prelude.{◌≡◌, ℕ, ◌++◌, List, [], ◌∷◌, map, Bool, true, Option}
+use Rattle.std.specs.Prelude.{◌≡◌, ℕ, ◌++◌, List, [], ◌∷◌, map, true}
 use Rattle.std.specs.Io.KnownBytes.{IsAtEnd}
 use Rattle.ov_specs.specs.wire.Message as wire
 use Rattle.ov_specs.specs.wire.Message.{asked}
 use Rattle.ov_ends.specs.Ends.{one_more, KeepsInput}
+use Rattle.ov_ends.specs.States.{SourceState}
 use Rattle.ov_order.specs.declared.items.Brought.{Brought}
 use Rattle.ov_order.specs.declared.items.Brought.TheVariants.{Message, End}
 use Rattle.ov_workers.specs.declared.cause.ReadCause.{ReadCause}
 use Rattle.ov_workers.specs.declared.cause.ReadCause.TheVariants.{InputEnded, ReadFault, Damaged, Memory}
 use Rattle.ov_workers.specs.Stream.{AreAskedFor}
-
--- what contracts see of a reader: what it read, what remains where that is known, whether its end was met, and how many reads
--- failed
-pub record SourceState : Type 0 where
-  pub read : List ℕ
-  pub remaining : Option (List ℕ)
-  pub at_end : Bool
-  pub faults : ℕ
-
--- these four
-abbrev pub source_state : List ℕ → Option (List ℕ) → Bool → ℕ → SourceState
-source_state read remaining at_end faults = record { read = read; remaining = remaining; at_end = at_end; faults = faults }
 
 -- an item in the ring of a reader
 abbrev pub Item : Type 0

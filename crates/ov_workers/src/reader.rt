@@ -1,6 +1,7 @@
 ghost use Rattle.std.specs.Prelude.{◌≡◌, ◌+◌, ◌<◌, ◌++◌, ◌∷◌, [], ℕ, List, length, MatchOption};
 ghost use Rattle.rtrb.specs.Ring.{sent, SameProducer};
-ghost use Rattle.ov_workers.specs.Reading.{source_state, Brings};
+ghost use Rattle.ov_ends.specs.States.{source_of};
+ghost use Rattle.ov_workers.specs.Reading.{Brings};
 ghost use Rattle.ov_workers.specs.Bringing.{ReadsToEnd};
 
 use crate::bring::{bring, bring_piece};
@@ -53,8 +54,8 @@ pub fn read_worker<R: Wait, L: Ledger, G: Gate, S: Source>(
     ensures amount { result.share.amount ≡ length (sent result.ring) }
     ensures brought { MatchOption result.cause
         ((sent result.ring ≡ []) × (result.reader ≡ reader))
-        (λ cause. Brings cause (source_state (S.bytes_read reader) (S.remaining reader) (S.at_end reader) (S.faults reader))
-        (source_state (S.bytes_read result.reader) (S.remaining result.reader) (S.at_end result.reader) (S.faults result.reader)) (sent result.ring)) }
+        (λ cause. Brings cause (source_of S.Source reader)
+        (source_of S.Source result.reader) (sent result.ring)) }
 {
     let mut reader = reader;
     let mut ring = ring;
@@ -94,8 +95,8 @@ fn read_all<R: Wait, L: Ledger, G: Gate, S: Source>(
     requires parts { 0 < share.old.parts }
     requires fresh { (sent ring.old ≡ []) × (share.old.amount ≡ 0) }
     ensures ring { SameProducer ring.old ring.new }
-    ensures brought { Brings result (source_state (S.bytes_read reader.old) (S.remaining reader.old) (S.at_end reader.old) (S.faults reader.old))
-        (source_state (S.bytes_read reader.new) (S.remaining reader.new) (S.at_end reader.new) (S.faults reader.new)) (sent ring.new) }
+    ensures brought { Brings result (source_of S.Source reader.old)
+        (source_of S.Source reader.new) (sent ring.new) }
     ensures counted { share.new.amount ≡ length (sent ring.new) }
     ensures parts { share.new.parts ≡ share.old.parts }
 {
@@ -118,8 +119,8 @@ fn read_messages<R: Wait, L: Ledger, G: Gate, S: Source>(
     requires parts { 0 < share.old.parts }
     requires fresh { (sent ring.old ≡ []) × (share.old.amount ≡ 0) }
     ensures ring { SameProducer ring.old ring.new }
-    ensures brought { ReadsToEnd result (source_state (S.bytes_read reader.old) (S.remaining reader.old) (S.at_end reader.old) (S.faults reader.old))
-        (source_state (S.bytes_read reader.new) (S.remaining reader.new) (S.at_end reader.new) (S.faults reader.new)) (sent ring.new) }
+    ensures brought { ReadsToEnd result (source_of S.Source reader.old)
+        (source_of S.Source reader.new) (sent ring.new) }
     ensures counted { share.new.amount ≡ length (sent ring.new) }
     ensures parts { share.new.parts ≡ share.old.parts }
 {

@@ -1,6 +1,7 @@
 ghost use Rattle.std.specs.Prelude.{◌≡◌, ◌<◌, [], length, not, false, IfOk, IfErr, MatchBool, MatchOption};
 ghost use Rattle.rtrb.specs.Ring.{sent, received, SameProducer, SameConsumer};
-ghost use Rattle.ov_workers.specs.Reading.{source_state, Brings};
+ghost use Rattle.ov_ends.specs.States.{source_of};
+ghost use Rattle.ov_workers.specs.Reading.{Brings};
 ghost use Rattle.ov_workers.specs.Writing as writing;
 
 use crate::cause::ReadCause;
@@ -35,8 +36,8 @@ impl<S: Source, L: Ledger> Promise<ReadEnd<S, L>> for Reads<S, L> {
         × (end.share.amount ≡ length (sent end.ring))
         × MatchOption end.cause
         ((sent end.ring ≡ []) × (end.reader ≡ p.reader.value))
-        (λ cause. Brings cause (source_state (S.bytes_read p.reader.value) (S.remaining p.reader.value) (S.at_end p.reader.value) (S.faults p.reader.value))
-        (source_state (S.bytes_read end.reader) (S.remaining end.reader) (S.at_end end.reader) (S.faults end.reader)) (sent end.ring)) };
+        (λ cause. Brings cause (source_of S.Source p.reader.value)
+        (source_of S.Source end.reader) (sent end.ring)) };
 }
 
 impl<S: Source, L: Ledger> Reads<S, L> {
@@ -82,8 +83,8 @@ where
         × (end.share.amount ≡ length (sent end.ring))
         × MatchOption end.cause
         ((sent end.ring ≡ []) × (end.reader ≡ reader))
-        (λ cause. Brings cause (source_state (S.bytes_read reader) (S.remaining reader) (S.at_end reader) (S.faults reader))
-        (source_state (S.bytes_read end.reader) (S.remaining end.reader) (S.at_end end.reader) (S.faults end.reader)) (sent end.ring))) }
+        (λ cause. Brings cause (source_of S.Source reader)
+        (source_of S.Source end.reader) (sent end.ring))) }
 {
     let promise = Reads::of(&reader, &ring, &share);
     let job = move || read_worker(rt, alloc, order, gate, serial, reader, ring, share);
@@ -110,8 +111,8 @@ impl<W: Sink> Promise<WriteEnd<W>> for Writes<W> {
     ghost kept_by = { λ p end.
         SameConsumer p.ring.value end.ring
         × MatchBool end.begun
-        (writing.Writes (not end.failed) (writing.sink_state (W.bytes_written p.writer.value) (W.contents p.writer.value) (W.is_flushed p.writer.value) (W.faults p.writer.value))
-        (writing.sink_state (W.bytes_written end.writer) (W.contents end.writer) (W.is_flushed end.writer) (W.faults end.writer)) (received end.ring))
+        (writing.Writes (not end.failed) (writing.sink_of W.Sink p.writer.value)
+        (writing.sink_of W.Sink end.writer) (received end.ring))
         ((received end.ring ≡ []) × (end.writer ≡ p.writer.value) × (end.failed ≡ false)) };
 }
 
@@ -136,8 +137,8 @@ where
     ensures started { IfOk result (λ h. (h.promise.writer.value ≡ writer) × (h.promise.ring.value ≡ ring)) }
     ensures refused { IfErr result (λ end. SameConsumer ring end.ring
         × MatchBool end.begun
-        (writing.Writes (not end.failed) (writing.sink_state (W.bytes_written writer) (W.contents writer) (W.is_flushed writer) (W.faults writer))
-        (writing.sink_state (W.bytes_written end.writer) (W.contents end.writer) (W.is_flushed end.writer) (W.faults end.writer)) (received end.ring))
+        (writing.Writes (not end.failed) (writing.sink_of W.Sink writer)
+        (writing.sink_of W.Sink end.writer) (received end.ring))
         ((received end.ring ≡ []) × (end.writer ≡ writer) × (end.failed ≡ false))) }
 {
     let promise = Writes {

@@ -1,9 +1,10 @@
 ghost use Rattle.std.specs.Prelude.{◌≡◌, ◌++◌, ◌∷◌, [], ℕ, List, map, true, false, not, is_some, MatchBool, MatchOption};
 ghost use Rattle.rtrb.specs.Ring.{received, SameConsumer};
+ghost use Rattle.ov_ends.specs.States.{sink_of};
 ghost use Rattle.ov_ends.specs.Ends.{GivesWritten};
 ghost use Rattle.ov_ends.specs.Writing.{CountsFailures};
 ghost use Rattle.ov_order.specs.declared.items.Sent.TheVariants.{Frame, End};
-ghost use Rattle.ov_workers.specs.Writing.{sink_state, Writes};
+ghost use Rattle.ov_workers.specs.Writing.{Writes};
 
 use crate::gate::{Gate, Point};
 use ov_ends::{Sink, write_frame};
@@ -43,8 +44,8 @@ pub fn write_worker<R: Wait, L: Ledger, G: Gate, W: Sink>(
     requires { received ring ≡ [] }
     ensures ring { SameConsumer ring result.ring }
     ensures wrote { MatchBool result.begun
-        (Writes (not result.failed) (sink_state (W.bytes_written writer) (W.contents writer) (W.is_flushed writer) (W.faults writer))
-        (sink_state (W.bytes_written result.writer) (W.contents result.writer) (W.is_flushed result.writer) (W.faults result.writer)) (received result.ring))
+        (Writes (not result.failed) (sink_of W.Sink writer)
+        (sink_of W.Sink result.writer) (received result.ring))
         ((received result.ring ≡ []) × (result.writer ≡ writer) × (result.failed ≡ false)) }
 {
     let mut writer = writer;
@@ -70,8 +71,8 @@ fn write_all<R: Wait, G: Gate, W: Sink>(
 ) -> bool
     requires { received ring.old ≡ [] }
     ensures ring { SameConsumer ring.old ring.new }
-    ensures wrote { Writes result (sink_state (W.bytes_written writer.old) (W.contents writer.old) (W.is_flushed writer.old) (W.faults writer.old))
-        (sink_state (W.bytes_written writer.new) (W.contents writer.new) (W.is_flushed writer.new) (W.faults writer.new)) (received ring.new) }
+    ensures wrote { Writes result (sink_of W.Sink writer.old)
+        (sink_of W.Sink writer.new) (received ring.new) }
 {
     let mut is_held = false;
     for _ in rt.forever() {

@@ -1,7 +1,8 @@
 use crate::holding::{HoldingGate, Mark};
 use ov_core::Cause;
-use ov_desk::{End, Link};
+use ov_desk::End;
 use ov_ends::Watched;
+use ov_lanes::Link;
 use std::alloc::Global;
 use std::collections::VecDeque;
 use std::io;

@@ -4,7 +4,8 @@ use crate::clients::{Client, ClientReader, ClientWriter, client_of, lines_of, li
 use crate::desks::{ClientsServed, converse_at, refusal, serve};
 use crate::holding::HoldingGate;
 use ov_core::{Entry, Event};
-use ov_desk::{Desk, End, Link, Served};
+use ov_desk::{End, Served};
+use ov_lanes::{Desk, Link};
 use std::alloc::Global;
 use std::collections::VecDeque;
 use std::rt::Clock;

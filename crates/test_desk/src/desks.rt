@@ -1,7 +1,8 @@
 use crate::clients::{Client, ClientReader, ClientWriter, lines_of, links_of};
 use crate::holding::HoldingGate;
-use ov_desk::{Desk, Link, ServeFault, Served, Unserved, serve_links};
+use ov_desk::{Served, Unserved, serve_links};
 use ov_ends::Clock;
+use ov_lanes::{Desk, Link, ServeFault};
 use std::alloc::Global;
 use std::collections::VecDeque;
 use std::rt::Clock as SystemClock;

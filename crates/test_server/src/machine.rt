@@ -1,5 +1,6 @@
 use ov_core::Core;
-use ov_core::early::{Keeper, OpenFault, RefusedOpen};
+use ov_db::{OpenFault, RefusedOpen};
+use ov_keeper::Keeper;
 use std::alloc::Global;
 use std::test::Fail;
 use test_basics::{

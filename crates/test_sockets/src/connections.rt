@@ -1,6 +1,6 @@
 use crate::sessions::client_of;
-use ov_desk::Link;
 use ov_ends::{Sink, Source};
+use ov_lanes::Link;
 use ov_sockets::{SocketReader, SocketWriter, accept_all, links_of, listen};
 use std::alloc::Global;
 use std::io::{Read, Write};

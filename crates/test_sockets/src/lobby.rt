@@ -1,10 +1,11 @@
 //! A lobby for two clients over the loopback interface.
 
 use crate::sessions::{client_of, meets_end, talk};
-use ov_core::early::{Draws, Keeper};
-use ov_desk::{Desk, Link};
 use ov_ends::{Clock, Watched};
+use ov_keeper::Keeper;
+use ov_lanes::{Desk, Link};
 use ov_lobby::{Listen, serve_lobby};
+use ov_requests::Draws;
 use ov_sockets::listen;
 use ov_workers::FreeGate;
 use std::alloc::Global;

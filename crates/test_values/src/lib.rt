@@ -10,6 +10,8 @@ mod conditions;
 #[cfg(test)]
 mod given;
 #[cfg(test)]
+mod inserts;
+#[cfg(test)]
 mod mutations;
 #[cfg(test)]
 mod references;

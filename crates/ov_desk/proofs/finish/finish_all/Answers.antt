@@ -1,16 +1,15 @@
 use Rattle.std.proofs.Common.{rules, ◌≡◌, ◌<◌, ◌++◌, [], ◌∷◌, true, List, length, vec_len, refl, sym, ap, subst, ◌∙◌, append_assoc, append-nil}
-use Rattle.ov_workers.specs.Reading.{source_state}
-use Rattle.ov_workers.specs.Writing.{sink_state}
+use Rattle.ov_ends.specs.States.{source_of, sink_of}
 use Rattle.ov_lanes.specs.declared.lane.Lane.{Lane}
 use Rattle.ov_desk.specs.Ends.{EndsLane}
 use Rattle.ov_desk.specs.declared.link.End.{End}
 use Rattle.ov_desk.specs.declared.workers.Workers.{Workers}
-use Rattle.ov_desk.proofs.Pairs.{pairs_popped, none_beside, popped_at, popped_rest, threes_none, threes_more}
+use Rattle.ov_lanes.proofs.Pairs.{pairs_popped, none_beside, popped_at, popped_rest, threes_none, threes_more}
 use Rattle.ov_desk.proofs.finish.finish_all.Goals as goal
 
 pub loop-lane-init : goal.loop-lane-init
 loop-lane-init g c =
-    ([], [], sym (append-nil c.args.lanes.items), sym (append-nil c.args.workers.items), threes_none (λ (l : Lane) (w : Workers g.row.S.Denot g.row.W.Denot g.row.L.Denot) (e : End g.row.S.Denot g.row.W.Denot). EndsLane (λ s. source_state (g.S.Source.bytes_read s) (g.S.Source.remaining s) (g.S.Source.at_end s) (g.S.Source.faults s)) (λ k. sink_state (g.W.Sink.bytes_written k) (g.W.Sink.contents k) (g.W.Sink.is_flushed k) (g.W.Sink.faults k)) l w.reads.promise.reader.value w.writes.promise.writer.value e) c.args.ends.items c.requires.room.0, c.requires.over, c.requires.pairs, search rules, refl)
+    ([], [], sym (append-nil c.args.lanes.items), sym (append-nil c.args.workers.items), threes_none (λ (l : Lane) (w : Workers g.row.S.Denot g.row.W.Denot g.row.L.Denot) (e : End g.row.S.Denot g.row.W.Denot). EndsLane (source_of g.S.Source) (sink_of g.W.Sink) l w.reads.promise.reader.value w.writes.promise.writer.value e) c.args.ends.items c.requires.room.0, c.requires.over, c.requires.pairs, search rules, refl)
 
 pub unreachable-requires : goal.unreachable-requires
 unreachable-requires g c =

@@ -2,8 +2,8 @@ use Rattle.std.proofs.Common.{◌≡◌, [], ◌++◌, Bool, true, false, sym, a
 use Rattle.std.specs.Prelude.{not, MatchBool}
 use Rattle.std.proofs.lemmas.Bool.{MatchBool-at_true}
 use Rattle.rtrb.specs.Ring.{sent, received, known_items}
-use Rattle.ov_workers.specs.Reading.{source_state}
-use Rattle.ov_workers.specs.Writing.{sink_state, Writes}
+use Rattle.ov_ends.specs.States.{source_of, sink_of}
+use Rattle.ov_workers.specs.Writing.{Writes}
 use Rattle.ov_lanes.specs.Fitting.{FitsCourse}
 use Rattle.ov_desk.proofs.Sides.{ends_for, as_state}
 use Rattle.ov_desk.proofs.finish.finish_link.Goals as goal
@@ -13,8 +13,8 @@ returns-clause-ends g c course f =
     let lane = c.args.lane in
     let r = c.join-reader.result in let w = c.begun-writer.result in
     let reads = c.args.workers.reads.promise in let writes = c.args.workers.writes.promise in
-    let source = λ (s : _). source_state (g.S.Source.bytes_read s) (g.S.Source.remaining s) (g.S.Source.at_end s) (g.S.Source.faults s) in
-    let sink = λ (s : _). sink_state (g.W.Sink.bytes_written s) (g.W.Sink.contents s) (g.W.Sink.is_flushed s) (g.W.Sink.faults s) in
+    let source = λ (s : _). source_of g.S.Source s in
+    let sink = λ (s : _). sink_of g.W.Sink s in
     let over : FitsCourse course lane.cause (received lane.inbound) (sent lane.outbound) true true =
     subst (λ (b : Bool). FitsCourse course lane.cause (received lane.inbound) (sent lane.outbound) b true) c.requires.over.1
     (subst (λ (b : Bool). FitsCourse course lane.cause (received lane.inbound) (sent lane.outbound) lane.marked b) c.requires.over.0 f) in

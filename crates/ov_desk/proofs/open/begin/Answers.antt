@@ -1,4 +1,4 @@
-use Rattle.ov_desk.proofs.Openings.{opens_none}
+use Rattle.ov_lanes.proofs.Openings.{opens_none}
 use Rattle.ov_desk.proofs.open.begin.Goals as goal
 
 pub returns : goal.returns

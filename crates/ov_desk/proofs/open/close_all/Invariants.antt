@@ -1,6 +1,6 @@
 use Rattle.std.proofs.Common.{vec_len, length}
 use Rattle.ov_core.specs.Following.{CoreState}
-use Rattle.ov_desk.specs.Opening.{OpensAll, ClosesDown}
+use Rattle.ov_lanes.specs.Opening.{OpensAll, ClosesDown}
 use Rattle.ov_desk.proofs.open.close_all.Given as goal
 
 abbrev pub invariant-loop-lane : goal.invariant-loop-lane

@@ -2,10 +2,10 @@ use Rattle.std.proofs.Common.{arith, ◌++◌, ◌∷◌, [], List, refl, sym, a
 use Rattle.rtrb.specs.Ring.{sent, received}
 use Rattle.ov_core.specs.Following.{CoreState}
 use Rattle.ov_lanes.specs.declared.lane.Lane.{Lane}
-use Rattle.ov_desk.specs.Opening.{OpensAll}
+use Rattle.ov_lanes.specs.Opening.{OpensAll}
 use Rattle.ov_desk.specs.declared.room.DeskRings.{DeskRings}
-use Rattle.ov_desk.proofs.Openings.{opens_more}
-use Rattle.ov_desk.proofs.Pairs.{each_first, pairs_more}
+use Rattle.ov_lanes.proofs.Openings.{opens_more}
+use Rattle.ov_lanes.proofs.Pairs.{each_first, pairs_more}
 use Rattle.ov_desk.proofs.open.open_all.Goals as goal
 
 pub loop-ring-init : goal.loop-ring-init

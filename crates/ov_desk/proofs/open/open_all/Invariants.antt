@@ -4,8 +4,8 @@ use Rattle.std.specs.VecDeque.{deque_len}
 use Rattle.rtrb.specs.Ring.{sent, received, known_free}
 use Rattle.ov_core.specs.Following.{CoreState}
 use Rattle.ov_lanes.specs.declared.lane.Lane.{Lane}
-use Rattle.ov_desk.specs.Opening.{OpensAll}
-use Rattle.ov_desk.specs.Pairs.{Pairwise, Each}
+use Rattle.ov_lanes.specs.Opening.{OpensAll}
+use Rattle.ov_lanes.specs.Pairs.{Pairwise, Each}
 use Rattle.ov_desk.specs.declared.room.DeskRings.{DeskRings}
 use Rattle.ov_desk.proofs.open.open_all.Given as goal
 

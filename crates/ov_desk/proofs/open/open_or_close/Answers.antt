@@ -1,7 +1,7 @@
 use Rattle.std.proofs.Common.{◌≡◌, ◌++◌, List, ap, subst, sym, ◌∙◌}
 use Rattle.ov_lanes.specs.declared.lane.Lane.{Lane}
-use Rattle.ov_desk.specs.Opening.{OpensAll}
-use Rattle.ov_desk.specs.Pairs.{Pairwise}
+use Rattle.ov_lanes.specs.Opening.{OpensAll}
+use Rattle.ov_lanes.specs.Pairs.{Pairwise}
 use Rattle.ov_desk.proofs.open.open_or_close.Goals as goal
 
 pub returns-then-open_all-clause-opened : goal.returns-then-open_all-clause-opened

@@ -1,6 +1,6 @@
 use Rattle.std.proofs.Common.{rules}
 use Rattle.ov_desk.specs.Room.{AreNew}
-use Rattle.ov_desk.proofs.Pairs.{pairs_pushed}
+use Rattle.ov_lanes.proofs.Pairs.{pairs_pushed}
 use Rattle.ov_desk.proofs.room.all_rings.Goals as goal
 
 pub loop-alloc-preserved : goal.loop-alloc-preserved

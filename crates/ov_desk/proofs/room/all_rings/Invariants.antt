@@ -1,6 +1,6 @@
 use Rattle.std.proofs.Common.{◌≡◌, ◌≤◌, ◌-◌}
 use Rattle.std.specs.VecDeque.{deque_len, deque_capacity}
-use Rattle.ov_desk.specs.Pairs.{Pairwise}
+use Rattle.ov_lanes.specs.Pairs.{Pairwise}
 use Rattle.ov_desk.specs.Room.{AreNew}
 use Rattle.ov_desk.proofs.room.all_rings.Given as goal
 

@@ -1,9 +1,9 @@
 use Rattle.std.proofs.Common.{rules, ◌++◌, List, sym, ap, subst, ◌∙◌, append-nil, arith}
 use Rattle.rtrb.specs.Ring.{IsPair}
-use Rattle.ov_desk.specs.declared.link.Link.{Link}
-use Rattle.ov_desk.proofs.Pairs.{pairs_length}
+use Rattle.ov_lanes.specs.declared.link.Link.{Link}
+use Rattle.ov_lanes.proofs.Pairs.{pairs_length}
 use Rattle.ov_desk.proofs.Rooms.{desk_fresh, workers_fresh, pairs_through}
-use Rattle.ov_desk.proofs.Openings.{serves_opened}
+use Rattle.ov_lanes.proofs.Openings.{serves_opened}
 use Rattle.ov_desk.proofs.Serving.{serves_all}
 use Rattle.ov_desk.proofs.serve.serve_in.Goals as goal
 

@@ -1,7 +1,7 @@
 use Rattle.std.proofs.Common.{rules, arith, ◌++◌, ◌∷◌, [], List, refl, sym, ap, ◌∙◌, append_assoc}
-use Rattle.ov_desk.specs.declared.link.Link.{Link}
+use Rattle.ov_lanes.specs.declared.link.Link.{Link}
 use Rattle.ov_desk.specs.declared.room.WorkerRings.{WorkerRings}
-use Rattle.ov_desk.proofs.Pairs.{each_first, pairs_pushed}
+use Rattle.ov_lanes.proofs.Pairs.{each_first, pairs_pushed}
 use Rattle.ov_desk.proofs.start.start_all.Goals as goal
 
 pub loop-link-preserved : goal.loop-link-preserved

@@ -2,8 +2,8 @@ use Rattle.std.proofs.Common.{◌≡◌, ◌+◌, ◌++◌, List, [], vec_len}
 use Rattle.std.specs.Prelude.{vec_capacity}
 use Rattle.std.specs.VecDeque.{deque_len, deque_capacity}
 use Rattle.rtrb.specs.Ring.{sent, received}
-use Rattle.ov_desk.specs.Pairs.{Pairwise, Each}
-use Rattle.ov_desk.specs.declared.link.Link.{Link}
+use Rattle.ov_lanes.specs.Pairs.{Pairwise, Each}
+use Rattle.ov_lanes.specs.declared.link.Link.{Link}
 use Rattle.ov_desk.specs.declared.room.WorkerRings.{WorkerRings}
 use Rattle.ov_desk.proofs.start.start_all.Given as goal
 

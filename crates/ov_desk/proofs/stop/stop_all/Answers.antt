@@ -1,6 +1,6 @@
 use Rattle.std.proofs.Common.{rules, ◌≡◌, ◌++◌, [], ◌∷◌, List, sym, ap, ◌∙◌, append_assoc}
-use Rattle.ov_desk.specs.declared.link.Link.{Link}
-use Rattle.ov_desk.proofs.Pairs.{pairs_ended, none_of_pairs}
+use Rattle.ov_lanes.specs.declared.link.Link.{Link}
+use Rattle.ov_lanes.proofs.Pairs.{pairs_ended, none_of_pairs}
 use Rattle.ov_desk.proofs.Links.{same_link, given_back}
 use Rattle.ov_desk.proofs.stop.stop_all.Goals as goal
 

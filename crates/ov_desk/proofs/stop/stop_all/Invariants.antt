@@ -1,7 +1,7 @@
 use Rattle.std.proofs.Common.{◌≡◌, ◌+◌, ◌≤◌, ◌++◌, List, vec_len}
 use Rattle.std.specs.VecDeque.{deque_len, deque_capacity}
-use Rattle.ov_desk.specs.Pairs.{Pairwise}
-use Rattle.ov_desk.specs.declared.link.Link.{Link}
+use Rattle.ov_lanes.specs.Pairs.{Pairwise}
+use Rattle.ov_lanes.specs.declared.link.Link.{Link}
 use Rattle.ov_desk.proofs.stop.stop_all.Given as goal
 
 abbrev pub invariant-loop-last : goal.invariant-loop-last

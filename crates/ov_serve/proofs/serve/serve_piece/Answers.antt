@@ -2,6 +2,7 @@ use Rattle.std.proofs.Common.{◌≡◌, true, false, refl, sym, ◌∙◌, rule
 use Rattle.std.specs.Prelude.{is_ok}
 use Rattle.std.proofs.lemmas.Bool.{false≢true}
 use Rattle.ov_specs.specs.machine.Machine.{is_open}
+use Rattle.ov_serve.proofs.Fed.{passed_if}
 use Rattle.ov_serve.proofs.serve.serve_piece.Goals as goal
 
 -- the piece closed the session
@@ -29,7 +30,7 @@ returns-in_ok-pass_where_due-clause-entered g c = λ stream fed.
       mid = c.feed_session.new.core;
       enters = c.feed_session.ensures stream fed;
       ticks = c.in_ok-pass_where_due.field-0;
-      passes = c.in_ok-pass_where_due.ensures.passes;
+      passes = passed_if g.D.Draws.draws c.in_ok-pass_where_due.field-0 c.now-at.result c.feed_session.new.core c.pass_where_due.new.self c.in_ok-pass_where_due.ensures.due c.in_ok-pass_where_due.ensures.passes;
       still = λ ticks. there;
       given = λ all open'. c.in_ok-pass_where_due.ensures.due;
     }

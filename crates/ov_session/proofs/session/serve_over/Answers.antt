@@ -1,15 +1,15 @@
 use Rattle.std.proofs.Common.{◌≡◌, ℕ, List, [], Bool, false, Option, Some, None, inr, refl, ap, ◌∙◌, append-nil, rules}
 use Rattle.std.specs.Io.KnownBytes.{append_known}
-use Rattle.ov_session.specs.Chain.{reader_state, writer_state}
+use Rattle.ov_ends.specs.States.{source_state, sink_state}
 use Rattle.ov_session.proofs.session.serve_over.Goals as goal
 
 -- a reader of which nothing was read yet
-reader_begins : (read : List ℕ) (remaining has : Option (List ℕ)) (at_end : Bool) (failed : ℕ) → read ≡ [] → remaining ≡ has → at_end ≡ false → failed ≡ 0 → reader_state read remaining at_end failed ≡ reader_state [] has false 0
-reader_begins read remaining has at_end failed a b c d = rw (a, b, c, d) refl
+reader_begins : (read : List ℕ) (remaining has : Option (List ℕ)) (at_end : Bool) (faults : ℕ) → read ≡ [] → remaining ≡ has → at_end ≡ false → faults ≡ 0 → source_state read remaining at_end faults ≡ source_state [] has false 0
+reader_begins read remaining has at_end faults a b c d = rw (a, b, c, d) refl
 
 -- and a writer that was given nothing
-writer_begins : (written : List ℕ) (contents has : Option (List ℕ)) (is_flushed : Bool) (failed : ℕ) → written ≡ [] → contents ≡ has → is_flushed ≡ false → failed ≡ 0 → writer_state written contents is_flushed failed ≡ writer_state [] has false 0
-writer_begins written contents has is_flushed failed a b c d = rw (a, b, c, d) refl
+writer_begins : (written : List ℕ) (contents has : Option (List ℕ)) (is_flushed : Bool) (faults : ℕ) → written ≡ [] → contents ≡ has → is_flushed ≡ false → faults ≡ 0 → sink_state written contents is_flushed faults ≡ sink_state [] has false 0
+writer_begins written contents has is_flushed faults a b c d = rw (a, b, c, d) refl
 
 -- a buffer that is empty holds nothing more
 holds_nothing : (known has : Option (List ℕ)) (held : List ℕ) → known ≡ has → held ≡ [] → append_known known held ≡ has

@@ -1,7 +1,7 @@
 use Rattle.std.proofs.Common.{◌≡◌, ℕ, ◌+◌, ◌<◌, List, [], ◌∷◌, ◌++◌, take, get_or, length, subst, sym, arith}
 use Rattle.std.proofs.lemmas.List.{take_more}
-use Rattle.ov_desk.specs.Pairs.{Pairwise}
-use Rattle.ov_desk.proofs.Pairs.{pairs_more}
+use Rattle.ov_lanes.specs.Pairs.{Pairwise}
+use Rattle.ov_lanes.proofs.Pairs.{pairs_more}
 use Rattle.ov_sockets.specs.Links.{IsLinkOf}
 use Rattle.ov_sockets.proofs.links.links_of.Goals as goal
 

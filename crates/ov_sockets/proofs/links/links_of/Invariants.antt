@@ -1,6 +1,6 @@
 use Rattle.std.proofs.Common.{◌≡◌, ◌≤◌, take, vec_len}
 use Rattle.std.specs.VecDeque.{deque_len, deque_capacity}
-use Rattle.ov_desk.specs.Pairs.{Pairwise}
+use Rattle.ov_lanes.specs.Pairs.{Pairwise}
 use Rattle.ov_sockets.specs.Links.{IsLinkOf}
 use Rattle.ov_sockets.proofs.links.links_of.Given as goal
 

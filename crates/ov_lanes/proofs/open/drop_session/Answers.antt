@@ -1,6 +1,6 @@
 use Rattle.std.proofs.Common.{inl}
 use Rattle.ov_lanes.proofs.Courses.{hands_dropped}
-use Rattle.ov_desk.proofs.open.drop_session.Goals as goal
+use Rattle.ov_lanes.proofs.open.drop_session.Goals as goal
 
 pub returns-then-close : goal.returns-then-close
 returns-then-close g c =

@@ -1,10 +1,10 @@
 use Rattle.std.proofs.Common.{◌≤◌, refl, rules}
 use Rattle.ov_core.proofs.Steps.{ticked, has_entered}
 use Rattle.ov_specs.specs.machine.Machine.{Tick}
-use Rattle.ov_core.proofs.machine.Core.tick.Goals as goal
+use Rattle.ov_core.proofs.machine.Core.tick_at.Goals as goal
 
-pub returns : goal.returns
-returns g c =
+pub returns-clause-ticked : goal.returns-clause-ticked
+returns-clause-ticked g c =
     let low : c.self.inside.moment ≤ c.args.moment = search rules in
     rw (← c.self.view_is) (ticked g.K.Keeper.failed g.D.Draws.draws c.self.inside.live c.tick.new.self c.self.inside.moment c.args.moment c.tick.new.attempts.items c.self.inside.history c.push.new.self c.entry_with_choice.result c.self.inside.source
     c.tick.ensures low c.push.ensures (rw c.new.ensures.items at c.entry_with_choice.ensures))

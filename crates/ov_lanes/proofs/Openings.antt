@@ -25,19 +25,10 @@ use Rattle.ov_lanes.specs.Since.{Since, course_of, and_then_handed}
 use Rattle.ov_lanes.specs.Fitting.{FitsCourse, Took, brought, framed, is_by_reader}
 use Rattle.ov_lanes.specs.Lanes.{LaneFits, Serves}
 use Rattle.ov_lanes.specs.declared.lane.Lane.{Lane}
-use Rattle.ov_lanes.proofs.Courses.{EnteredTo, since_enters}
+use Rattle.ov_lanes.proofs.Courses.{EnteredTo, given_same, since_enters}
 use Rattle.ov_lanes.proofs.Fitting.{fits_spared}
 use Rattle.ov_lanes.proofs.Single.{IsLane, lane_fits}
-use Rattle.ov_desk.specs.Opening.{IsUntouched, OpensAll}
-
--- the same frames were given
-given_same : {K D : Type 0} (before : State) (history : List Entry) (given given' : ℕ → List (List ℕ)) (core : CoreState K D) → ((s : ℕ) → given s ≡ given' s) → Follows before history given core → Follows before history given' core
-given_same before history given given' core same f = record {
-  sent = f.sent;
-  legal = f.legal;
-  kept = f.kept;
-  issued = λ s. f.issued s ∙ ap (λ (fs : List (List ℕ)). fs ++ waiting_for s core.outbox) (same s);
-}
+use Rattle.ov_lanes.specs.Opening.{IsUntouched, OpensAll}
 
 -- nothing was done yet
 pub since_none : {K D : Type 0} (a : CoreState K D) → HasHistory a.state a.kept → Since a a

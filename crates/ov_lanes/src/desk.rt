@@ -1,12 +1,13 @@
 ghost use Rattle.std.specs.Prelude.{◌≡◌};
 
 use ov_core::Core;
-use ov_core::early::{Draws, Keeper};
+use ov_keeper::Keeper;
+use ov_requests::Draws;
 
 /// A machine that is to serve links, or has served them.
 #[derive(Drop)]
 pub struct Desk<K: Keeper, D: Draws> {
-    pub(crate) core: Core<K, D>,
+    core: Core<K, D>,
 }
 
 impl<K: Keeper, D: Draws> Desk<K, D> {

@@ -3,10 +3,10 @@ use Rattle.ov_sessions.specs.Sessions.{has_no_room}
 use Rattle.ov_core.proofs.Steps.{asks_nothing, opened, has_opened, nothing_chosen, entry_of}
 use Rattle.ov_core.proofs.Watching.{length-sessions}
 use Rattle.ov_specs.specs.machine.Machine.{Open}
-use Rattle.ov_core.proofs.machine.Core.open_session.Goals as goal
+use Rattle.ov_core.proofs.machine.Core.open_at.Goals as goal
 
-pub returns : goal.returns
-returns g c =
+pub returns-clause-opened : goal.returns-clause-opened
+returns-clause-opened g c =
     let low : c.self.inside.moment ≤ c.args.moment = search rules in
     let live = c.self.inside.live in
     let o = c.in-Ok.ensures.opened in

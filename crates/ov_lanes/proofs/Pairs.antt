@@ -2,7 +2,7 @@
 use Rattle.std.proofs.Common.{◌≡◌, ℕ, ◌<◌, List, [], ◌∷◌, ◌++◌, length, get_or, refl, sym, ap, subst, ◌∙◌, arith}
 use Rattle.std.proofs.lemmas.List.{get_or_push}
 use Rattle.std.proofs.Math.ListN.{get_or-append}
-use Rattle.ov_desk.specs.Pairs.{Pairwise, Threewise, Each}
+use Rattle.ov_lanes.specs.Pairs.{Pairwise, Threewise, Each}
 
 module _ {A B : Type 0} (holds : A → B → Type 0) where
   -- one pair more
