@@ -1,4 +1,4 @@
--- What was read, told from the answers of the calls.
+-- What was read, by the results of the calls.
 use Rattle.std.proofs.Common.{◌≡◌, List, Bool, true, false, if◌then◌else◌, Some, None, Result, Ok, Err, IfOk, refl}
 use Rattle.std.specs.Result.{result_ok}
 use Rattle.ov_specs.specs.values.Value.{Atom, Datum, Pairs, map_of}

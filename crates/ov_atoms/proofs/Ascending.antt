@@ -1,4 +1,4 @@
--- Pairs that ascend by their keys, told from each pair and the next.
+-- Pairs that ascend by their keys, by each pair and the next.
 use Rattle.std.proofs.Common.{◌≡◌, ℕ, zero, suc, ◌+◌, ◌<◌, ◌≤◌, List, [], ◌∷◌, length, get_or, drop, T, sym, subst, arith, Less}
 use Rattle.std.specs.Ordering.{is_lt}
 use Rattle.std.specs.FinMap.{is_sorted}
@@ -19,7 +19,7 @@ below-less x y (e ∷ es) p h =
 in_front : (x y : value.Atom × value.Atom) (es : List (value.Atom × value.Atom)) → atom_cmp x.0 y.0 ≡ Less → T (is_sorted atom_cmp (y ∷ es)) → T (is_sorted atom_cmp (x ∷ y ∷ es))
 in_front x y es p h = both_hold _ _ (both_hold _ _ (subst (λ o. T (is_lt o)) (sym p) tt) (below-less x.0 y.0 es p (left_holds _ _ h))) h
 
--- the pair at i goes before the next one, from which on the pairs ascend
+-- the pair at i comes before the next one, and the pairs ascend from there
 pub ascend-from : (ps : List (Atom × Atom)) (i j k : ℕ) (x y : Atom × Atom) → j < length ps → j ≡ i + 1 → k ≡ j → atom_order (get_or ps i x).0 (get_or ps j y).0 ≡ Less
     → T (is_sorted atom_cmp (pairs_view (drop k ps))) → T (is_sorted atom_cmp (pairs_view (drop i ps)))
 ascend-from [] i j k x y h next same p s = absurd (omega arith)

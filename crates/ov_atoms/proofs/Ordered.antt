@@ -16,7 +16,7 @@ use Rattle.ov_atoms.specs.Sorted.{sorted_view, IsAscending}
 abbrev pub pair_order : Atom × Atom → Atom × Atom → Ordering
 pair_order p q = ordering_then (atom_order p.0 q.0) (atom_order p.1 q.1)
 
--- lists seen element by element stand as they are
+-- lists seen element by element are ordered as they are
 slice_cmp-map : {A B : Type 0} (R : B → B → Ordering) (f : A → B) (S : A → A → Ordering) → ((a b : A) → S a b ≡ R (f a) (f b)) → (xs ys : List A) → slice_cmp S xs ys ≡ slice_cmp R (map f xs) (map f ys)
 slice_cmp-map R f S same [] [] = refl
 slice_cmp-map R f S same [] (y ∷ ys) = refl

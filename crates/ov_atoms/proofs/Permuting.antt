@@ -31,7 +31,7 @@ any_alike f g es h = ap (λ t. list_any t es) (λ i p. h p i)
 abbrev differs : List Pair → Pair → Bool
 differs es p = list_any (differ_at_one_key p) es
 
--- a clash, told without an order
+-- a clash, defined without an order
 clash-any : (es : List Pair) → has_clash es ≡ list_any (differs es) es
 clash-any [] = refl
 clash-any (e ∷ es) =

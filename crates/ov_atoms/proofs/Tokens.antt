@@ -17,7 +17,7 @@ items-each : {A : Type 0} (form : A → Data) (xs : List A) → items_tokens (it
 items-each form [] = refl
 items-each form (x ∷ xs) = ap (λ ts. tokens_of (form x) ++ ts) (items-each form xs) ∙ sym (append_assoc (tokens_of (form x)) (flat_map (λ y. tokens_of (form y)) xs) (end_array ∷ []))
 
--- a word, and the items behind it
+-- a word, and the items after it
 word-each : {A : Type 0} (form : A → Data) (word : List ℕ) (xs : List A)
     → begin_array ∷ string word ∷ begin_array ∷ (items_tokens (items_outline (items_of (map form xs))) ++ end_array ∷ [])
     ≡ begin_array ∷ string word ∷ begin_array ∷ (flat_map (λ x. tokens_of (form x)) xs ++ end_array ∷ end_array ∷ [])

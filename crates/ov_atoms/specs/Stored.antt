@@ -1,11 +1,11 @@
--- What lies under a list of atoms.
+-- How a list of atoms is stored.
 use Rattle.std.specs.Prelude.{List, [], ◌∷◌}
 use Rattle.ov_specs.specs.values.Value as value
 use Rattle.ov_atoms.specs.declared.atom_list.StoredAtoms.{StoredAtoms}
 use Rattle.ov_atoms.specs.declared.atom_list.StoredAtoms.TheVariants.{One, Many}
 use Rattle.ov_atoms.specs.Views.{atom_view, atoms_view}
 
--- the atoms, wherever they lie
+-- the atoms, wherever they are stored
 abbrev pub atoms_in : StoredAtoms → List value.Atom
 atoms_in (One atom) = atom_view atom ∷ []
 atoms_in (Many atoms) = atoms_view atoms.items

@@ -1,4 +1,4 @@
--- The tokens that a tree is written as, and what it is to put them behind what a writer has. What names no source is our own.
+-- The tokens that a tree is written as, and what it means to append them to a writer.
 use Rattle.std.specs.Prelude.{◌≡◌, List, ◌++◌, Result, OnOk}
 use Rattle.json.specs.Token.{Token}
 use Rattle.json.specs.Tree.{json_tokens}
@@ -10,7 +10,7 @@ use Rattle.serde_json.specs.Written.{outline}
 abbrev pub tokens_of : Data → List Token
 tokens_of tree = json_tokens (outline tree)
 
--- these tokens stand behind those before; where memory was short, some of them are missing
+-- these tokens follow those before; if an allocation failed, some of them are missing
 pub record Puts {E : Type 0} (result : Result (Unit {0}) E) (old new : Written) (tokens : List Token) : Type 0 where
   pub before : new.before ≡ old.before
   pub ok : OnOk result (new.tokens ≡ old.tokens ++ tokens)

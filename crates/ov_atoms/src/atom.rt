@@ -15,7 +15,7 @@ pub enum Atom {
     Integer(i64),
     /// A truth value.
     Boolean(bool),
-    /// A text. What is read has no U+0000.
+    /// A text. One that was read has no U+0000.
     Text(Text),
     /// A UUID.
     Uuid(Uuid),
@@ -46,7 +46,7 @@ impl Atom {
         }
     }
 
-    /// The same atom once more.
+    /// A copy of the atom.
     pub fn copy(&self, alloc: Global) -> Result<Atom, AllocError>
         ensures { IfOk result (λ a. atom_view a ≡ atom_view self.now) }
     {
@@ -116,7 +116,7 @@ impl Ord for Atom {
 
     ghost matches_eq = { λ a b. refl };
 
-    /// By number; false before true; texts by their bytes; UUIDs by their number; two kinds by the kind.
+    /// Numbers by value; false before true; texts by bytes; UUIDs by number; atoms of two kinds by kind.
     fn cmp(&self, other: &Atom) -> Ordering {
         match (self, other) {
             (Atom::Integer(a), Atom::Integer(b)) => a.cmp(b),

@@ -7,14 +7,14 @@ use std::alloc::{AllocError, Global};
 use std::marker::Model;
 use std::slice;
 
-/// Where atoms lie: one alone in the value itself, as those of most columns, others in memory of their own.
+/// Stores the atoms: a single one inline, as in most columns, others in a vector.
 #[derive(Drop)]
 enum StoredAtoms {
     One(Atom),
     Many(Vec<Atom>),
 }
 
-/// Atoms in a list, which contracts see as those of the definitions.
+/// A list of atoms, which contracts see as those of the definitions.
 pub(crate) struct AtomList {
     stored: StoredAtoms,
 }
@@ -34,7 +34,7 @@ impl Model for AtomList {
 }
 
 impl Drop for AtomList {
-    // A drop of its own, so that whoever drops a value need not know where its atoms lie.
+    // An explicit drop, so that code that drops a value need not know where its atoms are stored.
     fn drop(self) {
         let AtomList { stored } = self;
         drop(stored);
@@ -42,14 +42,14 @@ impl Drop for AtomList {
 }
 
 impl AtomList {
-    /// This one atom.
+    /// The list of this one atom.
     pub(crate) fn one(atom: Atom) -> AtomList
         ensures { result ≡ atom_view atom ∷ [] }
     {
         AtomList { stored: One(atom) }
     }
 
-    /// The same atoms, not copied.
+    /// Takes these atoms without copying them.
     pub(crate) fn from_vec(atoms: Vec<Atom>) -> AtomList
         ensures { result ≡ atoms_view atoms.items }
     {
@@ -64,7 +64,7 @@ impl AtomList {
         }
     }
 
-    /// The atoms, to be read.
+    /// The atoms as a slice.
     pub(crate) fn as_slice(&self) -> &[Atom]
         ensures { atoms_view result.now ≡ self.now }
     {
@@ -74,7 +74,7 @@ impl AtomList {
         }
     }
 
-    /// The same atoms once more.
+    /// A copy of the atoms.
     pub(crate) fn copy(&self, alloc: Global) -> Result<AtomList, AllocError>
         ensures { IfOk result (λ l. l ≡ self.now) }
     {

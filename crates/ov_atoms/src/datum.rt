@@ -40,7 +40,7 @@ impl Model for Datum {
 }
 
 impl Drop for Datum {
-    // A drop of its own, so that crates above do not prove the drop of its parts again.
+    // An explicit drop, so that crates above need not prove the drop of its parts again.
     fn drop(self) {
         let Datum { parts } = self;
         drop(parts);
@@ -57,12 +57,12 @@ impl Datum {
         }
     }
 
-    /// The set of these atoms, in whatever order. Equal ones merge.
+    /// The set of these atoms, in any order. Equal ones merge.
     pub fn of_atoms(atoms: Vec<Atom>) -> Result<Datum, AllocError>
         ensures { IfOk result (λ d. d ≡ value.Atoms (value.set_of (atoms_view atoms.items))) }
     {
         let mut atoms = atoms;
-        // This sort merges lists that ascend, as those of two sets, in one pass.
+        // This sort merges ascending lists, such as those of two sets, in one pass.
         atoms.sort()?;
         atoms.dedup();
         Ok(Datum {
@@ -70,12 +70,12 @@ impl Datum {
         })
     }
 
-    /// The map of these pairs, in whatever order, or none where one key has two values. Equal pairs merge.
+    /// The map of these pairs, in any order, or `None` if a key has two values. Equal pairs merge.
     pub fn of_pairs(alloc: Global, pairs: Vec<(Atom, Atom)>) -> Result<Option<Datum>, AllocError>
         ensures { IfOk result (λ o. o ≡ (if has_clash (pairs_view pairs.items) then None else Some (value.Pairs (value.map_of (pairs_view pairs.items))))) }
     {
         let mut pairs = pairs;
-        // This sort merges lists that ascend, as those of two maps, in one pass.
+        // This sort merges ascending lists, such as those of two maps, in one pass.
         pairs.sort()?;
         if do_ascend(pairs.as_slice()) {
             return Ok(Some(Datum {
@@ -85,7 +85,7 @@ impl Datum {
         Datum::of_repeated(alloc, pairs)
     }
 
-    /// The map of these pairs, of which some have one key.
+    /// The map of these pairs, some of which have the same key.
     fn of_repeated(alloc: Global, pairs: Vec<(Atom, Atom)>) -> Result<Option<Datum>, AllocError>
         ensures { IfOk result (λ o. o ≡ (if has_clash (pairs_view pairs.items) then None else Some (value.Pairs (value.map_of (pairs_view pairs.items))))) }
     {
@@ -131,7 +131,7 @@ impl Datum {
         }
     }
 
-    /// The atoms of a set, ascending, or none where it is a map.
+    /// The atoms of a set, ascending, or `None` if it is a map.
     pub fn atoms(&self) -> Option<&[Atom]>
         ensures { option_map (λ xs. atoms_view xs.now) result ≡ value.atoms_in self.now }
     {
@@ -141,7 +141,7 @@ impl Datum {
         }
     }
 
-    /// The pairs of a map, ascending by their keys, or none where it is a set.
+    /// The pairs of a map, ascending by their keys, or `None` if it is a set.
     pub fn pairs(&self) -> Option<&[(Atom, Atom)]>
         ensures { option_map (λ ps. pairs_view ps.now) result ≡ value.pairs_in self.now }
     {
@@ -151,7 +151,7 @@ impl Datum {
         }
     }
 
-    /// How many atoms or pairs there are.
+    /// The number of atoms or pairs.
     pub fn count(&self) -> usize
         ensures { result ≡ value.count self.now }
     {
@@ -161,7 +161,7 @@ impl Datum {
         }
     }
 
-    /// The same value once more.
+    /// A copy of the value.
     pub fn copy(&self, alloc: Global) -> Result<Datum, AllocError>
         ensures { IfOk result (λ d. d ≡ self.now) }
     {
@@ -182,7 +182,7 @@ impl Datum {
     }
 }
 
-/// Whether each key goes before the next one.
+/// Whether each key comes before the next one.
 fn do_ascend(pairs: &[(Atom, Atom)]) -> bool
     ensures { OnTrue result (T (is_sorted value.atom_cmp (pairs_view pairs.now))) }
 {
@@ -195,7 +195,7 @@ fn do_ascend(pairs: &[(Atom, Atom)]) -> bool
     true
 }
 
-/// The pairs in order of their keys, or none where one key has two values.
+/// The pairs in order of their keys, or `None` if a key has two values.
 fn merge_pairs(
     alloc: Global,
     pairs: Vec<(Atom, Atom)>,

@@ -1,16 +1,16 @@
 use std::alloc::AllocError;
 use thiserror::Error;
 
-/// Why no atom and no value is read. The tree, which is lent, is as before.
+/// Why an atom or a value is not read. The tree, which is borrowed, is unchanged.
 #[derive(Clone, Copy, Debug, PartialEq, Eq, Error)]
 pub enum AtomFault {
-    /// The tree is no value of the kinds that were asked for, or names a row that no insert names (RFC 7047, 5.1).
+    /// The tree is not a value of the requested kinds, or names a row that no insert names (RFC 7047, 5.1).
     #[error("not a value of this type")]
     Syntax,
-    /// All parts read, and one key has two values.
+    /// All parts were read, and a key has two values.
     #[error("one key has two values")]
     Clash,
-    /// A growth was refused.
+    /// An allocation failed.
     #[error("out of memory")]
     Memory,
 }

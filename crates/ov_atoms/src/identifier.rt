@@ -17,7 +17,7 @@ pub fn has_sixteen_bytes(uuid: &Uuid)
     are_sixteen(uuid.as_bytes());
 }
 
-// No clause can say that each byte of an array fits: this walk reads them, and is compiled away.
+// No clause can say that each byte of an array fits, so this loop reads them; it is compiled away.
 fn are_sixteen(bytes: &[u8; 16])
     ensures length { length bytes.now ≡ 16 }
     ensures fit { All (λ b. b < 256) bytes.now }

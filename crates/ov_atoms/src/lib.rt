@@ -1,7 +1,7 @@
 //! Atoms and values, and their JSON form (RFC 7047, 5.1).
 //!
-//! A value is read from a JSON tree by the kinds of its column alone, or refused, and is written as the one tree that
-//! stands for it. What a column allows besides is no matter of this crate. What names no source is our own.
+//! A value is read from a JSON tree by the kinds of its column alone, or refused, and is written as the one tree that stands
+//! for it. Further constraints of a column are not checked here.
 #![tactic(auto)]
 
 mod atom;

@@ -10,8 +10,8 @@ use crate::kind::{AtomKind, Kinds};
 use crate::read::is_text;
 
 impl Datum {
-    /// Whether it is a value of these kinds, as one that was read by them is: a set of atoms of the kind, or a map between the
-    /// two (RFC 7047, 5.1, `<value>`). A text with U+0000 is of no kind.
+    /// Whether it is a value of these kinds, as a value that was read by them is: a set of atoms of the kind, or a map
+    /// between the two (RFC 7047, 5.1, `<value>`). A text with U+0000 is of no kind.
     pub fn is_of(&self, kinds: Kinds) -> bool
         ensures { result ≡ is_of (kinds_view kinds) self.now }
     {
@@ -70,7 +70,7 @@ fn is_atom_of(atom: &Atom, kind: AtomKind) -> bool
     }
 }
 
-/// Whether the number is within its bounds, as each of this type is.
+/// Whether the number is within the bounds, as every number of this type is.
 fn is_integer(number: i64) -> bool
     ensures { result ≡ is_in_64_bits number }
 {

@@ -11,7 +11,7 @@ impl PartialEq for Datum {
 
     ghost laws = { partial_equiv_from_equiv (eq_by_cmp_equiv datum_cmp_total) };
 
-    /// The same set, or the same map.
+    /// Whether both are the same set or the same map.
     fn eq(&self, other: &Datum) -> bool {
         self.cmp(other) == Ordering::Equal
     }
@@ -52,7 +52,7 @@ impl Ord for Datum {
 
     ghost matches_eq = { λ a b. refl };
 
-    /// Element by element in ascending order, a beginning first; sets before maps.
+    /// Compares element by element in ascending order, a prefix first; sets before maps.
     fn cmp(&self, other: &Datum) -> Ordering {
         match (&self.parts, &other.parts) {
             (SortedElements::Atoms(a), SortedElements::Atoms(b)) => a.as_slice().cmp(b.as_slice()),

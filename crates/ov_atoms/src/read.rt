@@ -192,7 +192,8 @@ fn pairs_of<N: Names>(
 }
 
 /// The value of these kinds that a tree stands for (RFC 7047, 5.1, `<value>`). A set is `["set",[atom,..]]` or one atom, a
-/// map `["map",[[key,value],..]]`; equal atoms and equal pairs merge. `Syntax` goes before `Clash`, wherever the two stand.
+/// map `["map",[[key,value],..]]`; equal atoms and equal pairs merge. `Syntax` takes precedence over `Clash`, wherever the
+/// two occur.
 pub fn read_datum<N: Names>(
     alloc: Global,
     tree: &Value,

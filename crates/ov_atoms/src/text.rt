@@ -10,8 +10,8 @@ use json::Writer;
 use std::alloc::AllocError;
 use uuid::Uuid;
 
-/// Puts the written form of a value (RFC 7047, 5.1, `<value>`) behind what the writer has: the text of the tree that
-/// `write_datum` makes, without the tree. Where memory is short, a part of it may be there.
+/// Appends the written form of a value (RFC 7047, 5.1, `<value>`): the text of the tree that `write_datum` makes, without
+/// building the tree. If an allocation fails, a part of it may have been written.
 pub fn put_datum(out: &mut Writer, datum: &Datum) -> Result<(), AllocError>
     ensures { Puts result out.old out.new (tokens_of (tree datum.now)) }
 {
@@ -21,7 +21,7 @@ pub fn put_datum(out: &mut Writer, datum: &Datum) -> Result<(), AllocError>
     }
 }
 
-/// A set of one as the bare atom.
+/// Writes a set of one as the bare atom.
 fn put_atoms(out: &mut Writer, atoms: &[Atom]) -> Result<(), AllocError>
     ensures { Puts result out.old out.new (tokens_of (set_tree (atoms_view atoms.now))) }
 {

@@ -15,7 +15,7 @@ pub(crate) fn as_two(tree: &Value) -> Option<(&Value, &Value)>
     Some((&items[0], &items[1]))
 }
 
-/// What stands behind a word in an array of two, as in `["set",[..]]`.
+/// The item after this word in an array of two, as in `["set",[..]]`.
 pub(crate) fn behind<'a>(word: &str, tree: &'a Value) -> Option<&'a Value>
     ensures { option_map (λ v. view v.now) result ≡ behind word.now (view tree.now) }
 {

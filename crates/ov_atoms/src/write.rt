@@ -31,7 +31,7 @@ fn text(alloc: Global, text: &str) -> Result<Value, AllocError>
     Ok(Value::String(String::from_str(alloc, text)?))
 }
 
-/// A word with a list behind it, as in `["set",[..]]`.
+/// A word followed by a list, as in `["set",[..]]`.
 fn listed(alloc: Global, word: &str, items: Vec<Value>) -> Result<Value, AllocError>
     ensures { IfOk result (λ v. view v ≡ two (string word.now) (array (items_view items.items))) }
 {
@@ -65,7 +65,7 @@ fn write_pair(alloc: Global, pair: &(Atom, Atom)) -> Result<Value, AllocError>
     )
 }
 
-/// A set of one as the bare atom.
+/// Writes a set of one as the bare atom.
 fn write_atoms(alloc: Global, atoms: &[Atom]) -> Result<Value, AllocError>
     ensures written { IfOk result (λ v. view v ≡ set_tree (atoms_view atoms.now)) }
     ensures plain { IfOk result (λ v. has_real (view v) ≡ false) }

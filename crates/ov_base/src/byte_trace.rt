@@ -3,7 +3,7 @@ ghost use Rattle.std.specs.Borrow.{ftrue};
 
 use std::marker::{Model, PhantomData};
 
-/// Bytes that only contracts see, in the order in which they were told. At run time it is empty and its calls do nothing.
+/// Bytes that only contracts see, in the order in which they were added. At run time it is empty and its calls do nothing.
 ///
 /// A source keeps one of what it has read, so that contracts can name the bytes that came in.
 #[derive(Drop)]
@@ -19,7 +19,7 @@ impl Model for ByteTrace {
 unsafe impl Send for ByteTrace {}
 
 impl ByteTrace {
-    /// A tape that was told nothing.
+    /// A trace without bytes.
     pub fn new() -> ByteTrace
         ensures { result.bytes ≡ [] }
     {
@@ -28,7 +28,7 @@ impl ByteTrace {
         }
     }
 
-    /// Tells these bytes behind what was told before.
+    /// Appends these bytes.
     pub fn add(&mut self, _more: &[u8])
         ensures { self.new.bytes ≡ self.old.bytes ++ _more.now }
     {}

@@ -38,7 +38,7 @@ impl Bytes {
         bytes
     }
 
-    /// The bytes, to be read.
+    /// The bytes as a slice.
     pub fn as_slice(&self) -> &[u8]
         ensures { result.now ≡ self.now }
     {

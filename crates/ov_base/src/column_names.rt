@@ -41,7 +41,7 @@ impl ColumnNames {
         })
     }
 
-    /// The names, to be read.
+    /// The names as a slice.
     pub fn as_slice(&self) -> &[String]
         ensures { map string_bytes result.now ≡ self.now }
     {

@@ -4,9 +4,10 @@ ghost use Rattle.ov_specs.specs.wire.Tree.{has_real, items_have_real, members_ha
 
 use serde_json::{Map, Value};
 
-/// Whether a number in the value is no integer from -2^63 to 2^63-1. A number that is written with a fraction or an exponent is none, and neither is `-0`.
+/// Whether a number in the value is not an integer from -2^63 to 2^63-1. A number that is written with a fraction or an
+/// exponent is not one, and neither is `-0`.
 ///
-/// RFC 7047, 3.1 has reals, which this server leaves out.
+/// RFC 7047, 3.1 has reals, which this server does not support.
 #[cycle(has_real)]
 pub fn has_real(value: &Value) -> bool
     ensures { result ≡ has_real (view value.now) }

@@ -5,11 +5,11 @@ use arrayvec::ArrayString;
 use std::alloc::{AllocError, Global};
 use std::marker::Model;
 
-/// The most bytes of a text that has no memory of its own.
+/// The most bytes of a text that is stored inline.
 const INLINE: usize = 16;
 
-/// Where the bytes of a text lie: in the value itself while they are few, else in memory of their own. Most names of tables and
-/// of rows are short, so that keys with them are compared and copied in place.
+/// Stores the bytes of a text: inline if they are few, else on the heap. Most names of tables and of rows are short, so keys
+/// with them are compared and copied in place.
 #[derive(Drop)]
 enum Stored {
     Short(ArrayString<INLINE>),
@@ -31,7 +31,7 @@ impl Model for Text {
 }
 
 impl Drop for Text {
-    // A drop of its own, so that whoever drops a text need not know where its bytes lie.
+    // An explicit drop, so that code that drops a text need not know where its bytes are stored.
     fn drop(self) {
         let Text { stored } = self;
         drop(stored);
@@ -39,7 +39,7 @@ impl Drop for Text {
 }
 
 impl Text {
-    /// The same text. It is copied where it is short.
+    /// The same text. It is copied if it is short.
     pub fn from_string(text: String) -> Text
         ensures { result ≡ string_bytes text }
     {
@@ -61,7 +61,7 @@ impl Text {
         Ok(Text { stored })
     }
 
-    /// The text, to be read.
+    /// The text as a string slice.
     pub fn as_str(&self) -> &str
         ensures { result.now ≡ self.now }
     {

@@ -33,7 +33,7 @@ impl Model for Tree {
 }
 
 impl Drop for Tree {
-    // A drop of its own, so that crates above do not prove the drop of a JSON value again.
+    // An explicit drop, so that crates above need not prove the drop of a JSON value again.
     fn drop(self) {
         let Tree { value: held } = self;
         drop(held);
@@ -41,7 +41,7 @@ impl Drop for Tree {
 }
 
 impl Tree {
-    /// The same tree, not copied. Ask `has_real` first.
+    /// Takes this tree without copying it. Check it with `has_real` first.
     pub fn new(value: Value) -> Tree
         requires { has_real (view value) ≡ false }
         ensures { result ≡ view value }
@@ -49,8 +49,8 @@ impl Tree {
         Tree { value }
     }
 
-    /// The text that is sent: compact, with the members of each object in ascending order of their names' bytes. Where the
-    /// tree nests at most 127 deep, it reads back as the tree.
+    /// The text that is sent: compact, with the members of each object in ascending order of their names' bytes. If the tree
+    /// nests at most 127 deep, the text reads back as the tree.
     pub fn to_bytes(&self, alloc: Global) -> Result<Bytes, AllocError>
         ensures text { IfOk result (λ b. b ≡ compact_text self.now) }
         ensures reads_back { depth self.now ≤ max_depth → IfOk result (λ b. tree_of b ≡ Some self.now) }
@@ -65,7 +65,7 @@ impl Tree {
         Ok(Tree::new(self.value.clone()?))
     }
 
-    /// The same tree, lent.
+    /// The tree, borrowed.
     pub fn as_value(&self) -> &Value
         ensures same { view result.now ≡ self.now }
         ensures plain { has_real self.now ≡ false }
@@ -73,7 +73,7 @@ impl Tree {
         &self.value
     }
 
-    /// The same tree, not copied.
+    /// The tree, not copied.
     pub fn into_value(self) -> Value
         ensures same { view result ≡ self }
         ensures plain { has_real (view result) ≡ false }

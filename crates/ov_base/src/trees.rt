@@ -30,7 +30,7 @@ impl Model for Trees {
 }
 
 impl Drop for Trees {
-    // A drop of its own, so that crates above do not prove the drop of a JSON value again.
+    // An explicit drop, so that crates above need not prove the drop of a JSON value again.
     fn drop(self) {
         let Trees { items: held } = self;
         drop(held);
@@ -38,7 +38,7 @@ impl Drop for Trees {
 }
 
 impl Trees {
-    /// The same trees, not copied. Ask `has_real` of each first.
+    /// Takes these trees without copying them. Check each with `has_real` first.
     pub fn new(items: Vec<Value>) -> Trees
         requires { items_have_real (items_view items.items) ≡ false }
         ensures { result ≡ items_view items.items }
@@ -46,7 +46,7 @@ impl Trees {
         Trees { items }
     }
 
-    /// The trees, to be read.
+    /// The trees as a slice.
     pub fn as_slice(&self) -> &[Value]
         ensures same { items_view result.now ≡ self.now }
         ensures plain { items_have_real self.now ≡ false }
@@ -66,7 +66,7 @@ impl Trees {
         Ok(Trees::new(items))
     }
 
-    /// The array of these, copied.
+    /// The array of these trees, copied.
     pub fn copy_as_tree(&self, alloc: Global) -> Result<Tree, AllocError>
         ensures { IfOk result (λ t. t ≡ array self.now) }
     {
@@ -77,7 +77,7 @@ impl Trees {
         Ok(Tree::new(Value::Array(items)))
     }
 
-    /// The array of these, not copied.
+    /// The array of these trees, not copied.
     pub fn into_tree(self) -> Tree
         ensures { result ≡ array self }
     {

@@ -35,7 +35,7 @@ equals-is column c value is row met = by (bytes_eq c.column column) (λ same. ap
     by true same is = same refl ∙ equal_value-is c.function c.value value (entry_value row c.column) is met
     by false same is = cc
 
--- what a column is to be equal to, lent, is the value that each row that meets the condition has there
+-- what a column is to be equal to, borrowed, is the value that each row that meets the condition has there
 pub equal_values : (column : List ℕ) (c : Condition) (o : Option (Bor Datum)) → option_copied o ≡ equals column c → IfSome o (λ value. IsValueIn column value.now c)
 equal_values column c None is = tt
 equal_values column c (Some value) is = equals-is column c value.now (sym is)

@@ -55,7 +55,7 @@ module _ {A : Type 0} (key : A → Atom) where
     none-after : (k x : Atom) → is_lt (atom_cmp x k) ≡ false → ((y : A) → atom_cmp k (key y) ≡ Less → test y ≡ false) → (xs : List A) → T (below x xs) → list_any test xs ≡ false
     none-after k x past apart xs h = none-below x (λ y up. apart y (reaches k x (key y) past up)) xs h
 
-    -- what is passed over is not what is looked for
+    -- what is passed over is not what is sought
     pub list_any-from_key : (k : Atom) → ((x : A) → atom_cmp (key x) k ≡ Less → test x ≡ false) → (xs : List A) → list_any test (from_key key k xs) ≡ list_any test xs
     list_any-from_key k apart [] = refl
     list_any-from_key k apart (x ∷ xs) =
@@ -64,7 +64,7 @@ module _ {A : Type 0} (key : A → Atom) where
           | false ↦ λ e. refl
         ] refl
 
-    -- what is looked for at a key stands first, or nowhere
+    -- what is sought at a key stands first, or nowhere
     is_first-any : (k : Atom) → ((y : A) → atom_cmp k (key y) ≡ Less → test y ≡ false) → (xs : List A) → T (ascends xs) → is_first test (from_key key k xs) ≡ list_any test (from_key key k xs)
     is_first-any k apart [] h = refl
     is_first-any k apart (x ∷ xs) h =

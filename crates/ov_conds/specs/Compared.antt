@@ -1,4 +1,4 @@
--- How values are compared, by the ascending lists of what they have.
+-- How values are compared, by the ascending lists of their elements.
 use Rattle.std.specs.Prelude.{ℤ, int_lt, int_le, not, List, [], ◌∷◌, Bool, true, false, Option, Some, None}
 use Rattle.std.specs.Cmp.Lexicographic.{pointwise}
 use Rattle.std.specs.FinMap.{keys, entries}
@@ -14,12 +14,12 @@ pub data Elements : Type 0 where
   Atoms : (atoms : List value.Atom) → Elements
   Pairs : (pairs : List (value.Atom × value.Atom)) → Elements
 
--- what a value has
+-- the elements of a value
 abbrev pub elements_of : Datum → Elements
 elements_of (value.Atoms atoms) = Atoms (keys atoms)
 elements_of (value.Pairs pairs) = Pairs (entries pairs)
 
--- the number, where there is one and nothing else
+-- the number, if there is one and nothing else
 abbrev pub number_of : Elements → Option ℤ
 number_of (Atoms atoms) = lone_integer atoms
 number_of (Pairs pairs) = None
@@ -29,7 +29,7 @@ abbrev pub lone_uuid : List value.Atom → Option Uuid
 lone_uuid (value.Uuid id ∷ []) = Some id
 lone_uuid atoms = None
 
--- the identifier, where there is one and nothing else
+-- the identifier, if there is one and nothing else
 abbrev pub uuid_of : Elements → Option Uuid
 uuid_of (Atoms atoms) = lone_uuid atoms
 uuid_of (Pairs pairs) = None
@@ -52,7 +52,7 @@ excludes (Atoms column) (Atoms value) = excludes_atoms column value
 excludes (Pairs column) (Pairs value) = excludes_pairs column value
 excludes column value = true
 
--- the column stands so to the value
+-- the column stands in this relation to the value
 abbrev pub compares : Function → Elements → Elements → Bool
 compares Less column value = are_numbers_so int_lt (number_of column) (number_of value)
 compares LessOrEqual column value = are_numbers_so int_le (number_of column) (number_of value)

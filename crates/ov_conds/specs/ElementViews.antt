@@ -1,4 +1,4 @@
--- What a value has in the code, as the lists of the definitions.
+-- The elements of a value in the code, as the lists of the definitions.
 use Rattle.ov_atoms.specs.Views.{atoms_view, pairs_view}
 use Rattle.ov_conds.specs.Compared as compared
 use Rattle.ov_conds.specs.declared.elements.Elements.{Elements}

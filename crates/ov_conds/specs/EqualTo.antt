@@ -1,4 +1,4 @@
--- The value that a condition asks for in a column. What names no source is our own.
+-- The value that a condition asks for in a column.
 use Rattle.std.specs.Prelude.{◌≡◌, true, if◌then◌else◌, List, ℕ, Option, Some, None}
 use Rattle.std.specs.Str.{bytes_eq}
 use Rattle.ov_specs.specs.operations.Conditions.{Condition, Function, Equal, holds, entry_value}
@@ -6,7 +6,7 @@ use Rattle.ov_specs.specs.rows.Database.{Row}
 use Rattle.ov_specs.specs.rows.Lines.{LineKey}
 use Rattle.ov_specs.specs.values.Value.{Datum}
 
--- the value, where it is what a column is to be equal to
+-- the value, if a column is to be equal to it
 abbrev pub equal_value : Function → Datum → Option Datum
 equal_value Equal value = Some value
 equal_value f value = None

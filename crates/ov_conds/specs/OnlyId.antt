@@ -1,4 +1,4 @@
--- The identifier that a condition asks for: the rows that meet it are one at most. What names no source is our own.
+-- The identifier that a condition asks for: at most one row meets it.
 use Rattle.std.specs.Prelude.{◌≡◌, true, if◌then◌else◌, Option, None, codes}
 use Rattle.std.specs.Str.{bytes_eq}
 use Rattle.ov_specs.specs.operations.Conditions.{Condition, Function, Equal, holds, entry_value}

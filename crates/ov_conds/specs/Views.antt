@@ -25,13 +25,13 @@ function_view function.Excludes = conditions.Excludes
 abbrev pub triple_view : Triple → conditions.Triple
 triple_view t = record { column = t.column.now; word = t.word.now; value = view t.value.now }
 
--- why a value does not read, as the fault of its condition
+-- why a value cannot be read, as the fault of its condition
 abbrev pub fault_of : AtomFault → ConditionFault
 fault_of atom.Syntax = Syntax
 fault_of atom.Clash = Clash
 fault_of atom.Memory = Memory
 
--- what is read, or the fault that there is in place of it; "out of memory" may be answered to anything
+-- what is read, or the fault instead; "out of memory" may be returned in any case
 abbrev pub IsConditionRead : {A : Type 0} → Result A conditions.ConditionFault → Result A ConditionFault → Type 0
 IsConditionRead read (Ok a) = read ≡ Ok a
 IsConditionRead read (Err Syntax) = read ≡ Err conditions.BadCondition

@@ -43,7 +43,7 @@ fn are_pairs(first: &[(Atom, Atom)], second: &[(Atom, Atom)]) -> bool
 }
 
 impl Elements<'_> {
-    /// The same set or map.
+    /// Whether both are the same set or map.
     fn is_same(self, other: Elements<'_>) -> bool
         ensures { result ≡ compared.are_same (elements_view self.entry) (elements_view other.entry) }
     {
@@ -54,7 +54,7 @@ impl Elements<'_> {
         }
     }
 
-    /// Whether all that the value has is there.
+    /// Whether everything in the value is here.
     fn includes(self, value: Elements<'_>) -> bool
         ensures { result ≡ compared.includes (elements_view self.entry) (elements_view value.entry) }
     {
@@ -65,7 +65,7 @@ impl Elements<'_> {
         }
     }
 
-    /// Whether nothing that the value has is there.
+    /// Whether nothing in the value is here.
     fn excludes(self, value: Elements<'_>) -> bool
         ensures { result ≡ compared.excludes (elements_view self.entry) (elements_view value.entry) }
     {
@@ -78,7 +78,7 @@ impl Elements<'_> {
 }
 
 impl Function {
-    /// Whether a column that holds this stands so to the value (RFC 7047, 5.1, `<function>`).
+    /// Whether a column with these contents stands in this relation to the value (RFC 7047, 5.1, `<function>`).
     pub(crate) fn compares(self, column: Elements<'_>, value: Elements<'_>) -> bool
         ensures { result ≡ compared.compares (function_view self) (elements_view column.entry) (elements_view value.entry) }
     {

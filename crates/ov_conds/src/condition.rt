@@ -43,10 +43,10 @@ impl Model for Condition {
 }
 
 impl Condition {
-    /// The condition on a row of the table that a tree is. Of its faults the first is told: its shape, then its column,
-    /// the function on that column, and its value. The value is read by the kinds of the column alone, and where the
-    /// column is a scalar it has one atom (RFC 7047, 5.1, `<condition>`; which fault is told is our own). Where names stand
-    /// for identifiers alone, it is a value of these kinds within their bounds.
+    /// Reads a condition on a row of the table from a tree. Reports the first of its faults: in its shape, its column, the
+    /// function on that column, and its value. The value is read by the kinds of the column alone, and for a scalar column it
+    /// has one atom (RFC 7047, 5.1, `<condition>`, which does not say which fault). If names stand for identifiers alone, it
+    /// is a value of these kinds within their bounds.
     pub fn read<N: Names>(
         alloc: Global,
         table: &Table,
@@ -91,7 +91,7 @@ impl Condition {
         }
     }
 
-    /// The identifier that each row that meets the condition has, where `_uuid` is to be equal to one.
+    /// The identifier of each row that meets the condition, if `_uuid` is to be equal to one.
     pub fn only_id(&self) -> Option<Uuid>
         ensures value { result ≡ only_id self.now }
         ensures only { IfSome result (λ id. IsOnlyOf id self.now) }
@@ -112,7 +112,7 @@ impl Condition {
         }
     }
 
-    /// The value that each row that meets the condition has in the column of this name, where the column is to be equal to it.
+    /// The value of each row that meets the condition in the column of this name, if the column is to be equal to it.
     pub fn equals(&self, column: &str) -> Option<&Datum>
         ensures value { option_copied result ≡ equals column.now self.now }
         ensures only { IfSome result (λ value. IsValueIn column.now value.now self.now) }

@@ -5,8 +5,8 @@ ghost use Rattle.ov_conds.specs.ElementViews.{elements_view};
 use ov_atoms::{Atom, Datum};
 use uuid::Uuid;
 
-/// What a value has, lent (RFC 7047, 5.1, `<value>`). Without a value of its own an identifier can be compared too, so
-/// that no comparison takes memory.
+/// The contents of a value, borrowed (RFC 7047, 5.1, `<value>`). An identifier that has no value of its own can be compared
+/// too, so that no comparison allocates.
 #[derive(Clone, Copy)]
 pub enum Elements<'a> {
     /// The atoms of a set, ascending.
@@ -16,7 +16,7 @@ pub enum Elements<'a> {
 }
 
 impl<'a> Elements<'a> {
-    /// What this value has.
+    /// The contents of this value.
     pub fn of(datum: &'a Datum) -> Elements<'a>
         ensures { elements_view result ≡ compared.elements_of datum.now }
     {
@@ -27,7 +27,7 @@ impl<'a> Elements<'a> {
         }
     }
 
-    /// The integer, where there is one and nothing else.
+    /// The integer, if there is one and nothing else.
     pub fn number(self) -> Option<i64>
         ensures { result ≡ compared.number_of (elements_view self.entry) }
     {
@@ -37,7 +37,7 @@ impl<'a> Elements<'a> {
         }
     }
 
-    /// The identifier, where there is one and nothing else.
+    /// The identifier, if there is one and nothing else.
     pub(crate) fn uuid(self) -> Option<Uuid>
         ensures { result ≡ compared.uuid_of (elements_view self.entry) }
     {

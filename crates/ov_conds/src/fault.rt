@@ -2,17 +2,17 @@ use ov_atoms::AtomFault;
 use std::alloc::AllocError;
 use thiserror::Error;
 
-/// Why no condition is read. The tree, which is lent, is as before.
+/// Why no condition could be read. The tree, which is borrowed, is unchanged.
 #[derive(Clone, Copy, Debug, PartialEq, Eq, Error)]
 pub enum ConditionFault {
-    /// The tree is built wrong, or its function is none of the column, or its value is none that the column can be
+    /// The tree is malformed, its function does not apply to the column, or its value is not one that the column can be
     /// compared with (RFC 7047, 5.1, `<condition>`).
     #[error("not a condition on this column")]
     Syntax,
     /// The table has no column of this name.
     #[error("no such column")]
     UnknownColumn,
-    /// A growth was refused.
+    /// An allocation failed.
     #[error("out of memory")]
     Memory,
     /// One key of the value has two values.

@@ -43,7 +43,7 @@ impl Function {
         }
     }
 
-    /// Whether the column can be compared so: in order only where it holds one integer, otherwise whatever it holds.
+    /// Whether the column can be compared this way: by order only if it holds one integer, otherwise whatever it holds.
     fn is_allowed_on(self, column: &Column) -> bool
         ensures { result ≡ allows_function column.now.type_of (function_view self) }
     {
@@ -54,7 +54,7 @@ impl Function {
         }
     }
 
-    /// The function of a word, where the column can be compared so.
+    /// The function of a word, if the column can be compared this way.
     pub(crate) fn on(column: &Column, word: &str) -> Option<Function>
         ensures { option_map function_view result ≡ function_on column.now.type_of word.now }
     {

@@ -1,7 +1,6 @@
 //! The conditions of a "where": read from their trees, and tested on rows (RFC 7047, 5.1, `<condition>`).
 //!
-//! A condition is judged by the column that it names, once, as it is read. A test of a row takes no memory. What names no source
-//! is our own.
+//! A condition is checked against the column that it names, once, as it is read. Testing a row allocates nothing.
 #![tactic(auto)]
 
 mod compare;

@@ -5,7 +5,7 @@ ghost use Rattle.ov_conds.specs.Views.{triple_view};
 
 use serde_json::Value;
 
-/// The parts of a condition or a mutation, lent from its tree and not yet judged (RFC 7047, 5.1, `<condition>` and
+/// The parts of a condition or a mutation, borrowed from its tree and not yet checked (RFC 7047, 5.1, `<condition>` and
 /// `<mutation>`).
 #[derive(Clone, Copy)]
 pub struct Triple<'a> {
@@ -18,7 +18,7 @@ pub struct Triple<'a> {
 }
 
 impl<'a> Triple<'a> {
-    /// The parts of an array of a text, a text and any value, or none where the tree is built otherwise.
+    /// The parts of an array of a text, a text and any value; `None` if the tree is built otherwise.
     pub fn read(tree: &'a Value) -> Option<Triple<'a>>
         ensures { option_map triple_view result ≡ triple_read (view tree.now) }
     {

@@ -5,8 +5,8 @@ ghost use Rattle.ov_conds.specs.Walks.{includes_atoms, includes_pairs, excludes_
 
 use ov_atoms::Atom;
 
-/// The rest of an ascending list of atoms from the first on that is not below this one. Who asks for ascending atoms,
-/// each time in the rest that came out before, goes through the list once.
+/// The rest of an ascending list of atoms, from the first that is not below this one. A caller that asks for ascending atoms,
+/// each time in the rest returned before, goes through the list once.
 pub fn atoms_from<'a>(atoms: &'a [Atom], atom: &Atom) -> &'a [Atom]
     ensures { atoms_view result.now ≡ walks.atoms_from (atom_view atom.now) (atoms_view atoms.now) }
 {
@@ -18,7 +18,7 @@ pub fn atoms_from<'a>(atoms: &'a [Atom], atom: &Atom) -> &'a [Atom]
     &[]
 }
 
-/// The rest of an ascending list of pairs from the first on whose key is not below this one, as `atoms_from`.
+/// The rest of an ascending list of pairs, from the first whose key is not below this one, like `atoms_from`.
 pub fn pairs_from<'a>(pairs: &'a [(Atom, Atom)], key: &Atom) -> &'a [(Atom, Atom)]
     ensures { pairs_view result.now ≡ walks.pairs_from (atom_view key.now) (pairs_view pairs.now) }
 {

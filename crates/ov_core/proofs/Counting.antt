@@ -1,8 +1,8 @@
--- How many tries settling takes: two times the number of the next, and what is left to do, does not rise.
+-- How many tries settling takes: twice the number of the next try, plus what is left to do, does not rise.
 use Rattle.std.proofs.Common.{◌≡◌, ℕ, zero, suc, ◌+◌, ◌*◌, ◌<◌, ◌≤◌, arith}
 use Rattle.std.proofs.lemmas.Nat.{mul-le}
 
--- what fewer have to do
+-- what is left to do when fewer wait
 squares : (t u : ℕ) → t + 1 ≤ u → t * t + t + u ≤ u * u
 squares t u h =
     let first : (t + 1) * u ≤ u * u = mul-le (t + 1) u u u h (omega arith) in
@@ -42,7 +42,7 @@ falls_again left all all' some fewer = omega (arith, some, squares all' all fewe
 pub number_below : (number first left all waiting : ℕ) → number + number + (left + left) + all * all ≤ first + first + (waiting + waiting * waiting) + all → first ≤ 2 → waiting ≤ 4096 → number + number ≤ 16785412
 number_below number first left all waiting few low most = omega (arith, few, low, most, square all, mul-le waiting waiting 4096 4096 most most)
 
--- so many tries were made
+-- the number of tries made
 pub tries_within : (number first all waiting tries before : ℕ) → number + number + (0 + 0) + all * all ≤ first + first + (waiting + waiting * waiting) + all → tries + first ≡ before + number
     → tries + tries ≤ before + before + waiting * (waiting + 1)
 tries_within number first all waiting tries before few same = omega (arith, few, same, square all)

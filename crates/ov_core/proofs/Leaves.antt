@@ -1,4 +1,4 @@
--- Whom a closing tells of the locks that its session leaves: others alone.
+-- When a session closes and leaves its locks, only other sessions are notified.
 use Rattle.std.proofs.Common.{◌≡◌, ℕ, List, [], ◌∷◌, Bool, true, false, cond, eqb, Option, Some, None, refl, sym, ap, ◌∙◌, map}
 use Rattle.std.specs.Prelude.{not}
 use Rattle.std.proofs.lemmas.Option.{same_Some}
@@ -24,7 +24,7 @@ next_is_other session next (first ∷ queue) is = by (eqb first session) is
     by true h = first_without session next queue h
     by false h = cc
 
--- so its own session is told nothing
+-- so its own session is not notified
 pub leaving_silent : (session : ℕ) (queues : Queues) → frames_to session (told (told_of_leaving session queues)) ≡ []
 leaving_silent session [] = refl
 leaving_silent session (e ∷ queues) = by (next_in session e.1) refl (leaving_silent session queues)

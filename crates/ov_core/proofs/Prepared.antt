@@ -1,4 +1,4 @@
--- What is prepared before the store is asked, as what is sent behind its answer.
+-- What is prepared before the store is asked is what is sent after its answer.
 use Rattle.std.proofs.Common.{◌≡◌, ℕ, ◌+◌, ◌≤◌, List, [], ◌∷◌, ◌++◌, map, refl, sym, ap, subst, ◌∙◌, true, inl, inr, Option, Some, arith}
 use Rattle.std.proofs.lemmas.List.{map-append}
 use Rattle.serde_json.specs.Data.{Data, Items, array}
@@ -48,7 +48,7 @@ module _ {K : Type 0} (outcome : TransactionOutcome) (old : KeptDatabase K) (was
   pub tried_room : (tried : Tried) (new : KeptDatabase K) (is : Replying) → IsTried Prepares outcome old was tried new is → (other : ℕ) → count_of other is.prepared ≤ places_for other is.queues
   tried_room tried new is h other = omega (arith, tried_places tried new is h other)
 
-  -- and behind them the places that were kept before
+  -- and after them the places that were kept before
   pub tried_keeps : (tried : Tried) (new : KeptDatabase K) (is : Replying) → IsTried Prepares outcome old was tried new is → (queues : Queues) (left : WaitingFrames) → HasRoom was.queues queues → TakesPlaces is.prepared is.queues left → HasRoom left queues
   tried_keeps tried new is h queues left room takes session = omega (arith, tried_places tried new is h session, takes session, room session)
 
@@ -81,7 +81,7 @@ module _ {K : Type 0} (ms : List machine.Session) (n : ℕ) (id : Data) (results
 
 -- ---- the try as a whole
 
--- A transaction that is tried with these locks: what an attempt leaves, as it was prepared, is sent, and waits then.
+-- A transaction that is tried with these locks: what an attempt leaves, as it was prepared, is sent, and then waits.
 module _ {K : Type 0} (ms : List machine.Session) (n : ℕ) (id : Data) (to : Queues → TransactionOutcome) (queues locks : Queues) (old new : KeptDatabase K) (was is : Replying) (tried : Tried) (waited left between : WaitingFrames)
     (locks_are : locks ≡ queues) (waited_is : was.queues ≡ waited) (left_is : between ≡ left)
     (was_tried : IsTried Prepares (to locks) old was tried new is) (sends : SendsPrepared tried is.prepared is.exhausted is.failed is.queues left) where

@@ -1,4 +1,4 @@
--- What is prepared before the store is asked, frame after frame.
+-- What is prepared before the store is asked, frame by frame.
 use Rattle.std.proofs.Common.{◌≡◌, ℕ, List, [], ◌∷◌, ◌++◌, map, refl, sym, ap, subst, ◌∙◌, Bool, true, false, append_assoc}
 use Rattle.std.proofs.lemmas.List.{append-nil, map-append}
 use Rattle.serde_json.specs.Data.{Items}
@@ -33,7 +33,7 @@ prepares_then xs ys a b c ok one two = record {
     by true h = h ∙ (ap (λ fs. fs ++ ys) one.prepared ∙ append_assoc a.prepared xs ys)
     by false h = tt
 
--- memory was refused before the others
+-- an allocation failed before the others
 pub prepares_refused : (xs ys : List (ℕ × List ℕ)) (a b : Replying) → PreparesFrames xs a false b → PreparesFrames (xs ++ ys) a false b
 prepares_refused xs ys a b one = record { prepared = tt; waits = one.waits; places = one.places; same = one.same }
 
@@ -53,7 +53,7 @@ no_updates s all a is = subst (λ (xs : List Items). PreparesMore (to_session s 
 pub updates_as : (s : ℕ) (all others : List Items) (a b : Replying) (ok : Bool) → all ≡ others → PreparesMore (to_session s (map update_note all)) a ok b → PreparesMore (to_session s (map update_note others)) a ok b
 updates_as s all others a b ok is h = subst (λ (xs : List Items). PreparesMore (to_session s (map update_note xs)) a ok b) is h
 
--- what one session is told, and then the others
+-- the updates of one session, and then the others
 pub session_then : (before after : Database) (w v : Watching) (n : ℕ) (rest all : List ℕ) (a b c : Replying) (ok : Bool) → all ≡ n ∷ rest → v ≡ w → PreparesMore (updates_to_one before after v n) a true b → PreparesMore (updates_to before after w rest) b ok c
     → PreparesMore (updates_to before after w all) a ok c
 session_then before after w v n rest all a b c ok is same one two =
@@ -68,7 +68,7 @@ session_refused before after w v n rest all a b is same one =
 pub no_sessions : (before after : Database) (w : Watching) (all : List ℕ) (a : Replying) → all ≡ [] → PreparesMore (updates_to before after w all) a true a
 no_sessions before after w all a is = subst (λ (xs : List ℕ). PreparesMore (updates_to before after w xs) a true a) (sym is) (prepares_nothing a)
 
--- what the monitors of these sessions are told, by their serials
+-- the updates of the monitors of these sessions, by their serials
 pub updates_are : (before after : Database) (w : Watching) (sessions : List Session) → updates_sent before after (sessions_of w sessions) ≡ updates_to before after w (map (λ n. n.serial) sessions)
 updates_are before after w [] = refl
 updates_are before after w (n ∷ sessions) = ap (λ rest. updates_to_one before after w n.serial ++ rest) (updates_are before after w sessions)

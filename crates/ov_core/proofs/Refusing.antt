@@ -1,4 +1,4 @@
--- What is told of a lock or a monitor that is refused.
+-- What is answered when a lock or a monitor is refused.
 use Rattle.std.proofs.Common.{◌≡◌, ◌≢◌, List, [], ℕ, Option, Some, Result, Err, refl, sym, ap, ◌∙◌}
 use Rattle.std.specs.Prelude.{IfSome}
 use Rattle.ov_locks.specs.Refusing.{fault_text}

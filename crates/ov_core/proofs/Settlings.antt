@@ -1,4 +1,4 @@
--- Settling on its way, try by try, as its loop goes on.
+-- Settling under way, try by try, as its loop goes on.
 use Rattle.std.proofs.Common.{◌≡◌, ℕ, ◌+◌, ◌-◌, ◌*◌, ◌<◌, ◌≤◌, List, [], ◌∷◌, ◌++◌, map, length, refl, sym, ap, subst, ◌∙◌, Bool, true, false, cond, eqb, Option, Some, None, append_assoc, arith}
 use Rattle.std.specs.Prelude.{not}
 use Rattle.std.specs.List.{filter, list_any}
@@ -61,7 +61,7 @@ listed_few number (Some o) = omega arith
 pub closed_state : {K : Type 0} (m n : ℕ) (old new : Live K) → ClosesSession n old new → state_of new m ≡ (machine.closed (state_of old m) n).state
 closed_state m n old new c = rw (c.same, c.queues, sessions-without n old.watchers new.watchers c.watching old.sessions.open_sessions) refl
 
--- a try that is over leaves no more that wait
+-- after a finished try no more transactions wait than before
 pub after_few : {K : Type 0} (n : ℕ) (o : Option Outcome) (live new : Live K) → AfterTry n o live new → many new.waiting ≤ many live.waiting
 after_few n (Some outcome.NoMemory) live new c = rw c.same (omega (arith, length-kept (λ (w : Outstanding). not (eqb w.session n)) live.waiting.outstanding))
 after_few n (Some outcome.Kept) live new is =
@@ -70,7 +70,7 @@ after_few n (Some outcome.Exhausted) live new is = rw is (omega arith)
 after_few n (Some outcome.Failed) live new is = rw is (omega arith)
 after_few n None live new is = rw is (omega arith)
 
--- and as many that the pass has still to try, or none of them where all are tried again
+-- and the same are left for the pass to try, unless all are tried again
 pub after_untried : {K : Type 0} (n : ℕ) (o : Option Outcome) (live new : Live K) → machine.is_kept (listed_of o) ≡ false → AfterTry n o live new → new.waiting.untried ≡ live.waiting.untried
 after_untried {K} n (Some outcome.NoMemory) live new h c = ap (λ (l : Live K). l.waiting.untried) c.same
 after_untried n (Some outcome.Kept) live new h is = absurd (false≢true (sym h))
@@ -122,7 +122,7 @@ still-same watching sessions waiting = filter-same _ _ (λ o. any-serial watchin
 -- ---- from one try to the next
 
 module _ {K : Type 0} (failed : K → ℕ) (m first : ℕ) (from : Live K) (before : List Attempt) (now : Live K) (listed : List Attempt) (number : ℕ) where
-  -- how few are still to come
+  -- the bound on the number of the next try
   abbrev Few : ℕ → WaitingList → Type 0
   Few next w =
       next + next + (length w.untried + length w.untried) + many w * many w
@@ -171,7 +171,7 @@ module _ {K : Type 0} (failed : K → ℕ) (m first : ℕ) (from : Live K) (befo
       there : machine.is_open (state_of now m) w.session ≡ true
       there = any-serial now.watchers w.session now.sessions.open_sessions ∙ open'
 
-      -- what it comes to
+      -- its result
       abbrev on : TransactionOutcome
       on = transaction now.database.schema now.database.committed (owns now.outbox.queues w.session) w.draws (m - w.arrival) w.operations
 
@@ -186,7 +186,7 @@ module _ {K : Type 0} (failed : K → ℕ) (m first : ℕ) (from : Live K) (befo
           (reaches_next (state_of from m) first x.made (state_of now m) x.sent number w rest here (listed_of o) (record { state = state_of new m; sent = sent }) there again not_kept))
           posts asks counts left tries few
 
-      -- one that is blocked again, which leaves what waits in the outbox as it is
+      -- one that is blocked again, which leaves the waiting frames as they are
       pub blocked : (outbox : Outbox) (timeout : Option ℕ) → outbox.queues ≡ now.outbox.queues → HasSameFrames now.outbox.frames outbox.frames → on ≡ Waits timeout
           → IsSettling failed m first from before (record now { outbox = outbox; tries = now.tries + 1; waiting = record { untried = rest; outstanding = now.waiting.outstanding ++ record w { timeout = timeout } ∷ [] } }) listed (number + 1)
       blocked outbox timeout queues silent waits =
@@ -211,7 +211,7 @@ module _ {K : Type 0} (failed : K → ℕ) (m first : ℕ) (from : Live K) (befo
             → tries_again (state_of now m) w (listed_of o) ≡ Some (record { state = with_db (state_of now m) db; sent = c.sent })
         completes_again o c is = is ∙ (ap (λ (t : TransactionOutcome). machine.attempt (state_of now m) w t (listed_of o)) c.is ∙ c.comes (state_of now m) refl)
 
-        -- the state over the database is that of what lives
+        -- the state over the database is that of the live state
         state_is : state_of mid m ≡ with_db (state_of now m) db
         state_is = rw queues refl
 
@@ -256,7 +256,7 @@ module _ {K : Type 0} (failed : K → ℕ) (m first : ℕ) (from : Live K) (befo
 
 -- ---- the first and the last
 
--- all that wait are to be tried
+-- all waiting transactions are to be tried
 pub begun : {K : Type 0} (failed : K → ℕ) (m first : ℕ) (old : Live K) (listed : List Attempt) → old.waiting.untried ≡ []
     → IsSettling failed m first old listed (record old { waiting = record { untried = old.waiting.outstanding; outstanding = old.waiting.untried } }) listed first
 begun failed m first old listed none = rw none (record {

@@ -38,7 +38,7 @@ use Rattle.ov_core.proofs.Watching.{any-serial, left-open, sessions-opened}
 
 -- ---- what a step of the code leaves
 
--- an entry that is a step of the machine, is kept, and whose frames wait
+-- an entry that is a step of the machine and is kept, and whose frames wait
 pub moves_with : {K D : Type 0} (old new : CoreState K D) (e : machine.Entry) (x : Entry) (sent : List Sent) → step old.state e ≡ Some (record { state = new.state; sent = sent }) → new.kept ≡ newest (old.kept ++ x ∷ []) → entry_view x ≡ e
     → PostsSent sent old.outbox new.outbox → EntersEntry old e new
 moves_with old new e x sent stepped kept is waits = record {
@@ -81,7 +81,7 @@ pub entered_as : (m n : ℕ) (message text : Message) (draws : List Uuid) (outco
 entered_as m n message text draws outcomes x is same =
     is ∙ ap (λ (v : Message). entry_of (machine.Take n v) (record { moment = m; draws = draws; outcomes = outcomes })) same
 
--- what a core was over what lives
+-- what a core was over the live state
 abbrev pub core_of : {K D : Type 0} → (K → ℕ) → Live K → ℕ → List Entry → D → CoreState K D
 core_of failed live m entries source = record {
   state = state_of live m;
@@ -156,7 +156,7 @@ module _ {K : Type 0} (failed : K → ℕ) (event : machine.Event) (old new : Li
     counts = comes.asks.counts;
   }
 
--- a message that was taken: its session is open behind it, or not
+-- a message that was taken: its session is open afterwards, or not
 pub took : {K D : Type 0} (failed : K → ℕ) (draws : D → Uuid → D → Type 0) (n : ℕ) (message : Message) (old new : Live K) (before m : ℕ) (drawn : List Uuid) (attempts : List Attempt) (was is : List Entry) (x : Entry) (source after : D) (b : Bool)
     → ComesTo failed m (machine.Take n message) old drawn attempts new → before ≤ m → is ≡ newest (was ++ x ∷ []) → entry_view x ≡ entry_of (machine.Take n message) (record { moment = m; draws = drawn; outcomes = map attempt_view attempts })
     → DrawsFrom draws source drawn after → list_all is_uuid drawn ≡ true → machine.is_open (state_of new m) n ≡ b
@@ -233,7 +233,7 @@ closed_as_asked draws at s cause old new c = record { entry = closing at s cause
 abbrev pub none_open : OpenSessions
 none_open = record { open_sessions = []; next = 1 }
 
--- what lives over a database that was opened
+-- the live state over a database that was opened
 abbrev pub opened_over : {K : Type 0} → KeptDatabase K → Live K
 opened_over d = record { database = d; sessions = none_open; watchers = []; waiting = record { untried = []; outstanding = [] }; outbox = record { frames = []; queues = [] }; tries = 0 }
 

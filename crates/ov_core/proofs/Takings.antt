@@ -1,4 +1,4 @@
--- What a message and a Tick come to, from the work and from settling.
+-- The results of a message and of a `Tick`, from the work and from settling.
 use Rattle.std.proofs.Common.{◌≡◌, ℕ, ◌+◌, ◌≤◌, List, [], ◌++◌, map, length, refl, sym, ap, subst, ◌∙◌, cond, eqb, Bool, true, false, Option, Some, None, arith}
 use Rattle.std.proofs.lemmas.Bool.{le-leb, false≢true}
 use Rattle.ov_specs.specs.locks.Queues.{Queues, leave, told_of_leaving}
@@ -38,7 +38,7 @@ not_kept (Some outcome.Kept) h = cc
 not_kept (Some outcome.Exhausted) h = refl
 not_kept (Some outcome.Failed) h = refl
 
--- where the outcome is not that memory was refused, the work was done
+-- if no allocation failed, the work was done
 done_where : {K : Type 0} (m n : ℕ) (w : Work) (draws : List Uuid) (old : Live K) (o : Option Outcome) (new : Live K) → is_closing o ≡ false → WorksWith m n w draws old o new → WorkIsDone m n w draws old o new
 done_where m n w draws old None new h done = done
 done_where m n w draws old (Some outcome.NoMemory) new h done = absurd (false≢true (sym h))
@@ -60,7 +60,7 @@ kept_is (Some outcome.Kept) h = refl
 kept_is (Some outcome.Exhausted) h = absurd (false≢true h)
 kept_is (Some outcome.Failed) h = absurd (false≢true h)
 
--- where it was kept, the same transactions wait
+-- if it was kept, the same transactions wait
 pub kept_waits : {K : Type 0} (m n : ℕ) (w : Work) (draws : List Uuid) (old : Live K) (o : Option Outcome) (new : Live K) → is_kept o ≡ true → WorksWith m n w draws old o new → (new.waiting.untried ≡ old.waiting.untried) × (new.waiting ≡ old.waiting)
 kept_waits m n w draws old None new h done = absurd (false≢true h)
 kept_waits m n w draws old (Some outcome.NoMemory) new h done = absurd (false≢true h)
@@ -68,7 +68,7 @@ kept_waits m n w draws old (Some outcome.Kept) new h done = (done.untried, done.
 kept_waits m n w draws old (Some outcome.Exhausted) new h done = absurd (false≢true h)
 kept_waits m n w draws old (Some outcome.Failed) new h done = absurd (false≢true h)
 
--- a closing behind work for which memory was refused is one of what lived before
+-- a closing after work for which an allocation failed is one of the live state before
 closes_from : {K : Type 0} (n : ℕ) (old mid new : Live K) → Stays n old mid → ClosesSession n mid new → ClosesSession n (record old { tries = mid.tries }) new
 closes_from {K} n old mid new stays c = record {
   same = c.same ∙ ap (λ (l : Live K). record l {
@@ -95,7 +95,7 @@ module _ {K : Type 0} (failed : K → ℕ) (m n : ℕ) (message : Message) (draw
   abbrev choice : List Attempt → machine.Choice
   choice attempts = record { moment = m; draws = draws; outcomes = map attempt_view attempts }
 
-  -- memory was refused, and the session is closed
+  -- an allocation failed, and the session is closed
   pub take_closes : (o : Option Outcome) (new : Live K) (attempts : List Attempt) → is_closing o ≡ true → attempts ≡ listed_by 1 o → ClosesSession n mid new → WorksWith m n work draws old o mid
       → AsksStore failed o old.database mid.database → failed old.database.keeper ≤ failed mid.database.keeper → mid.tries ≤ old.tries + 1 → ComesTo failed m (machine.Take n message) old draws attempts new
   take_closes o new attempts closing listed closes done asks counts tries =
@@ -130,7 +130,7 @@ module _ {K : Type 0} (failed : K → ℕ) (m n : ℕ) (message : Message) (draw
         untried = done.untried ∙ resting;
       })
 
-  -- it was kept, and those that wait were settled
+  -- it was kept, and the waiting transactions were settled
   pub take_settles : (o : Option Outcome) (new : Live K) (before attempts : List Attempt) → is_closing o ≡ false → is_kept o ≡ true → before ≡ listed_by 1 o → WorksWith m n work draws old o mid
       → AsksStore failed o old.database mid.database → failed old.database.keeper ≤ failed mid.database.keeper → mid.tries ≤ old.tries + 1
       → Settles failed m 2 mid before new attempts → ComesTo failed m (machine.Take n message) old draws attempts new
@@ -153,7 +153,7 @@ module _ {K : Type 0} (failed : K → ℕ) (m n : ℕ) (message : Message) (draw
         untried = s.untried;
       }
 
--- those that wait were settled as time passed
+-- the waiting transactions were settled as time passed
 pub tick_settles : {K : Type 0} (failed : K → ℕ) (m : ℕ) (old new : Live K) (before attempts : List Attempt) → before ≡ [] → Settles failed m 1 old before new attempts → ComesTo failed m machine.Tick old [] attempts new
 tick_settles failed m old new before attempts none s =
     let all : map attempt_view attempts ≡ s.made = s.lists ∙ ap (λ (list : List Attempt). map attempt_view list ++ s.made) none in

@@ -13,7 +13,7 @@ use Rattle.ov_core.specs.States.{sessions_of, still_open}
 
 -- ---- which are open
 
--- a session is open where its serial is among those of the code
+-- a session is open if its serial is among those of the code
 pub any-serial : (w : Watching) (n : ℕ) (sessions : List Session) → list_any (λ (m : machine.Session). eqb m.serial n) (sessions_of w sessions) ≡ has_serial n sessions
 any-serial w n [] = refl
 any-serial w n (m ∷ sessions) = ap (λ b. eqb m.serial n || b) (any-serial w n sessions)

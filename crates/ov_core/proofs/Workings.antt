@@ -1,4 +1,4 @@
--- What comes of a try of a transaction, and of the work on a message.
+-- The results of a try of a transaction, and of the work on a message.
 use Rattle.std.proofs.Common.{◌≡◌, ◌≢◌, ℕ, List, [], ◌∷◌, ◌++◌, length, map, refl, sym, ap, ◌∙◌, eqb, cond, true, false, Option, Some, None, arith, ◌⊎◌, inl, inr}
 use Rattle.std.specs.Prelude.{option_to_list, codes, is_some}
 use Rattle.std.proofs.lemmas.List.{append-nil}
@@ -39,7 +39,7 @@ use Rattle.ov_core.specs.Handling.{AsksStore, PostsIfRoom, with_db, listed_of, I
 use Rattle.ov_core.specs.States.{state_of, sessions_of}
 use Rattle.ov_core.proofs.Watching.{sessions-same, sessions-watch}
 
--- nothing is sent where the same frames wait
+-- nothing is sent if the same frames wait
 pub posts_none : (old new : WaitingFrames) → HasSameFrames old new → PostsSent [] old new
 posts_none old new same other = same other ∙ sym (append-nil (waiting_for other old))
 
@@ -108,7 +108,7 @@ asks_stored failed delta old new store.Failed cause made = cause
 
 -- ---- work
 
--- the same lives on
+-- the live state is the same
 stays_same : {K : Type 0} (n : ℕ) (old : Live K) → Stays n old old
 stays_same n old = record { same = refl; watching = λ other apart. refl; queues = refl; frames = λ other. refl }
 
@@ -160,7 +160,7 @@ module _ {K : Type 0} (m n : ℕ) (id : Data) (draws : List Uuid) (operations : 
     trial_works (Some outcome.Exhausted) c = tried_work (Some outcome.Exhausted) refl c
     trial_works (Some outcome.Failed) c = tried_work (Some outcome.Failed) refl c
 
-  -- one that is blocked, which leaves what waits in the outbox as it is
+  -- one that is blocked, which leaves the waiting frames as they are
   pub wait_works : (outbox : Outbox) (tries : ℕ) (timeout : Option ℕ) (o : Option Outcome) (new : Live K) → outbox.queues ≡ old.outbox.queues → HasSameFrames old.outbox.frames outbox.frames → on ≡ Waits timeout
       → WaitsIfRoom (machine.arrived (state_of old m) n id draws operations) timeout (record old { outbox = outbox; tries = tries }) o new → WorksWith m n (Transact id operations) draws old o new
   wait_works outbox tries timeout None new queues silent is waits = rw waits (record {
@@ -176,7 +176,7 @@ module _ {K : Type 0} (m n : ℕ) (id : Data) (draws : List Uuid) (operations : 
   wait_works outbox tries timeout (Some outcome.Exhausted) new queues silent is never = absurd never
   wait_works outbox tries timeout (Some outcome.Failed) new queues silent is never = absurd never
 
--- one that waited is canceled
+-- a waiting transaction is canceled
 pub cancel_works : {K : Type 0} (m n : ℕ) (id : Data) (text : List ℕ) (old : Live K) (o : Option Outcome) (new : Live K) → text ≡ compact_text id → CancelsIfRoom n id text old o new
     → WorksWith m n (Cancels id) [] old o new
 cancel_works m n id text old None new same (posts, queues, is) = record {
@@ -193,7 +193,7 @@ cancel_works m n id text old (Some outcome.Kept) new same never = absurd never
 cancel_works m n id text old (Some outcome.Exhausted) new same never = absurd never
 cancel_works m n id text old (Some outcome.Failed) new same never = absurd never
 
--- its answer was sent, or memory was refused
+-- its answer was sent, or an allocation failed
 pub cancel_refused : {K : Type 0} (n : ℕ) (id : Data) (text : List ℕ) (sent : List Sent) (old : Live K) (o : Option Outcome) (outbox : Outbox) → is_some o ≡ true → outbox.queues ≡ old.outbox.queues → PostsIfRoom sent old.outbox.frames o outbox.frames
     → CancelsIfRoom n id text old o (record old { outbox = outbox })
 cancel_refused n id text sent old None outbox h queues posts = cc
@@ -216,7 +216,7 @@ unasked_by sent old new (Some outcome.Kept) never = absurd never
 unasked_by sent old new (Some outcome.Exhausted) never = absurd never
 unasked_by sent old new (Some outcome.Failed) never = absurd never
 
--- where something was posted, or memory was refused
+-- if something was posted, or an allocation failed
 pub rest_posted : {K : Type 0} (sent : List Sent) (old : Live K) (o : Option Outcome) (new : Live K) (waited waits : WaitingFrames) → PostsIfRoom sent waited o waits → new.database ≡ old.database → new.tries ≡ old.tries → HasSameRest old o new
 rest_posted sent old o new waited waits posts database tries = record { database = database; tries = tries; unasked = unasked_by sent waited waits o posts }
 
@@ -312,7 +312,7 @@ works_over m n w draws old mid (Some outcome.Kept) new same done = done_over m n
 works_over m n w draws old mid (Some outcome.Exhausted) new same done = done_over m n w draws old mid (Some outcome.Exhausted) new same done
 works_over m n w draws old mid (Some outcome.Failed) new same done = done_over m n w draws old mid (Some outcome.Failed) new same done
 
--- memory was refused, and all is as before
+-- an allocation failed, and all is as before
 pub same_works : {K : Type 0} (m n : ℕ) (w : Work) (old new : Live K) → SameLive old new → WorksWith m n w [] old (Some outcome.NoMemory) new
 same_works {K} m n w old new same = (
   omega arith,
@@ -324,7 +324,7 @@ same_works {K} m n w old new same = (
   },
 )
 
--- what is asked of a lock, where it is not refused
+-- what is asked of a lock, if it is not refused
 pub lock_works : {K : Type 0} (m n : ℕ) (call : LockCall) (id : Data) (name : List ℕ) (old : Live K) (outbox : Outbox) → call_refusal call name n old.outbox.queues ≡ None → outbox.queues ≡ after_call call name n old.outbox.queues
     → PostsSent (to_session n (reply_tree id (call_result call name old.outbox.queues) ∷ []) ++ told (option_to_list (told_of_call call name n old.outbox.queues))) old.outbox.frames outbox.frames
     → WorksWith m n (unless_refused id (call_refusal call name n old.outbox.queues) (Locks call id name)) [] old None (record old { outbox = outbox })
@@ -337,7 +337,7 @@ lock_works m n call id name old outbox free queues posts = rw free (record {
   kept = λ h. refl;
 })
 
--- the session watches these monitors from now on, and is answered; or memory was refused
+-- the session has these monitors afterwards, and is answered; or an allocation failed
 pub watch_works : {K : Type 0} (m n : ℕ) (id result : Data) (monitors : List Monitor) (old : Live K) (watchers : Watching) (o : Option Outcome) (new : Live K) → WatchesWith n monitors old.watchers watchers
     → new ≡ record old { watchers = watchers; outbox = new.outbox } → new.outbox.queues ≡ old.outbox.queues → PostsIfRoom (to_session n (reply_tree id result ∷ [])) old.outbox.frames o new.outbox.frames
     → WorksWith m n (Watches id result monitors) [] old o new

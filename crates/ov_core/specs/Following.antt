@@ -1,4 +1,4 @@
--- Which histories a core has followed, and which frames were handed out of it. What names no source is our own.
+-- Which histories a core has followed, and which of their frames were handed out.
 use Rattle.std.specs.Prelude.{◌≡◌, ℕ, ◌==◌, ◌++◌, List, [], ◌∷◌, if◌then◌else◌, Option, Some, option_to_list}
 use Rattle.ov_specs.specs.machine.Machine as machine
 use Rattle.ov_specs.specs.machine.Machine.{State, Sent}
@@ -8,8 +8,8 @@ use Rattle.ov_sessions.specs.declared.session.Session.{Session}
 use Rattle.ov_history.specs.History.{Keeps, KeepsNewest}
 use Rattle.ov_outbox.specs.Frames.{WaitingFrames, waiting_for, PostsSent}
 
--- what contracts see of a core: its state, the open sessions with their keys in order of opening, the entries that it keeps, the
--- frames that wait, its keeper, how often the keeper's device has failed, its source of draws, and how many attempts of
+-- what contracts see of a core: its state, the open sessions with their keys in order of opening, the entries that it keeps,
+-- the waiting frames, its keeper, how often the keeper's device has failed, its source of draws, and how many attempts of
 -- transactions it has made
 pub record CoreState (K D : Type 0) : Type 0 where
   pub state : State
@@ -21,33 +21,34 @@ pub record CoreState (K D : Type 0) : Type 0 where
   pub source : D
   pub tries : ℕ
 
--- The history leads from the state before it to the core's state, it ends with the entries that are kept, and of the frames that it sends to each
--- session `given` were handed out and the others wait.
+-- The history leads from the state before it to the core's state, and ends with the entries that are kept. Of the frames that
+-- it sends to each session, `given` were handed out and the others wait.
 pub record Follows {K D : Type 0} (before : State) (history : List machine.Entry) (given : ℕ → List (List ℕ)) (core : CoreState K D) : Type 0 where
   pub sent : List Sent
   pub legal : run before history ≡ Some (record { state = core.state; sent = sent })
   pub kept : Keeps core.kept history
   pub issued : (session : ℕ) → frames_to session sent ≡ given session ++ waiting_for session core.outbox
 
--- Whatever history and frames the core has followed, it follows the history with these entries behind it, and no frame is handed
--- out. Of the entries that were kept and these the newest are kept.
+-- If the core has followed a history and frames, it follows that history with these entries appended, and no frame is handed
+-- out. The newest of the entries kept before and of these are kept.
 pub record Extends {K D : Type 0} (old : CoreState K D) (entries : List machine.Entry) (new : CoreState K D) : Type 0 where
   pub follows : (before : State) (history : List machine.Entry) (given : ℕ → List (List ℕ)) → Follows before history given old → Follows before (history ++ entries) given new
   pub keeps : KeepsNewest old.kept entries new.kept
 
--- no frame was handed out of any session
+-- no frame was handed out for any session
 abbrev pub none_given : ℕ → List (List ℕ)
 none_given session = []
 
--- the frames were handed out of the session behind the others
+-- the frames were handed out for the session, after the others
 abbrev pub and_all_handed : (ℕ → List (List ℕ)) → ℕ → List (List ℕ) → ℕ → List (List ℕ)
 and_all_handed given session frames other = given other ++ (if other == session then frames else [])
 
--- the frame, if there is one, was handed out of the session behind the others
+-- the frame, if there is one, was handed out for the session, after the others
 abbrev pub and_handed : (ℕ → List (List ℕ)) → ℕ → Option (List ℕ) → ℕ → List (List ℕ)
 and_handed given session frame = and_all_handed given session (option_to_list frame)
 
--- One entry was entered: it is a step of the machine, what it sends waits behind what waited, and the core follows it.
+-- One entry was entered: it is a step of the machine, what it sends waits after the frames that waited, and the core follows
+-- it.
 pub record EntersEntry {K D : Type 0} (old : CoreState K D) (entry : machine.Entry) (new : CoreState K D) : Type 0 where
   pub sent : List Sent
   pub stepped : machine.step old.state entry ≡ Some (record { state = new.state; sent = sent })

@@ -1,5 +1,4 @@
--- What comes of the work on a message, and of a try of a transaction: what the machine makes of it. What names no source is our
--- own.
+-- The results of the work on a message and of a try of a transaction: those of the machine.
 use Rattle.std.specs.Prelude.{◌≡◌, ◌⊎◌, ◌==◌, ℕ, ◌≤◌, List, [], ◌∷◌, ◌++◌, length, filter, not, codes, true, false, is_some, Option, Some, None, option_map}
 use Rattle.serde_json.specs.Data.{Data, Items}
 use Rattle.ov_specs.specs.wire.Frame.{failure_tree}
@@ -23,9 +22,9 @@ use Rattle.ov_history.specs.declared.event.Outcome.TheVariants as outcome
 use Rattle.ov_core.specs.declared.handle.Handled.{Handled}
 use Rattle.ov_core.specs.declared.live.Live.{Live}
 
--- ---- what waits
+-- ---- waiting frames
 
--- These are sent, or memory was refused and nothing more waits.
+-- These are sent, or an allocation failed and no more frames wait.
 abbrev pub PostsIfRoom : List Sent → WaitingFrames → Option Outcome → WaitingFrames → Type 0
 PostsIfRoom sent old None new = PostsSent sent old new
 PostsIfRoom sent old (Some outcome.NoMemory) new = HasSameFrames old new
@@ -35,8 +34,8 @@ PostsIfRoom sent old (Some outcome.Failed) new = ⊥
 
 -- ---- the store
 
--- What an attempt leaves of the database, by what is listed of it: where the store failed, its device has; where it answered
--- otherwise, no seal is new; where it was not asked, the database is as before, with its keeper.
+-- What an attempt leaves of the database, by its listed outcome: if the store failed, its device has; if it answered
+-- otherwise, the seal is unchanged; if it was not asked, the database and its keeper are as before.
 abbrev pub AsksStore : {K : Type 0} → (K → ℕ) → Option Outcome → KeptDatabase K → KeptDatabase K → Type 0
 AsksStore failed (Some outcome.Failed) old new = HasFailed (failed old.keeper) (failed new.keeper)
 AsksStore failed (Some outcome.Kept) old new = new.sealed ≡ old.sealed
@@ -44,8 +43,8 @@ AsksStore failed (Some outcome.Exhausted) old new = new.sealed ≡ old.sealed
 AsksStore failed (Some outcome.NoMemory) old new = new ≡ old
 AsksStore failed None old new = new ≡ old
 
--- What attempts leave of it, by what is listed of them: without an answer of the store the keeper is as before, and that the
--- store failed, and that the database is sealed now and was not, has a cause.
+-- What attempts leave of the database, by their listed outcomes: without an answer of the store the keeper is as before; if
+-- the store failed, or the database became sealed, there is a cause.
 pub record AsksAll {K : Type 0} (failed : K → ℕ) (attempts : List machine.Attempt) (old new : KeptDatabase K) : Type 0 where
   pub unasked : some_outcome is_of_store attempts ≡ false → new.keeper ≡ old.keeper
   pub failure : some_outcome is_failure attempts ≡ true → HasFailed (failed old.keeper) (failed new.keeper)
@@ -58,12 +57,12 @@ pub record AsksAll {K : Type 0} (failed : K → ℕ) (attempts : List machine.At
 abbrev pub listed_of : Option Outcome → Option machine.Outcome
 listed_of o = option_map outcome_view o
 
--- the state over a database
+-- the state with this database
 abbrev pub with_db : {K : Type 0} → State → KeptDatabase K → State
 with_db s kept = record s { schema = kept.schema; database = kept.committed; sealed = kept.sealed }
 
--- A transaction that comes to this on the database completes: in every state over the database with these sessions the machine comes
--- to the state over the database as it is now, and what it sends waits behind what waited.
+-- A transaction with this outcome on the database completes: in every state over the database with these sessions, the
+-- machine reaches the state over the database as it is now, and what it sends waits after the frames that waited.
 pub record IsCompleted {K : Type 0} (sessions : List Session) (session : ℕ) (id : Data) (on : TransactionOutcome) (old : KeptDatabase K) (waited : WaitingFrames) (o : Option Outcome) (new : KeptDatabase K) (waits : WaitingFrames) : Type 0 where
   pub results : Items
   pub database : Database
@@ -72,14 +71,14 @@ pub record IsCompleted {K : Type 0} (sessions : List Session) (session : ℕ) (i
   pub comes : (s : State) → s.sessions ≡ sessions → completes (with_db s old) session id results database (listed_of o) ≡ Some (record { state = with_db s new; sent = sent })
   pub posts : PostsSent sent waited waits
 
--- A try of a transaction that comes to this on the database: it completes, or it is blocked and nothing is changed, or memory was
--- refused and nothing is changed.
+-- A try of a transaction with this outcome on the database: it completes; or it is blocked, or an allocation failed, and
+-- nothing is changed.
 abbrev pub IsTrial : {K : Type 0} → List Session → ℕ → Data → TransactionOutcome → KeptDatabase K → WaitingFrames → Trial → KeptDatabase K → WaitingFrames → Type 0
 IsTrial sessions session id on old waited (Done (Some outcome.NoMemory)) new waits = (new ≡ old) × HasSameFrames waited waits
 IsTrial sessions session id on old waited (Done o) new waits = IsCompleted sessions session id on old waited o new waits
 IsTrial sessions session id on old waited (Blocked timeout) new waits = (on ≡ Waits timeout) × (new ≡ old) × HasSameFrames waited waits
 
--- what is listed of it
+-- what is listed of the try
 abbrev pub outcome_in : Trial → Option Outcome
 outcome_in (Done o) = o
 outcome_in (Blocked timeout) = None
@@ -93,8 +92,8 @@ pub record Stays {K : Type 0} (session : ℕ) (old new : Live K) : Type 0 where
   pub queues : new.outbox.queues ≡ old.outbox.queues
   pub frames : HasSameFrames old.outbox.frames new.outbox.frames
 
--- The work was done, at the moment: it is what the machine does, and what it sends waits behind what waited. Where the store kept
--- a change, the same transactions wait.
+-- The work was done, at the moment, as the machine does it, and what it sends waits after the frames that waited. If the
+-- store kept a change, the same transactions wait.
 pub record WorkIsDone {K : Type 0} (moment session : ℕ) (work : Work) (draws : List Uuid) (old : Live K) (o : Option Outcome) (new : Live K) : Type 0 where
   pub sent : List Sent
   pub works : works (state_of old moment) session draws (listed_of o) work ≡ Some (record { state = state_of new moment; sent = sent })
@@ -103,16 +102,16 @@ pub record WorkIsDone {K : Type 0} (moment session : ℕ) (work : Work) (draws :
   pub untried : new.waiting.untried ≡ old.waiting.untried
   pub kept : is_kept o ≡ true → new.waiting ≡ old.waiting
 
--- It was done, or memory was refused, with no more drawn than it wants, and nothing else is changed.
+-- The work was done; or an allocation failed, no more was drawn than the work needs, and nothing else is changed.
 abbrev pub WorksWith : {K : Type 0} → ℕ → ℕ → Work → List Uuid → Live K → Option Outcome → Live K → Type 0
 WorksWith moment session work draws old (Some outcome.NoMemory) new = (length draws ≤ draws_for work) × Stays session old new
 WorksWith moment session work draws old o new = WorkIsDone moment session work draws old o new
 
--- the same of what came of it in the code
+-- the same for the result of the code
 abbrev pub Works : {K : Type 0} → ℕ → ℕ → Work → Live K → Handled → Live K → Type 0
 Works moment session work old handled new = WorksWith moment session work handled.draws.items old handled.outcome new
 
--- ---- its parts
+-- ---- parts of the work
 
 -- the store was not asked
 abbrev pub IsUnasked : Option Outcome → Type 0
@@ -124,7 +123,7 @@ pub record HasSameRest {K : Type 0} (old : Live K) (o : Option Outcome) (new : L
   pub tries : new.tries ≡ old.tries
   pub unasked : IsUnasked o
 
--- Blocked as it arrived, it waits behind the others with this timeout, or memory was refused.
+-- Blocked on arrival, the transaction waits after the others with this timeout, or an allocation failed.
 abbrev pub WaitsIfRoom : {K : Type 0} → machine.Outstanding → Option ℕ → Live K → Option Outcome → Live K → Type 0
 WaitsIfRoom o timeout old None new = new ≡ record old { waiting = record old.waiting { outstanding = old.waiting.outstanding ++ record o { timeout = timeout } ∷ [] } }
 WaitsIfRoom o timeout old (Some outcome.NoMemory) new = new ≡ old
@@ -132,11 +131,11 @@ WaitsIfRoom o timeout old (Some outcome.Kept) new = ⊥
 WaitsIfRoom o timeout old (Some outcome.Exhausted) new = ⊥
 WaitsIfRoom o timeout old (Some outcome.Failed) new = ⊥
 
--- the live state with what waits in the outbox now, and without the transaction of the session whose id has this text
+-- the live state with this outbox, and without the transaction of the session whose id has this text
 abbrev pub without_text : {K : Type 0} → ℕ → List ℕ → Outbox → Live K → Live K
 without_text session text outbox live = record live { outbox = outbox; waiting = record live.waiting { outstanding = filter (λ o. not (has_text session text o)) live.waiting.outstanding } }
 
--- The one with this text is canceled: its answer is sent and it waits no more, or memory was refused.
+-- The transaction with this text is canceled: its answer is sent and it stops waiting, or an allocation failed.
 abbrev pub CancelsIfRoom : {K : Type 0} → ℕ → Data → List ℕ → Live K → Option Outcome → Live K → Type 0
 CancelsIfRoom session id text old None new =
     PostsSent (to_session session (failure_tree id (codes "canceled") ∷ [])) old.outbox.frames new.outbox.frames × (new.outbox.queues ≡ old.outbox.queues) × (new ≡ without_text session text new.outbox old)

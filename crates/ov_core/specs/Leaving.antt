@@ -1,4 +1,4 @@
--- What a crash leaves of a core. What names no source is our own.
+-- What a crash leaves of a core.
 use Rattle.std.specs.Prelude.{◌≡◌}
 use Rattle.serde_json.specs.Written.{compact_text}
 use Rattle.ov_specs.specs.rows.Database.{Database, AreLinesOf}

@@ -1,4 +1,4 @@
--- When time passes for a core. What names no source is our own.
+-- When time passes for a core.
 use Rattle.std.specs.Prelude.{◌≡◌, ℕ, max, nat_le, Bool, true, false, Option, Some, None}
 use Rattle.ov_specs.specs.machine.Machine as machine
 use Rattle.ov_specs.specs.machine.Machine.{State, due}
@@ -7,16 +7,16 @@ use Rattle.ov_history.specs.declared.event.Stepped.TheVariants as answer
 use Rattle.ov_core.specs.Following.{CoreState}
 use Rattle.ov_core.specs.Stepping.{IsEntered}
 
--- this moment, if there is one, has come by that one
+-- there is a moment, and it is no later than `at`
 abbrev pub has_come : ℕ → Option ℕ → Bool
 has_come at None = false
 has_come at (Some moment) = nat_le moment at
 
--- a transaction that waits is due by the moment
+-- a waiting transaction is due by the moment
 abbrev pub is_due : ℕ → State → Bool
 is_due at s = has_come at (due s)
 
--- time passed to the moment, or to the last one if that is later; or nothing was done
+-- time advanced to the moment, or to the last one if that is later; or nothing was done
 abbrev pub TicksIf : {K D : Type 0} → (D → Uuid → D → Type 0) → Bool → ℕ → CoreState K D → CoreState K D → Type 0
 TicksIf draws true at old new = IsEntered draws (max at old.state.moment) machine.Tick old answer.Done new
 TicksIf draws false at old new = new ≡ old

@@ -1,4 +1,4 @@
--- What is prepared before the store is asked. What names no source is our own.
+-- What is prepared before the store is asked.
 use Rattle.std.specs.Prelude.{◌≡◌, ℕ, ◌+◌, List, [], ◌∷◌, ◌++◌, map, Bool, true, false}
 use Rattle.std.specs.List.{flat_map}
 use Rattle.serde_json.specs.Data.{Data, Items, array}
@@ -28,30 +28,30 @@ pub record AreFrames (id : Data) (replies : Replies) (frames : Frames) : Type 0 
   pub exhausted : frames.exhausted ≡ frame (reply_tree id (array (and_item replies.kept replies.exhausted)))
   pub failed : frames.failed ≡ frame (reply_tree id (array (and_item replies.kept replies.failed)))
 
--- these frames are prepared behind the others, or memory was refused
+-- these frames are prepared after the others, or an allocation failed
 abbrev pub HasPrepared : List (ℕ × List ℕ) → Replying → Bool → Replying → Type 0
 HasPrepared frames old true new = new.prepared ≡ old.prepared ++ frames
 HasPrepared frames old false new = Unit {0}
 
--- The same; the same frames wait, and a place is kept for each that is prepared.
+-- As above; the same frames wait, and there is a place for each prepared frame.
 pub record PreparesFrames (frames : List (ℕ × List ℕ)) (old : Replying) (ready : Bool) (new : Replying) : Type 0 where
   pub prepared : HasPrepared frames old ready new
   pub waits : HasSameFrames old.queues new.queues
   pub places : (other base : ℕ) → places_for other old.queues ≡ base + count_of other old.prepared → places_for other new.queues ≡ base + count_of other new.prepared
   pub same : new ≡ record old { queues = new.queues; prepared = new.prepared }
 
--- the frames of what is to be sent are prepared, or memory was refused
+-- the frames of what is to be sent are prepared, or an allocation failed
 abbrev pub PreparesMore : List Sent → Replying → Bool → Replying → Type 0
 PreparesMore sent old ready new = PreparesFrames (map posted sent) old ready new
 
--- what the monitors of one session are told, and those of several, by their serials
+-- the updates that the monitors of one session receive, and those of several, by their serials
 abbrev pub updates_to_one : Database → Database → Watching → ℕ → List Sent
 updates_to_one before after watching serial = to_session serial (map update_note (all_updates before after (monitors_at serial watching)))
 
 abbrev pub updates_to : Database → Database → Watching → List ℕ → List Sent
 updates_to before after watching serials = flat_map (updates_to_one before after watching) serials
 
--- what is sent where a commit is kept: the updates, and behind them the reply
+-- what is sent if a commit is kept: the updates, then the reply
 abbrev pub frames_of_commit : {K : Type 0} → Replying → KeptDatabase K → Delta → Items → List (ℕ × List ℕ)
 frames_of_commit old db delta results =
     map posted (updates_sent db.committed (applied delta db.committed) (sessions_of old.audience.watchers.now old.audience.sessions.now.open_sessions))
@@ -63,12 +63,12 @@ pub record IsPrepared {K : Type 0} (old : Replying) (db : KeptDatabase K) (delta
   pub exhausted : new.exhausted ≡ frame (reply_tree old.id.now (array (and_item replies.kept replies.exhausted)))
   pub failed : new.failed ≡ frame (reply_tree old.id.now (array (and_item replies.kept replies.failed)))
 
--- all is ready, or memory was refused
+-- all is ready, or an allocation failed
 abbrev pub IsPreparedWhere : {K : Type 0} → Replying → KeptDatabase K → Delta → Replies → Bool → Replying → Type 0
 IsPreparedWhere old db delta replies true new = IsPrepared old db delta replies new
 IsPreparedWhere old db delta replies false new = Unit {0}
 
--- The same; the same frames wait, and a place is kept for each that is prepared.
+-- As above; the same frames wait, and there is a place for each prepared frame.
 pub record Prepares {K : Type 0} (old : Replying) (db : KeptDatabase K) (delta : Delta) (replies : Replies) (ready : Bool) (new : Replying) : Type 0 where
   pub prepared : IsPreparedWhere old db delta replies ready new
   pub waits : HasSameFrames old.queues new.queues
@@ -76,17 +76,18 @@ pub record Prepares {K : Type 0} (old : Replying) (db : KeptDatabase K) (delta :
 
 -- ---- what an answer of the store leads to
 
--- the outcome that it is
+-- the outcome of this answer
 abbrev pub outcome_after : StoreAnswer → Outcome
 outcome_after store.Kept = outcome.Kept
 outcome_after store.Exhausted = outcome.Exhausted
 outcome_after store.Failed = outcome.Failed
 
--- The last of what was prepared is sent with this frame in its place, and nothing else.
+-- The last prepared frame is replaced by this one, which alone is sent.
 abbrev pub SendsInstead : List (ℕ × List ℕ) → List ℕ → WaitingFrames → WaitingFrames → Type 0
 SendsInstead prepared frame old new = (front : List (ℕ × List ℕ)) (session : ℕ) (former : List ℕ) → prepared ≡ front ++ (session, former) ∷ [] → PostsFrame session frame old new
 
--- By the store's answer all that was prepared is sent, or one of these frames in place of the last; where it was not asked, nothing.
+-- By the store's answer, all that was prepared is sent, or one of these frames in place of the last; if it was not asked,
+-- nothing is sent.
 abbrev pub SendsPrepared : Tried → List (ℕ × List ℕ) → List ℕ → List ℕ → WaitingFrames → WaitingFrames → Type 0
 SendsPrepared (Stored store.Kept) prepared exhausted failed old new = (sent : List Sent) → prepared ≡ map posted sent → PostsSent sent old new
 SendsPrepared (Stored store.Exhausted) prepared exhausted failed old new = SendsInstead prepared exhausted old new

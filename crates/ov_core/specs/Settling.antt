@@ -1,4 +1,4 @@
--- Settling, try by try, and what an event comes to with it. What names no source is our own.
+-- Settling, try by try, and the result of an event with it.
 use Rattle.std.specs.Prelude.{◌≡◌, ℕ, ◌+◌, ◌*◌, ◌/◌, ◌≤◌, ◌++◌, List, [], map, length, false, Option, Some, None}
 use Rattle.std.specs.List.{filter}
 use Rattle.ov_specs.specs.machine.Machine as machine
@@ -17,7 +17,7 @@ use Rattle.ov_history.specs.declared.event.Outcome.{Outcome}
 use Rattle.ov_history.specs.declared.event.Outcome.TheVariants as outcome
 use Rattle.ov_core.specs.declared.live.Live.{Live}
 
--- all that wait are tried from the first on
+-- all waiting transactions are tried, from the first on
 abbrev pub tried_again : {K : Type 0} → Live K → Live K
 tried_again live = record live {
   waiting = record {
@@ -26,7 +26,7 @@ tried_again live = record live {
   };
 }
 
--- what a try that is over leads to: refused memory closes its session, and a kept change has all tried again
+-- what follows a finished try: a failed allocation closes its session, and after a kept change all are tried again
 abbrev pub AfterTry : {K : Type 0} → ℕ → Option Outcome → Live K → Live K → Type 0
 AfterTry session (Some outcome.NoMemory) old new = ClosesSession session old new
 AfterTry session (Some outcome.Kept) old new = new ≡ tried_again old
@@ -34,12 +34,12 @@ AfterTry session (Some outcome.Exhausted) old new = new ≡ old
 AfterTry session (Some outcome.Failed) old new = new ≡ old
 AfterTry session None old new = new ≡ old
 
--- What is left to do at most: it falls with each try.
+-- The most that is left to do: it falls with each try.
 abbrev pub to_do : WaitingList → ℕ
 to_do w = length w.untried + many w * many w
 
--- Settling has begun with the attempt of the number `first`, from these and with this listed, and is on its way: whatever comes
--- behind, the machine's settling comes to what was sent and to the rest of settling from here.
+-- Settling from these, with these attempts listed, has begun with attempt number `first` and is under way: whatever follows,
+-- the machine's settling comes to what was sent and the rest of settling from here.
 pub record IsSettling {K : Type 0} (failed : K → ℕ) (moment first : ℕ) (from : Live K) (before : List Attempt) (now : Live K) (listed : List Attempt) (number : ℕ) : Type 0 where
   pub made : List machine.Attempt
   pub lists : map attempt_view listed ≡ map attempt_view before ++ made
@@ -49,15 +49,15 @@ pub record IsSettling {K : Type 0} (failed : K → ℕ) (moment first : ℕ) (fr
   pub asks : AsksAll failed made from.database now.database
   pub left : IsLeft from.sessions.open_sessions now.sessions.open_sessions
   pub tries : now.tries + first ≡ from.tries + number
-  -- so the number never passes that of a first try and one for each pair of those that waited
+  -- so the number never exceeds that of a first try and one for each pair of those that waited
   pub few : number + number + (length now.waiting.untried + length now.waiting.untried) + many now.waiting * many now.waiting
       ≤ first + first + (length from.waiting.outstanding + length from.waiting.outstanding * length from.waiting.outstanding) + many now.waiting
 
--- the most tries that it takes, for so many that wait
+-- the most tries that settling takes, by how many transactions wait
 abbrev pub most_tries : ℕ → ℕ
 most_tries waiting = waiting * (waiting + 1) / 2
 
--- The transactions that wait are settled, beginning with the attempt of the number `first`.
+-- The waiting transactions are settled, beginning with attempt number `first`.
 pub record Settles {K : Type 0} (failed : K → ℕ) (moment first : ℕ) (old : Live K) (before : List Attempt) (new : Live K) (listed : List Attempt) : Type 0 where
   pub made : List machine.Attempt
   pub lists : map attempt_view listed ≡ map attempt_view before ++ made
@@ -70,7 +70,7 @@ pub record Settles {K : Type 0} (failed : K → ℕ) (moment first : ℕ) (old :
   pub tries : new.tries ≤ old.tries + most_tries (length old.waiting.outstanding)
   pub untried : new.waiting.untried ≡ []
 
--- The event came to this, at the moment, with these identifiers drawn and these attempts listed.
+-- The result of an event at the moment, with these identifiers drawn and these attempts listed.
 pub record ComesTo {K : Type 0} (failed : K → ℕ) (moment : ℕ) (event : machine.Event) (old : Live K) (draws : List Uuid) (attempts : List Attempt) (new : Live K) : Type 0 where
   pub sent : List Sent
   pub happens : machine.happens (state_of old moment) (record { moment = moment; draws = draws; outcomes = map attempt_view attempts }) event ≡ Some (record { state = state_of new moment; sent = sent })

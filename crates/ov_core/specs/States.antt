@@ -1,4 +1,4 @@
--- The state of a core as that of the machine. What names no source is our own.
+-- The state of a core as a state of the machine.
 use Rattle.std.specs.Prelude.{ℕ, List, map}
 use Rattle.std.specs.List.{filter}
 use Rattle.ov_watch.specs.Watching.{Watching, monitors_at}
@@ -7,15 +7,15 @@ use Rattle.ov_specs.specs.machine.Machine as machine
 use Rattle.ov_specs.specs.machine.Machine.{State}
 use Rattle.ov_core.specs.declared.live.Live.{Live}
 
--- the open sessions as those of the machine, which knows no keys, each with its monitors
+-- the open sessions as those of the machine, which have no keys, each with its monitors
 abbrev pub sessions_of : Watching → List Session → List machine.Session
 sessions_of watching sessions = map (λ n. record { serial = n.serial; monitors = monitors_at n.serial watching }) sessions
 
--- these of the sessions are open in a state
+-- those of the sessions that are open in a state
 abbrev pub still_open : State → List Session → List Session
 still_open s sessions = filter (λ n. machine.is_open s n.serial) sessions
 
--- the state of what lives, at a moment
+-- the state of the live part, at a moment
 abbrev pub state_of : {K : Type 0} → Live K → ℕ → State
 state_of live moment =
     record {

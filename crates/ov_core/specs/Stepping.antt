@@ -1,4 +1,4 @@
--- What one step of a core promises. What names no source is our own.
+-- What one step of a core promises.
 use Rattle.std.specs.Prelude.{◌≡◌, ◌⊎◌, ℕ, ◌+◌, ◌<◌, ◌≤◌, [], ◌∷◌, ◌++◌, length, Bool, true, false, is_some}
 use Rattle.ov_specs.specs.machine.Machine as machine
 use Rattle.ov_specs.specs.machine.Machine.{State, is_open}
@@ -21,8 +21,8 @@ use Rattle.ov_core.specs.Settling.{most_tries}
 abbrev pub is_full : State → Bool
 is_full s = has_no_room (length s.sessions) s.next
 
--- The answer, by the event, the state before, the entry, and the state after. A `Take` may be entered as a closing when out of
--- memory, and it is `Closed` exactly where its session is not open after it.
+-- The answer, by the event, the state before, the entry, and the state after. If memory runs out, a `Take` may be entered as
+-- a closing. It is answered `Closed` exactly if its session is not open afterwards.
 abbrev pub AnswersEvent : machine.Event → State → machine.Entry → State → Stepped → Type 0
 AnswersEvent machine.Open old entry new (answer.Opened session) = (entry.event ≡ machine.Open) × (session.serial ≡ old.next) × (session.key < most_sessions) × (is_full old ≡ false)
 AnswersEvent (machine.Take session message) old entry new answer.Done = (entry.event ≡ machine.Take session message) × (is_open new session ≡ true)
@@ -32,13 +32,12 @@ AnswersEvent (machine.Close session cause) old entry new answer.Done = entry.eve
 AnswersEvent machine.Tick old entry new answer.Done = entry.event ≡ machine.Tick
 AnswersEvent event old entry new stepped = ⊥
 
--- A session that is opened comes last, with a key that no open session has. The others that were open and still are keep
--- their keys.
+-- A new session comes last, with a key that no open session has. The others that were open and still are keep their keys.
 abbrev pub KeepsKeys : {K D : Type 0} → CoreState K D → Stepped → CoreState K D → Type 0
 KeepsKeys old (answer.Opened session) new = IsFreeKey session.key old.open_sessions × (new.open_sessions ≡ old.open_sessions ++ session ∷ [])
 KeepsKeys old stepped new = new.open_sessions ≡ still_open new.state old.open_sessions
 
--- the keeper is as before, and no failure more is counted
+-- the keeper is as before, and no further failure is counted
 abbrev pub HasSameKeeper : {K D : Type 0} → CoreState K D → CoreState K D → Type 0
 HasSameKeeper old new = (new.keeper ≡ old.keeper) × (new.failures ≡ old.failures)
 
@@ -46,15 +45,15 @@ HasSameKeeper old new = (new.keeper ≡ old.keeper) × (new.failures ≡ old.fai
 abbrev pub has_outcome : (machine.Outcome → Bool) → machine.Entry → Bool
 has_outcome test entry = some_outcome test entry.choice.outcomes
 
--- Where the entry has no answer of the store, the keeper is as before. That the store failed, and that the database is sealed
--- now and was not, has a cause: the device has failed.
+-- If the entry has no answer of the store, the keeper is as before. If the store failed, or the database became sealed, there
+-- is a cause: the device has failed.
 pub record AsksKeeper {K D : Type 0} (old : CoreState K D) (entry : machine.Entry) (new : CoreState K D) : Type 0 where
   pub unasked : has_outcome is_of_store entry ≡ false → HasSameKeeper old new
   pub failure : has_outcome is_failure entry ≡ true → HasFailed old.failures new.failures
   pub seal : is_some old.state.sealed ≡ false → is_some new.state.sealed ≡ true → HasFailed old.failures new.failures
   pub counts : old.failures ≤ new.failures
 
--- the entry of an event, at the moment, with the draws that were made of the source, which are identifiers (RFC 4122, 4.1.2)
+-- the entry of an event at the moment, with the identifiers that were drawn from the source (RFC 4122, 4.1.2)
 pub record IsEntered {K D : Type 0} (draws : D → Uuid → D → Type 0) (at : ℕ) (event : machine.Event) (old : CoreState K D) (stepped : Stepped) (new : CoreState K D) : Type 0 where
   pub entry : machine.Entry
   pub tells : AnswersEvent event old.state entry new.state stepped
@@ -64,10 +63,10 @@ pub record IsEntered {K D : Type 0} (draws : D → Uuid → D → Type 0) (at : 
   pub uuids : draws_uuids entry ≡ true
   pub moves : EntersEntry old entry new
   pub asks : AsksKeeper old entry new
-  -- at most one attempt of its own, and those of settling the transactions that waited
+  -- at most one attempt of its own, and those that settle the transactions that waited
   pub tries : new.tries ≤ old.tries + 1 + most_tries (length old.state.outstanding)
 
--- When a fault is answered. A Tick is refused for memory only where transactions wait.
+-- When a fault is answered. A `Tick` is refused for memory only if transactions wait.
 abbrev pub RefusesStep : machine.Event → State → StepFault → Type 0
 RefusesStep machine.Open old fault.TooMany = is_full old ≡ true
 RefusesStep machine.Open old fault.Memory = is_full old ≡ false
@@ -87,7 +86,7 @@ StepIs draws at event old answer.Closed new = IsEntered draws at event old answe
 abbrev pub closing : ℕ → ℕ → machine.Cause → machine.Entry
 closing at session cause = record { event = machine.Close session cause; choice = record { moment = at; draws = []; outcomes = [] } }
 
--- The session was closed, nothing was drawn or tried, and the store was not asked. No queue is kept of it where nothing waits for
+-- The session was closed, nothing was drawn or tried, and the store was not asked. Its queue is dropped if no frame waits in
 -- it.
 pub record Closes {K D : Type 0} (at session : ℕ) (cause : machine.Cause) (old new : CoreState K D) : Type 0 where
   pub moves : EntersEntry old (closing at session cause) new

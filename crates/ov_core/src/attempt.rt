@@ -22,16 +22,16 @@ use ov_txn::{Tried, Tries, attempt};
 use std::alloc::Global;
 use std::mem;
 
-/// What a try of a transaction comes to.
+/// The result of trying a transaction.
 #[derive(Clone, Copy, Debug, PartialEq, Eq)]
 pub(crate) enum Trial {
-    /// It is answered, or memory was refused; this is what is listed of it.
+    /// The transaction is answered, or an allocation failed; holds what is listed of the try.
     Done(Option<Outcome>),
-    /// It is blocked by a wait with this timeout, and nothing is changed (RFC 7047, 5.2.6).
+    /// A wait with this timeout blocks it, and nothing is changed (RFC 7047, 5.2.6).
     Blocked(Option<u64>),
 }
 
-/// A transaction that is tried: of which session, the id that it is answered under, and how old it is in milliseconds.
+/// A transaction to try: its session, the id to reply under, and its age in milliseconds.
 #[derive(Clone, Copy)]
 pub(crate) struct Asked<'a> {
     pub session: u64,
@@ -40,8 +40,8 @@ pub(crate) struct Asked<'a> {
     pub age: u64,
 }
 
-/// Tries a transaction, with the locks that its session owns by now. Where it is kept, the monitors of the audience are told of it,
-/// and then its reply waits. Where memory is refused nothing is changed.
+/// Tries a transaction with the locks that its session owns now. If its changes are kept, first the updates for the
+/// audience's monitors are queued, then the reply. If an allocation fails, nothing is changed.
 pub(crate) fn try_once<K: Keeper + Drop>(
     alloc: Global,
     db: &mut Db<K>,
@@ -83,7 +83,7 @@ pub(crate) fn try_once<K: Keeper + Drop>(
     }
 }
 
-/// What was prepared is sent by the store's answer, where it was asked, and else given up. It takes no memory.
+/// Sends what was prepared according to the store's answer, or gives it up if the store was not asked. Allocates nothing.
 fn send_prepared(replying: Replying<'_>, tried: &Tried) -> FrameQueues
     requires room { (other : ℕ) → count_of other replying.prepared ≤ places_for other replying.queues }
     ensures places { TakesPlaces replying.entry.prepared replying.entry.queues result }
@@ -109,7 +109,7 @@ fn send_prepared(replying: Replying<'_>, tried: &Tried) -> FrameQueues
     queues
 }
 
-/// What is listed where the store answered so.
+/// The outcome to list for this answer of the store.
 fn outcome_of(answer: StoreAnswer) -> Outcome
     ensures { result ≡ outcome_after answer }
 {
@@ -120,7 +120,7 @@ fn outcome_of(answer: StoreAnswer) -> Outcome
     }
 }
 
-/// Lets the reply with these results wait, where there is memory for it.
+/// Queues the reply with these results; `NoMemory` if an allocation fails.
 fn answer(
     alloc: Global,
     outbox: &mut Outbox,

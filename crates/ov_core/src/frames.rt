@@ -6,8 +6,8 @@ use ov_rpc::{append_item, reply_with};
 use ov_txn::Replies;
 use std::alloc::{AllocError, Global};
 
-/// The reply to a transaction for each answer of the store. They are made before it is asked, so that nothing takes
-/// memory behind a commit; the results are encoded once.
+/// The reply to a transaction for each answer of the store. All are made before the store is asked, so that nothing is
+/// allocated after a commit; the results are encoded once.
 #[derive(Drop)]
 pub(crate) struct Frames {
     pub kept: Bytes,

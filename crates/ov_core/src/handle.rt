@@ -23,14 +23,14 @@ use ov_rpc::{Message, failure};
 use std::alloc::{AllocError, Global};
 use uuid::Uuid;
 
-/// What came of the work on a message: the identifiers that were drawn for it, and what is listed of its attempt.
+/// The result of the work on a message: the identifiers drawn for it, and what is listed of its attempt.
 #[derive(Drop)]
 pub(crate) struct Handled {
     pub draws: Vec<Uuid>,
     pub outcome: Option<Outcome>,
 }
 
-/// Memory was refused.
+/// An allocation failed.
 fn out_of_memory(draws: Vec<Uuid>) -> Handled
     ensures { result ≡ record { draws = draws; outcome = Some Outcome.NoMemory } }
 {
@@ -40,7 +40,7 @@ fn out_of_memory(draws: Vec<Uuid>) -> Handled
     }
 }
 
-/// Nothing was drawn.
+/// Nothing has been drawn.
 fn without_draws(alloc: Global, outcome: Option<Outcome>) -> Handled
     ensures outcome { result.outcome ≡ outcome }
     ensures none { result.draws.items ≡ [] }
@@ -51,7 +51,7 @@ fn without_draws(alloc: Global, outcome: Option<Outcome>) -> Handled
     }
 }
 
-/// The answer to a transaction that is canceled (RFC 7047, 4.1.4).
+/// The reply to a canceled transaction (RFC 7047, 4.1.4).
 fn cancellation(alloc: Global, id: Tree) -> Result<Bytes, AllocError>
     ensures { IfOk result (λ b. b ≡ frame (failure_tree id (codes "canceled"))) }
 {
@@ -59,8 +59,8 @@ fn cancellation(alloc: Global, id: Tree) -> Result<Bytes, AllocError>
 }
 
 impl<K: Keeper + Drop> Live<K> {
-    /// Takes a message of an open session: it is worked on, and where that changes the database, the transactions that wait are
-    /// settled. What is listed of the attempts is put into `attempts`. Answers the identifiers that were drawn.
+    /// Takes a message of an open session: does its work and, if that changes the database, settles the waiting transactions.
+    /// Adds what is listed of the attempts to `attempts`. Returns the identifiers that were drawn.
     pub fn take<D: Draws>(
         &mut self,
         alloc: Global,
@@ -91,7 +91,7 @@ impl<K: Keeper + Drop> Live<K> {
         draws
     }
 
-    /// The work on a message of an open session, which is the first attempt of its event. Where memory is refused nothing is
+    /// Does the work on a message of an open session, the first attempt of its event. If an allocation fails, nothing is
     /// changed but what the session watches.
     fn handle<D: Draws>(
         &mut self,
@@ -121,7 +121,7 @@ impl<K: Keeper + Drop> Live<K> {
         }
     }
 
-    /// Work of an open session for which nothing is drawn and the store is not asked.
+    /// Does work of an open session that draws nothing and does not ask the store.
     fn at_once(&mut self, alloc: Global, session: u64, work: Work) -> Option<Outcome>
         requires open { has_serial session self.old.sessions.open_sessions ≡ true }
         requires undrawn { IsWithoutDraws work }
@@ -140,7 +140,7 @@ impl<K: Keeper + Drop> Live<K> {
         }
     }
 
-    /// A transaction, with the identifiers that are drawn for it.
+    /// Does the work of a transaction, with the identifiers drawn for it.
     fn transact<D: Draws>(
         &mut self,
         alloc: Global,
@@ -186,8 +186,8 @@ impl<K: Keeper + Drop> Live<K> {
         }
     }
 
-    /// Lets a transaction that is blocked as it arrives wait behind the others, where there is memory for it and for a copy of
-    /// its identifiers.
+    /// Makes a transaction that is blocked on arrival wait after the others; `NoMemory` if it or a copy of its identifiers
+    /// cannot be allocated.
     fn wait(
         &mut self,
         alloc: Global,
@@ -215,7 +215,7 @@ impl<K: Keeper + Drop> Live<K> {
         }
     }
 
-    /// Cancels the transaction of the session that waits with the id, which has this text, where there is memory for its answer.
+    /// Cancels the session's waiting transaction whose id has this text; `NoMemory` if the reply cannot be allocated.
     fn cancel(&mut self, alloc: Global, session: u64, id: Tree, text: Bytes) -> Option<Outcome>
         ensures { CancelsIfRoom session id text self.old result self.new }
     {

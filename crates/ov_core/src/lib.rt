@@ -1,6 +1,5 @@
-//! The ordered machine of the server (our own, over RFC 7047, 4): events in, frames out, and the history that says which of
-//! them there were. It knows no socket, no clock and no thread: moments and identifiers come in as values. What names no source
-//! is our own.
+//! The server's ordered machine (RFC 7047, 4): events in, frames out, and a history that records them. It uses no socket,
+//! clock or thread: moments and identifiers come in as values.
 #![tactic(auto)]
 
 mod attempt;

@@ -14,8 +14,8 @@ use ov_txn::Tries;
 use ov_watch::Watchers;
 use std::alloc::{AllocError, Global};
 
-/// What an event changes beside the history: the database, the open sessions, their monitors, the transactions that wait, the
-/// frames that wait with the queues of the locks, and how many attempts were made.
+/// What an event changes apart from the history: the database, the open sessions, their monitors, the waiting transactions,
+/// the waiting frames with the queues of the locks, and the count of attempts.
 #[derive(Drop)]
 pub(crate) struct Live<K: Keeper> {
     pub database: Db<K>,
@@ -27,7 +27,7 @@ pub(crate) struct Live<K: Keeper> {
 }
 
 impl<K: Keeper + Drop> Live<K> {
-    /// Nothing waits, no lock is asked for, nobody watches, and no attempt was made.
+    /// Nothing waits, no lock is requested, there are no monitors, and no attempt has been made.
     pub fn new(alloc: Global, database: Db<K>, sessions: Sessions) -> Live<K>
         ensures { result ≡ record { database = database; sessions = sessions; watchers = []; waiting = record { untried = []; outstanding = [] }; outbox = record { frames = []; queues = [] }; tries = 0 } }
     {
@@ -41,20 +41,21 @@ impl<K: Keeper + Drop> Live<K> {
         }
     }
 
-    /// Opens a session, with the next serial and without monitors. Where memory is refused nothing is changed.
+    /// Opens a session with the next serial and no monitors. If an allocation fails, nothing is changed.
     pub fn open(&mut self) -> Result<Session, AllocError>
         requires { has_no_room (length self.old.sessions.open_sessions) self.old.sessions.next ≡ false }
         ensures opened { IfOk result (λ session. OpensLive self.old session self.new) }
         ensures refused { OnErr result (self.new ≡ self.old) }
     {
         let session = self.sessions.open()?;
-        // Nobody watched under a serial that is new; that no monitor is kept of one is not a fact of the types.
+        // A new serial has no monitors yet, but the types do not say so.
         self.watchers.leave(session.serial);
         Ok(session)
     }
 
-    /// Closes the session. Its monitors and its transactions that wait are dropped, and it leaves the queues of all locks, whose
-    /// next owners are told so (RFC 7047, 4.1.9). No queue of frames is kept of it where nothing waits for it. It takes no memory.
+    /// Closes the session: drops its monitors and its waiting transactions, and takes it out of the queues of all locks,
+    /// whose next owners are notified (RFC 7047, 4.1.9). Its frame queue is dropped if no frame waits in it. Allocates
+    /// nothing.
     pub fn close(&mut self, session: u64)
         ensures { ClosesSession session self.old self.new }
     {
@@ -66,7 +67,7 @@ impl<K: Keeper + Drop> Live<K> {
         self.outbox.forget(session);
     }
 
-    /// Time has come to the moment: the transactions that wait are settled.
+    /// Advances time to the moment: settles the waiting transactions.
     pub fn tick(&mut self, alloc: Global, moment: u64, attempts: &mut Vec<Attempt>)
         requires untried { self.old.waiting.untried ≡ [] }
         requires none { attempts.old.items ≡ [] }
@@ -76,7 +77,7 @@ impl<K: Keeper + Drop> Live<K> {
         self.settle(alloc, moment, 1, attempts);
     }
 
-    /// Gives all up but the keeper.
+    /// Gives up all but the keeper, and returns it.
     pub fn into_keeper(self) -> K
         ensures { result ≡ self.database.keeper }
     {

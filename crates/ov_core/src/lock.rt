@@ -14,7 +14,7 @@ use ov_rpc::failure;
 use std::alloc::Global;
 
 impl<K: Keeper + Drop> Live<K> {
-    /// What a session asks of a lock is done, and whoever is told of it is told; or it is refused (RFC 7047, 4.1.8).
+    /// Performs a lock call of a session and sends what follows from it, or refuses it (RFC 7047, 4.1.8).
     pub fn ask_lock(
         &mut self,
         alloc: Global,
@@ -35,7 +35,7 @@ impl<K: Keeper + Drop> Live<K> {
         }
     }
 
-    /// An error in place of a result.
+    /// Replies with an error in place of a result.
     pub fn refuse(&mut self, alloc: Global, session: u64, id: Tree, text: &str) -> Option<Outcome>
         ensures works { (moment : ℕ) → WorksWith moment session (spec.refused id text.now) [] self.old result self.new }
         ensures rest { HasSameRest self.old result self.new }

@@ -33,8 +33,8 @@ use std::alloc::{AllocError, Global};
 use std::collections::VecDeque;
 use std::marker::Model;
 
-/// The machine over a keeper, with the newest 4,096 entries of its history (our own, over RFC 7047, 4). Up to 64 sessions may be
-/// open at a time. A call goes by a session's serial, whatever its key.
+/// The machine over a keeper, with the newest 4,096 entries of its history (RFC 7047, 4). Up to 64 sessions may be open at a
+/// time. Calls identify a session by its serial, whatever its key.
 pub struct Core<K: Keeper, D> {
     live: Live<K>,
     source: D,
@@ -73,7 +73,7 @@ impl<K: Keeper, D> Model for Core<K, D> {
 }
 
 impl<K: Keeper + Drop, D: Drop> Drop for Core<K, D> {
-    // A drop of its own, so that whoever drops a machine need not prove the drops of all that it holds once more.
+    // Its own `Drop`, so that code that drops a machine need not prove the drops of all its parts again.
     fn drop(self) {
         let Core {
             live,
@@ -89,12 +89,12 @@ impl<K: Keeper + Drop, D: Drop> Drop for Core<K, D> {
 }
 
 impl<K: Keeper + Drop, D: Draws + Drop> Core<K, D> {
-    /// A core without history, over what the keeper holds: no session is open, the last moment is 0 and the next serial 1.
+    /// Opens a core on what the keeper holds, without history: no open session, last moment 0, next serial 1.
     ///
-    /// It is refused as `SchemaDiffers` where the keeper holds another text than the schema's (RFC 7047, 3.2), as `BadBody`
-    /// where one of its lines is no row of the schema, and with the fault of the keeper's load. Memory that is refused is the
-    /// keeper's fault `Memory`. What the keeper holds is not changed, and a refusal gives it back. The room for the 4,096 entries
-    /// of the history is taken here, and that for the serials of 64 sessions.
+    /// Refused as `SchemaDiffers` if the keeper holds another text than the schema's (RFC 7047, 3.2), as `BadBody` if one of
+    /// its lines is not a row of the schema, and with the fault of the keeper's load. A failed allocation is the keeper's
+    /// fault `Memory`. What the keeper holds is not changed, and a refusal gives the keeper back. Space for the 4,096 entries
+    /// of the history and for the serials of 64 sessions is allocated here.
     pub fn open(
         alloc: Global,
         keeper: K,
@@ -107,13 +107,13 @@ impl<K: Keeper + Drop, D: Draws + Drop> Core<K, D> {
         ensures source { IfOk result (λ core. core.source ≡ draws) }
         // The keeper held the database under this schema.
         ensures held { IfOk result (λ core. K.is_honest core.keeper → (held : Contents) → K.leaves keeper held → CanOpen schema core.state.database held) }
-        // Of an honest keeper an open finds nothing now that it might not have found before.
+        // With an honest keeper, an open finds nothing now that it could not have found before.
         ensures same { IfOk result (λ core. K.is_honest core.keeper → LeavesNoMore (K.leaves keeper) (K.leaves core.keeper)) }
         ensures honest { IfOk result (λ core. K.is_honest core.keeper → K.is_honest keeper) }
         ensures kinds { IfErr result (λ e. IsOpenFault e.fault) }
-        // A fault is the first that applies to what the keeper held, where its device was honest to the end of the call.
+        // The fault is the first that applies to what the keeper held, if its device was honest until the end of the call.
         ensures fault { IfErr result (λ e. K.is_honest e.keeper → (held : Contents) → K.leaves keeper held → RefusesOpen schema held e.fault) }
-        // A failure of the device has a cause: the keeper's count rose in this call, or stood at its greatest.
+        // A failure of the device has a cause: the keeper's count rose in this call, or was already at its maximum.
         ensures cause { IfErr result (λ e. e.fault ≡ Keeping Device → HasFailed (K.failed keeper) (K.failed e.keeper)) }
         ensures same_refused { IfErr result (λ e. K.is_honest e.keeper → LeavesNoMore (K.leaves keeper) (K.leaves e.keeper)) }
         ensures honest_refused { IfErr result (λ e. K.is_honest e.keeper → K.is_honest keeper) }
@@ -141,19 +141,19 @@ impl<K: Keeper + Drop, D: Draws + Drop> Core<K, D> {
         })
     }
 
-    /// Enters an event at a moment in milliseconds, or at the last one if that is later.
+    /// Enters an event at a moment in milliseconds, or at the last moment if that is later.
     ///
-    /// A transaction that is blocked waits, behind those that wait already, until it can be answered (RFC 7047, 4.1.3, 5.2.6). At
-    /// most 64 of a session wait, each with an id of its own; one more is answered `resources exhausted`, and one with an id that
-    /// waits `duplicate request id`, and neither is tried. After an attempt that changed the database, and at a `Tick`, those
-    /// that wait are tried in order of arrival, from the first again after each that changed it, until a whole pass changes
-    /// nothing. Where memory is refused for one of them, its session is closed. The note `cancel` answers the canceled one with
-    /// `canceled` (4.1.4). With n that wait, a step makes at most 1 + n(n+1)/2 attempts.
+    /// A blocked transaction waits, after those that already wait, until it can be answered (RFC 7047, 4.1.3, 5.2.6). At most
+    /// 64 transactions of a session wait, each with its own id; one more is answered `resources exhausted`, one with the id
+    /// of a waiting one `duplicate request id`, and neither is tried. After an attempt that changed the database, and at a
+    /// `Tick`, the waiting transactions are tried in order of arrival, from the first again after each that changed it, until
+    /// a whole pass changes nothing. If an allocation for one of them fails, its session is closed. The notification `cancel`
+    /// answers the canceled one with `canceled` (4.1.4). With n waiting, a step makes at most 1 + n(n+1)/2 attempts.
     ///
-    /// An `Open` is refused as `TooMany` while 64 sessions are open and where no serial is left, else only as `Memory`; a `Take`
-    /// or a `Close` as `NotOpen` where its session is not open; a `Tick` only as `Memory`, and only while transactions wait. A
-    /// `Take` for which memory is refused closes its session. A refused step changes nothing. The history has room for the entry,
-    /// and keeps the message's text as it came.
+    /// An `Open` is refused as `TooMany` while 64 sessions are open or if no serial is left, otherwise only as `Memory`; a
+    /// `Take` or a `Close` as `NotOpen` if its session is not open; a `Tick` only as `Memory`, and only while transactions
+    /// wait. If an allocation for a `Take` fails, its session is closed. A refused step changes nothing. The history has room
+    /// for the entry, and keeps the message's text as received.
     pub fn step(&mut self, alloc: Global, moment: u64, event: Event<Received>) -> Stepped
         ensures { StepIs D.draws (max moment self.old.state.moment) (event_view event) self.old result self.new }
     {
@@ -178,8 +178,8 @@ impl<K: Keeper + Drop, D: Draws + Drop> Core<K, D> {
         }
     }
 
-    /// Opens a session at the last moment, with the next serial: an `Open` by itself. Refused as `TooMany` while 64 sessions are
-    /// open and where no serial is left, else only as `Memory`; then nothing is changed.
+    /// Opens a session at the last moment, with the next serial: an `Open` by itself. Refused as `TooMany` while 64 sessions
+    /// are open or if no serial is left, otherwise only as `Memory`; a refusal changes nothing.
     pub fn open_session(&mut self) -> Result<Session, StepFault>
         ensures opened { IfOk result (λ session. IsEntered D.draws self.old.state.moment SpecOpen self.old (Opened session) self.new) }
         ensures refused { IfErr result (λ fault. (self.new ≡ self.old) × RefusesStep SpecOpen self.old.state fault) }
@@ -188,8 +188,8 @@ impl<K: Keeper + Drop, D: Draws + Drop> Core<K, D> {
         self.open_at(moment)
     }
 
-    /// Lets time pass to a moment in milliseconds, or to the last one if that is later: a `Tick` by itself. Refused only as
-    /// `Memory`, and only while transactions wait; then nothing is changed.
+    /// Advances time to a moment in milliseconds, or to the last moment if that is later: a `Tick` by itself. Refused only as
+    /// `Memory`, and only while transactions wait; a refusal changes nothing.
     pub fn tick(&mut self, alloc: Global, moment: u64) -> Result<(), StepFault>
         ensures ticked { OnOk result (IsEntered D.draws (max moment self.old.state.moment) SpecTick self.old Done self.new) }
         ensures refused { IfErr result (λ fault. (self.new ≡ self.old) × RefusesStep SpecTick self.old.state fault) }
@@ -198,8 +198,8 @@ impl<K: Keeper + Drop, D: Draws + Drop> Core<K, D> {
         self.tick_at(alloc, at)
     }
 
-    /// Lets time pass to a moment in milliseconds, where a transaction that waits is due by it, and tells whether it did. Refused
-    /// as a `Tick` is; then nothing is changed.
+    /// Advances time to a moment in milliseconds if a waiting transaction is due by then, and returns whether it did. Refused
+    /// as a `Tick` is; a refusal changes nothing.
     pub fn pass_where_due(&mut self, alloc: Global, moment: u64) -> Result<bool, StepFault>
         ensures passes { IfOk result (λ ticks. TicksIf D.draws ticks moment self.old self.new) }
         ensures due { IfOk result (λ ticks. ticks ≡ is_due moment self.old.state) }
@@ -214,9 +214,9 @@ impl<K: Keeper + Drop, D: Draws + Drop> Core<K, D> {
         }
     }
 
-    /// Closes the session at the last moment, and drops its monitors, its transactions that wait and its requests for locks, whose
-    /// next owners are told so; false where it is not open, and then nothing is changed. The frames that wait for it still wait.
-    /// It takes no memory.
+    /// Closes the session at the last moment, and drops its monitors, its waiting transactions and its requests for locks;
+    /// the next owners of these locks are notified. Returns false, and changes nothing, if the session is not open. The
+    /// frames that wait for it still wait. Allocates nothing.
     pub fn close(&mut self, session: Session, cause: Cause) -> bool
         ensures { MatchBool result
             (Closes self.old.state.moment session.serial (cause_view cause) self.old self.new)
@@ -226,7 +226,7 @@ impl<K: Keeper + Drop, D: Draws + Drop> Core<K, D> {
         self.close_at(moment, session, cause)
     }
 
-    /// How often the keeper's device has failed; it stays at 2^64-1.
+    /// How often the keeper's device has failed; stays at 2^64-1 once there.
     pub fn failures(&self) -> u64
         ensures count { result ≡ K.failed self.now.keeper }
         ensures state { result ≡ self.now.failures }
@@ -241,23 +241,23 @@ impl<K: Keeper + Drop, D: Draws + Drop> Core<K, D> {
         self.live.sessions.is_open(session.serial)
     }
 
-    /// How many sessions more may be open: 64 less those that are.
+    /// How many more sessions may be open: 64 minus those that are.
     pub fn free_places(&self) -> usize
         ensures { result ≡ most_sessions - length self.now.state.sessions }
     {
         self.live.sessions.free_places()
     }
 
-    /// The serial that the next session will have. None where none is left: the last is 2^64-2.
+    /// The serial of the next session, or `None` if no serial is left: the last is 2^64-2.
     pub fn next_serial(&self) -> Option<u64>
         ensures { result ≡ serial_left self.now.state.next }
     {
         self.live.sessions.next_serial()
     }
 
-    /// When the first of the transactions that wait times out, in milliseconds: the least sum of a moment of arrival and the
-    /// timeout of the wait that blocked the last try (RFC 7047, 5.2.6). None where none does; a sum beyond 2^64-1 is left out. A
-    /// `Tick` at this moment answers it. It takes no memory.
+    /// When the first waiting transaction times out, in milliseconds: the least sum of a moment of arrival and the timeout of
+    /// the wait that blocked the last try (RFC 7047, 5.2.6). `None` if none times out; a sum beyond 2^64-1 is left out. A
+    /// `Tick` at this moment answers that transaction. Allocates nothing.
     pub fn due(&self) -> Option<u64>
         ensures { result ≡ due self.now.state }
     {
@@ -267,13 +267,13 @@ impl<K: Keeper + Drop, D: Draws + Drop> Core<K, D> {
     /// The last 4,096 entries of the history since the core was opened, oldest first.
     pub fn history(&self) -> &VecDeque<Entry>
         ensures kept { result.now.items ≡ self.now.kept }
-        // Each core keeps true of itself that there is such a history.
+        // Every core keeps the invariant that there is such a history.
         ensures legal { HasHistory self.now.state self.now.kept }
     {
         self.history.entries()
     }
 
-    /// Hands out the oldest frame that waits for the session, also for a closed one; None where nothing waits for it.
+    /// Hands out the oldest frame that waits for the session, even if it is closed; `None` if no frame waits for it.
     pub fn next_frame(&mut self, session: Session) -> Option<Bytes>
         ensures handed { (before : State) (history : List SpecEntry) (given : ℕ → List (List ℕ)) → Follows before history given self.old
             → Follows before history (and_handed given session.serial result) self.new }
@@ -281,7 +281,7 @@ impl<K: Keeper + Drop, D: Draws + Drop> Core<K, D> {
         ensures none { IfNone result (waiting_for session.serial self.old.outbox ≡ []) }
         ensures others { (other : ℕ) → other ≢ session.serial → waiting_for other self.new.outbox ≡ waiting_for other self.old.outbox }
         ensures same { self.new ≡ record self.old { outbox = self.new.outbox } }
-        // No queue is kept of a closed session for which nothing waits any more.
+        // A closed session for which no more frames wait has no queue.
         ensures forgotten { is_open self.old.state session.serial ≡ false → waiting_for session.serial self.new.outbox ≡ [] → has_queue session.serial self.new.outbox ≡ false }
     {
         let frame = self.live.outbox.pop(session.serial);
@@ -291,8 +291,8 @@ impl<K: Keeper + Drop, D: Draws + Drop> Core<K, D> {
         frame
     }
 
-    /// Hands out all frames that wait for the session, one behind the other with nothing between, also for a closed one. No
-    /// bytes where nothing waits for it.
+    /// Hands out all frames that wait for the session, joined with nothing in between, even if it is closed. Empty if no
+    /// frame waits for it.
     pub fn take_output(&mut self, alloc: Global, session: Session) -> Result<Bytes, AllocError>
         ensures all { IfOk result (λ b. b ≡ joined (waiting_for session.serial self.old.outbox)) }
         ensures none_left { OnOk result (waiting_for session.serial self.new.outbox ≡ []) }
@@ -300,7 +300,7 @@ impl<K: Keeper + Drop, D: Draws + Drop> Core<K, D> {
         ensures handed { OnOk result ((before : State) (history : List SpecEntry) (given : ℕ → List (List ℕ)) → Follows before history given self.old
             → Follows before history (and_all_handed given session.serial (waiting_for session.serial self.old.outbox)) self.new) }
         ensures same { OnOk result (self.new ≡ record self.old { outbox = self.new.outbox }) }
-        // Where memory is refused, nothing was handed out.
+        // If an allocation fails, nothing was handed out.
         ensures refused { OnErr result (self.new ≡ self.old) }
     {
         let output = self.live.outbox.joined_for(alloc, session.serial)?;
@@ -308,14 +308,14 @@ impl<K: Keeper + Drop, D: Draws + Drop> Core<K, D> {
         Ok(output)
     }
 
-    /// Drops the frames that wait for a session that is closed; where it is open, nothing is done. It takes no memory.
+    /// Drops the frames that wait for a closed session; does nothing if the session is open. Allocates nothing.
     pub fn discard(&mut self, session: Session)
         ensures open { is_open self.old.state session.serial ≡ true → self.new ≡ self.old }
-        // No frame waits any more for a closed session, and no queue is kept of it.
+        // Afterwards no frame waits for a closed session, and it has no queue.
         ensures none_left { is_open self.old.state session.serial ≡ false → waiting_for session.serial self.new.outbox ≡ [] }
         ensures forgotten { is_open self.old.state session.serial ≡ false → has_queue session.serial self.new.outbox ≡ false }
         ensures others { (other : ℕ) → other ≢ session.serial → waiting_for other self.new.outbox ≡ waiting_for other self.old.outbox }
-        // What waited for a closed session counts as handed out.
+        // Frames that waited for a closed session count as handed out.
         ensures handed { is_open self.old.state session.serial ≡ false → (before : State) (history : List SpecEntry) (given : ℕ → List (List ℕ)) → Follows before history given self.old
             → Follows before history (and_all_handed given session.serial (waiting_for session.serial self.old.outbox)) self.new }
         ensures same { self.new ≡ record self.old { outbox = self.new.outbox } }
@@ -326,15 +326,15 @@ impl<K: Keeper + Drop, D: Draws + Drop> Core<K, D> {
         self.live.outbox.clear(session.serial);
     }
 
-    /// What a crash now leaves, which each core keeps true of itself: the lines of the machine's database, or after a commit
-    /// that failed also those of the database that it would have made. It does nothing.
+    /// States what a crash now leaves, an invariant of every core: the lines of the machine's database, or after a failed
+    /// commit possibly those of the database that it would have made. Does nothing.
     pub fn left(&self)
         ensures { K.is_honest self.now.keeper → (held : Contents) → K.leaves self.now.keeper held → LeavesItsOwn self.now.state held }
     {
         self.live.database.left();
     }
 
-    /// Gives the core up, and its keeper back.
+    /// Gives up the core, and returns its keeper.
     pub fn into_keeper(self) -> K
         ensures { result ≡ self.keeper }
     {
@@ -348,17 +348,17 @@ impl<K: Keeper + Drop, D: Draws + Drop> Core<K, D> {
         live.into_keeper()
     }
 
-    /// What an open after a crash now would find, which each core keeps true of itself: the machine's database, or after a commit
-    /// that failed also the one that it would have made. It does nothing.
+    /// States what an open after a crash now would find, an invariant of every core: the machine's database, or after a
+    /// failed commit possibly the one that it would have made. Does nothing.
     pub fn would_open(&self)
         ensures { K.is_honest self.now.keeper → MayFind (K.leaves self.now.keeper) self.now.state.schema self.now.state.database self.now.state.sealed }
     {
         self.live.database.left();
     }
 
-    /// What each core keeps true of itself: each row of the machine's database is a row of the schema, and is what its line reads
-    /// back as, and the rows are whole, so that a commit leaves them as they are; so it is with those that a commit that failed
-    /// would have made. It does nothing.
+    /// States an invariant of every core: each row of the machine's database is a row of the schema and what its line reads
+    /// back as, and the rows are whole, so that a commit leaves them as they are. The same holds for the rows that a failed
+    /// commit would have made. Does nothing.
     pub fn kept(&self)
         ensures { AreKept self.now.state.schema self.now.state.database self.now.state.sealed }
     {
@@ -425,7 +425,7 @@ impl<K: Keeper + Drop, D: Draws + Drop> Core<K, D> {
         self.moment = moment;
     }
 
-    /// A message is taken. Where memory is refused for what is to be listed of its attempts, its session is closed instead.
+    /// Takes a message. If the list of its attempts cannot be allocated, closes its session instead.
     fn take(&mut self, alloc: Global, moment: u64, session: Session, received: Received) -> Stepped
         requires { self.old.state.moment ≤ moment }
         ensures { StepIs D.draws moment (SpecTake session.serial received) self.old result self.new }

@@ -1,7 +1,7 @@
 use ov_locks::LockTable;
 use ov_txn::Owns as OwnsLocks;
 
-/// A session, as the one that asks which locks it owns (RFC 7047, 5.2.10).
+/// A session that is asked which locks it owns (RFC 7047, 5.2.10).
 #[derive(Clone, Copy)]
 pub(crate) struct Owner<'a> {
     pub locks: &'a LockTable,

@@ -16,15 +16,15 @@ use ov_txn::{Ready, Replies};
 use ov_watch::Watchers;
 use std::alloc::Global;
 
-/// The open sessions and their monitors, which are told of a commit.
+/// The open sessions and their monitors, which receive the updates of a commit.
 #[derive(Clone, Copy)]
 pub(crate) struct Audience<'a> {
     pub sessions: &'a Sessions,
     pub watchers: &'a Watchers,
 }
 
-/// What follows a commit, as it is made ready for each answer of the store: what the monitors are told, and the reply. It has the
-/// frames that wait while the transaction is tried.
+/// What follows a commit, made ready for each answer of the store: the updates of the monitors, and the reply. It holds the
+/// waiting frames while the transaction is tried.
 #[derive(Drop)]
 pub(crate) struct Replying<'a> {
     pub alloc: Global,
@@ -32,16 +32,16 @@ pub(crate) struct Replying<'a> {
     pub session: u64,
     pub id: &'a Tree,
     pub queues: FrameQueues,
-    /// What is sent where the store keeps the changes: the updates, and behind them the reply.
+    /// What is sent if the store keeps the changes: the updates, then the reply.
     pub prepared: Prepared,
-    /// The reply where the store answers that resources are exhausted, once all is ready.
+    /// The reply if the store answers that resources are exhausted, once all is ready.
     pub exhausted: Bytes,
-    /// The reply where the store fails, once all is ready.
+    /// The reply if the store fails, once all is ready.
     pub failed: Bytes,
 }
 
 impl<'a> Replying<'a> {
-    /// Nothing is ready yet. This takes no memory.
+    /// Nothing is ready yet. Allocates nothing.
     pub fn new(
         alloc: Global,
         audience: Audience<'a>,
@@ -67,7 +67,7 @@ impl<'a> Replying<'a> {
         }
     }
 
-    /// Prepares a frame for a session; false where memory is refused.
+    /// Prepares a frame for a session; false if an allocation fails.
     fn prepare(&mut self, session: u64, frame: Bytes) -> bool
         ensures { PreparesFrames ((session, frame) ∷ []) self.old result self.new }
     {
@@ -75,7 +75,7 @@ impl<'a> Replying<'a> {
             .prepare(self.alloc, &mut self.queues, session, frame)
     }
 
-    /// Prepares one update for a session, of these params; false where memory is refused.
+    /// Prepares one update with these params for a session; false if an allocation fails.
     fn prepare_update(&mut self, session: u64, params: Trees) -> bool
         ensures { PreparesMore (to_session session (update_note params ∷ [])) self.old result self.new }
     {
@@ -85,7 +85,7 @@ impl<'a> Replying<'a> {
         self.prepare(session, frame)
     }
 
-    /// Prepares what the monitors of one session are told of these changes; false where memory is refused.
+    /// Prepares the updates of these changes for the monitors of one session; false if an allocation fails.
     fn prepare_updates_of<K: Keeper + Drop>(
         &mut self,
         session: u64,
@@ -109,8 +109,8 @@ impl<'a> Replying<'a> {
         true
     }
 
-    /// Prepares what the monitors of all sessions are told of these changes, session by session in order of opening; false where
-    /// memory is refused (RFC 7047, 4.1.6; the order is our own).
+    /// Prepares the updates of these changes (RFC 7047, 4.1.6) for the monitors of all sessions, session by session in order
+    /// of opening; false if an allocation fails.
     fn prepare_updates<K: Keeper + Drop>(&mut self, db: &Db<K>, delta: &Delta) -> bool
         ensures { PreparesMore (updates_sent db.now.committed (applied delta.now db.now.committed) (sessions_of self.old.audience.watchers.now self.old.audience.sessions.now.open_sessions)) self.old result self.new }
     {
@@ -128,7 +128,7 @@ impl<'a, K: Keeper + Drop> Ready<K> for Replying<'a> {
 
     ghost readies = { λ old db delta replies ready new. Prepares old db delta replies ready new };
 
-    /// The updates and the reply of a commit that is kept are prepared, each with a place for its frame.
+    /// Prepares the updates and the reply of a commit that is kept, each with a place for its frame.
     fn ready(&mut self, db: &Db<K>, delta: &Delta, replies: Replies) -> bool {
         let Ok(frames) = Frames::new(self.alloc, self.id, replies) else {
             return false;

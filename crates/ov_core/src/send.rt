@@ -9,14 +9,14 @@ use ov_history::Outcome;
 use ov_outbox::Outbox;
 use std::alloc::Global;
 
-/// Lets the frame wait, if there is one. `NoMemory` where memory is refused, and then nothing more waits.
+/// Queues the frame, if there is one. If an allocation fails, returns `NoMemory` and queues nothing.
 pub(crate) fn send(
     alloc: Global,
     outbox: &mut Outbox,
     session: u64,
     frame: Option<Bytes>,
 ) -> Option<Outcome>
-    // Whatever tree the frame is of.
+    // For any trees that the frame encodes.
     ensures posts { (trees : List Data) → map spec_frame trees ≡ option_to_list frame → PostsIfRoom (to_session session trees) outbox.old.frames result outbox.new.frames }
     ensures queues { outbox.new.queues ≡ outbox.old.queues }
     ensures unasked { IsUnasked result }

@@ -20,10 +20,10 @@ use ov_txn::Tries;
 use std::alloc::Global;
 
 impl<K: Keeper + Drop> Live<K> {
-    /// Settles the transactions that wait: they are tried in order of arrival, and again from the first after each that changed
-    /// the database, until a whole pass changes nothing (our own, over RFC 7047, 4.1.3). The first try is the attempt of this
-    /// number of its event. A transaction waits no more once it is answered; where memory is refused for it, its session is
-    /// closed. Where none waits nothing is done.
+    /// Settles the waiting transactions: tries them in order of arrival, and again from the first after each that changed the
+    /// database, until a whole pass changes nothing (RFC 7047, 4.1.3). The first try is attempt number `first` of its event.
+    /// A transaction stops waiting once it is answered; if an allocation for it fails, its session is closed. Does nothing if
+    /// none waits.
     pub fn settle(&mut self, alloc: Global, moment: u64, first: u64, attempts: &mut Vec<Attempt>)
         requires untried { self.old.waiting.untried ≡ [] }
         requires room { vec_len attempts.old + length self.old.waiting.outstanding ≤ vec_capacity attempts.old }
@@ -37,8 +37,8 @@ impl<K: Keeper + Drop> Live<K> {
         }
     }
 
-    /// Tries the next of those that this pass has still to try; one whose session was closed on the way is dropped instead.
-    /// Answers the number of the next attempt.
+    /// Tries the next transaction of this pass, or drops it if its session was closed meanwhile. Returns the number of the
+    /// next attempt.
     fn try_next(
         &mut self,
         alloc: Global,
@@ -88,7 +88,7 @@ impl<K: Keeper + Drop> Live<K> {
         }
     }
 
-    /// What a try that is over leads to.
+    /// Does what follows a finished try.
     fn after_try(&mut self, session: u64, outcome: Option<Outcome>)
         ensures { AfterTry session outcome self.old self.new }
     {
@@ -100,7 +100,7 @@ impl<K: Keeper + Drop> Live<K> {
     }
 }
 
-/// Tries a transaction that waits, at the age that it has by now and with the locks that its session owns by now.
+/// Tries a waiting transaction, at its current age and with the locks that its session owns now.
 fn try_again<K: Keeper + Drop>(
     alloc: Global,
     database: &mut Db<K>,

@@ -20,8 +20,8 @@ use serde_json::{Map, Value};
 use std::alloc::Global;
 
 impl<K: Keeper + Drop> Live<K> {
-    /// A monitor of this name and of these requests, and what it is told at first; or it is refused (RFC 7047, 4.1.5). Where memory
-    /// is refused the session may have the monitor, with which it is closed.
+    /// Adds a monitor of this name with these requests and replies with its initial contents, or refuses it (RFC 7047,
+    /// 4.1.5). If an allocation fails, the session may have the monitor, and is closed with it.
     pub fn monitor(
         &mut self,
         alloc: Global,
@@ -50,7 +50,7 @@ impl<K: Keeper + Drop> Live<K> {
         }
     }
 
-    /// Answers with what the monitor of this name is told at first (RFC 7047, 4.1.5).
+    /// Replies with the initial contents of the monitor of this name (RFC 7047, 4.1.5).
     fn tell_initial(
         &mut self,
         alloc: Global,
@@ -70,7 +70,7 @@ impl<K: Keeper + Drop> Live<K> {
         self.answer(alloc, session, id, told)
     }
 
-    /// A result.
+    /// Replies with a result.
     fn answer(&mut self, alloc: Global, session: u64, id: Tree, told: Tree) -> Option<Outcome>
         ensures posts { PostsIfRoom (spec.to_session session (reply_tree id told ∷ [])) self.old.outbox.frames result self.new.outbox.frames }
         ensures queues { self.new.outbox.queues ≡ self.old.outbox.queues }
@@ -82,8 +82,8 @@ impl<K: Keeper + Drop> Live<K> {
         }
     }
 
-    /// The monitor of this name is canceled, or there is none (RFC 7047, 4.1.7). Where memory is refused the session may have lost
-    /// the monitor, and it is closed.
+    /// Cancels the monitor of this name, or refuses if there is none (RFC 7047, 4.1.7). If an allocation fails, the session
+    /// may have lost the monitor, and is closed.
     pub fn cancel_monitor(
         &mut self,
         alloc: Global,

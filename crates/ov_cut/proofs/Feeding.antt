@@ -16,7 +16,7 @@ told_none None h = refl
 told_none (Some (Stray n)) h = cc
 told_none (Some TooLong) h = cc
 
--- the cut of the stream with the piece, by that of the piece behind the rest
+-- the cut of the stream with the piece, by that of the rest with the piece
 pub fed : (stream piece : List ℕ) (given : List (List ℕ)) (c : CutterState) → StandsFor stream given c → c.fault ≡ None → cut (stream ++ piece) ≡ with_messages given (cut_from max_message (length stream) c.rest piece)
 unfolding cut
 fed stream piece given c s h =
@@ -79,7 +79,7 @@ takes_over c before piece some = record {
   over = λ again. (refl, refl);
 }
 
--- ---- a piece behind another
+-- ---- one piece after another
 
 module _ (old mid new : CutterState) (before between after : List (List ℕ)) (p q : List ℕ) (one : TakesPiece old before p mid between) (two : TakesPiece mid between q new after) where
   over_later : IsSome mid.fault → (after ≡ between) × (new ≡ mid)
@@ -115,7 +115,7 @@ module _ (c : CutterState) (before : List (List ℕ)) (piece : List ℕ) (h : c.
   no_fault : {X : Type 0} → IsSome c.fault → X
   no_fault some = absurd (let no : IsSome {T = CutFault} None = subst IsSome h some in false≢true no)
 
-  -- where a stream's bytes are told, by those before the rest
+  -- where a stream's bytes are reported, by those before the rest
   abbrev pub Moves : List ℕ → CutterState → Type 0
   Moves rest new = (begins : ℕ) → c.start ≡ offset_in_64_bits begins → (next : ℕ) × (next + length rest ≡ begins + (length c.rest + length piece)) × (new.start ≡ offset_in_64_bits next)
 
@@ -139,7 +139,7 @@ module _ (c : CutterState) (before : List (List ℕ)) (piece : List ℕ) (h : c.
       over = λ some. no_fault some;
     }
 
-  -- damage, which is told as it is
+  -- damage, which is reported as it is
   module _ (new : CutterState) (damage : ℕ → Damage) (why : CutFault) (brings : (at : ℕ) → cut_from max_message at c.rest piece ≡ record { messages = []; rest = []; damage = Some (damage at) }) (told : (begins : ℕ) → c.start ≡ offset_in_64_bits begins → fault_of_damage (Some (damage (begins + length c.rest))) ≡ Some why) where
     damaged_whole : (stream : List ℕ) (given : List (List ℕ)) → StandsFor stream (given ++ before) c → StandsFor (stream ++ piece) (given ++ before) (with_fault new why)
     damaged_whole stream given s =

@@ -51,14 +51,14 @@ module _ (c : CutterState) (looked : ℕ) (before : List (List ℕ)) (h : c.faul
       (takes_messages c before piece h [] (c.rest ++ piece) new brings (ap (λ (s : CutterState). s.rest) is) (ap (λ (s : CutterState). s.fault) is ∙ h)
       (λ begins start. let at = ap (λ (s : CutterState). s.start) is in (begins, simp length-append (omega arith), at ∙ start))))
 
-  -- there was no memory for it
+  -- an allocation failed for it
   pub took_none : (piece : List ℕ) (new : CutterState) (after : List (List ℕ)) (why : CutFault) → why ≡ fault.Memory → after ≡ before → TakesPiece c before piece (with_fault new why) after
   took_none piece new after why is same = rw (is, same) (takes_memory c before piece h new)
 
   pub took_long : (piece : List ℕ) (new : CutterState) → ((at : ℕ) → cut_from max_message at c.rest piece ≡ record { messages = []; rest = []; damage = Some TooLong }) → TakesPiece c before piece (with_fault new fault.TooLong) before
   took_long piece new long = takes_damage c before piece h new (λ n. TooLong) fault.TooLong long (λ begins start. refl)
 
-  -- white space, where no message has begun
+  -- white space, if no message has begun
   module _ (between : c.rest ≡ []) where
     pub took_gap : (gap : List ℕ) → AllSpace gap → TakesPiece c before gap (advanced looking (length gap)) before
     took_gap gap space =
@@ -72,7 +72,7 @@ module _ (c : CutterState) (looked : ℕ) (before : List (List ℕ)) (h : c.faul
         (subst (λ r. (at : ℕ) → cut_from max_message at r piece ≡ record { messages = []; rest = []; damage = Some (Stray (at + n)) }) (sym between) (stray_brings piece n within space no_space no_brace))
         (λ begins start. ap (λ k. Some (fault.Damaged k)) (omega (arith, start, ap length between)))
 
-    -- a message behind white space
+    -- a message after white space
     module _ (piece : List ℕ) (n : ℕ) (within : n < length piece) (space : AllSpace (take n piece)) (mid : CutterState) (is : mid ≡ advanced looking n) where
       gap_first : TakesPiece c before (take n piece) mid before
       gap_first = let le : n ≤ length piece = omega arith in subst (λ s. TakesPiece c before (take n piece) s before) (ap (advanced looking) (length-take-le n piece le) ∙ sym is) (took_gap (take n piece) space)

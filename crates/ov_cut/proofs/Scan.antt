@@ -133,9 +133,9 @@ run_whole most at begun x s some short balanced = rw (next_is most at begun x so
 pub run_more : (most at : ℕ) (begun : List ℕ) (x : ℕ) (s : List ℕ) → 0 < length begun → length (begun ++ x ∷ []) ≤ most → is_balanced (begun ++ x ∷ []) ≡ false → cut_from most at begun (x ∷ s) ≡ cut_from most (at + 1) (begun ++ x ∷ []) s
 run_more most at begun x s some short unbalanced = rw (next_is most at begun x some, le-ltb most _ short, unbalanced) refl
 
--- ---- one text behind another
+-- ---- one text after another
 
--- the cut behind what a text begins with
+-- the cut after what a text begins with
 pub goes_on : (front p q : List ℕ) (messages : List (List ℕ)) (rest : List ℕ) (at : ℕ) → Brings front p messages rest → cut_from max_message at front (p ++ q) ≡ with_messages messages (cut_from max_message (at + length p) rest q)
 goes_on front p q messages rest at b = cut_append max_message at front p q ∙ ap (λ k. continue_cut k (λ r. cut_from max_message (at + length p) r q)) (b at)
 
@@ -187,7 +187,7 @@ first_begun text h = record {
   short = omega (arith, first_length text h);
 }
 
--- ---- one more byte behind a message that has begun
+-- ---- one more byte after a message that has begun
 
 module _ (front text : List ℕ) (i : ℕ) (mode : Mode) (depth : ℕ) (p : Mode × ℕ) (within : i < length text) (some : 0 < length front) (is : p ≡ mode_after mode depth (get_or text i 0)) (l : LeavesMode (front ++ take i text) mode depth) (low : 0 < depth) where
   more_is : front ++ take (i + 1) text ≡ (front ++ take i text) ++ get_or text i 0 ∷ []

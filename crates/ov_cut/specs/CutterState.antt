@@ -1,29 +1,29 @@
--- What a cutter stands for, and how it tells damage. What names no source is our own.
+-- What a cutter stands for, and how it reports damage.
 use Rattle.std.specs.Prelude.{◌≡◌, ℕ, ◌+◌, ◌^◌, ◌-◌, ◌++◌, min, List, length, Option, Some, None}
 use Rattle.ov_specs.specs.wire.Cut.{cut, Damage, Stray, TooLong}
 use Rattle.ov_cut.specs.declared.fault.CutFault.{CutFault}
 use Rattle.ov_cut.specs.declared.fault.CutFault.TheVariants as fault
 
--- an offset as it is told: it stays at the greatest number of 64 bits
+-- an offset as it is reported: it stays at the greatest 64-bit number
 abbrev pub offset_in_64_bits : ℕ → ℕ
 offset_in_64_bits n = min n (2 ^ 64 - 1)
 
--- the fault by which damage is told
+-- the fault that reports damage
 abbrev pub fault_of_damage : Option Damage → Option CutFault
 fault_of_damage None = None
 fault_of_damage (Some (Stray offset)) = Some (fault.Damaged (offset_in_64_bits offset))
 fault_of_damage (Some TooLong) = Some fault.TooLong
 
--- what a cutter has: where in the stream its rest begins, the rest, which is a message that has begun, the fault, and at how many
--- bytes it looked
+-- what a cutter has: where in the stream its rest begins, the rest, which is a message that has begun, the fault, and how
+-- many bytes it has looked at
 pub record CutterState : Type 0 where
   pub start : ℕ
   pub rest : List ℕ
   pub fault : Option CutFault
   pub looked : ℕ
 
--- The cutter was given this stream and gave these messages: they, its rest and its fault are those of the cut of the stream.
--- With the fault `Memory` it stands for no stream.
+-- The cutter was given this stream and gave these messages: the messages, its rest and its fault are those of the cut of the
+-- stream. With the fault `Memory` it stands for no stream.
 pub record StandsFor (stream : List ℕ) (given : List (List ℕ)) (cutter : CutterState) : Type 0 where
   pub messages : (cut stream).messages ≡ given
   pub rest : (cut stream).rest ≡ cutter.rest

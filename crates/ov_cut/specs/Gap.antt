@@ -11,7 +11,7 @@ IsGap text gap.Space = AllSpace text
 IsGap text (gap.Brace n) = (n < length text) × AllSpace (take n text) × (slice_index text n ≡ 123)
 IsGap text (gap.Stray n) = (n < length text) × AllSpace (take n text) × (is_space (slice_index text n) ≡ false) × (slice_index text n ≢ 123)
 
--- how often it was looked: at the white space, and at the byte that ends it
+-- how many looks there were: at the white space, and at the byte that ends it
 abbrev pub LooksForGap : ℕ → List ℕ → Gap → ℕ → Type 0
 LooksForGap old text gap.Space new = new ≡ old + length text
 LooksForGap old text (gap.Brace n) new = new ≡ old + (n + 1)

@@ -16,18 +16,18 @@ use std::mem;
 /// What a piece of a stream brought.
 #[derive(Drop)]
 pub struct Fed {
-    /// The messages that end in the piece, in their order, each without the white space around it.
+    /// The messages that end in the piece, in order, each without the white space around it.
     pub messages: Vec<Bytes>,
     /// Why no more messages come.
     pub fault: Option<CutFault>,
 }
 
-/// Cuts a byte stream that comes in pieces into messages (our own; RFC 7047, 4 sends JSON-RPC objects without framing).
+/// Cuts a byte stream that arrives in pieces into messages (RFC 7047, 4 sends JSON-RPC objects without framing).
 #[derive(Drop)]
 pub struct Cutter {
     start: u64,
     rest: Vec<u8>,
-    /// Where the rest leaves the message that has begun, so that no byte of it is looked at again.
+    /// The state in which the rest leaves the message that has begun, so that no byte of it is looked at again.
     scan: Option<Scan>,
     fault: Option<CutFault>,
     looks: Looks,
@@ -46,7 +46,7 @@ impl Model for Cutter {
 }
 
 impl Cutter {
-    /// A cutter of a stream of which nothing has come. It takes no memory before the first piece.
+    /// A cutter of a stream of which nothing has arrived. Allocates nothing before the first piece.
     pub fn new(alloc: Global) -> Cutter
         ensures { StandsFor [] [] result }
     {
@@ -59,32 +59,32 @@ impl Cutter {
         }
     }
 
-    /// The bytes of the message that has begun and has not ended, at most 1,048,576; none once the stream is
-    /// damaged or a message was too long.
+    /// The bytes of the message that has begun and has not ended, at most 1,048,576; none once the stream is damaged or a
+    /// message was too long.
     pub fn rest(&self) -> &[u8]
         ensures { result.now ≡ self.now.rest }
     {
         self.rest.as_slice()
     }
 
-    /// Takes the next piece of the stream, of any number of bytes. Refuses a stray byte between messages, a message
-    /// of more than 1,048,576 bytes, and what there is no memory for; from then on it refuses all that follows.
+    /// Takes the next piece of the stream, of any length. Refuses a stray byte between messages, a message of more than
+    /// 1,048,576 bytes, and anything for which an allocation fails; afterwards it refuses all that follows.
     pub fn feed(&mut self, alloc: Global, piece: &[u8]) -> Fed
         // All messages so far, the rest and the fault are those of the stream so far.
         ensures whole { (stream : List ℕ) (given : List (List ℕ)) → StandsFor stream given self.old
             → result.fault ≢ Some CutFault.Memory
             → StandsFor (stream ++ piece.now) (given ++ result.messages.items) self.new }
-        // Where memory is short, some are missing at the end.
+        // If an allocation fails, some are missing at the end.
         ensures memory { (stream : List ℕ) (given : List (List ℕ)) → StandsFor stream given self.old
             → IsBeginning (given ++ result.messages.items) (cut (stream ++ piece.now)).messages }
 
         ensures fault { result.fault ≡ self.new.fault }
 
-        // With a fault no more messages come, and each later call gives the same fault.
+        // With a fault no more messages come, and each later call returns the same fault.
         ensures over_messages { IsSome self.old.fault → result.messages.items ≡ [] }
         ensures over_state { IsSome self.old.fault → self.new ≡ self.old }
 
-        // Each byte of the piece is looked at at most once, and those of earlier pieces no more; with no fault, each is.
+        // Each byte of the piece is looked at at most once, and those of earlier pieces not again; with no fault, each is.
         ensures looked { self.new.looked ≤ self.old.looked + length piece.now }
         ensures looked_at_all { self.new.fault ≡ None → self.new.looked ≡ self.old.looked + length piece.now }
     {
@@ -106,8 +106,8 @@ impl Cutter {
         self.fault.is_some()
     }
 
-    /// Takes the piece up to the end of its first message, or all of it where none ends in it or there is a fault.
-    /// Says how many bytes that are.
+    /// Takes the piece up to the end of its first message, or all of it if none ends in it or there is a fault. Returns how
+    /// many bytes that is.
     fn feed_front(&mut self, alloc: Global, messages: &mut Vec<Bytes>, piece: &[u8]) -> usize
         requires sound { self.old.fault ≡ None }
         requires some { 0 < length piece.now }
@@ -126,7 +126,7 @@ impl Cutter {
         }
     }
 
-    /// Takes the piece up to the end of its first message, or all of it where none ends in it.
+    /// Takes the piece up to the end of its first message, or all of it if none ends in it.
     fn take_front(
         &mut self,
         alloc: Global,
@@ -154,7 +154,7 @@ impl Cutter {
         }
     }
 
-    /// The same where no message has begun.
+    /// The same if no message has begun.
     fn take_gap(
         &mut self,
         alloc: Global,
@@ -180,7 +180,7 @@ impl Cutter {
         }
     }
 
-    /// The same where the piece begins with the brace of a message, which was looked at.
+    /// The same if the piece begins with the brace of a message, which has been looked at.
     fn take_message(
         &mut self,
         alloc: Global,
@@ -207,7 +207,7 @@ impl Cutter {
         }
     }
 
-    /// Keeps these bytes behind the rest, where there is memory for them. They leave the message there.
+    /// Appends these bytes to the rest, unless an allocation fails. They leave the message in the state `scan`.
     fn keep(&mut self, scan: Scan, more: &[u8]) -> Result<(), CutFault>
         requires { IsBegunAs (self.old.rest ++ more.now) scan }
         ensures { KeepsMore self.old more.now result self.new }
@@ -237,7 +237,7 @@ impl Cutter {
         self.give(messages, Bytes::from_vec(message))
     }
 
-    /// Gives a message that stands in one piece.
+    /// Gives a message that lies in one piece.
     fn copy_message(
         &mut self,
         alloc: Global,
@@ -253,7 +253,7 @@ impl Cutter {
         }
     }
 
-    /// Gives a message, behind which no other has begun.
+    /// Gives a message after which no other has begun.
     fn give(&mut self, messages: &mut Vec<Bytes>, message: Bytes) -> Result<(), CutFault>
         requires { self.old.rest ≡ [] }
         ensures { GivesMessage self.old message messages.old.items result self.new messages.new.items }
@@ -265,7 +265,7 @@ impl Cutter {
         Ok(())
     }
 
-    /// The rest begins so many bytes later in the stream.
+    /// Moves the start of the rest this many bytes further in the stream.
     fn advance(&mut self, len: usize)
         ensures { self.new ≡ advanced self.old len }
     {
@@ -281,7 +281,7 @@ impl Cutter {
     }
 }
 
-/// The offset so many bytes behind another.
+/// The offset this many bytes after another.
 fn moved(offset: u64, len: usize) -> u64
     ensures { result ≡ offset_in_64_bits (offset + len) }
 {

@@ -1,7 +1,7 @@
-//! Cuts a byte stream of JSON objects without framing into its messages, whatever the pieces in which it comes.
+//! Cuts a byte stream of JSON objects without framing into messages, whatever the pieces in which it arrives.
 //!
-//! A message is told by its braces alone: those inside string literals do not count. A cutter keeps the bytes of the
-//! message that has begun, and where they leave it, so that it looks at no byte twice.
+//! Braces alone delimit a message; those inside string literals do not count. A cutter keeps the bytes of the message that
+//! has begun, and the state in which they leave it, so that it looks at no byte twice.
 #![tactic(auto)]
 
 mod cutter;

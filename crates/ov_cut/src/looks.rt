@@ -3,9 +3,9 @@ ghost use Rattle.std.specs.Prelude.{◌≡◌, ◌+◌, ◌<◌, length, slice_i
 use ov_base::ByteTrace;
 use std::marker::Model;
 
-/// How many bytes were looked at: a number that only contracts see. At run time it is empty.
+/// How many bytes have been looked at: a number that only contracts see. At run time it is empty.
 ///
-/// The crate looks at a byte by `byte` alone, so that a contract on the number says that none is looked at twice.
+/// The crate looks at a byte only through `byte`, so that a contract on the number says that none is looked at twice.
 #[derive(Drop)]
 pub(crate) struct Looks {
     seen: ByteTrace,
@@ -20,7 +20,7 @@ impl Model for Looks {
 }
 
 impl Looks {
-    /// The count of one who has looked at nothing.
+    /// The count when nothing has been looked at.
     pub fn new() -> Looks
         ensures { result ≡ 0 }
     {

@@ -7,7 +7,7 @@ use crate::looks::Looks;
 /// The longest message, in bytes.
 const MAX_MESSAGE: usize = 1_048_576;
 
-/// Whether the next byte stands in a string literal, and behind a backslash there.
+/// Whether the next byte is in a string literal, and after a backslash there.
 #[derive(Clone, Copy, Debug, PartialEq, Eq)]
 pub(crate) enum Mode {
     Outside,
@@ -15,7 +15,7 @@ pub(crate) enum Mode {
     Escaped,
 }
 
-/// Where its bytes so far leave a message that has begun.
+/// The state in which its bytes so far leave a message that has begun.
 #[derive(Clone, Copy, Debug, PartialEq, Eq)]
 pub(crate) struct Scan {
     pub mode: Mode,
@@ -23,30 +23,30 @@ pub(crate) struct Scan {
     pub depth: usize,
 }
 
-/// Where its first brace leaves a message.
+/// The state in which its first brace leaves a message.
 pub(crate) const FIRST: Scan = Scan {
     mode: Mode::Outside,
     depth: 1,
 };
 
-/// What comes of a message that has begun.
+/// What becomes of a message that has begun.
 #[derive(Clone, Copy, Debug, PartialEq, Eq)]
 pub(crate) enum Found {
-    /// It ends with this many bytes more.
+    /// It ends with this many more bytes.
     Whole(usize),
     /// It has not ended.
     Begun(Scan),
     TooLong,
 }
 
-/// Whether a message of this many bytes is over the limit.
+/// Whether a message of this many bytes exceeds the limit.
 fn is_too_long(len: usize) -> bool
     ensures { IsTrue result ↔ (max_message < len) }
 {
     len > MAX_MESSAGE
 }
 
-/// One more byte of a message: the mode behind it, and how many braces are open.
+/// The mode after one more byte of a message, and how many braces are open.
 fn next_mode(mode: Mode, depth: usize, byte: u8) -> (Mode, usize)
     requires low { 0 < depth }
     requires high { depth ≤ max_message }
@@ -68,8 +68,8 @@ fn next_mode(mode: Mode, depth: usize, byte: u8) -> (Mode, usize)
     }
 }
 
-/// Looks for the end of a message that has begun with these bytes, in the text behind them. No byte of the front is
-/// looked at again: `begun` is where they leave the message.
+/// Looks for the end of a message that has begun with the bytes of `front`, in the text after them. No byte of the front is
+/// looked at again: `begun` is the state in which they leave the message.
 pub(crate) fn find_end(looks: &mut Looks, front: &[u8], begun: Scan, text: &[u8]) -> Found
     requires { IsBegunAs front.now begun }
     ensures end { Finds front.now text.now result }

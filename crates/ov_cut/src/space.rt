@@ -15,7 +15,7 @@ pub(crate) enum Gap {
     Stray(usize),
 }
 
-/// White space of JSON (RFC 8259, 2).
+/// Whether a byte is white space of JSON (RFC 8259, 2).
 fn is_space(byte: u8) -> bool
     ensures { result ≡ is_gap byte }
 {

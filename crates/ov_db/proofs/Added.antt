@@ -1,4 +1,4 @@
--- Rows that are added, one after another, and taken out again from the last.
+-- Rows that are added one by one, and removed again, the last one first.
 use Rattle.std.proofs.Common.{◌≡◌, List, [], ◌∷◌, ◌++◌, Bool, true, false, cond, Option, Some, None, is_some, refl, sym, ap, ◌∙◌}
 use Rattle.std.specs.FinMap.{get, insert, remove, contains_key, get-insert, get-remove, same_map}
 use Rattle.std.specs.Ordering.{eq_by_cmp}
@@ -50,7 +50,7 @@ without-push (x ∷ ks) k db = ap (λ (d : Database). remove d x) (without-push 
 pub without-added : (ks : List LineKey) (k : LineKey) (r : Row) (db : Database) → contains_key db k ≡ false → without_rows (ks ++ k ∷ []) (insert db k r) ≡ without_rows ks db
 without-added ks k r db none = without-push ks k (insert db k r) ∙ ap (without_rows ks) (remove-insert db k r (absent db k none))
 
--- ---- what stands at the keys behind one row more
+-- ---- the rows at the keys after one more is added
 
 at_key : (db db' : Database) (k : LineKey) (r : Row) (q : LineKey) → db' ≡ insert db k r → get db' q ≡ cond (same q k) (Some r) (get db q)
 at_key db db' k r q is = ap (λ (d : Database). get d q) is ∙ get-insert key_total db k r q

@@ -1,4 +1,4 @@
--- Who is kept as one that refers to a row is just who does.
+-- The rows that are kept as referring to a row are exactly those that do.
 use Rattle.std.proofs.Common.{◌≡◌, ◌==◌, List, [], ◌∷◌, map, filter, length, Bool, true, false, cond, T, ◌&&◌, not, Option, Some, None, is_some, refl, sym, ap, ◌∙◌}
 use Rattle.std.specs.Prelude.{unwrap_or}
 use Rattle.std.proofs.lemmas.List.{length-map, nil_from_length}
@@ -71,7 +71,7 @@ module _ (test : LineKey × Row → Bool) where
       by false is true passed rest = ap (λ t. is_some (cond t (Some tt) (find line_cmp key (marks rs)))) is ∙ rest
       by false is false passed rest = rest
 
-  -- a set that has just their keys lists them
+  -- a set that has exactly their keys lists them
   keys_of_rows : (set : KeySet) (rows : Database) → ((key : LineKey) → contains_key set key ≡ passes key (get rows key)) → keys set ≡ map (λ r. r.0) (filter test (entries rows))
   keys_of_rows set rows has = ap keys same ∙ ap (map (λ e. e.0)) (entries-from_sorted line_cmp (marks (entries rows)) sorted) ∙ keys-marked (filter test (entries rows))
     where
@@ -115,7 +115,7 @@ module _ (schema : Schema) (rows : Database) (links : Links) (linked : AreLinksO
       ∙ ap (λ b. b && not (same_key key to)) (linked.strong to key)
       ∙ both_pass (λ row. refers_strongly schema (key, row) to) (not (same_key key to)) (get rows key))
 
-  -- they are as many as are told
+  -- the count is the number of them
   pub strong_counted : strong_count links to ≡ length (strong_holders schema rows to)
   strong_counted = len-entries strong_set ∙ sym (length-map (entries strong_set) (λ e. e.0)) ∙ ap length strong_keys
 
@@ -131,15 +131,15 @@ module _ (schema : Schema) (rows : Database) (links : Links) (linked : AreLinksO
       no_keys : keys (unwrap_or o empty) ≡ []
       no_keys = ap (map (λ e. e.0)) (nil_from_length (entries (unwrap_or o empty)) (sym (len-entries (unwrap_or o empty)) ∙ zero_is (len (unwrap_or o empty)) none))
 
-  -- none is told where the row is not listed
+  -- there are none if the row is not listed
   pub weak_unlisted : get links.weak to ≡ None → None ≡ if_any (weak_holders schema rows to)
   weak_unlisted at = none_told None at (ap (λ n. n == 0) (len-empty line_cmp (Unit {0})))
 
-  -- nor where it is listed with none
+  -- nor if it is listed with none
   pub weak_none : (set : KeySet) → get links.weak to ≡ Some set → (len set == 0) ≡ true → None ≡ if_any (weak_holders schema rows to)
   weak_none set at none = none_told (Some set) at none
 
-  -- else they are told
+  -- otherwise these are returned
   pub weak_some : (set : KeySet) → get links.weak to ≡ Some set → (len set == 0) ≡ false → Some (keys set) ≡ if_any (weak_holders schema rows to)
   weak_some set at some = by (keys set) (ap (λ n. n == 0) (length-map (entries set) (λ e. e.0) ∙ sym (len-entries set)) ∙ some) ∙ ap if_any (weak_told (Some set) at)
     where

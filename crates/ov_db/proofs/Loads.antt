@@ -1,4 +1,4 @@
--- The rows that lines are, taken one line after another, are those that the lines stand for.
+-- The rows that lines store, taken line by line, are those that the lines stand for.
 use Rattle.std.specs.Prelude.{Result, Ok, Err, IfOk, IfErr}
 use Rattle.std.proofs.Common.{map, ◌≡◌, ℕ, List, [], ◌∷◌, Bool, true, false, cond, Option, Some, None, option_map, option_and_then, is_some, refl, sym, ap, ◌∙◌, nat_eq, arith}
 use Rattle.std.specs.Cmp.Lexicographic.{pointwise}
@@ -33,7 +33,7 @@ module _ (schema : Schema) where
   abbrev at : LineKey → List (LineKey × LineBody) → Option LineBody
   at key entries = find line_cmp key entries
 
-  -- what stands behind the entries has the rows from before, and those that the lines are
+  -- after the entries there are the rows from before, and those that the lines store
   abbrev Extends : Database → List (LineKey × LineBody) → Database → Type 0
   Extends before entries after = (key : LineKey) → option_map Some (get after key) ≡ first (get before key) (at key entries) key
 
@@ -74,7 +74,7 @@ module _ (schema : Schema) where
         | Some row ↦ λ some k. extends es before after k key ∙ passed_over (same key e.0) row (get before key) e.1 (at key es) key (get_at before key e.0 (Some row) some)
       ] refl h
 
-  -- a line that is no row, where there is none of its key before it
+  -- a line that is not a row, if there is none with its key before it
   abbrev Fails : Database → List (LineKey × LineBody) → Type 0
   Fails before entries = (key : LineKey) × (line : LineBody) × (get before key ≡ None) × (at key entries ≡ Some line) × (row_stored schema key line ≡ None)
 
@@ -184,7 +184,7 @@ module _ (schema : Schema) (loaded : Loaded) where
   abbrev lines : List (LineKey × LineBody)
   lines = map line_entry loaded.lines.items
 
-  -- the rows of what is held, or the cause why it is none
+  -- the rows of what is held, or the reason why there are none
   pub opens : (result : Result Database OpenFault) → loaded.schema ≡ compact_text schema.tree → IsLoaded (λ rows. rows) (with_lines schema lines empty) result
       → IfOk result (HoldsRows schema (loaded_contents loaded)) × IfErr result (RefusesOpen schema (loaded_contents loaded)) × IfErr result IsOwnFault
   opens (Ok rows) same_text is = ((same_text, are_rows schema lines rows is), tt, tt)

@@ -27,7 +27,7 @@ find-rest e es h = find-below e.0 es (left_holds _ _ h)
 pub sorted-rest : (e : LineKey × Option Row) (es : Changes) → T (is_sorted line_cmp (e ∷ es)) → T (is_sorted line_cmp es)
 sorted-rest e es h = right_holds _ _ h
 
--- so what is found behind it is at another key
+-- so a change found after it is at another key
 pub apart : (e : LineKey × Option Row) (es : Changes) (q : LineKey) (c : Option Row) → T (is_sorted line_cmp (e ∷ es)) → find line_cmp q es ≡ Some c → same q e.0 ≡ false
 apart e es q c h found = by_test (same q e.0) refl
   where

@@ -139,7 +139,7 @@ values_of_kinds table columns suits name datum is = by (column_of_row table name
     by None h = cc
     by (Some column) h = (kinds_of column.type_of, (and_parts (is_of (kinds_of column.type_of) datum) (fits column.type_of datum) h).0)
 
--- where its body reads as it was written, the line of a row of the schema reads back as the row
+-- if its body reads back as written, the line of a row of the schema reads back as the row
 pub reads_back : (schema : Schema) (key : LineKey) (row : Row) → SuitsRow schema key row → IsBodyRead row → row_stored schema key (line_of row) ≡ Some row
 reads_back schema key row suits read =
     ap (option_and_then (λ table. row_of_table table (line_of row))) suits.named

@@ -58,7 +58,7 @@ found_changed text delta db changes before held is changes_is made =
 pub unsealed_held : (text : List ℕ) (db : Database) (sealed : Option Database) (held : Contents) → sealed ≡ None → IsHeld text db sealed held → IsHeld text db None held
 unsealed_held text db sealed held is h = subst (λ o. IsHeld text db o held) is h
 
--- where no changes failed, none are shown
+-- if no changes failed, none are shown
 pub still_none : (o : Option Delta) (f g : Delta → Database) → option_map f o ≡ None → option_map g o ≡ None
 still_none None f g h = refl
 still_none (Some delta) f g h = cc

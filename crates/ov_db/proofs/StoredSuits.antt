@@ -1,4 +1,4 @@
--- The row that a line is, is a row of the schema.
+-- The row that a line stores is a row of the schema.
 use Rattle.std.proofs.Common.{◌≡◌, ℕ, List, [], ◌∷◌, Bool, true, false, cond, ◌||◌, Option, Some, None, option_and_then, refl, ap, subst, ◌∙◌}
 use Rattle.std.specs.Prelude.{Ok}
 use Rattle.std.proofs.lemmas.Bool.{and_from}

@@ -1,4 +1,4 @@
--- Rows that are added to a database, and taken out again.
+-- Rows that are added to a database and removed again.
 use Rattle.std.specs.Borrow.{Bor}
 use Rattle.std.specs.Prelude.{List, [], ◌∷◌, map}
 use Rattle.std.specs.FinMap.{remove}
@@ -10,6 +10,6 @@ abbrev pub without_rows : List LineKey → Database → Database
 without_rows [] database = database
 without_rows (key ∷ keys) database = remove (without_rows keys database) key
 
--- keys that are lent
+-- borrowed keys
 abbrev pub lent_keys : List (Bor LineKey) → List LineKey
 lent_keys = map (λ key. key.now)

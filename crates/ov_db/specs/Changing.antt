@@ -1,4 +1,4 @@
--- Changes of a database by their keys, and the database after them. What names no source is our own.
+-- Changes of a database by their keys, and the database after them.
 use Rattle.std.specs.Prelude.{◌≡◌, List, [], ◌∷◌, Option, Some, None}
 use Rattle.std.specs.FinMap.{FinMap, get, insert, remove, entries}
 use Rattle.ov_specs.specs.rows.Database.{Database, Row, line_of}
@@ -6,16 +6,16 @@ use Rattle.ov_specs.specs.rows.Lines.{LineKey, LineChange, Put, Remove, line_cmp
 use Rattle.ov_specs.specs.rows.Suits.{SuitsRow}
 use Rattle.ov_specs.specs.schema.SchemaTypes.{Schema}
 
--- at each key the new row, or none in its place
+-- for each key the new row, or None if the row is removed
 abbrev pub Delta : Type 0
 Delta = FinMap line_cmp (Option Row)
 
--- the database with the row at the key, or without one
+-- the database with this row at the key, or with none there
 abbrev pub with_row : LineKey → Option Row → Database → Database
 with_row key (Some row) database = insert database key row
 with_row key None database = remove database key
 
--- the database after these changes, the first of them first
+-- the database after these changes, made in order
 abbrev pub with_rows : List (LineKey × Option Row) → Database → Database
 with_rows [] database = database
 with_rows (change ∷ changes) database = with_rows changes (with_row change.0 change.1 database)

@@ -1,4 +1,4 @@
--- Changes of a database as a model stores them. What names no source is our own.
+-- Changes of a database as a model stores them.
 use Rattle.std.specs.Prelude.{List, Option}
 use Rattle.std.specs.Coded.{Coded, coded×, coded_ℕ, coded_list, coded_option}
 use Rattle.std.specs.FinMap as map

@@ -1,4 +1,4 @@
--- A database and its keeper, as contracts see them. What names no source is our own.
+-- A database and its keeper, as contracts see them.
 use Rattle.std.specs.Prelude.{Option}
 use Rattle.ov_specs.specs.rows.Database.{Database}
 use Rattle.ov_specs.specs.schema.SchemaTypes.{Schema}

@@ -1,4 +1,4 @@
--- What a database tells of its rows by what is kept beside them: who refers to a row, and which row has some values in an index.
+-- What a database looks up by its links and indexes: which rows refer to a row, and which row has some values in an index.
 use Rattle.std.specs.Prelude.{◌≡◌, ◌↔◌, ◌&&◌, not, List, [], ◌∷◌, map, filter, true, Option, Some, None}
 use Rattle.std.specs.FinMap.{entries}
 use Rattle.ov_index.specs.IndexKeys.{IndexKey}
@@ -9,21 +9,21 @@ use Rattle.ov_specs.specs.rows.Lines.{LineKey}
 use Rattle.ov_specs.specs.schema.SchemaTypes.{Schema}
 use Rattle.ov_specs.specs.values.Uuid.{Uuid}
 
--- the keys of the rows, but for the row itself, that refer strongly to the one of this key; they ascend (RFC 7047, 3.2,
--- <base-type>, refType)
+-- the keys, in ascending order, of the rows other than the row itself that refer strongly to the row of this key (RFC 7047,
+-- 3.2, <base-type>, refType)
 abbrev pub strong_holders : Schema → Database → LineKey → List LineKey
 strong_holders schema rows to = map (λ r. r.0) (filter (λ r. refers_strongly schema r to && not (same_key r.0 to)) (entries rows))
 
--- the keys of the rows that refer weakly to it; they ascend
+-- the keys, in ascending order, of the rows that refer weakly to it
 abbrev pub weak_holders : Schema → Database → LineKey → List LineKey
 weak_holders schema rows to = map (λ r. r.0) (filter (λ r. refers_weakly schema r to) (entries rows))
 
--- the list, if anything is in it
+-- the list, if it is not empty
 abbrev pub if_any : {A : Type 0} → List A → Option (List A)
 if_any [] = None
 if_any (x ∷ xs) = Some (x ∷ xs)
 
--- what is told is just the row of the key's table that has the values of the key in the columns of the key's index, if there is
--- one (RFC 7047, 3.2, <table-schema>, indexes)
+-- the answer is the row of the key's table that has the values of the key in the columns of the key's index, if there is one
+-- (RFC 7047, 3.2, <table-schema>, indexes)
 abbrev pub TellsIndexed : Schema → Database → IndexKey → Option Uuid → Type 0
 TellsIndexed schema rows key told = (id : Uuid) → (told ≡ Some id) ↔ (is_in schema rows key id ≡ true)

@@ -1,4 +1,4 @@
--- When an open is refused, and what it finds where it is not, by what the keeper holds. What names no source is our own.
+-- When an open is refused, and what it finds otherwise, by what the keeper holds.
 use Rattle.std.specs.Prelude.{◌≡◌, ◌≢◌, true, false}
 use Rattle.serde_json.specs.Written.{compact_text}
 use Rattle.ov_specs.specs.integrity.Committed.{is_whole}
@@ -11,7 +11,7 @@ use Rattle.ov_db.specs.declared.fault.OpenFault.{OpenFault}
 use Rattle.ov_db.specs.declared.fault.OpenFault.TheVariants.{SchemaDiffers, BadBody, Broken, Keeping}
 use Rattle.ov_db.specs.Stored.{AreRowsOf, HasBadLine}
 
--- what is held is the database: the text of the schema, and lines that are its rows; a commit leaves these as they are
+-- the keeper holds the database: the schema's text, and lines that are its rows; a commit leaves these as they are
 pub record CanOpen (schema : Schema) (database : Database) (held : Contents) : Type 0 where
   pub same_schema : held.schema ≡ compact_text schema.tree
   pub rows : AreRowsOf schema held.lines database
@@ -24,14 +24,14 @@ RefusesOpen schema held BadBody = (held.schema ≡ compact_text schema.tree) × 
 RefusesOpen schema held Broken = (held.schema ≡ compact_text schema.tree) × ((database : Database) × AreRowsOf schema held.lines database × (is_whole schema database ≡ false))
 RefusesOpen schema held (Keeping fault) = Unit {0}
 
--- what is held refuses the open, or there is no memory for its rows
+-- what is held refuses the open, or an allocation for its rows failed
 abbrev pub IsOwnFault : OpenFault → Type 0
 IsOwnFault SchemaDiffers = Unit {0}
 IsOwnFault BadBody = Unit {0}
 IsOwnFault Broken = Unit {0}
 IsOwnFault (Keeping fault) = fault ≡ Memory
 
--- what is held refuses the open, or there is no memory, or the device failed; what is no database of the keeper it finds itself
+-- what is held refuses the open, an allocation failed, or the device failed; the keeper itself finds what is not its database
 abbrev pub IsOpenFault : OpenFault → Type 0
 IsOpenFault SchemaDiffers = Unit {0}
 IsOpenFault BadBody = Unit {0}
@@ -40,11 +40,11 @@ IsOpenFault (Keeping fault) = IsLoadFault fault
 
 -- ---- for private clauses
 
--- what is held is the text of the schema, and lines that are these rows
+-- the keeper holds the schema's text, and lines that are these rows
 abbrev pub HoldsRows : Schema → Contents → Database → Type 0
 HoldsRows schema held database = (held.schema ≡ compact_text schema.tree) × AreRowsOf schema held.lines database
 
--- the rows break a rule of commits, or there is no memory to tell
+-- the rows break a rule of commits, or an allocation failed before that was known
 abbrev pub IsNotWhole : Schema → Database → OpenFault → Type 0
 IsNotWhole schema database Broken = is_whole schema database ≡ false
 IsNotWhole schema database (Keeping fault) = fault ≡ Memory

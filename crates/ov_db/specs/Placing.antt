@@ -1,4 +1,4 @@
--- Places that are made for new rows before they are put there.
+-- Places for new rows, made before the rows are put there.
 use Rattle.std.specs.Prelude.{◌≡◌, Some, None, true}
 use Rattle.std.specs.FinMap.{get, contains_key}
 use Rattle.ov_specs.specs.rows.Database.{Database, Row}

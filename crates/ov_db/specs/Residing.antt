@@ -1,4 +1,4 @@
--- What a database keeps beside its rows, and the room that a commit makes in it. What names no source is our own.
+-- What a database keeps beside its rows, and the space that a commit reserves in it.
 use Rattle.std.specs.Prelude.{◌≡◌, []}
 use Rattle.ov_index.specs.Indexing.{AreIndexesOf, without_entries}
 use Rattle.ov_refs.specs.Linking.{AreLinksOf, without_references}
@@ -10,32 +10,32 @@ use Rattle.ov_db.specs.Placing.{IsPlaced, IsSameBeside}
 use Rattle.ov_db.specs.declared.resident.Resident.{Resident}
 use Rattle.ov_db.specs.declared.resident.Room.{Room}
 
--- what is kept beside the rows is that of the database
+-- the links and indexes are those of the database
 pub record IsBeside (schema : Schema) (database : Database) (resident : Resident) : Type 0 where
   pub links : AreLinksOf schema database resident.links
   pub indexes : AreIndexesOf schema database resident.indexes
 
--- so it is, and the rows are the database
+-- the rows, the links and the indexes are those of the database
 abbrev pub IsResident : Schema → Database → Resident → Type 0
 IsResident schema database resident = (resident.rows ≡ database) × IsBeside schema database resident
 
--- no room is made yet
+-- nothing is reserved yet
 abbrev pub IsNoRoom : Room → Type 0
 IsNoRoom room = (room.added.items ≡ []) × (room.links.added.items ≡ []) × (room.links.gone.items ≡ []) × (room.indexes.added.items ≡ []) × (room.indexes.gone.items ≡ [])
 
--- without what was added for room, all is that of the database
+-- without what was added to reserve space, everything is that of the database
 pub record LeadsBack (schema : Schema) (database : Database) (room : Room) (resident : Resident) : Type 0 where
   pub rows : without_rows (lent_keys room.added.items) resident.rows ≡ database
   pub links : AreLinksOf schema database (without_references room.links.added.items resident.links)
   pub indexes : AreIndexesOf schema database (without_entries room.indexes.added.items resident.indexes)
 
--- the rows are the database with places for the changes, and what is beside them is that of the rows after these
+-- the rows are the database with places for the changes, and the links and indexes are those after the changes
 pub record IsReady (schema : Schema) (delta : Delta) (database : Database) (resident : Resident) : Type 0 where
   pub same : IsSameBeside delta database resident.rows
   pub placed : IsPlaced delta resident.rows
   pub beside : IsBeside schema (applied delta database) resident
 
--- so it is without what goes
+-- the same, once the references and entries that go are taken out
 pub record LeadsOn (schema : Schema) (delta : Delta) (database : Database) (room : Room) (resident : Resident) : Type 0 where
   pub same : IsSameBeside delta database resident.rows
   pub placed : IsPlaced delta resident.rows

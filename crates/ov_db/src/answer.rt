@@ -3,8 +3,8 @@
 pub enum StoreAnswer {
     /// The changes are made, and the keeper has them.
     Kept,
-    /// A growth was refused, or the changes were too large. Nothing is changed, here or at the keeper.
+    /// An allocation failed, or the changes were too large. Nothing has changed, here or in the keeper.
     Exhausted,
-    /// The device failed, now or at an earlier commit. The keeper is as before that commit, or has its changes.
+    /// The device failed, in this commit or an earlier one. The keeper is as before that commit, or has its changes.
     Failed,
 }

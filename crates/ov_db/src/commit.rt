@@ -16,7 +16,7 @@ use ov_rows::{Columns, NamedValues, Row, RowKey, Rows};
 use std::alloc::{AllocError, Global};
 use uuid::Uuid;
 
-/// The body of the line that stores a row: it reads back as what is written, where its values are of any kinds.
+/// The body of the line that stores a row. It reads back as written if each value is of some kinds.
 fn body_of(alloc: Global, row: &Row) -> Result<Bytes, AllocError>
     ensures body { IfOk result (λ body. body ≡ (line_of row.now).1) }
     ensures read { IfOk result (λ body. IsBodyRead row.now) }
@@ -57,7 +57,7 @@ fn change_of(alloc: Global, key: &RowKey, row: &Option<Row>) -> Result<Change, A
     }
 }
 
-/// What the changes of rows make of the lines: each row that is put reads back.
+/// The changes of lines that the changes of rows make. Each row that is put reads back.
 pub(crate) fn changes_of(alloc: Global, delta: &Delta) -> Result<Vec<Change>, AllocError>
     ensures changes { IfOk result (λ changes. changes_view changes.items ≡ map change_of (entries delta.now)) }
     ensures read { IfOk result (λ changes. ArePutRead (entries delta.now)) }
@@ -69,7 +69,7 @@ pub(crate) fn changes_of(alloc: Global, delta: &Delta) -> Result<Vec<Change>, Al
     Ok(changes)
 }
 
-/// Puts an empty row at each new key that the changes give a row, so that no growth is left for later. The new keys are listed.
+/// Puts an empty row at each new key that the changes give a row, so that nothing has to grow later. Lists the new keys.
 pub(crate) fn place<'a>(
     alloc: Global,
     rows: &mut Rows,
@@ -88,7 +88,7 @@ pub(crate) fn place<'a>(
     Ok(())
 }
 
-/// Puts an empty row at the key where it is new and the change gives it a row.
+/// Puts an empty row at the key if the key is new and the change gives it a row.
 fn place_one<'a>(
     alloc: Global,
     rows: &mut Rows,
@@ -109,7 +109,7 @@ fn place_one<'a>(
     place_at(alloc, rows, key, nothing, added)
 }
 
-/// Puts an empty row at a new key, which is listed. Where a growth is refused, nothing is changed.
+/// Puts an empty row at a new key and lists the key. If an allocation fails, nothing changes.
 fn place_at<'a>(
     alloc: Global,
     rows: &mut Rows,
@@ -134,7 +134,7 @@ fn place_at<'a>(
     Ok(())
 }
 
-/// Takes the rows of these keys out again, the last one first.
+/// Removes the rows of these keys again, the last one first.
 pub(crate) fn take_out(rows: &mut Rows, added: Vec<&RowKey>)
     ensures { rows.new ≡ without_rows (lent_keys added.entry.items) rows.old }
 {
@@ -144,7 +144,7 @@ pub(crate) fn take_out(rows: &mut Rows, added: Vec<&RowKey>)
     }
 }
 
-/// Makes the changes. No growth is asked for, since there is a place for each new row.
+/// Makes the changes. Nothing grows, since each new row has a place.
 pub(crate) fn make(alloc: Global, rows: &mut Rows, delta: Delta)
     requires { IsPlaced delta rows.old }
     ensures { rows.new ≡ applied delta rows.old }
@@ -154,7 +154,7 @@ pub(crate) fn make(alloc: Global, rows: &mut Rows, delta: Delta)
     }
 }
 
-/// Makes one change. There is a place for the row, if it is one.
+/// Makes one change. If it puts a row, there is a place for it.
 fn make_one(alloc: Global, rows: &mut Rows, key: &RowKey, row: Option<Row>)
     requires { contains_key rows.old key.now ≡ false → row ≡ None }
     ensures { rows.new ≡ with_row key.now row rows.old }

@@ -32,14 +32,13 @@ use std::alloc::Global;
 use std::marker::Model;
 use uuid::Uuid;
 
-/// A database: its rows under their schema, and the keeper that has them as lines (RFC 7047, 3.2).
+/// A database: its rows under their schema, and the keeper that stores them as lines (RFC 7047, 3.2).
 ///
-/// What an open now would find, also after a crash, are the rows as they are, or those that a commit that failed would
-/// have left.
+/// An open at this moment, even after a crash, finds the rows as they are, or those that a failed commit would have left.
 pub struct Db<K: Keeper> {
     schema: Schema,
     resident: Resident,
-    /// The changes of a commit that failed.
+    /// The changes of a failed commit.
     failed: Option<Delta>,
     keeper: K,
 }
@@ -67,7 +66,7 @@ impl<K: Keeper> Model for Db<K> {
 }
 
 impl<K: Keeper + Drop> Drop for Db<K> {
-    // A drop of its own, so that crates above do not prove the drop of its parts again.
+    // Has its own `drop`, so that crates above do not prove the drop of its parts again.
     fn drop(self) {
         let Db {
             schema,
@@ -83,12 +82,12 @@ impl<K: Keeper + Drop> Drop for Db<K> {
 }
 
 impl<K: Keeper + Drop> Db<K> {
-    /// The database of what a keeper holds, each of its lines being a row.
+    /// Opens the database that a keeper holds. Each of its lines is a row.
     ///
-    /// It is refused as `SchemaDiffers` where the keeper holds another text than the schema's, as `BadBody` where one of its
-    /// lines is no row of the schema, and as `Broken` where the rows that its lines are break a rule of commits, or a commit
-    /// would change them, and with the fault of the keeper's load; the first of these that applies, the keeper's before all.
-    /// Memory that is refused is the keeper's fault `Memory`. What the keeper holds is not changed, and a refusal gives it back.
+    /// Refuses with the keeper's fault if its load fails, as `SchemaDiffers` if the keeper holds another text than the
+    /// schema's, as `BadBody` if one of its lines is not a row of the schema, and as `Broken` if the rows break a rule of
+    /// commits or a commit would change them; the first of these that applies. A failed allocation is the keeper's fault
+    /// `Memory`. What the keeper holds does not change, and a refusal gives the keeper back.
     pub fn open(alloc: Global, mut keeper: K, schema: Schema) -> Result<Db<K>, RefusedOpen<K>>
         ensures rest { IfOk result (λ d. (d.schema ≡ schema) × (d.sealed ≡ None)) }
         ensures held { IfOk result (λ d. K.is_honest d.keeper → (held : Contents) → K.leaves keeper held → CanOpen schema d.committed held) }
@@ -96,7 +95,7 @@ impl<K: Keeper + Drop> Db<K> {
         ensures honest { IfOk result (λ d. K.is_honest d.keeper → K.is_honest keeper) }
         ensures kinds { IfErr result (λ e. IsOpenFault e.fault) }
         ensures fault { IfErr result (λ e. K.is_honest e.keeper → (held : Contents) → K.leaves keeper held → RefusesOpen schema held e.fault) }
-        // A failure of the device has a cause: the keeper's count rose in this call, or stood at its greatest.
+        // A failure of the device has a cause: the keeper's count rose in this call, or was already at its maximum.
         ensures cause { IfErr result (λ e. e.fault ≡ Keeping Device → HasFailed (K.failed keeper) (K.failed e.keeper)) }
         ensures same_refused { IfErr result (λ e. K.is_honest e.keeper → LeavesNoMore (K.leaves keeper) (K.leaves e.keeper)) }
         ensures honest_refused { IfErr result (λ e. K.is_honest e.keeper → K.is_honest keeper) }
@@ -112,37 +111,37 @@ impl<K: Keeper + Drop> Db<K> {
         }
     }
 
-    /// Its schema.
+    /// The schema.
     pub fn schema(&self) -> &Schema
         ensures { result.now ≡ self.now.schema }
     {
         &self.schema
     }
 
-    /// Who refers to which of its rows. It takes no memory.
+    /// Which rows refer to which. Allocates nothing.
     pub fn links(&self) -> &Links
         ensures { AreLinksOf self.now.schema self.now.committed result.now }
     {
         &self.resident.links
     }
 
-    /// Which of its rows have which values in an index. It takes no memory.
+    /// Which rows have which values in an index. Allocates nothing.
     pub fn indexes(&self) -> &Indexes
         ensures { AreIndexesOf self.now.schema self.now.committed result.now }
     {
         &self.resident.indexes
     }
 
-    /// How many rows refer strongly to the row of this key, each counted once and the row itself not (RFC 7047, 3.2,
-    /// `<base-type>`, refType). It takes no memory.
+    /// The number of rows that refer strongly to the row of this key. Each counts once, and the row itself does not count
+    /// (RFC 7047, 3.2, `<base-type>`, refType). Allocates nothing.
     pub fn strong_count(&self, to: &RowKey) -> usize
         ensures { result ≡ length (strong_holders self.now.schema self.now.committed to.now) }
     {
         self.resident.links.strong_count(to)
     }
 
-    /// The rows that refer weakly to the row of this key, ascending, each of them once; None where no row does (RFC 7047, 3.2,
-    /// `<base-type>`, refType). They take no memory.
+    /// The rows that refer weakly to the row of this key, in ascending order and each once, or `None` if there are none (RFC
+    /// 7047, 3.2, `<base-type>`, refType). Allocates nothing.
     pub fn weak_holders(&self, to: &RowKey) -> Option<&KeySet>
         ensures { option_map keys (option_copied result) ≡ if_any (weak_holders self.now.schema self.now.committed to.now) }
     {
@@ -154,50 +153,50 @@ impl<K: Keeper + Drop> Db<K> {
         }
     }
 
-    /// The row that has these values in this index of its table, of which there is one at most (RFC 7047, 3.2, `<table-schema>`,
-    /// indexes). It takes no memory.
+    /// The row, at most one, that has these values in this index of its table (RFC 7047, 3.2, `<table-schema>`, indexes).
+    /// Allocates nothing.
     pub fn indexed(&self, key: &IndexKey) -> Option<Uuid>
         ensures { TellsIndexed self.now.schema self.now.committed key.now result }
     {
         self.resident.indexes.at(key)?.as_slice().first().copied()
     }
 
-    /// Its rows.
+    /// The rows.
     pub fn rows(&self) -> &Rows
         ensures { result.now ≡ self.now.committed }
     {
         &self.resident.rows
     }
 
-    /// The row of this identifier in the table of this name.
+    /// The row with this identifier in the table of this name.
     pub fn row(&self, table: &str, id: Uuid) -> Option<&Row>
         ensures { option_copied result ≡ get self.now.committed (table.now, id) }
     {
         self.resident.rows.row(table, id)
     }
 
-    /// The rows of the table of this name, if it ever had one. They take no memory.
+    /// The rows of the table of this name, if it ever had one. Allocates nothing.
     pub fn rows_of(&self, table: &str) -> Option<&TableRows>
         ensures { rows_in table.now (option_copied result) ≡ filter (λ r. bytes_eq r.0.0 table.now) (entries self.now.committed) }
     {
         self.resident.rows.of_table(table)
     }
 
-    /// Whether a commit has failed. Then no later one is made, until the database is opened again.
+    /// Whether a commit has failed. If so, no later commit is made until the database is opened again.
     pub fn sealed(&self) -> bool
         ensures { result ≡ is_some self.now.sealed }
     {
         self.failed.is_some()
     }
 
-    /// How often the keeper's device has failed; it stays at 2^64-1.
+    /// How often the keeper's device has failed. The count stays at 2^64-1.
     pub fn failures(&self) -> u64
         ensures { result ≡ K.failed self.now.keeper }
     {
         self.keeper.failures()
     }
 
-    /// Gives the database up, and its keeper back.
+    /// Consumes the database and returns its keeper.
     pub fn into_keeper(self) -> K
         ensures { result ≡ self.keeper }
     {
@@ -210,7 +209,7 @@ impl<K: Keeper + Drop> Db<K> {
         keeper
     }
 
-    /// What a crash now leaves. It does nothing.
+    /// For contracts: what a crash at this moment leaves. Does nothing.
     pub fn left(&self)
         ensures held { K.is_honest self.now.keeper → MayHold (K.leaves self.now.keeper) (compact_text self.now.schema.tree) self.now.committed self.now.sealed }
         ensures found { K.is_honest self.now.keeper → MayFind (K.leaves self.now.keeper) self.now.schema self.now.committed self.now.sealed }
@@ -218,27 +217,27 @@ impl<K: Keeper + Drop> Db<K> {
         let _keeper = &self.keeper;
     }
 
-    /// Tells contracts that each row is a row of the schema, and is what its line reads back as, and that a commit would leave
-    /// the rows as they are; so it is with the rows that a commit that failed would have left. It does nothing.
+    /// For contracts: each row is a row of the schema and is what its line reads back as, and a commit would leave the rows
+    /// as they are. The same holds for the rows that a failed commit would have left. Does nothing.
     pub fn kept(&self)
         ensures { AreKept self.now.schema self.now.committed self.now.sealed }
     {
         let _resident = &self.resident;
     }
 
-    /// Makes the changes, all of them or none, by one call of the keeper. Each row that they put is a row of the schema, and what
-    /// they make of the rows breaks no rule of commits.
+    /// Makes all of the changes or none, with one call of the keeper. Each row that they put must be a row of the schema,
+    /// and the rows after them must break no rule of commits.
     ///
-    /// Where the answer is not `Kept`, the rows stay as they are. After `Failed` the database is sealed: what the commit would
-    /// have made is kept beside the rows, and each later commit is answered `Failed` without a call of the keeper. Without a
-    /// change the answer is `Kept`, and the keeper is not called either. No memory is taken once the keeper was called.
+    /// Unless the answer is `Kept`, the rows stay as they are. After `Failed` the database is sealed: what the commit would
+    /// have made is kept beside the rows, and each later commit returns `Failed` without calling the keeper. If there are no
+    /// changes, returns `Kept` without calling the keeper. Allocates nothing after the call of the keeper.
     pub fn commit(&mut self, alloc: Global, delta: Delta) -> StoreAnswer
         requires suits { SuitsChanges self.old.schema delta }
         requires whole { is_whole self.old.schema (applied delta self.old.committed) ≡ true }
         ensures commits { self.old.sealed ≡ None → Commits delta self.old result self.new }
         ensures sealed { is_some self.old.sealed ≡ true → (result ≡ Failed) × (self.new ≡ self.old) }
         ensures empty { self.old.sealed ≡ None → (len delta == 0) ≡ true → (result ≡ Kept) × (self.new ≡ self.old) }
-        // A failure has a cause: the device's count rises, where it is not at its greatest.
+        // A failure has a cause: the device's count rises, unless it is at its maximum.
         ensures cause { self.old.sealed ≡ None → result ≡ Failed → HasFailed (K.failed self.old.keeper) (K.failed self.new.keeper) }
         ensures counts { K.failed self.old.keeper ≤ K.failed self.new.keeper }
         ensures honest { K.is_honest self.new.keeper → K.is_honest self.old.keeper }
@@ -252,7 +251,7 @@ impl<K: Keeper + Drop> Db<K> {
         self.commit_changes(alloc, delta)
     }
 
-    /// A commit of changes to a database that is not sealed.
+    /// Commits changes to a database that is not sealed.
     fn commit_changes(&mut self, alloc: Global, delta: Delta) -> StoreAnswer
         requires unsealed { self.old.sealed ≡ None }
         requires suits { SuitsChanges self.old.schema delta }

@@ -6,7 +6,7 @@ use std::alloc::{AllocError, Global};
 use std::collections::BTreeMap;
 use std::marker::Model;
 
-/// Changes of a database: at each key the new row, or none in its place.
+/// Changes of a database: for each key, the new row, or `None` if the row is removed.
 #[derive(Drop)]
 pub struct Delta {
     pub(crate) changes: BTreeMap<RowKey, Option<Row>>,
@@ -29,7 +29,7 @@ impl Model for Delta {
 }
 
 impl Delta {
-    /// No change.
+    /// No changes.
     pub fn new(alloc: Global) -> Delta
         ensures { result ≡ empty }
     {
@@ -38,28 +38,28 @@ impl Delta {
         }
     }
 
-    /// Whether it has no change.
+    /// Whether there are no changes.
     pub fn is_empty(&self) -> bool
         ensures { result ≡ (len self.now == 0) }
     {
         self.changes.is_empty()
     }
 
-    /// The change of this key: the new row, or none in its place.
+    /// The change of this key: the new row, or `None` if the row is removed.
     pub fn change(&self, key: &RowKey) -> Option<&Option<Row>>
         ensures { option_copied result ≡ get self.now key.now }
     {
         self.changes.get(key)
     }
 
-    /// All changes, in ascending order of their keys: those of one table stand together, by their identifiers.
+    /// All changes, in ascending order of their keys: grouped by table, and by identifier within a table.
     pub fn map(&self) -> &BTreeMap<RowKey, Option<Row>>
         ensures { result.now.entries ≡ entries self.now }
     {
         &self.changes
     }
 
-    /// Puts the change in place of the one of its key. Where a growth is refused, nothing is changed.
+    /// Puts a change, replacing any with the same key. If an allocation fails, nothing changes.
     pub fn insert(&mut self, key: RowKey, row: Option<Row>) -> Result<(), AllocError>
         ensures ok { OnOk result (self.new ≡ insert self.old key row) }
         ensures err { OnErr result (self.new ≡ self.old) }
@@ -68,7 +68,7 @@ impl Delta {
         Ok(())
     }
 
-    /// Takes the change of the key back, if there is one.
+    /// Removes the change of the key, if there is one.
     pub fn remove(&mut self, key: &RowKey)
         ensures { self.new ≡ remove self.old key.now }
     {

@@ -9,7 +9,7 @@ pub enum OpenFault {
     /// The stored schema has another text.
     #[error("the stored schema is another one")]
     SchemaDiffers,
-    /// A stored line is no row of the schema.
+    /// A stored line is not a row of the schema.
     #[error("a stored row does not fit the schema")]
     BadBody,
     /// The stored rows break a rule of commits.
@@ -43,7 +43,7 @@ impl From<KeepFault> for OpenFault {
     }
 }
 
-/// Why a database is not opened, and its keeper, given back.
+/// A refused open: the reason, and the keeper given back.
 #[derive(Drop, Error)]
 #[error("{fault}")]
 pub struct RefusedOpen<K: Keeper> {

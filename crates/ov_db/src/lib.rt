@@ -1,7 +1,7 @@
-//! A database in memory: its rows, the changes of a transaction, and how a commit brings them to the keeper.
+//! A database in memory: its rows, the changes of a transaction, and the commit that writes them to the keeper.
 //!
-//! A row is stored as one line. A commit is one call of the keeper; after one that failed the rows are as before it,
-//! and what it would have made is kept beside them, since an open may find either. What names no source is our own.
+//! Each row is stored as one line. A commit is one call of the keeper. If it fails, the rows stay as they were, and what it
+//! would have made is kept beside them, since an open may find either.
 #![tactic(auto)]
 
 mod answer;

@@ -20,7 +20,7 @@ use ov_rows::{BodyReader, RowKey, Rows};
 use ov_schema::Schema;
 use std::alloc::Global;
 
-/// Loads what a keeper holds, and gives its rows with what is kept beside them, where a commit would leave them as they are.
+/// Loads what a keeper holds, and returns its rows with their links and indexes, if a commit would leave the rows as they are.
 pub(crate) fn load_whole<K: Keeper>(
     alloc: Global,
     keeper: &mut K,
@@ -39,7 +39,7 @@ pub(crate) fn load_whole<K: Keeper>(
     Resident::of(alloc, schema, rows)
 }
 
-/// Loads what a keeper holds, and gives its rows. Whether these are whole is not looked at.
+/// Loads what a keeper holds, and returns its rows. Does not check whether they are whole.
 fn load_rows<K: Keeper>(alloc: Global, keeper: &mut K, schema: &Schema) -> Result<Rows, OpenFault>
     ensures kept { IfOk result (KeepsRows schema.now) }
     ensures ok { K.is_honest keeper.new → IfOk result (λ rows. (held : Contents) → K.leaves keeper.old held → HoldsRows schema.now held rows) }
@@ -53,7 +53,7 @@ fn load_rows<K: Keeper>(alloc: Global, keeper: &mut K, schema: &Schema) -> Resul
     rows_of(alloc, schema, &loaded)
 }
 
-/// The rows of what a keeper holds, where that is the text of the schema and rows: else the first cause why it isn't.
+/// The rows of what a keeper holds, if that is the schema's text and rows; otherwise the first reason why it is not.
 fn rows_of(alloc: Global, schema: &Schema, loaded: &Loaded) -> Result<Rows, OpenFault>
     ensures kept { IfOk result (KeepsRows schema.now) }
     ensures ok { IfOk result (HoldsRows schema.now (loaded_contents loaded.now)) }
@@ -67,7 +67,7 @@ fn rows_of(alloc: Global, schema: &Schema, loaded: &Loaded) -> Result<Rows, Open
     rows_of_lines(alloc, schema, loaded.lines.as_slice())
 }
 
-/// The rows that the lines are. Of two lines with one key the first counts.
+/// The rows that the lines store. If two lines have the same key, the first counts.
 fn rows_of_lines(alloc: Global, schema: &Schema, lines: &[Line]) -> Result<Rows, OpenFault>
     ensures loaded { IsLoaded (λ rows. rows) (with_lines schema.now (map line_entry lines.now) empty) result }
     ensures kept { IfOk result (KeepsRows schema.now) }
@@ -80,7 +80,7 @@ fn rows_of_lines(alloc: Global, schema: &Schema, lines: &[Line]) -> Result<Rows,
     Ok(rows)
 }
 
-/// Adds the row that a line is, where there is none of its key yet.
+/// Adds the row that a line stores, if its key has none yet.
 fn add_line(
     alloc: Global,
     reader: &mut BodyReader,

@@ -17,8 +17,8 @@ use ov_schema::{Column, Schema, Table, is_own};
 use serde_json::Value;
 use std::alloc::Global;
 
-/// The row that a stored line is. It is refused as `BadBody` where its table is none of the schema's, where its body has not
-/// for each column a value that fits, and where the row is stored as other bytes than these, be it by a space.
+/// The row that a stored line holds. Refused as `BadBody` if the schema has no such table, if the body lacks a fitting value
+/// for a column, or if the row would be stored as other bytes, even by one space.
 pub fn row_of(alloc: Global, schema: &Schema, line: &Line) -> Result<Row, OpenFault>
     ensures { IsLoaded (λ row. row) (row_stored schema.now (line_entry line.now).0 (line_entry line.now).1) result }
 {
@@ -26,7 +26,7 @@ pub fn row_of(alloc: Global, schema: &Schema, line: &Line) -> Result<Row, OpenFa
     next_row(alloc, &mut reader, schema, line)
 }
 
-/// The same by a reader that serves line after line.
+/// As `row_of`, with a reader that is reused line after line.
 pub(crate) fn next_row(
     alloc: Global,
     reader: &mut BodyReader,
@@ -41,7 +41,7 @@ pub(crate) fn next_row(
     }
 }
 
-/// The row of a table that a stored line is. Where no row is found by a guess, the body is read in full.
+/// The row of a table that a stored line holds. If guessing finds no row, the body is read in full.
 fn row_of_table(
     alloc: Global,
     reader: &mut BodyReader,
@@ -57,8 +57,8 @@ fn row_of_table(
     }
 }
 
-/// The row of a table whose text the line's body is, where a guess finds it. Any fault but that of memory says no more than
-/// that none was found.
+/// The row of a table whose text is the line's body, if guessing finds it. Any fault other than `Memory` only says that it
+/// found none.
 fn row_by_guess(
     alloc: Global,
     reader: &mut BodyReader,
@@ -77,7 +77,7 @@ fn row_by_guess(
     })
 }
 
-/// Whether these are values for the columns but those that rows have by themselves, one for each in their order.
+/// Whether these are values for the columns except those that every row has by itself, one for each and in their order.
 fn are_values_for(columns: &[(Text, Column)], values: &[Datum]) -> bool
     ensures { result ≡ are_values_for columns.now values.now }
 {
@@ -103,7 +103,7 @@ fn is_value_for(column: &Column, datum: &Datum) -> bool
     datum.is_of(column.kinds()) && column.fits(datum)
 }
 
-/// The row of a table that a stored line is, by the tree of its body.
+/// The row of a table that a stored line holds, read from the tree of its body.
 fn row_in_full(alloc: Global, table: &Table, line: &Line) -> Result<Row, OpenFault>
     ensures { IsLoaded (λ row. row) (row_of_table table.now (line_entry line.now).1) result }
 {
@@ -121,7 +121,7 @@ fn row_in_full(alloc: Global, table: &Table, line: &Line) -> Result<Row, OpenFau
     }
 }
 
-/// The tree that a body is.
+/// The tree of a body.
 fn body_of(alloc: Global, body: &[u8]) -> Result<Value, OpenFault>
     ensures { IsLoaded view (tree_of body.now) result }
 {
@@ -132,7 +132,7 @@ fn body_of(alloc: Global, body: &[u8]) -> Result<Value, OpenFault>
     }
 }
 
-/// All columns of the table but those that rows have by themselves, each with the value that the body has for it.
+/// All columns of the table except those that every row has by itself, each with its value from the body.
 fn columns_of(alloc: Global, table: &Table, body: &Value) -> Result<Columns, OpenFault>
     ensures { IsLoaded (λ columns. columns) (columns_stored (view body.now) (entries table.now.columns) empty) result }
 {
@@ -140,7 +140,7 @@ fn columns_of(alloc: Global, table: &Table, body: &Value) -> Result<Columns, Ope
     Ok(Columns::of(alloc, table.names_of_row(), values)?)
 }
 
-/// The values that the body has for the columns of the table but those that rows have by themselves.
+/// The body's values for all columns of the table except those that every row has by itself.
 fn values_of(alloc: Global, table: &Table, body: &Value) -> Result<NamedValues, OpenFault>
     ensures { IsLoaded (λ values. values) (columns_stored (view body.now) (entries table.now.columns) empty) result }
 {
@@ -154,7 +154,7 @@ fn values_of(alloc: Global, table: &Table, body: &Value) -> Result<NamedValues, 
     Ok(values)
 }
 
-/// The value that the body has for a column, where it fits.
+/// The body's value for a column, if it fits.
 fn value_of(alloc: Global, body: &Value, name: &str, column: &Column) -> Result<Datum, OpenFault>
     ensures { IsLoaded (λ datum. datum) (value_stored (view body.now) (name.now, column.now)) result }
 {

@@ -7,8 +7,7 @@ use ov_rows::{RowKey, Rows};
 use ov_schema::Schema;
 use std::alloc::{AllocError, Global};
 
-/// The rows, and what is kept beside them and follows each commit: who refers to which of them, and which of them have which
-/// values in an index.
+/// The rows, and two lookups that each commit updates: which rows refer to which, and which rows have which values in an index.
 #[derive(Drop)]
 pub(crate) struct Resident {
     pub(crate) rows: Rows,
@@ -16,21 +15,21 @@ pub(crate) struct Resident {
     pub(crate) indexes: Indexes,
 }
 
-/// The room that a commit makes before the keeper is called, so that it takes no memory afterwards.
+/// The space that a commit reserves before it calls the keeper, so that it allocates nothing afterwards.
 #[derive(Drop)]
 pub(crate) struct Room<'a> {
-    /// The new keys, each of which has an empty row.
+    /// The new keys. Each has an empty row.
     added: Vec<&'a RowKey>,
-    /// The references that are added, and those that go where the commit is made.
+    /// The references that are added, and those that are removed when the commit is made.
     links: LinkChanges,
-    /// The entries of indexes that are added, and those that go so.
+    /// The index entries that are added, and those that are removed then.
     indexes: IndexChanges,
 }
 
 impl<'a> Room<'a> {
     ghost use Rattle.ov_db.specs.Residing.{IsNoRoom};
 
-    /// No room.
+    /// No reserved space.
     pub(crate) fn new(alloc: Global) -> Room<'a>
         ensures { IsNoRoom result }
     {
@@ -53,7 +52,7 @@ impl Resident {
     ghost use Rattle.ov_db.specs.Placing.{IsPlaced};
     ghost use Rattle.ov_db.specs.Residing.{IsBeside, IsResident, IsNoRoom, IsReady, LeadsBack, LeadsOn};
 
-    /// The rows with what is kept beside them, where a commit would leave them as they are. All of them are looked at.
+    /// Makes the links and indexes of these rows, if a commit would leave the rows as they are. Checks all of them.
     pub(crate) fn of(alloc: Global, schema: &Schema, rows: Rows) -> Result<Resident, OpenFault>
         requires { Suits schema.now rows }
         ensures resident { IfOk result (IsResident schema.now rows) }
@@ -72,7 +71,8 @@ impl Resident {
         })
     }
 
-    /// Makes room for the changes, so that no growth is left for later. What is added is listed, and so is what goes with them.
+    /// Reserves space for the changes, so that nothing has to grow later. Lists in `room` what is added, and what the
+    /// changes remove.
     pub(crate) fn place<'a>(
         &mut self,
         alloc: Global,
@@ -93,7 +93,7 @@ impl Resident {
         place(alloc, &mut self.rows, delta, &mut room.added)
     }
 
-    /// Takes out again what was added for room.
+    /// Removes again what was added to reserve space.
     pub(crate) fn take_back(&mut self, room: Room)
         ensures { (schema : Schema) (database : Database) → LeadsBack schema database room.entry self.old → IsResident schema database self.new }
     {
@@ -102,7 +102,7 @@ impl Resident {
         take_out(&mut self.rows, room.added);
     }
 
-    /// Takes out what goes with the changes.
+    /// Removes the references and index entries that the changes remove.
     pub(crate) fn let_go(&mut self, room: Room)
         ensures { (schema : Schema) (delta : Delta) (database : Database) → LeadsOn schema delta database room.entry self.old → IsReady schema delta database self.new }
     {
@@ -110,7 +110,7 @@ impl Resident {
         self.indexes.take_out(room.indexes.gone.as_slice());
     }
 
-    /// Makes the changes, for which there is room. No growth is asked for.
+    /// Makes the changes. Space for them is reserved, so nothing grows.
     pub(crate) fn make(&mut self, alloc: Global, delta: Delta)
         requires { IsPlaced delta self.old.rows }
         ensures { (schema : Schema) (database : Database) → IsReady schema delta database self.old → IsResident schema (applied delta database) self.new }

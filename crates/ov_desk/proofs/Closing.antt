@@ -44,7 +44,7 @@ idle_cause : (c : Course) → IsIdle c → (c.closed ≡ None) ⊎ (c.closed ≡
 idle_cause c (inl (there, none)) = inl none
 idle_cause c (inr (away, some)) = inr some
 
--- one that was not meant, and is open just where it was, was not closed
+-- one that was not meant, and is open if and only if it was, was not closed
 left_alone : (c d : Course) (was : Bool) → Spares c d → d.is_open ≡ c.is_open → IsLeftAlone was c → IsLeftAlone was d
 left_alone c d was s same (there, none, handed) = elim s.closes [
   | inl (same', closed) ↦ (same ∙ there, closed ∙ none, s.handed ∙ handed)

@@ -35,7 +35,7 @@ module _ {K D S W B : Type 0} (source : S → SourceState) (sink : W → SinkSta
 
 -- ---- serials
 
--- so many are left
+-- this many are left
 few : (count : ℕ) (s : State) → has_places count s ≡ true → count ≤ beyond_serials - s.next
 few count s places = leb-true count (beyond_serials - s.next) (and_parts (leb count (most_sessions - length s.sessions)) (leb count (beyond_serials - s.next)) places).1
 

@@ -38,7 +38,7 @@ begins [] messages others cause e = (messages, refl)
 begins (a ∷ asks) [] others cause e = cc
 begins (a ∷ asks) (m ∷ messages) others cause e = cons_prefix a m asks messages (cc) (begins asks messages others cause (cc))
 
--- where the end was taken, it is all of that
+-- if the end was taken, it is all of that
 ends_same : (asks messages : List Message) (others : Items) (last cause : ReadCause) → brought asks ++ Last last ∷ others ≡ brought messages ++ Last cause ∷ [] → (asks ≡ messages) × (last ≡ cause)
 ends_same [] [] others last cause e = (refl, cc)
 ends_same [] (m ∷ messages) others last cause e = cc
@@ -66,7 +66,7 @@ asked_begins reads.ReadFault messages a is = same_prefix messages a.messages (ap
 asked_begins reads.Damaged messages a is = same_prefix messages a.messages (ap (λ (b : Asked). b.messages) (sym is))
 asked_begins reads.Memory messages a is = is
 
--- and all of it, but for refused memory
+-- and all of it, unless an allocation failed
 asked_whole : (cause : ReadCause) (messages : List Message) (a : Asked) → is_of_reader (end_cause cause) ≡ true → AreAskedFor cause messages a → messages ≡ a.messages
 asked_whole reads.InputEnded messages a of is = ap (λ (b : Asked). b.messages) (sym is)
 asked_whole reads.ReadFault messages a of is = ap (λ (b : Asked). b.messages) (sym is)
@@ -98,7 +98,7 @@ pub record ReadSide (messages : List Message) (why : machine.Cause) (source sour
   pub input : KeepsInput source.read source.remaining source'.read source'.remaining
 
 module _ (asks : List Message) (why : machine.Cause) (source source' : SourceState) (items known put : Items) (took : Took (Some why) asks items) (fifo : items ++ known ≡ put) where
-  -- behind the messages
+  -- after the messages
   parts : brought asks ++ (took.0 ++ known) ≡ put
   parts = sym (append_assoc (brought asks) took.0 known) ∙ (ap (λ (l : Items). l ++ known) (sym took.1) ∙ fifo)
 
@@ -211,7 +211,7 @@ written_for Overrun ne = refl
 written_for Memory ne = refl
 
 module _ (c : Course) (known : Option Cause) (items rest put : Items) (sent taken coming : List Sent) (f : FitsCourse c known items sent true true) where
-  -- by the cause that is told
+  -- by the cause that is reported
   pub ends_for : (source source' : SourceState) (sink sink' : SinkState) (end : Option ReadCause) (failed : Bool) (told : Cause) → items ++ rest ≡ put → taken ++ coming ≡ sent
       → MatchOption end ((put ≡ []) × (source' ≡ source)) (λ cause. ReaderBrings cause source source' put)
       → Writes (not failed) sink sink' taken
@@ -234,7 +234,7 @@ module _ (c : Course) (known : Option Cause) (items rest put : Items) (sent take
         none_left = f.puts.1;
       }
 
--- a reader that is as before tells the same
+-- a reader that is as before reports the same
 pub as_state : {S : Type 0} (state : S → SourceState) (end : Option ReadCause) (P : Type 0) (Q : ReadCause → Type 0) (reader reader' : S) → MatchOption end (P × (reader' ≡ reader)) Q → MatchOption end (P × (state reader' ≡ state reader)) Q
 as_state state None P Q reader reader' (p, same) = (p, ap state same)
 as_state state (Some cause) P Q reader reader' q = q

@@ -1,4 +1,4 @@
--- What is left of each link, beside its lane. What names no source is our own.
+-- What remains of each link, beside its lane.
 use Rattle.std.specs.Prelude.{◌≡◌, ℕ, ◌+◌, List, [], ◌∷◌}
 use Rattle.rtrb.specs.Ring.{sent, received}
 use Rattle.ov_ends.specs.States.{SourceState, SinkState}
@@ -17,7 +17,7 @@ EndsLane source sink l reader writer e =
     (e.serial ≡ l.session.serial)
     × ((c : Course) → FitsCourse c l.cause (received l.inbound) (sent l.outbound) l.marked l.ended → CourseEnds c e.cause (source reader) (source e.reader) (sink writer) (sink e.writer))
 
--- Each link was served to its end, in their order, with the serials from this one on.
+-- Each link was served to its end, in order, with serials from this one on.
 abbrev pub AllEnd : {K D S W : Type 0} {old new : CoreState K D} → (S → SourceState) → (W → SinkState) → Since old new → ℕ → List (Link S W) → List (End S W) → Type 0
 AllEnd source sink since serial [] [] = Unit {0}
 AllEnd source sink since serial [] (e ∷ ends) = ⊥

@@ -1,4 +1,4 @@
--- What is taken for a number of links before anything is done. What names no source is our own.
+-- What is allocated for a number of links before anything is done.
 use Rattle.std.specs.Prelude.{◌≡◌, ◌≤◌, ℕ, [], vec_capacity}
 use Rattle.std.specs.VecDeque.{deque_len, deque_capacity}
 use Rattle.ov_order.specs.Rings.{IsNewRing}
@@ -11,7 +11,7 @@ use Rattle.ov_lanes.specs.Pairs.{Pairwise}
 abbrev pub AreNew : DeskRings → WorkerRings → Type 0
 AreNew desk workers = IsNewRing 64 workers.to_desk desk.inbound × IsNewRing 1025 desk.outbound workers.to_writer
 
--- new rings for so many links, and room for what is made of them
+-- new rings for this many links, and room for what is made of them
 pub record IsRoom {S W L : Type 0} (count : ℕ) (room : Room S W L) : Type 0 where
   pub rings : Pairwise AreNew room.desk_rings.items room.worker_rings.items
   pub many : (deque_len room.desk_rings ≡ count) × (deque_len room.worker_rings ≡ count)

@@ -1,4 +1,4 @@
--- What the desk makes of its core and of its lanes on the way. What names no source is our own.
+-- What the desk makes of its core and of its lanes on the way.
 use Rattle.std.specs.Prelude.{ℕ, List}
 use Rattle.ov_core.specs.Following.{CoreState}
 use Rattle.ov_lanes.specs.Lanes.{Serves, SameLanes}

@@ -22,8 +22,8 @@ use std::sync::ledger::{Ledger, Share};
 use std::thread;
 use std::thread::Threads;
 
-/// What a writer's worker hands back that was told to begin. One that was not is waited for without end: none is told so once
-/// the desk has begun.
+/// What a writer's worker hands back when told to begin. If it was told not to, this waits forever; none is told so once the
+/// desk has begun.
 fn begun<R: Wait, W>(rt: &R, end: WriteEnd<W>) -> WriteEnd<W>
     ensures same { result ≡ end }
     ensures begun { result.begun ≡ true }
@@ -37,7 +37,7 @@ fn begun<R: Wait, W>(rt: &R, end: WriteEnd<W>) -> WriteEnd<W>
     unreachable!()
 }
 
-/// What is told of a session: that its writer failed, or why it was closed.
+/// What is reported of a session: that its writer failed, or why it was closed.
 fn told(failed: bool, known: Option<Cause>) -> Cause
     ensures { MatchBool failed (result ≡ WriteFault) (result ≡ unwrap_or known Memory) }
 {
@@ -47,7 +47,8 @@ fn told(failed: bool, known: Option<Cause>) -> Cause
     known.unwrap_or(Cause::Memory)
 }
 
-/// Joins the workers of a session whose reader's end was taken and whose end mark was put, and compares the ends of its rings.
+/// Joins the workers of a session whose reader's end was taken and whose end mark was put, and compares the ends of its
+/// rings.
 pub(crate) fn finish_link<R, S, W, L>(
     rt: &R,
     lane: Lane,
@@ -107,8 +108,8 @@ where
     }
 }
 
-/// Joins the workers of all sessions, whose readers' ends were taken and whose end marks were put. What is left of the links
-/// comes in their order, into a queue that has room for it.
+/// Joins the workers of all sessions, whose readers' ends were taken and whose end marks were put. Puts what remains of the
+/// links, in their order, into a queue that has room for it.
 pub(crate) fn finish_all<R, S, W, L>(
     rt: &R,
     lanes: Vec<Lane>,

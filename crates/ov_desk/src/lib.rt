@@ -1,4 +1,4 @@
-//! The desk: it serves up to 64 sessions around one core, each with a reader's and a writer's worker in a thread of its own.
+//! The desk: it serves up to 64 sessions around one core, each with a reader and a writer in threads of their own.
 #![tactic(auto)]
 
 mod finish;

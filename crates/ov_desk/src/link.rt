@@ -4,29 +4,29 @@ use ov_lanes::{Desk, Link, ServeFault};
 use ov_requests::Draws;
 use std::collections::VecDeque;
 
-/// What is left of a link, once its session was closed and its workers have ended.
+/// What remains of a link after its session was closed and its workers have ended.
 #[derive(Drop)]
 pub struct End<S, W> {
     /// The serial that the session had.
     pub serial: u64,
-    /// Why the session was closed; or `WriteFault` where the writer failed, whyever it was closed.
+    /// Why the session was closed; or `WriteFault` if the writer failed, whatever the session was closed for.
     pub cause: Cause,
-    /// Its reader, behind the last read.
+    /// The reader, after its last read.
     pub reader: S,
-    /// Its writer, behind the last write.
+    /// The writer, after its last write.
     pub writer: W,
 }
 
-/// What is left once all links were served.
+/// What remains after all links have been served.
 #[derive(Drop)]
 pub struct Served<K: Keeper, D: Draws, S, W> {
     /// The desk.
     pub desk: Desk<K, D>,
-    /// What is left of each link, in their order.
+    /// What remains of each link, in their order.
     pub ends: VecDeque<End<S, W>>,
 }
 
-/// What comes back where links are not served. Nothing was read of them or written to them.
+/// What comes back if links are not served. Nothing was read from them or written to them.
 #[derive(Drop)]
 pub struct Unserved<K: Keeper, D: Draws, S, W> {
     /// Why.

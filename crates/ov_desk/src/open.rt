@@ -17,14 +17,14 @@ use ov_workers::ReadCause;
 use rtrb::{Consumer, Producer};
 use std::collections::VecDeque;
 
-/// Nothing was opened yet.
+/// Nothing has been opened yet.
 pub(crate) fn begin<K: Keeper + Drop, D: Draws + Drop>(core: &Core<K, D>)
     ensures { OpensAll core.now core.now.state.next core.now [] }
 {
     let _ = core.history();
 }
 
-/// Puts the lane of a session that was opened behind the others.
+/// Appends the lane of a session that was opened.
 pub(crate) fn push_lane(
     lanes: &mut Vec<Lane>,
     session: Session,
@@ -41,8 +41,8 @@ pub(crate) fn push_lane(
     lanes.push_reserved(Lane::new(session, inbound, outbound));
 }
 
-/// Opens a session for each of these ends of new rings, in order. False where the core refuses one; the lanes are then those of
-/// the sessions that were opened.
+/// Opens a session for each of these ends of new rings, in order. Returns false if the core refuses one; the lanes are then
+/// those of the sessions that were opened.
 pub(crate) fn open_all<K: Keeper + Drop, D: Draws + Drop>(
     core: &mut Core<K, D>,
     rings: VecDeque<DeskRings>,
@@ -65,7 +65,7 @@ pub(crate) fn open_all<K: Keeper + Drop, D: Draws + Drop>(
     true
 }
 
-/// Closes the sessions that were opened for these lanes again, as out of memory.
+/// Closes the sessions that were opened for these lanes, as out of memory.
 pub(crate) fn close_all<K: Keeper + Drop, D: Draws + Drop>(
     core: &mut Core<K, D>,
     lanes: &mut Vec<Lane>,
@@ -77,8 +77,8 @@ pub(crate) fn close_all<K: Keeper + Drop, D: Draws + Drop>(
     }
 }
 
-/// Opens a session for each of these ends of new rings, in order. Where the core refuses one, those that were opened are closed
-/// again as out of memory.
+/// Opens a session for each of these ends of new rings, in order. If the core refuses one, closes those that were opened, as
+/// out of memory.
 pub(crate) fn open_or_close<K: Keeper + Drop, D: Draws + Drop>(
     core: &mut Core<K, D>,
     rings: VecDeque<DeskRings>,

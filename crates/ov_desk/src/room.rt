@@ -15,7 +15,7 @@ use std::alloc::{AllocError, Global};
 use std::collections::VecDeque;
 use std::sync::ledger::Ledger;
 
-/// The desk's ends of the rings of a session that is to be opened.
+/// The desk's ends of the rings of a session to be opened.
 #[derive(Drop)]
 pub(crate) struct DeskRings {
     /// What its reader brings.
@@ -33,18 +33,18 @@ pub(crate) struct WorkerRings {
     pub to_writer: Consumer<Sent>,
 }
 
-/// What serving a number of links takes, beside the threads and the sessions.
+/// What serving a number of links needs, besides the threads and the sessions.
 #[derive(Drop)]
 pub(crate) struct Room<S: Source, W: Sink, L: Ledger> {
     /// The desk's ends of new rings.
     pub desk_rings: VecDeque<DeskRings>,
-    /// The workers' ends of these.
+    /// The workers' ends of them.
     pub worker_rings: VecDeque<WorkerRings>,
     /// Room for a lane of each.
     pub lanes: Vec<Lane>,
     /// Room for the workers of each.
     pub workers: Vec<Workers<S, W, L>>,
-    /// Room for what is left of each.
+    /// Room for what remains of each.
     pub ends: VecDeque<End<S, W>>,
 }
 
@@ -60,7 +60,7 @@ fn new_rings(alloc: Global) -> Result<(DeskRings, WorkerRings), AllocError>
     ))
 }
 
-/// The rings of so many sessions.
+/// The rings of this many sessions.
 fn all_rings(
     alloc: Global,
     count: usize,
@@ -78,7 +78,7 @@ fn all_rings(
     Ok((desk, workers))
 }
 
-/// A bell for each of so many writers.
+/// A bell for each of this many writers.
 pub(crate) fn all_bells(alloc: Global, count: usize) -> Result<Vec<Bell>, AllocError>
     ensures { IfOk result (λ bells. vec_len bells ≡ count) }
 {
@@ -89,7 +89,7 @@ pub(crate) fn all_bells(alloc: Global, count: usize) -> Result<Vec<Bell>, AllocE
     Ok(bells)
 }
 
-/// The room for so many links.
+/// The room for this many links.
 pub(crate) fn room_for<S: Source + Drop, W: Sink + Drop, L: Ledger>(
     alloc: Global,
     count: usize,

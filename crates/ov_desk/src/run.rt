@@ -45,7 +45,7 @@ fn ring_bells<R: Wait, K: Keeper + Drop, D: Draws + Drop>(
     }
 }
 
-/// Takes an item of the ring at a place, once it is seen there, and moves what waits for all sessions.
+/// Takes an item of the ring at a place once it is seen there, and moves what waits for all sessions.
 fn turn_once_seen<R: Wait, K: Keeper + Drop, D: Draws + Drop>(
     rt: &R,
     core: &mut Core<K, D>,
@@ -66,8 +66,8 @@ fn turn_once_seen<R: Wait, K: Keeper + Drop, D: Draws + Drop>(
     unreachable!()
 }
 
-/// Serves a note, at the moment that the clock tells: lets time pass to it where a transaction is due, and takes the item.
-/// Without a note what waits is moved alone.
+/// Serves a note at the moment that the clock reports: advances time to it if a transaction is due, and takes the item.
+/// Without a note, moves what waits for all sessions.
 fn serve_note<R: Wait, K: Keeper + Drop, D: Draws + Drop>(
     rt: &R,
     core: &mut Core<K, D>,
@@ -78,7 +78,7 @@ fn serve_note<R: Wait, K: Keeper + Drop, D: Draws + Drop>(
 )
     ensures { GoesOn core.old lanes.old.items core.new lanes.new.items }
 {
-    // Where memory is refused for that, the transactions get their turn with the next note.
+    // If an allocation fails here, the transactions get their turn with the next note.
     let _ = core.pass_where_due(alloc, moment);
     let place = match note {
         Some(serial) => place_of(lanes, serial),
@@ -90,10 +90,10 @@ fn serve_note<R: Wait, K: Keeper + Drop, D: Draws + Drop>(
     }
 }
 
-/// Serves the sessions of the lanes, an item for each note, until each reader's end was taken and behind each session's last
-/// frame the end mark was put.
+/// Serves the sessions of the lanes, one item for each note, until each reader's end was taken and the end mark was put
+/// after each session's last frame.
 ///
-/// While a transaction that waits may time out the desk sleeps for a millisecond at most, and asks the clock after each sleep.
+/// While a waiting transaction may time out, the desk sleeps for a millisecond at most, and asks the clock after each sleep.
 pub(crate) fn run<R: Wait + SystemClock, K: Keeper + Drop, D: Draws + Drop, L: Ledger, C: Clock>(
     rt: &R,
     order: &Order<L>,

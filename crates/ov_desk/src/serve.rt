@@ -74,8 +74,8 @@ where
     ends
 }
 
-/// Starts the workers of all links, opens their sessions, and serves them with the desk in this thread. Where a thread or memory
-/// is refused no worker begins, and the links are as before.
+/// Starts the workers of all links, opens their sessions, and serves them with the desk in this thread. If a thread can't be
+/// started or an allocation fails, no worker begins, and the links are as before.
 fn serve_in<'s, E, R, K, D, L, G, S, W, C>(
     rt: &'s R,
     alloc: Global,
@@ -143,7 +143,7 @@ where
     ))
 }
 
-/// The same, with what the scope of the threads takes for itself and gives back.
+/// The same, with what the scope of the threads takes and gives back.
 fn serve_moved<'s, E, R, K, D, L, G, S, W, C>(
     rt: &'s R,
     alloc: Global,
@@ -246,7 +246,7 @@ where
     )
 }
 
-/// What serving so many links takes beside threads: the order of notes, the writers' bells, and the room for the rest.
+/// What serving this many links needs besides threads: the order of notes, the writers' bells, and the room for the rest.
 fn take_room<S: Source + Drop, W: Sink + Drop, L: Ledger>(
     alloc: Global,
     book: Book<L>,
@@ -302,22 +302,22 @@ where
     )
 }
 
-/// Serves each link as a session, all at the same time, to its end (our own, over RFC 7047, 4). The sessions get the next
-/// serials, in the order of the links. A session ends where its reader's input ends, a read fails or its stream is damaged,
-/// where more than 1,024 frames wait for its writer, or where memory is refused for its request. A writer that fails is told of
-/// at the end: its session goes on, and what is sent to it is dropped.
+/// Serves each link as a session, all at the same time, to its end (RFC 7047, 4). The sessions get the next serials, in the
+/// order of the links. A session ends when its reader's input ends, a read fails or its stream is damaged, when more than
+/// 1,024 frames wait for its writer, or when an allocation for its request fails. A failed writer is reported at the end:
+/// its session goes on, and what is sent to it is dropped.
 ///
-/// Each reader and each writer works in a thread of its own, and the machine in this one: a request's place in the history is
-/// the moment when the desk takes it. Up to 64 messages of a session wait for the desk; then its reader waits. The clock tells
-/// the desk the moment of what it takes, in milliseconds. A transaction whose `wait` runs out is answered then, though nobody
-/// sends anything: while one may run out the desk sleeps for a millisecond at most.
+/// Each reader and each writer works in a thread of its own, and the machine in this one: a request's place in the history
+/// is the moment when the desk takes it. Up to 64 messages of a session wait for the desk; then its reader waits. The clock
+/// gives the desk the moment of what it takes, in milliseconds. A transaction whose `wait` times out is answered then, even
+/// if nobody sends anything: while one may time out, the desk sleeps for a millisecond at most.
 ///
-/// A session that is closed before its input ends takes what its reader still brings, and drops it: the call returns once each
-/// input has ended.
+/// A session that is closed before its input ends still takes what its reader brings, and drops it: the call returns once
+/// each input has ended.
 ///
-/// Refused as `TooMany` where the machine has not as many places and serials left, as `Memory` or as `Threads`. Then nothing is
-/// read or written, and desk and links come back: the links as they were, and the machine too, unless `Memory` came once
-/// sessions were opened. These were closed again, as out of memory.
+/// Refused as `TooMany` if the machine has too few places or serials left, as `Memory` or as `Threads`. Then nothing is read
+/// or written, and desk and links come back: the links as they were, and the machine too, unless `Memory` came once sessions
+/// were opened. These were closed again, as out of memory.
 pub fn serve_links<R, K, D, G, S, W, C>(
     rt: &R,
     alloc: Global,

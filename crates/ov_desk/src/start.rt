@@ -18,8 +18,8 @@ use std::sync::Wait;
 use std::sync::ledger::{Ledger, Share};
 use std::thread::{Scope, Threads};
 
-/// Starts both workers of a link, which then wait until it is said whether they may begin. Where a thread is refused it says that
-/// none may, and gives the link back.
+/// Starts both workers of a link, which then wait until it is said whether they may begin. If a thread can't be started,
+/// says that none may, and gives the link back.
 pub(crate) fn start_link<'s, E, R, L, G, S, W>(
     rt: &'s R,
     alloc: Global,
@@ -66,8 +66,8 @@ where
     }
 }
 
-/// Starts the workers of all links, which then wait until it is said whether they may begin. None where a thread is refused: then
-/// it was said that none may, all have ended, and the links are as before.
+/// Starts the workers of all links, which then wait until it is said whether they may begin. None if a thread can't be
+/// started: then it was said that none may, all have ended, and the links are as before.
 pub(crate) fn start_all<'s, E, R, L, G, S, W>(
     rt: &'s R,
     alloc: Global,

@@ -13,8 +13,8 @@ use std::sync::ledger::Ledger;
 use std::thread;
 use std::thread::Threads;
 
-/// What a reader's worker hands back that was told not to begin. One that began is waited for without end: none does once that
-/// was said.
+/// What a reader's worker hands back when told not to begin. If it began, this waits forever; none begins once that was
+/// said.
 pub(crate) fn unread<R: Wait, S, L: Ledger>(rt: &R, end: ReadEnd<S, L>) -> ReadEnd<S, L>
     ensures same { result ≡ end }
     ensures none { result.cause ≡ None }
@@ -28,7 +28,7 @@ pub(crate) fn unread<R: Wait, S, L: Ledger>(rt: &R, end: ReadEnd<S, L>) -> ReadE
     unreachable!()
 }
 
-/// What a writer's worker hands back that was told not to begin, likewise.
+/// What a writer's worker hands back when told not to begin, likewise.
 pub(crate) fn unwritten<R: Wait, W>(rt: &R, end: WriteEnd<W>) -> WriteEnd<W>
     ensures same { result ≡ end }
     ensures none { result.begun ≡ false }
@@ -68,7 +68,7 @@ where
     Link { reader, writer }
 }
 
-/// Gives the links of workers that were told not to begin back, before the others.
+/// Gives back the links of workers that were told not to begin, in front of the others.
 pub(crate) fn stop_all<R, S, W, L>(
     rt: &R,
     workers: Vec<Workers<S, W, L>>,

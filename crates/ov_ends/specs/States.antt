@@ -1,9 +1,9 @@
--- What contracts see of a reader and of a writer. It is our own.
+-- What contracts see of a reader and of a writer.
 use Rattle.std.specs.Prelude.{ℕ, List, Bool, Option}
 use Rattle.ov_ends.specs.declared.ends.Source as source
 use Rattle.ov_ends.specs.declared.ends.Sink as sink
 
--- of a reader: what it read, what remains where that is known, whether its end was met, and how many reads failed
+-- of a reader: what it read, what remains if that is known, whether its end was met, and how many reads failed
 pub record SourceState : Type 0 where
   pub read : List ℕ
   pub remaining : Option (List ℕ)
@@ -18,8 +18,8 @@ source_state read remaining at_end faults = record { read = read; remaining = re
 abbrev pub source_of : {S : Type 0} → source.Ghosts S → S → SourceState
 source_of g s = source_state (g.bytes_read s) (g.remaining s) (g.at_end s) (g.faults s)
 
--- of a writer: what was written to it, what it holds and has handed on where that is known, whether nothing is held, and how many
--- writes and flushes failed
+-- of a writer: what was written to it, what it holds and has handed on if that is known, whether nothing is held, and how
+-- many writes and flushes failed
 pub record SinkState : Type 0 where
   pub written : List ℕ
   pub contents : Option (List ℕ)

@@ -1,4 +1,4 @@
--- What is written of some bytes. It is our own.
+-- What is written of some bytes.
 use Rattle.std.specs.Prelude.{◌≡◌, ℕ, ◌++◌, List, Bool, true, false}
 use Rattle.ov_ends.specs.Ends.{one_more}
 
@@ -11,7 +11,7 @@ abbrev pub WritesOf : Bool → List ℕ → List ℕ → List ℕ → Type 0
 WritesOf true bytes old new = new ≡ old ++ bytes
 WritesOf false bytes old new = (written : List ℕ) × (new ≡ old ++ written) × BeginsAs written bytes
 
--- failures were counted: one where the call failed
+-- failures were counted: one if the call failed
 abbrev pub CountsFailures : Bool → ℕ → ℕ → Type 0
 CountsFailures true old new = new ≡ old
 CountsFailures false old new = new ≡ one_more old

@@ -4,20 +4,20 @@ ghost use Rattle.ov_ends.specs.Ends.{one_more, met_end, KeepsInput, GivesWritten
 
 /// A reader whose bytes contracts name.
 pub trait Source {
-    /// The bytes that were read so far.
+    /// The bytes read so far.
     ghost bytes_read: { Self → List ℕ };
 
-    /// The bytes that are still to be read, where they are known.
+    /// The bytes still to be read, if known.
     ghost remaining: { Self → Option (List ℕ) };
 
-    /// The end of the input was met.
+    /// Whether the end of the input was met.
     ghost at_end: { Self → Bool };
 
     /// How many reads failed; it stays at 2^64-1.
     ghost faults: { Self → ℕ };
 
-    /// Reads the next bytes into the front of the piece, and says how many; None is an error. No byte for a piece that has
-    /// room is the end of the input.
+    /// Reads the next bytes into the front of the piece, and returns how many; None is an error. If the piece has room and
+    /// no byte is read, the input has ended.
     fn read(&mut self, piece: &mut [u8]) -> Option<usize>
         ensures within { IfSome result (λ n. n ≤ length piece.new) }
         ensures trace { IfSome result (λ n. bytes_read self.new ≡ bytes_read self.old ++ take n piece.new) }
@@ -38,19 +38,19 @@ pub trait Source {
 
 /// A writer whose bytes contracts name.
 pub trait Sink {
-    /// The bytes that were written so far. A writer that gathers bytes may still hold some of them, until a flush.
+    /// The bytes written so far. A writer that gathers bytes may still hold some of them, until a flush.
     ghost bytes_written: { Self → List ℕ };
 
-    /// All that the writer holds and has handed on, where it is known.
+    /// All that the writer holds and has handed on, if known.
     ghost contents: { Self → Option (List ℕ) };
 
-    /// The last call of `write` or `flush` was a flush that succeeded, so nothing that was written is still held.
+    /// Whether the last call of `write` or `flush` was a flush that succeeded, so that nothing written is still held.
     ghost is_flushed: { Self → Bool };
 
     /// How many writes and flushes failed; it stays at 2^64-1.
     ghost faults: { Self → ℕ };
 
-    /// Writes the first of the bytes, and says how many: at least one, where there is one. None is an error.
+    /// Writes the first of the bytes, and returns how many: at least one, if there is one. None is an error.
     fn write(&mut self, bytes: &[u8]) -> Option<usize>
         ensures within { IfSome result (λ n. n ≤ length bytes.now) }
         ensures some { IfSome result (λ n. 0 < length bytes.now → 0 < n) }
@@ -73,9 +73,9 @@ pub trait Sink {
         ensures { result ≡ faults self.now };
 }
 
-/// What tells the moments of events.
+/// A clock that reports the moments of events.
 pub trait Clock {
-    /// The clock before, the moment that it tells, and the clock after.
+    /// The clock before, the moment that it reports, and the clock after.
     ghost tells: { Self → ℕ → Self → Type 0 };
 
     /// The moment in milliseconds.

@@ -1,6 +1,7 @@
-//! The two ends of a session, a reader and a writer, and the clock beside them, whose bytes and moments contracts name.
+//! The two ends of a session, a reader and a writer, and a clock beside them; contracts name their bytes and moments.
 //!
-//! This crate knows of no session and no protocol. It makes such ends of std's readers and writers, and writes frames whole.
+//! This crate knows of no session and no protocol. It makes such ends from std's readers and writers, and writes frames
+//! whole.
 #![tactic(auto)]
 
 mod ends;

@@ -17,7 +17,7 @@ pub struct Watched<T> {
 }
 
 impl<T> Watched<T> {
-    /// It was asked for nothing yet.
+    /// A source or a sink that has not been used yet.
     pub fn new(inner: T) -> Watched<T>
         ensures inner { result.inner ≡ inner }
         ensures trace { result.trace.bytes ≡ [] }
@@ -34,7 +34,7 @@ impl<T> Watched<T> {
         }
     }
 
-    /// What it watched.
+    /// The reader or writer that it watched.
     pub fn into_inner(self) -> T
         ensures { result ≡ self.inner }
     {

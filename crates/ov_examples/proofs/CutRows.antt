@@ -11,7 +11,7 @@ brace_inside_text = refl
 pub escaped_quote_inside_text : bare (codes "{\"a\\\"}\":1}") ≡ Some (codes "{:1}")
 escaped_quote_inside_text = refl
 
--- an escaped backslash does not escape the quote behind it
+-- an escaped backslash does not escape the quote after it
 pub escaped_backslash_inside_text : is_balanced (codes "{\"a\\\\\":1}") ≡ true
 escaped_backslash_inside_text = refl
 
@@ -38,7 +38,7 @@ pub joined_requests : cut (codes "{\"id\":0,\"method\":\"list_dbs\",\"params\":[
 unfolding cut
 joined_requests = refl
 
--- white space stands before, between and behind messages
+-- white space before, between and after messages
 pub spaced_requests : cut (codes " {} {\"a\":{}} ") ≡ record { messages = codes "{}" ∷ codes "{\"a\":{}}" ∷ []; rest = []; damage = None }
 unfolding cut
 spaced_requests = refl
@@ -53,7 +53,7 @@ pub unfinished_message : cut (codes "{\"id\":0,\"method\":\"echo\",\"params\":["
 unfolding cut
 unfinished_message = refl
 
--- where a message has at most four bytes: four are a message, five are too many, finished or not
+-- if a message has at most four bytes: four are a message, five are too many, finished or not
 pub longest_message : cut_from 4 0 [] (codes "{  }{") ≡ record { messages = codes "{  }" ∷ []; rest = codes "{"; damage = None }
 longest_message = refl
 

@@ -1,5 +1,5 @@
--- Worked operations of a transaction: an insert, a select after it, and one that is refused. Maps do not compute, so what is looked up in
--- them and what they list is rewritten by their laws.
+-- Worked operations of a transaction: an insert, a select after it, and one that is refused. Maps do not compute, so lookups
+-- in them and their listings are rewritten by their laws.
 use Rattle.std.proofs.Common.{◌≡◌, ℕ, pos, List, [], ◌∷◌, map, true, false, T, Some, None, Ok, refl, sym, ap, ◌∙◌, codes}
 use Rattle.std.specs.Str.{is_utf8, chars}
 use Rattle.std.specs.declared.cmp.Ordering.{Ordering}
@@ -167,7 +167,7 @@ s1-new names = rw (s1-given names) s1-complete
 abbrev in_these : Items → List uuid.Uuid → OpContext
 in_these operations ids = record { schema = net0; before = empty; owns = owns_none; version = numbered 1; ids = ids; operations = operations; age = 0 }
 
--- the row is put, and its identifier is the first that was drawn behind the version
+-- the row is put, and its identifier is the first one drawn after the version
 insert-does : (others : Items) (ids : List uuid.Uuid) → outcome_of (in_these (item insert_s1 others) (numbered 2 ∷ ids)) 0 empty insert_s1 ≡ Done (insert_result (numbered 2)) with_s1
 insert-does others ids = rw switch_table (rw (s1-new (names_in (in_these (item insert_s1 others) (numbered 2 ∷ ids)))) (rw (get-empty line_cmp (codes "Switch", numbered 2)) refl))
 
@@ -232,7 +232,7 @@ select_is_answered = refl
 
 -- ---- a transaction that is refused
 
--- the insert before it is undone, and the one behind it is not tried
+-- the insert before it is undone, and the one after it is not tried
 pub refused_changes_nothing : transaction net0 empty owns_none (numbered 1 ∷ numbered 2 ∷ numbered 3 ∷ []) 0 (item insert_s1 (item (select_of (codes "Swich")) (item insert_s2 no_items)))
     ≡ Completes (item (insert_result (numbered 2)) (item (error_tree UnknownTable) (item null no_items))) empty
 refused_changes_nothing = rw (insert-does (item (select_of (codes "Swich")) (item insert_s2 no_items)) (numbered 3 ∷ [])) (rw no_other_table refl)

@@ -208,7 +208,7 @@ rows_are es h = entries-from_sorted line_cmp es h
 
 -- ---- what keeps a port
 
--- a port that nobody refers to goes
+-- a port that no row refers to goes
 abbrev unused : List (LineKey × Row)
 unused = (port 1, a_port None) ∷ (switch 7, a_switch (codes "s1") None None) ∷ []
 
@@ -286,7 +286,7 @@ pub port_of_itself_goes : (before : Database) (version : Uuid) → committed wir
 port_of_itself_goes before version =
     rw itself_refers (rw (get-from_sorted line_cmp itself (port 1) tt) (rw itself_goes (rw (nothing_pruned before version) nothing_limited)))
 
--- a port goes to which only a port refers that goes
+-- a port goes if the only row that refers to it is a port that goes
 abbrev row_of_ports : List (LineKey × Row)
 row_of_ports = (port 1, a_port (Some 2)) ∷ (port 2, a_port None) ∷ []
 
@@ -311,7 +311,7 @@ pub ports_go_in_a_row : (before : Database) (version : Uuid) → committed wired
 ports_go_in_a_row before version =
     rw row_of_ports_refers (rw (get-from_sorted line_cmp row_of_ports (port 2) tt) (rw row_of_ports_goes (rw (nothing_pruned before version) nothing_limited)))
 
--- a port stays to which a switch refers, and the weak reference to it too
+-- a port to which a switch refers stays, and so does the weak reference to it
 abbrev in_use : List (LineKey × Row)
 in_use = (port 1, a_port None) ∷ (switch 7, a_switch (codes "s1") (Some 1) (Some 1)) ∷ []
 
@@ -407,7 +407,7 @@ one_name_of_two before version = rw twins_refer (rw twins_kept (rw (twins_pruned
 
 -- ---- whole transactions
 
--- what the transaction of a text comes to, where version 9 is drawn, and then these identifiers
+-- what the transaction of a text comes to, if version 9 is drawn, and then these identifiers
 abbrev transacted : Database → List Uuid → List ℕ → Option TransactionOutcome
 transacted before ids text = option_map (transaction wired before owns_none (numbered 9 ∷ ids) 0) (option_and_then as_array (read text))
 
@@ -462,7 +462,7 @@ insert_of_an_unused_port =
     (rw entries-port (rw (made_port None) (rw (in_port None (codes "name"), in_port None (codes "peer")) (rw (get-from_sorted line_cmp one_switch (port 1) tt)
     (rw (insert_listed one_switch (port 1) (a_port None) tt tt) (rw (unused_port_goes (listed one_switch) (numbered 9)) refl))))))))))
 
--- each insert has its result, and one result more tells that the commit failed: no switch is there
+-- each insert has its result, and one result more reports that the commit failed: no switch is there
 pub one_name_in_two_inserts : transacted (listed []) (numbered 7 ∷ numbered 8 ∷ [])
     (codes "[{\"op\":\"insert\",\"row\":{\"main\":[\"set\",[]],\"name\":\"s1\",\"ports\":[\"set\",[]]},\"table\":\"Switch\"},{\"op\":\"insert\",\"row\":{\"main\":[\"set\",[]],\"name\":\"s1\",\"ports\":[\"set\",[]]},\"table\":\"Switch\"}]")
     ≡ completes (codes "[{\"uuid\":[\"uuid\",\"00000000-0000-0000-0000-000000000007\"]},{\"uuid\":[\"uuid\",\"00000000-0000-0000-0000-000000000008\"]},{\"error\":\"constraint violation\"}]") (listed [])
@@ -475,7 +475,7 @@ one_name_in_two_inserts =
     (rw (get-from_sorted line_cmp one_switch (switch 8) tt, get-from_sorted line_cmp [] (switch 8) tt)
     (rw (insert_listed one_switch (switch 8) (a_switch (codes "s1") None None) tt tt) (rw (one_name_of_two (listed []) (numbered 9)) refl))))))))))))))
 
--- no port is there that the new switch could have
+-- there is no port that the new switch could have
 pub insert_that_refers_to_nothing : transacted (listed []) (numbered 7 ∷ [])
     (codes "[{\"op\":\"insert\",\"row\":{\"main\":[\"set\",[]],\"name\":\"s1\",\"ports\":[\"uuid\",\"00000000-0000-0000-0000-000000000001\"]},\"table\":\"Switch\"}]")
     ≡ completes (codes "[{\"uuid\":[\"uuid\",\"00000000-0000-0000-0000-000000000007\"]},{\"error\":\"referential integrity violation\"}]") (listed [])

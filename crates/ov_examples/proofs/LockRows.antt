@@ -39,7 +39,7 @@ owner_has_requested = refl
 
 -- ---- stolen, and given back
 
--- session 3 steals L: session 1 is told, and waits before session 2
+-- session 3 steals L: session 1 is notified, and waits before session 2
 abbrev stolen : Queues
 stolen = steal (codes "L") 3 two
 
@@ -73,11 +73,11 @@ stolen_twice = refl
 pub last_thief_unlocks : next_owner (codes "L") 4 (steal (codes "L") 4 stolen) ≡ Some 3
 last_thief_unlocks = refl
 
--- a lock that nobody had is stolen from nobody
+-- a lock that no session had is stolen from none
 pub stolen_from_nobody : owner (codes "L") [] ≡ None
 stolen_from_nobody = refl
 
--- the last one leaves: nobody asks for the lock any more
+-- the last one leaves: no session asks for the lock any longer
 pub last_unlocks : unlock (codes "L") 1 (lock (codes "L") 1 []) ≡ []
 last_unlocks = refl
 
@@ -96,18 +96,18 @@ both_requested = refl
 pub two_requests : requests_of 2 both ≡ 2
 two_requests = refl
 
--- session 1 ends: session 2 owns both, and is told so by name
+-- session 1 ends: session 2 owns both, and is notified by name
 pub freed_by_name : freed 1 both ≡ (2, codes "A") ∷ (2, codes "B") ∷ []
 freed_by_name = refl
 
 pub both_left : leave 1 both ≡ (codes "A", 2 ∷ []) ∷ (codes "B", 2 ∷ []) ∷ []
 both_left = refl
 
--- a waiter's end makes nobody an owner
+-- a waiter's end makes no session an owner
 pub waiter_leaves : freed 2 both ≡ []
 waiter_leaves = refl
 
--- ---- what is told
+-- ---- what is sent
 
 pub locked_text : frame (locked_note (codes "L")) ≡ codes "{\"id\":null,\"method\":\"locked\",\"params\":[\"L\"]}"
 unfolding serde_json_on_literals
@@ -172,7 +172,7 @@ thief_is_the_owner = refl
 
 -- ---- steps of the machine
 
--- three sessions are open, and these queues stand
+-- three sessions are open, with these queues
 abbrev with_queues : Queues → State
 with_queues queues = record net { sessions = record { serial = 1; monitors = [] } ∷ record { serial = 2; monitors = [] } ∷ record { serial = 3; monitors = [] } ∷ []; queues = queues; next = 4 }
 
@@ -200,7 +200,7 @@ owner_gives_up = refl
 pub nothing_to_give_up : step (with_queues two) (at 0 (Take 3 (call (codes "unlock") 5 (codes "L")))) ≡ answers (with_queues two) 3 (failure_tree (id 5) (codes "lock not held"))
 nothing_to_give_up = refl
 
--- two locks are given on, in ascending order of their names
+-- two locks are passed on, in ascending order of their names
 pub both_are_given_on : step (with_queues both) (at 0 (Close 1 InputEnded))
     ≡ Some (record {
       state = record (with_queues ((codes "A", 2 ∷ []) ∷ (codes "B", 2 ∷ []) ∷ [])) { sessions = record { serial = 2; monitors = [] } ∷ record { serial = 3; monitors = [] } ∷ [] };
@@ -208,7 +208,7 @@ pub both_are_given_on : step (with_queues both) (at 0 (Close 1 InputEnded))
     })
 both_are_given_on = refl
 
--- so they are where memory is refused
+-- so they are when out of memory
 pub given_on_without_memory : step (with_queues two) (record { event = Take 1 (call (codes "lock") 1 (codes "B")); choice = record { moment = 0; draws = []; outcomes = record { number = 1; outcome = NoMemory } ∷ [] } })
     ≡ Some (record {
       state = record (with_queues ((codes "L", 2 ∷ []) ∷ [])) { sessions = record { serial = 2; monitors = [] } ∷ record { serial = 3; monitors = [] } ∷ [] };
@@ -230,7 +230,7 @@ lock_of_a_number = refl
 pub unlock_of_no_name : work_of (with_queues two) 1 (call (codes "unlock") 1 (codes "a b")) ≡ refused (id 1) (codes "syntax error")
 unlock_of_no_name = refl
 
--- queues of session 1 alone, with names of as many letters
+-- N queues of session 1 alone, each name one letter longer than the one before
 abbrev many : ℕ → List ℕ → Queues
 many zero name = []
 many (suc n) name = (name, 1 ∷ []) ∷ many n (97 ∷ name)

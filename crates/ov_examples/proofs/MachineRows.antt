@@ -25,7 +25,7 @@ with_session = record net { sessions = record { serial = 1; monitors = [] } ∷ 
 abbrev pub at : ℕ → Event → Entry
 at moment event = record { event = event; choice = record { moment = moment; draws = []; outcomes = [] } }
 
--- attempt 1 was refused memory
+-- attempt 1 ran out of memory
 abbrev without_memory : Event → Entry
 without_memory event = record { event = event; choice = record { moment = 0; draws = []; outcomes = record { number = 1; outcome = NoMemory } ∷ [] } }
 
@@ -61,7 +61,7 @@ nothing_is_taken_of_a_closed_session = refl
 pub want_of_memory_closes_the_session : step with_session (without_memory (Take 1 list_dbs)) ≡ Some (record { state = record net { next = 2 }; sent = [] })
 want_of_memory_closes_the_session = refl
 
--- the store answers nothing that it was not asked
+-- the store answers only what it was asked
 pub no_store_call_no_outcome : step with_session (record { event = Take 1 list_dbs; choice = record { moment = 0; draws = []; outcomes = record { number = 1; outcome = Committed } ∷ [] } }) ≡ None
 no_store_call_no_outcome = refl
 
@@ -73,7 +73,7 @@ no_second_attempt = refl
 pub no_draws_are_wanted : step with_session (record { event = Take 1 echo; choice = record { moment = 0; draws = [] ∷ []; outcomes = [] } }) ≡ None
 no_draws_are_wanted = refl
 
--- nor where memory was refused
+-- nor when out of memory
 pub no_draws_without_memory : step with_session (record { event = Take 1 echo; choice = record { moment = 0; draws = [] ∷ []; outcomes = record { number = 1; outcome = NoMemory } ∷ [] } }) ≡ None
 no_draws_without_memory = refl
 
@@ -90,7 +90,7 @@ pub echo_is_answered : bytes_out (at 0 Open ∷ at 0 (Take 1 echo) ∷ []) ≡ S
 unfolding digits serde_json_on_literals
 echo_is_answered = refl
 
--- nothing stands between two frames
+-- nothing comes between two frames
 pub both_are_answered : bytes_out (at 0 Open ∷ at 3 (Take 1 list_dbs) ∷ at 3 (Take 1 echo) ∷ at 9 (Close 1 InputEnded) ∷ []) ≡ Some (codes "{\"error\":null,\"id\":0,\"result\":[\"Net\"]}{\"error\":null,\"id\":\"x\",\"result\":[\"a\\\"}\",{}]}")
 unfolding digits serde_json_on_literals
 both_are_answered = refl

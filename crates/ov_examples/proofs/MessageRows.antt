@@ -1,4 +1,4 @@
--- Worked messages, by computation. More rows stand in the tests, in messages.rt.
+-- Worked messages, by computation. More examples are in the tests, in messages.rt.
 use Rattle.std.proofs.Common.{◌≡◌, ◌∷◌, [], codes, Some, None, true, false, refl}
 use Rattle.std.specs.Str.{is_utf8, chars}
 use Rattle.serde_json.proofs.OnLiterals.{serde_json_on_literals}
@@ -16,7 +16,7 @@ pub note_with_null_id : message_in (codes "{\"id\":null,\"method\":\"m\",\"param
 unfolding message_in is_utf8 chars serde_json_on_literals
 note_with_null_id = refl
 
--- a result beside a method is passed over
+-- a result beside a method is ignored
 pub result_beside_method : message_in (codes "{\"id\":1,\"method\":\"m\",\"params\":[],\"result\":1}") ≡ Some (Call (number (unsigned 1)) (codes "m") no_items)
 unfolding message_in is_utf8 chars serde_json_on_literals
 result_beside_method = refl
@@ -26,7 +26,7 @@ pub wrong_method_beside_result : message_in (codes "{\"id\":1,\"method\":2,\"res
 unfolding message_in is_utf8 chars serde_json_on_literals
 wrong_method_beside_result = refl
 
--- a request that is built wrong, and of which nobody asked, is passed over as an answer is
+-- a malformed request for which nobody expects a reply is ignored, as an answer is
 pub wrong_without_id : message_in (codes "{\"method\":\"m\"}") ≡ Some Answer
 unfolding message_in is_utf8 chars serde_json_on_literals
 wrong_without_id = refl
@@ -38,7 +38,7 @@ pub one_more : message_in (codes "{\"id\":1,\"method\":\"m\",\"params\":[9223372
 unfolding message_in is_utf8 chars serde_json_on_literals
 one_more = refl
 
--- an answer with a real and an id is told of the real: that case stands before
+-- an answer with a real and an id is refused for the real: that case comes first
 pub real_in_answer : message_in (codes "{\"id\":1,\"result\":1.5}") ≡ Some (Bad (number (unsigned 1)) Reals)
 unfolding message_in is_utf8 chars serde_json_on_literals
 real_in_answer = refl
@@ -57,7 +57,7 @@ pub replaced_real : message_in (codes "{\"id\":1.5,\"id\":1,\"method\":\"m\",\"p
 unfolding message_in is_utf8 chars serde_json_on_literals
 replaced_real = refl
 
--- a number that no value is read of is no JSON, wherever it stands
+-- a number that no value is read of is not JSON, wherever it is
 pub number_too_great : message_in (codes "{\"id\":1,\"method\":\"m\",\"params\":[1e999]}") ≡ None
 unfolding message_in is_utf8 chars serde_json_on_literals
 number_too_great = refl
@@ -73,7 +73,7 @@ pub all_kinds_are_asked : asked (codes "{\"id\":0,\"result\":1}{\"id\":1}{\"meth
 unfolding asked cut message_in is_utf8 chars serde_json_on_literals
 all_kinds_are_asked = refl
 
--- nothing behind an unreadable message is asked
+-- nothing after an unreadable message is asked
 pub unreadable_ends_the_stream : asked (codes "{\"id\":1.5}{\"id\":0,\"method\":\"list_dbs\",\"params\":[]}") ≡ record { messages = []; damaged = true }
 unfolding asked cut message_in is_utf8 chars serde_json_on_literals
 unreadable_ends_the_stream = refl

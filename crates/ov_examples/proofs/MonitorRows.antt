@@ -1,4 +1,4 @@
--- Worked monitors: what is asked of them, and what they are told.
+-- Worked monitors: what is asked of them, and what they report.
 use Rattle.std.proofs.Common.{◌≡◌, ℕ, pos, List, [], ◌∷◌, ◌++◌, Bool, true, false, cond, Option, Some, None, option_map, Result, Ok, Err, refl, sym, ap, ◌∙◌, codes}
 use Rattle.std.specs.FinMap.{empty, get, insert, remove, find, entries, from_entries, from_sorted, same_map, entries-from_sorted, get-empty, get-insert, get-remove, get-from_entries, get-from_sorted}
 use Rattle.std.specs.Ordering.{eq_by_cmp}
@@ -43,7 +43,7 @@ pub request_by_itself : asked [] (codes "{\"Switch\":{\"columns\":[\"name\"]}}")
 unfolding serde_json_on_literals
 request_by_itself = rw (table_is (codes "Switch")) (rw (on_switch (codes "name")) (rw entries-switch refl))
 
--- the columns that are told by themselves are all but `_uuid`, `_version` among them
+-- the columns reported by default are all but `_uuid`, `_version` among them
 pub all_is_asked_for : asked [] (codes "{\"Switch\":{}}") ≡ Some (Ok (at_all (codes "_version" ∷ codes "load" ∷ codes "name" ∷ codes "ports" ∷ []) ∷ []))
 unfolding serde_json_on_literals
 all_is_asked_for = rw (table_is (codes "Switch")) (rw entries-switch refl)
@@ -72,7 +72,7 @@ insert_is_asked_for = rw (table_is (codes "Switch")) (rw entries-switch refl)
 
 -- ---- what is refused
 
--- a column that is named twice, in one request or in two, even where the name of the monitor is in use
+-- a column that is named twice, in one request or in two, even if the name of the monitor is in use
 pub column_twice : asked (on_name ∷ []) (codes "{\"Switch\":[{\"columns\":[\"name\"]},{\"columns\":[\"load\",\"name\"]}]}") ≡ Some (Err Syntax)
 unfolding serde_json_on_literals
 column_twice = refl
@@ -143,7 +143,7 @@ entries-of_both k r s =
     by true = refl
     by false = refl
 
--- ---- what is told
+-- ---- what is reported
 
 pub initial_is_told : Some (initial (alone (switch 9 0 (codes "s1"))) on_name) ≡ read (codes "{\"Switch\":{\"00000000-0000-0000-0000-000000000007\":{\"new\":{\"name\":\"s1\"}}}}")
 unfolding serde_json_on_literals by_index
@@ -186,7 +186,7 @@ modify_is_told =
     (rw (column_of 0 (codes "s1") (codes "name"), column_of 0 (codes "s2") (codes "name")) (rw (entries-one (Text (codes "s1")), entries-one (Text (codes "s2")))
     (rw (column_of 0 (codes "s1") (codes "name"), column_of 0 (codes "s2") (codes "name")) (rw (entries-one (Text (codes "s1")), entries-one (Text (codes "s2"))) refl)))))
 
--- a modification of a column that is not told of
+-- a modification of a column that is not reported
 pub other_column_is_not_told : updates (alone (switch 8 0 (codes "s1"))) (alone (switch 9 5 (codes "s1"))) on_name ≡ None
 unfolding serde_json_on_literals
 other_column_is_not_told =
@@ -229,7 +229,7 @@ pub unselected_is_not_told : updates empty (alone (switch 9 0 (codes "s1"))) (wa
 unselected_is_not_told =
     rw entries-empty (rw (entries-put (key 7) (switch 9 0 (codes "s1"))) (rw (entries-of_one (key 7) (switch 9 0 (codes "s1"))) (rw (not_found, found (switch 9 0 (codes "s1"))) refl)))
 
--- ---- no columns: that a row is there is told all the same
+-- ---- no columns: that a row is there is reported all the same
 
 abbrev on_nothing : Monitor
 on_nothing = at_all []

@@ -1,5 +1,5 @@
--- Worked mutations. Maps do not compute, so what is looked up in them and what they list is rewritten by their laws. More rows
--- stand in the tests, in mutations.rt.
+-- Worked mutations. Maps do not compute, so lookups in them and their listings are rewritten by their laws. More examples
+-- are in the tests, in mutations.rt.
 use Rattle.std.proofs.Common.{◌≡◌, ◌^◌, ◌-◌, ℕ, ℤ, pos, negsuc, List, [], ◌∷◌, map, length, true, false, T, Option, Some, None, Result, Ok, Err, Bool, cond, option_map, refl, sym, ap, ◌∙◌, codes}
 use Rattle.std.specs.Str.{is_utf8, chars}
 use Rattle.std.specs.Cmp.Lexicographic.{nat_list_cmp_total}

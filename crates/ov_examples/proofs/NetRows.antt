@@ -1,5 +1,5 @@
--- A schema of two tables, and texts of operations, for worked operations and transactions. Maps do not compute, so what is looked up
--- in them and what they list is rewritten by the laws that stand here.
+-- A schema of two tables, and texts of operations, for worked operations and transactions. Maps do not compute, so lookups
+-- in them and their listings are rewritten by the laws below.
 use Rattle.std.proofs.Common.{◌≡◌, ℕ, pos, List, [], ◌∷◌, Bool, true, false, T, Option, Some, None, option_map, sym, ap, ◌∙◌, codes}
 use Rattle.std.specs.FinMap.{FinMap, entries, is_sorted, find, get, same_map, from_entries, from_sorted, entries-from_sorted, get-from_entries, get-from_sorted}
 use Rattle.serde_json.specs.Data.{null, no_items}

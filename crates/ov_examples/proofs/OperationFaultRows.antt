@@ -1,5 +1,5 @@
--- Worked operations that are refused, whatever rows there are: a member that is missing or of a wrong kind, and of two faults the
--- one that is looked for first.
+-- Worked operations that are refused, whatever rows there are: a member that is missing or of a wrong kind, and of two
+-- faults the one that is checked first.
 use Rattle.std.proofs.Common.{◌≡◌, ℕ, List, Some, refl, codes}
 use Rattle.serde_json.proofs.OnLiterals.{serde_json_on_literals}
 use Rattle.ov_specs.specs.operations.Errors.{OpError, SyntaxError, UnknownTable, UnknownColumn, UnknownOperation, NotOwner, ConstraintViolation, Aborted}

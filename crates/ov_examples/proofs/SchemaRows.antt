@@ -1,4 +1,4 @@
--- Worked schemas. More rows stand in the tests, in schemas.rt.
+-- Worked schemas. More examples are in the tests, in schemas.rt.
 use Rattle.std.proofs.Common.{◌≡◌, ◌++◌, ℕ, List, [], ◌∷◌, Option, Some, None, false, Result, Ok, Err, option_and_then, option_map, refl, codes}
 use Rattle.std.specs.Str.{is_utf8, chars}
 use Rattle.serde_json.specs.Read.{read}
@@ -39,17 +39,17 @@ pub net_is_accepted : refusal_in (net (codes "1.0.0") ports (codes "integer") []
 unfolding serde_json_on_literals
 net_is_accepted = refl
 
--- a number that is no integer goes before the version
+-- a number that is no integer counts before the version
 pub real_number_before_version : refusal_in (net (codes "1.0") ports (codes "integer") (codes ",\"maxRows\":1.5")) ≡ Some (Some RealNotSupported)
 unfolding serde_json_on_literals
 real_number_before_version = refl
 
--- the version goes before the type that stands earlier in the tree
+-- the version counts before the type that is earlier in the tree
 pub version_before_real : refusal_in (net (codes "1.0") ports (codes "real") []) ≡ Some (Some BadVersion)
 unfolding serde_json_on_literals
 version_before_real = refl
 
--- a table without columns goes before a type
+-- a table without columns counts before a type
 pub columns_before_real : refusal_in (net (codes "1.0.0") [] (codes "real") []) ≡ Some (Some NoColumns)
 unfolding serde_json_on_literals
 columns_before_real = refl
@@ -81,7 +81,7 @@ pub strong_and_weak : refusal_in (one (codes "{\"key\":{\"type\":\"uuid\",\"refT
 unfolding serde_json_on_literals
 strong_and_weak = refl
 
--- a bad name goes before all that is wrong inside, wherever it stands
+-- a bad name counts before all that is wrong inside, wherever it is
 pub name_first : refusal_in (codes "{\"name\":\"A\",\"version\":\"1.0\",\"tables\":{\"_T\":{\"columns\":{}}}}") ≡ Some (Some BadName)
 unfolding serde_json_on_literals
 name_first = refl

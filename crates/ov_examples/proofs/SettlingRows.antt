@@ -86,7 +86,7 @@ cancel_is_no_call = refl
 pub closing_drops_what_waits : step (with_waiting (waits 1 0 None wait ∷ [])) (at 0 (Close 1 InputEnded)) ≡ Some (record { state = record (with_waiting []) { sessions = record { serial = 2; monitors = [] } ∷ [] }; sent = [] })
 closing_drops_what_waits = refl
 
--- ---- as many as may wait
+-- ---- the greatest number that may wait
 
 -- those with the ids from this one on
 abbrev many : ℕ → ℕ → List Outstanding
@@ -129,7 +129,7 @@ pub timed_out_at_tick : step (record (with_waiting (waits 1 1000 (Some 50) (wait
 unfolding digits serde_json_on_literals
 timed_out_at_tick = rw (table_is (codes "Switch")) (rw entries-empty (rw entries-empty refl))
 
--- memory that is refused to a try closes the session of its transaction
+-- a try that runs out of memory closes the session of its transaction
 pub memory_in_a_try : step (with_waiting (waits 1 0 None wait ∷ [])) (record { event = Tick; choice = record { moment = 7; draws = []; outcomes = record { number = 1; outcome = NoMemory } ∷ [] } })
     ≡ Some (record { state = record (with_waiting []) { sessions = record { serial = 2; monitors = [] } ∷ []; moment = 7 }; sent = [] })
 memory_in_a_try = refl
@@ -199,12 +199,12 @@ pub all_that_waited_are_answered : step (record (with_waiting (waits 1 0 None (i
 unfolding digits serde_json_on_literals
 all_that_waited_are_answered = rw deleted (rw others (rw met (rw same (rw met (rw same refl)))))
 
--- ---- an "assert" behind a wait
+-- ---- an "assert" after a wait
 
 abbrev then_assert : Items
 then_assert = item (until_gone (codes "Switch")) (item (object (member (codes "lock") (string (codes "L")) (member (codes "op") (string (codes "assert")) no_members))) no_items)
 
--- the transaction of session 1 waits, and these stand in the queue of L as session 2 deletes the switches
+-- the transaction of session 1 waits, and these are in the queue of L as session 2 deletes the switches
 abbrev with_queue_of_l : List ℕ → State
 with_queue_of_l queue = record (with_waiting (waits 1 0 None then_assert ∷ [])) { database = rows; queues = (codes "L", queue) ∷ [] }
 
@@ -227,7 +227,7 @@ pub assert_behind_a_wait_by_former_owner : step (with_queue_of_l (2 ∷ 1 ∷ []
 unfolding digits serde_json_on_literals
 assert_behind_a_wait_by_former_owner = rw deleted (rw others (rw (table_is (codes "Switch")) (rw entries-deleted (rw same refl))))
 
--- ---- one that waits for what another that waits does
+-- ---- a transaction that waits for what another waiting transaction does
 
 abbrev port : LineKey
 port = (codes "Port", numbered 6)
@@ -326,7 +326,7 @@ differ_2 = rw (entries-port_gone, entries-both_gone) refl
 same_gone : same_database both_gone both_gone ≡ true
 same_gone = rw entries-both_gone refl
 
--- transaction 1 is tried, then 2, and then 1 again: three attempts behind the first
+-- transaction 1 is tried, then 2, and then 1 again: three attempts after the first
 pub settling_goes_back : step (record (with_waiting (waits 1 0 None first ∷ waits 2 0 None second ∷ [])) { database = both })
     (record { event = Take 2 (transact 1 third); choice = record { moment = 7; draws = numbered 3 ∷ []; outcomes = record { number = 1; outcome = Committed } ∷ record { number = 3; outcome = Committed } ∷ [] } })
     ≡ Some (record {

@@ -70,7 +70,7 @@ unfolding serde_json_on_literals
 update_none =
     rw (table_is (codes "Port")) (rw (on_port (codes "tag")) (rw (len-one (Integer (pos 4095)), entries-one (Integer (pos 4095))) (rw entries-rows refl)))
 
--- also where no row matches
+-- also if no row matches
 pub update_to_a_value_that_does_not_fit : done_on rows (codes "{\"op\":\"update\",\"row\":{\"tag\":4096},\"table\":\"Port\",\"where\":[]}") ≡ Some (Fault ConstraintViolation)
 unfolding serde_json_on_literals
 update_to_a_value_that_does_not_fit =

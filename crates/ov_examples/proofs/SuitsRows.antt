@@ -1,5 +1,5 @@
--- Worked rows that are rows of a schema, and some that are none. Maps do not compute, so what is looked up in them is rewritten
--- by their laws.
+-- Worked rows that are rows of a schema, and some that are not. Maps do not compute, so lookups in them are rewritten by
+-- their laws.
 use Rattle.std.proofs.Common.{◌≡◌, ℕ, pos, List, [], ◌∷◌, Bool, true, false, cond, Option, Some, None, refl, sym, ap, ◌∙◌, codes}
 use Rattle.std.specs.Str.{is_utf8, chars}
 use Rattle.std.specs.FinMap.{empty, get, entries, insert, from_entries, get-empty, get-insert, get-from_entries}
@@ -105,7 +105,7 @@ row_suits = record { table = switch; named = get-from_entries name_cmp_total ((c
 pub database_suits : Suits net (insert empty (codes "Switch", zero_uuid) row)
 database_suits = one_row_suits net empty (codes "Switch", zero_uuid) row row_suits (no_row_suits net)
 
--- ---- a row of a table that the schema has not
+-- ---- a row of a table that the schema does not have
 
 no_table : (table : Table) → None ≡ Some table → ⊥
 no_table table e = cc

@@ -74,7 +74,7 @@ pub abort_after_delete : transacted rows 0 (codes "[{\"op\":\"delete\",\"table\"
 unfolding serde_json_on_literals
 abort_after_delete = rw (table_is (codes "Switch")) (rw entries-rows refl)
 
--- the deletion is not kept, and the operation behind the wait is not tried
+-- the deletion is not kept, and the operation after the wait is not tried
 pub blocked_after_delete : transacted rows 49 (codes "[{\"op\":\"delete\",\"table\":\"Switch\",\"where\":[]},{\"op\":\"wait\",\"rows\":[],\"table\":\"Port\",\"timeout\":50,\"until\":\"!=\",\"where\":[]},{\"op\":\"abort\"}]") ≡ Some (Waits (Some 50))
 unfolding serde_json_on_literals
 blocked_after_delete = rw (table_is (codes "Switch")) (rw entries-rows (rw (table_is (codes "Port")) (rw entries-deleted refl)))
@@ -128,7 +128,7 @@ in_twice = record { schema = net; before = empty; owns = owns_none; version = nu
 named_does : outcome_of in_twice 0 empty insert_named ≡ Done (insert_result (numbered 2)) (insert empty (codes "Switch", numbered 2) (record { version = numbered 1; columns = given (one (Uuid (numbered 2))) }))
 named_does = rw (table_is (codes "Switch")) (rw (new_ports (names_in in_twice) (numbered 2) refl) (rw (get-empty line_cmp (codes "Switch", numbered 2)) refl))
 
--- the second is refused, before its row is looked at, and the first is undone
+-- the second is refused, before its row is checked, and the first is undone
 pub two_inserts_with_one_name : transaction net empty owns_none (numbered 1 ∷ numbered 2 ∷ numbered 3 ∷ []) 0 twice ≡ Completes (item (insert_result (numbered 2)) (item (error_tree DuplicateName) no_items)) empty
 two_inserts_with_one_name = rw named_does (rw (table_is (codes "Switch")) refl)
 

@@ -1,5 +1,5 @@
--- Two switches, for worked operations on them. Maps do not compute, so what is looked up in them and what they list is rewritten by
--- the laws that stand here.
+-- Two switches, for worked operations on them. Maps do not compute, so lookups in them and their listings are rewritten by
+-- the laws below.
 use Rattle.std.proofs.Common.{◌≡◌, ℕ, pos, List, [], ◌∷◌, length, Bool, true, false, cond, Some, None, refl, sym, ap, ◌∙◌, codes}
 use Rattle.std.specs.Str.{is_utf8, chars}
 use Rattle.std.specs.FinMap.{empty, get, insert, len, entries, entries-insert, put, find, from_entries, get-from_entries, len-entries, len-empty, remove, same_map, get-empty, get-insert, get-remove}

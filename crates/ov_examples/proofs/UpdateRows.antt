@@ -61,7 +61,7 @@ pub monitor_is_answered : step (watched [] []) (takes 1 (monitor (codes "Net") 1
 unfolding digits serde_json_on_literals
 monitor_is_answered = rw switch_table (rw name_column (rw entries-columns (rw entries-nothing refl)))
 
--- what it is told at first
+-- what it receives at first
 pub monitor_tells_at_first : work_of (record (watched [] []) { database = with_s1 }) 1 (monitor (codes "Net") 1 m requests)
     ≡ Watches (id 1) (object (member (codes "Switch") (object (member (codes "00000000-0000-0000-0000-000000000002") (object (member (codes "new") (object (member (codes "name") (string (codes "s1")) no_members)) no_members)) no_members)) no_members)) (on_name m ∷ [])
 unfolding digits serde_json_on_literals by_index
@@ -102,7 +102,7 @@ pub monitor_of_two_params : asks (item (string (codes "Net")) (item m no_items))
 unfolding digits serde_json_on_literals
 monitor_of_two_params = refl
 
--- requests that are no object come before a database that is unknown, and what stands in them behind it
+-- requests that are not an object are refused before a database that is unknown, and what is in them after it
 pub requests_of_null : asks (item (string (codes "Nat")) (item m (item null no_items))) ≡ refused (id 1) (codes "syntax error")
 unfolding digits serde_json_on_literals
 requests_of_null = refl
@@ -159,7 +159,7 @@ pub updates_before_reply : step (watched (on_name m ∷ []) []) (inserts Committ
 unfolding digits serde_json_on_literals
 updates_before_reply = rw insert_one (rw differ (rw (told m) refl))
 
--- session by session in order of opening, monitor by monitor in order of creation, and the reply behind all
+-- session by session in order of opening, monitor by monitor in order of creation, and the reply after all of them
 pub updates_come_in_order : step (watched (on_name m ∷ []) (on_name null ∷ on_name m ∷ [])) (inserts Committed)
     ≡ Some (record {
       state = record (watched (on_name m ∷ []) (on_name null ∷ on_name m ∷ [])) { database = with_s1 };
@@ -173,7 +173,7 @@ pub updates_come_in_order : step (watched (on_name m ∷ []) (on_name null ∷ o
 unfolding digits serde_json_on_literals
 updates_come_in_order = rw insert_one (rw differ (rw (told m) refl))
 
--- what is not kept is not told
+-- what is not kept is not reported
 pub exhausted_is_not_told : step (watched (on_name m ∷ []) (on_name m ∷ [])) (inserts Exhausted)
     ≡ answers (watched (on_name m ∷ []) (on_name m ∷ [])) (reply_tree (id 2) (array (exhausted_results (item (insert_result (numbered 2)) no_items))))
 unfolding digits serde_json_on_literals

@@ -1,4 +1,4 @@
--- Worked values, by computation and by the laws of sets. More rows stand in the tests, in atoms.rt.
+-- Worked values, by computation and by the laws of sets. More examples are in the tests, in atoms.rt.
 use Rattle.std.proofs.Common.{◌≡◌, ℕ, pos, nat_eq, List, [], ◌∷◌, ◌++◌, map, if◌then◌else◌, T, Option, Some, None, option_map, refl, ap, ◌∙◌, append-nil, codes}
 use Rattle.std.specs.Str.{is_utf8, chars}
 use Rattle.std.specs.Cmp.Lexicographic.{pointwise}
@@ -107,7 +107,7 @@ equal_pairs = refl
 pub equal_pairs_merge : map_of (one ∷ one ∷ []) ≡ map_of (one ∷ [])
 equal_pairs_merge = map_of-again one.0 one.1 [] (one ∷ []) refl
 
--- a part that does not read counts before a clash, also where it stands later
+-- a part that does not read counts before a clash, even if it comes later
 pub unread_before_clash : value_in (Pair Texts Integers) (codes "[\"map\",[[\"a\",1],[\"a\",2],[\"a\",null]]]") ≡ Some Unreadable
 unfolding is_utf8 chars serde_json_on_literals
 unread_before_clash = refl

@@ -19,7 +19,7 @@ text_s2 : is_utf8 (codes "s2") ≡ true
 unfolding is_utf8 chars serde_json_on_literals
 text_s2 = refl
 
--- what a told row says of a column
+-- what a given row says of a column
 told : (name : List ℕ) (datum : Datum) → get (insert (empty {X = Datum} {R = name_cmp}) name datum) name ≡ Some datum
 told name datum = get-insert name_cmp_total empty name datum name ∙ ap (λ b. cond b (Some datum) (get (empty {X = Datum} {R = name_cmp}) name)) (same_name-itself name)
 
@@ -46,7 +46,7 @@ a_row_too_few =
     rw (table_is (codes "Switch")) (rw (entries-switch, entries-rows) (rw (on_switch (codes "name"), text_s1) (rw (on_switch (codes "name")) (rw (told (codes "name") (one (Text (codes "s1")))) (rw (in_1 (codes "name"), in_2 (codes "name"))
     (rw (entries-one (Text (codes "s1")), entries-one (Text (codes "s2"))) refl))))))
 
--- what is told has to be there too
+-- what is given has to be there too
 pub a_row_too_many : done_on empty (codes "{\"columns\":[\"ports\"],\"op\":\"wait\",\"rows\":[{}],\"table\":\"Switch\",\"until\":\"==\",\"where\":[]}") ≡ Some (Blocked None)
 unfolding serde_json_on_literals
 a_row_too_many = rw (table_is (codes "Switch")) (rw (entries-switch, entries-empty) (rw (on_switch (codes "ports")) refl))
@@ -70,7 +70,7 @@ wait_for_one =
     rw (table_is (codes "Switch")) (rw (on_switch (codes "name"), text_s1) (rw (len-one (Text (codes "s1"))) (rw (entries-switch, entries-rows) (rw (on_switch (codes "name")) (rw (told (codes "name") (one (Text (codes "s1")))) (rw (in_1 (codes "name"), in_2 (codes "name"))
     (rw (entries-one (Text (codes "s1")), entries-one (Text (codes "s2"))) (rw (in_1 (codes "name")) (rw (entries-one (Text (codes "s1"))) refl)))))))))
 
--- ---- what is told
+-- ---- what is given
 
 -- no switch has a port, so they are one row
 pub defaults_are_told : done_on rows (codes "{\"columns\":[\"ports\"],\"op\":\"wait\",\"rows\":[{}],\"table\":\"Switch\",\"until\":\"==\",\"where\":[]}") ≡ Some (Done empty_result rows)
@@ -89,7 +89,7 @@ four_and_six = Atoms (set_of (Integer (pos 4) ∷ Integer (pos 6) ∷ []))
 entries-four_and_six : entries (set_of (Integer (pos 4) ∷ Integer (pos 6) ∷ [])) ≡ (Integer (pos 4), tt) ∷ (Integer (pos 6), tt) ∷ []
 entries-four_and_six = entries-from_entries ((Integer (pos 4), tt) ∷ (Integer (pos 6), tt) ∷ []) tt
 
--- a scalar that is told as a set of two is no row
+-- a scalar that is given as a set of two is no row
 pub constraints_are_not_tested : done_on rows (codes "{\"columns\":[\"load\"],\"op\":\"wait\",\"rows\":[{\"load\":[\"set\",[4,6]]}],\"table\":\"Switch\",\"until\":\"==\",\"where\":[]}") ≡ Some (Blocked None)
 unfolding serde_json_on_literals
 constraints_are_not_tested =

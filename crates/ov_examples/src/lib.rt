@@ -1,3 +1,3 @@
-//! Worked rows of the definitions: requests with their replies, texts with their values, schemas with their answers. Each is a theorem
-//! in `proofs`. It has no function, and nothing stands on it.
+//! Worked examples of the definitions: requests with their replies, texts with their values, schemas with their answers.
+//! Each is a theorem in `proofs`. The crate has no functions, and nothing depends on it.
 #![tactic(auto)]

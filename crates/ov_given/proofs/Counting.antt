@@ -11,7 +11,7 @@ abbrev pub counts_from : ℕ → Items → List ℕ
 counts_from count no_items = []
 counts_from count (item d operations) = count ∷ counts_from (count + (if is_insert d then 1 else 0)) operations
 
--- they are the counts at each place, with that of all behind the last
+-- they are the counts at each place, with that of all after the last
 pub counts-from : (count : ℕ) (operations : Items) (place : ℕ) → unwrap_or (slice_get (counts_from count operations) place) (count + insert_count operations) ≡ count + inserts_before place operations
 counts-from count no_items zero = refl
 counts-from count no_items (suc place) = refl

@@ -33,7 +33,7 @@ other_id name text is = by (bytes_eq name text) refl
         and_false true = refl
         and_false false = refl
 
--- one operation more
+-- one more operation
 pub first-declared : (place : ℕ) (known later : Option ℕ) (b : Bool) → first_of (first_of known (if b then Some place else None)) (option_map (λ n. (place + 1) + n) later) ≡ first_of known (option_map (λ n. place + n) (if b then Some 0 else option_map suc later))
 first-declared place (Some first) later b = refl
 first-declared place None later true = let same : place ≡ place + 0 = omega arith in ap Some same
@@ -48,7 +48,7 @@ pub from_first : (o : Option ℕ) → option_map (λ n. 0 + n) o ≡ o
 from_first None = refl
 from_first (Some n) = let same : 0 + n ≡ n = omega arith in ap Some same
 
--- ---- the place that is kept at a name
+-- ---- the place that is kept for a name
 
 -- two texts that are the same, one way round and the other
 same_twice : (a b : List ℕ) → bytes_eq a b ≡ true → bytes_eq b a ≡ bytes_eq a b
@@ -58,7 +58,7 @@ no : {b : Bool} → b ≡ true → b ≡ false → ⊥
 no h k = cc
 
 module _ (old : List ℕ → Option ℕ) (text name : List ℕ) (place : ℕ) where
-  -- where there was none, it is new at this name alone
+  -- if there was none, it is new for this name alone
   pub kept-new : old text ≡ None → cond (bytes_eq text name) (Some place) (old name) ≡ first_of (old name) (if bytes_eq name text then Some place else None)
   kept-new none = by (bytes_eq text name) (bytes_eq name text) refl refl
     where
@@ -68,7 +68,7 @@ module _ (old : List ℕ → Option ℕ) (text name : List ℕ) (place : ℕ) wh
       by false true is turned = absurd (no (same_twice name text turned ∙ turned) is)
       by false false is turned = sym (first_alone (old name))
 
-  -- where there was one, nothing is new
+  -- if there was one, nothing is new
   pub kept-old : is_some (old text) ≡ true → old name ≡ first_of (old name) (if bytes_eq name text then Some place else None)
   kept-old some = by (bytes_eq name text) refl
     where
@@ -80,7 +80,7 @@ module _ (old : List ℕ → Option ℕ) (text name : List ℕ) (place : ℕ) wh
       by true is = there (old name) (ap (λ n. is_some (old n)) (same_text name text (sym is)) ∙ some)
       by false is = sym (first_alone (old name))
 
--- ---- an operation more
+-- ---- one more operation
 
 pub declared-next : (name : List ℕ) (operations : List Value) (i : ℕ) (d : Value) → i < length operations → d ≡ get_or operations i d
     → place_declared name (items_view (drop i operations)) ≡ (if declares name (view d) then Some 0 else option_map suc (place_declared name (items_view (drop (i + 1) operations))))

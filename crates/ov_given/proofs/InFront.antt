@@ -23,11 +23,11 @@ abbrev pub in_front : {A : Type 0} → List A → Result (List A) OpError → Re
 in_front before (Err error) = Err error
 in_front before (Ok others) = Ok (before ++ others)
 
--- what is made of the items from a place on, by the item there and those behind it
+-- what is made of the items from a place on, by the item there and those after it
 here : {A : Type 0} (f : List Value → A) (items : List Value) (i : ℕ) (d : Value) → i < length items → d ≡ get_or items i d → f (drop i items) ≡ f (d ∷ drop (i + 1) items)
 here f items i d within at = ap f (drop_more items i d within ∙ ap (λ x. x ∷ drop (i + 1) items) (sym at))
 
--- a fault in place of what is read
+-- a fault instead of what is read
 abbrev IsFault : {B : Type 0} → Result B OpError → OpFault → Type 0
 IsFault read (Refused error) = read ≡ Err (error_view error)
 IsFault read Memory = Unit {0}
@@ -47,7 +47,7 @@ one_mutation before m (Ok one) (Ok others) is =
     let same : one ≡ m = cc in
     ap (λ x. Ok (before ++ x ∷ others)) same ∙ ap Ok (sym (append_assoc before (m ∷ []) others))
 
--- one mutation more that reads
+-- one more mutation that can be read
 pub mutations-item : (names : Names) (table : Table) (items : List Value) (i : ℕ) (d : Value) (before : List Mutation) (m : Mutation) → i < length items → d ≡ get_or items i d → mutation_result (mutation_read names table (view d)) ≡ Ok m
     → in_front before (mutations_read names table (items_view (drop i items))) ≡ in_front (before ++ m ∷ []) (mutations_read names table (items_view (drop (i + 1) items)))
 mutations-item names table items i d before m within at is =
@@ -62,7 +62,7 @@ one_fault (Ok m) others (Refused error) h = cc
 one_fault (Err f) others Memory h = tt
 one_fault (Ok m) others Memory h = tt
 
--- one mutation more that does not read
+-- one more mutation that cannot be read
 pub mutations-fault : {A : Type 0} (seen : A → List Mutation) (names : Names) (table : Table) (items : List Value) (i : ℕ) (d : Value) (before : List Mutation) (fault : OpFault) → i < length items → d ≡ get_or items i d
     → IsOpResult {A = Mutation} (λ m. m) (mutation_result (mutation_read names table (view d))) (Err fault)
     → (all : Result (List Mutation) OpError) → all ≡ in_front before (mutations_read names table (items_view (drop i items))) → IsOpResult seen all (Err fault)
@@ -70,7 +70,7 @@ mutations-fault seen names table items i d before fault within at is all whole =
     faults seen before (mutations_read names table (items_view (d ∷ drop (i + 1) items))) all fault (one_fault (mutation_read names table (view d)) (mutations_read names table (items_view (drop (i + 1) items))) fault is)
     (whole ∙ here (λ ds. in_front before (mutations_read names table (items_view ds))) items i d within at)
 
--- ---- rows that are told
+-- ---- rows that are stated
 
 abbrev Shown : Type 0
 Shown = List (List ℕ × Datum)
@@ -83,7 +83,7 @@ one_row table compared before told (Ok one) (Ok others) is =
     let same : one ≡ told = cc in
     ap (λ (x : Columns). Ok (before ++ told_projection table compared x ∷ others)) same ∙ ap Ok (sym (append_assoc before (told_projection table compared told ∷ []) others))
 
--- one row more that reads
+-- one more row that can be read
 pub rows-item : (names : Names) (table : Table) (compared : List (List ℕ)) (items : List Value) (i : ℕ) (d : Value) (before : List Shown) (told : Columns) → i < length items → d ≡ get_or items i d
     → told_row names table compared (as_object (view d)) ≡ Ok told
     → in_front before (told_rows names table compared (items_view (drop i items))) ≡ in_front (before ++ told_projection table compared told ∷ []) (told_rows names table compared (items_view (drop (i + 1) items)))

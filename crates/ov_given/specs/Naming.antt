@@ -1,4 +1,4 @@
--- The rows that the inserts of a transaction make, and where their names are declared. What names no source is our own.
+-- The rows that the inserts of a transaction make, and where their names are declared.
 use Rattle.std.specs.Prelude.{◌≡◌, ℕ, List, refl, Option, Some, None}
 use Rattle.std.specs.BTreeMap.{BTreeMap, get_by}
 use Rattle.std.specs.Cmp.Lexicographic.{slice_cmp}
@@ -19,15 +19,15 @@ pub record Naming : Type 0 where
 abbrev pub naming_code : Coded Naming
 naming_code = code_by (List Uuid × Items) (coded× (coded_list (coded_list coded_ℕ)) items_code) (λ n. (n.ids, n.operations)) (λ p. record { ids = p.0; operations = p.1 }) (λ _. refl)
 
--- the first of two places that there is
+-- the first of two places, if there is one
 abbrev pub first_of : Option ℕ → Option ℕ → Option ℕ
 first_of None other = other
 first_of (Some place) other = Some place
 
--- the place that a map has at a name
+-- the place that a map has for a name
 abbrev pub place_at : BTreeMap (Bor (List ℕ)) ℕ → List ℕ → Option ℕ
 place_at places name = get_by (λ known. slice_cmp nat_cmp name known.now) places
 
--- at each name the place of the first operation that declares it
+-- for each name, the place of the first operation that declares it
 abbrev pub ArePlaces : BTreeMap (Bor (List ℕ)) ℕ → Items → Type 0
 ArePlaces places operations = (name : List ℕ) → place_at places name ≡ place_declared name operations

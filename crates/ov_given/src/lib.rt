@@ -1,5 +1,5 @@
-//! What a client's message says of rows: the names of those that a transaction inserts, the values that a row is given, the
-//! mutations of a row, and the rows that are waited for (RFC 7047, 5.1 and 5.2). What names no source is our own.
+//! What a client's message says about rows: the names of those that a transaction inserts, the values given to a row, the
+//! mutations of a row, and the rows waited for (RFC 7047, 5.1 and 5.2).
 #![tactic(auto)]
 
 mod mutated;

@@ -14,7 +14,7 @@ use ov_schema::Table;
 use serde_json::Value;
 use std::alloc::{AllocError, Global};
 
-/// The mutation that a tree is.
+/// Reads a mutation from a tree.
 fn mutation_of<'a, N: Names>(
     alloc: Global,
     table: &'a Table,
@@ -33,8 +33,8 @@ fn mutation_of<'a, N: Names>(
     }
 }
 
-/// The mutations of a `mutate`, each read wholly before the next one, or the fault of the first that does not read (RFC 7047,
-/// 5.2.4; the order is our own).
+/// The mutations of a `mutate`, each read entirely before the next, or the fault of the first that cannot be read (RFC 7047,
+/// 5.2.4, which sets no order).
 pub fn mutations_of<'a, N: Names>(
     alloc: Global,
     table: &'a Table,
@@ -53,7 +53,7 @@ pub fn mutations_of<'a, N: Names>(
     Ok(mutations)
 }
 
-/// What a mutation makes of the value of its column. A row has one for each column that can be mutated.
+/// What a mutation makes of the value of its column. A row has a value for each column that can be mutated.
 fn mutated_value(
     alloc: Global,
     mutation: &Mutation<'_>,

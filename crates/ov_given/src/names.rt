@@ -20,13 +20,13 @@ use std::collections::BTreeMap;
 use std::marker::Model;
 use uuid::Uuid;
 
-/// The rows that the inserts of a transaction make, and the names that stand for them in all of it, also before the insert that
-/// declares one (RFC 7047, 5.1, `<named-uuid>`, and 5.2.1). It is made once for a transaction.
+/// The rows that the inserts of a transaction make, and the names that stand for them throughout it, even before the insert
+/// that declares one (RFC 7047, 5.1, `<named-uuid>`, and 5.2.1). Made once for each transaction.
 #[derive(Drop)]
 pub struct NamedRows<'a> {
     ids: &'a [Uuid],
     operations: &'a Trees,
-    /// At each name the place of the first operation that declares it.
+    /// For each name, the place of the first operation that declares it.
     places: BTreeMap<&'a str, usize>,
     /// How many inserts stand before each operation.
     counts: Vec<usize>,
@@ -51,7 +51,7 @@ impl<'a> Model for NamedRows<'a> {
 }
 
 impl<'a> NamedRows<'a> {
-    /// The rows that these operations insert, where one of these identifiers was drawn for each insert, in order.
+    /// The rows that these operations insert, given one identifier drawn for each insert, in order.
     pub fn new(
         alloc: Global,
         ids: &'a [Uuid],
@@ -70,7 +70,7 @@ impl<'a> NamedRows<'a> {
         })
     }
 
-    /// The identifier of the insert that stands at this place, the first operation at 0.
+    /// The identifier of the insert at this place; the first operation is at 0.
     pub fn id_at(&self, place: usize) -> Option<Uuid>
         ensures { result ≡ id_at self.now.ids self.now.operations place }
     {
@@ -112,8 +112,8 @@ impl<'a> Names for NamedRows<'a> {
     }
 }
 
-/// What is wrong with the `uuid-name` of the insert at this place, which may be left out: it is no `<id>`, or an operation before
-/// it declares the name (RFC 7047, 5.2.1).
+/// What is wrong with the `uuid-name`, which may be left out, of the insert at this place: it is not an `<id>`, or an
+/// operation before it declares the name (RFC 7047, 5.2.1).
 pub fn name_fault(rows: &NamedRows<'_>, place: usize, tree: Option<&Value>) -> Option<OpError>
     ensures { (c : OpContext) → c.operations ≡ rows.now.operations → option_map error_view result ≡ name_fault c place (option_map view (option_copied tree.entry)) }
 {
@@ -127,7 +127,7 @@ pub fn name_fault(rows: &NamedRows<'_>, place: usize, tree: Option<&Value>) -> O
     }
 }
 
-/// The error where an operation before this place declares the name.
+/// The error if an operation before this place declares the name.
 fn name_twice(rows: &NamedRows<'_>, place: usize, name: &str) -> Option<OpError>
     ensures { option_map error_view result ≡ (if is_declared_before name.now place rows.now.operations then Some DuplicateName else None) }
 {
@@ -151,7 +151,7 @@ fn name_declared(operation: &Value) -> Option<&str>
     }
 }
 
-/// Keeps the place of an operation at the name that it declares, where there is none yet.
+/// Keeps the place of an operation under the name that it declares, unless the name already has one.
 fn keep_place<'a>(
     places: &mut BTreeMap<&'a str, usize>,
     operation: &'a Value,
@@ -168,7 +168,7 @@ fn keep_place<'a>(
     Ok(())
 }
 
-/// At each name the place of the first operation that declares it.
+/// For each name, the place of the first operation that declares it.
 fn places_of<'a>(
     alloc: Global,
     operations: &'a [Value],

@@ -19,14 +19,14 @@ use std::alloc::{AllocError, Global};
 /// Which row the values are given to.
 #[derive(Clone, Copy, Debug, PartialEq, Eq)]
 pub enum GivenRow {
-    /// One that an insert makes: all columns may be given but `_uuid` and `_version` (RFC 7047, 5.2.1).
+    /// One that an insert makes: all columns may be given except `_uuid` and `_version` (RFC 7047, 5.2.1).
     New,
-    /// One that is there: of these only those that are mutable (RFC 7047, 5.2.3, and 3.2, `<column-schema>`).
+    /// One that exists: of these columns only the mutable ones (RFC 7047, 5.2.3, and 3.2, `<column-schema>`).
     Changed,
 }
 
 impl GivenRow {
-    /// Whether the row may be given a value of the column of this name.
+    /// Whether the row may be given a value in the column of this name.
     fn may_be(self, name: &str, column: &Column) -> bool
         ensures { result ≡ may_be self name.now column.now }
     {
@@ -37,7 +37,7 @@ impl GivenRow {
     }
 }
 
-/// The value where it fits its column.
+/// The value, if it fits its column.
 fn fitting(column: &Column, datum: Datum) -> Result<Datum, OpFault>
     ensures { IsOpResult (λ d. d) (rows.fitting_reading column.now (Reads datum)) result }
 {
@@ -85,9 +85,9 @@ fn given_value<N: Names>(
     value_read(alloc, column, tree, names)
 }
 
-/// The values that the `row` of an insert or an update gives, or the fault of the first that has one, in ascending order of the
-/// columns' names. Of one value the first of these is told: there is no such column, it may not be given, its tree does not
-/// read, it does not fit (RFC 7047, 5.1, `<row>`, 5.2.1 and 5.2.3; the order is our own).
+/// The values that the `row` of an insert or an update gives, or the fault of the first that has one, in ascending order of
+/// the columns' names. For one value, the first of these is reported: there is no such column, it may not be given, its tree
+/// cannot be read, it does not fit (RFC 7047, 5.1, `<row>`, 5.2.1 and 5.2.3, which set no order).
 pub fn given_values<N: Names>(
     alloc: Global,
     row: GivenRow,
@@ -106,14 +106,14 @@ pub fn given_values<N: Names>(
     Ok(values)
 }
 
-/// The default of a column, where it fits.
+/// The default of a column, if it fits.
 fn default_given(alloc: Global, column: &Column) -> Result<Datum, OpFault>
     ensures { IsOpResult (λ d. d) (insert.fitting_default column.now) result }
 {
     fitting(column, column.default_of(alloc)?)
 }
 
-/// The values with the defaults of those that were not given.
+/// The values, with the defaults of those that were not given.
 fn with_defaults(alloc: Global, table: &Table, values: NamedValues) -> Result<NamedValues, OpFault>
     ensures { IsOpResult (λ v. v) (insert.with_defaults (entries table.now.columns) values) result }
 {
@@ -140,8 +140,8 @@ fn new_values<N: Names>(
     with_defaults(alloc, table, values)
 }
 
-/// All columns of the row that an insert makes: those that are given, and the defaults of the others (RFC 7047, 5.2.1). Rows of
-/// one table share the names of their columns.
+/// All columns of the row that an insert makes: the given ones, and the defaults of the others (RFC 7047, 5.2.1). Rows of one
+/// table share the names of their columns.
 pub fn new_row<N: Names>(
     alloc: Global,
     table: &Table,

@@ -16,7 +16,7 @@ use ov_schema::{Column, Table};
 use serde_json::{Map, Value};
 use std::alloc::{AllocError, Global};
 
-/// The number of a tree, where it is at least 0.
+/// The number of a tree, if it is at least 0.
 fn natural_of(tree: &Value) -> Option<u64>
     ensures { result ≡ option_and_then wait.natural (option_and_then integer_read (as_number (view tree.now))) }
 {
@@ -26,8 +26,7 @@ fn natural_of(tree: &Value) -> Option<u64>
     }
 }
 
-/// The `timeout` of a `wait` in milliseconds, an integer that is at least 0. Where it is left out, there is none (RFC 7047,
-/// 5.2.6).
+/// The `timeout` of a `wait` in milliseconds, an integer that is at least 0; `None` if it is left out (RFC 7047, 5.2.6).
 pub fn timeout_of(tree: Option<&Value>) -> Result<Option<u64>, OpFault>
     ensures { IsOpResult (λ o. o) (wait.timeout_read (option_map view (option_copied tree.entry))) result }
 {
@@ -40,7 +39,7 @@ pub fn timeout_of(tree: Option<&Value>) -> Result<Option<u64>, OpFault>
     }
 }
 
-/// The value that is told of one of the compared columns. Its kinds are those of the column, whose constraints it need not meet.
+/// The value stated for one of the compared columns. It has the kinds of the column, but need not meet its constraints.
 fn told_value<N: Names>(
     alloc: Global,
     compared: &[Text],
@@ -65,7 +64,7 @@ fn told_value<N: Names>(
     }
 }
 
-/// The values that are told of a row, in ascending order of their names, or the fault of the first that has one.
+/// The values stated for a row, in ascending order of their names, or the fault of the first that has one.
 fn told_values<N: Names>(
     alloc: Global,
     table: &Table,
@@ -84,14 +83,14 @@ fn told_values<N: Names>(
     Ok(values)
 }
 
-/// The value that is told of a column.
+/// The value stated for a column.
 fn told_of<'a>(told: &'a NamedValues, name: &str) -> Option<&'a Datum>
     ensures { option_copied result ≡ get told.now name.now }
 {
     told.map().get(name)
 }
 
-/// What is told of a column of the table, or else its default.
+/// The value stated for a column of the table, or else its default.
 fn told_or_default(
     alloc: Global,
     table: &Table,
@@ -109,7 +108,7 @@ fn told_or_default(
     }
 }
 
-/// A row that is told, as a row of the table is seen: the compared columns, in their order.
+/// A stated row, seen as a row of the table is: the compared columns, in their order.
 fn told_projection(
     alloc: Global,
     table: &Table,
@@ -127,7 +126,7 @@ fn told_projection(
     Ok(ShownRow::new(columns))
 }
 
-/// The values that a tree tells of a row, which is an object.
+/// The values that a tree, which is an object, states for a row.
 fn told_row<N: Names>(
     alloc: Global,
     table: &Table,
@@ -143,8 +142,8 @@ fn told_row<N: Names>(
     }
 }
 
-/// The `rows` of a `wait`, each read wholly before the next one, or the fault of the first that has one. A row tells values of
-/// the compared columns, and is seen with the defaults of those that it leaves out (RFC 7047, 5.2.6; the order is our own).
+/// The `rows` of a `wait`, each read entirely before the next, or the fault of the first that has one. A row states values of
+/// the compared columns, and is seen with the defaults of those that it leaves out (RFC 7047, 5.2.6, which sets no order).
 pub fn told_rows<N: Names>(
     alloc: Global,
     table: &Table,

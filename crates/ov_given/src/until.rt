@@ -13,13 +13,13 @@ use std::collections::BTreeSet;
 /// What is waited for (RFC 7047, 5.2.6).
 #[derive(Clone, Copy, Debug, PartialEq, Eq)]
 pub enum Until {
-    /// That the rows are those that are told.
+    /// That the rows are the stated ones.
     Equal,
-    /// That they are others.
+    /// That they are not.
     NotEqual,
 }
 
-/// What a word says is waited for, `==` or `!=` (RFC 7047, 5.2.6).
+/// What a word, `==` or `!=`, waits for (RFC 7047, 5.2.6).
 pub fn until_of(word: &str) -> Option<Until>
     ensures { option_map until_view result ≡ wait.until_of word.now }
 {
@@ -32,7 +32,7 @@ pub fn until_of(word: &str) -> Option<Until>
     }
 }
 
-/// All these rows, to be looked through.
+/// All these rows, as a set to look them up in.
 fn rows_known(alloc: Global, rows: &[ShownRow]) -> Result<BTreeSet<&ShownRow>, AllocError>
     ensures { IfOk result (λ known. (row : List (List ℕ × value.Datum)) → any_at row known.keys ≡ list_any (λ other. same_columns other row) rows.now) }
 {
@@ -43,7 +43,7 @@ fn rows_known(alloc: Global, rows: &[ShownRow]) -> Result<BTreeSet<&ShownRow>, A
     Ok(known)
 }
 
-/// Whether each of the rows is one of those that are known.
+/// Whether each of the rows is among the known ones.
 fn are_known<'a>(known: &BTreeSet<&'a ShownRow>, rows: &'a [ShownRow]) -> bool
     ensures { result ≡ list_all (λ row. any_at row known.now.keys) rows.now }
 {
@@ -55,7 +55,7 @@ fn are_known<'a>(known: &BTreeSet<&'a ShownRow>, rows: &'a [ShownRow]) -> bool
     true
 }
 
-/// Whether each of the rows is one of the others.
+/// Whether each of the rows is among the others.
 fn are_among<'a>(
     alloc: Global,
     others: &'a [ShownRow],
@@ -67,7 +67,7 @@ fn are_among<'a>(
     Ok(are_known(&known, rows))
 }
 
-/// Whether these are the same rows. Their order and repeats do not count.
+/// Whether these are the same rows, regardless of order and repeats.
 fn same_rows<'a>(
     alloc: Global,
     one: &'a [ShownRow],
@@ -82,8 +82,8 @@ fn same_rows<'a>(
     }
 }
 
-/// Whether what was waited for has come, where these rows are seen and those are told. Order and repeats of rows do not count
-/// (RFC 7047, 5.2.6; that they don't is our own).
+/// Whether what was waited for has come, given the rows that are seen and those that are stated. Order and repeats of rows do
+/// not count (RFC 7047, 5.2.6, which does not say so).
 pub fn is_met(
     alloc: Global,
     until: Until,

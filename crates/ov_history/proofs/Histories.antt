@@ -13,7 +13,7 @@ use Rattle.ov_history.specs.declared.event.Entry.{Entry}
 use Rattle.ov_history.specs.Entries.{entry_view}
 use Rattle.ov_history.specs.History.{most_entries, newest, Keeps, kept_after, KeepsNewest, HasHistory}
 
--- with one entry more, the newest of the newest are the newest of all
+-- with one more entry, the newest of the newest are the newest of all
 pub newest-newest : {A : Type 0} (xs : List A) (y : A) → newest (newest xs ++ y ∷ []) ≡ newest (xs ++ y ∷ [])
 newest-newest xs y =
     let n = length xs - most_entries in
@@ -30,12 +30,12 @@ map-newest f xs = sym (drop-map f (length xs - most_entries) xs) ∙ ap (λ (k :
 pub newest-last : {A : Type 0} (xs : List A) (y : A) → newest (xs ++ y ∷ []) ≡ drop (length (xs ++ y ∷ []) - most_entries) xs ++ y ∷ []
 newest-last xs y = drop-append-le (length (xs ++ y ∷ []) - most_entries) xs (y ∷ []) (omega (arith, length-append xs (y ∷ [])))
 
--- an entry that was put behind the others, as the machine's
+-- an entry that was appended, as the machine's
 pub entered_behind : (old new : List Entry) (x : Entry) (e : machine.Entry) → new ≡ newest (old ++ x ∷ []) → entry_view x ≡ e → KeepsNewest old (e ∷ []) new
 entered_behind old new x e added is =
     ap (map entry_view) added ∙ (map-newest entry_view (old ++ x ∷ []) ∙ ap newest (map-append entry_view old (x ∷ []) ∙ ap (λ (y : machine.Entry). map entry_view old ++ y ∷ []) is))
 
--- where the history ends with the entries kept before, it ends with those kept behind one more
+-- if the history ends with the entries kept before, it ends with those kept after one more
 pub keeps_more : (old new : List Entry) (history : List machine.Entry) (e : machine.Entry) → Keeps old history → KeepsNewest old (e ∷ []) new → Keeps new (history ++ e ∷ [])
 keeps_more old new history e (front, is) keeps =
     let all = map entry_view old ++ e ∷ [] in
@@ -52,7 +52,7 @@ pub kept_after-append : (kept xs ys : List machine.Entry) → kept_after kept (x
 kept_after-append kept [] ys = refl
 kept_after-append kept (x ∷ xs) ys = kept_after-append (newest (kept ++ x ∷ [])) xs ys
 
--- entries that were put behind the others in two parts
+-- entries that were appended in two parts
 pub keeps_on : (old mid new : List Entry) (xs ys : List machine.Entry) → KeepsNewest old xs mid → KeepsNewest mid ys new → KeepsNewest old (xs ++ ys) new
 keeps_on old mid new xs ys first then =
     then ∙ (ap (λ (kept : List machine.Entry). kept_after kept ys) first ∙ sym (kept_after-append (map entry_view old) xs ys))
@@ -63,7 +63,7 @@ keeps_last old new front last keeps =
     let kept = kept_after (map entry_view old) front in
     (drop (length (kept ++ last ∷ []) - most_entries) kept, keeps ∙ (kept_after-append (map entry_view old) front (last ∷ []) ∙ newest-last kept last))
 
--- an entry more, and there still is a legal history
+-- with one more entry, there is still a legal history
 pub has_more : (s t : State) (old new : List Entry) (e : machine.Entry) (sent : List Sent) → machine.step s e ≡ Some (record { state = t; sent = sent }) → draws_uuids e ≡ true → KeepsNewest old (e ∷ []) new → HasHistory s old → HasHistory t new
 has_more s t old new e sent stepped uuids keeps has = record {
   schema = has.schema;

@@ -1,4 +1,4 @@
--- Events and entries of the code as those of the machine. What names no source is our own.
+-- Events and entries of the code as those of the machine.
 use Rattle.std.specs.Prelude.{ℕ, List, [], ◌∷◌, map, Bool, true, false, Option, Some, None}
 use Rattle.std.specs.List.{list_any}
 use Rattle.ov_specs.specs.wire.Message.{Message}
@@ -48,12 +48,12 @@ choice_view c = record { moment = c.moment; draws = c.draws.items; outcomes = ma
 abbrev pub entry_view : Entry → machine.Entry
 entry_view e = record { event = event_view e.event; choice = choice_view e.choice }
 
--- what is listed of an attempt, as an attempt of the code's
+-- what is listed of an attempt, as an attempt of the code
 abbrev pub listed_by : ℕ → Option Outcome → List Attempt
 listed_by number None = []
 listed_by number (Some o) = record { number = number; outcome = o } ∷ []
 
--- refused memory closes the session of the attempt's transaction
+-- a failed allocation closes the session of the attempt's transaction
 abbrev pub is_closing : Option Outcome → Bool
 is_closing None = false
 is_closing (Some NoMemory) = true

@@ -1,4 +1,4 @@
--- Which entries of the history are kept. What names no source is our own.
+-- Which entries of the history are kept.
 use Rattle.std.specs.Prelude.{◌≡◌, ℕ, ◌-◌, ◌++◌, List, [], ◌∷◌, map, length, drop, Some, true}
 use Rattle.std.specs.List.{list_all}
 use Rattle.ov_specs.specs.machine.Machine as machine
@@ -15,7 +15,7 @@ use Rattle.ov_history.specs.Entries.{entry_view}
 abbrev pub most_entries : ℕ
 most_entries = 4096
 
--- the newest of the entries, which are all of them or as many as are kept
+-- the newest of the entries: all of them, or as many as are kept
 abbrev pub newest : {A : Type 0} → List A → List A
 newest entries = drop (length entries - most_entries) entries
 
@@ -23,17 +23,17 @@ newest entries = drop (length entries - most_entries) entries
 abbrev pub Keeps : List Entry → List machine.Entry → Type 0
 Keeps kept history = (front : List machine.Entry) × (front ++ map entry_view kept ≡ history)
 
--- One entry after another is put behind those that are kept, and of these the newest stay.
+-- Entries are appended one after another to those that are kept, and the newest stay.
 abbrev pub kept_after : List machine.Entry → List machine.Entry → List machine.Entry
 kept_after kept [] = kept
 kept_after kept (e ∷ entries) = kept_after (newest (kept ++ e ∷ [])) entries
 
--- these entries were put behind those that were kept
+-- these entries were appended to those that were kept
 abbrev pub KeepsNewest : List Entry → List machine.Entry → List Entry → Type 0
 KeepsNewest old entries new = map entry_view new ≡ kept_after (map entry_view old) entries
 
--- Some legal history leads from the opening of a database, made of rows of its schema, to the state. What was drawn for its entries
--- are identifiers (RFC 4122, 4.1.2), and the entries that are kept are the newest of it.
+-- Some legal history leads from the opening of a database, made of rows of its schema, to the state. Its entries drew
+-- identifiers (RFC 4122, 4.1.2), and the entries that are kept are its newest.
 pub record HasHistory (state : State) (kept : List Entry) : Type 0 where
   pub schema : Schema
   pub database : Database

@@ -6,15 +6,15 @@ use ov_rpc::MessageText;
 use std::alloc::Global;
 use uuid::Uuid;
 
-/// An entry that nothing was chosen for but its moment. It takes no memory.
+/// An entry for which only its moment was chosen. Allocates nothing.
 pub fn entry_without_choice(alloc: Global, moment: u64, event: Event<MessageText>) -> Entry
     ensures { entry_view result ≡ record { event = event_view event; choice = record { moment = moment; draws = []; outcomes = [] } } }
 {
     entry_with_choice(alloc, moment, event, Vec::new(alloc), Vec::new(alloc))
 }
 
-/// An entry with the identifiers that were drawn for it, and with what came of its attempts. Where none is listed it keeps no
-/// room for them.
+/// An entry with the identifiers drawn for it, and with the outcomes of its attempts. If none is listed, it keeps no room for
+/// them.
 pub fn entry_with_choice(
     alloc: Global,
     moment: u64,
@@ -44,7 +44,7 @@ fn without_room_if_empty(alloc: Global, attempts: Vec<Attempt>) -> Vec<Attempt>
     }
 }
 
-/// Lists the attempt, where something is listed of it. It takes no memory.
+/// Lists the attempt, if there is anything to list of it. Allocates nothing.
 pub fn list_attempt(attempts: &mut Vec<Attempt>, number: u64, outcome: Option<Outcome>)
     requires { vec_len attempts.old < vec_capacity attempts.old }
     ensures items { attempts.new.items ≡ attempts.old.items ++ listed_by number outcome }

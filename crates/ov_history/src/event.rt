@@ -12,61 +12,60 @@ pub enum Cause {
     ReadFault,
     /// Its output could not be written.
     WriteFault,
-    /// What it sent is no stream of messages.
+    /// What it sent is not a stream of messages.
     Damaged,
     /// It did not take what was sent to it.
     Overrun,
-    /// Memory was refused, while its input was read and cut or while its request was worked on.
+    /// An allocation failed while its input was read and cut or while its request was worked on.
     Memory,
 }
 
-/// What happens to the machine. `M` is what stands for a message: a `Received` where it is taken, and its `MessageText` where the
-/// history tells of it.
+/// What happens to the machine. `M` stands for a message: a `Received` when it is taken, and its `MessageText` in the history.
 #[derive(Drop)]
 pub enum Event<M> {
     /// A session opens, with the next serial.
     Open,
-    /// A message of a session is taken, and answered at once if it is answered (RFC 7047, 4.1). Only a transaction that is
+    /// A message of a session is taken, and answered at once if it gets an answer (RFC 7047, 4.1). Only a transaction that is
     /// blocked waits; it is answered when another event settles it (4.1.3), or when it is canceled (4.1.4).
     Take(Session, M),
-    /// A session is closed, and with it go its monitors, its places in the queues of locks and its transactions that wait. The
-    /// frames that wait for it still wait.
+    /// A session is closed, with its monitors, its places in the queues of locks and its waiting transactions. The frames
+    /// that wait for it still wait.
     Close(Session, Cause),
-    /// Time has come to the moment. The transactions that wait are tried, since a timeout may have passed (RFC 7047, 5.2.6).
+    /// Time has reached the moment. The waiting transactions are tried, since a timeout may have passed (RFC 7047, 5.2.6).
     Tick,
 }
 
-/// What came of an attempt that asked the store, or that was refused memory.
+/// The outcome of an attempt that asked the store, or in which an allocation failed.
 #[derive(Clone, Copy, Debug, PartialEq, Eq)]
 pub enum Outcome {
     /// The store kept its changes.
     Kept,
-    /// Memory was refused to the store, or the changes were too large for it: it kept none of them.
+    /// An allocation failed in the store, or the changes were too large for it: it kept none of them.
     Exhausted,
     /// The store failed.
     Failed,
-    /// Memory was refused, and the session of this attempt's transaction was closed.
+    /// An allocation failed, and the session of this attempt's transaction was closed.
     NoMemory,
 }
 
 /// An attempt.
 #[derive(Clone, Copy, Debug, PartialEq, Eq)]
 pub struct Attempt {
-    /// Its number in its event, from 1 on.
+    /// Its number in its event, counted from 1.
     pub number: u64,
-    /// What came of it.
+    /// Its outcome.
     pub outcome: Outcome,
 }
 
 /// What the outside chose for an event.
 #[derive(Drop)]
 pub struct Choice {
-    /// In milliseconds; not below that of the entry before.
+    /// In milliseconds; not below that of the previous entry.
     pub moment: u64,
     /// The identifiers that were drawn, in order.
     pub draws: Vec<Uuid>,
-    /// The attempts that asked the store or were refused memory, in order. The first of a `Take` is the work on its message; the
-    /// others are those of transactions that waited.
+    /// The attempts that asked the store or in which an allocation failed, in order. The first of a `Take` is the work on its
+    /// message; the others are those of transactions that waited.
     pub outcomes: Vec<Attempt>,
 }
 
@@ -85,8 +84,8 @@ pub enum StepFault {
     /// 64 sessions are open, or no serial is left: the last one is 2^64-2.
     #[error("too many sessions")]
     TooMany,
-    /// Memory was refused for a session that opens, or for a Tick while transactions wait. No other step answers it, since the
-    /// history has its room from the opening on.
+    /// An allocation failed for a session that opens, or for a `Tick` while transactions wait. No other step returns it,
+    /// since the history has its room from the opening on.
     #[error("out of memory")]
     Memory,
     /// The session is not open.
@@ -94,15 +93,15 @@ pub enum StepFault {
     NotOpen,
 }
 
-/// What a step answers.
+/// What a step returns.
 #[derive(Clone, Copy, Debug, PartialEq, Eq)]
 pub enum Stepped {
     /// The session that was opened.
     Opened(Session),
-    /// The event is entered; the session of a `Take` is open.
+    /// The event has been entered; the session of a `Take` is open.
     Done,
-    /// The session of the `Take` was closed, since memory was refused: for its message, or for one of its transactions that wait.
+    /// The session of the `Take` was closed because an allocation failed, for its message or for one of its waiting transactions.
     Closed,
-    /// Nothing is changed.
+    /// Nothing has changed.
     Refused(StepFault),
 }

@@ -9,7 +9,7 @@ use std::marker::Model;
 /// The most entries that are kept.
 const MOST_ENTRIES: usize = 4096;
 
-/// The newest entries, oldest first. Their room is taken once and for all, so that none takes memory later.
+/// The newest entries, oldest first. Their room is allocated once, so that no entry allocates later.
 #[derive(Drop)]
 pub struct History {
     entries: VecDeque<Entry>,
@@ -33,7 +33,7 @@ impl Model for History {
 }
 
 impl History {
-    /// No entry, with room for all that are ever kept.
+    /// Creates an empty history, with room for all entries that are ever kept.
     pub fn new(alloc: Global) -> Result<History, AllocError>
         ensures { IfOk result (λ h. h ≡ []) }
     {
@@ -42,7 +42,7 @@ impl History {
         })
     }
 
-    /// Puts an entry behind the others. Where there are as many as are kept, the oldest goes.
+    /// Appends an entry. If there are already as many as are kept, the oldest goes.
     pub fn push(&mut self, entry: Entry)
         ensures { self.new ≡ newest (self.old ++ entry ∷ []) }
     {
@@ -52,7 +52,7 @@ impl History {
         self.entries.push_back_reserved(entry);
     }
 
-    /// The entries, to be read.
+    /// The entries.
     pub fn entries(&self) -> &VecDeque<Entry>
         ensures { result.now.items ≡ self.now }
     {

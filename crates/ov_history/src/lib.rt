@@ -1,5 +1,5 @@
-//! What happens to the machine, what it answers, and the newest entries of its history, each of an event with what the outside
-//! chose for it (our own, over RFC 7047, 4). No event is worked on here. What names no source is our own.
+//! What happens to the machine, what it answers, and the newest entries of its history, each an event with what the outside
+//! chose for it (RFC 7047, 4). No event is handled here.
 #![tactic(auto)]
 
 mod entry;

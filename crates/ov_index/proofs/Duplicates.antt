@@ -1,4 +1,4 @@
--- Two rows are alike in an index where they stand at one key.
+-- Two rows are alike in an index if they are at one key.
 use Rattle.std.proofs.Common.{◌≡◌, ℕ, zero, suc, List, [], ◌∷◌, Bool, true, false, ◌&&◌, ◌||◌, Option, Some, None, is_some, refl, sym, ap, subst, ◌∙◌}
 use Rattle.std.specs.Prelude.{slice_get}
 use Rattle.std.proofs.lemmas.Bool.{and_parts, and_from, or_left, or_right}
@@ -55,7 +55,7 @@ module _ (r s : Columns) where
       by (Some a) None same others = cc
       by None (Some b) same others = cc
 
-  -- and the other way round, where each has a value where the other has one
+  -- and the other way round, if each has a value where the other has one
   values_same : ((name : List ℕ) → is_some (get r name) ≡ is_some (get s name)) → (index : List (List ℕ)) → values_in index r ≡ values_in index s → list_all same_in index ≡ true
   values_same both [] same = refl
   values_same both (name ∷ names) same = by (get r name) (get s name) (both name) same (values_same both names)
@@ -108,7 +108,7 @@ of_number test (x ∷ xs) (suc number) index at is = or_right (test x) (list_any
 
 -- ---- two rows at one key
 
--- two rows of different identifiers stand at a key
+-- two rows of different identifiers are at a key
 pub record AreShared (schema : Schema) (rows : Database) (key : IndexKey) (a b : Uuid) (r s : Row) : Type 0 where
   pub differ : bytes_eq a b ≡ false
   pub at_a : get rows (key.table, a) ≡ Some r
@@ -121,7 +121,7 @@ abbrev pub IsShared : Schema → Database → Type 0
 IsShared schema rows = (key : IndexKey) × (a : Uuid) × (b : Uuid) × (r : Row) × (s : Row) × AreShared schema rows key a b r s
 
 module _ (schema : Schema) (rows : Database) where
-  -- where a row stands, by the table and the index
+  -- the keys of a row, by the table and the index
   place_is : (at : LineKey) (columns : Columns) (key : IndexKey) → stands_at schema at columns key ≡ true
       → (table : Table) × (index : List (List ℕ)) × (get schema.tables at.0 ≡ Some table) × (slice_get table.indexes key.number ≡ Some index) × (same_index_key (key_at at.0 key.number index columns) key ≡ true)
   place_is at columns key is =
@@ -152,7 +152,7 @@ module _ (schema : Schema) (rows : Database) where
       by false is = is
       by true is = absurd (contradicts (bytes_eq a b) ((bytes_eq-Decides a b).1 (ap (λ (k : LineKey). k.1) (tied_same (name, a) (name, b) is))) differ)
 
-  -- two rows that are alike stand at one key
+  -- two rows that are alike are at one key
   pub alike_shared : are_any_alike schema rows ≡ true → IsShared schema rows
   alike_shared any = of_table found.0 found.1 found.2 found.3
     where
@@ -182,7 +182,7 @@ module _ (schema : Schema) (rows : Database) where
           let one = numbered (λ index. has_two_alike index (rows_of name rows)) table.indexes twice in
           of_two name table in_schema one.0 one.1 one.2 (two_alike rows name one.1 one.3)
 
-  -- and the other way round, where they are rows of the schema
+  -- and the other way round, if they are rows of the schema
   pub shared_alike : (key : IndexKey) (a b : Uuid) (r s : Row) → SuitsRow schema (key.table, a) r → SuitsRow schema (key.table, b) s → AreShared schema rows key a b r s → are_any_alike schema rows ≡ true
   shared_alike key a b r s suits_r suits_s shared =
       entry_is_any name_cmp name_cmp_total name_exact (has_duplicates rows) schema.tables name table place_a.2

@@ -48,7 +48,7 @@ module _ (ids : List Uuid) (h : Ascend ids) where
   pub len-set_of : len (set_of_ids ids) ≡ length ids
   len-set_of = len-entries (set_of_ids ids) ∙ ap length (entries-from_sorted id_cmp (map marked ids) h) ∙ as_many ids
 
--- an identifier with nothing under it
+-- an identifier without a value
 abbrev kept : Bool → Option (Unit {0})
 kept b = cond b (Some tt) None
 
@@ -78,7 +78,7 @@ neighbours (x ∷ y ∷ rest) h (suc k) d low high =
     let step : suc (k + 1) ≡ suc k + 1 = omega arith in
     subst (λ n. is_lt (id_cmp (slice_index_or (x ∷ y ∷ rest) n d) (slice_index_or (y ∷ rest) k d)) ≡ false) step (neighbours (y ∷ rest) (right_holds _ _ h) k d (omega arith) (omega (arith, high)))
 
--- what is below all of them is none of them, and is below each
+-- what is below all of them is not among them, and is below each
 none_below : (k : Uuid) (ids : List Uuid) → T (below_all id_cmp k (map marked ids)) → among ids k ≡ false
 none_below k [] h = refl
 none_below k (x ∷ xs) h = ap (λ o. is_eq o || among xs k) (below_first k x xs h) ∙ none_below k xs (right_holds _ _ h)
@@ -250,7 +250,7 @@ pub ascend-try : (b : Bool) (ids new : List Uuid) (id : Uuid) (place : ℕ) → 
 ascend-try true ids new id place h at is = subst Ascend (sym is) (ascend-insert ids h id place at)
 ascend-try false ids new id place h at is = subst Ascend (sym is) h
 
--- a search tells whether the identifier is one of them
+-- a search says whether the identifier is one of them
 pub contains-searched : (ids searched : List Uuid) (id : Uuid) (r : Result ℕ ℕ) → Ascend ids → searched ≡ ids → IsSearchInRange r (length searched) → IsBinarySearchResult (λ (y : Uuid). id_cmp y id) searched r
     → is_ok r ≡ contains_key (set_of_ids ids) id
 contains-searched ids searched id (Ok place) h same within at = sym (contains-found ids h id place (searched_found ids searched id place h same within at))

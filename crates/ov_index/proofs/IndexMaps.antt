@@ -1,4 +1,4 @@
--- The map of the code as that of the definitions, and what one entry more or less makes of it.
+-- The map of the code as that of the definitions, and what one entry more or less does to it.
 use Rattle.std.proofs.Common.{◌≡◌, List, [], Bool, true, false, cond, T, Option, Some, None, refl, sym, ap, ◌∙◌}
 use Rattle.std.specs.Prelude.{unwrap_or, Result, Ok, Err, IfOk}
 use Rattle.std.specs.BTreeMap.{is_at, insert_entry}
@@ -62,7 +62,7 @@ module _ (es es' : Entries) (e : IndexEntry) (h : T (is_sorted index_cmp es)) (h
       by q false is_not = rw is_not refl
       by q true tied = rw tied (ap (λ set. Some set) same ∙ is ∙ ap (λ k. set_at k es) (index_exact e.key q (equal_is _ tied)))
 
--- there is nothing to take out where there is no such key
+-- there is nothing to take out if there is no such key
 pub lacking-none : (es : Entries) (e : IndexEntry) → T (is_sorted index_cmp es) → None ≡ set_at e.key es → indexes_of es ≡ lacking (get (indexes_of es) e.key) e (indexes_of es)
 lacking-none es e h none = ap (λ o. lacking o e (indexes_of es)) (none ∙ sym (get-indexes_of es e.key h))
 
@@ -74,7 +74,7 @@ without_none-goes key indexes is = ap (λ b. cond b (remove indexes key) indexes
 pub without_none-stays : (key : IndexKey) (indexes : Indexes) → has_none (get indexes key) ≡ false → indexes ≡ without_none key indexes
 without_none-stays key indexes is = ap (λ b. cond b (remove indexes key) indexes) (sym is)
 
--- what stands at a key tells whether a row does
+-- the rows at a key say whether a row is among them
 pub indexed-at : (es : Entries) (key : IndexKey) (id : Uuid) → T (is_sorted index_cmp es) → (found : Option IdSet) → found ≡ set_at key es → is_some_and (λ ids. contains_key ids id) found ≡ is_indexed (indexes_of es) key id
 indexed-at es key id h found is = ap (is_some_and (λ ids. contains_key ids id)) (is ∙ sym (get-indexes_of es key h))
 

@@ -1,4 +1,4 @@
--- Which rows stand at which keys after entries were put or taken out.
+-- Which rows are at which keys after entries were added or removed.
 use Rattle.std.proofs.Common.{◌≡◌, List, [], ◌∷◌, Bool, true, false, cond, ◌&&◌, ◌||◌, not, Option, Some, None, is_some, refl, sym, ap, ◌∙◌}
 use Rattle.std.specs.Prelude.{unwrap_or}
 use Rattle.std.specs.Cmp.{eq_by_cmp_equiv}
@@ -27,11 +27,11 @@ same_key-itself a = (eq_by_cmp_equiv index_total).refl a
 pub same_key-turned : (a b : IndexKey) → same_index_key a b ≡ same_index_key b a
 same_key-turned a b = (eq_by_cmp_equiv index_total).symm a b
 
--- identifiers are the same where the order ties them
+-- identifiers are the same if the order ties them
 id_tied : (a b : Uuid) → eq_by_cmp id_cmp a b ≡ bytes_eq b a
 id_tied a b = (eq_by_cmp_equiv name_cmp_total).symm a b ∙ sym (texts_ties b a)
 
--- no row stands anywhere
+-- no row is at any key
 pub none_indexed : (key : IndexKey) (id : Uuid) → is_indexed empty key id ≡ false
 none_indexed key id = ap (is_some_and (λ (ids : IdSet). contains_key ids id)) (get-empty index_cmp key)
 
@@ -67,7 +67,7 @@ module _ (indexes : Indexes) (e : IndexEntry) (key : IndexKey) (id : Uuid) where
       ap is_some (get-insert name_cmp_total (ids_at indexes e.key) e.id tt id) ∙ given_or (eq_by_cmp id_cmp id e.id) (get (ids_at indexes e.key) id)
       ∙ (λ i. in_empty (get indexes e.key) id i || id_tied id e.id i)
 
-  -- the row of the entry stands at its key besides
+  -- the row of the entry is at its key in addition
   pub indexed-with : is_indexed (with_entry e indexes) key id ≡ (is_indexed indexes key id || is_entry key id e)
   indexed-with = ap stands_in (get-insert index_total indexes e.key (insert (ids_at indexes e.key) e.id tt) key) ∙ turn (eq_by_cmp index_cmp key e.key) refl
     where
@@ -105,7 +105,7 @@ module _ (indexes : Indexes) (e : IndexEntry) (key : IndexKey) (id : Uuid) where
           ∙ (λ i. sym (here (Some set) has is) i && not (sym (same_at true is) i && id_tied id e.id i))
       turn (Some set) has false is = less set false is ∙ beside is
 
--- a key that no row stands at
+-- a key without rows
 module _ (indexes : Indexes) (at : IndexKey) (key : IndexKey) (id : Uuid) where
   abbrev found_in : Option IdSet → Bool
   found_in o = is_some_and (λ set. contains_key set id) o
@@ -125,7 +125,7 @@ module _ (indexes : Indexes) (at : IndexKey) (key : IndexKey) (id : Uuid) where
       by true none = ap found_in (get-remove index_total indexes at key) ∙ turn none (eq_by_cmp index_cmp key at) refl
       by false some = refl
 
--- all rows stand where they stood, but this one
+-- all rows are where they were, except this one
 pub indexed-without : (indexes : Indexes) (e : IndexEntry) (key : IndexKey) (id : Uuid) → is_indexed (without_entry e indexes) key id ≡ (is_indexed indexes key id && not (is_entry key id e))
 indexed-without indexes e key id = indexed-without_none (lacking (get indexes e.key) e indexes) e.key key id ∙ indexed-lacking indexes e key id
 

@@ -1,4 +1,5 @@
--- Rows that are alike are found by keys with two rows: in all indexes, or in those of the changed rows beside those before.
+-- Rows that are alike are found by keys with two rows: in all indexes, or in those of the changed rows together with those
+-- before.
 use Rattle.std.proofs.Common.{◌≡◌, ◌==◌, List, [], ◌∷◌, Bool, true, false, cond, T, ◌||◌, not, Option, Some, None, is_some, nat_lt, refl, sym, ap, ◌∙◌}
 use Rattle.std.specs.Prelude.{unwrap_or}
 use Rattle.std.proofs.lemmas.Bool.{or_left, or_right, not_from_false}
@@ -58,7 +59,7 @@ shared_is_alike schema rows suits (key, a, b, r, s, shared) = shared_alike schem
 
 -- ---- all rows
 
--- two rows are alike where a key has two
+-- two rows are alike if a key has two
 pub two_alike_at : (schema : Schema) (rows : Database) (indexes : Indexes) → AreIndexesOf schema rows indexes → Suits schema rows → has_two (entries indexes) ≡ are_any_alike schema rows
 two_alike_at schema rows indexes are suits = same_truth (has_two (entries indexes)) (are_any_alike schema rows) there back
   where
@@ -141,7 +142,7 @@ module _ (schema : Schema) (indexes : Indexes) (changes : Changes) (sorted : T (
       indexed-with_changes schema changes empty key id ∙ ap (λ b. b || list_any (makes schema key id) changes) (none_indexed key id)
       ∙ made_is schema before changes sorted key id ∙ ap (is_some_and (is_row schema key id)) (sym (get-from_sorted line_cmp changes (key.table, id) sorted))
 
-  -- a row that a change puts at a key stands there after the changes
+  -- a row that a change puts at a key is there after the changes
   put_after : (key : IndexKey) (id : Uuid) → is_indexed changed key id ≡ true → (is_some (change_at (key.table, id)) ≡ true) × RowAt schema after key id
   put_after key id is =
       let one = some_and_is (is_row schema key id) (change_at (key.table, id)) (sym (kept_is key id) ∙ is) in
@@ -152,13 +153,13 @@ module _ (schema : Schema) (indexes : Indexes) (changes : Changes) (sorted : T (
   none_is None h = refl
   none_is (Some x) h = cc
 
-  -- one that stood at a key and is not changed stands there after them
+  -- one that was at a key and is not changed is there after them
   stays_after : (key : IndexKey) (id : Uuid) → is_indexed indexes key id ≡ true → is_some (change_at (key.table, id)) ≡ false → RowAt schema after key id
   stays_after key id is still =
       let row = row_at schema before key id (sym (are key id) ∙ is) in
       (row.0, is_after (key.table, id) ∙ ap (λ o. unwrap_or o (get before (key.table, id))) (none_is (change_at (key.table, id)) still) ∙ row.1, row.2)
 
-  -- a row after the changes was put by one, or it stood there before
+  -- a row after the changes was put by one of them, or it was there before
   from_after : (key : IndexKey) (id : Uuid) (row : Row) → get after (key.table, id) ≡ Some row → is_at schema ((key.table, id), row) key ≡ true
       → (b : Bool) → is_some (change_at (key.table, id)) ≡ b → cond b (is_indexed changed key id ≡ true) ((is_indexed indexes key id ≡ true) × (get before (key.table, id) ≡ Some row))
   from_after key id row has is true touched =
@@ -213,7 +214,7 @@ module _ (schema : Schema) (indexes : Indexes) (changes : Changes) (sorted : T (
           let still = not_is (is_some (change_at (key.table, other.0))) other.2 in
           two_apart schema after key one.0 other.0 (differ_by key one.0 other.0 put.0 still) put.1 (stays_after key other.0 (kept_at key other.0 other.1) still)
 
-  -- a key at which a changed row stands, with one more
+  -- a key with a changed row and one more
   both_put : (key : IndexKey) (a b : Uuid) → bytes_eq a b ≡ false → is_indexed changed key a ≡ true → is_indexed changed key b ≡ true → list_any (is_shared indexes changes) (entries changed) ≡ true
   both_put key a b differ put_a put_b =
       let in_a = in_kept changed key a put_a in
@@ -250,7 +251,7 @@ module _ (schema : Schema) (indexes : Indexes) (changes : Changes) (sorted : T (
           (shared_alike schema before key a b r s (suits (key.table, a) r shared.at_a) (suits (key.table, b) s shared.at_b) (record { differ = shared.differ; at_a = was_a; at_b = was_b; is_a = shared.is_a; is_b = shared.is_b }))
           none)
 
--- where no two were alike, it is asked of the keys of the changed rows whether two are
+-- if no two were alike, the keys of the changed rows say whether two are
 pub tells_alike : (schema : Schema) (indexes : Indexes) (changes : Changes) → T (is_sorted line_cmp changes) → TellsAlike schema indexes changes (list_any (is_shared indexes changes) (entries (with_changes schema changes empty)))
 tells_alike schema indexes changes sorted before after are none is_after suits = same_truth (list_any (is_shared indexes changes) (entries (with_changes schema changes empty))) (are_any_alike schema after) there back
   where

@@ -1,4 +1,4 @@
--- What holds of some entry of a map, and what stands at its key.
+-- What holds of some entry of a map, and what is at its key.
 use Rattle.std.proofs.Common.{◌≡◌, ℕ, List, [], ◌∷◌, Bool, true, false, cond, T, ◌||◌, Option, Some, None, refl, sym, ap, subst, ◌∙◌}
 use Rattle.std.proofs.lemmas.Bool.{or_left, or_right}
 use Rattle.std.proofs.lemmas.Option.{same_Some}
@@ -75,7 +75,7 @@ module _ {K X : Type 0} (R : K → K → Ordering) (total : IsTotalOrder R) (exa
             or_left (test e) (list_any test es) (subst (λ (p : K × X). test p ≡ true) (λ i. (tied_is R exact key e.0 tied i, same_Some x e.1 (sym found) i)) is)
         by false tied found others = or_right (test e) (list_any test es) (others found)
 
-    -- where an entry passes the test, one that passes stands at some key
+    -- if an entry passes the test, an entry at some key passes it
     pub any_entry_is : (m : FinMap R X) → list_any test (entries m) ≡ true → (key : K) × (x : X) × (get m key ≡ Some x) × (test (key, x) ≡ true)
     any_entry_is m any =
         let found : SomeFound (entries m) = any_found (entries m) (entries_sorted m) any in
@@ -85,7 +85,7 @@ module _ {K X : Type 0} (R : K → K → Ordering) (total : IsTotalOrder R) (exa
     pub entry_is_any : (m : FinMap R X) (key : K) (x : X) → get m key ≡ Some x → test (key, x) ≡ true → list_any test (entries m) ≡ true
     entry_is_any m key x has is = found_any (entries m) key x (sym (get-entries m key) ∙ has) is
 
--- ---- a list with names, of which the first of each stands
+-- ---- a list with names, of which the first of each counts
 
 module _ {X : Type 0} (test : List ℕ → X → Bool) (items : List (List ℕ × X)) where
   abbrev by_name : List ℕ × X → Bool

@@ -1,4 +1,4 @@
--- Entries that are put for changes of rows, and those that go with them.
+-- Entries that are added for changes of rows, and those that go with them.
 use Rattle.std.proofs.Common.{◌≡◌, List, [], ◌∷◌, ◌++◌, Bool, true, false, T, ◌&&◌, ◌||◌, not, Option, Some, None, refl, sym, ap, ◌∙◌}
 use Rattle.std.specs.Prelude.{unwrap_or}
 use Rattle.std.specs.FinMap.{find, is_sorted, get, get-from_sorted}
@@ -27,7 +27,7 @@ any-append test (x ∷ xs) ys = ap (λ b. test x || b) (any-append test xs ys) �
 
 -- ---- one entry
 
--- what holds of the key and the row of an entry holds where the entry is
+-- what holds of the key and the row of an entry holds if the entry is there
 at_entry : (test : IndexKey → Uuid → Bool) (e : IndexEntry) (key : IndexKey) (id : Uuid) → is_entry key id e ≡ true → test e.key e.id ≡ test key id
 at_entry test e key id is =
     let both = and_parts (same_index_key e.key key) (bytes_eq e.id id) is in
@@ -144,7 +144,7 @@ makes schema key id c = has_entry key id (entries_of_row schema c.0 c.1)
 abbrev unmakes : Schema → Database → IndexKey → Uuid → LineKey × Option Row → Bool
 unmakes schema rows key id c = has_entry key id (entries_of_row schema c.0 (get rows c.0)) && not (makes schema key id c)
 
--- what the changes that are left make besides what is there, and what they take away besides what goes
+-- what the remaining changes add to what is there, and what they take away in addition to what goes
 pub record ArePlacedTo (schema : Schema) (rows : Database) (left : Changes) (now : Indexes) (gone : List IndexEntry) (all : Changes) (before : Indexes) : Type 0 where
   pub made : (key : IndexKey) (id : Uuid) → (is_indexed now key id || list_any (makes schema key id) left) ≡ (is_indexed before key id || list_any (makes schema key id) all)
   pub unmade : (key : IndexKey) (id : Uuid) → (has_entry key id gone || list_any (unmakes schema rows key id) left) ≡ list_any (unmakes schema rows key id) all
@@ -167,7 +167,7 @@ placed-next schema rows c left all before now after gone more old new so is_new 
       ∙ or_three (has_entry key id gone) (unmakes schema rows key id c) (list_any (unmakes schema rows key id) left) ∙ so.unmade key id;
 }
 
--- without the entries that were listed, the indexes are those that they were
+-- without the listed entries, the indexes are what they were
 pub back_is : (schema : Schema) (rows : Database) (before now : Indexes) (added : List IndexEntry) → AreIndexesOf schema rows before → IsSameWithout [] before added now → AreIndexesOf schema rows (without_entries added now)
 back_is schema rows before now added are same key id = indexed-without_entries added now key id ∙ same key id ∙ sym (and_true (is_indexed before key id)) ∙ are key id
 

@@ -1,4 +1,4 @@
--- The keys at which a row stands, as they are collected, and the rows that are collected of a list.
+-- The keys of a row, as they are collected, and the rows that are collected from a list.
 use Rattle.std.proofs.Common.{◌≡◌, ◌+◌, ◌<◌, ℕ, zero, suc, List, [], ◌∷◌, ◌++◌, Bool, true, false, cond, T, ◌&&◌, ◌||◌, not, Option, Some, None, refl, sym, ap, ◌∙◌, arith}
 use Rattle.std.specs.Prelude.{slice_get}
 use Rattle.std.specs.FinMap.{find, is_sorted, empty, get, entries, entries_sorted, get-entries}
@@ -30,7 +30,7 @@ differ a b apart = by (same_index_key a b) refl
     by false is = is
 
 module _ (name : List ℕ) (of : Uuid) (columns : Columns) (key : IndexKey) (id : Uuid) where
-  -- in the index of the key's number the row stands at the key
+  -- in the index of the key's number, the row is at the key
   abbrev is_there : List (List ℕ) → Bool
   is_there index = same_index_key (key_at name key.number index columns) key
 
@@ -55,7 +55,7 @@ module _ (name : List ℕ) (of : Uuid) (columns : Columns) (key : IndexKey) (id 
       ap (λ b. (b && bytes_eq of id) || has_entry key id (entries_from (n + 1) name indexes of columns)) (differ (key_at name n index columns) key (λ same. omega (arith, at, same)))
       ∙ by_number m (n + 1) indexes (omega (arith, at))
 
--- an entry of the row is that of the key where the row stands there
+-- the row has an entry at the key if it is at the key
 pub entry_is : (schema : Schema) (at : LineKey) (columns : Columns) (key : IndexKey) (id : Uuid)
     → has_entry key id (entries_in (get schema.tables at.0) at columns) ≡ (stands_at schema at columns key && bytes_eq at.1 id)
 entry_is schema at columns key id = by (get schema.tables at.0)
@@ -71,7 +71,7 @@ both_turned true false = refl
 both_turned false true = refl
 both_turned false false = refl
 
--- where a row stands at a key, it is of the key's table
+-- a row at a key is of the key's table
 table_is : (schema : Schema) (at : LineKey) (columns : Columns) (key : IndexKey) → stands_at schema at columns key ≡ true → at.0 ≡ key.table
 table_is schema at columns key = by (get schema.tables at.0)
   where
@@ -84,7 +84,7 @@ table_is schema at columns key = by (get schema.tables at.0)
     by (Some table) h = in_index (slice_get table.indexes key.number) h
 
 module _ (schema : Schema) (key : IndexKey) (id : Uuid) where
-  -- the row that there is, if there is one, stands at the key
+  -- the row, if there is one, is at the key
   abbrev pub is_row : Option Row → Bool
   is_row o = is_some_and (λ row. is_at schema ((key.table, id), row) key) o
 
@@ -116,7 +116,7 @@ module _ (schema : Schema) (key : IndexKey) (id : Uuid) where
   row_entry at None = sym (both_turned (eq_by_cmp line_cmp (key.table, id) at) false)
   row_entry at (Some row) = entry_is schema at row.columns key id ∙ entry_at at row.columns
 
--- ---- what stands at a key in an ascending list
+-- ---- what is at a key in an ascending list
 
 module _ {X : Type 0} (test : X → Bool) (q : LineKey) where
   none_behind : (key : LineKey) (es : List (LineKey × X)) → T (below_all line_cmp key es) → find line_cmp key es ≡ None

@@ -47,7 +47,7 @@ found_first : (r : LineKey × Row) (rs : List (LineKey × Row)) → find line_cm
 found_first r rs = ap (λ b. cond b (Some r.1) (find line_cmp r.0 rs)) (same_tied r.0 r.0 refl)
 
 module _ (index : List (List ℕ)) where
-  -- two different keys at which rows are found that are alike
+  -- two different keys with rows that are alike
   abbrev TwoFound : List (LineKey × Row) → Type 0
   TwoFound rs =
       (a : LineKey) × (r : Row) × (b : LineKey) × (s : Row) × (find line_cmp a rs ≡ Some r) × (find line_cmp b rs ≡ Some s) × (same_line a b ≡ false)
@@ -76,7 +76,7 @@ module _ (index : List (List ℕ)) where
   found_two (x ∷ rs) (a, r, b, s, at_a, at_b, differ, alike) =
       by (eq_by_cmp line_cmp a x.0) (eq_by_cmp line_cmp b x.0) refl refl at_a at_b (λ here there. found_two rs (a, r, b, s, here, there, differ, alike))
     where
-      -- the first one is alike with one behind it
+      -- the first one is alike with a later one
       first : (key : LineKey) (row : Row) (other : LineKey) (later : Row) → eq_by_cmp line_cmp key x.0 ≡ true → Some x.1 ≡ Some row → find line_cmp other rs ≡ Some later → are_alike index (key, row) (other, later) ≡ true
           → (list_any (are_alike index x) rs || has_two_alike index rs) ≡ true
       first key row other later tied at found are =
@@ -94,7 +94,7 @@ module _ (index : List (List ℕ)) where
 
 -- ---- two rows of a table
 
--- two different keys of the table at which rows stand that are alike
+-- two different keys of the table with rows that are alike
 abbrev pub TwoAlike : Database → List ℕ → List (List ℕ) → Type 0
 TwoAlike rows name index =
     (a : LineKey) × (r : Row) × (b : LineKey) × (s : Row) × (a.0 ≡ name) × (get rows a ≡ Some r) × (b.0 ≡ name) × (get rows b ≡ Some s) × (same_line a b ≡ false)
@@ -119,7 +119,7 @@ module _ (rows : Database) (name : List ℕ) where
   row_is : (key : LineKey) (row : Row) → key.0 ≡ name → get rows key ≡ Some row → find line_cmp key (rows_of name rows) ≡ Some row
   row_is key row of_table has = find-rows_of key ∙ ap (λ b. cond b (get rows key) None) ((bytes_eq-Decides key.0 name).1 of_table) ∙ has
 
-  -- where two rows of the table are alike, they stand at different keys
+  -- two rows of the table that are alike have different keys
   pub two_alike : (index : List (List ℕ)) → has_two_alike index (rows_of name rows) ≡ true → TwoAlike rows name index
   two_alike index two =
       let found = two_found index (rows_of name rows) (is_sorted-where_key line_cmp is_of_table (entries rows) (entries_sorted rows)) two in

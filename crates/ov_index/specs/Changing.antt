@@ -1,4 +1,4 @@
--- What changes of rows make of indexes. What names no source is our own.
+-- What changes of rows do to the indexes.
 use Rattle.std.specs.Prelude.{◌≡◌, false, List, Option, Bool}
 use Rattle.std.specs.FinMap.{entries}
 use Rattle.std.specs.List.{list_any}
@@ -15,11 +15,11 @@ use Rattle.ov_specs.specs.schema.SchemaTypes.{Schema}
 abbrev pub are_any_alike : Schema → Database → Bool
 are_any_alike schema rows = list_any (has_duplicates rows) (entries schema.tables)
 
--- without the entries that have gone, the indexes are those of the rows after the changes
+-- without the entries that go, the indexes are those of the rows after the changes
 abbrev pub IsPlaced : Schema → List (LineKey × Option Row) → Database → List IndexEntry → Indexes → Type 0
 IsPlaced schema changes before gone indexes = (after : Database) → IsAfter changes before after → AreIndexesOf schema after (without_entries gone indexes)
 
--- where the indexes are those of rows of which no two are alike, this is whether two rows are after the changes
+-- if the indexes are those of rows with no two alike, this says whether two rows are alike after the changes
 abbrev pub TellsAlike : Schema → Indexes → List (LineKey × Option Row) → Bool → Type 0
 TellsAlike schema indexes changes alike =
     (before after : Database) → AreIndexesOf schema before indexes → are_any_alike schema before ≡ false → IsAfter changes before after → Suits schema after

@@ -1,4 +1,4 @@
--- How entries of indexes are collected row by row; for private clauses. What names no source is our own.
+-- How entries of indexes are collected row by row; for private clauses.
 use Rattle.std.specs.Prelude.{◌≡◌, ℕ, ◌+◌, nat_lt, ◌&&◌, ◌||◌, not, List, [], ◌∷◌, Bool, Option, Some, None}
 use Rattle.std.specs.FinMap.{get, insert, len, keys, contains_key, from_sorted}
 use Rattle.std.specs.List.{list_any}
@@ -19,12 +19,12 @@ is_entry key id e = same_index_key e.key key && bytes_eq e.id id
 abbrev pub has_entry : IndexKey → Uuid → List IndexEntry → Bool
 has_entry key id = list_any (is_entry key id)
 
--- the entries of a row of these columns in indexes of the table of this name, the first of which has this number
+-- the entries of a row with these columns in indexes of the table of this name, the first of which has this number
 abbrev pub entries_from : ℕ → List ℕ → List (List (List ℕ)) → Uuid → Columns → List IndexEntry
 entries_from number name [] id columns = []
 entries_from number name (index ∷ indexes) id columns = record { key = key_at name number index columns; id = id } ∷ entries_from (number + 1) name indexes id columns
 
--- its entries in all indexes of the table, where there is such a table
+-- its entries in all indexes of the table, if there is such a table
 abbrev pub entries_in : Option Table → LineKey → Columns → List IndexEntry
 entries_in None key columns = []
 entries_in (Some table) key columns = entries_from 0 key.0 table.indexes key.1 columns
@@ -54,29 +54,29 @@ has_indexes table = is_some_and (λ t. not (is_empty t.indexes)) table
 
 -- ---- entries that are put and listed
 
--- without the entries that are listed, the same rows stand at the same keys
+-- without the listed entries, the same rows are at the same keys
 abbrev pub IsSameWithout : List IndexEntry → Indexes → List IndexEntry → Indexes → Type 0
 IsSameWithout added indexes more after = (key : IndexKey) (id : Uuid) → (is_indexed after key id && not (has_entry key id more)) ≡ (is_indexed indexes key id && not (has_entry key id added))
 
--- with these entries beside those that were there
+-- with these entries in addition to those that were there
 abbrev pub AreAdded : List IndexEntry → Indexes → Indexes → Type 0
 AreAdded more indexes after = (key : IndexKey) (id : Uuid) → is_indexed after key id ≡ (is_indexed indexes key id || has_entry key id more)
 
--- listed are those besides, that are old and not new
+-- the old entries that are not new are listed in addition
 abbrev pub AreMoreGone : List IndexEntry → List IndexEntry → List IndexEntry → List IndexEntry → Type 0
 AreMoreGone old new gone more = (key : IndexKey) (id : Uuid) → has_entry key id more ≡ (has_entry key id gone || (has_entry key id old && not (has_entry key id new)))
 
 -- ---- keys with two rows
 
--- there is such a key
+-- some key has two rows
 abbrev pub has_two : List (IndexKey × IdSet) → Bool
 has_two = list_any (λ e. nat_lt 1 (len e.1))
 
--- the indexes have a row at the key that is none of the changed ones
+-- the indexes have a row at the key that is not changed
 abbrev pub has_unchanged : Indexes → List (LineKey × Option Row) → IndexKey → Bool
 has_unchanged indexes changes key = list_any (λ id. not (contains_key (from_sorted {R = line_cmp} changes) (key.table, id))) (keys (ids_at indexes key))
 
--- two rows stand at the key: both changed, or one of them
+-- the key has two rows, both changed or one of them
 abbrev pub is_shared : Indexes → List (LineKey × Option Row) → IndexKey × IdSet → Bool
 is_shared indexes changes e = nat_lt 1 (len e.1) || has_unchanged indexes changes e.0
 

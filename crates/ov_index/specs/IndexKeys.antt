@@ -1,4 +1,4 @@
--- The places in indexes at which rows stand, and their order. What names no source is our own.
+-- The keys of rows in indexes, and their order.
 use Rattle.std.specs.Prelude.{ℕ, Bool, List, refl}
 use Rattle.std.specs.Coded.{Coded, code_by, coded×, coded_ℕ, coded_list}
 use Rattle.std.specs.Cmp.Lexicographic.{slice_cmp}
@@ -17,7 +17,7 @@ pub record IndexKey : Type 0 where
   pub number : ℕ
   pub values : List Datum
 
--- keys in order: by the values, one after another, then by the number, then by the bytes of the table's name
+-- the order of keys: by the values, one by one, then by the number, then by the bytes of the table's name
 abbrev pub index_cmp : IndexKey → IndexKey → Ordering
 index_cmp a b = ordering_then (slice_cmp datum_cmp a.values b.values) (ordering_then (nat_cmp a.number b.number) (slice_cmp nat_cmp a.table b.table))
 
@@ -29,11 +29,11 @@ same_index_key a b = eq_by_cmp index_cmp a b
 abbrev pub values_in : List (List ℕ) → Columns → List Datum
 values_in index columns = filter_map (λ name. get columns name) index
 
--- where columns of a row of the table of this name stand in the index of this number
+-- the key of a row with these columns in the index of this number of the table of this name
 abbrev pub key_at : List ℕ → ℕ → List (List ℕ) → Columns → IndexKey
 key_at table number index columns = record { table = table; number = number; values = values_in index columns }
 
--- a key, and the identifier of a row that stands there
+-- a key, and the identifier of a row at it
 pub record IndexEntry : Type 0 where
   pub key : IndexKey
   pub id : Uuid

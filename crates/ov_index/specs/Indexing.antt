@@ -1,4 +1,4 @@
--- Rows by their values in the indexes of their tables, as a map. What names no source is our own.
+-- Rows by their values in the indexes of their tables, as a map.
 use Rattle.std.specs.Prelude.{◌≡◌, ◌==◌, List, [], ◌∷◌, map, Bool, if◌then◌else◌, Option, Some, None, slice_get, unwrap_or}
 use Rattle.std.specs.Coded.{Coded, coded_ℕ, coded_list}
 use base.Stored.{coded_unit}
@@ -16,7 +16,7 @@ use Rattle.ov_specs.specs.values.Uuid.{Uuid}
 abbrev pub IdSet : Type 0
 IdSet = FinMap id_cmp (Unit {0})
 
--- for each key the rows that stand there
+-- for each key, the rows at it
 abbrev pub Indexes : Type 0
 Indexes = FinMap index_cmp IdSet
 
@@ -28,33 +28,33 @@ ids_at indexes key = unwrap_or (get indexes key) empty
 abbrev pub is_indexed : Indexes → IndexKey → Uuid → Bool
 is_indexed indexes key id = is_some_and (λ ids. contains_key ids id) (get indexes key)
 
--- ---- of which rows they are
+-- ---- which rows they are of
 
--- a row of these columns stands at the key: its table has an index of the key's number, and there the values are those of the key
+-- a row with these columns is at the key: its table has an index of the key's number, where the row has the key's values
 abbrev pub stands_at : Schema → LineKey → Columns → IndexKey → Bool
 stands_at schema at columns key =
     is_some_and (λ table. is_some_and (λ index. same_index_key (key_at at.0 key.number index columns) key) (slice_get table.indexes key.number)) (get schema.tables at.0)
 
--- the row stands at the key
+-- the row is at the key
 abbrev pub is_at : Schema → LineKey × Row → IndexKey → Bool
 is_at schema r key = stands_at schema r.0 r.1.columns key
 
--- there is a row of this identifier in the key's table, and it stands at the key
+-- the key's table has a row of this identifier, and it is at the key
 abbrev pub is_in : Schema → Database → IndexKey → Uuid → Bool
 is_in schema rows key id = is_some_and (λ row. is_at schema ((key.table, id), row) key) (get rows (key.table, id))
 
--- just the rows that stand at a key are kept there
+-- the indexes keep at each key exactly the rows that are at it
 abbrev pub AreIndexesOf : Schema → Database → Indexes → Type 0
 AreIndexesOf schema rows indexes = (key : IndexKey) (id : Uuid) → is_indexed indexes key id ≡ is_in schema rows key id
 
 -- ---- entries that are taken out
 
--- with the row of the entry taken out of those at its key
+-- without the row of the entry among those at its key
 abbrev pub lacking : Option IdSet → IndexEntry → Indexes → Indexes
 lacking None entry indexes = indexes
 lacking (Some ids) entry indexes = insert indexes entry.key (remove ids entry.id)
 
--- there is such a key, and no row there
+-- there is such a key, and it has no row
 abbrev pub has_none : Option IdSet → Bool
 has_none ids = is_some_and (λ set. len set == 0) ids
 

@@ -1,4 +1,4 @@
--- The order of keys of indexes is total, and only a key ties with itself.
+-- The order of index keys is total, and a key ties only with itself.
 use Rattle.std.specs.Prelude.{◌≡◌, refl}
 use Rattle.std.specs.Cmp.{IsTotalOrder, nat_cmp_total, on_total, then_total}
 use Rattle.std.specs.Cmp.Lexicographic.{lists_total, nat_list_cmp_total}

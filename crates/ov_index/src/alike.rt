@@ -14,7 +14,7 @@ use std::alloc::{AllocError, Global};
 use std::collections::BTreeMap;
 use uuid::Uuid;
 
-/// The indexes of the rows that the changes put, alone.
+/// The indexes of only the rows that the changes put.
 fn indexes_of(
     alloc: Global,
     schema: &Schema,
@@ -32,7 +32,7 @@ fn indexes_of(
     Ok(indexes)
 }
 
-/// Whether the row of this identifier in the table of this name is a changed one.
+/// Whether the row of this identifier in the table of this name is changed.
 fn is_changed(
     alloc: Global,
     changes: &BTreeMap<RowKey, Option<Row>>,
@@ -46,7 +46,7 @@ fn is_changed(
     Ok(changes.contains_key(&key))
 }
 
-/// Whether one of these rows of a table is none of the changed ones.
+/// Whether one of these rows of a table is not changed.
 fn is_any_unchanged(
     alloc: Global,
     changes: &BTreeMap<RowKey, Option<Row>>,
@@ -64,7 +64,7 @@ fn is_any_unchanged(
     Ok(false)
 }
 
-/// Whether a row that is not changed stands at the key.
+/// Whether the key has a row that is not changed.
 fn has_unchanged(
     alloc: Global,
     indexes: &Indexes,
@@ -80,7 +80,7 @@ fn has_unchanged(
     }
 }
 
-/// Whether the changes put two rows at a key, or one where a row stands that they do not change.
+/// Whether the changes put two rows at a key, or one at a key that has a row they do not change.
 fn is_shared(
     alloc: Global,
     indexes: &Indexes,
@@ -94,9 +94,9 @@ fn is_shared(
     Ok(1 < ids.len() || has_unchanged(alloc, indexes, changes, key)?)
 }
 
-/// Whether two rows of a table are alike in an index of it after the changes (RFC 7047, 3.2, `<table-schema>`, indexes). The
-/// indexes are those of the rows before them, of which no two are alike: a row that is changed is not compared with what it was.
-/// Only the rows that are changed are looked at.
+/// Whether two rows of a table are alike in one of its indexes after the changes (RFC 7047, 3.2, `<table-schema>`, indexes).
+/// The indexes must be those of the rows before the changes, with no two alike: a changed row is not compared with what it
+/// was. Examines only the changed rows.
 pub fn are_made_alike(
     alloc: Global,
     schema: &Schema,

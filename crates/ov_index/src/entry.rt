@@ -9,7 +9,7 @@ use std::alloc::{AllocError, Global};
 use std::marker::Model;
 use uuid::Uuid;
 
-/// A key, and a row that stands there.
+/// A key and a row at it.
 #[derive(Drop)]
 pub struct IndexEntry {
     pub key: IndexKey,
@@ -29,7 +29,7 @@ impl Model for IndexEntry {
 }
 
 impl IndexEntry {
-    /// The same entry.
+    /// A copy of the entry.
     pub(crate) fn copy(&self, alloc: Global) -> Result<IndexEntry, AllocError>
         ensures { IfOk result (λ entry. entry ≡ self.now) }
     {
@@ -39,7 +39,7 @@ impl IndexEntry {
         })
     }
 
-    /// Whether it is the one of this row at this key.
+    /// Whether it is the entry of this row at this key.
     fn is_of(&self, key: &IndexKey, id: Uuid) -> bool
         ensures { result ≡ is_entry key.now id self.now }
     {
@@ -59,7 +59,7 @@ pub(crate) fn is_among(entries: &[IndexEntry], entry: &IndexEntry) -> bool
     false
 }
 
-/// The entries of a row of these columns in all indexes of the table of this name, in the order of the schema.
+/// The entries of a row with these columns in all indexes of its table, in the order of the schema.
 fn entries_in(
     alloc: Global,
     table: &Table,
@@ -79,7 +79,7 @@ fn entries_in(
     Ok(entries)
 }
 
-/// The entries of a row of these columns in all indexes of its table; none where there is no such table.
+/// The entries of a row with these columns in all indexes of its table; none if there is no such table.
 pub(crate) fn entries_of(
     alloc: Global,
     schema: &Schema,

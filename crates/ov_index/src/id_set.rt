@@ -6,7 +6,7 @@ use std::alloc::{AllocError, Global};
 use std::marker::Model;
 use uuid::Uuid;
 
-/// The identifiers of the rows at a key, ascending. There is nearly always one, which lies in the value itself.
+/// The identifiers of the rows at a key, ascending. There is nearly always one, which is stored inline.
 pub struct IdSet {
     ids: SmallVec<Uuid, 1>,
 }
@@ -28,7 +28,7 @@ impl Model for IdSet {
 }
 
 impl Drop for IdSet {
-    // A drop of its own, so that whoever drops a set need not know where its identifiers lie.
+    // An explicit drop, so that code that drops a set need not know where its identifiers are stored.
     fn drop(self) {
         let IdSet { ids } = self;
         drop(ids);
@@ -36,7 +36,7 @@ impl Drop for IdSet {
 }
 
 impl IdSet {
-    /// This one alone.
+    /// The set of this identifier alone.
     pub(crate) fn of(alloc: Global, id: Uuid) -> Result<IdSet, AllocError>
         ensures { IfOk result (λ set. set ≡ insert empty id tt) }
     {
@@ -45,28 +45,28 @@ impl IdSet {
         Ok(IdSet { ids })
     }
 
-    /// How many they are.
+    /// The number of identifiers.
     pub fn len(&self) -> usize
         ensures { result ≡ len self.now }
     {
         self.ids.len()
     }
 
-    /// Whether there is none.
+    /// Whether there are no identifiers.
     pub fn is_empty(&self) -> bool
         ensures { result ≡ (len self.now == 0) }
     {
         self.ids.is_empty()
     }
 
-    /// All of them, ascending.
+    /// All identifiers, ascending.
     pub fn as_slice(&self) -> &[Uuid]
         ensures { result.now ≡ keys self.now }
     {
         self.ids.as_slice()
     }
 
-    /// Adds this one, unless it is there; whether it was not. Where a growth is refused, nothing is changed.
+    /// Adds this identifier, unless it is there; returns whether it was added. If an allocation fails, nothing is changed.
     pub(crate) fn insert(&mut self, id: Uuid) -> Result<bool, AllocError>
         ensures ok { OnOk result (self.new ≡ insert self.old id tt) }
         ensures is_new { IfOk result (λ is_new. is_new ≡ not (contains_key self.old id)) }
@@ -81,7 +81,7 @@ impl IdSet {
         }
     }
 
-    /// Takes this one out, if it is there.
+    /// Removes this identifier, if it is there.
     pub(crate) fn remove(&mut self, id: Uuid)
         ensures { self.new ≡ remove self.old id }
     {

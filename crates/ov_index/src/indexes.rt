@@ -14,8 +14,8 @@ use std::collections::BTreeMap;
 use std::marker::Model;
 use uuid::Uuid;
 
-/// The rows of a database by their values in the indexes of their tables (RFC 7047, 3.2, `<table-schema>`, indexes). Where a
-/// database keeps its limits there is one row at each key; during a commit there may be more.
+/// The rows of a database by their values in the indexes of their tables (RFC 7047, 3.2, `<table-schema>`, indexes). If a
+/// database is within its limits, each key has one row; during a commit it may have more.
 #[derive(Drop)]
 pub struct Indexes {
     of: BTreeMap<IndexKey, IdSet>,
@@ -38,7 +38,7 @@ impl Model for Indexes {
 }
 
 impl Indexes {
-    /// No row at any key.
+    /// No rows at any key.
     pub fn new(alloc: Global) -> Indexes
         ensures { result ≡ empty }
     {
@@ -47,21 +47,22 @@ impl Indexes {
         }
     }
 
-    /// The rows at the key, if there is one.
+    /// The rows at the key, if there are any.
     pub fn at(&self, key: &IndexKey) -> Option<&IdSet>
         ensures { option_copied result ≡ get self.now key.now }
     {
         self.of.get(key)
     }
 
-    /// All keys at which rows stand, ascending, with these rows.
+    /// All keys that have rows, ascending, each with its rows.
     pub fn map(&self) -> &BTreeMap<IndexKey, IdSet>
         ensures { result.now.entries ≡ entries self.now }
     {
         &self.of
     }
 
-    /// One more row at the key of the entry, unless it is there; whether it was not. Where a growth is refused, nothing is changed.
+    /// Adds the row of the entry at its key, unless it is there; returns whether it was added. If an allocation fails,
+    /// nothing is changed.
     pub(crate) fn add(&mut self, alloc: Global, entry: IndexEntry) -> Result<bool, AllocError>
         ensures ok { OnOk result (self.new ≡ with_entry entry self.old) }
         ensures is_new { IfOk result (λ is_new. is_new ≡ not (is_indexed self.old entry.key entry.id)) }
@@ -77,7 +78,7 @@ impl Indexes {
         }
     }
 
-    /// With these entries.
+    /// Adds these entries.
     fn add_all(&mut self, alloc: Global, entries: Vec<IndexEntry>) -> Result<(), AllocError>
         ensures { OnOk result (self.new ≡ with_entries entries.items self.old) }
     {
@@ -87,7 +88,7 @@ impl Indexes {
         Ok(())
     }
 
-    /// With the row of this key, which has these columns, at its keys.
+    /// Adds the row of this key, which has these columns, at its index keys.
     pub(crate) fn put_row(
         &mut self,
         alloc: Global,
@@ -100,7 +101,7 @@ impl Indexes {
         self.add_all(alloc, entries_of(alloc, schema, key, columns)?)
     }
 
-    /// With the rows of the table of this name.
+    /// Adds the rows of the table of this name.
     fn add_rows(
         &mut self,
         alloc: Global,
@@ -117,7 +118,7 @@ impl Indexes {
         Ok(())
     }
 
-    /// With the rows of the table of this name, which are looked at only if it has indexes.
+    /// Adds the rows of the table of this name. Reads them only if the table has indexes.
     fn add_table(
         &mut self,
         alloc: Global,
@@ -134,7 +135,7 @@ impl Indexes {
         }
     }
 
-    /// The indexes of these rows. All rows of tables that have indexes are looked at.
+    /// The indexes of these rows. Reads all rows of tables that have indexes.
     pub fn of(alloc: Global, schema: &Schema, rows: &Rows) -> Result<Indexes, AllocError>
         ensures { IfOk result (AreIndexesOf schema.now rows.now) }
     {
@@ -145,7 +146,7 @@ impl Indexes {
         Ok(indexes)
     }
 
-    /// Takes the row out at the key of the entry, and answers whether no row is left there.
+    /// Removes the row of the entry from its key, and returns whether no row is left there.
     fn lose(&mut self, entry: &IndexEntry) -> bool
         ensures lost { self.new ≡ lacking (get self.old entry.now.key) entry.now self.old }
         ensures left { result ≡ has_none (get self.new entry.now.key) }
@@ -159,14 +160,14 @@ impl Indexes {
         }
     }
 
-    /// Takes the key out, with all rows that stand there.
+    /// Removes the key with all its rows.
     fn drop_key(&mut self, key: &IndexKey)
         ensures { self.new ≡ remove self.old key.now }
     {
         self.of.remove(key);
     }
 
-    /// Takes the entry out, if it is there. A key with no row left goes too.
+    /// Removes the entry, if it is there, and its key if no row is left.
     fn take_one_out(&mut self, entry: &IndexEntry)
         ensures { self.new ≡ without_entry entry.now self.old }
     {
@@ -175,7 +176,7 @@ impl Indexes {
         }
     }
 
-    /// Takes these entries out, those of them that are there. No memory is asked for.
+    /// Removes those of these entries that are there. Allocates nothing.
     pub fn take_out(&mut self, entries: &[IndexEntry])
         ensures { self.new ≡ without_entries entries.now self.old }
     {

@@ -9,8 +9,8 @@ use std::alloc::{AllocError, Global};
 use std::cmp::Ordering;
 use std::marker::Model;
 
-/// Where rows stand in an index of a table: the table, the number of the index in the table's list, counted from 0, and the
-/// values in the columns of the index, in its order (RFC 7047, 3.2, `<table-schema>`, indexes).
+/// The key of rows in an index: the table, the number of the index in the table's list, counted from 0, and the values in
+/// the columns of the index, in its order (RFC 7047, 3.2, `<table-schema>`, indexes).
 #[derive(Drop)]
 pub struct IndexKey {
     table: Text,
@@ -46,7 +46,7 @@ impl IndexKey {
         })
     }
 
-    /// Where a row of these columns stands in this index, which has this number, of the table of this name.
+    /// The key of a row with these columns in this index, which has this number in the table of this name.
     pub fn at(
         alloc: Global,
         table: &str,
@@ -84,7 +84,7 @@ impl IndexKey {
         self.values.as_slice()
     }
 
-    /// The same key.
+    /// A copy of the key.
     pub fn copy(&self, alloc: Global) -> Result<IndexKey, AllocError>
         ensures { IfOk result (λ key. key ≡ self.now) }
     {
@@ -146,8 +146,8 @@ impl Ord for IndexKey {
 
     ghost matches_eq = { λ a b. refl };
 
-    /// By the values, one after another, then by the number of the index, then by the bytes of the table's name. Most keys that
-    /// are compared are of one index, and differ in a value.
+    /// Compares the values, one by one, then the number of the index, then the bytes of the table's name. Most keys that are
+    /// compared belong to one index and differ in a value.
     fn cmp(&self, other: &IndexKey) -> Ordering {
         match self.values.as_slice().cmp(other.values.as_slice()) {
             Ordering::Equal => match self.number.cmp(&other.number) {

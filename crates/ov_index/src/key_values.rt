@@ -9,7 +9,7 @@ use std::alloc::{AllocError, Global};
 use std::marker::Model;
 use std::slice;
 
-/// Where the values of a key lie: one alone in the key itself, so that keys are compared in place, others in memory of their own.
+/// Stores the values of a key: a single one inline, so that keys are compared in place, others in a vector.
 #[derive(Drop)]
 enum StoredValues {
     One(Datum),
@@ -36,7 +36,7 @@ impl Model for KeyValues {
 }
 
 impl Drop for KeyValues {
-    // A drop of its own, so that whoever drops a key need not know where its values lie.
+    // An explicit drop, so that code that drops a key need not know where its values are stored.
     fn drop(self) {
         let KeyValues { stored } = self;
         drop(stored);
@@ -50,7 +50,7 @@ impl KeyValues {
         KeyValues { stored: One(datum) }
     }
 
-    /// The same values, not copied.
+    /// Takes these values without copying them.
     pub(crate) fn from_vec(values: Vec<Datum>) -> KeyValues
         ensures { result ≡ values.items }
     {
@@ -81,7 +81,7 @@ impl KeyValues {
         Ok(KeyValues::from_vec(values_in(alloc, index, columns)?))
     }
 
-    /// The values, to be read.
+    /// The values as a slice.
     pub(crate) fn as_slice(&self) -> &[Datum]
         ensures { result.now ≡ self.now }
     {
@@ -91,7 +91,7 @@ impl KeyValues {
         }
     }
 
-    /// The same values once more.
+    /// A copy of the values.
     pub(crate) fn copy(&self, alloc: Global) -> Result<KeyValues, AllocError>
         ensures { IfOk result (λ values. values ≡ self.now) }
     {

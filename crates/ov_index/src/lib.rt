@@ -1,5 +1,4 @@
-//! Rows by their values in the indexes of their tables (RFC 7047, 3.2, `<table-schema>`, indexes). What names no source is our
-//! own.
+//! Rows by their values in the indexes of their tables (RFC 7047, 3.2, `<table-schema>`, indexes).
 #![tactic(auto)]
 
 mod alike;

@@ -15,7 +15,7 @@ use ov_rows::Rows;
 use ov_schema::{Schema, Table};
 use std::collections::BTreeMap;
 
-/// How many rows the table of this name has.
+/// The number of rows in the table of this name.
 fn count_of(rows: &Rows, name: &str) -> usize
     ensures { result ≡ length (rows_of name.now rows.now) }
 {
@@ -64,7 +64,7 @@ fn have_too_many(schema: &Schema, rows: &Rows) -> bool
     is_any_too_many(schema, schema.tables(), rows)
 }
 
-/// Whether there is a key at which two rows stand.
+/// Whether some key has two rows.
 fn has_two(map: &BTreeMap<IndexKey, IdSet>) -> bool
     ensures { result ≡ has_two map.now.entries }
 {
@@ -76,8 +76,8 @@ fn has_two(map: &BTreeMap<IndexKey, IdSet>) -> bool
     false
 }
 
-/// Whether a table has more rows than its `maxRows`, or two that are alike in an index (RFC 7047, 3.2, `<table-schema>`, maxRows
-/// and indexes). The indexes are those of the rows. No memory is asked for.
+/// Whether a table has more rows than its `maxRows`, or two that are alike in an index (RFC 7047, 3.2, `<table-schema>`,
+/// maxRows and indexes). The indexes must be those of the rows. Allocates nothing.
 pub fn is_over_limits(schema: &Schema, rows: &Rows, indexes: &Indexes) -> bool
     requires indexed { AreIndexesOf schema.now rows.now indexes.now }
     requires suits { Suits schema.now rows.now }

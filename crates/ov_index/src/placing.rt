@@ -10,17 +10,17 @@ use ov_schema::Schema;
 use std::alloc::{AllocError, Global};
 use std::collections::BTreeMap;
 
-/// What changes of rows make of indexes.
+/// What changes of rows do to the indexes.
 #[derive(Drop)]
 pub struct IndexChanges {
-    /// The entries that were put for new rows; they were not there before.
+    /// The entries added for new rows; they were not there before.
     pub added: Vec<IndexEntry>,
-    /// The entries of former rows, which go when the changes hold.
+    /// The entries of former rows, to be removed when the changes take effect.
     pub gone: Vec<IndexEntry>,
 }
 
 impl IndexChanges {
-    /// None.
+    /// No changes.
     pub fn new(alloc: Global) -> IndexChanges
         ensures added { result.added.items ≡ [] }
         ensures gone { result.gone.items ≡ [] }
@@ -33,7 +33,7 @@ impl IndexChanges {
 }
 
 impl Indexes {
-    /// Puts the entry, and lists it, unless it is there. Where a growth is refused, nothing is changed.
+    /// Adds the entry and lists it, unless it is there. If an allocation fails, nothing is changed.
     fn add_new(
         &mut self,
         alloc: Global,
@@ -51,7 +51,7 @@ impl Indexes {
         Ok(())
     }
 
-    /// Puts those of the entries that are not there, and lists them.
+    /// Adds the entries that are not there, and lists them.
     fn add_all_new(
         &mut self,
         alloc: Global,
@@ -67,8 +67,8 @@ impl Indexes {
         Ok(())
     }
 
-    /// Puts the entries that changes of rows make, so that no growth is left for later. Those that were not there are listed,
-    /// and so are those that the former rows had and the new ones do not. The rows are those before the changes.
+    /// Adds the entries that the changes make, so that nothing is left to allocate later. Lists those that were not there,
+    /// and those that the former rows had and the new ones do not. `rows` are those before the changes.
     pub fn place(
         &mut self,
         alloc: Global,
@@ -93,7 +93,7 @@ impl Indexes {
     }
 }
 
-/// Lists those of the old entries that are not among the new ones.
+/// Lists the old entries that are not among the new ones.
 fn push_gone(
     gone: &mut Vec<IndexEntry>,
     old: Vec<IndexEntry>,

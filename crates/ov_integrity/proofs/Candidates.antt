@@ -1,4 +1,4 @@
--- Rows that may have dangling references are those that were changed, and those that referred weakly to one that was taken out.
+-- Rows that may have dangling references are those that were changed, and those that referred weakly to a removed row.
 use Rattle.std.proofs.Common.{◌≡◌, List, [], ◌∷◌, Bool, true, false, cond, if◌then◌else◌, ◌||◌, ◌⊎◌, inl, inr, is_some, flat_map, Option, Some, None, refl, sym, ap, subst, ◌∙◌}
 use Rattle.std.proofs.lemmas.Bool.{or_left, or_right}
 use Rattle.std.proofs.lemmas.List.Folds.{list_any-append}
@@ -54,7 +54,7 @@ module _ (delta : Delta) (before now : Database) (made : applied delta before �
   pub beside : (key : LineKey) → contains_key delta key ≡ false → get now key ≡ get before key
   beside key none = stands key ∙ ap (λ o. or_before o (get before key)) (none_there (get delta key) none)
 
-  -- what a change makes is what stands there
+  -- what a change makes is what is there
   pub made_is : (key : LineKey) (change : Option Row) → get delta key ≡ Some change → get now key ≡ change
   made_is key change at = stands key ∙ ap (λ o. or_before o (get before key)) at
 

@@ -1,4 +1,4 @@
--- A table that has too many rows is found among those of which a row was changed.
+-- A table that has too many rows is found among those with a changed row.
 use Rattle.std.proofs.Common.{◌≡◌, ℕ, List, [], ◌∷◌, Bool, true, false, ◌||◌, Option, Some, None, is_some, refl, sym, ap, ◌∙◌}
 use Rattle.std.proofs.lemmas.Bool.{or_left, or_right}
 use Rattle.std.proofs.lemmas.Slice.Eq.{bytes_eq-Decides}
@@ -45,7 +45,7 @@ none_of : {A : Type 0} (o : Option A) → is_some o ≡ false → o ≡ None
 none_of None h = refl
 none_of (Some a) h = cc
 
--- Rows before changes and after them. Where no table had too many, one has just where one of some change has.
+-- Rows before changes and after them. If no table had too many before, one has now exactly if the table of some change has.
 module _ (schema : Schema) (before now : Database) (delta : Delta) (made : applied delta before ≡ now) (few : list_any (has_too_many before) (entries schema.tables) ≡ false) where
   abbrev at_change : LineKey × Option Row → Bool
   at_change c = is_overfull schema now c.0.0
@@ -70,7 +70,7 @@ module _ (schema : Schema) (before now : Database) (delta : Delta) (made : appli
           here : is_overfull schema now name ≡ true
           here = ap (is_some_and (λ t. has_too_many now (name, t))) at ∙ many
 
-          -- if no change is one of a table with too many rows, none is one of this table
+          -- if no change is in a table with too many rows, none is in this table
           untouched : list_any at_change (entries delta) ≡ false → (id : Uuid) (o : Option (Option Row)) → get delta (name, id) ≡ o → is_some o ≡ false
           untouched none id None is = refl
           untouched none id (Some change) is = absurd (contradicts _ (entry_is_any line_cmp key_total key_exact at_change delta (name, id) change is here) none)
@@ -84,7 +84,7 @@ module _ (schema : Schema) (before now : Database) (delta : Delta) (made : appli
               let had : has_too_many before (name, table) ≡ true = sym (has_too_many-same schema before now (λ key. contains_key delta key) beside name still table) ∙ many in
               absurd (contradicts _ (entry_is_any name_cmp name_cmp_total name_exact (has_too_many before) schema.tables name table at had) few)
 
-  -- so it is asked of the names of their tables alone
+  -- so only the names of their tables need to be asked
   pub many_by_names : (names : List (List ℕ)) → ((test : List ℕ → Bool) → list_any test names ≡ list_any (λ c. test c.0.0) (entries delta))
       → list_any (is_overfull schema now) names ≡ list_any (has_too_many now) (entries schema.tables)
   many_by_names names are =

@@ -1,4 +1,4 @@
--- What holds of some entry of a map, and what stands at its key.
+-- What holds for some entry of a map, and what is at its key.
 use Rattle.std.proofs.Common.{◌≡◌, List, [], ◌∷◌, Bool, true, false, cond, T, ◌||◌, Some, None, refl, sym, ap, subst, ◌∙◌}
 use Rattle.std.proofs.lemmas.Bool.{or_left, or_right}
 use Rattle.std.proofs.lemmas.Option.{same_Some}
@@ -53,7 +53,7 @@ module _ {K X : Type 0} (R : K → K → Ordering) (total : IsTotalOrder R) (exa
             or_left (test e) (list_any test es) (subst (λ (p : K × X). test p ≡ true) (λ i. (tied_is R exact key e.0 tied i, same_Some x e.1 (sym found) i)) is)
         by false tied found others = or_right (test e) (list_any test es) (others found)
 
-    -- where an entry passes the test, one that passes stands at some key
+    -- if an entry passes the test, one that passes is at some key
     pub any_entry_is : (m : FinMap R X) → list_any test (entries m) ≡ true → (key : K) × (x : X) × (get m key ≡ Some x) × (test (key, x) ≡ true)
     any_entry_is m any =
         let found : SomeFound (entries m) = any_found (entries m) (entries_sorted m) any in

@@ -1,4 +1,4 @@
--- The references of a database are fewer where a row goes.
+-- A database has fewer references after a row is removed.
 use Rattle.std.proofs.Common.{◌≡◌, ◌+◌, ◌≤◌, List, [], ◌∷◌, ◌++◌, filter, length, Bool, true, false, cond, not, flat_map, Some, None, refl, sym, ap, ◌∙◌, arith, Equal}
 use Rattle.std.proofs.lemmas.List.{length-append, length-map}
 use Rattle.std.proofs.lemmas.Option.{same_Some}

@@ -28,7 +28,7 @@ one_passes test (x ∷ xs) any = by (test x) refl any (one_passes test xs)
 keys_have : (set : KeySet) (key : LineKey) → list_any (same_key key) (keys set) ≡ contains_key set key
 keys_have set key = (λ i. list_any (λ other. same_key-tied key other i) (keys set)) ∙ sym (contains_key-keys set key)
 
--- where a key of the set passes, there is one
+-- if any key of the set passes, there is one that does
 pub key_passes : (set : KeySet) (test : LineKey → Bool) → list_any test (keys set) ≡ true → (key : LineKey) × (contains_key set key ≡ true) × (test key ≡ true)
 key_passes set test any = let one = one_passes test (keys set) any in (one.0, sym (keys_have set one.0) ∙ one.1, one.2)
 
@@ -47,7 +47,7 @@ some_in : (o : Option KeySet) (test : LineKey → Bool) (from : LineKey) → is_
 some_in None test from has passes = cc
 some_in (Some set) test from has passes = passes_key set test from has passes
 
--- where one of those that refer to the row passes the test, there is one
+-- if any of those that refer to the row passes the test, there is one that does
 pub holder_passes : (holders : Holders) (to : LineKey) (test : LineKey → Bool) → some_holds holders to test ≡ true → (from : LineKey) × (is_holder holders to from ≡ true) × (test from ≡ true)
 holder_passes holders to test any = in_some (get holders to) test any
 
@@ -62,7 +62,7 @@ pub row_there : (test : Row → Bool) (o : Option Row) → is_some_and test o �
 row_there test None is = cc
 row_there test (Some row) is = (row, refl, is)
 
--- what is referred to strongly is there, where all targets are
+-- what is strongly referred to exists, if all targets do
 pub target_there : (rows : Database) (to : LineKey) (targets : List Target) → list_any (λ target. target.is_strong && same_key target.key to) targets ≡ true
     → list_all (λ target. contains_key rows target.key) targets ≡ true → contains_key rows to ≡ true
 target_there rows to [] any all = cc

@@ -1,4 +1,4 @@
--- Rows that may lack support: what is left of them where a row goes, and where they begin.
+-- Rows that may lack support: those that remain when a row is removed, and those at the start.
 use Rattle.std.proofs.Common.{◌≡◌, List, [], ◌∷◌, ◌++◌, map, filter, Bool, true, false, cond, ◌&&◌, ◌||◌, ◌⊎◌, inl, inr, Some, None, refl, sym, ap, ◌∙◌}
 use Rattle.std.proofs.lemmas.Bool.{or_left, or_right}
 use Rattle.std.proofs.lemmas.List.Folds.{list_any-append}
@@ -46,7 +46,7 @@ other_is key gone work not_it any = by (same_key key gone) refl any
     by false other any = any
 
 module _ (schema : Schema) (rows : Database) (gone : LineKey) (work : List LineKey) where
-  -- Where a row goes, what it refers to strongly may lack support after it.
+  -- If a row is removed, what it refers to strongly may lack support afterwards.
   pub lacking_step : (gone_row : Row) → get rows gone ≡ Some gone_row → MayLack schema rows (gone ∷ work)
       → MayLack schema (remove rows gone) (work ++ strong_keys (row_targets schema (gone, gone_row)))
   lacking_step gone_row has lack key row found is =
@@ -66,17 +66,17 @@ module _ (schema : Schema) (rows : Database) (gone : LineKey) (work : List LineK
       at true tied h = absurd (none_is row h)
       at false tied h = by (same_key-tied key gone ∙ tied) h (is_supported schema rows key) refl
 
-  -- what is not there needs no support
+  -- a missing row needs no support
   pub lacking_absent : get rows gone ≡ None → MayLack schema rows (gone ∷ work) → MayLack schema rows work
   lacking_absent none lack key row found is =
       other_is key gone work (λ same. none_is row (sym none ∙ sym (ap (get rows) (same_key-is key gone same)) ∙ found)) (lack key row found is)
 
-  -- and what has support lacks none
+  -- and a row with support lacks none
   pub lacking_supported : is_supported schema rows gone ≡ true → MayLack schema rows (gone ∷ work) → MayLack schema rows work
   lacking_supported supported lack key row found is =
       other_is key gone work (λ same. contradicts (is_supported schema rows key) (ap (is_supported schema rows) (same_key-is key gone same) ∙ supported) is) (lack key row found is)
 
--- where none may lack support, all rows are kept
+-- if none may lack support, all rows are kept
 pub lacking_none : (schema : Schema) (rows : Database) → MayLack schema rows [] → kept schema rows ≡ rows
 lacking_none schema rows lack = kept_whole schema rows (λ key row found. by key row found (is_supported schema rows key) refl)
   where
@@ -87,8 +87,8 @@ lacking_none schema rows lack = kept_whole schema rows (λ key row found. by key
     by key row found true is = is
     by key row found false is = absurd (nothing (lack key row found is))
 
--- Rows before a change and now, where no row is different but at a key that was changed: new rows may lack support, and so may
--- what the rows that were changed had referred to strongly.
+-- Rows before a change and now, which differ only at changed keys: new rows may lack support, and so may the rows to which
+-- the changed rows had referred strongly.
 pub lacking_at_first : (schema : Schema) (before now : Database) (changed : LineKey → Bool) (work : List LineKey) → ((key : LineKey) → changed key ≡ false → get now key ≡ get before key) → AreSupported schema before
     → ((key : LineKey) (row : Row) → changed key ≡ true → get before key ≡ None → get now key ≡ Some row → is_supported schema now key ≡ false → list_any (same_key key) work ≡ true)
     → ((from : LineKey) (old : Row) (key : LineKey) → changed from ≡ true → get before from ≡ Some old → list_any (same_key key) (strong_keys (row_targets schema (from, old))) ≡ true → list_any (same_key key) work ≡ true)

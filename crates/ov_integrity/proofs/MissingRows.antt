@@ -1,4 +1,4 @@
--- Whether a strong reference is to a row that is not there, by what a transaction has changed.
+-- Whether a strong reference is to a missing row, from what a transaction has changed.
 use Rattle.std.proofs.Common.{◌≡◌, Bool, true, false, ◌&&◌, ◌⊎◌, inl, inr, not, Option, Some, None, is_some, refl, sym, ap, ◌∙◌}
 use Rattle.std.proofs.lemmas.Bool.{not_from_false}
 use Rattle.std.specs.FinMap.{get, contains_key, entries}
@@ -23,7 +23,7 @@ use Rattle.ov_integrity.proofs.Keys.{same_truth}
 
 -- ---- targets of a row
 
--- a strong reference is to a row that is not there
+-- a strong reference is to a missing row
 abbrev pub target_misses : Database → Target → Bool
 target_misses rows target = target.is_strong && not (contains_key rows target.key)
 
@@ -78,6 +78,6 @@ module _ (schema : Schema) (before now : Database) (links : Links) (delta : Delt
           let held = linked.strong to from ∙ ap (is_some_and (λ (row : Row). refers_strongly schema (from, row) to)) one.4 ∙ one.8 in
           entry_passes to None one.5 one.7 (passes_holder links.strong to (λ other. not (changed other)) from held (not_from_false (changed from) one.3))
 
-  -- a strong reference to a row that is not there is found by the changes
+  -- a strong reference to a missing row is found by the changes
   pub misses_are : list_any misses (entries delta) ≡ list_any (is_missing now) (references schema now)
   misses_are = same_truth (list_any misses (entries delta)) (list_any (is_missing now) (references schema now)) there back

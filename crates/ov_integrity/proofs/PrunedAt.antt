@@ -1,4 +1,4 @@
--- Rows that lose their dangling references one after another: where each row that has some is among them, all are pruned.
+-- Rows that lose their dangling references one after another: if every row that has some is among them, all are pruned.
 use Rattle.std.proofs.Common.{◌≡◌, List, [], ◌∷◌, map, filter, Bool, true, false, cond, ◌&&◌, ◌||◌, not, is_some, Option, Some, None, option_map, refl, sym, ap, ◌∙◌}
 use Rattle.std.specs.FinMap.{get, keys, entries, contains_key, from_entries, get-insert, same_map}
 use Rattle.std.specs.List.{list_any}
@@ -127,7 +127,7 @@ module _ (schema : Schema) (before : Database) (version : Uuid) where
       by None = refl
       by (Some row) = ap Some (in_turn (same_key q key) (list_any (same_key q) keys) row)
 
-  -- where each row that has dangling references is one of these, all are pruned
+  -- if every row that has dangling references is one of these, all are pruned
   pub pruned_all_is : (keys : List LineKey) (rows : Database) → MayDangle schema rows keys → pruned_at_all schema before version keys rows ≡ pruned schema before version rows
   pruned_all_is keys rows may =
       same_map key_total key_exact (pruned_at_all schema before version keys rows) (pruned schema before version rows)

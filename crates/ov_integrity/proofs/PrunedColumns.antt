@@ -1,4 +1,4 @@
--- The columns of a row where what is left of each value is put in its place, one after another.
+-- The columns of a row when each value is replaced by what remains of it, one after another.
 use Rattle.std.proofs.Common.{◌≡◌, ℕ, List, [], ◌∷◌, Bool, true, false, cond, T, Option, Some, None, option_map, refl, sym, ap, ◌∙◌}
 use Rattle.std.specs.FinMap.{get, insert, entries, find, is_sorted, entries_sorted, get-entries, get-insert, same_map}
 use Rattle.ov_specs.specs.integrity.Committed.{pruned_datum, pruned_value, pruned_columns}
@@ -8,7 +8,7 @@ use Rattle.ov_specs.specs.values.Value.{Datum}
 use Rattle.ov_specs.proofs.laws.Names.{name_cmp_total, name_exact, same_name, same_name-is, same_name-itself, find-first_not_later, sorted_rest}
 use Rattle.ov_specs.proofs.laws.Pruning.{get-pruned_columns}
 
--- the columns with what is left of this value in the column of its name, if there is such a column
+-- the columns with what remains of this value in the column of its name, if there is such a column
 abbrev pub with_left : Database → Option Column → List ℕ × Datum → Columns → Columns
 with_left rows None c columns = columns
 with_left rows (Some column) c columns = insert columns c.0 (pruned_datum rows column.type_of c.1)
@@ -35,7 +35,7 @@ module _ (rows : Database) where
     abbrev left : List ℕ × Datum → Datum
     left c = pruned_value rows (get table.columns c.0) c.1
 
-    -- what is left of a value that is found, or else what stands there
+    -- what remains of a value that is found, or else what was there
     abbrev or_stands : List ℕ → Option Datum → Option Datum → Option Datum
     or_stands name (Some datum) stands = Some (left (name, datum))
     or_stands name None stands = stands

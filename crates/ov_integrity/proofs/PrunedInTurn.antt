@@ -1,4 +1,4 @@
--- A row that is pruned, and whether it is then short; and that it stays as it is while others are pruned.
+-- A row that is pruned, and whether it is then short; it stays as it is while others are pruned.
 use Rattle.std.proofs.Common.{◌≡◌, List, ◌∷◌, Bool, true, false, cond, ◌||◌, Option, Some, None, option_map, refl, sym, ap, ◌∙◌}
 use Rattle.std.proofs.lemmas.Option.{same_Some}
 use Rattle.std.specs.FinMap.{get, insert, entries, get-insert, same_map}
@@ -26,11 +26,11 @@ module _ (schema : Schema) (before : Database) (version : Uuid) (key : LineKey) 
   abbrev made : LineKey → Row → Row
   made k row = pruned_row schema before version rows (k, row)
 
-  -- where there is no row, nothing changes
+  -- if there is no row, nothing changes
   pruned_absent : get rows key ≡ None → rows ≡ after
   pruned_absent none = sym (ap (λ o. with_pruned schema before version key o rows) none)
 
-  -- nor where the row has no dangling reference
+  -- nor if the row has no dangling reference
   pub pruned_whole : (row : Row) → get rows key ≡ Some row → dangles schema rows (key, row) ≡ false → rows ≡ after
   pruned_whole row at is = same_map key_total key_exact rows after (λ q. by q (get rows q) refl ∙ sym (get-pruned_at schema before version key rows q))
     where

@@ -27,7 +27,7 @@ was_not : (b : Bool) → not b ≡ true → b ≡ false
 was_not true h = cc
 was_not false h = refl
 
--- what fits a column is not less than its least
+-- what fits a column is not below its minimum
 fits-enough : (t : ColumnType) (datum : Datum) → fits t datum ≡ true → int_lt (pos (count datum)) t.min ≡ false
 fits-enough t (Atoms s) h = was_not _ (and_parts (not (int_lt (pos (count (Atoms s))) t.min)) _ (and_parts (is_between (Some t.min) t.max (pos (count (Atoms s)))) _ h).0).0
 fits-enough t (Pairs m) h = was_not _ (and_parts (not (int_lt (pos (count (Pairs m))) t.min)) _ (and_parts (is_between (Some t.min) t.max (pos (count (Pairs m)))) _ h).0).0
@@ -52,7 +52,7 @@ suiting_not_short schema key row suits =
 
 -- ---- rows that are pruned
 
--- a short row stands where one is short at a key of a list
+-- there is a short row if a row is short at a key of a list
 module _ (schema : Schema) (rows : Database) where
   pub short_there : (keys : List LineKey) → list_any (λ key. is_short_at schema key rows) keys ≡ true → list_any (is_short schema) (entries rows) ≡ true
   short_there [] any = cc
@@ -86,7 +86,7 @@ module _ (schema : Schema) (before : Database) (version : Uuid) (rows : Database
       by None was made = cc
       by (Some old) was made = at old was (same_Some _ row made) (dangles schema rows (key, old)) refl
 
-  -- so it is asked of those rows alone whether one is short
+  -- so only those rows need to be asked
   pub short_follows : list_any (is_short schema) (entries left) ≡ list_any (λ key. is_short_at schema key left) keys
   short_follows = same_truth (list_any (is_short schema) (entries left)) (list_any (λ key. is_short_at schema key left) keys) here (short_there schema left keys)
     where

@@ -1,5 +1,5 @@
--- Whether a row is supported, by what is known of the rows before a transaction and of those that it has changed; and which
--- rows may lack support at first, and where one goes.
+-- Whether a row is supported, from what is known of the rows before a transaction and of those that it has changed; and which
+-- rows may lack support at first, and when one is removed.
 use Rattle.std.proofs.Common.{◌≡◌, ◌+◌, ◌≤◌, if◌then◌else◌, List, [], ◌∷◌, ◌++◌, flat_map, length, Bool, true, false, cond, not, ◌&&◌, ◌||◌, ◌⊎◌, inl, inr, Option, Some, None, is_some, refl, sym, ap, ◌∙◌, arith}
 use Rattle.std.proofs.lemmas.Bool.{and_parts, and_from, or_left, or_right, not_from_false}
 use Rattle.std.proofs.lemmas.List.{length-append}
@@ -71,7 +71,7 @@ linked_at_first schema before now links changes linked are to from =
     by false at =
         ap (is_some_and (λ (row : Row). refers_strongly schema (from, row) to)) (are.beside from at) ∙ as_before was is ∙ ap (λ b. (was && not b) || (b && is)) (sym at)
 
--- and the rows where one of them goes
+-- and the rows after one of them is removed
 pub linked_without : (schema : Schema) (rows : Database) (strong : Holders) (changes : Changes) (gone : LineKey) → AreLinked schema rows strong changes → AreLinked schema (remove rows gone) strong changes
 linked_without schema rows strong changes gone linked to from =
     ap (is_some_and (λ (row : Row). refers_strongly schema (from, row) to)) left ∙ by (eq_by_cmp line_cmp from gone) ∙ sym (ap (λ o. is_some o && held) left)
@@ -183,7 +183,7 @@ module _ (schema : Schema) (rows : Database) (strong : Holders) (changes : Chang
 
 -- ---- rows that may lack support at first
 
--- the key where there was no row, unless it is one of a root table, and else what the row referred to strongly
+-- the key if there was no row, unless it is in a root table; otherwise what the row referred to strongly
 abbrev pub lost_of : Schema → LineKey → Option Row → List LineKey
 lost_of schema key None = if is_in_root_table schema key then [] else key ∷ []
 lost_of schema key (Some row) = strong_keys (row_targets schema (key, row))
@@ -217,7 +217,7 @@ lack_at_first schema before now changes whole are =
     at_key key from at any =
         any-flat_map (same_key key) (lost_at schema before) (keys changes.keys) ∙ passes_key changes.keys (λ other. list_any (same_key key) (lost_at schema before other)) from at any
 
--- ---- a row goes
+-- ---- a row is removed
 
 -- what is left to be looked at, with the references that are left, is no more than it was
 pub no_more : (schema : Schema) (rows : Database) (gone : LineKey) (row : Row) (work : List LineKey) → get rows gone ≡ Some row

@@ -1,4 +1,4 @@
--- Pairs that are left of a map make a map again.
+-- The pairs that remain of a map make a map again.
 use Rattle.std.proofs.Common.{◌≡◌, List, filter, Bool, false, cond, Option, Some, None, sym, ap, ◌∙◌}
 use Rattle.std.proofs.lemmas.Option.{same_Some}
 use Rattle.std.specs.FinMap.{entries, entries_sorted}

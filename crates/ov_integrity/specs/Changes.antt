@@ -1,4 +1,4 @@
--- What a transaction has changed, and how it is collected. What names no source is our own.
+-- What a transaction has changed, and how it is collected.
 use Rattle.std.specs.Prelude.{◌≡◌, ◌&&◌, List, [], ◌∷◌, false, Option, Some, None, if◌then◌else◌, refl}
 use Rattle.std.specs.Coded.{Coded, code_by, coded×}
 use Rattle.std.specs.FinMap.{get, contains_key, insert}
@@ -18,18 +18,18 @@ pub record Changes : Type 0 where
 abbrev pub changes_code : Coded Changes
 changes_code = code_by (KeySet × Holders) (coded× key_set_code holders_code) (λ c. (c.keys, c.strong)) (λ p. record { keys = p.0; strong = p.1 }) (λ _. refl)
 
--- At all other keys the rows are as they were; and of the rows at these keys those refer strongly to a row that are its holders.
+-- At all other keys the rows are as they were. Of the rows at these keys, those that refer strongly to a row are its holders.
 pub record AreChanges (schema : Schema) (before now : Database) (changes : Changes) : Type 0 where
   pub beside : (key : LineKey) → contains_key changes.keys key ≡ false → get now key ≡ get before key
   pub strong : (to from : LineKey) → is_holder changes.strong to from ≡ (contains_key changes.keys from && is_strong_in schema now to from)
 
 -- ---- how they are collected; for private clauses
 
--- with the row of this key, where its reference is a strong one
+-- with the row of this key, if its reference is a strong one
 abbrev pub with_strong : LineKey → Target → Changes → Changes
 with_strong from target changes = if target.is_strong then record changes { strong = with_holder target.key from changes.strong } else changes
 
--- with the row of this key for each strong one of its references
+-- with the row of this key for each of its strong references
 abbrev pub with_strong_ones : LineKey → List Target → Changes → Changes
 with_strong_ones from [] changes = changes
 with_strong_ones from (target ∷ targets) changes = with_strong_ones from targets (with_strong from target changes)

@@ -1,4 +1,4 @@
--- A table that has too many rows, by its name. What names no source is our own.
+-- A table that has too many rows, by its name.
 use Rattle.std.specs.Prelude.{◌≡◌, ℕ, ℤ, pos, int_lt, List, Bool, false}
 use Rattle.std.specs.FinMap.{get}
 use Rattle.ov_specs.specs.integrity.Limits.{has_too_many}

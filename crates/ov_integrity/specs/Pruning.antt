@@ -1,4 +1,4 @@
--- Rows that lose weak references to rows that are not there, one after another. What names no source is our own.
+-- Rows that lose their weak references to missing rows, one after another.
 use Rattle.std.specs.Prelude.{◌≡◌, List, [], ◌∷◌, Bool, true, if◌then◌else◌, Option, Some, None}
 use Rattle.std.specs.FinMap.{get, insert, keys}
 use Rattle.std.specs.List.{list_any}
@@ -11,12 +11,12 @@ use Rattle.ov_specs.specs.schema.Schema.{is_some_and}
 use Rattle.ov_specs.specs.schema.SchemaTypes.{Schema}
 use Rattle.ov_specs.specs.values.Uuid.{Uuid}
 
--- the rows with the one of this key as it is without such references, where there is one
+-- the rows with the one of this key, if there is one, without such references
 abbrev pub with_pruned : Schema → Database → Uuid → LineKey → Option Row → Database → Database
 with_pruned schema before version key None rows = rows
 with_pruned schema before version key (Some row) rows = insert rows key (pruned_row schema before version rows (key, row))
 
--- the same of the row that stands there
+-- the same for the row at the key
 abbrev pub pruned_at : Schema → Database → Uuid → LineKey → Database → Database
 pruned_at schema before version key rows = with_pruned schema before version key (get rows key) rows
 
@@ -25,7 +25,7 @@ abbrev pub pruned_at_all : Schema → Database → Uuid → List LineKey → Dat
 pruned_at_all schema before version [] rows = rows
 pruned_at_all schema before version (key ∷ keys) rows = pruned_at_all schema before version keys (pruned_at schema before version key rows)
 
--- there is a row at the key, and a value of it is too short
+-- there is a row at the key, and one of its values is too short
 abbrev pub is_short_at : Schema → LineKey → Database → Bool
 is_short_at schema key rows = is_some_and (λ row. is_short schema (key, row)) (get rows key)
 
@@ -40,7 +40,7 @@ abbrev pub keys_held : Option KeySet → List LineKey
 keys_held None = []
 keys_held (Some set) = keys set
 
--- the key of a change whose row has such a reference, and where the row is taken out those of its holders
+-- the key of a change whose row has such a reference; if the row is removed, the keys of its holders
 abbrev pub may_dangle_by : Schema → Database → Holders → LineKey × Option Row → List LineKey
 may_dangle_by schema rows holders (key, Some row) = if dangles schema rows (key, row) then key ∷ [] else []
 may_dangle_by schema rows holders (key, None) = keys_held (get holders key)

@@ -1,4 +1,4 @@
--- Rows that may lack support, as they are found one after another. What names no source is our own.
+-- Rows that may lack support, as they are found one after another.
 use Rattle.std.specs.Prelude.{◌≡◌, List, map, filter, true, false, Some}
 use Rattle.std.specs.FinMap.{get}
 use Rattle.std.specs.List.{list_any}
@@ -8,7 +8,7 @@ use Rattle.ov_specs.specs.rows.Database.{Row, Database, same_key}
 use Rattle.ov_specs.specs.rows.Lines.{LineKey}
 use Rattle.ov_specs.specs.schema.SchemaTypes.{Schema}
 
--- the rows that are referred to strongly
+-- the rows that are strongly referred to
 abbrev pub strong_keys : List Target → List LineKey
 strong_keys targets = map (λ t. t.key) (filter (λ t. t.is_strong) targets)
 

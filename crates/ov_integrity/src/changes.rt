@@ -8,8 +8,8 @@ use ov_stage::Stage;
 use std::alloc::{AllocError, Global};
 use std::marker::Model;
 
-/// What a transaction has changed: the keys where it has put a row or taken one out, and to which rows those that it has put
-/// refer strongly.
+/// What a transaction has changed: the keys where it put or removed a row, and the rows to which those that it put refer
+/// strongly.
 #[derive(Drop)]
 pub(crate) struct Changes {
     keys: KeySet,
@@ -28,21 +28,21 @@ impl Model for Changes {
 }
 
 impl Changes {
-    /// The keys.
+    /// The changed keys.
     pub(crate) fn keys(&self) -> &KeySet
         ensures { result.now ≡ self.now.keys }
     {
         &self.keys
     }
 
-    /// The rows of these keys that refer strongly to rows.
+    /// The rows at these keys that refer strongly to rows.
     pub(crate) fn strong(&self) -> &Holders
         ensures { result.now ≡ self.now.strong }
     {
         &self.strong
     }
 
-    /// With the row of this key, where its reference is a strong one.
+    /// Adds the row of this key, if its reference is a strong one.
     fn add_target(&mut self, alloc: Global, key: &RowKey, target: Target) -> Result<(), AllocError>
         ensures { OnOk result (self.new ≡ with_strong key.now target self.old) }
     {
@@ -53,7 +53,7 @@ impl Changes {
         Ok(())
     }
 
-    /// With the change of this key.
+    /// Adds the change of this key.
     fn add_change(
         &mut self,
         alloc: Global,

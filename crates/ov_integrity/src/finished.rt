@@ -19,18 +19,18 @@ use ov_stage::Stage;
 use std::alloc::{AllocError, Global};
 use uuid::Uuid;
 
-/// What the end of a transaction comes to.
+/// What the end of a transaction results in.
 #[derive(Drop)]
 pub enum Finished {
-    /// This is to be changed.
+    /// These changes are to be made.
     Changed(Delta),
     /// The commit fails: `ReferentialIntegrity` or `Constraint`.
     Refused(OpError),
-    /// A growth was refused.
+    /// An allocation failed.
     NoMemory,
 }
 
-/// What is to be changed, or the error of the commit, where there is memory for it.
+/// The changes to make, or the error of the commit; `Err` if an allocation fails.
 fn finish_stage(
     alloc: Global,
     schema: &Schema,
@@ -60,12 +60,12 @@ fn finish_stage(
     Ok(Finished::Changed(stage.into_delta()))
 }
 
-/// What a commit of this version makes of the rows that the operations left on a stage (RFC 7047, 3.2 and 5.2). A strong
-/// reference to a row that is not there is refused. Rows that nothing keeps go, and then weak references to rows that are not
-/// there. Then a value that is too short, a table with too many rows, and two rows that are alike in an index are refused.
+/// Commits, at this version, the rows that the operations left on a stage (RFC 7047, 3.2 and 5.2). A strong reference to a
+/// missing row is refused. Rows that nothing keeps are removed, and then weak references to missing rows. Then a value that
+/// is too short, a table with too many rows, and two rows that are equal in an index are refused.
 ///
-/// The rows before the transaction are whole, and the links and the indexes are theirs. Only what the transaction changed is
-/// followed.
+/// The rows before the transaction are whole, and the links and the indexes are theirs. Follows only what the transaction
+/// changed.
 pub fn finish(
     alloc: Global,
     schema: &Schema,

@@ -1,6 +1,6 @@
-//! What a commit makes of the rows that the operations of a transaction left (RFC 7047, 3.2 and 5.2): strong references lead to
-//! rows, rows that nothing keeps go, weak references to rows that are gone go, and no limit is broken. It follows what the
-//! transaction has changed. What names no source is our own.
+//! What a commit makes of the rows that the operations of a transaction left (RFC 7047, 3.2 and 5.2): strong references must
+//! lead to rows, rows that nothing keeps are removed, weak references to missing rows are removed, and no limit may be
+//! broken. Follows only what the transaction has changed.
 #![tactic(auto)]
 
 mod changes;

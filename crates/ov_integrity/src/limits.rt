@@ -16,7 +16,7 @@ use ov_schema::Schema;
 use ov_stage::Stage;
 use std::alloc::{AllocError, Global};
 
-/// How many rows there are of the table of this name.
+/// How many rows the table of this name has.
 fn count_of(rows: &Rows, name: &str) -> usize
     ensures { result ≡ length (rows_of name.now rows.now) }
 {
@@ -26,15 +26,15 @@ fn count_of(rows: &Rows, name: &str) -> usize
     }
 }
 
-/// So many rows the table of this name has at most: no change adds more than one.
+/// The most rows that the table of this name can have: no change adds more than one.
 fn most_rows(stage: &Stage<'_>, name: &str) -> i128
     ensures { IsAtMost (length (rows_of name.now stage.now.now)) result }
 {
     count_of(stage.before(), name) as i128 + stage.changes().map().len() as i128
 }
 
-/// Whether the table of this name has more rows than its `maxRows` (RFC 7047, 3.2, `<table-schema>`, maxRows). Rows are counted
-/// only where it has one, and listed only where the changes may have led past it.
+/// Whether the table of this name has more rows than its `maxRows` (RFC 7047, 3.2, `<table-schema>`, maxRows). Counts rows
+/// only if it has a `maxRows`, and lists them only if the changes may have exceeded it.
 fn is_overfull(
     alloc: Global,
     schema: &Schema,
@@ -56,7 +56,7 @@ fn is_overfull(
     Ok(i128::from(most) < (rows.len() as i128))
 }
 
-/// The names of the tables of which a row is changed, each once.
+/// The names of the tables with a changed row, each once.
 fn touched(alloc: Global, changes: &Delta) -> Result<Vec<Text>, AllocError>
     ensures { IfOk result (λ names. (test : List ℕ → Bool) → list_any test names.items ≡ list_any (λ c. test c.0.0) (entries changes.now)) }
 {
@@ -69,7 +69,7 @@ fn touched(alloc: Global, changes: &Delta) -> Result<Vec<Text>, AllocError>
     Ok(names)
 }
 
-/// Whether a table has too many rows. None had before the transaction, so it is one of those of which a row is changed.
+/// Whether a table has too many rows. None had before the transaction, so it is a table with a changed row.
 fn are_too_many(alloc: Global, schema: &Schema, stage: &Stage<'_>) -> Result<bool, AllocError>
     requires whole { is_whole schema.now stage.now.before ≡ true }
     ensures { IfOk result (λ many. many ≡ list_any (has_too_many stage.now.now) (entries schema.now.tables)) }
@@ -82,8 +82,8 @@ fn are_too_many(alloc: Global, schema: &Schema, stage: &Stage<'_>) -> Result<boo
     Ok(false)
 }
 
-/// Whether a table has too many rows, or two that are alike in an index of it (RFC 7047, 3.2, `<table-schema>`, maxRows and
-/// indexes). Rows that are alike are found by the indexes of the rows before the transaction: only those that it has changed are
+/// Whether a table has too many rows, or two rows that are equal in an index (RFC 7047, 3.2, `<table-schema>`, maxRows and
+/// indexes). Equal rows are found by the indexes of the rows before the transaction: only the rows that it has changed are
 /// looked at.
 pub(crate) fn breaks_a_limit(
     alloc: Global,

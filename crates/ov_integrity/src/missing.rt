@@ -13,7 +13,7 @@ use ov_schema::Schema;
 use ov_stage::Stage;
 use std::alloc::{AllocError, Global};
 
-/// Whether the row of this key refers strongly to one that is not there.
+/// Whether the row of this key refers strongly to a missing row.
 fn row_misses(
     alloc: Global,
     schema: &Schema,
@@ -31,7 +31,7 @@ fn row_misses(
     Ok(false)
 }
 
-/// Whether one of these keys is none of the changed ones.
+/// Whether one of these keys is not among the changed ones.
 fn has_untouched(set: &KeySet, changes: &Delta) -> bool
     ensures { result ≡ list_any (λ key. not (contains_key changes.now key)) (keys set.now) }
 {
@@ -43,7 +43,7 @@ fn has_untouched(set: &KeySet, changes: &Delta) -> bool
     false
 }
 
-/// Whether a row that is as it was refers strongly to the one of this key.
+/// Whether an unchanged row refers strongly to the one of this key.
 fn is_held_beside(links: &Links, changes: &Delta, key: &RowKey) -> bool
     ensures { result ≡ is_held_beside links.now.strong changes.now key.now }
 {
@@ -53,8 +53,8 @@ fn is_held_beside(links: &Links, changes: &Delta, key: &RowKey) -> bool
     }
 }
 
-/// Whether the row that a change puts refers strongly to one that is not there, or one that is as it was refers to the row that
-/// the change takes out.
+/// Whether the row that a change puts refers strongly to a missing row, or an unchanged row refers to the row that the change
+/// removes.
 fn change_misses(
     alloc: Global,
     schema: &Schema,
@@ -72,8 +72,8 @@ fn change_misses(
     }
 }
 
-/// Whether a strong reference is to a row that is not there (RFC 7047, 3.2, `<base-type>`, refType). It is one of a row that was
-/// changed, or one to a row that was taken out.
+/// Whether a strong reference is to a missing row (RFC 7047, 3.2, `<base-type>`, refType). Such a reference belongs to a
+/// changed row, or leads to a removed one.
 pub(crate) fn misses(
     alloc: Global,
     schema: &Schema,

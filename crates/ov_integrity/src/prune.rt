@@ -21,7 +21,7 @@ use ov_stage::Stage;
 use std::alloc::{AllocError, Global};
 use uuid::Uuid;
 
-/// Whether an atom is no weak reference to a row that is not there.
+/// Whether an atom is anything but a weak reference to a missing row.
 fn stays(
     alloc: Global,
     stage: &Stage<'_>,
@@ -42,7 +42,7 @@ fn stays(
     }
 }
 
-/// The atoms of a set that are no weak references to rows that are not there.
+/// The atoms of a set without weak references to missing rows.
 fn pruned_atoms(
     alloc: Global,
     stage: &Stage<'_>,
@@ -60,7 +60,7 @@ fn pruned_atoms(
     Ok(left)
 }
 
-/// Whether neither the key nor the value of a pair is a weak reference to a row that is not there.
+/// Whether neither the key nor the value of a pair is a weak reference to a missing row.
 fn pair_stays(
     alloc: Global,
     stage: &Stage<'_>,
@@ -75,7 +75,7 @@ fn pair_stays(
     )
 }
 
-/// The pairs of a map of which neither part is a weak reference to a row that is not there.
+/// The pairs of a map in which neither part is a weak reference to a missing row.
 fn pruned_pairs(
     alloc: Global,
     stage: &Stage<'_>,
@@ -93,7 +93,7 @@ fn pruned_pairs(
     Ok(left)
 }
 
-/// The value of a column without weak references to rows that are not there (RFC 7047, 3.2, `<base-type>`, refType).
+/// The value of a column without weak references to missing rows (RFC 7047, 3.2, `<base-type>`, refType).
 fn pruned_datum(
     alloc: Global,
     stage: &Stage<'_>,
@@ -117,7 +117,7 @@ fn pruned_datum(
     }
 }
 
-/// The columns of a row of the table without weak references to rows that are not there.
+/// The columns of a row of the table without weak references to missing rows.
 fn pruned_columns(
     alloc: Global,
     stage: &Stage<'_>,
@@ -158,7 +158,7 @@ fn has_too_few(table: &Table, name: &str, datum: &Datum) -> bool
     }
 }
 
-/// Whether the row of this key has a weak reference to a row that is not there.
+/// Whether the row of this key has a weak reference to a missing row.
 fn dangles(
     alloc: Global,
     schema: &Schema,
@@ -188,8 +188,8 @@ fn have_sixteen_bytes(stage: &Stage<'_>, key: &RowKey, version: Uuid)
     }
 }
 
-/// The row of this key without weak references to rows that are not there, if it has some. The answer is whether one of its
-/// values is now too short.
+/// Removes the weak references to missing rows from the row of this key, if it has some. Returns whether one of its values is
+/// then too short.
 fn prune_row(
     alloc: Global,
     schema: &Schema,
@@ -228,8 +228,8 @@ fn push_keys(alloc: Global, found: &mut Vec<RowKey>, others: &KeySet) -> Result<
     Ok(())
 }
 
-/// Adds the key of a change whose row has a weak reference to a row that is not there; and where the change takes its row out,
-/// the keys of the rows that referred to it weakly.
+/// Adds the key of a change whose row has a weak reference to a missing row; if the change removes its row, adds the keys of
+/// the rows that referred to it weakly.
 fn push_candidates(
     alloc: Global,
     schema: &Schema,
@@ -253,8 +253,8 @@ fn push_candidates(
     }
 }
 
-/// The keys of the rows that may have weak references to rows that are not there: of those that are changed the ones that have
-/// some, and those that referred to rows which were taken out.
+/// The keys of the rows that may have weak references to missing rows: the changed rows that have some, and the rows that
+/// referred to removed ones.
 fn candidates(
     alloc: Global,
     schema: &Schema,
@@ -272,9 +272,8 @@ fn candidates(
     Ok(found)
 }
 
-/// Takes out all weak references to rows that are not there. The answer is whether a value is then too short (RFC 7047, 3.2,
-/// `<base-type>`, refType). Only rows are looked at that the transaction has changed, and those that referred to rows that are
-/// gone.
+/// Removes all weak references to missing rows. Returns whether a value is then too short (RFC 7047, 3.2, `<base-type>`,
+/// refType). Looks only at the rows that the transaction has changed, and at those that referred to rows that are gone.
 pub(crate) fn prune(
     alloc: Global,
     schema: &Schema,

@@ -16,7 +16,7 @@ use ov_schema::Schema;
 use ov_stage::Stage;
 use std::alloc::{AllocError, Global};
 
-/// Whether the row of this key is of a root table.
+/// Whether the row of this key is in a root table.
 fn is_in_root_table(schema: &Schema, key: &RowKey) -> bool
     ensures { result ≡ is_in_root_table schema.now key.now }
 {
@@ -26,7 +26,7 @@ fn is_in_root_table(schema: &Schema, key: &RowKey) -> bool
     }
 }
 
-/// Whether one of these rows, which is as it was before the transaction, is there and is another than that of the key.
+/// Whether one of these rows exists, is unchanged since before the transaction, and is not the one of the key.
 fn has_unchanged_beside(
     holders: &KeySet,
     changes: &Changes,
@@ -43,7 +43,7 @@ fn has_unchanged_beside(
     false
 }
 
-/// Whether one of these rows is there and is another than that of the key.
+/// Whether one of these rows exists and is not the one of the key.
 fn has_beside(holders: &KeySet, stage: &Stage<'_>, key: &RowKey) -> bool
     ensures { result ≡ list_any (is_there_beside stage.now.now key.now) (keys holders.now) }
 {
@@ -55,7 +55,7 @@ fn has_beside(holders: &KeySet, stage: &Stage<'_>, key: &RowKey) -> bool
     false
 }
 
-/// Whether a different row that is there, and is as it was before the transaction, refers strongly to the one of this key.
+/// Whether another existing row, unchanged since before the transaction, refers strongly to the one of this key.
 fn is_held_by_unchanged(links: &Links, changes: &Changes, stage: &Stage<'_>, key: &RowKey) -> bool
     ensures { result ≡ some_holds links.now.strong key.now (is_unchanged_beside stage.now.now changes.now.keys key.now) }
 {
@@ -65,7 +65,7 @@ fn is_held_by_unchanged(links: &Links, changes: &Changes, stage: &Stage<'_>, key
     }
 }
 
-/// Whether a different row that is there, and that the transaction has changed, refers strongly to the one of this key.
+/// Whether another existing row, which the transaction has changed, refers strongly to the one of this key.
 fn is_held_by_changed(changes: &Changes, stage: &Stage<'_>, key: &RowKey) -> bool
     ensures { result ≡ some_holds changes.now.strong key.now (is_there_beside stage.now.now key.now) }
 {
@@ -75,7 +75,7 @@ fn is_held_by_changed(changes: &Changes, stage: &Stage<'_>, key: &RowKey) -> boo
     }
 }
 
-/// Whether the row of this key is of a root table, or a different row that is there refers strongly to it (RFC 7047, 3.2,
+/// Whether the row of this key is in a root table, or another existing row refers strongly to it (RFC 7047, 3.2,
 /// `<table-schema>`, isRoot).
 fn is_supported(
     schema: &Schema,
@@ -96,7 +96,7 @@ fn is_supported(
     is_held_by_changed(changes, stage, key)
 }
 
-/// Adds the keys of the rows that are referred to strongly.
+/// Adds the keys of the rows that are strongly referred to.
 fn push_strong(work: &mut Vec<RowKey>, targets: Vec<Target>) -> Result<(), AllocError>
     ensures { OnOk result (work.new.items ≡ work.old.items ++ strong_keys targets.items) }
 {
@@ -108,8 +108,8 @@ fn push_strong(work: &mut Vec<RowKey>, targets: Vec<Target>) -> Result<(), Alloc
     Ok(())
 }
 
-/// The keys of the rows that may have lost all support: the new ones of tables that are no root tables, and those that changed
-/// rows referred to before.
+/// The keys of the rows that may have lost all support: new rows of tables that are not root tables, and rows to which
+/// changed rows referred before.
 fn candidates(
     alloc: Global,
     schema: &Schema,
@@ -137,7 +137,7 @@ fn candidates(
     Ok(work)
 }
 
-/// Takes the row of the key out where it has no support. Then those that it referred to strongly may have lost theirs.
+/// Removes the row of the key if it has no support. The rows to which it referred strongly may then have lost theirs.
 fn drop_one(
     alloc: Global,
     schema: &Schema,
@@ -166,7 +166,7 @@ fn drop_one(
     push_strong(work, targets)
 }
 
-/// Takes out the rows that nothing keeps, and no others. Only rows are looked at whose support the transaction has changed.
+/// Removes the rows that nothing keeps, and no others. Looks only at rows whose support the transaction has changed.
 pub(crate) fn drop_unsupported(
     alloc: Global,
     schema: &Schema,

@@ -1,4 +1,4 @@
--- What a call of a keeper makes of the contents that an open now would find. What names no source is our own.
+-- How a call of a keeper changes the contents that an open would find.
 use Rattle.std.specs.Prelude.{◌≡◌, ◌⊎◌, ◌<◌, ◌-◌, ◌^◌, ℕ, List, map}
 use Rattle.std.specs.FinMap.{from_entries}
 use Rattle.ov_specs.specs.rows.Lines.{Contents, LineChange, after_changes}
@@ -7,23 +7,23 @@ use Rattle.ov_keeper.specs.declared.fault.KeepFault.{KeepFault}
 use Rattle.ov_keeper.specs.declared.fault.KeepFault.TheVariants.{Memory, Device, NotOurs, Format, TooLarge}
 use Rattle.ov_keeper.specs.Views.{line_entry}
 
--- the contents with the changes
+-- the contents after the changes
 abbrev pub changed : List LineChange → Contents → Contents
 changed changes held = record held { lines = after_changes changes held.lines }
 
--- all that may be found might be found before
+-- whatever may be found now might have been found before
 abbrev pub LeavesNoMore : (Contents → Type 0) → (Contents → Type 0) → Type 0
 LeavesNoMore old new = (held : Contents) → new held → old held
 
--- all that may be found is what might be found before, with all of the changes
+-- whatever may be found now is what might have been found before, with all of the changes
 abbrev pub LeavesChanged : List LineChange → (Contents → Type 0) → (Contents → Type 0) → Type 0
 LeavesChanged changes old new = (held : Contents) → new held → (before : Contents) × old before × (held ≡ changed changes before)
 
--- all that may be found is what might be found before, with all of the changes or with none
+-- whatever may be found now is what might have been found before, with all of the changes or with none
 abbrev pub MayLeaveChanged : List LineChange → (Contents → Type 0) → (Contents → Type 0) → Type 0
 MayLeaveChanged changes old new = (held : Contents) → new held → old held ⊎ ((before : Contents) × old before × (held ≡ changed changes before))
 
--- what a refused commit leaves; what only an open can find is no answer to it
+-- what a refused commit leaves; a fault that only an open can find is no answer to it
 abbrev pub LeavesRefused : List LineChange → (Contents → Type 0) → (Contents → Type 0) → KeepFault → Type 0
 LeavesRefused changes old new Device = MayLeaveChanged changes old new
 LeavesRefused changes old new Memory = LeavesNoMore old new
@@ -31,7 +31,7 @@ LeavesRefused changes old new TooLarge = LeavesNoMore old new
 LeavesRefused changes old new NotOurs = ⊥
 LeavesRefused changes old new Format = ⊥
 
--- a commit is refused when out of memory, by the device, or for changes that are too large; the others only an open can find
+-- a commit is refused when out of memory, by the device, or for changes that are too large; only an open can find the others
 abbrev pub IsCommitFault : KeepFault → Type 0
 IsCommitFault Memory = Unit {0}
 IsCommitFault Device = Unit {0}
@@ -47,7 +47,7 @@ IsLoadFault TooLarge = ⊥
 IsLoadFault NotOurs = ⊥
 IsLoadFault Format = ⊥
 
--- the device has failed in between: its count rose, or stood at its greatest before
+-- the device has failed in between: its count rose, or was already at its maximum
 abbrev pub HasFailed : ℕ → ℕ → Type 0
 HasFailed old new = (old < new) ⊎ (old ≡ 2 ^ 64 - 1)
 

@@ -6,7 +6,7 @@ use Rattle.ov_keeper.specs.declared.line.Line.{Line}
 use Rattle.ov_keeper.specs.declared.list.ListKeeper.{ListKeeper}
 use Rattle.ov_keeper.specs.Views.{changes_view, line_entry}
 
--- the schema's text, and the lines that the changes make, from none
+-- the schema's text, and the lines that the changes make, starting from none
 abbrev pub contents_after : List ℕ → List LineChange → Contents
 contents_after schema changes = record { schema = schema; lines = after_changes changes empty }
 
@@ -14,7 +14,7 @@ contents_after schema changes = record { schema = schema; lines = after_changes 
 abbrev pub contents_of : ListKeeper → Contents
 contents_of keeper = contents_after keeper.schema (changes_view keeper.made.items)
 
--- an open of the keeper finds just these
+-- an open of the keeper finds exactly these contents
 abbrev pub finds : ListKeeper → Contents → Type 0
 finds keeper held = held ≡ contents_of keeper
 
@@ -22,6 +22,6 @@ finds keeper held = held ≡ contents_of keeper
 abbrev pub lines_of : List Line → Lines
 lines_of lines = from_entries (map line_entry lines)
 
--- an open finds just these contents, so it finds some
+-- an open finds exactly these contents, so it finds some
 pub some_contents : (contents : Contents) → ∥ ((held : Contents) × (held ≡ contents)) ∥₁
 some_contents contents = ∣ (contents, refl) ∣₁

@@ -1,4 +1,4 @@
--- Lines and changes of the code as those of the definitions.
+-- Lines and changes of the code, in terms of the definitions.
 use Rattle.std.specs.Prelude.{List, map}
 use Rattle.ov_specs.specs.rows.Lines as lines
 use Rattle.ov_keeper.specs.declared.line.Change.{Change}

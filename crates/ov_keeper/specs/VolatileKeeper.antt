@@ -2,6 +2,6 @@
 use Rattle.std.specs.Prelude.{◌≡◌}
 use Rattle.ov_specs.specs.rows.Lines.{Contents}
 
--- just what it holds, as contracts see it
+-- exactly what it holds, as contracts see it
 abbrev pub finds : Contents → Contents → Type 0
 finds keeper held = held ≡ keeper

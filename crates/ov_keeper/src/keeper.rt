@@ -8,7 +8,7 @@ use crate::line::{Change, Line};
 use ov_base::Text;
 use std::alloc::Global;
 
-/// What a keeper was found to hold.
+/// What a load found in a keeper.
 #[derive(Drop)]
 pub struct Loaded {
     /// The compact text of the schema.
@@ -16,27 +16,27 @@ pub struct Loaded {
     pub lines: Vec<Line>,
 }
 
-/// What keeps the schema and the lines, told by what an open at this moment would find.
+/// Stores the schema and the lines. Its contracts speak of what an open at this moment would find.
 pub trait Keeper {
     /// No wrong answer of the device has been taken as true so far.
     ghost is_honest: { Self → Type 0 };
 
-    /// What an open at this moment may find, also one after a crash.
+    /// What an open at this moment may find, including one after a crash.
     ghost leaves: { Self → Contents → Type 0 };
 
     /// How often the device has failed.
     ghost failed: { Self → ℕ };
 
-    /// How often the device has failed; it stays at 2^64-1.
+    /// How often the device has failed. The count stays at 2^64-1.
     fn failures(&self) -> u64
         ensures { result ≡ failed self.now };
 
-    /// The text of the schema and all lines.
+    /// Returns the text of the schema and all lines.
     fn load(&mut self, alloc: Global) -> Result<Loaded, KeepFault>
         ensures ok { is_honest self.new → IfOk result (λ loaded. (held : Contents) → leaves self.old held → held ≡ loaded_contents loaded) }
         ensures same { is_honest self.new → LeavesNoMore (leaves self.old) (leaves self.new) }
         ensures kinds { IfErr result IsLoadFault }
-        // A failure of the device has a cause: its count rises, where it is not at its greatest.
+        // A failure of the device has a cause: its count rises, unless it is at its maximum.
         ensures cause { result ≡ Err KeepFault.Device → (failed self.old < failed self.new) ⊎ (failed self.old ≡ 2 ^ 64 - 1) }
         ensures counts { failed self.old ≤ failed self.new }
         ensures honest { is_honest self.new → is_honest self.old };
@@ -46,7 +46,7 @@ pub trait Keeper {
         ensures ok { is_honest self.new → OnOk result (LeavesChanged (changes_view changes.now) (leaves self.old) (leaves self.new)) }
         ensures err { is_honest self.new → IfErr result (LeavesRefused (changes_view changes.now) (leaves self.old) (leaves self.new)) }
         ensures kinds { IfErr result IsCommitFault }
-        // A failure of the device has a cause: its count rises, where it is not at its greatest.
+        // A failure of the device has a cause: its count rises, unless it is at its maximum.
         ensures cause { result ≡ Err KeepFault.Device → (failed self.old < failed self.new) ⊎ (failed self.old ≡ 2 ^ 64 - 1) }
         ensures counts { failed self.old ≤ failed self.new }
         ensures honest { is_honest self.new → is_honest self.old };

@@ -1,5 +1,5 @@
-//! What keeps a database between two runs of the program: the text of its schema and a line for each row. The laws of
-//! a keeper say what its calls make of what an open would find, also after a crash. What names no source is our own.
+//! Keepers store a database between two runs of the program: the text of its schema, and a line for each row. The laws of a
+//! keeper say how its calls change what an open would find, also after a crash.
 #![tactic(auto)]
 
 mod fault;

@@ -17,7 +17,7 @@ pub struct Line {
 }
 
 impl Line {
-    /// A line of the same parts.
+    /// A line with the same parts.
     pub fn copy(&self, alloc: Global) -> Result<Line, AllocError>
         ensures { IfOk result (λ copy. copy ≡ self.now) }
     {
@@ -29,7 +29,7 @@ impl Line {
         })
     }
 
-    /// Whether it is the line of a table and an identifier.
+    /// Whether it is the line of this table and identifier.
     pub(crate) fn is_at(&self, table: &str, id: Uuid) -> bool
         ensures { result ≡ eq_by_cmp line_cmp (table.now, id) (line_entry self.now).0 }
     {
@@ -40,14 +40,14 @@ impl Line {
 /// A change of one line.
 #[derive(Drop)]
 pub enum Change {
-    /// Puts the line in place of the one of its table and identifier, if there is one.
+    /// Puts the line, replacing any with its table and identifier.
     Put(Line),
     /// Removes the line, if there is one.
     Remove { table: Text, id: Uuid },
 }
 
 impl Change {
-    /// A change of the same parts.
+    /// A change with the same parts.
     pub fn copy(&self, alloc: Global) -> Result<Change, AllocError>
         ensures { IfOk result (λ copy. copy ≡ self.now) }
     {

@@ -8,7 +8,7 @@ ghost use Rattle.ov_keeper.specs.LineCode.{lines_code};
 use crate::line::Change;
 use std::marker::{Model, PhantomData};
 
-/// Lines that only contracts see: those that the changes made which it was told. At run time it is empty and its calls do nothing.
+/// Lines that only contracts see: those made by the changes added to it. At run time it is empty and its calls do nothing.
 #[derive(Drop)]
 pub(crate) struct LineTrace {
     marker: PhantomData<u8>,
@@ -22,7 +22,7 @@ impl Model for LineTrace {
 unsafe impl Send for LineTrace {}
 
 impl LineTrace {
-    /// One that was told of no change.
+    /// A trace of no changes.
     pub(crate) fn new() -> LineTrace
         ensures { result.lines ≡ empty }
     {
@@ -31,7 +31,7 @@ impl LineTrace {
         }
     }
 
-    /// Tells it of these changes, in their order.
+    /// Adds these changes, in order.
     pub(crate) fn add(&mut self, _changes: &[Change])
         ensures { self.new.lines ≡ after_changes (changes_view _changes.now) self.old.lines }
     {}

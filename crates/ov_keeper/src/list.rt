@@ -11,8 +11,8 @@ use ov_base::Text;
 use std::alloc::{AllocError, Global};
 use uuid::Uuid;
 
-/// A keeper in memory, for tests and small databases: a load takes time quadratic in the changes that were made. Each
-/// refusal is Memory, and a refused call changes nothing that it holds.
+/// A keeper in memory, for tests and small databases: a load takes time quadratic in the number of changes made. Each
+/// refusal is `Memory`, and a refused call changes nothing that it holds.
 #[derive(Drop)]
 pub struct ListKeeper {
     schema: Text,
@@ -20,7 +20,7 @@ pub struct ListKeeper {
 }
 
 impl ListKeeper {
-    /// A keeper of this schema's text, and of no line.
+    /// A keeper with this schema text and no lines.
     pub fn new(alloc: Global, schema: Text) -> ListKeeper
         ensures { (held : Contents) → ⟦<ListKeeper as Keeper>⟧.leaves result held ↔ (held ≡ record { schema = schema; lines = empty }) }
     {
@@ -97,7 +97,7 @@ fn copy_all(alloc: Global, changes: &[Change]) -> Result<Vec<Change>, AllocError
     Ok(copies)
 }
 
-/// The lines that the changes make, from none.
+/// The lines that the changes make, starting from none.
 fn lines_after(alloc: Global, changes: &[Change]) -> Result<Vec<Line>, AllocError>
     ensures { IfOk result (λ lines. lines_of lines.items ≡ after_changes (changes_view changes.now) empty) }
 {

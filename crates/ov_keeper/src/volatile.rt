@@ -10,10 +10,11 @@ use ov_base::Text;
 use std::alloc::Global;
 use std::marker::Model;
 
-/// A keeper in memory that has no line in it: what it holds is known to contracts alone. So a commit takes no time and no memory.
+/// A keeper in memory that stores no lines: only contracts know what it holds. So a commit takes no time and allocates nothing.
 ///
-/// It serves a database that is gone when the program ends, whose rows lie in memory already. Until the first commit a load gives
-/// the schema's text, and no line. Then there are lines, which a load can't give, and it is refused as for want of memory.
+/// It is for a database that is gone when the program ends, and whose rows are in memory already. Until the first commit, a
+/// load returns the schema's text and no lines. Afterwards there are lines that a load cannot return, so it is refused with
+/// `Memory`.
 #[derive(Drop)]
 pub struct VolatileKeeper {
     schema: Text,
@@ -37,7 +38,7 @@ impl Model for VolatileKeeper {
 }
 
 impl VolatileKeeper {
-    /// A keeper of this schema's text, and of no line.
+    /// A keeper with this schema text and no lines.
     pub fn new(schema: Text) -> VolatileKeeper
         ensures { (held : Contents) → ⟦<VolatileKeeper as Keeper>⟧.leaves result held ↔ (held ≡ record { schema = schema; lines = empty }) }
     {

@@ -1,4 +1,4 @@
--- All lanes, where one was moved on.
+-- All lanes, one of which was moved on.
 use Rattle.std.proofs.Common.{◌≡◌, ◌≢◌, ℕ, ◌+◌, ◌<◌, List, length, get_or, slice_set, refl, sym, ap, ◌∙◌, subst, arith, rules, get_or-set_other, length-set, inl, inr}
 use Rattle.std.proofs.lemmas.Grind.{get_or-set_at}
 use Rattle.std.proofs.lemmas.Bool.{cases_eq}

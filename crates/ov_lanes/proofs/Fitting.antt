@@ -76,7 +76,7 @@ took_as : (closed closed' : Option machine.Cause) (asks asks' : List Message) (i
 took_as closed closed' asks asks' items same same' t =
     subst (λ (o : Option machine.Cause). Took o asks' items) (sym same) (subst (λ (l : List Message). Took closed l items) (sym same') t)
 
--- what comes behind a closing is dropped
+-- what comes after a closing is dropped
 took_dropped : (x : machine.Cause) (asks : List Message) (items : Items) (item : Brought Message ReadCause) → Took (Some x) asks items → Took (Some x) asks (items ++ item ∷ [])
 took_dropped x asks items item t = (
   t.0 ++ item ∷ [],
@@ -172,7 +172,7 @@ knows_marked closed None some (inr memory) = memory
 knows_marked closed (Some cause) some is = is
 
 module _ (c : Course) (known : Option Cause) (items : Items) (put : List Sent) (ended : Bool) where
-  -- behind them the end mark was put
+  -- the end mark was put after them
   pub fits_marked : c.is_open ≡ false → c.waiting ≡ [] → FitsCourse c known items put false ended → FitsCourse c (Some (unwrap_or known Memory)) items (put ++ End ∷ []) true ended
   fits_marked away none f = record {
     took = f.took;

@@ -30,7 +30,7 @@ use Rattle.ov_lanes.proofs.Fitting.{fits_spared}
 use Rattle.ov_lanes.proofs.Single.{IsLane, lane_fits}
 use Rattle.ov_lanes.specs.Opening.{IsUntouched, OpensAll}
 
--- nothing was done yet
+-- nothing has been done yet
 pub since_none : {K D : Type 0} (a : CoreState K D) → HasHistory a.state a.kept → Since a a
 since_none a known = record {
   entries = [];
@@ -67,7 +67,7 @@ module _ {K D : Type 0} {start a b : CoreState K D} (p : Since start a) (e : Ent
   pub closed_same : (n : ℕ) → closed_by start.state x.after.entries n ≡ closed_by start.state p.entries n
   closed_same n = x.closed n ∙ (ap (option_or (closed_by start.state p.entries n)) (turn n).cause_is ∙ option_or_none (closed_by start.state p.entries n))
 
-  -- a session that was opened before is open just where it was
+  -- a session that was opened before is open if and only if it was
   others_same : (n : ℕ) → n ≢ a.state.next → is_open b.state n ≡ is_open a.state n
   others_same n ne = (turn n).open_is ∙ (ap (λ (k : Bool). is_open a.state n || k) (ne_eqb a.state.next n (λ same. ne (sym same))) ∙ or_nothing (is_open a.state n))
 

@@ -28,7 +28,7 @@ module _ {A B : Type 0} (holds : A → B → Type 0) where
   pairs_length (u ∷ xs) [] p = absurd p
   pairs_length (u ∷ xs) (v ∷ ys) p = let e : length xs ≡ length ys = pairs_length xs ys p.1 in omega arith
 
-  -- where the last of each was taken off
+  -- the last of each was taken off
   pub pairs_popped : (xs xs' : List A) (ys ys' : List B) (a : A) (b : B) → xs ≡ xs' ++ a ∷ [] → ys ≡ ys' ++ b ∷ [] → Pairwise holds xs ys → Pairwise holds xs' ys' × holds a b
   pairs_popped xs xs' ys ys' a b e e' p = pairs_last xs' ys' a b (subst (λ (l : List B). Pairwise holds (xs' ++ a ∷ []) l) e' (subst (λ (l : List A). Pairwise holds l ys) e p))
 

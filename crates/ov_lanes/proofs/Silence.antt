@@ -21,7 +21,7 @@ suits : {A : Type 0} (b : Bool) (o : Option A) (x : A) → when b o ≡ Some x �
 suits true o x h = (refl, h)
 suits false o x h = cc
 
--- where all is sent to open sessions, one that is not open is sent nothing
+-- if all is sent to open sessions, one that is not open is sent nothing
 none_sent : (s : State) (n : ℕ) (sent : List Sent) → list_all (λ x. is_open s x.session) sent ≡ true → is_open s n ≡ false → frames_to n sent ≡ []
 none_sent s n [] to_open away = refl
 none_sent s n (x ∷ sent) to_open away =

@@ -14,12 +14,13 @@ use Rattle.ov_specs.proofs.laws.Turns.{MayClose, turn_open, turn_tick, turn_clos
 use Rattle.ov_outbox.proofs.Answered.{frames_to-append}
 use Rattle.ov_lanes.proofs.Silence.{away_silent, close_of_open, opening_in_order}
 
--- A session whose serial is still to come is not open. Those that are told of locks are open, since the queues are in order.
+-- A session whose serial is still to come is not open. Sessions that are notified of locks are open, since the queues are in
+-- order.
 pub record ToCome (n : ℕ) (s : State) : Type 0 where
   pub away : s.next ≤ n → is_open s n ≡ false
   pub order : InOrder s
 
--- What a step leaves of a session that may be still to come. Where it is after the step, nothing was done to it.
+-- What a step leaves of a session that may be still to come. If it still is after the step, nothing was done to it.
 pub record Awaits (n : ℕ) (s : State) (e : Entry) (t : Stepped) : Type 0 where
   pub grows : s.next ≤ t.state.next
   pub to_come : ToCome n t.state

@@ -1,11 +1,11 @@
--- What became of a session. What names no source is our own.
+-- What became of a session.
 use Rattle.std.specs.Prelude.{◌≡◌, ◌⊎◌, ℕ, List, [], ◌++◌, Bool, true, false, Option, Some}
 use Rattle.std.specs.Option.{option_or}
 use Rattle.ov_specs.specs.wire.Message.{Message}
 use Rattle.ov_specs.specs.machine.Machine as machine
 
--- What became of a session: whether it is open, why it was closed if it was, the messages that were taken of it, the frames that
--- were handed out of it, and those that wait.
+-- What became of a session: whether it is open, why it was closed if it was, the messages taken from it, the frames handed
+-- out of it, and the frames that wait.
 pub record Course : Type 0 where
   pub is_open : Bool
   pub closed : Option machine.Cause

@@ -1,4 +1,4 @@
--- How the rings of a session fit what became of it. What names no source is our own.
+-- How the rings of a session fit what became of it.
 use Rattle.std.specs.Prelude.{◌≡◌, ◌≢◌, ◌⊎◌, ℕ, ◌+◌, ◌<◌, List, [], ◌∷◌, ◌++◌, length, map, Bool, true, false, not, Option, Some, None, is_some}
 use mathlib.Core.List.{IsPrefix}
 use Rattle.ov_specs.specs.wire.Message.{Message}
@@ -23,14 +23,14 @@ Items = List (Brought Message ReadCause)
 abbrev pub brought : List Message → Items
 brought messages = map (λ message. Brings message) messages
 
--- why a session is closed for which its reader's end is taken
+-- why a session is closed when its reader's end is taken
 abbrev pub end_cause : ReadCause → machine.Cause
 end_cause reads.InputEnded = machine.InputEnded
 end_cause reads.ReadFault = machine.ReadFault
 end_cause reads.Damaged = machine.Damaged
 end_cause reads.Memory = machine.Memory
 
--- A session is closed for this cause only by its reader's end, behind all of its messages.
+-- Only a reader's end closes a session for this cause, after all of its messages.
 abbrev pub is_of_reader : machine.Cause → Bool
 is_of_reader machine.InputEnded = true
 is_of_reader machine.ReadFault = true
@@ -48,8 +48,8 @@ is_by_reader (Some cause) = is_of_reader cause
 abbrev pub IsEndFor : machine.Cause → Items → Type 0
 IsEndFor cause items = (last : ReadCause) × (others : Items) × (items ≡ Last last ∷ others) × (end_cause last ≡ cause)
 
--- What was taken of a ring, by why its session was closed. While it is open, that is the messages which the history has of it. If
--- its reader closed it, the end comes behind them; else whatever came behind them was dropped.
+-- What was taken from a ring, by why its session was closed. While the session is open, these are the messages that the
+-- history has of it. If its reader closed it, the end follows them; otherwise what followed them was dropped.
 abbrev pub Took : Option machine.Cause → List Message → Items → Type 0
 Took None messages items = items ≡ brought messages
 Took (Some cause) messages items = (others : Items) × (items ≡ brought messages ++ others) × (is_of_reader cause ≡ true → IsEndFor cause others)
@@ -60,8 +60,8 @@ Took (Some cause) messages items = (others : Items) × (items ≡ brought messag
 abbrev pub framed : List (List ℕ) → List Sent
 framed frames = map (λ bytes. Frame bytes) frames
 
--- What was put into a ring: the frames that were handed out. Behind the end mark nothing follows, nothing waits, and where the
--- reader closed the session no frame was dropped.
+-- What was put into a ring: the frames that were handed out. After the end mark nothing follows and nothing waits, and if
+-- the reader closed the session no frame was dropped.
 abbrev pub Puts : Course → Bool → List Sent → Type 0
 Puts c false put = (put ≡ framed c.handed) × (is_by_reader c.closed ≡ true → c.waiting ≡ [])
 Puts c true put =
@@ -70,7 +70,7 @@ Puts c true put =
 
 -- ---- a lane
 
--- what is known of a closing: a session that was closed and of which nothing is known was closed as out of memory
+-- what is known of a closing: a closed session of which nothing is known was closed as out of memory
 abbrev pub Knows : Option machine.Cause → Option Cause → Type 0
 Knows closed None = (closed ≡ None) ⊎ (closed ≡ Some machine.Memory)
 Knows closed (Some cause) = closed ≡ Some (cause_view cause)
@@ -88,7 +88,7 @@ pub record FitsCourse (c : Course) (cause : Option Cause) (items : Items) (put :
   pub opens : is_some c.closed ≡ not c.is_open
   -- that a write failed is learnt only at the end
   pub unfailed : c.closed ≢ Some machine.WriteFault
-  -- it did not take what was sent to it: these were more frames than its ring has room for
+  -- the session did not take what was sent to it: more frames than its ring has room for
   pub overrun : c.closed ≡ Some machine.Overrun → most_frames < length c.handed + length c.waiting
 
 -- the end mark was put, or the session is open and nothing waits for it

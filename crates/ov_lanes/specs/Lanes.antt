@@ -1,4 +1,4 @@
--- The lanes of a desk, and what became of their sessions. What names no source is our own.
+-- The lanes of a desk, and what became of their sessions.
 use Rattle.std.specs.Prelude.{◌≡◌, ℕ, ◌+◌, ◌<◌, List, length, slice_index_or}
 use Rattle.rtrb.specs.Ring.{sent, received, SameProducer, SameConsumer}
 use Rattle.ov_core.specs.Following.{CoreState}
@@ -31,7 +31,7 @@ pub record AllFit {K D : Type 0} {first core : CoreState K D} (since : Since fir
   pub each : (i : ℕ) (d : Lane) → i < length ls → LaneFits since (slice_index_or ls i d)
   pub serials : (i : ℕ) (d : Lane) → i < length ls → (slice_index_or ls i d).session.serial ≡ base + i
 
--- what was done since the core was `first` is fitted by all lanes
+-- all lanes fit what was done since the core was `first`
 pub record Serves {K D : Type 0} (first : CoreState K D) (base : ℕ) (core : CoreState K D) (ls : List Lane) : Type 0 where
   pub since : Since first core
   pub fits : AllFit since base ls

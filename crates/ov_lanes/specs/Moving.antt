@@ -1,4 +1,4 @@
--- What single moves make of a core; for private clauses. What names no source is our own.
+-- What single moves make of a core; for private clauses.
 use Rattle.std.specs.Prelude.{◌≡◌, ◌⊎◌, ◌≤◌, ℕ, List, [], ◌∷◌, ◌++◌, length, Bool, true, false, Option, Some, MatchBool}
 use Rattle.ov_specs.specs.machine.Machine as machine
 use Rattle.ov_specs.specs.machine.Machine.{is_open}
@@ -19,17 +19,17 @@ use Rattle.ov_lanes.specs.Since.{HandsOut}
 use Rattle.ov_lanes.specs.Fitting.{framed, most_frames, end_cause}
 use Rattle.ov_lanes.specs.declared.lane.Lane.{Lane}
 
--- The session was closed for the cause, which is known then; or it was not open, and nothing was done.
+-- The session was closed for the cause, which is then known; or it was not open, and nothing was done.
 abbrev pub ClosesOnce : {K D : Type 0} → ℕ → machine.Cause → CoreState K D → CoreState K D → Option Cause → Option Cause → Type 0
 ClosesOnce n why old new known known' =
     ((at : ℕ) × Closes at n why old new × ((cause : Cause) × (known' ≡ Some cause) × (cause_view cause ≡ why)))
     ⊎ ((new ≡ old) × (is_open old.state n ≡ false) × (known' ≡ known))
 
--- one frame more was handed out than these
+-- one frame more than these was handed out
 abbrev pub DropsOne : List (List ℕ) → List (List ℕ) → Type 0
 DropsOne moved frames = (last : List ℕ) × (frames ≡ moved ++ last ∷ [])
 
--- Frames were handed out and put into the ring: all that waited, or all but the last one, since there was no room for it.
+-- Frames were handed out and put into the ring: all that waited, or all but the last one, for which there was no room.
 pub record MovesFrames {K D : Type 0} (n : ℕ) (is_all : Bool) (old new : CoreState K D) (put put' : List Sent) : Type 0 where
   pub frames : List (List ℕ)
   pub moved : List (List ℕ)
@@ -37,14 +37,14 @@ pub record MovesFrames {K D : Type 0} (n : ℕ) (is_all : Bool) (old new : CoreS
   pub puts : put' ≡ put ++ framed moved
   pub all : MatchBool is_all ((moved ≡ frames) × (waiting_for n new.outbox ≡ [])) (DropsOne moved frames × (most_frames ≤ length put'))
 
--- The session was closed, if it was open, as one that did not take what was sent to it; and what waited for it was dropped.
+-- The session was closed, if it was open, because it did not take what was sent to it, and what waited for it was dropped.
 pub record GivesUp {K D : Type 0} (n : ℕ) (old new : CoreState K D) (known known' : Option Cause) : Type 0 where
   pub mid : CoreState K D
   pub closes : ClosesOnce n machine.Overrun old mid known known'
   pub drops : HandsOut n (waiting_for n mid.outbox) mid new
   pub none_left : waiting_for n new.outbox ≡ []
 
--- nothing but what was put, and what is known of a closing, is changed
+-- only what was put and what is known of a closing are changed
 abbrev pub SameInbound : Lane → Lane → Type 0
 SameInbound a b = SameProducer a.outbound b.outbound × (b.inbound ≡ a.inbound) × (b.session ≡ a.session) × (b.ended ≡ a.ended)
 

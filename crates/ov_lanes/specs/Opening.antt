@@ -1,4 +1,4 @@
--- What opening sessions makes of a core, for their lanes. What names no source is our own.
+-- What opening sessions makes of a core, for their lanes.
 use Rattle.std.specs.Prelude.{◌≡◌, ◌⊎◌, ℕ, ◌+◌, ◌<◌, ◌≤◌, List, [], length, slice_index_or, Bool, Some, None, true, false}
 use Rattle.ov_specs.specs.machine.Machine as machine
 use Rattle.ov_specs.specs.machine.Machine.{is_open}
@@ -11,15 +11,15 @@ use Rattle.ov_lanes.specs.Since.{Since, HandsOut, course_of}
 use Rattle.ov_lanes.specs.Lanes.{AllFit}
 use Rattle.ov_lanes.specs.declared.lane.Lane.{Lane}
 
--- nothing was done to the session but to open it
+-- the session was opened, and nothing else was done to it
 abbrev pub IsUntouched : Course → Type 0
 IsUntouched c = (c.closed ≡ None) × (c.asks ≡ []) × (c.handed ≡ [])
 
--- It is open just where it was before, it was not closed, and nothing was handed out of it.
+-- It is open if and only if it was before, it was not closed, and nothing was handed out of it.
 abbrev pub IsLeftAlone : Bool → Course → Type 0
 IsLeftAlone was_open c = (c.is_open ≡ was_open) × (c.closed ≡ None) × (c.handed ≡ [])
 
--- Since the core was `start` sessions were opened and nothing else was done, and they have these lanes.
+-- Since the core was `start`, sessions were opened and nothing else was done, and they have these lanes.
 pub record OpensAll {K D : Type 0} (start : CoreState K D) (base : ℕ) (core : CoreState K D) (ls : List Lane) : Type 0 where
   pub since : Since start core
   pub untouched : (n : ℕ) → IsUntouched (course_of since n)
@@ -41,8 +41,8 @@ IsGivenUp c = (c.is_open ≡ false) × (c.closed ≡ Some machine.Memory)
 abbrev pub IsIdle : Course → Type 0
 IsIdle c = ((c.is_open ≡ true) × (c.closed ≡ None)) ⊎ IsGivenUp c
 
--- Since the core was `start` so many sessions were opened, and of no session a message was taken. All but the first of them,
--- which have these lanes, were closed again. Those of before were left alone.
+-- Since the core was `start`, this many sessions were opened, and no message was taken from any session. All but the first
+-- ones, which have these lanes, were closed again. Earlier sessions were left alone.
 pub record ClosesDown {K D : Type 0} (start : CoreState K D) (base total : ℕ) (core : CoreState K D) (ls : List Lane) : Type 0 where
   pub since : Since start core
   pub next : core.state.next ≡ base + total
@@ -52,8 +52,8 @@ pub record ClosesDown {K D : Type 0} (start : CoreState K D) (base total : ℕ) 
   pub given_up : (n : ℕ) → base + length ls ≤ n → n < base + total → IsGivenUp (course_of since n)
   pub others : (n : ℕ) → n < base → IsLeftAlone (is_open start.state n) (course_of since n)
 
--- More was done: of no session a message was taken, each session that was opened was closed again, as out of memory, and those of
--- before were left alone.
+-- More was done: no message was taken from any session, each session that was opened was closed again, as out of memory, and
+-- earlier sessions were left alone.
 pub record ClosesAgain {K D : Type 0} (old new : CoreState K D) : Type 0 where
   pub since : Since old new
   pub untaken : (n : ℕ) → requests since.entries n ≡ []

@@ -1,4 +1,4 @@
--- Lists that go together. It is our own.
+-- Lists that go together.
 use Rattle.std.specs.Prelude.{List, [], ◌∷◌}
 
 -- the relation holds of the elements of two lists, place by place

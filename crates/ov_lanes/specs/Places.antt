@@ -1,4 +1,4 @@
--- Which sessions a machine can still open. What names no source is our own.
+-- Which sessions a machine can still open.
 use Rattle.std.specs.Prelude.{ℕ, ◌-◌, ◌&&◌, nat_le, length, Bool}
 use Rattle.ov_specs.specs.machine.Machine.{State}
 use Rattle.ov_sessions.specs.Sessions.{most_sessions, beyond_serials}

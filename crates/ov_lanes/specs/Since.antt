@@ -1,4 +1,4 @@
--- What a desk has made of a core since it began. What names no source is our own.
+-- What a desk has made of a core since it began.
 use Rattle.std.specs.Prelude.{◌≡◌, ◌≢◌, ℕ, List, ◌++◌, Some}
 use Rattle.ov_specs.specs.machine.Machine as machine
 use Rattle.ov_specs.specs.machine.Machine.{State, Sent, is_open}
@@ -19,8 +19,9 @@ pub record HandsOut {K D : Type 0} (n : ℕ) (frames : List (List ℕ)) (old new
 abbrev pub and_then_handed : (ℕ → List (List ℕ)) → (ℕ → List (List ℕ)) → ℕ → List (List ℕ)
 and_then_handed given handed session = given session ++ handed session
 
--- What was done since the core was `first`: whatever history and frames it had followed then, it now follows the history with
--- these entries behind it, and these frames were handed out on the way. Of the entries that were kept and these the newest are kept.
+-- What was done since the core was `first`: whatever history and frames it had followed then, it now follows the history
+-- with these entries appended, and these frames were handed out on the way. The core keeps the newest of the entries it had
+-- kept and these.
 pub record Since {K D : Type 0} (first core : CoreState K D) : Type 0 where
   pub entries : List machine.Entry
   pub sent : List Sent
@@ -42,7 +43,7 @@ course_of {first = first} {core = core} since session = record {
   waiting = waiting_for session core.outbox;
 }
 
--- More was done, and the sessions but one were not meant.
+-- More was done, and no session but one was meant.
 pub record Goes {K D : Type 0} {first old : CoreState K D} (n : ℕ) (since : Since first old) (new : CoreState K D) : Type 0 where
   pub after : Since first new
   pub beside : (other : ℕ) → other ≢ n → Spares (course_of since other) (course_of after other)

@@ -34,10 +34,11 @@ fn settle_each<K: Keeper + Drop, D: Draws + Drop>(core: &mut Core<K, D>, lanes: 
     }
 }
 
-/// Moves what waits for all sessions: frames into their rings, and behind the last frame of a closed session the end mark. A
+/// Moves what waits for all sessions: frames into their rings, and after the last frame of a closed session the end mark. A
 /// session whose ring has no room for a frame is closed as `Overrun`.
 ///
-/// A session that is closed so may have owned locks, whose next owners are told so: then all are gone over again.
+/// A session closed this way may have owned locks, and their next owners are notified: then all sessions are gone over
+/// again.
 pub fn settle_all<K: Keeper + Drop, D: Draws + Drop>(core: &mut Core<K, D>, lanes: &mut Vec<Lane>)
     ensures serves { (start : CoreState K D) (base : ℕ) → Serves start base core.old lanes.old.items → Serves start base core.new lanes.new.items }
     ensures rings { SameLanes lanes.old.items lanes.new.items }
@@ -51,8 +52,8 @@ pub fn settle_all<K: Keeper + Drop, D: Draws + Drop>(core: &mut Core<K, D>, lane
     }
 }
 
-/// Takes one item of the lane at a place, and then moves what waits for all sessions. A message is entered at the moment in
-/// milliseconds, or at the last one if that is later. False where no item was seen.
+/// Takes one item of the lane at a place, then moves what waits for all sessions. Enters a message at the moment in
+/// milliseconds, or at the last one if that is later. Returns false if no item was seen.
 pub fn turn_at<K: Keeper + Drop, D: Draws + Drop>(
     core: &mut Core<K, D>,
     alloc: Global,
@@ -85,7 +86,7 @@ fn take_at<K: Keeper + Drop, D: Draws + Drop>(
     turn_lane(core, alloc, moment, lane)
 }
 
-/// Whether something was put into the ring of the lane at a place since this was asked last.
+/// Whether something was put into the ring of the lane at a place since the last such call.
 pub fn take_news<K: Keeper + Drop, D: Draws + Drop>(
     core: &Core<K, D>,
     lanes: &mut Vec<Lane>,
@@ -103,7 +104,7 @@ pub fn take_news<K: Keeper + Drop, D: Draws + Drop>(
     news
 }
 
-/// Each reader's end was taken, and behind each session's last frame the end mark was put.
+/// Whether each reader's end was taken, and the end mark was put after each session's last frame.
 pub fn is_over(lanes: &Vec<Lane>) -> bool
     ensures { result ≡ true → (i : ℕ) (d : SpecLane) → i < vec_len lanes.now → ((slice_index_or lanes.now.items i d).ended ≡ true) × ((slice_index_or lanes.now.items i d).marked ≡ true) }
 {

@@ -3,13 +3,13 @@ use thiserror::Error;
 /// Why links are not served.
 #[derive(Clone, Copy, Debug, PartialEq, Eq, Error)]
 pub enum ServeFault {
-    /// Memory was refused.
+    /// An allocation failed.
     #[error("out of memory")]
     Memory,
-    /// A thread was refused.
+    /// A thread could not be started.
     #[error("no thread could be started")]
     Threads,
-    /// There are more links than the machine has places or serials left for sessions.
+    /// The machine has fewer places or serials left for sessions than there are links.
     #[error("too many links")]
     TooMany,
 }

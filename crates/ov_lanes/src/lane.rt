@@ -7,22 +7,22 @@ use ov_rpc::Received;
 use ov_workers::ReadCause;
 use rtrb::{Consumer, Producer};
 
-/// The desk's ends of one session's rings. In the outbound ring there is always room for the end mark.
+/// The desk's ends of one session's rings. The outbound ring always has room for the end mark.
 #[derive(Drop)]
 pub struct Lane {
-    /// Whose rings they are.
+    /// The session whose rings they are.
     pub session: Session,
     /// What its reader brings.
     pub inbound: Consumer<Brought<Received, ReadCause>>,
     /// What its writer is sent.
     pub outbound: Producer<Sent>,
-    /// Why the session was closed, where it is known.
+    /// Why the session was closed, if that is known.
     pub cause: Option<Cause>,
-    /// The reader's end was taken.
+    /// Whether the reader's end was taken.
     pub ended: bool,
-    /// The end mark was put.
+    /// Whether the end mark was put.
     pub marked: bool,
-    /// Something was put since its writer was told so.
+    /// Whether something was put since its writer was last told so.
     pub news: bool,
     ghost room: { marked ≡ false → 0 < known_free outbound },
     ghost places: { 1025 ≤ known_free outbound + length (sent outbound) },

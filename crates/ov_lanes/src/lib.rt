@@ -1,5 +1,5 @@
-//! The desk's side of the rings of its sessions: what it takes of them goes into the core, and what the core sends goes into
-//! them; and what is served: a desk, and the two ends of a session. This crate starts no thread and waits for nobody.
+//! The desk's side of its sessions' rings: what it takes from them goes into the core, and what the core sends goes into
+//! them. Also what is served: a desk, and the two ends of a session. This crate starts no thread and never waits.
 #![tactic(auto)]
 
 mod all;

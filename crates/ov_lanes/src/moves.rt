@@ -24,8 +24,8 @@ use ov_rpc::Received;
 use ov_workers::ReadCause;
 use std::alloc::Global;
 
-/// Puts the frames that wait for the session into its ring, oldest first. False where there was no room for one of them, which is
-/// dropped: the last place is kept for the end mark.
+/// Puts the frames that wait for the session into its ring, oldest first. Returns false if there was no room for one of
+/// them, which is dropped: the last place is kept for the end mark.
 fn move_frames<K: Keeper + Drop, D: Draws + Drop>(core: &mut Core<K, D>, lane: &mut Lane) -> bool
     requires { lane.old.marked ≡ false }
     ensures moves { MovesFrames lane.old.session.serial result core.old core.new (sent lane.old.outbound) (sent lane.new.outbound) }
@@ -58,7 +58,7 @@ fn close<K: Keeper + Drop, D: Draws + Drop>(core: &mut Core<K, D>, lane: &mut La
     }
 }
 
-/// Closes the session, if it is open, since there is no room in its ring, and drops the frames that wait for it.
+/// Closes the session, if it is open, because its ring has no room, and drops the frames that wait for it.
 fn give_up<K: Keeper + Drop, D: Draws + Drop>(core: &mut Core<K, D>, lane: &mut Lane)
     ensures gives_up { GivesUp lane.old.session.serial core.old core.new lane.old.cause lane.new.cause }
     ensures inbound { SameInbound lane.old lane.new }
@@ -69,7 +69,7 @@ fn give_up<K: Keeper + Drop, D: Draws + Drop>(core: &mut Core<K, D>, lane: &mut 
     core.discard(lane.session);
 }
 
-/// Puts the end mark. A session that was closed for no cause that is known was closed as out of memory.
+/// Puts the end mark. If the cause of the closing is not known, the session was closed as out of memory.
 fn mark(lane: &mut Lane)
     requires { lane.old.marked ≡ false }
     ensures put { sent lane.new.outbound ≡ sent lane.old.outbound ++ End ∷ [] }
@@ -83,8 +83,8 @@ fn mark(lane: &mut Lane)
     lane.news = true;
 }
 
-/// Puts what waits for the session into its ring, and behind the last frame of a closed session the end mark. Where there is no
-/// room for a frame, the session is closed as `Overrun`, if it is open, and what waits for it is dropped.
+/// Puts what waits for the session into its ring, and after the last frame of a closed session the end mark. If there is no
+/// room for a frame, closes the session as `Overrun`, if it is open, and drops what waits for it.
 pub fn settle<K: Keeper + Drop, D: Draws + Drop>(core: &mut Core<K, D>, lane: &mut Lane)
     ensures settles { (first : CoreState K D) (since : Since first core.old) → LaneFits since lane.old → Settles since lane.old core.new lane.new }
     ensures inbound { SameInbound lane.old lane.new }
@@ -102,7 +102,7 @@ pub fn settle<K: Keeper + Drop, D: Draws + Drop>(core: &mut Core<K, D>, lane: &m
     }
 }
 
-/// Why a session is closed for which its reader's end is taken.
+/// Why a session is closed when its reader's end is taken.
 fn cause_of(cause: ReadCause) -> Cause
     ensures { cause_view result ≡ end_cause cause }
 {
@@ -114,7 +114,7 @@ fn cause_of(cause: ReadCause) -> Cause
     }
 }
 
-/// Enters the message at the moment, or at the last one if that is later. That of a closed session is dropped.
+/// Enters the message at the moment, or at the last one if that is later. A message of a closed session is dropped.
 fn take_message<K: Keeper + Drop, D: Draws + Drop>(
     core: &mut Core<K, D>,
     alloc: Global,
@@ -142,7 +142,7 @@ fn take_end<K: Keeper + Drop, D: Draws + Drop>(
     close(core, lane, cause_of(cause));
 }
 
-/// Takes an item that was popped of the ring.
+/// Takes an item that was popped from the ring.
 fn take_item<K: Keeper + Drop, D: Draws + Drop>(
     core: &mut Core<K, D>,
     alloc: Global,
@@ -160,9 +160,9 @@ fn take_item<K: Keeper + Drop, D: Draws + Drop>(
     }
 }
 
-/// Takes one item of the ring: a message is entered at the moment in milliseconds, or at the last one if that is later, and an
-/// end closes the session. What comes behind a closing is dropped. False where no item was seen. What waits for the session
-/// before is moved first; what the item brings is not.
+/// Takes one item from the ring: enters a message at the moment in milliseconds, or at the last one if that is later; an end
+/// closes the session. What comes after a closing is dropped. Returns false if no item was seen. What already waits for the
+/// session is moved first; what the item adds is not.
 pub fn turn_lane<K: Keeper + Drop, D: Draws + Drop>(
     core: &mut Core<K, D>,
     alloc: Global,

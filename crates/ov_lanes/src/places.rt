@@ -5,7 +5,7 @@ use ov_core::Core;
 use ov_keeper::Keeper;
 use ov_requests::Draws;
 
-/// Whether the machine has places and serials left for this many more sessions. It allocates nothing.
+/// Whether the machine has places and serials left for this many more sessions. Allocates nothing.
 pub fn has_places<K: Keeper + Drop, D: Draws + Drop>(core: &Core<K, D>, count: usize) -> bool
     ensures { result ≡ has_places count core.now.state }
 {

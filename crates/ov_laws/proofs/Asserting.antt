@@ -80,7 +80,7 @@ module _ (c : OpContext) (name : List ℕ) where
       by (Fault error) goes later = absurd (nulls_pass_not k operations (subst Later (sym goes) passes))
       by (Blocked timeout) goes later = cc
 
--- where an "assert" has passed, the lock is owned
+-- if an "assert" has passed, the lock is owned
 transaction_passes : (schema : Schema) (before : Database) (owns : Owns) (draws : List Uuid) (age : ℕ) (operations results : Items) (database : Database) (place : ℕ) (d : Data) (name : List ℕ)
     → transaction schema before owns draws age operations ≡ Completes results database → item_at place operations ≡ Some d → Asserts name d → Passes place results → owns name ≡ true
 transaction_passes schema before owns [] age operations results database place d name h at is passes = absurd (no (subst Later (sym h) passes))
@@ -96,7 +96,7 @@ transaction_passes schema before owns (version ∷ ids) age operations results d
 
 -- ---- an attempt
 
--- what passes among the results with an error behind them, passes among them
+-- what passes among results followed by an error passes among those results
 passes_before_error : (place : ℕ) (results : Items) (error : OpError) → Passes place (and_item results (error_tree error)) → Passes place results
 passes_before_error zero no_items error h = cc
 passes_before_error (suc place) no_items error h = cc

@@ -1,4 +1,4 @@
--- Which sessions have a cause: those that were open and are not open any more.
+-- Which sessions have a cause: those that were open and no longer are.
 use Rattle.std.proofs.Common.{◌≡◌, ℕ, ◌+◌, ◌<◌, ◌≤◌, List, [], ◌∷◌, Bool, true, false, cond, eqb, Some, None, is_some, refl, sym, ap, subst, ◌∙◌, ◌⊎◌, inl, inr, arith}
 use Rattle.std.specs.Prelude.{not, ◌&&◌, ◌||◌}
 use Rattle.std.specs.Option.{option_or}
@@ -57,7 +57,7 @@ stays_away n s t (inl (inl same, next)) away low = same ∙ away
 stays_away n s t (inl (inr shut, next)) away low = shut
 stays_away n s t (inr (opens, next)) away low = opens ∙ (ap (λ b. b || eqb s.next n) away ∙ ne_eqb s.next n (λ e. omega (arith, e)))
 
--- and one that is to come is opened with its serial, or is still to come
+-- and one still to come is opened with its serial, or is still to come
 opens_next : (n : ℕ) (s t : State) → Turned n s t → is_open s n ≡ false → s.next ≤ n → ((is_open t n ≡ true) × (n < t.next)) ⊎ ((is_open t n ≡ false) × (t.next ≤ n))
 opens_next n s t (inl (inl same, next)) away high = inr (same ∙ away, omega (arith, next))
 opens_next n s t (inl (inr shut, next)) away high = inr (shut, omega (arith, next))
@@ -81,8 +81,8 @@ has_cause n s (e ∷ h) t r there away =
       | inr gone ↦ ap (λ o. is_some (option_or o (closed_by parts.first.state h n))) (cause_shut n s parts.first.state e.event there gone)
     ]
 
--- What a run makes of a session: one that is open has a cause just where it is not open after it; one that was closed before has
--- none, and stays so; of one that is to come the same holds as of an open one, once it was opened.
+-- What a run makes of a session: an open one has a cause exactly if it is not open after it; one closed before has none, and
+-- stays closed; one still to come is like an open one once it has been opened.
 pub record Lasts (n : ℕ) (s : State) (h : List Entry) (t : State) : Type 0 where
   pub going : is_open s n ≡ true → n < s.next → is_some (closed_by s h n) ≡ not (is_open t n)
   pub gone : is_open s n ≡ false → n < s.next → (closed_by s h n ≡ None) × (is_open t n ≡ false)
@@ -127,7 +127,7 @@ lasts n s (e ∷ h) t r =
     let rest = subst (λ (v : State). Lasts n parts.first.state h v) parts.state (lasts n parts.first.state h parts.rest parts.runs) in
     lasts_more n s e h parts.first t.state parts.stepped rest (turned n s e parts.first parts.stepped e.event refl)
 
--- a session that is open has a cause just where it is not open after the run
+-- a session that is open has a cause exactly if it is not open after the run
 pub closed_for_cause : (s : State) (h : List Entry) (t : Stepped) (n : ℕ) → run s h ≡ Some t → is_open s n ≡ true → n < s.next → is_some (closed_by s h n) ≡ not (is_open t.state n)
 closed_for_cause s h t n r there low = (lasts n s h t r).going there low
 

@@ -11,7 +11,7 @@ use Rattle.ov_specs.proofs.laws.Works.{keeping, work_has}
 use Rattle.ov_laws.proofs.Replies.{same_results}
 
 module _ (s : State) (n : ℕ) (id : Data) (before : List Sent) (results : Items) (error : has_error results ≡ true) where
-  -- where these results are sent at the end, the database is as before
+  -- if these results are sent at the end, the database is as before
   abbrev Leaves : Stepped → Type 0
   Leaves x = x.sent ≡ before ++ results_to n id results → x.state.database ≡ s.database
 

@@ -8,7 +8,7 @@ use Rattle.serde_json.specs.Find as find
 use Rattle.ov_specs.specs.locks.Queues.{locked_note}
 use Rattle.ov_specs.specs.machine.Machine.{Sent, told, results_to}
 
--- the results of the last tree that is sent, where it is a reply with results
+-- the results of the last tree that is sent, if it is a reply with results
 abbrev pub last_results : List Sent → Option Items
 last_results [] = None
 last_results (x ∷ []) = option_and_then as_array (find.get (codes "result") x.tree)

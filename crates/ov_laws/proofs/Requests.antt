@@ -1,4 +1,4 @@
--- What is kept of each session while events come: its requests are what its stream asks for.
+-- What holds for each session while events arrive: its requests are those that its stream asks for.
 use Rattle.std.proofs.Common.{◌≡◌, ◌≢◌, ℕ, ◌+◌, ◌<◌, ◌≤◌, List, [], ◌∷◌, ◌++◌, refl, sym, ap, subst, ◌∙◌, append_assoc, cond, eqb, Bool, true, false, Option, Some, None, inl, inr, arith}
 use Rattle.std.specs.Prelude.{◌||◌, MatchBool}
 use Rattle.std.proofs.lemmas.List.{append-nil}
@@ -16,8 +16,8 @@ use Rattle.ov_specs.proofs.laws.Turns.{Turn, MayClose, turn_open, turn_tick, tur
 use Rattle.ov_laws.specs.Requests.{AreAskedFor}
 use Rattle.ov_specs.proofs.laws.Truths.{or_nothing}
 
--- Of a session, by whether it is open, the serial of the next one, its stream, what was taken of it and why it was closed: one
--- that is still to come has nothing, an open one has all that its stream asks for, a closed one keeps the law.
+-- What holds for a session, given whether it is open, the next serial, its stream, the requests taken from it and why it was
+-- closed: one still to come has nothing, an open one has all that its stream asks for, a closed one keeps the law.
 pub record Keeps (n : ℕ) (stream : List ℕ) (open' : Bool) (next : ℕ) (taken : List Message) (cause : Option Cause) : Type 0 where
   pub to_come : next ≤ n → (open' ≡ false) × (stream ≡ []) × (taken ≡ []) × (cause ≡ None)
   pub going : open' ≡ true → (cause ≡ None) × (taken ≡ (asked stream).messages) × ((asked stream).damaged ≡ false)
@@ -72,7 +72,7 @@ shut before n stream s h e t taken cause stepped turn low leads none law =
       gone = λ _. law;
     }))
 
--- an entry that takes nothing of the session, and may close it as memory is refused to it
+-- an entry that takes nothing from the session, and may close it because an allocation failed
 may_close : (before : State) (n : ℕ) (stream : List ℕ) (s : State) (h : List Entry) (e : Entry) (t : Stepped) → step s e ≡ Some t → MayClose n s e t [] → KeepsAt before n stream s h → KeepsAt before n stream t.state (h ++ e ∷ [])
 may_close before n stream s h e t stepped (inl turn) k = aside before n stream s h e t stepped turn k
 may_close before n stream s h e t stepped (inr (was, turn)) k =
@@ -94,12 +94,12 @@ module _ (before : State) (at n : ℕ) (stream : List ℕ) where
     };
   }
 
-  -- refused memory closes it, with these messages still to be taken
+  -- a failed allocation closes it, with these messages still to be taken
   by_memory : (s : State) (h : List Entry) (messages : List Message) (e : Entry) (t : Stepped) → n < s.next → Leads before h s → closed_by before h n ≡ None → requests h n ++ messages ≡ (asked stream).messages → IsEntryAt at s (Close n Memory) e t → KeepsAt before n stream t.state (h ++ e ∷ [])
   by_memory s h messages e t low leads none is enters =
       shut before n stream s h e t [] Memory enters.step (turn_close n s e t enters.step Memory enters.event) low leads none (messages, ap (λ l. l ++ messages) (append-nil (requests h n)) ∙ is)
 
-  -- damage closes it, behind the last message
+  -- damage closes it, after the last message
   by_damage : (s : State) (h : List Entry) (e : Entry) (t : Stepped) → n < s.next → Leads before h s → closed_by before h n ≡ None → requests h n ++ [] ≡ (asked stream).messages → IsEntryAt at s (Close n Damaged) e t → KeepsAt before n stream t.state (h ++ e ∷ [])
   by_damage s h e t low leads none is enters = shut before n stream s h e t [] Damaged enters.step (turn_close n s e t enters.step Damaged enters.event) low leads none is
 
@@ -306,7 +306,7 @@ at_first s streams n shut unfed = record {
   };
 }
 
--- what was taken of a session is what its stream asks for
+-- what was taken from a session is what its stream asks for
 pub requests_are_asked_for : (before : State) (fed : Streams) (events : List (ℕ × StreamEvent)) (h : List Entry) (s : State) (streams : Streams) (n : ℕ)
     → is_open before n ≡ false → fed n ≡ [] → ExpandsTimed before fed events h s streams → AreAskedFor (closed_by before h n) (requests h n) (asked (streams n)).messages
 requests_are_asked_for before fed events h s streams n shut unfed x =

@@ -1,4 +1,4 @@
--- What monitors are told of a change comes before the reply of the transaction that made it.
+-- Monitors receive a change before the reply of the transaction that made it.
 use Rattle.std.proofs.Common.{◌≡◌, ◌≢◌, ℕ, ◌-◌, List, [], ◌++◌, Bool, true, false, cond, eqb, length, Option, Some, None, ◌⊎◌, inl, inr, refl, subst}
 use Rattle.std.specs.Prelude.{is_some}
 use Rattle.std.proofs.lemmas.Option.{same_Some}
@@ -19,7 +19,7 @@ module _ (s : State) (o : Outstanding) where
   abbrev pub TellsNothing : Stepped → Type 0
   TellsNothing t = (t.sent ≡ []) ⊎ ((results : Items) × (t.sent ≡ results_to o.session o.id results))
 
-  -- ---- where it is kept
+  -- ---- if it is kept
 
   completes_first : (t : Stepped) (results : Items) (database : Database) (same sealed : Bool)
       → cond same (sends_at_once s (results_to o.session o.id results) (Some Committed)) (cond sealed (sends_at_once s (results_to o.session o.id (failed_results results)) (Some Committed)) (commits s o.session o.id results database (Some Committed))) ≡ Some t
@@ -32,7 +32,7 @@ module _ (s : State) (o : Outstanding) where
   attempt_first t (Completes results database) h = completes_first t results database (same_database s.database database) (is_some s.sealed) h
   attempt_first t (Waits timeout) h = cc
 
-  -- ---- where it is not
+  -- ---- if it is not
 
   reply_alone : (t : Stepped) (results : Items) (outcome : Option Outcome) → sends_at_once s (results_to o.session o.id results) outcome ≡ Some t → TellsNothing t
   reply_alone t results None h = subst TellsNothing (same_Some (record { state = s; sent = results_to o.session o.id results }) t h) (inr (results, refl))

@@ -1,10 +1,10 @@
--- Operations of a transaction, and their results, by their places. What names no source is our own.
+-- Operations of a transaction, and their results, by their places.
 use Rattle.std.specs.Prelude.{◌≡◌, ℕ, zero, suc, List, Option, Some, None, codes}
 use Rattle.serde_json.specs.Data.{Data, Items, no_items, item}
 use Rattle.ov_specs.specs.operations.Assert.{asserted_lock}
 use Rattle.ov_specs.specs.operations.Members.{text_at}
 
--- the one at this place, from 0
+-- the item at this place, counted from 0
 abbrev pub item_at : ℕ → Items → Option Data
 item_at place no_items = None
 item_at zero (item d items) = Some d

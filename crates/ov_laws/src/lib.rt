@@ -24,31 +24,32 @@ ghost use Rattle.ov_specs.specs.values.Uuid.{Uuid, is_uuid};
 ghost use Rattle.ov_laws.specs.Asserting.{item_at, Asserts};
 ghost use Rattle.ov_laws.specs.Requests.{AreAskedFor};
 
-/// The relation and the program tell of the same cuts, of every stream.
+/// The relation and the program give the same cuts of every stream.
 pub fn cut_is_its_relation()
     ensures { (stream : List ℕ) (c : Cut) → (IsCut stream c ↔ (c ≡ cut stream)) }
 {}
 
-/// The cut of a stream goes on over pieces: behind a front it is determined by what the front's cut left.
+/// The cut of a stream continues over pieces: after a front, it is determined by what the front's cut left.
 pub fn cut_goes_on()
     ensures { (a b : List ℕ) → cut (a ++ b) ≡ continue_cut (cut a) (λ rest. cut_from max_message (length a) rest b) }
 {}
 
-/// What is left of an undamaged front is looked at again from its first byte.
+/// What remains of an undamaged front is scanned again from its first byte.
 pub fn cut_starts_again()
     ensures { (a b : List ℕ) → (cut a).damage ≡ None → cut (a ++ b) ≡ with_messages (cut a).messages (cut_from max_message (length a - length (cut a).rest) [] ((cut a).rest ++ b)) }
 {}
 
-/// What was taken of a session is what its stream asks for, however the stream came in pieces; refused memory leaves the
-/// first of it. That holds from any state on in which the session is not open and was fed nothing, as before it is opened.
+/// The requests taken from a session are those that its stream asks for, whatever pieces the stream arrives in; if an
+/// allocation fails, they are the first of those. This holds from any state in which the session is not open and has been
+/// fed nothing, such as before it is opened.
 pub fn requests_are_asked_for()
     ensures { (before : State) (fed : Streams) (events : List (ℕ × StreamEvent)) (history : List Entry) (s : State) (streams : Streams) (session : ℕ)
         → is_open before session ≡ false → fed session ≡ [] → ExpandsTimed before fed events history s streams
         → AreAskedFor (closed_by before history session) (requests history session) (asked (streams session)).messages }
 {}
 
-/// A session that is open before a run has a cause just where it is not open after it; so has each that was opened in a run from
-/// an opening. From any state on one that is open before and not after has a cause.
+/// A session that is open before a run has a cause exactly if it is not open after it. The same holds for each session
+/// opened in a run from an opening. From any state, a session that is open before and not after has a cause.
 pub fn sessions_are_closed_for_a_cause()
     ensures open { (before : State) (history : List Entry) (after : Stepped) (session : ℕ)
         → run before history ≡ Some after → is_open before session ≡ true → session < before.next
@@ -61,17 +62,17 @@ pub fn sessions_are_closed_for_a_cause()
         → is_some (closed_by before history session) ≡ true }
 {}
 
-/// A refused transaction changes nothing (RFC 7047, 4.1.3): whatever was drawn and whatever the store answered, where the
-/// reply has an error among its results, the database is as before.
+/// A refused transaction changes nothing (RFC 7047, 4.1.3): if its reply has an error among its results, the database is as
+/// before, whatever was drawn and whatever the store answered.
 pub fn a_refused_transaction_changes_nothing()
     ensures { (s : State) (session : ℕ) (draws : List Uuid) (outcome : Option Outcome) (id : Data) (operations results : Items) (before : List Sent) (stepped : Stepped)
         → works s session draws outcome (Transact id operations) ≡ Some stepped
         → stepped.sent ≡ before ++ results_to session id results → has_error results ≡ true → stepped.state.database ≡ s.database }
 {}
 
-/// Where the store keeps what a transaction has changed, the monitors are told of the change before the reply: session by session
-/// and monitor by monitor what differs between the database before and the one after (RFC 7047, 4.1.6; the order is our own). Where
-/// it keeps nothing, they are told nothing: the reply alone is sent, or nothing of a transaction that waits.
+/// If the store keeps what a transaction changed, the monitors receive the change before the reply: session by session and
+/// monitor by monitor, what differs between the database before and after (RFC 7047, 4.1.6; the order is this server's). If
+/// it keeps nothing, they receive nothing: only the reply is sent, or nothing if the transaction waits.
 pub fn updates_come_before_the_reply()
     ensures arrived { (s : State) (session : ℕ) (draws : List Uuid) (id : Data) (operations : Items) (stepped : Stepped) → works s session draws (Some Committed) (Transact id operations) ≡ Some stepped
         → (results : Items) × (stepped.sent ≡ updates_sent s.database stepped.state.database s.sessions ++ results_to session id results) }
@@ -83,8 +84,8 @@ pub fn updates_come_before_the_reply()
         → is_kept outcome ≡ false → outcome ≢ Some NoMemory → (stepped.sent ≡ []) ⊎ ((results : Items) × (stepped.sent ≡ results_to waiting.session waiting.id results)) }
 {}
 
-/// An `assert` passes only for the session that is first in the queue of the lock (RFC 7047, 5.2.10): where its transaction is
-/// tried as it arrives, and at each later try.
+/// An `assert` passes only for the session that is first in the queue of the lock (RFC 7047, 5.2.10), both when its
+/// transaction arrives and at each later try.
 pub fn assert_passes_only_for_the_owner()
     ensures arrived { (s : State) (session : ℕ) (draws : List Uuid) (outcome : Option Outcome) (id : Data) (operations results : Items) (before : List Sent) (stepped : Stepped) (place : ℕ) (operation : Data) (name : List ℕ)
         → works s session draws outcome (Transact id operations) ≡ Some stepped → stepped.sent ≡ before ++ results_to session id results
@@ -94,8 +95,8 @@ pub fn assert_passes_only_for_the_owner()
         → item_at place waiting.operations ≡ Some operation → Asserts name operation → item_at place results ≡ Some empty_result → owner name s.queues ≡ Some waiting.session }
 {}
 
-/// A lock has one owner at most; and in each state that a run from an opening leads to the queues ascend by the names of their
-/// locks, nobody stands in one twice, and a session that is not open stands in none (RFC 7047, 4.1.8).
+/// A lock has at most one owner. In each state reached by a run from an opening, the queues ascend by the names of their
+/// locks, no session is in a queue twice, and a session that is not open is in none (RFC 7047, 4.1.8).
 pub fn queues_of_locks_are_in_order()
     ensures owner { (queues : Queues) (name : List ℕ) (one other : ℕ) → owns queues one name ≡ true → owns queues other name ≡ true → one ≡ other }
     ensures ascend { (schema : Schema) (database : Database) (history : List Entry) (stepped : Stepped) → run (opening schema database) history ≡ Some stepped → DoQueuesAscend stepped.state.queues }
@@ -105,7 +106,7 @@ pub fn queues_of_locks_are_in_order()
         → run (opening schema database) history ≡ Some stepped → (session : ℕ) (name : List ℕ) → is_open stepped.state session ≡ false → has_requested session name stepped.state.queues ≡ false }
 {}
 
-/// In each state that a run from an opening leads to, what a step sends is sent to sessions that are open before it.
+/// In each state reached by a run from an opening, a step sends only to sessions that are open before it.
 pub fn only_open_sessions_are_sent_to()
     ensures { (schema : Schema) (database : Database) (history : List Entry) (before after : Stepped) (entry : Entry)
         → run (opening schema database) history ≡ Some before → step before.state entry ≡ Some after → list_all (λ sent. is_open before.state sent.session) after.sent ≡ true }
@@ -117,15 +118,15 @@ pub fn settling_takes_few_attempts()
         → 2 * (passed.next - number) ≤ length s.outstanding * (length s.outstanding + 1) }
 {}
 
-/// Settling ends where each transaction that is left is blocked: tried again on the database as it is then, at its age, it would
-/// wait, and with the timeout that is kept of it.
+/// Settling ends when each remaining transaction is blocked: tried again on the database as it is then, at its age, it would
+/// wait, with the timeout that is kept for it.
 pub fn settling_leaves_what_is_blocked()
     ensures { (s : State) (number : ℕ) (attempts : List Attempt) (passed : Passed) → settle s number attempts ≡ Some passed
         → AreBlocked passed.tried.stepped.state }
 {}
 
-/// Where what is drawn are identifiers, each step of the machine keeps the schema, and the rows those of the schema; so does
-/// each run from an opening.
+/// If all draws are identifiers, each step of the machine keeps the schema, and the rows stay rows of the schema. The same
+/// holds for each run from an opening.
 pub fn rows_stay_those_of_the_schema()
     ensures step { (s : State) (entry : Entry) (stepped : Stepped) → step s entry ≡ Some stepped → draws_uuids entry ≡ true → SuitsState s
         → (stepped.state.schema ≡ s.schema) × SuitsState stepped.state }
@@ -134,8 +135,8 @@ pub fn rows_stay_those_of_the_schema()
         → (stepped.state.schema ≡ schema) × SuitsState stepped.state }
 {}
 
-/// Under an accepted schema each step of the machine keeps the rows whole: each reference is to a row that is there, each row is
-/// supported, and no limit is broken; so does each run from an opening whose rows are whole.
+/// Under an accepted schema, each step of the machine keeps the rows whole: each reference is to an existing row, each row
+/// is supported, and no limit is broken. So does each run from an opening whose rows are whole.
 pub fn rows_stay_whole()
     ensures step { (s : State) (entry : Entry) (stepped : Stepped) → step s entry ≡ Some stepped → IsAccepted s.schema → IsWholeState s
         → (stepped.state.schema ≡ s.schema) × IsWholeState stepped.state }
@@ -144,14 +145,14 @@ pub fn rows_stay_whole()
         → (stepped.state.schema ≡ schema) × IsWholeState stepped.state }
 {}
 
-/// The rows that are kept are those that stand among some rows which keep one another: the greatest part of all rows that is
-/// supported (RFC 7047, 3.2, `<table-schema>`, isRoot).
+/// The rows that are kept are those among some rows which keep one another: the greatest supported part of all rows (RFC
+/// 7047, 3.2, `<table-schema>`, isRoot).
 pub fn kept_rows_are_the_greatest_supported()
     ensures { (schema : Schema) (rows : Database) → IsGreatestSupported schema rows (kept schema rows) }
 {}
 
-/// What a commit makes under an accepted schema is whole: each reference is to a row that is there, each row is supported, and no
-/// limit is broken. Of rows of the schema it makes rows of the schema, and what is whole it leaves as it is.
+/// What a commit makes under an accepted schema is whole: each reference is to an existing row, each row is supported, and
+/// no limit is broken. From rows of the schema a commit makes rows of the schema, and it leaves whole rows as they are.
 pub fn what_is_committed_is_whole()
     ensures whole { (tree : Data) (schema : Schema) (before rows database : Database) (version : Uuid)
         → accepted tree ≡ Ok schema → committed schema before version rows ≡ Ok database → is_whole schema database ≡ true }

@@ -1,4 +1,4 @@
--- What comes of a keeper, from the opening of its database to the end of its sessions at an address. It is our own.
+-- What comes of a keeper, from the opening of its database to the end of its sessions at an address.
 use Rattle.std.specs.Prelude.{◌≡◌, ◌⊎◌, ℕ, List, Option, None, MatchOption, length}
 use Rattle.std.specs.Borrow.{Bor}
 use Rattle.std.specs.declared.alloc.Global.{Global}
@@ -36,8 +36,8 @@ module _ {K D S W : Type 0} (k : keeper.Ghosts K) (source : S → SourceState) (
     pub leaves : k.is_honest new.keeper → (held : Contents) → k.leaves new.keeper held → LeavesItsOwn new.state held
     pub finds : k.is_honest new.keeper → MayFind (k.leaves new.keeper) new.state.schema new.state.database new.state.sealed
 
-  -- The sessions of the links were served, and their input has ended; or they were refused, of the links nothing was read or
-  -- written, and the ending is that of the fault. The keeper is that of the core then.
+  -- The sessions of the links were served, and their input has ended; or they were refused, nothing was read from the links
+  -- or written to them, and the ending is that of the fault. The keeper is that of the core then.
   abbrev pub EndsLinks : CoreState K D → List (Link S W) → Ending → K → Type 0
   EndsLinks first links told left = (last : CoreState K D) × (left ≡ last.keeper)
       × ((told ≡ ending.InputEnded) × ServesSessions first links last
@@ -59,44 +59,44 @@ abbrev pub socket_sink : SocketWriter → SinkState
 socket_sink w = sink_state w.trace.bytes None w.flushed w.failures
 
 module _ {K D : Type 0} (k : keeper.Ghosts K) where
-  -- The links of these connections came to that, each link unused before; or memory for the links was refused, before anything
-  -- else.
+  -- The links of these connections came to that, each link unused before; or the links could not be allocated, before
+  -- anything else.
   abbrev pub EndsConnections : CoreState K D → List TcpStream → Ending → K → Type 0
   EndsConnections first streams told left =
       ((links : List (Link SocketReader SocketWriter)) × Pairwise IsLinkOf links streams
       × EndsLinks k socket_source socket_sink first links told left)
       ⊎ ((told ≡ ending.Memory) × (left ≡ first.keeper))
 
-  -- So many connections came to that; or there were not as many, the ending is that of the fault, and the core is as it was.
+  -- This many connections came to that; or there were fewer, the ending is that of the fault, and the core is as it was.
   abbrev pub EndsSoMany : CoreState K D → ℕ → Ending → K → Type 0
   EndsSoMany first count told left =
       ((streams : List TcpStream) × (length streams ≡ count) × EndsConnections first streams told left)
       ⊎ ((fault : ListenFault) × (told ≡ by_listening fault) × (left ≡ first.keeper))
 
-  -- Whoever connected was served. A crash then leaves the lines of the core's database, and an open finds it.
+  -- Every client was served. A crash then leaves the lines of the core's database, and an open finds it.
   pub record ServesWhoever (old new : CoreState K D) : Type 0 where
     pub served : ServesLobby old new
     pub leaves : k.is_honest new.keeper → (held : Contents) → k.leaves new.keeper held → LeavesItsOwn new.state held
     pub finds : k.is_honest new.keeper → MayFind (k.leaves new.keeper) new.state.schema new.state.database new.state.sealed
 
-  -- Whoever connected was served, until no connection could be accepted; or the lobby was refused, nobody was accepted, and the
-  -- ending is that of the fault. The keeper is that of the core then.
+  -- Every client was served, until no connection could be accepted; or the lobby was refused, no client was accepted, and
+  -- the ending is that of the fault. The keeper is that of the core then.
   abbrev pub EndsWhoever : CoreState K D → Ending → K → Type 0
   EndsWhoever first told left =
       ((last : CoreState K D) × (left ≡ last.keeper) × (told ≡ ending.Streams) × ServesWhoever first last)
       ⊎ ((fault : ServeFault) × (told ≡ by_serving fault) × (left ≡ first.keeper))
 
-  -- so many connections, where a number is given, and else whoever connects
+  -- this many connections if a number is given, and otherwise every client
   abbrev pub EndsListener : CoreState K D → Option ℕ → Ending → K → Type 0
   EndsListener first count told left = MatchOption count (EndsWhoever first told left) (λ n. EndsSoMany first n told left)
 
-  -- That was done; or nobody could be listened to, the ending is that of the fault, and the core is as it was.
+  -- That was done; or the server could not listen, the ending is that of the fault, and the core is as it was.
   abbrev pub EndsListening : CoreState K D → Option ℕ → Ending → K → Type 0
   EndsListening first count told left =
       EndsListener first count told left ⊎ ((fault : ListenFault) × (told ≡ by_listening fault) × (left ≡ first.keeper))
 
-  -- A core was opened over the keeper, and the ending is that of the connections to it; or none was, and nobody was listened to.
-  -- The keeper is given back.
+  -- A core was opened over the keeper, and the ending is that of the connections to it; or none was, and the server did not
+  -- listen. The keeper is given back.
   abbrev pub EndsChainAt : K → Schema → D → Option ℕ → Ending → K → Type 0
   EndsChainAt keeper schema draws count told left =
       ((first : CoreState K D) × OpensCore k keeper schema draws first × EndsListening first count told left)

@@ -1,4 +1,4 @@
--- What comes of a keeper where sessions of its database are served. It is our own.
+-- What comes of a keeper when sessions of its database are served.
 use Rattle.std.specs.Prelude.{◌≡◌, ℕ, List, Option, Some, None, Result, Ok, Err}
 use Rattle.ov_specs.specs.schema.SchemaTypes.{Schema}
 use Rattle.ov_keeper.specs.declared.fault.KeepFault.{KeepFault}
@@ -17,8 +17,8 @@ module _ {K D C I O : Type 0} (k : Ghosts K) (tells : C → ℕ → C → Type 0
       EndsOver k tells keeper schema draws (remaining input) (contents output) told left
   EndsPlace (Address address count) keeper schema draws told left = EndsChainAt k keeper schema draws count told left
 
-  -- A store that was opened is served, and is given back; of one that was refused the ending is that of its fault, and nothing is
-  -- read or written, and nobody is listened to.
+  -- A store that was opened is served and given back. If it was refused, the ending is that of its fault, nothing is read or
+  -- written, and the server does not listen.
   abbrev pub EndsStore : Place I O → Result K KeepFault → Schema → D → Ending → Option K → Type 0
   EndsStore place (Ok keeper) schema draws told left =
       (last : K) × (left ≡ Some last) × EndsPlace place keeper schema draws told last

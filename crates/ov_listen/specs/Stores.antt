@@ -1,4 +1,4 @@
--- What a session is served of: a new keeper, or the store in a file. What names no source is our own.
+-- What a session is served from: a new keeper, or the store in a file.
 use Rattle.std.specs.Prelude.{◌≡◌, ◌↔◌, ◌⊎◌, ℕ, List, IfOk, Result}
 use Rattle.sqlite.specs.Files.{file_state, over_files}
 use Rattle.sqlite.specs.State.{HasCleanDisk}
@@ -17,7 +17,7 @@ pub record IsNewKeeper {K : Type 0} (k : Ghosts K) (text : List ℕ) (keeper : K
   pub fresh : k.failed keeper ≡ 0
 
 module _ {D : Type 0} {g : disk.Ghosts D} where
-  -- the store of what the files held, or a new one where they had no table; or why there is none
+  -- the store of what the files held, or a new one if they had no table; or why there is none
   pub record IsOfFiles (image : Image) (text : List ℕ) (store : Result (StoreState (FileStore D g)) KeepFault) : Type 0 where
     pub found : IfOk store (λ s. HasCleanDisk (file_state s.connection) → (contents : Contents) → MayFind over_files s.connection contents
         → (HasNoTable image × (contents ≡ new_contents text)) ⊎ IsStoredIn image contents)

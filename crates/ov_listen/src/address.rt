@@ -10,14 +10,14 @@ use ov_session::Ended;
 use ov_words::ending_of_open;
 use std::alloc::Global;
 
-/// Opens the machine over what a keeper holds under a schema, listens at an address, HOST:PORT, accepts connections, and serves a
-/// session over each, all at the same time, from the first byte of its input to its end. Where the port is 0 the system chooses
-/// one, and a line on standard error tells it.
+/// Opens the machine over what a keeper holds under a schema, listens at an address, HOST:PORT, accepts connections, and
+/// serves a session over each, all at the same time, from the first byte of its input to its end. If the port is 0, the
+/// system chooses one, and a line on standard error reports it.
 ///
-/// Where a number is given so many are accepted: no session is served before all connections are there, and none is closed before
-/// all sessions have ended. A client that went away before is one that ends at once. Where there are not as many, nothing is read
-/// or written. Without a number whoever connects is served at once, up to 64 at a time, until a connection can't be accepted.
-/// Where the machine is not opened nobody is listened to.
+/// If a number N is given, N connections are accepted: no session is served before all connections are there, and none is
+/// closed before all sessions have ended. The session of a client that went away earlier ends at once. If there are fewer,
+/// nothing is read or written. Without a number every client is served at once, up to 64 at a time, until a connection can't
+/// be accepted. If the machine is not opened, the server does not listen.
 pub fn serve_at<R, K, D>(
     rt: &R,
     alloc: Global,

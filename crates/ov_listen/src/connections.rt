@@ -16,9 +16,10 @@ use std::rt::Clock as SystemClock;
 use std::sync::Wait;
 use std::thread::Threads;
 
-/// Serves each connection as a session of the machine, as `serve_sessions` does. The moments are milliseconds from the call on.
+/// Serves each connection as a session of the machine, as `serve_sessions` does. The moments are milliseconds since the
+/// call.
 ///
-/// No connection is closed before all sessions have ended, and then whoever has the connections closes them.
+/// No connection is closed before all sessions have ended; then the owner of the connections closes them.
 pub fn serve_connections<R, K, D>(
     rt: &R,
     alloc: Global,
@@ -40,20 +41,20 @@ where
     }
 }
 
-/// Listens at an address. Where the system chooses the port, one line on standard error tells it.
+/// Listens at an address. If the system chooses the port, one line on standard error reports it.
 fn listening<R>(rt: &R, alloc: Global, address: &str) -> Result<TcpListener, ListenFault>
 where
     R: Net<Listener = TcpListener, Stream = TcpStream> + Eprint,
 {
     let listener = listen(rt, address)?;
     if let Some(line) = chosen_line(alloc, address, &listener)? {
-        // Who has closed standard error finds the port by other means, or none.
+        // A user who has closed standard error finds the port by other means, or not at all.
         let _ = eprintln!(rt; "{}", line.as_str());
     }
     Ok(listener)
 }
 
-/// So many connections. Nobody is listened to any more once they are there.
+/// Accepts this many connections. The listener is closed once they are there.
 fn connected(
     alloc: Global,
     listener: TcpListener,
@@ -64,7 +65,7 @@ fn connected(
     accept_all(alloc, &listener, count)
 }
 
-/// Serves so many connections as sessions of the machine, once all of them are there.
+/// Serves this many connections as sessions of the machine, once all of them are there.
 fn serve_so_many<R, K, D>(
     rt: &R,
     alloc: Global,
@@ -87,7 +88,7 @@ where
     }
 }
 
-/// Serves so many connections, or, where no number is given, whoever connects.
+/// Serves this many connections, or every client if no number is given.
 fn serve_listener<R, K, D>(
     rt: &R,
     alloc: Global,

@@ -1,4 +1,4 @@
-//! How the program ends that serves at an address, by what it met there.
+//! How the program ends when it serves at an address, by what it met there.
 
 ghost use Rattle.std.specs.Prelude.{◌≡◌};
 ghost use Rattle.ov_listen.specs.Endings.{by_listening, by_serving};
@@ -7,7 +7,7 @@ use ov_lanes::ServeFault;
 use ov_sockets::ListenFault;
 use ov_words::Ending;
 
-/// Where there are no connections.
+/// How the program ends if there are no connections.
 pub fn ending_of_listening(fault: ListenFault) -> Ending
     ensures { result ≡ by_listening fault }
 {
@@ -17,7 +17,7 @@ pub fn ending_of_listening(fault: ListenFault) -> Ending
     }
 }
 
-/// Where connections are not served.
+/// How the program ends if connections are not served.
 pub fn ending_of_serving(fault: ServeFault) -> Ending
     ensures { result ≡ by_serving fault }
 {

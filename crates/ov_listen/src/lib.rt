@@ -1,5 +1,5 @@
-//! Sessions of a database where they are asked for: over two streams, or at an address, where so many connections are served
-//! together, or whoever connects. The database is opened over a keeper or in a file, and closed behind the sessions.
+//! Sessions of a database: over two streams, or at an address, where N connections are served together or every client is
+//! served. The database is opened over a keeper or in a file, and closed after the sessions.
 #![tactic(auto)]
 
 mod address;

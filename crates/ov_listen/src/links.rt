@@ -19,7 +19,7 @@ use std::sync::Wait;
 use std::thread::Threads;
 
 /// Serves each link as a session of the machine, all at the same time, as `serve_links` does, and gives the machine's keeper
-/// back. Once all sessions have ended their input has ended, whyever each of them was closed.
+/// back. Once all sessions have ended their input has ended, whatever each of them was closed for.
 pub fn serve_sessions<R, K, D, S, W, C>(
     rt: &R,
     alloc: Global,

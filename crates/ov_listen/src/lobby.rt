@@ -25,7 +25,7 @@ type OwnReader = Watched<TcpStream>;
 /// What writes to it. It gathers up to 8,192 bytes, until a flush.
 type OwnWriter = Watched<BufWriter<TcpStream>>;
 
-/// Those that connect to a listener.
+/// The clients that connect to a listener.
 #[derive(Drop)]
 struct Connections {
     alloc: Global,
@@ -33,8 +33,8 @@ struct Connections {
 }
 
 impl Listen<OwnReader, OwnWriter> for Connections {
-    /// A connection that its client has given up before it was accepted is passed over, and one is closed at once for whose ends
-    /// the system has no room. What is written is sent at once, and not gathered (TCP_NODELAY), unless the system refuses that.
+    /// Skips a connection that its client gave up before it was accepted, and closes one at once if the system has no room
+    /// for its ends. What is written is sent at once and not gathered (TCP_NODELAY), unless the system refuses that.
     fn accept(&mut self) -> Option<Link<OwnReader, OwnWriter>> {
         for stream in self.listener.incoming() {
             match stream {
@@ -54,7 +54,7 @@ impl Listen<OwnReader, OwnWriter> for Connections {
     }
 }
 
-/// Whether nothing but one connection failed.
+/// Whether only this one connection failed.
 fn is_given_up(kind: ErrorKind) -> bool {
     matches!(
         kind,
@@ -62,7 +62,7 @@ fn is_given_up(kind: ErrorKind) -> bool {
     )
 }
 
-/// The two ends of a connection. None where the system has no room for them.
+/// The two ends of a connection. None if the system has no room for them.
 fn link_of(alloc: Global, stream: TcpStream) -> Option<Link<OwnReader, OwnWriter>> {
     let _ = stream.set_nodelay(true);
     let output = BufWriter::new(alloc, stream.try_clone().ok()?).ok()?;
@@ -72,8 +72,8 @@ fn link_of(alloc: Global, stream: TcpStream) -> Option<Link<OwnReader, OwnWriter
     })
 }
 
-/// Serves whoever connects as a session of the machine, up to 64 at a time, as `serve_lobby` does, until a connection can't be
-/// accepted any more, and gives the machine's keeper back. The moments are milliseconds from the call on.
+/// Serves every client as a session of the machine, up to 64 at a time, as `serve_lobby` does, until no connection can be
+/// accepted any more, and gives the machine's keeper back. The moments are milliseconds since the call.
 pub(crate) fn serve_whoever<R, K, D>(
     rt: &R,
     alloc: Global,

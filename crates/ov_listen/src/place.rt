@@ -1,4 +1,4 @@
-//! Where sessions are served of the database that a keeper holds.
+//! Where sessions of the database that a keeper holds are served.
 
 ghost use Rattle.ov_listen.specs.Places.{EndsPlace};
 
@@ -16,14 +16,14 @@ use std::io::{Read, Write};
 /// Where sessions are served.
 #[derive(Drop)]
 pub enum Place<I, O> {
-    /// One, over a reader and a writer.
+    /// One session, over a reader and a writer.
     Streams(I, O),
-    /// Those of the connections at an address, HOST:PORT: of so many, or of whoever connects.
+    /// Sessions over the connections at an address, HOST:PORT: over this many, or with every client if no number is given.
     Address(Text, Option<usize>),
 }
 
-/// Serves sessions of the database that a keeper holds under a schema: one over streams as `serve_over` does, or those at an
-/// address as `serve_at` does.
+/// Serves sessions of the database that a keeper holds under a schema: one over streams, as `serve_over` does, or those at
+/// an address, as `serve_at` does.
 pub fn serve_place<'a, R, K, D, I, O>(
     rt: &'a R,
     alloc: Global,

@@ -18,8 +18,8 @@ use sqlite::{FileFrom, FileStore, Start};
 use std::alloc::Global;
 use std::io::{Read, Write};
 
-/// Serves sessions of a new database in memory, as `serve_place` does. `text` is the schema's. No device is below it, so what is
-/// promised of an honest one needs no premise here.
+/// Serves sessions of a new database in memory, as `serve_place` does. `text` is the schema's. There is no device below it,
+/// so what is promised of an honest device needs no premise here.
 pub fn serve_memory<'a, R, D, I, O>(
     rt: &'a R,
     alloc: Global,
@@ -41,10 +41,10 @@ where
     serve_place(rt, alloc, keeper, schema, draws, place).ending
 }
 
-/// Serves sessions of the database in the file at a path, as `serve_place` does. `text` is the schema's, and `start` stands for
-/// what the file and its log held. Where the sessions ended by their input or by their streams, or nobody was served for another
-/// cause than memory, the file is then closed: it has the whole, with no log beside it, unless the system refuses that. Where the
-/// file is refused, nothing is read or written, and nobody is listened to.
+/// Serves sessions of the database in the file at a path, as `serve_place` does. `text` is the schema's, and `start` stands
+/// for what the file and its log held. If the sessions ended by their input or by their streams, or no client was served,
+/// for a cause other than memory, the file is then closed: it has the whole, with no log beside it, unless the system
+/// refuses that. If the file is refused, nothing is read or written, and the server does not listen.
 pub fn serve_file<'a, R, S, D, I, O>(
     host: &HostRuntime,
     rt: &'a R,
@@ -66,8 +66,8 @@ where
 {
     let store = store_in_file(host, path, text, start);
     let Ended { ending, keeper } = serve_store(rt, host.alloc(), store, schema, draws, place);
-    // Of a file that was refused nothing is copied. Where the closing fails nothing is lost: the two belong together, as after
-    // a kill.
+    // Nothing is copied from a file that was refused. If the closing fails, nothing is lost: the two belong together, as
+    // after a kill.
     if ending == Ending::InputEnded || ending == Ending::Streams {
         if let Some(store) = keeper {
             let _ = close_in_file(host, path, store);
@@ -76,7 +76,7 @@ where
     ending
 }
 
-/// Serves sessions of a store, where it could be opened.
+/// Serves sessions of a store, if it could be opened.
 fn serve_store<'a, R, K, D, I, O>(
     rt: &'a R,
     alloc: Global,

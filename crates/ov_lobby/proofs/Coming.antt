@@ -17,7 +17,7 @@ use Rattle.ov_lanes.proofs.Silence.{known_in_order}
 use Rattle.ov_lanes.proofs.Unopened.{ToCome, Unopened, unopened}
 
 module _ (n : ℕ) (s : State) (e : Entry) (t : Stepped) (h : step s e ≡ Some t) (away : s.next ≤ n → is_open s n ≡ false) where
-  -- after one entry it is not open, where it is still to come then
+  -- after one entry it is not open, if it is still to come then
   abbrev Away : Type 0
   Away = t.state.next ≤ n → is_open t.state n ≡ false
 

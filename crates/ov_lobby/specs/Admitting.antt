@@ -1,4 +1,4 @@
--- What becomes of a link that is to be served. What names no source is our own.
+-- What becomes of a link that is to be served.
 use Rattle.std.specs.Prelude.{◌≡◌, ℕ, ◌<◌, List, length, slice_index_or, slice_set, Option, Some, None, true}
 use Rattle.ov_specs.specs.machine.Machine.{Open, is_open}
 use Rattle.ov_core.specs.Following.{CoreState}
@@ -15,8 +15,8 @@ abbrev pub TakesPlace : ℕ → List (Option Lane) → List (Option Lane) → Ty
 TakesPlace serial places places' =
     (at : ℕ) × (lane : Lane) × (at < length places) × (slice_index_or places at None ≡ None) × (places' ≡ slice_set places at (Some lane)) × (lane.session.serial ≡ serial)
 
--- When a link is refused for which there is a free place, and what it leaves of the core. For want of memory or of a thread there is
--- no cause that a contract could name.
+-- When a link for which there is a free place is refused, and what that leaves of the core. If an allocation fails or a
+-- thread can't be started, there is no cause that a contract could name.
 abbrev pub RefusesLink : {K D : Type 0} → ℕ → ℕ → CoreState K D → List (Option Lane) → AdmitFault → CoreState K D → Type 0
 RefusesLink bells parts old places fault.Bell new = (bells < length places) × (new ≡ old)
 RefusesLink bells parts old places fault.Part new = (parts ≡ 0) × (new ≡ old)
@@ -24,8 +24,8 @@ RefusesLink bells parts old places fault.Memory new = new ≡ old
 RefusesLink bells parts old places (fault.Machine why) new = RefusesStep Open old.state why × (new ≡ old)
 RefusesLink bells parts old places fault.Thread new = Unit {0}
 
--- The answer, by the number of bells and of parts that are left, the core and the places before, and both after. The session that
--- is opened has the next serial.
+-- The answer, by the number of bells and of parts left, the core and the places before, and both after. The session that is
+-- opened has the next serial.
 abbrev pub Admits : {K D : Type 0} → ℕ → ℕ → CoreState K D → List (Option Lane) → Admitted → CoreState K D → List (Option Lane) → Type 0
 Admits bells parts old places answer.Opened new places' = (is_open new.state old.state.next ≡ true) × TakesPlace old.state.next places places'
 Admits bells parts old places answer.Full new places' = AreTaken places × (new ≡ old) × (places' ≡ places)

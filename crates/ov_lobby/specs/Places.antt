@@ -1,4 +1,4 @@
--- The places of a lobby, and what became of the sessions that are served there. What names no source is our own.
+-- The places of a lobby, and what became of the sessions that are served there.
 use Rattle.std.specs.Prelude.{◌≡◌, ◌⊎◌, ℕ, ◌<◌, List, [], length, slice_index_or, Option, Some, None, Bool, ◌&&◌, true, false}
 use Rattle.rtrb.specs.Ring.{sent, received}
 use Rattle.ov_specs.specs.machine.Machine.{is_open}
@@ -19,14 +19,14 @@ abbrev pub PlaceFits : {K D : Type 0} {first core : CoreState K D} → Since fir
 PlaceFits since None = Unit {0}
 PlaceFits since (Some l) = LaneFits since l
 
--- What was done at a place: nothing, where it is free. Else its lane was moved on; or the place was made free, whose session is
--- closed.
+-- What was done at a place: nothing if it is free. Otherwise its lane was moved on, or the place was freed and its session
+-- is closed.
 abbrev pub MovesPlace : {K D : Type 0} {first old : CoreState K D} → Since first old → Option Lane → CoreState K D → Option Lane → Type 0
 MovesPlace {old = old} since None new p = (new ≡ old) × (p ≡ None)
 MovesPlace {old = old} since (Some l) new None = (new ≡ old) × (l.ended ≡ true)
 MovesPlace since (Some l) new (Some m) = Moves since l new m × (m.session ≡ l.session)
 
--- nothing was taken of the lane and nothing put, and its session is the same
+-- nothing was taken from the lane or put into it, and its session is the same
 abbrev pub LooksAt : Lane → Lane → Type 0
 LooksAt a b =
     (received b.inbound ≡ received a.inbound) × (sent b.outbound ≡ sent a.outbound) × (b.session ≡ a.session)
@@ -42,13 +42,13 @@ LooksAtPlace (Some l) (Some m) = LooksAt l m
 abbrev pub has_left : Bool → Lane → Bool
 has_left gone l = gone && l.ended && l.marked
 
--- A place becomes free where its session has left it. Else it stays as it is.
+-- A place becomes free if its session has left it. Otherwise it stays as it is.
 abbrev pub TendsPlace : Bool → Option Lane → Option Lane → Type 0
 TendsPlace gone None p = p ≡ None
 TendsPlace gone (Some l) None = has_left gone l ≡ true
 TendsPlace gone (Some l) (Some m) = (has_left gone l ≡ false) × LooksAt l m
 
--- the lane of a session that was opened, of which nothing was taken and for which nothing was put
+-- the lane of a session that was opened: nothing was taken from it and nothing was put for it
 pub record IsNewLane (serial : ℕ) (lane : Lane) : Type 0 where
   pub session : lane.session.serial ≡ serial
   pub cause : lane.cause ≡ None
@@ -67,7 +67,7 @@ AreFree places = (at : ℕ) → slice_index_or places at None ≡ None
 abbrev pub AreTaken : List (Option Lane) → Type 0
 AreTaken places = (at : ℕ) → at < length places → (lane : Lane) × IsAt places at lane
 
--- of each session that is served the reader's end was taken
+-- the reader's end was taken of each session that is served
 abbrev pub AreOver : List (Option Lane) → Type 0
 AreOver places = (at : ℕ) (l : Lane) → IsAt places at l → l.ended ≡ true
 
@@ -75,8 +75,8 @@ AreOver places = (at : ℕ) (l : Lane) → IsAt places at l → l.ended ≡ true
 abbrev pub IsUntold : Course → Type 0
 IsUntold c = c.is_open ≡ false → c.closed ≡ None → c.handed ≡ []
 
--- What was done since the core was `start`. Each session that was opened since and is open has a place, each has one at most, and
--- what its lane has taken and put fits the course of the session.
+-- What was done since the core was `start`. Each session that was opened since and is open has a place, each has at most
+-- one, and what its lane has taken and put fits the course of the session.
 pub record ServesPlaces {K D : Type 0} (start core : CoreState K D) (places : List (Option Lane)) : Type 0 where
   pub since : Since start core
   pub fits : (at : ℕ) (l : Lane) → IsAt places at l → LaneFits since l
@@ -84,7 +84,7 @@ pub record ServesPlaces {K D : Type 0} (start core : CoreState K D) (places : Li
   pub have_places : (n : ℕ) → is_open core.state n ≡ true → (is_open start.state n ≡ true) ⊎ ((at : ℕ) × (l : Lane) × IsAt places at l × (l.session.serial ≡ n))
   pub untold : (n : ℕ) → IsUntold (course_of since n)
 
--- Whatever was done since a core was `start`, the places fit it as before. There are as many.
+-- Whatever was done since a core was `start`, the places fit it as before. Their number is the same.
 pub record GoesOn {K D : Type 0} (core : CoreState K D) (places : List (Option Lane)) (core' : CoreState K D) (places' : List (Option Lane)) : Type 0 where
   pub serves : (start : CoreState K D) → ServesPlaces start core places → ServesPlaces start core' places'
   pub many : length places' ≡ length places

@@ -9,22 +9,22 @@ use std::sync::ledger::{Ledger, Share};
 use std::thread;
 use std::thread::{JoinHandle, Scope, Threads};
 
-/// What the accepting worker notes for each item that it brings. No session has this serial.
+/// What the accepting worker notes for each item it brings. No session has this serial.
 pub(crate) const LOBBY: u64 = 0;
 
-/// What the accepting worker brings the desk: the links of connections, and last that there will be none any more.
+/// What the accepting worker brings the desk: the links of connections, and last that there are no more.
 pub(crate) type Accepted<S, W> = Brought<Link<S, W>, ()>;
 
 /// What the accepting worker hands back.
 #[derive(Drop)]
 pub(crate) struct AcceptEnd<T> {
-    /// The listener, which was asked nothing. None where it was asked, and then it was dropped.
+    /// The listener, if it was asked for nothing. None if it was asked; then it was dropped.
     pub listener: Option<T>,
-    /// Whether it might begin.
+    /// Whether it was allowed to begin.
     pub begun: bool,
 }
 
-/// Brings the desk what the listener gives, until that gives nothing any more.
+/// Brings the desk what the listener gives, until it gives no more.
 fn accept_all<R: Wait, L: Ledger, S: Drop, W: Drop, T: Listen<S, W>>(
     rt: &R,
     order: &Order<L>,
@@ -44,11 +44,11 @@ fn accept_all<R: Wait, L: Ledger, S: Drop, W: Drop, T: Listen<S, W>>(
     unreachable!()
 }
 
-/// Waits until it is said whether the workers may begin. Where they may, it brings the desk what the listener gives, until that
-/// gives nothing any more, and last that there will be nothing. It waits where 64 connections wait for the desk.
+/// Waits until it is said whether the workers may begin. If they may, it brings the desk what the listener gives until that
+/// gives no more, and last that there is nothing more. It waits while 64 connections wait for the desk.
 ///
-/// A listener that gives nothing any more is dropped at once: whoever connects while the open sessions are still served is to be
-/// refused, and not to wait for an answer that nobody gives.
+/// A listener that gives no more is dropped at once: a client that connects while the open sessions are still served should
+/// be refused, not wait for an answer that never comes.
 fn accept_worker<R: Wait, L: Ledger, S: Drop, W: Drop, T: Listen<S, W> + Drop>(
     rt: &R,
     order: &Order<L>,
@@ -78,8 +78,8 @@ fn accept_worker<R: Wait, L: Ledger, S: Drop, W: Drop, T: Listen<S, W> + Drop>(
     }
 }
 
-/// What an accepting worker hands back that was told not to begin. One that began is waited for without end: none does once that
-/// was said.
+/// What an accepting worker hands back when told not to begin. If it began, this waits forever; none begins once that was
+/// said.
 fn unbegun<R: Wait, T>(rt: &R, end: AcceptEnd<T>) -> AcceptEnd<T>
     ensures same { result ≡ end }
     ensures none { result.begun ≡ false }
@@ -93,7 +93,7 @@ fn unbegun<R: Wait, T>(rt: &R, end: AcceptEnd<T>) -> AcceptEnd<T>
     unreachable!()
 }
 
-/// Starts the accepting worker in a thread of the scope, and says that all workers may begin. Where no thread could be started it
+/// Starts the accepting worker in a thread of the scope, and says that all workers may begin. If no thread can be started,
 /// says that none may, and gives the listener back.
 pub(crate) fn start_accepting<'s, E, R, L, S, W, T>(
     rt: &'s R,

@@ -19,7 +19,7 @@ use std::sync::Wait;
 use std::sync::ledger::{Ledger, Share};
 use std::thread::{Scope, Threads};
 
-/// A place where no session is served. None where all are taken.
+/// A place where no session is served, or None if all are taken.
 fn free_place(places: &Vec<Option<Lane>>) -> Option<usize>
     ensures { MatchOption result (AreTaken places.now.items) (λ at. (at < vec_len places.now) × (slice_index_or places.now.items at None ≡ None)) }
 {
@@ -31,8 +31,8 @@ fn free_place(places: &Vec<Option<Lane>>) -> Option<usize>
     None
 }
 
-/// The lane of a session that was opened, whose workers are started. None where a thread is refused: then both ends of the link
-/// are closed.
+/// The lane of a session that was opened, with its workers started. None if a thread can't be started: then both ends of the
+/// link are closed.
 fn start_lane<'s, E, R, L, G, S, W>(
     rt: &'s R,
     alloc: Global,
@@ -78,8 +78,8 @@ where
     Some(Lane::new(session, inbound, outbound))
 }
 
-/// Opens a session for the link at a free place and starts its workers. Where the core or a thread is refused both ends of the link
-/// are closed, and so is the session, as out of memory, if it was opened.
+/// Opens a session for the link at a free place and starts its workers. If the core refuses it or a thread can't be started,
+/// closes both ends of the link, and the session too, as out of memory, if it was opened.
 fn admit_at<'s, E, R, K, D, L, G, S, W>(
     rt: &'s R,
     alloc: Global,
@@ -126,7 +126,7 @@ where
     }
 }
 
-/// Serves the link as a session, at a free place. Both its ends are closed where there is none, or where the session, a ring, a
+/// Serves the link as a session, at a free place. Closes both of its ends if there is none, or if the session, a ring, a
 /// part of the ledger or a thread is refused.
 pub(crate) fn admit<'s, E, R, K, D, L, G, S, W>(
     rt: &'s R,

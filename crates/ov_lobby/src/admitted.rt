@@ -11,17 +11,17 @@ pub(crate) enum Admitted {
     Refused(AdmitFault),
 }
 
-/// Why a link is not served though there is a free place.
+/// Why a link is not served although a place is free.
 #[derive(Drop)]
 pub(crate) enum AdmitFault {
     /// There are fewer bells than places.
     Bell,
     /// No part of the ledger is left.
     Part,
-    /// Memory was refused for the rings.
+    /// The rings could not be allocated.
     Memory,
     /// The machine refused the session.
     Machine(StepFault),
-    /// A thread was refused. The session was opened, and is closed again.
+    /// A thread could not be started. The session was opened, and is closed again.
     Thread,
 }

@@ -2,7 +2,7 @@ use ov_keeper::Keeper;
 use ov_lanes::{Desk, ServeFault};
 use ov_requests::Draws;
 
-/// What comes back where no connection is served. None was accepted.
+/// What comes back if no connection is served. None was accepted.
 #[derive(Drop)]
 pub struct RefusedLobby<K: Keeper, D: Draws, T> {
     /// Why.

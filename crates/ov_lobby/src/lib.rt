@@ -1,5 +1,5 @@
-//! The lobby: it serves whoever connects around one core, up to 64 sessions at a time, until no connection comes any more. Each
-//! session has a reader's and a writer's worker in a thread of its own, and one thread more accepts connections.
+//! The lobby: it serves every client around one core, up to 64 sessions at a time, until no more connections come. Each
+//! session has a reader and a writer, each in a thread of its own, and one more thread accepts connections.
 #![tactic(auto)]
 
 mod accept;

@@ -2,7 +2,7 @@ use ov_lanes::Link;
 
 /// Gives connections, one after another.
 pub trait Listen<S, W> {
-    /// The two ends of the next connection, once there is one. None where there will be none any more; then it isn't asked again,
-    /// but dropped.
+    /// The two ends of the next connection, once there is one. None if there will be no more; then it isn't asked again, but
+    /// dropped.
     fn accept(&mut self) -> Option<Link<S, W>>;
 }

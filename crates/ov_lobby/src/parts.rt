@@ -12,14 +12,14 @@ pub(crate) struct Parts<L: Ledger> {
 }
 
 impl<L: Ledger> Parts<L> {
-    /// So many parts can be taken of the share, and one stays in it.
+    /// This many parts can be taken of the share, and one stays in it.
     pub fn of(share: Share<L>, left: u64) -> Parts<L>
         requires { left < share.parts }
     {
         Parts { share, left }
     }
 
-    /// Takes one. None where none is left.
+    /// Takes one. None if none is left.
     pub fn take(&mut self) -> Option<Share<L>>
         ensures { MatchOption result (self.old.left ≡ 0) (λ share. (share.parts ≡ 1) × (share.amount ≡ 0)) }
     {

@@ -46,10 +46,10 @@ fn settle_each<K: Keeper + Drop, D: Draws + Drop>(
     }
 }
 
-/// Moves what waits for all sessions: frames into their rings, and behind the last frame of a closed session the end mark.
+/// Moves what waits for all sessions: frames into their rings, and after the last frame of a closed session the end mark.
 ///
-/// A session that is closed so, since its ring has no room, may have owned locks, whose next owners are told so: then all are gone
-/// over again.
+/// A session that is closed because its ring has no room may have owned locks, and their next owners are notified: then all
+/// sessions are gone over again.
 pub(crate) fn settle_places<K: Keeper + Drop, D: Draws + Drop>(
     core: &mut Core<K, D>,
     places: &mut Vec<Option<Lane>>,
@@ -65,7 +65,7 @@ pub(crate) fn settle_places<K: Keeper + Drop, D: Draws + Drop>(
     }
 }
 
-/// Takes an item of the session at a place. False where none was seen.
+/// Takes an item of the session at a place. Returns false if none was seen.
 fn turn_place<K: Keeper + Drop, D: Draws + Drop>(
     core: &mut Core<K, D>,
     alloc: Global,
@@ -95,7 +95,7 @@ pub(crate) fn turn_at<K: Keeper + Drop, D: Draws + Drop>(
     turn_place(core, alloc, moment, place)
 }
 
-/// Rings the writer's bell, where something was put for it.
+/// Rings the writer's bell if something was put for it.
 fn ring_bell<R: Wait>(rt: &R, bell: &Bell, lane: &mut Lane)
     ensures { LooksAt lane.old lane.new }
 {
@@ -122,7 +122,7 @@ fn has_left(lane: &Lane, gone: bool) -> bool
     gone && lane.ended && lane.marked
 }
 
-/// Rings the bell of the writer at a place, where something was put for it, and makes the place free where its session has left it.
+/// Rings the bell of the writer at a place if something was put for it, and frees the place if its session has left it.
 fn tend_place<R: Wait>(rt: &R, bell: &Bell, gone: bool, place: &mut Option<Lane>)
     ensures { TendsPlace gone place.old place.new }
 {
@@ -155,7 +155,7 @@ fn tend_at<R: Wait, K: Keeper + Drop, D: Draws + Drop>(
     tend_place(rt, bell, gone, place);
 }
 
-/// Rings the bells of all writers for which something was put, and makes the places free whose workers have ended.
+/// Rings the bells of all writers for which something was put, and frees the places whose workers have ended.
 pub(crate) fn tend_places<R: Wait, K: Keeper + Drop, D: Draws + Drop>(
     rt: &R,
     core: &Core<K, D>,
@@ -183,7 +183,7 @@ pub(crate) fn place_of(places: &Vec<Option<Lane>>, serial: u64) -> Option<usize>
     None
 }
 
-/// Each session is closed, each reader's end was taken, and behind each session's last frame the end mark was put.
+/// Whether each session is closed, each reader's end was taken, and the end mark was put after each session's last frame.
 pub(crate) fn are_over(places: &Vec<Option<Lane>>) -> bool
     ensures { result ≡ true → AreOver places.now.items }
 {

@@ -7,7 +7,7 @@ use ov_workers::ReadCause;
 use rtrb::{Consumer, Producer};
 use std::alloc::{AllocError, Global};
 
-/// The rings of a session that is to be opened: the desk's ends of them, and the workers'.
+/// The rings of a session to be opened: the desk's ends and the workers'.
 #[derive(Drop)]
 pub(crate) struct Rings {
     /// Where its reader brings what it reads.
@@ -20,7 +20,7 @@ pub(crate) struct Rings {
     pub to_writer: Consumer<Sent>,
 }
 
-/// The rings of one session more.
+/// The rings of one more session.
 pub(crate) fn new_rings(alloc: Global) -> Result<Rings, AllocError>
     ensures { IfOk result (λ rings. AreFresh rings) }
 {

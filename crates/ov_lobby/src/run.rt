@@ -26,15 +26,15 @@ use std::thread::{Scope, Threads};
 pub(crate) struct Hall<S, W, L: Ledger> {
     /// What the accepting worker brings.
     pub accepted: Consumer<Accepted<S, W>>,
-    /// The accepting worker's end was taken.
+    /// Whether the accepting worker's end was taken.
     pub is_closed: bool,
-    /// What further workers that note take.
+    /// The parts for further workers that note.
     pub parts: Parts<L>,
     /// The lanes of the sessions, each at a place of its own.
     pub places: Vec<Option<Lane>>,
 }
 
-/// Takes an item of the ring, once it is seen there.
+/// Takes an item of the ring once it is seen there.
 fn pop_once_seen<R: Wait, T: Drop>(rt: &R, ring: &mut Consumer<T>) -> T {
     for _ in rt.forever() {
         if let Ok(item) = ring.pop() {
@@ -45,7 +45,8 @@ fn pop_once_seen<R: Wait, T: Drop>(rt: &R, ring: &mut Consumer<T>) -> T {
     unreachable!()
 }
 
-/// Takes an item of the session of this serial, once it is seen. One that has no place has brought nothing that is still taken.
+/// Takes an item of the session of this serial once it is seen. A session without a place has brought nothing that is still
+/// taken.
 fn turn_once_seen<R: Wait, K: Keeper + Drop, D: Draws + Drop>(
     rt: &R,
     core: &mut Core<K, D>,
@@ -68,7 +69,7 @@ fn turn_once_seen<R: Wait, K: Keeper + Drop, D: Draws + Drop>(
     unreachable!()
 }
 
-/// Takes an item of the accepting worker, once it is seen: a link that is to be served, or its end.
+/// Takes an item of the accepting worker once it is seen: a link to be served, or its end.
 fn accept_once_seen<'s, E, R, K, D, L, G, S, W>(
     rt: &'s R,
     alloc: Global,
@@ -94,7 +95,7 @@ where
             let places = &mut hall.places;
             tend_places(rt, core, bells, places);
             let parts = &mut hall.parts;
-            // Whoever is not served finds its connection closed, and is told no more.
+            // A client that is not served finds its connection closed, and gets no other answer.
             let _ = admit(
                 rt, alloc, scope, order, bells, gate, core, places, parts, link,
             );
@@ -103,7 +104,7 @@ where
     }
 }
 
-/// Takes the item of a note, if there is one: of the accepting worker, or of a session's reader.
+/// Takes the item of a note, if there is one: from the accepting worker, or from a session's reader.
 fn take_item<'s, E, R, K, D, L, G, S, W>(
     rt: &'s R,
     alloc: Global,
@@ -133,8 +134,8 @@ where
     }
 }
 
-/// Serves a note, at the moment that the clock tells: lets time pass to it where a transaction is due, takes the item, and moves
-/// what waits for all sessions. Without a note what waits is moved alone.
+/// Serves a note at the moment that the clock reports: advances time to it if a transaction is due, takes the item, and
+/// moves what waits for all sessions. Without a note no item is taken.
 fn serve_note<'s, E, R, K, D, L, G, S, W>(
     rt: &'s R,
     alloc: Global,
@@ -157,7 +158,7 @@ where
     W: Sink + Send + Drop + 's,
     ensures { GoesOn core.old hall.old.places.items core.new hall.new.places.items }
 {
-    // Where memory is refused for that, the transactions get their turn with the next note.
+    // If an allocation fails here, the transactions get their turn with the next note.
     let _ = core.pass_where_due(alloc, moment);
     take_item(
         rt, alloc, scope, order, bells, gate, core, hall, note, moment,
@@ -167,10 +168,10 @@ where
     tend_places(rt, core, bells, places);
 }
 
-/// Serves whoever is accepted, an item for each note, until nobody is accepted any more, each reader's end was taken and behind
-/// each session's last frame the end mark was put.
+/// Serves every accepted connection, one item for each note, until no more are accepted, each reader's end was taken and the
+/// end mark was put after each session's last frame.
 ///
-/// While a transaction that waits may time out the desk sleeps for a millisecond at most, and asks the clock after each sleep.
+/// While a waiting transaction may time out, the desk sleeps for a millisecond at most, and asks the clock after each sleep.
 pub(crate) fn run<'s, E, R, K, D, L, G, S, W, C>(
     rt: &'s R,
     alloc: Global,

@@ -30,7 +30,7 @@ const PLACES: usize = 64;
 /// How many parts the ledger of notes has. The accepting worker and each session's reader take one, and one is left.
 const SHARES: u64 = u64::MAX;
 
-/// Nothing was done yet.
+/// Nothing has been done yet.
 fn begin<K: Keeper + Drop, D: Draws + Drop>(core: &Core<K, D>, places: &Vec<Option<Lane>>)
     requires { AreFree places.now.items }
     ensures { ServesPlaces core.now core.now places.now.items }
@@ -39,8 +39,8 @@ fn begin<K: Keeper + Drop, D: Draws + Drop>(core: &Core<K, D>, places: &Vec<Opti
     let _ = core.history();
 }
 
-/// Starts the accepting worker, and serves whom it accepts with the desk in this thread. The listener comes back where no thread
-/// could be started.
+/// Starts the accepting worker, and serves the connections it accepts with the desk in this thread. Gives the listener back
+/// if no thread can be started.
 fn serve_in<'s, E, R, K, D, L, G, S, W, T, C>(
     rt: &'s R,
     alloc: Global,
@@ -77,7 +77,7 @@ where
     Ok(())
 }
 
-/// The same, with what the scope of the threads takes for itself and gives back.
+/// The same, with what the scope of the threads takes and gives back.
 fn serve_moved<'s, E, R, K, D, L, G, S, W, T, C>(
     rt: &'s R,
     alloc: Global,
@@ -189,7 +189,7 @@ fn all_bells(alloc: Global) -> Result<Vec<Bell>, AllocError> {
     Ok(bells)
 }
 
-/// What serving takes beside threads and sessions.
+/// What serving needs besides threads and sessions.
 #[derive(Drop)]
 struct Room<S, W, L: Ledger> {
     order: Order<L>,
@@ -199,7 +199,7 @@ struct Room<S, W, L: Ledger> {
     accepted: Consumer<Accepted<S, W>>,
 }
 
-/// Takes that room.
+/// Takes this room.
 fn take_room<S: Drop, W: Drop, L: Ledger>(
     alloc: Global,
     book: Book<L>,
@@ -274,21 +274,23 @@ where
     )
 }
 
-/// Serves whoever the listener accepts, each connection as a session, up to 64 at a time, until the listener gives none any more
-/// and all sessions are over (our own, over RFC 7047, 4). The desk comes back then.
+/// Serves every connection that the listener accepts as a session, up to 64 at a time, until the listener gives no more and
+/// all sessions are over (RFC 7047, 4). Then the desk comes back.
 ///
-/// A session ends as in `serve_links`: where its reader's input ends, a read fails or its stream is damaged, where more than 1,024
-/// frames wait for its writer, or where memory is refused for its request. Of the others none is held up by that. Once a session's
-/// reader has ended, and its writer has written what was sent to it, both are dropped, which closes the connection, and the place is
-/// free for another. A session that is closed before its input ends keeps its place until that ends.
+/// A session ends as in `serve_links`: when its reader's input ends, a read fails or its stream is damaged, when more than
+/// 1,024 frames wait for its writer, or when an allocation for its request fails. Other sessions are not delayed. Once a
+/// session's reader has ended, and its writer has written what was sent to it, both are dropped, which closes the
+/// connection, and the place is free for another. A session that is closed before its input ends keeps its place until the
+/// input ends.
 ///
-/// A connection for which there is no place, or for which the machine, memory or a thread is refused, is dropped at once, with
-/// nothing read of it or written to it. Up to 64 connections wait for the desk; then the listener isn't asked for another. Once it
-/// gives none it is dropped, though sessions may still be served: whoever connects from then on is to be refused by the system.
+/// A connection is dropped at once, with nothing read from it or written to it, if there is no place for it, the machine
+/// refuses it, an allocation fails or a thread can't be started. Up to 64 connections wait for the desk; then the listener
+/// isn't asked for another. Once it gives no more it is dropped, though sessions may still be served: the system should
+/// refuse clients that connect afterwards.
 ///
-/// Each reader and each writer works in a thread of its own, the listener in one more, and the machine in this one. The clock tells
-/// the desk the moment of what it takes, in milliseconds. While a transaction that waits may run out the desk sleeps for a
-/// millisecond at most.
+/// Each reader and each writer works in a thread of its own, the listener in one more, and the machine in this one. The
+/// clock gives the desk the moment of what it takes, in milliseconds. While a waiting transaction may time out, the desk
+/// sleeps for a millisecond at most.
 ///
 /// Refused as `Memory` or as `Threads`, before anything is accepted. Then the desk and the listener come back as they were.
 pub fn serve_lobby<R, K, D, G, S, W, T, C>(

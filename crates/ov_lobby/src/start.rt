@@ -13,7 +13,8 @@ use std::sync::ledger::{Ledger, Share};
 use std::thread;
 use std::thread::{Scope, Threads};
 
-/// Reads until the stream ends. The reader is closed before the ring is given up: whoever finds the ring given up knows that.
+/// Reads until the stream ends. Closes the reader before it gives up the ring: a ring that was given up means that the
+/// reader is closed.
 fn read_to_end<R: Wait, L: Ledger, G: Gate, S: Source + Drop>(
     rt: &R,
     alloc: Global,
@@ -37,7 +38,7 @@ fn read_to_end<R: Wait, L: Ledger, G: Gate, S: Source + Drop>(
     drop(ring);
 }
 
-/// Writes until the end mark comes. The writer is closed before the ring is given up.
+/// Writes until the end mark comes. Closes the writer before it gives up the ring.
 fn write_to_end<R: Wait, L: Ledger, G: Gate, W: Sink + Drop>(
     rt: &R,
     order: &Order<L>,
@@ -59,7 +60,7 @@ fn write_to_end<R: Wait, L: Ledger, G: Gate, W: Sink + Drop>(
     drop(ring);
 }
 
-/// Starts a reader's worker. Where no thread could be started the reader is closed.
+/// Starts a reader's worker. Closes the reader if no thread can be started.
 fn start_reading<'s, E, R, L, G, S>(
     rt: &'s R,
     alloc: Global,
@@ -83,7 +84,7 @@ where
     scope.spawn(job).is_ok()
 }
 
-/// Starts a writer's worker. Where no thread could be started the writer is closed.
+/// Starts a writer's worker. Closes the writer if no thread can be started.
 fn start_writing<'s, E, R, L, G, W>(
     rt: &'s R,
     scope: &Scope<'s, E>,
@@ -105,8 +106,9 @@ where
     scope.spawn(job).is_ok()
 }
 
-/// Tells a writer to end to which nothing was sent, and waits until it has ended. Having written nothing, it doesn't wait for its
-/// client. It is waited for since whoever gets the place next has the same bell: of two writers one would take the other's ring.
+/// Tells a writer to which nothing was sent to end, and waits until it has ended. Having written nothing, it doesn't wait
+/// for its client. The wait is needed because the next session at this place has the same bell: of two writers one would
+/// take the other's ring.
 fn end_writer<R: Wait>(rt: &R, bell: &Bell, outbound: Producer<Sent>) {
     let mut outbound = outbound;
     let _ = outbound.push(Sent::End);
@@ -120,8 +122,9 @@ fn end_writer<R: Wait>(rt: &R, bell: &Bell, outbound: Producer<Sent>) {
     unreachable!()
 }
 
-/// Starts both workers of a session, and gives the end of its writer's ring back. Where a thread is refused both ends of the link
-/// are closed, and no worker is left. The writer's comes first: it can be told to end, and a reader that waits for bytes can't.
+/// Starts both workers of a session, and gives back the end of its writer's ring. If a thread can't be started, both ends of
+/// the link are closed, and no worker is left. The writer's comes first: it can be told to end, and a reader that waits for
+/// bytes can't.
 pub(crate) fn start_workers<'s, E, R, L, G, S, W>(
     rt: &'s R,
     alloc: Global,

@@ -22,7 +22,7 @@ pub owner-found : (name : List ℕ) (es : Entries) (o : Option Queue) → o ≡ 
 owner-found name es o found = ap first_of (queue-found name es o found) ∙ first_in o
 
 module _ (name : List ℕ) (session : ℕ) (es : Entries) where
-  -- ---- a lock that nobody asked for
+  -- ---- a lock that no session has asked for
 
   module _ (k : String Global) (q : Queue) (is : string_bytes k ≡ name) (first : q ≡ (session, [])) where
     put-first : queues_of (insert_entry text_order es k q) ≡ insert_entry name_cmp (queues_of es) name (session ∷ [])
@@ -64,7 +64,7 @@ module _ (name : List ℕ) (session : ℕ) (es : Entries) where
         set-queues name new q es ascend found ∙ ap (insert_entry name_cmp (queues_of es) name) (ap sessions_of is)
         ∙ sym (ap (λ queue. with_queue name (session ∷ queue) (queues_of es)) (queue-found name es (Some q) found))
 
-    -- the session left the queue, which goes if nobody is left in it
+    -- the session has left the queue, which goes if nobody is left in it
     pub leaves-unlocks : IsStrictlySortedBy text_order (keys_of es) → (new : Queue) (b : Bool) → cond b [] (sessions_of new) ≡ without session (sessions_of q)
         → cond b (with_queue name [] (queues_of (set_value (text_is name) es new))) (queues_of (set_value (text_is name) es new)) ≡ unlock name session (queues_of es)
     leaves-unlocks ascend new b left = by b left ∙ sym (ap (λ queue. with_queue name (without session queue) (queues_of es)) (queue-found name es (Some q) found))
@@ -79,7 +79,7 @@ module _ (name : List ℕ) (session : ℕ) (es : Entries) where
     pub next-found : next_owner name session (queues_of es) ≡ next_in session (sessions_of q)
     next-found = ap (next_in session) (queue-found name es (Some q) found)
 
-  -- ---- a lock that nobody asked for is left by nobody
+  -- ---- nobody leaves a lock that no session has asked for
 
   module _ (none : None ≡ lookup (text_is name) es) where
     pub none-unlocks : with_queue name [] (queues_of es) ≡ unlock name session (queues_of es)

@@ -1,4 +1,4 @@
--- The names that sessions asked for, of the code as those of the definitions.
+-- The names that sessions have asked for, of the code as those of the definitions.
 use Rattle.std.proofs.Common.{◌≡◌, ℕ, ◌+◌, List, [], ◌∷◌, map, length, suc, Bool, true, false, cond, eqb, Option, Some, None, option_map, refl, sym, ap, ◌∙◌, inl, inr, arith, String, string_bytes, Global, Ordering, Less, Equal, Greater}
 use Rattle.std.proofs.lemmas.Bool.{eqb-true, eq-eqb, ne_eqb, cases_order}
 use Rattle.std.proofs.lemmas.List.Sums.{sum_by-cons}
@@ -65,7 +65,7 @@ names-become session w o f es es' h found is other = names-after session w es es
     by true same = is ∙ ap f (ap names_taken found ∙ sym (names-found session es)) ∙ ap (λ s. f (names_in s (held_of es))) (sym (eqb-true other session same))
     by false same = refl
 
--- where a session has no set, there is nothing to take out
+-- if a session has no set, there is nothing to take out
 pub names-none : (session : ℕ) (f : List (List ℕ) → List (List ℕ)) (es : Sets) → None ≡ lookup (is_at (nat_cmp session)) es → f [] ≡ []
     → (other : ℕ) → names_in other (held_of es) ≡ cond (eqb other session) (f (names_in other (held_of es))) (names_in other (held_of es))
 names-none session f es none is other = by (eqb other session) refl
@@ -76,7 +76,7 @@ names-none session f es none is other = by (eqb other session) refl
         nothing ∙ sym is ∙ ap f (sym nothing)
     by false same = refl
 
--- a set that is put back with the names that it had
+-- a set is put back with the names that it had
 pub held-same : (test : ℕ → Bool) (old new : NameSet) (es : Sets) → Some old ≡ lookup test es → names_of_set new ≡ names_of_set old → held_of (set_value test es new) ≡ held_of es
 held-same test old new [] found same = refl
 held-same test old new (e ∷ es) found same = by (held-same test old new es) (test e.0) found

@@ -14,7 +14,7 @@ use Rattle.ov_specs.proofs.laws.Names.{name_cmp_total, same_name-itself}
 use Rattle.ov_specs.proofs.laws.Truths.{equal_is}
 use Rattle.ov_locks.specs.Freeing.{unlock_all, freed_all}
 
--- all of these come behind the name
+-- all of these come after the name
 abbrev IsBefore : List ℕ → List (List ℕ) → Type 0
 IsBefore name = AllByRecursion (λ other. name_cmp other name ≡ Greater)
 
@@ -22,7 +22,7 @@ before_all : (name : List ℕ) (names : List (List ℕ)) → IsBelow name names 
 before_all name [] below = tt
 before_all name (other ∷ names) below = (name_cmp_total.antisymm other name ∙ ap ordering_reverse below.0, before_all name names below.1)
 
--- ---- one lock that comes behind the first
+-- ---- one lock that comes after the first
 
 module _ (session : ℕ) (name : List ℕ) (e : List ℕ × List ℕ) (queues : Queues) (later : name_cmp name e.0 ≡ Greater) where
   queue-behind : queue_of name (e ∷ queues) ≡ queue_of name queues
@@ -74,7 +74,7 @@ module _ (session : ℕ) where
     unlock-here : unlock e.0 session (e ∷ queues) ≡ queue_before e.0 (without session e.1) queues
     unlock-here = ap (λ q. with_queue e.0 (without session q) (e ∷ queues)) queue-here ∙ with-here (without session e.1)
 
-  -- who doesn't stand in a queue makes nobody its first
+  -- leaving a queue without standing in it makes nobody its first
   none-next : (queue : List ℕ) → stands_in session queue ≡ false → next_in session queue ≡ None
   none-next [] out = refl
   none-next (first ∷ queue) out = ap (λ b. cond b (first_of (without session queue)) None) (or_parts (eqb first session) (stands_in session queue) out).0

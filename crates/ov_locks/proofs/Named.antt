@@ -53,7 +53,7 @@ unfolding IsStrictlySortedBy
 named-ascend [] ascend = tt
 named-ascend (e ∷ es) ascend = (below-named e.0 es ascend.0, named-ascend es ascend.1)
 
--- ---- one queue more, another, or one fewer
+-- ---- one more queue, another, or one fewer
 
 pub insert-queues : (k : String Global) (q : Queue) (es : Entries) → queues_of (insert_entry text_order es k q) ≡ insert_entry name_cmp (queues_of es) (string_bytes k) (sessions_of q)
 insert-queues k q [] = refl
@@ -85,7 +85,7 @@ set-named name q (e ∷ es) = by (set-named name q es) (text_is name e.0)
     by rest true = refl
     by rest false = ap (λ qs. (string_bytes e.0, sessions_of e.1) ∷ qs) rest
 
--- a queue that is there is put where it is
+-- a queue that exists is put where it is
 put-found : (name : List ℕ) (queue old : List ℕ) (queues : Queues) → DoQueuesAscend queues → lookup (is_at (name_cmp name)) queues ≡ Some old
     → set_value (is_at (name_cmp name)) queues queue ≡ insert_entry name_cmp queues name queue
 put-found name queue old [] ascend found = absurd (no found)
@@ -111,7 +111,7 @@ set-queues name q old es ascend found =
     set-named name q es
     ∙ put-found name (sessions_of q) (sessions_of old) (queues_of es) (named-ascend es ascend) (lookup-queues name es ∙ ap (option_map sessions_of) (sym found))
 
--- a queue that is another before it goes
+-- a queue that is changed before it goes
 pub out-set : (name : List ℕ) (q : Queue) (es : Entries) → remove_entry (text_is name) (set_value (text_is name) es q) ≡ remove_entry (text_is name) es
 out-set name q [] = refl
 out-set name q (e ∷ es) = by (out-set name q es) (text_is name e.0) refl
@@ -121,7 +121,7 @@ out-set name q (e ∷ es) = by (out-set name q es) (text_is name e.0) refl
     by rest true is = ap (λ b. cond b es ((e.0, q) ∷ remove_entry (text_is name) es)) is
     by rest false is = ap (λ b. cond b (set_value (text_is name) es q) (e ∷ remove_entry (text_is name) (set_value (text_is name) es q))) is ∙ ap (λ qs. e ∷ qs) rest
 
--- ---- all will be told of their locks
+-- ---- all will be notified of their locks
 
 pub told-insert : (k : String Global) (q : Queue) (es : Entries) → AllAreTold es → AreToldOf (string_bytes k) q.1 → AllAreTold (insert_entry text_order es k q)
 told-insert k q [] all are = (are, tt)

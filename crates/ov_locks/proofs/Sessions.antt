@@ -1,4 +1,4 @@
--- A queue with the frames of those who wait, and its sessions.
+-- A queue with the frames of its waiters, and its sessions.
 use Rattle.std.proofs.Common.{◌≡◌, ℕ, List, [], ◌∷◌, ◌++◌, map, Bool, true, false, cond, not, eqb, Option, Some, None, refl, sym, ap, subst, ◌∙◌}
 use Rattle.std.specs.Prelude.{is_none, option_to_list, IfNone}
 use Rattle.ov_specs.specs.locks.Queues.{without, first_of, next_in, locked_note}

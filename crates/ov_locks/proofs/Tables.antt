@@ -1,4 +1,4 @@
--- The queues of a table of locks with the names that its sessions asked for.
+-- The queues of a table of locks with the names that its sessions have asked for.
 use Rattle.std.proofs.Common.{◌≡◌, ℕ, ◌+◌, ◌≤◌, List, [], ◌∷◌, ◌++◌, length, Bool, true, false, cond, ◌||◌, eqb, Option, Some, None, refl, sym, ap, subst, ◌∙◌, arith, Ordering, Less, Equal, Greater}
 use Rattle.std.proofs.lemmas.Bool.{eqb-true, eq-eqb}
 use Rattle.std.proofs.lemmas.List.{append_assoc}
@@ -33,7 +33,7 @@ pub none-ascend : DoQueuesAscend []
 unfolding IsStrictlySortedBy
 none-ascend = tt
 
--- the session asked for the lock too, or no more
+-- the session asks for the lock as well, or no longer does
 abbrev pub AddsName : List ℕ → ℕ → HeldNames → HeldNames → Type 0
 AddsName name session held new = (other : ℕ) → names_in other new ≡ cond (eqb other session) (insert_key name_cmp (names_in other held) name) (names_in other held)
 
@@ -72,7 +72,7 @@ module _ (name : List ℕ) (session : ℕ) (queues : Queues) (held : HeldNames) 
         removes other ∙ ap (λ ns. cond (eqb other session) (remove_key (is_at (name_cmp name)) ns) ns) (are other) ∙ sym (names-unlock name other session queues ascend) ∙ ap (names_of other) (sym is),
   )
 
-  -- what was noted is taken back
+  -- what was noted is undone
   pub same-table : (mid new : HeldNames) (after : Queues) → list_any (is_at (name_cmp name)) (names_in session held) ≡ false → AddsName name session held mid → RemovesName name session mid new → after ≡ queues
       → DoQueuesAscend after × AreNamesOf new after
   same-table mid new after absent adds removes is = (
@@ -123,7 +123,7 @@ added-is name session held new adds =
 abbrev pub Freeing : Type 0
 Freeing = List (ℕ × List ℕ) × ℕ
 
--- what is left, the names of these locks, does to these queues what all does to the first ones, and there are places for it
+-- unlocking the remaining locks makes of these queues what unlocking all makes of the first ones, and there are places for it
 abbrev pub IsLeft : ℕ → List (List ℕ) → Queues → Freeing → List (List ℕ) → Queues → Freeing → Type 0
 IsLeft session rest queues now all first before =
     (unlock_all session rest queues ≡ unlock_all session all first)
@@ -156,7 +156,7 @@ same_error : {A : Type 0} (fault other : LockFault) → RefusesFor {A = A} (Some
 same_error fault other h = cc
 
 module _ (A B : Type 0) where
-  -- what is not refused asked for no such lock before
+  -- a session that is not refused had not asked for this lock before
   pub was-absent : (has : Bool) (count : ℕ) (a : A) → RefusesFor {A = A} (refusal_for has count) (Ok a) → has ≡ false
   was-absent true count a refuses = absurd (never AlreadyRequested a refuses)
   was-absent false count a refuses = refl

@@ -3,7 +3,7 @@ use Rattle.ov_specs.specs.locks.Queues as spec
 use Rattle.ov_locks.specs.declared.call.LockCall.{LockCall}
 use Rattle.ov_locks.specs.declared.call.LockCall.TheVariants.{Lock, Steal, Unlock}
 
--- what is asked of a lock
+-- a call on a lock
 abbrev pub lock_call_view : LockCall → spec.LockCall
 lock_call_view Lock = spec.Lock
 lock_call_view Steal = spec.Steal

@@ -1,4 +1,4 @@
--- The names of the locks that sessions asked for.
+-- The names of the locks that sessions have asked for.
 use Rattle.std.specs.Prelude.{ℕ, List, [], map, length, Option, option_map, unwrap_or, String, string_bytes}
 use Rattle.std.specs.BTreeMap.{is_at}
 use Rattle.std.specs.BTreeSet.{BTreeSet}
@@ -18,7 +18,7 @@ NameSet = BTreeSet (String Global)
 abbrev pub names_in : ℕ → HeldNames → List (List ℕ)
 names_in session held = unwrap_or (lookup (is_at (nat_cmp session)) held) []
 
--- how many there are of all sessions
+-- how many names there are of all sessions
 abbrev pub requests_in : HeldNames → ℕ
 requests_in held = sum_by length (values_of held)
 

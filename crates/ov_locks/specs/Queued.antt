@@ -5,28 +5,28 @@ use Rattle.std.specs.declared.alloc.Global.{Global}
 use Rattle.ov_specs.specs.locks.Queues.{Queues, locked_note}
 use Rattle.ov_specs.specs.wire.Frame.{frame}
 
--- those who wait, each with the frame by which it will be told
+-- the waiters, each with the frame that will notify it
 abbrev pub Waiters : Type 0
 Waiters = List (ℕ × List ℕ)
 
--- the owner, and those who wait
+-- the owner, and the waiters
 abbrev pub Queue : Type 0
 Queue = ℕ × Waiters
 
--- the sessions in their order
+-- the sessions, in order
 abbrev pub sessions_of : Queue → List ℕ
 sessions_of queue = queue.0 ∷ map (λ waiter. waiter.0) queue.1
 
--- the queue with its waiters without the session
+-- the waiters without the session
 abbrev pub without_waiter : ℕ → Waiters → Waiters
 without_waiter session waiters = filter (λ waiter. not (waiter.0 == session)) waiters
 
--- the owner after the first of the waiters, if there was one, has become it
+-- the owner after the first of the waiters, if there was one, has become the owner
 abbrev pub owner_after : ℕ → Option (ℕ × List ℕ) → ℕ
 owner_after former None = former
 owner_after former (Some waiter) = waiter.0
 
--- each waiter will be told that it has the lock of this name
+-- each waiter will be notified that it has the lock of this name
 abbrev pub AreToldOf : List ℕ → Waiters → Type 0
 AreToldOf name waiters = AllByRecursion (λ waiter. waiter.1 ≡ frame (locked_note name)) waiters
 
@@ -34,6 +34,6 @@ AreToldOf name waiters = AllByRecursion (λ waiter. waiter.1 ≡ frame (locked_n
 abbrev pub queues_of : List (String Global × Queue) → Queues
 queues_of es = map (λ e. (string_bytes e.0, sessions_of e.1)) es
 
--- in each queue they will be told of its lock
+-- in each queue the waiters will be notified of its lock
 abbrev pub AllAreTold : List (String Global × Queue) → Type 0
 AllAreTold es = AllByRecursion (λ e. AreToldOf (string_bytes e.0) e.1.1) es

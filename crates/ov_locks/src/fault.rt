@@ -4,26 +4,25 @@ ghost use Rattle.ov_locks.specs.Refusing.{fault_text};
 use std::alloc::AllocError;
 use thiserror::Error;
 
-/// Why a lock is not given or not given up. Nothing is changed by it.
+/// Why a lock is not given or not given up. Nothing has changed.
 #[derive(Clone, Copy, Debug, PartialEq, Eq, Error)]
 pub enum LockFault {
-    /// The session asked for this lock before, and has not given it up since (RFC 7047, 4.1.8).
+    /// The session has asked for this lock before, and has not given it up since (RFC 7047, 4.1.8).
     #[error("lock already requested")]
     AlreadyRequested,
-    /// The session asked for no such lock (RFC 7047, 4.1.10).
+    /// The session has not asked for this lock (RFC 7047, 4.1.10).
     #[error("lock not held")]
     NotHeld,
-    /// The session asked for 256 locks, as their owner or as one that waits, and has given up none of them.
+    /// The session has asked for 256 locks, as owner or as waiter, and has given up none of them.
     #[error("resources exhausted")]
     Limit,
-    /// A growth was refused.
+    /// An allocation failed.
     #[error("out of memory")]
     Memory,
 }
 
 impl LockFault {
-    /// The text that the client is sent; `Memory` is told in another way. It is not derived, so that the contract can say which
-    /// it is.
+    /// The error text sent to the client; `Memory` is reported in another way. Not derived, so that the contract can state it.
     pub fn text(self) -> &'static str
         ensures { IfSome (fault_text self) (λ text. result.now ≡ text) }
     {

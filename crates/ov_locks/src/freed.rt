@@ -5,8 +5,8 @@ use std::alloc::{AllocError, Global};
 use std::collections::VecDeque;
 use std::marker::Model;
 
-/// Those that have become owners by the end of another session, each with the frame that tells it so, and places kept for
-/// more: one for each request, so that a session can leave without memory.
+/// The sessions that have become owners because another session ended, each with the frame that notifies it, and places kept
+/// for more: one for each request, so that a session can leave without allocating.
 #[derive(Drop)]
 pub(crate) struct Freed {
     pairs: VecDeque<(u64, Bytes)>,
@@ -25,7 +25,7 @@ impl Model for Freed {
 }
 
 impl Freed {
-    /// Nobody, and no place.
+    /// Starts with no sessions and no places.
     pub fn new(alloc: Global) -> Freed
         ensures { result ≡ ([], 0) }
     {
@@ -35,7 +35,7 @@ impl Freed {
         }
     }
 
-    /// Keeps one place more.
+    /// Keeps one more place.
     pub fn keep_place(&mut self) -> Result<(), AllocError>
         ensures ok { OnOk result (self.new ≡ (self.old.0, self.old.1 + 1)) }
         ensures err { OnErr result (self.new ≡ self.old) }
@@ -48,14 +48,14 @@ impl Freed {
         Ok(())
     }
 
-    /// Keeps one place less.
+    /// Gives up one place.
     pub fn give_up_place(&mut self)
         ensures { self.new ≡ (self.old.0, self.old.1 - 1) }
     {
         self.places = self.places.saturating_sub(1);
     }
 
-    /// Puts one in a place that was kept, behind all others.
+    /// Appends one, in a place that was kept.
     pub fn push(&mut self, pair: (u64, Bytes))
         requires { 0 < self.old.1 }
         ensures { self.new ≡ (self.old.0 ++ pair ∷ [], self.old.1 - 1) }
@@ -64,7 +64,7 @@ impl Freed {
         self.pairs.push_back_reserved(pair);
     }
 
-    /// The oldest one.
+    /// Takes out the oldest one.
     pub fn pop(&mut self) -> Option<(u64, Bytes)>
         ensures pairs { self.old.0 ≡ option_to_list result ++ self.new.0 }
         ensures places { self.new.1 ≡ self.old.1 }

@@ -10,7 +10,7 @@ use std::alloc::{AllocError, Global};
 use std::collections::{BTreeMap, BTreeSet};
 use std::marker::Model;
 
-/// For each session the names of the locks that it asked for: leaving costs what the session asked for, not what all did.
+/// The names of the locks that each session has asked for: leaving costs what the session has asked for, not what all have.
 #[derive(Drop)]
 pub(crate) struct Held {
     of: BTreeMap<u64, BTreeSet<String>>,
@@ -25,7 +25,7 @@ impl Model for Held {
 }
 
 impl Held {
-    /// Nobody asked for a lock.
+    /// No session has asked for a lock.
     pub fn new(alloc: Global) -> Held
         ensures { result ≡ [] }
     {
@@ -34,7 +34,7 @@ impl Held {
         }
     }
 
-    /// Whether the session asked for the lock.
+    /// Whether the session has asked for the lock.
     pub fn has(&self, session: u64, name: &str) -> bool
         ensures { result ≡ list_any (is_at (name_cmp name.now)) (names_in session self.now) }
     {
@@ -44,7 +44,7 @@ impl Held {
         }
     }
 
-    /// How many locks the session asked for.
+    /// How many locks the session has asked for.
     pub fn count(&self, session: u64) -> usize
         ensures { result ≡ length (names_in session self.now) }
     {
@@ -74,7 +74,7 @@ impl Held {
         }
     }
 
-    /// Notes that the session asks for the lock no more.
+    /// Notes that the session no longer asks for the lock.
     pub fn remove(&mut self, session: u64, name: &str)
         ensures names { (other : ℕ) → names_in other self.new ≡ (if other == session then remove_key (is_at (name_cmp name.now)) (names_in other self.old) else names_in other self.old) }
         ensures count { list_any (is_at (name_cmp name.now)) (names_in session self.old) ≡ true → requests_in self.new + 1 ≡ requests_in self.old }

@@ -1,4 +1,4 @@
-//! Named locks: who owns each, who waits for it, and what sessions are told of it (RFC 7047, 4.1.8 to 4.1.10).
+//! Named locks: who owns each, who waits for it, and what sessions are notified of (RFC 7047, 4.1.8 to 4.1.10).
 #![tactic(auto)]
 
 mod call;

@@ -8,21 +8,21 @@ use ov_rpc::note;
 use serde_json::Value;
 use std::alloc::{AllocError, Global};
 
-/// What tells a session that it has become the owner of the lock by another's leaving (RFC 7047, 4.1.9).
+/// Notifies a session that it has become the owner of the lock because another left (RFC 7047, 4.1.9).
 pub(crate) fn locked(alloc: Global, name: &str) -> Result<Bytes, AllocError>
     ensures { IfOk result (λ b. b ≡ frame (locked_note name.now)) }
 {
     note(alloc, "locked", params(alloc, name)?)
 }
 
-/// What tells a session that another has stolen the lock from it (RFC 7047, 4.1.10).
+/// Notifies a session that another has stolen the lock from it (RFC 7047, 4.1.10).
 pub(crate) fn stolen(alloc: Global, name: &str) -> Result<Bytes, AllocError>
     ensures { IfOk result (λ b. b ≡ frame (stolen_note name.now)) }
 {
     note(alloc, "stolen", params(alloc, name)?)
 }
 
-/// The lock's name alone.
+/// The params: the lock's name alone.
 fn params(alloc: Global, name: &str) -> Result<Trees, AllocError>
     ensures { IfOk result (λ params. params ≡ item (string name.now) no_items) }
 {

@@ -9,8 +9,8 @@ use std::alloc::{AllocError, Global};
 use std::collections::VecDeque;
 use std::marker::Model;
 
-/// The queue of one lock: its owner, and those who wait, the next owner first. Each of these has the frame by which it
-/// will be told that it has become the owner, since giving up a lock takes no memory.
+/// The queue of one lock: its owner, and the waiters, next owner first. Each waiter has the frame that will notify it that it
+/// has become the owner, since giving up a lock allocates nothing.
 #[derive(Drop)]
 pub(crate) struct Queue {
     owner: u64,
@@ -26,7 +26,7 @@ impl Model for Queue {
 }
 
 impl Queue {
-    /// Nobody waits for this owner.
+    /// A queue with this owner and no waiters.
     pub fn new(alloc: Global, owner: u64) -> Queue
         ensures { result ≡ (owner, []) }
     {
@@ -43,7 +43,7 @@ impl Queue {
         self.owner
     }
 
-    /// The session waits for the lock of this name behind all others.
+    /// Appends the session to the waiters for the lock of this name.
     pub fn wait(&mut self, alloc: Global, session: u64, name: &str) -> Result<(), AllocError>
         ensures ok { OnOk result (self.new ≡ (self.old.0, self.old.1 ++ (session, frame (locked_note name.now)) ∷ [])) }
         ensures err { OnErr result (self.new ≡ self.old) }
@@ -53,8 +53,8 @@ impl Queue {
         Ok(())
     }
 
-    /// The session takes the lock of this name from its owner, who waits before all others from now on. The former owner,
-    /// and what tells it so.
+    /// The session takes the lock of this name from its owner, who then waits before all others. Returns the former owner,
+    /// and the frame that notifies it.
     pub fn steal(
         &mut self,
         alloc: Global,
@@ -73,14 +73,14 @@ impl Queue {
         Ok((former, told))
     }
 
-    /// The session waits no more. It takes no memory.
+    /// Removes the session from the waiters. Allocates nothing.
     pub fn drop_waiter(&mut self, session: u64)
         ensures { self.new ≡ (self.old.0, without_waiter session self.old.1) }
     {
         self.waiting.retain(|waiter| waiter.0 != session);
     }
 
-    /// The first of those who wait becomes the owner, with the frame that tells it so. It takes no memory.
+    /// Makes the first waiter the owner. Returns it, with the frame that notifies it. Allocates nothing.
     pub fn promote(&mut self) -> Option<(u64, Bytes)>
         ensures waiters { self.old.1 ≡ option_to_list result ++ self.new.1 }
         ensures owner { self.new.0 ≡ owner_after self.old.0 result }

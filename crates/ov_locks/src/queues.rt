@@ -10,7 +10,7 @@ use std::alloc::{AllocError, Global};
 use std::collections::BTreeMap;
 use std::marker::Model;
 
-/// The queues of all locks that somebody asked for, by the locks' names.
+/// The queues of all locks that any session has asked for, by the locks' names.
 #[derive(Drop)]
 pub(crate) struct Queues {
     of: BTreeMap<String, Queue>,
@@ -28,7 +28,7 @@ impl Model for Queues {
 }
 
 impl Queues {
-    /// Nobody asked for a lock.
+    /// No session has asked for a lock.
     pub fn new(alloc: Global) -> Queues
         ensures { result ≡ [] }
     {
@@ -47,7 +47,7 @@ impl Queues {
         }
     }
 
-    /// The session asks for the lock, and is told whether it is the owner now.
+    /// The session asks for the lock. Returns whether it is the owner now.
     pub fn lock(&mut self, alloc: Global, session: u64, name: &str) -> Result<bool, AllocError>
         ensures first { IfOk result (λ first. first ≡ not (is_some (owner name.now self.old))) }
         ensures ok { OnOk result (self.new ≡ lock name.now session self.old) }
@@ -66,7 +66,7 @@ impl Queues {
         }
     }
 
-    /// The session takes the lock. The former owner, if there is one, and what tells it so.
+    /// The session takes the lock. Returns the former owner, if there is one, and the frame that notifies it.
     pub fn steal(
         &mut self,
         alloc: Global,
@@ -90,7 +90,8 @@ impl Queues {
         }
     }
 
-    /// The session leaves the queue of the lock. Who becomes the owner by that, and what tells it so. It takes no memory.
+    /// The session leaves the queue of the lock. Returns the session that becomes the owner by that, and the frame that
+    /// notifies it. Allocates nothing.
     pub fn unlock(&mut self, session: u64, name: &str) -> Option<(u64, Bytes)>
         ensures told { result ≡ told name.now (next_owner name.now session self.old) }
         ensures queues { self.new ≡ unlock name.now session self.old }
@@ -102,7 +103,7 @@ impl Queues {
         next
     }
 
-    /// The same, but a queue in which nobody else stands is not taken out: that is told.
+    /// Like `unlock`, but does not remove the queue if nobody else is in it, and returns whether that is so.
     fn leave(&mut self, session: u64, name: &str) -> (Option<(u64, Bytes)>, bool)
         ensures told { result.0 ≡ told name.now (next_owner name.now session self.old) }
         ensures queues { (if result.1 then with_queue name.now [] self.new else self.new) ≡ unlock name.now session self.old }
@@ -114,8 +115,8 @@ impl Queues {
     }
 }
 
-/// The session leaves the queue. Who becomes the owner by that, and what tells it so; and whether nobody is left, and the
-/// queue has to be taken out.
+/// The session leaves the queue. Returns the session that becomes the owner by that, and the frame that notifies it; and
+/// whether nobody is left, and the queue has to be removed.
 fn leave_queue(queue: &mut Queue, session: u64) -> (Option<(u64, Bytes)>, bool)
     ensures left { (if result.1 then [] else sessions_of queue.new) ≡ without session (sessions_of queue.old) }
     ensures told { (name : List ℕ) → AreToldOf name queue.old.1 → AreToldOf name queue.new.1 × (result.0 ≡ told name (next_in session (sessions_of queue.old))) }

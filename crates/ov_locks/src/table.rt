@@ -19,13 +19,13 @@ use std::alloc::Global;
 use std::collections::BTreeSet;
 use std::marker::Model;
 
-/// How many locks a session may ask for.
+/// The most locks that a session may ask for.
 const LOCK_LIMIT: usize = 256;
 
-/// Who owns each lock and who waits for it. Contracts see the queues, and those that have become owners by the end of
-/// another session and are still to be told, each with the frame that tells it so, the oldest first.
+/// Who owns each lock and who waits for it. Contracts see the queues, and the sessions that have become owners because
+/// another session ended and that are still to be notified, each with its frame, oldest first.
 ///
-/// A lock is named by an `<id>` (RFC 7047, 4.1.8), which whoever calls has tested.
+/// A lock is named by an `<id>` (RFC 7047, 4.1.8), which the caller has checked.
 #[derive(Drop)]
 pub struct LockTable {
     queues: Queues,
@@ -48,7 +48,7 @@ impl Model for LockTable {
 }
 
 impl LockTable {
-    /// Nobody asked for a lock.
+    /// No session has asked for a lock.
     pub fn new(alloc: Global) -> LockTable
         ensures { result ≡ ([], []) }
     {
@@ -66,21 +66,21 @@ impl LockTable {
         self.queues.owner(name)
     }
 
-    /// How many locks the session asked for, as their owner or as one that waits.
+    /// How many locks the session has asked for, as owner or as waiter.
     pub fn requests(&self, session: u64) -> usize
         ensures { result ≡ requests_of session self.now.0 }
     {
         self.held.count(session)
     }
 
-    /// The queues ascend by the names of their locks, which each table keeps true of itself. It does nothing.
+    /// States that the queues ascend by the names of their locks, an invariant of every table. Does nothing.
     pub fn in_order(&self)
         ensures { DoQueuesAscend self.now.0 }
     {
         let _ = &self.queues;
     }
 
-    /// The session asks for the lock, and goes to the back of its queue. Whether it is the owner now (RFC 7047, 4.1.8).
+    /// The session asks for the lock, and goes to the back of its queue. Returns whether it is the owner now (RFC 7047, 4.1.8).
     pub fn lock(&mut self, alloc: Global, session: u64, name: &str) -> Result<bool, LockFault>
         ensures refused { RefusesFor (request_refusal name.now session self.old.0) result }
         ensures first { IfOk result (λ first. first ≡ not (is_some (owner name.now self.old.0))) }
@@ -97,8 +97,8 @@ impl LockTable {
         }
     }
 
-    /// The session takes the lock, and goes to the front of its queue. The former owner, if there is one, and the frame
-    /// that tells it so: it stands behind the session from now on (RFC 7047, 4.1.8; that place is our own).
+    /// The session takes the lock, and goes to the front of its queue. Returns the former owner, if there is one, and the
+    /// frame that notifies it; it now stands after the session (RFC 7047, 4.1.8, which does not set its place).
     pub fn steal(
         &mut self,
         alloc: Global,
@@ -120,8 +120,8 @@ impl LockTable {
         }
     }
 
-    /// The session gives up the lock, or gives up waiting for it. Who becomes the owner by that, and the frame that tells
-    /// it so (RFC 7047, 4.1.8 and 4.1.9). It takes no memory, and is refused only as `NotHeld`.
+    /// The session gives up the lock, or stops waiting for it. Returns the session that becomes the owner by that, and the
+    /// frame that notifies it (RFC 7047, 4.1.8 and 4.1.9). Allocates nothing, and is refused only as `NotHeld`.
     pub fn unlock(&mut self, session: u64, name: &str) -> Result<Option<(u64, Bytes)>, LockFault>
         ensures answer { result ≡ (if has_requested session name.now self.old.0 then Ok (told name.now (next_owner name.now session self.old.0)) else Err LockFault.NotHeld) }
         ensures ok { OnOk result (self.new ≡ (unlock name.now session self.old.0, self.old.1)) }
@@ -134,8 +134,8 @@ impl LockTable {
         Ok(self.queues.unlock(session, name))
     }
 
-    /// The session gives up all locks, and gives up waiting for any, as one that closes does. Those that become owners by
-    /// that are kept for `next_freed`, in ascending order of the locks' names, behind earlier ones. It takes no memory.
+    /// The session gives up all locks, and stops waiting for any, as when it is closed. The sessions that become owners by
+    /// that are kept for `next_freed`, in ascending order of the locks' names, after earlier ones. Allocates nothing.
     pub fn leave_all(&mut self, session: u64)
         ensures { self.new ≡ (leave session self.old.0, self.old.1 ++ told_all (freed session self.old.0)) }
     {
@@ -144,8 +144,8 @@ impl LockTable {
         }
     }
 
-    /// The oldest of those that have become owners by the end of another session and were not told yet, with the frame
-    /// that tells it so (RFC 7047, 4.1.9). It takes no memory.
+    /// Takes out the oldest of the sessions that have become owners because another session ended and have not been notified
+    /// yet, with the frame that notifies it (RFC 7047, 4.1.9). Allocates nothing.
     pub fn next_freed(&mut self) -> Option<(u64, Bytes)>
         ensures queues { self.new.0 ≡ self.old.0 }
         ensures freed { self.old.1 ≡ option_to_list result ++ self.new.1 }
@@ -155,8 +155,8 @@ impl LockTable {
     }
 }
 
-/// Notes that the session asks for the lock, and keeps a place for what may be told of it, unless it asked before or
-/// asked for too many. Where it is refused, nothing is changed.
+/// Notes that the session asks for the lock, and keeps a place for its notification, unless it asked before or has asked for
+/// too many. If it is refused, nothing changes.
 fn request(
     held: &mut Held,
     freed: &mut Freed,
@@ -183,7 +183,7 @@ fn request(
     Ok(())
 }
 
-/// Notes that the session asks for the lock no more.
+/// Notes that the session no longer asks for the lock.
 fn take_back(held: &mut Held, freed: &mut Freed, session: u64, name: &str)
     ensures names { (other : ℕ) → names_in other held.new ≡ (if other == session then remove_key (is_at (name_cmp name.now)) (names_in other held.old) else names_in other held.old) }
     ensures requests { list_any (is_at (name_cmp name.now)) (names_in session held.old) ≡ true → requests_in held.new + 1 ≡ requests_in held.old }
@@ -193,7 +193,7 @@ fn take_back(held: &mut Held, freed: &mut Freed, session: u64, name: &str)
     freed.give_up_place();
 }
 
-/// The session leaves the queues of these locks, for each of which a place is kept.
+/// The session leaves the queues of these locks; a place is kept for each of them.
 fn leave_each(queues: &mut Queues, freed: &mut Freed, session: u64, names: BTreeSet<String>)
     requires { length (names_of_set names) ≤ freed.old.1 }
     ensures queues { queues.new ≡ unlock_all session (names_of_set names) queues.old }
@@ -205,7 +205,7 @@ fn leave_each(queues: &mut Queues, freed: &mut Freed, session: u64, names: BTree
     }
 }
 
-/// The session leaves the queue of this lock, and gives up one of the places that are kept.
+/// The session leaves the queue of this lock, and gives up one of the kept places.
 fn leave_one(queues: &mut Queues, freed: &mut Freed, session: u64, name: &str)
     requires { 0 < freed.old.1 }
     ensures queues { queues.new ≡ unlock name.now session queues.old }

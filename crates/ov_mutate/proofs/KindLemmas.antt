@@ -1,4 +1,4 @@
--- What a call that mutates a value answers, by the law of what a mutation makes.
+-- What a call that mutates a value returns, by the law of what a mutation makes.
 use Rattle.std.proofs.Common.{◌≡◌, true, Result, Ok, Err, IfOk}
 use Rattle.ov_specs.specs.operations.Mutators.{Change, mutated, suits_change}
 use Rattle.ov_specs.specs.schema.SchemaTypes.{ColumnType, kinds_of}

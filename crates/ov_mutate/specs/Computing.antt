@@ -15,7 +15,7 @@ atom_computed operator by a =
     if divides_by_zero operator by then Err Domain
     else (if is_atom_of Integers (computed_atom operator by a) then Ok (computed_atom operator by a) else Err Range)
 
--- one more in front, or the first fault
+-- one more at the front, or the first fault
 abbrev pub before : Result Atom MutateError → Result (List Atom) MutateError → Result (List Atom) MutateError
 before (Err fault) rest = Err fault
 before (Ok a) (Err fault) = Err fault
@@ -26,7 +26,7 @@ abbrev pub each_computed : Operator → ℤ → List Atom → Result (List Atom)
 each_computed operator by [] = Ok []
 each_computed operator by (a ∷ atoms) = before (atom_computed operator by a) (each_computed operator by atoms)
 
--- the set of the atoms, where no two are equal and it fits
+-- the set of the atoms, if no two are equal and it fits
 abbrev pub distinct : ColumnType → List Atom → Result Datum MutateError
 distinct t atoms = if has_equal_two atoms then Err Constraint else fitting t (Atoms (set_of atoms))
 

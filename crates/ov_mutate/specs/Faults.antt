@@ -1,4 +1,4 @@
--- What a call that reads a mutation, or applies one, may answer.
+-- What a call that reads or applies a mutation may return.
 use Rattle.std.specs.Prelude.{◌≡◌, ℤ, Option, Some, None, Result, Ok, Err}
 use Rattle.ov_specs.specs.operations.Mutators as mutators
 use Rattle.ov_atoms.specs.declared.fault.AtomFault.{AtomFault}
@@ -8,13 +8,13 @@ use Rattle.ov_mutate.specs.declared.fault.MutationFault.TheVariants.{Syntax, Unk
 use Rattle.ov_mutate.specs.declared.fault.MutateFault.{MutateFault}
 use Rattle.ov_mutate.specs.declared.fault.MutateFault.TheVariants as made
 
--- why a value does not read, as the fault of its mutation
+-- why a value cannot be read, as the fault of its mutation
 abbrev pub fault_of : AtomFault → MutationFault
 fault_of atom.Syntax = Syntax
 fault_of atom.Clash = Clash
 fault_of atom.Memory = Memory
 
--- what is read, or the fault that there is in place of it; "out of memory" may be answered to anything
+-- what is read, or the fault instead; "out of memory" may be returned in any case
 abbrev pub IsMutationRead : {A B : Type 0} → (A → B) → Result B mutators.MutationFault → Result A MutationFault → Type 0
 IsMutationRead seen read (Ok a) = read ≡ Ok (seen a)
 IsMutationRead seen read (Err Syntax) = read ≡ Err mutators.BadMutation
@@ -28,7 +28,7 @@ abbrev pub integer_or_syntax : Option ℤ → Result ℤ mutators.MutationFault
 integer_or_syntax None = Err mutators.BadMutation
 integer_or_syntax (Some n) = Ok n
 
--- what is made, or the fault that there is in place of it; "out of memory" may be answered to anything
+-- what is made, or the fault instead; "out of memory" may be returned in any case
 abbrev pub IsMutated : {A B : Type 0} → (A → B) → Result B mutators.MutateError → Result A MutateFault → Type 0
 IsMutated seen answer (Ok a) = answer ≡ Ok (seen a)
 IsMutated seen answer (Err made.Domain) = answer ≡ Err mutators.Domain

@@ -15,7 +15,7 @@ use ov_atoms::{Atom, Datum};
 use ov_schema::Column;
 use std::alloc::Global;
 
-/// The value, where it fits the column.
+/// The value, if it fits the column.
 fn fitting(column: &Column, datum: Datum) -> Result<Datum, MutateFault>
     ensures { IsMutated (λ d. d) (fitting column.now.type_of datum) result }
 {
@@ -26,8 +26,7 @@ fn fitting(column: &Column, datum: Datum) -> Result<Datum, MutateFault>
     }
 }
 
-/// The set of the atoms, where no two are equal and it fits the column. Equal ones merge, so that a set of fewer tells of
-/// them.
+/// The set of the atoms, if no two are equal and it fits the column. Equal atoms merge, so that a smaller set reveals them.
 fn distinct(column: &Column, atoms: Vec<Atom>) -> Result<Datum, MutateFault>
     ensures { IsMutated (λ d. d) (distinct column.now.type_of (atoms_view atoms.items)) result }
 {

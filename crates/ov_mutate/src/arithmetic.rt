@@ -20,7 +20,7 @@ impl Operator {
         }
     }
 
-    /// What it makes of a number, where that is one of 64 bits. A division truncates toward zero, and a remainder has the
+    /// What it makes of a number, if the result is a 64-bit number. A division truncates toward zero, and a remainder has the
     /// sign of the dividend.
     fn computed(self, by: i64, number: i64) -> Option<i64>
         requires { divides_by_zero (operator_view self) by ≡ false }
@@ -52,7 +52,7 @@ impl Operator {
     }
 }
 
-/// What the operator makes of each atom, in their order.
+/// What the operator makes of each atom, in order.
 pub(crate) fn each_computed(
     alloc: Global,
     operator: Operator,

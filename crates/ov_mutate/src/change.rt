@@ -15,8 +15,8 @@ use ov_schema::Column;
 use serde_json::Value;
 use std::alloc::Global;
 
-/// What is done to a value: its numbers are computed, elements come, or elements go. A set of atoms that goes from a map
-/// is one of keys.
+/// What is done to a value: its numbers are computed, elements are inserted, or elements are deleted. A set of atoms that is
+/// deleted from a map is a set of keys.
 #[derive(Drop)]
 pub(crate) enum ValueChange {
     Compute(Operator, i64),
@@ -24,7 +24,7 @@ pub(crate) enum ValueChange {
     Delete(Datum),
 }
 
-/// The number that a tree is, as for a scalar.
+/// Reads a number from a tree, as for a scalar.
 fn read_integer<N: Names>(alloc: Global, tree: &Value, names: &N) -> Result<i64, MutationFault>
     ensures { IsMutationRead (λ n. n) (integer_or_syntax (integer_of (reads (N.names names.now) (value.Single value.Integers) (view tree.now)))) result }
 {
@@ -59,7 +59,7 @@ fn is_map(tree: &Value) -> bool
     }
 }
 
-/// What is read of the tree of a "delete": on a map a tree that begins with "map" is a map, and another one a set of keys.
+/// How the tree of a "delete" is read: for a map, a tree that begins with "map" is a map, and any other a set of keys.
 fn deleted_kinds(kinds: Kinds, tree: &Value) -> Kinds
     ensures { kinds_view result ≡ deleted_kinds (kinds_view kinds) (view tree.now) }
 {
@@ -70,7 +70,7 @@ fn deleted_kinds(kinds: Kinds, tree: &Value) -> Kinds
 }
 
 impl ValueChange {
-    /// What is done by a mutator with the value that a tree stands for: one integer, or elements.
+    /// What a mutator does with the value that a tree stands for: one integer, or elements.
     pub(crate) fn read<N: Names>(
         alloc: Global,
         column: &Column,

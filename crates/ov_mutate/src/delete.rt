@@ -10,7 +10,7 @@ use ov_atoms::{Atom, Datum};
 use ov_conds::{Elements, atoms_from, pairs_from};
 use std::alloc::{AllocError, Global};
 
-/// The atoms that are not among those that go. Both ascend.
+/// The atoms that are not among the deleted ones. Both ascend.
 fn remaining_atoms(alloc: Global, atoms: &[Atom], gone: &[Atom]) -> Result<Vec<Atom>, AllocError>
     ensures { IfOk result (λ v. atoms_view v.items ≡ left.remaining_atoms (atoms_view gone.now) (atoms_view atoms.now)) }
 {
@@ -32,7 +32,7 @@ fn begins_with(pairs: &[(Atom, Atom)], pair: &(Atom, Atom)) -> bool
     pairs.first() == Some(pair)
 }
 
-/// The pairs that are not among those that go. Both ascend by their keys.
+/// The pairs that are not among the deleted ones. Both ascend by their keys.
 fn remaining_pairs(
     alloc: Global,
     pairs: &[(Atom, Atom)],
@@ -51,7 +51,7 @@ fn remaining_pairs(
     Ok(left)
 }
 
-/// The pairs whose keys are not among those that go. Both ascend.
+/// The pairs whose keys are not among the deleted ones. Both ascend.
 fn pairs_without_keys(
     alloc: Global,
     pairs: &[(Atom, Atom)],
@@ -70,7 +70,7 @@ fn pairs_without_keys(
     Ok(left)
 }
 
-/// The difference. From a map equal pairs go, or the pairs with these keys (RFC 7047, 5.1, `<mutator>`).
+/// The difference. From a map, equal pairs are deleted, or the pairs with these keys (RFC 7047, 5.1, `<mutator>`).
 pub(crate) fn deleted(alloc: Global, column: &Datum, elements: &Datum) -> Result<Datum, AllocError>
     ensures { IfOk result (λ d. d ≡ deleted column.now elements.now) }
 {

@@ -2,11 +2,11 @@ use ov_atoms::AtomFault;
 use std::alloc::AllocError;
 use thiserror::Error;
 
-/// Why no mutation is read. The tree, which is lent, is as before.
+/// Why no mutation could be read. The tree, which is borrowed, is unchanged.
 #[derive(Clone, Copy, Debug, PartialEq, Eq, Error)]
 pub enum MutationFault {
-    /// The tree is built wrong, or its mutator is none of the column, or its value is none that the mutator takes
-    /// (RFC 7047, 5.1, `<mutation>`).
+    /// The tree is malformed, its mutator does not apply to the column, or its value is not one that the mutator takes (RFC
+    /// 7047, 5.1, `<mutation>`).
     #[error("not a mutation of this column")]
     Syntax,
     /// The table has no column of this name.
@@ -18,7 +18,7 @@ pub enum MutationFault {
     /// Clients may not change the column (RFC 7047, 3.2, `<column-schema>`, mutable).
     #[error("not a column that may change")]
     NotMutable,
-    /// A growth was refused.
+    /// An allocation failed.
     #[error("out of memory")]
     Memory,
 }
@@ -55,13 +55,13 @@ pub enum MutateFault {
     /// A number would be divided by zero.
     #[error("division by zero")]
     Domain,
-    /// A result is no number of 64 bits.
+    /// A result is not a 64-bit number.
     #[error("result out of range")]
     Range,
     /// Two results are equal, or the new value does not fit its column.
     #[error("result does not fit the column")]
     Constraint,
-    /// A growth was refused.
+    /// An allocation failed.
     #[error("out of memory")]
     Memory,
 }

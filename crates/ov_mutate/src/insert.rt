@@ -68,7 +68,7 @@ fn inserted_pairs(
     Ok(pairs)
 }
 
-/// The map of pairs of which no two have one key.
+/// The map of these pairs, no two of which have the same key.
 pub(crate) fn map_of(alloc: Global, pairs: Vec<(Atom, Atom)>) -> Result<Datum, AllocError>
     requires { has_clash (pairs_view pairs.items) ≡ false }
     ensures { IfOk result (λ d. d ≡ value.Pairs (value.map_of (pairs_view pairs.items))) }

@@ -1,7 +1,7 @@
 //! The mutations of a "mutate": read from their trees, and applied to values (RFC 7047, 5.1, `<mutation>`).
 //!
-//! A mutation is judged by the column that it names, once, as it is read. What it makes of a value is a new value, or the
-//! first fault that applies; the value that was there stays. What names no source is our own.
+//! A mutation is checked against the column that it names, once, as it is read. What it makes of a value is a new value, or
+//! the first fault that applies; the original value stays.
 #![tactic(auto)]
 
 mod apply;

@@ -17,8 +17,7 @@ use serde_json::Value;
 use std::alloc::Global;
 use std::marker::Model;
 
-/// A mutation of the rows of a table: a column, which is lent from the table, and what is done to it (RFC 7047, 5.1,
-/// `<mutation>`).
+/// A mutation of the rows of a table: a column, borrowed from the table, and what is done to it (RFC 7047, 5.1, `<mutation>`).
 #[derive(Drop)]
 pub struct Mutation<'a> {
     name: Text,
@@ -39,11 +38,10 @@ impl<'a> Model for Mutation<'a> {
 }
 
 impl<'a> Mutation<'a> {
-    /// The mutation of a row of the table that a tree is. Of its faults the first is told: its shape, then its column,
-    /// whether clients may change that, the mutator on it, and its value. A number is read as for a scalar; what is
-    /// inserted by the kinds of the column alone; what is deleted from a map is a map, or a set of keys (RFC 7047, 5.1,
-    /// `<mutation>`; which fault is told is our own). Where names stand for identifiers alone, it is of these kinds within
-    /// their bounds.
+    /// Reads a mutation of a row of the table from a tree. Reports the first of its faults: in its shape, its column, whether
+    /// clients may change that, the mutator on it, and its value. A number is read as for a scalar; what is inserted, by the
+    /// kinds of the column alone; what is deleted from a map is a map, or a set of keys (RFC 7047, 5.1, `<mutation>`, which
+    /// does not say which fault). If names stand for identifiers alone, it is of these kinds within their bounds.
     pub fn read<N: Names>(
         alloc: Global,
         table: &'a Table,
@@ -80,9 +78,9 @@ impl<'a> Mutation<'a> {
         self.name.as_str()
     }
 
-    /// What the mutation makes of a value of its column. Of the faults the first is told: a domain, a range and a
-    /// constraint error (RFC 7047, 5.2.4; the order is our own). The value that was there stays. A value of the column's
-    /// kinds stays one, where the mutation was read with names that stand for identifiers alone.
+    /// What the mutation makes of a value of its column. Reports the first of these faults: a domain, a range, a
+    /// constraint error (RFC 7047, 5.2.4, which sets no order). The original value stays. A value of the column's kinds stays
+    /// one if the mutation was read with names that stand for identifiers alone.
     pub fn mutate(&self, alloc: Global, datum: &Datum) -> Result<Datum, MutateFault>
         ensures value { IsMutated (λ d. d) (mutated self.now.type_of self.now.change datum.now) result }
         ensures kinds { suits_mutation self.now ≡ true → is_of (kinds_of self.now.type_of) datum.now ≡ true

@@ -39,7 +39,7 @@ impl Mutator {
         }
     }
 
-    /// Whether it can be done to the column: computing where it holds integers, the others where it is no scalar.
+    /// Whether it can be applied to the column: computing if it holds integers, the others if it is not a scalar.
     fn is_allowed_on(self, column: &Column) -> bool
         ensures { result ≡ allows_mutator column.now.type_of (mutator_view self) }
     {
@@ -49,7 +49,7 @@ impl Mutator {
         }
     }
 
-    /// The mutator of a word, where it can be done to the column.
+    /// The mutator of a word, if it can be applied to the column.
     pub(crate) fn on(column: &Column, word: &str) -> Option<Mutator>
         ensures { option_map mutator_view result ≡ mutator_on column.now.type_of word.now }
     {

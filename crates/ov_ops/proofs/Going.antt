@@ -10,18 +10,18 @@ use Rattle.ov_projection.specs.declared.fault.OpFault.TheVariants.{Refused, Memo
 use Rattle.ov_projection.specs.Errors.{IsOpResult}
 use Rattle.ov_ops.specs.Outcomes.{IsDone, IsRefused, GoesOn}
 
--- with what a member was read as, or its error
+-- with what was read of a member, or its error
 pub goes_on : {A B : Type 0} (given : Result B OpError) (seen : A → B) (next : B → spec.OpOutcome) (r : Result A OpFault) → IsOpResult seen given r → GoesOn (ok_or_fault given next) (λ a. next (seen a)) r
 goes_on given seen next (Ok a) h = rw h refl
 goes_on given seen next (Err (Refused error)) h = rw h refl
 goes_on given seen next (Err Memory) h = tt
 
--- the fault of a member, behind those that were read
+-- the fault of a member, after those that were read
 pub stops : (outcome other : spec.OpOutcome) (fault : OpFault) (rows : Database) → outcome ≡ other → IsRefused other fault → IsDone outcome (Err fault) rows
 stops outcome other (Refused error) rows e h = e ∙ h
 stops outcome other Memory rows e h = tt
 
--- what is not read
+-- a member that cannot be read
 pub refuses : {A B : Type 0} (given : Result B OpError) (seen : A → B) (next : B → spec.OpOutcome) (fault : OpFault) → IsOpResult seen given (Err fault) → IsRefused (ok_or_fault given next) fault
 refuses given seen next (Refused error) h = ap (λ r. ok_or_fault r next) h
 refuses given seen next Memory h = tt

@@ -31,7 +31,7 @@ module _ {A : Type 0} (f : A → LineKey × Row) (mutations : List Mutation) (ro
   here : map f (drop i rows) ≡ f r ∷ map f (drop (i + 1) rows)
   here = ap (map f) (drop-at rows i r within at)
 
-  -- one row more
+  -- one more row
   pub row-more : (before : List Changed) (columns : Columns) → mutated_columns mutations (f r).1.columns ≡ Ok columns
       → in_front before (mutated_rows mutations (map f (drop i rows))) ≡ in_front (before ++ ((f r).0, columns) ∷ []) (mutated_rows mutations (map f (drop (i + 1) rows)))
   row-more before columns is =
@@ -45,7 +45,7 @@ module _ {A : Type 0} (f : A → LineKey × Row) (mutations : List Mutation) (ro
       is ∙ ap (λ rs. in_front before (mutated_rows mutations rs)) here ∙ ap (λ read. in_front before (and_row (f r).0 read (mutated_rows mutations (map f (drop (i + 1) rows))))) h
   row-fault seen before Memory all h is = tt
 
--- as many rows are changed as there are
+-- every row is changed
 pub mutated-length : (mutations : List Mutation) (found : List (LineKey × Row)) (changed : List Changed) → mutated_rows mutations found ≡ Ok changed → length changed ≡ length found
 mutated-length mutations [] changed is = ap (λ r. length (changed_of r)) (sym is)
 mutated-length mutations (r ∷ found) changed is = by_rest (mutated_columns mutations r.1.columns) (mutated_rows mutations found) (mutated-length mutations found) is

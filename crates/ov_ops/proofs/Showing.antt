@@ -1,4 +1,4 @@
--- What is shown of rows that are lent, whatever the name of their table.
+-- What is shown of borrowed rows, whatever the name of their table.
 use Rattle.std.proofs.Common.{◌≡◌, ◌<◌, ◌+◌, ◌++◌, ℕ, List, [], ◌∷◌, length, get_or, map, take, refl, sym, ap, ◌∙◌}
 use Rattle.std.proofs.lemmas.List.{take_more}
 use Rattle.serde_json.specs.Data.{Data}
@@ -18,7 +18,7 @@ module _ (names : List (List ℕ)) where
   shown-lent table [] = refl
   shown-lent table (r ∷ rows) = ap (λ rest. shown_of names r ∷ rest) (shown-lent table rows)
 
-  -- what is shown of the rows that were found, which are lent one after another
+  -- what is shown of the rows that were found, which are borrowed one after another
   pub shown-found : (table : List ℕ) (lent rows : List RowView) (found : List (LineKey × Row)) → lent ≡ rows → map (lent_row_of table) rows ≡ found → map (shown_of names) lent ≡ map (projection names) found
   shown-found table lent rows found same are = ap (map (shown_of names)) same ∙ sym (shown-lent table rows) ∙ ap (map (projection names)) are
 
@@ -26,7 +26,7 @@ module _ (names : List (List ℕ)) where
   written-shown [] = refl
   written-shown (r ∷ rows) = ap (λ rest. written_row (shown_of names r) ∷ rest) (written-shown rows)
 
--- what one row more is shown as, behind the others
+-- what one more row is shown as, after the others
 pub and_one : {A : Type 0} (g : A → Data) (rows : List A) (row : A) → items_of (map g (rows ++ row ∷ [])) ≡ and_item (items_of (map g rows)) (g row)
 and_one g rows row = ap items_of (map-push g rows row) ∙ push_item (map g rows) (g row)
 

@@ -1,4 +1,4 @@
--- What an operation comes to in the code, as it does in the definitions. What names no source is our own.
+-- The outcome of an operation, in the code as in the definitions.
 use Rattle.std.specs.Prelude.{◌≡◌, Result, Ok, Err}
 use Rattle.serde_json.specs.Data.{Data}
 use Rattle.ov_specs.specs.operations.OpOutcome as spec
@@ -11,7 +11,7 @@ use Rattle.ov_projection.specs.declared.fault.OpFault.{OpFault}
 use Rattle.ov_projection.specs.declared.fault.OpFault.TheVariants.{Refused, Memory}
 use Rattle.ov_projection.specs.Errors.{error_view}
 
--- the transaction that an operation is one of, on the database as it was before, where this tells what its session owns
+-- the transaction that an operation belongs to, on the database as it was before; `owned` says which locks its session owns
 abbrev pub context_of : {O : Type 0} → (O → Owns) → OpCtx O → Database → OpContext
 context_of owned ctx before = record {
   schema = ctx.schema.now;
@@ -23,25 +23,25 @@ context_of owned ctx before = record {
   age = ctx.age;
 }
 
--- the result of an operation, and the rows that it leaves, or its error; "out of memory" may be answered to anything
+-- the result of an operation and the rows that it leaves, or its error; "out of memory" may answer anything
 abbrev pub IsDone : spec.OpOutcome → Result Data OpFault → Database → Type 0
 IsDone outcome (Ok result) rows = outcome ≡ spec.Done result rows
 IsDone outcome (Err (Refused error)) rows = outcome ≡ spec.Fault (error_view error)
 IsDone outcome (Err Memory) rows = Unit {0}
 
--- the same, of an operation that may wait
+-- the same for an operation that may wait
 abbrev pub IsOutcome : spec.OpOutcome → OpOutcome → Database → Type 0
 IsOutcome outcome (Done result) rows = outcome ≡ spec.Done result rows
 IsOutcome outcome (Fault error) rows = outcome ≡ spec.Fault (error_view error)
 IsOutcome outcome (Blocked timeout) rows = outcome ≡ spec.Blocked timeout
 IsOutcome outcome NoMemory rows = Unit {0}
 
--- an operation has the error of a fault; "out of memory" may be answered to anything
+-- an operation has the error of a fault; "out of memory" may answer anything
 abbrev pub IsRefused : spec.OpOutcome → OpFault → Type 0
 IsRefused outcome (Refused error) = outcome ≡ spec.Fault (error_view error)
 IsRefused outcome Memory = Unit {0}
 
--- an operation goes on with what was read of its members, or has the error of that
+-- an operation goes on with what was read of its members, or has the error of reading them
 abbrev pub GoesOn : {A : Type 0} → spec.OpOutcome → (A → spec.OpOutcome) → Result A OpFault → Type 0
 GoesOn outcome next (Ok a) = outcome ≡ next a
 GoesOn outcome next (Err fault) = IsRefused outcome fault

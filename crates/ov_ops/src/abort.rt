@@ -6,7 +6,7 @@ ghost use Rattle.ov_ops.specs.Outcomes.{IsOutcome};
 use crate::outcome::OpOutcome;
 use ov_projection::OpError;
 
-/// The transaction fails, whatever members the operation has (RFC 7047, 5.2.8).
+/// Fails the transaction, whatever members the operation has (RFC 7047, 5.2.8).
 pub(crate) fn abort() -> OpOutcome
     ensures { (rows : Database) → IsOutcome spec.abort_outcome result rows }
 {

@@ -1,4 +1,4 @@
-//! A look at rows before they are shown. It changes nothing that is said of them.
+//! Prefetches rows before they are shown. Results are the same without it.
 
 ghost use Rattle.std.specs.Prelude.{◌≡◌, ◌<◌, OnOk, length};
 
@@ -8,14 +8,15 @@ use ov_results::ArrayText;
 use ov_rows::RowView;
 use std::alloc::AllocError;
 
-/// How many rows are looked at before the first of them is written. Rows lie where memory was free when each came: a processor
-/// fetches several side by side that are looked at one right after the other, and else waits for each when it is written.
+/// How many rows are prefetched before the first of them is written. Rows lie wherever memory was free when each arrived: a
+/// processor fetches several at once if they are read one right after the other, and otherwise waits for each when it is
+/// written.
 const AHEAD: usize = 64;
 
-/// About how many bytes an atom takes as text, with the name of its column, beside the bytes that a text has itself.
+/// About how many bytes an atom takes as text, with the name of its column, in addition to the bytes of a string.
 const ROOM: usize = 24;
 
-/// The place of the last of these columns in a row. Rows that share the names of their columns have it at the same place.
+/// The place of the last of these columns in a row. Rows that share their column names have it at the same place.
 fn last_place(names: &[Text], row: &RowView<'_>) -> Option<usize> {
     let last = names.last()?;
     let stored = row.row;
@@ -28,7 +29,7 @@ fn last_place(names: &[Text], row: &RowView<'_>) -> Option<usize> {
     None
 }
 
-/// How many values these rows have. Their lists are looked at, and no value.
+/// How many values these rows have. Reads their lists, but no value.
 fn values_in(rows: &[RowView<'_>]) -> usize {
     let mut count: usize = 0;
     for row in rows {
@@ -51,7 +52,7 @@ fn room_of(atoms: &[Atom]) -> usize {
     room
 }
 
-/// About how many bytes the atoms of sets that these rows have at this place take as text.
+/// About how many bytes the atoms in the sets at this place of these rows take as text.
 fn room_at(rows: &[RowView<'_>], place: usize) -> usize {
     let mut room: usize = 0;
     for row in rows {
@@ -65,8 +66,8 @@ fn room_at(rows: &[RowView<'_>], place: usize) -> usize {
     room
 }
 
-/// Looks at the rows from this one on, at each first of so many, and makes room for about what is shown of them. It first looks at
-/// all of their lists, and then at the values: a value can be fetched only when its list is there.
+/// Every 64 rows, prefetches the next 64 and reserves about the space for their text. Reads all of their lists first, and
+/// then the values: a value can be fetched only once its list is there.
 pub(crate) fn look_ahead(
     text: &mut ArrayText,
     names: &[Text],

@@ -12,7 +12,7 @@ use ov_projection::{OpError, text_at};
 use serde_json::Value;
 use std::alloc::Global;
 
-/// The transaction fails unless its session owns the lock as it is tried (RFC 7047, 5.2.10).
+/// Fails the transaction unless its session owns the lock when it is tried (RFC 7047, 5.2.10).
 pub(crate) fn assert_owner<O: Owns>(
     alloc: Global,
     ctx: &OpCtx<'_, '_, '_, '_, O>,

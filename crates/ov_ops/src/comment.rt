@@ -9,7 +9,7 @@ use ov_projection::{OpError, text_at};
 use serde_json::Value;
 use std::alloc::Global;
 
-/// A text for a log, of which this server has none (RFC 7047, 5.2.9).
+/// A text for a log; this server has no such log (RFC 7047, 5.2.9).
 pub(crate) fn comment(alloc: Global, operation: &Value) -> OpOutcome
     ensures { (rows : Database) → IsOutcome (spec.comment_outcome rows (view operation.now)) result rows }
 {

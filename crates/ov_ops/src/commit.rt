@@ -9,7 +9,7 @@ use ov_projection::OpError;
 use serde_json::Value;
 use std::alloc::Global;
 
-/// `durable` asks for what every commit is here (RFC 7047, 5.2.7).
+/// `durable` asks for what every commit does here (RFC 7047, 5.2.7).
 pub(crate) fn commit(alloc: Global, operation: &Value) -> OpOutcome
     ensures { (rows : Database) → IsOutcome (spec.commit_outcome rows (view operation.now)) result rows }
 {

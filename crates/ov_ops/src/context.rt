@@ -2,7 +2,7 @@ use ov_given::NamedRows;
 use ov_schema::Schema;
 use uuid::Uuid;
 
-/// The transaction that an operation is one of. What it is performed on is the stage's.
+/// The transaction that an operation belongs to. The rows that it works on are in the stage.
 #[derive_where(Clone, Copy)]
 pub struct OpCtx<'a, 'b, 'c, 'd, O> {
     /// The schema of the database.

@@ -13,12 +13,12 @@ fn count_value(alloc: Global, count: u64) -> Result<Value, AllocError>
     json!(in alloc; {"count": count})
 }
 
-/// The result of an operation that counts the rows which match, changed or not (RFC 7047, 5.2.3 to 5.2.5).
+/// The result of an operation that counts the matching rows, changed or not (RFC 7047, 5.2.3 to 5.2.5).
 pub(crate) fn count_result(alloc: Global, count: usize) -> Result<OpResult, AllocError>
     ensures { IfOk result (λ r. r ≡ spec.count_result count) }
 {
     let value = count_value(alloc, count as u64)?;
-    // A count past 2^63-1 would be a real to OVSDB. No memory holds so many rows.
+    // OVSDB would read a count above 2^63-1 as a real. No memory holds that many rows.
     if has_real(&value) {
         return Err(AllocError);
     }

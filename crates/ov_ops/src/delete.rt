@@ -33,7 +33,7 @@ fn keys_of(
     Ok(keys)
 }
 
-/// Removes the rows of these keys.
+/// Removes the rows at these keys.
 fn remove_rows(stage: &mut Stage<'_>, keys: Vec<RowKey>) -> Result<(), AllocError>
     ensures rows { OnOk result (stage.new ≡ record stage.old { now = without_rows keys.items stage.old.now }) }
     ensures frame { stage.new.before ≡ stage.old.before }
@@ -44,7 +44,7 @@ fn remove_rows(stage: &mut Stage<'_>, keys: Vec<RowKey>) -> Result<(), AllocErro
     Ok(())
 }
 
-/// The rows that match go, and are counted (RFC 7047, 5.2.5).
+/// Removes the matching rows, and counts them (RFC 7047, 5.2.5).
 pub(crate) fn delete<'a, O: Owns>(
     alloc: Global,
     stage: &mut Stage<'_>,

@@ -15,7 +15,7 @@ use serde_json::Value;
 use std::alloc::Global;
 use uuid::Uuid;
 
-/// The row under its identifier, which no row of the table may have.
+/// Puts the row at its identifier, which no row of the table may have.
 fn put_new<O: Owns>(
     alloc: Global,
     stage: &mut Stage<'_>,
@@ -38,7 +38,7 @@ fn put_new<O: Owns>(
     Ok(OpResult::of_new_row(id))
 }
 
-/// The insert at this place of the transaction: a row is made of `row` and put under the identifier that was drawn for it. Its
+/// The insert at this place of the transaction: makes a row of `row` and puts it at the identifier that was drawn for it. The
 /// identifier can't be chosen (RFC 7047, 5.2.1).
 pub(crate) fn insert<'a, O: Owns>(
     alloc: Global,

@@ -1,5 +1,5 @@
-//! The operations of a transaction, one file each: what an operation makes of the rows that those before it left, and its result
-//! (RFC 7047, 5.2). What names no source is our own.
+//! The operations of a transaction, one file each: what an operation makes of the rows that those before it left, and its
+//! result (RFC 7047, 5.2).
 #![tactic(auto)]
 
 mod abort;

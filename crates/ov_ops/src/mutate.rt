@@ -43,7 +43,7 @@ fn mutated_rows(
     Ok(changed)
 }
 
-/// The mutations are applied to the rows that match, which are counted (RFC 7047, 5.2.4).
+/// Applies the mutations to the matching rows, and counts these (RFC 7047, 5.2.4).
 pub(crate) fn mutate<'a, O: Owns>(
     alloc: Global,
     stage: &mut Stage<'_>,

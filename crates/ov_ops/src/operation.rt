@@ -21,7 +21,7 @@ use ov_stage::Stage;
 use serde_json::Value;
 use std::alloc::Global;
 
-/// An operation that touches no row, and steers its transaction (RFC 7047, 5.2.6 to 5.2.10).
+/// Runs an operation that touches no row but controls its transaction (RFC 7047, 5.2.6 to 5.2.10).
 fn run_control<'a, O: Owns>(
     alloc: Global,
     stage: &Stage<'_>,
@@ -41,9 +41,8 @@ fn run_control<'a, O: Owns>(
     }
 }
 
-/// The operation at this place of the transaction, on the rows that those before it left (RFC 7047, 5.2). Its members are looked
-/// at in the order in which the section of the operation names them. After another outcome than `Done` the stage is to be
-/// dropped.
+/// Runs the operation at this place of the transaction on the rows that those before it left (RFC 7047, 5.2). Reads its
+/// members in the order in which the operation's section names them. After any outcome but `Done`, the stage must be dropped.
 pub fn run_op<'a, O: Owns>(
     alloc: Global,
     stage: &mut Stage<'_>,

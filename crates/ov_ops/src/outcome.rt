@@ -1,16 +1,16 @@
 use ov_projection::{OpError, OpFault};
 use ov_results::OpResult;
 
-/// What an operation comes to (RFC 7047, 4.1.3 and 5.2.6).
+/// The outcome of an operation (RFC 7047, 4.1.3 and 5.2.6).
 #[derive(Drop)]
 pub enum OpOutcome {
     /// It has this result.
     Done(OpResult),
     /// It fails, and so does the transaction.
     Fault(OpError),
-    /// It waits, and is given up after this many milliseconds, if ever.
+    /// It waits, and times out after this many milliseconds, if ever.
     Blocked(Option<u64>),
-    /// A growth was refused.
+    /// An allocation failed.
     NoMemory,
 }
 

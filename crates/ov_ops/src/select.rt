@@ -60,7 +60,7 @@ fn text_of(alloc: Global, names: &[Text], rows: &[RowView<'_>]) -> Result<ArrayT
     Ok(text)
 }
 
-/// These rows as text, of equal ones the first alone.
+/// These rows as text; of equal rows, the first alone.
 fn text_once(alloc: Global, rows: &[ShownRow]) -> Result<ArrayText, AllocError>
     ensures { IfOk result (λ text. text ≡ items_of (map spec.written_row (spec.without_repeats rows.now))) }
 {
@@ -74,7 +74,7 @@ fn text_once(alloc: Global, rows: &[ShownRow]) -> Result<ArrayText, AllocError>
     Ok(text)
 }
 
-/// What is shown of these rows without repeats, as text. Where the columns tell the rows apart none has to be looked for.
+/// What is shown of these rows without repeats, as text. If the columns tell the rows apart, no repeats are looked for.
 fn text_shown(
     alloc: Global,
     are_apart: bool,
@@ -91,8 +91,8 @@ fn text_shown(
     text_once(alloc, shown.as_slice())
 }
 
-/// The result of a select: these columns of the rows of the table that meet all conditions, in ascending order of their
-/// identifiers, of those that are equal in all these columns the first alone (RFC 7047, 5.2.2).
+/// The result of a select: these columns of the table's rows that meet all conditions, in ascending order of their
+/// identifiers; of rows that are equal in all these columns, the first alone (RFC 7047, 5.2.2).
 pub fn select_result(
     alloc: Global,
     stage: &Stage<'_>,
@@ -108,7 +108,7 @@ pub fn select_result(
     Ok(OpResult::of_rows(text))
 }
 
-/// The chosen columns of the rows that match (RFC 7047, 5.2.2).
+/// The chosen columns of the matching rows (RFC 7047, 5.2.2).
 pub(crate) fn select<'a, O: Owns>(
     alloc: Global,
     stage: &Stage<'_>,

@@ -18,7 +18,7 @@ use ov_stage::Stage;
 use serde_json::Value;
 use std::alloc::{AllocError, Global};
 
-/// The table's rows that meet all conditions, with the given values in their places.
+/// The table's rows that meet all conditions, with the given values in place of theirs.
 fn updated_rows(
     alloc: Global,
     stage: &Stage<'_>,
@@ -38,7 +38,7 @@ fn updated_rows(
     Ok(changed)
 }
 
-/// The rows that match are given these values, and are counted, changed or not (RFC 7047, 5.2.3).
+/// Gives the matching rows these values, and counts them, changed or not (RFC 7047, 5.2.3).
 pub(crate) fn update<'a, O: Owns>(
     alloc: Global,
     stage: &mut Stage<'_>,

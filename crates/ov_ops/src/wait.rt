@@ -34,7 +34,7 @@ struct Waited<'a> {
 }
 
 impl<'a> Waited<'a> {
-    /// The members in their order (RFC 7047, 5.2.6).
+    /// Reads the members in their order (RFC 7047, 5.2.6).
     fn read<O: Owns>(
         alloc: Global,
         ctx: &OpCtx<'a, '_, '_, '_, O>,
@@ -74,7 +74,7 @@ impl<'a> Waited<'a> {
     }
 }
 
-/// Whether what is waited for has come.
+/// Whether the wait is met.
 fn has_come(alloc: Global, stage: &Stage<'_>, waited: &Waited<'_>) -> Result<bool, AllocError>
     ensures { IfOk result (λ b. b ≡ spec.is_met (until_view waited.now.until) (map (projection waited.now.compared.items) (matching stage.now.now waited.now.table.now waited.now.conditions.items)) waited.now.told.items) }
 {
@@ -83,7 +83,7 @@ fn has_come(alloc: Global, stage: &Stage<'_>, waited: &Waited<'_>) -> Result<boo
     is_met(alloc, waited.until, seen.as_slice(), waited.told.as_slice())
 }
 
-/// What is waited for has come, or the transaction waits on, until it is as old as the timeout.
+/// Ends the wait if it is met; otherwise the transaction waits on, until it is as old as the timeout.
 fn come(alloc: Global, timeout: Option<u64>, age: u64, has_come: bool) -> OpOutcome
     ensures { (c : OpContext) (rows : Database) → c.age ≡ age → IsOutcome (spec.waits c timeout has_come rows) result rows }
 {
@@ -96,7 +96,7 @@ fn come(alloc: Global, timeout: Option<u64>, age: u64, has_come: bool) -> OpOutc
     }
 }
 
-/// Waits until the rows that match are, or are not, those that are told (RFC 7047, 5.2.6).
+/// Waits until the matching rows are, or are not, the given ones (RFC 7047, 5.2.6).
 pub(crate) fn wait<'a, O: Owns>(
     alloc: Global,
     stage: &Stage<'_>,

@@ -1,4 +1,4 @@
--- The order in which sessions are served. It is our own.
+-- The order in which sessions are served.
 use Rattle.std.specs.Prelude.{◌≡◌, ℕ, ◌+◌, ◌-◌, ◌^◌, ◌<◌, Bool, List, [], ◌∷◌, ◌++◌, length, Option, Some}
 
 -- how many notes may wait
@@ -19,11 +19,11 @@ noted b = b.taken + length b.waiting
 abbrev pub HasRoom : OrderBook → Type 0
 HasRoom b = (length b.waiting < note_limit) × (noted b < 2 ^ 64 - 1)
 
--- the serial was noted, behind all that wait
+-- the serial was noted, after all that wait
 abbrev pub Notes : ℕ → OrderBook → OrderBook → Type 0
 Notes serial b b' = (b'.waiting ≡ b.waiting ++ serial ∷ []) × (b'.taken ≡ b.taken) × (b'.begun ≡ b.begun)
 
--- the serial was taken, which was the oldest
+-- the oldest serial was taken
 abbrev pub Takes : ℕ → OrderBook → OrderBook → Type 0
 Takes serial b b' = (b.waiting ≡ serial ∷ b'.waiting) × (b'.taken ≡ b.taken + 1) × (b'.begun ≡ b.begun)
 

@@ -9,11 +9,11 @@ use std::sync::ledger::{Book, Ledger, Share};
 /// How many notes may wait: one for each of 64 items in 65 rings, those of 64 sessions and one of accepted connections.
 const NOTE_LIMIT: usize = 4_160;
 
-/// The notes of the workers, the oldest first, and whether the workers may begin. Contracts see the notes that wait, how many
-/// were taken, and what was said of the beginning.
+/// The notes of the workers, the oldest first, and whether the workers may begin. Contracts see the notes that wait, how
+/// many were taken, and what was said of the beginning.
 ///
-/// The number noted is the number taken and the number waiting together. It is also the total of the ledger `L`: each worker
-/// that notes holds a share of it, so the shares of all of them together add up to the number noted.
+/// The number noted is the number taken plus the number waiting. It is also the total of the ledger `L`: each worker that
+/// notes holds a share of it, so all shares together add up to the number noted.
 #[derive(Drop)]
 pub struct OrderBook<L: Ledger> {
     waiting: VecDeque<u64>,
@@ -37,7 +37,7 @@ impl<L: Ledger> Model for OrderBook<L> {
 }
 
 impl<L: Ledger> OrderBook<L> {
-    /// Nothing is noted, and nothing said of the beginning. Takes the room for all notes that may wait.
+    /// A book with nothing noted, and nothing said of the beginning. Allocates the room for all notes that may wait.
     pub fn new(alloc: Global, ledger: Book<L>) -> Result<OrderBook<L>, AllocError>
         requires { ledger.total ≡ 0 }
         ensures { IfOk result (λ b. b ≡ record { waiting = []; taken = 0; begun = None }) }
@@ -52,7 +52,7 @@ impl<L: Ledger> OrderBook<L> {
         })
     }
 
-    /// Notes a serial, behind all that wait. Refused where 4,160 notes wait or 2^64-1 serials were noted.
+    /// Notes a serial, after all that wait. Refused if 4,160 notes wait or 2^64-1 serials were noted.
     pub fn note(&mut self, share: &mut Share<L>, serial: u64) -> bool
         requires { 0 < share.old.parts }
         ensures room { IsTrue result ↔ HasRoom self.old }

@@ -1,8 +1,9 @@
-//! The order in which the desk serves its sessions, and the rings between the desk and its workers. A worker puts an item into
-//! the ring of its session and notes the session's serial in the order; the desk takes the notes, the oldest first, and for each
-//! of them takes one item. A writer waits for its bell, which the desk rings.
+//! The order in which the desk serves its sessions, and the rings between the desk and its workers. A worker puts an item
+//! into the ring of its session and notes the session's serial in the order; the desk takes the notes, the oldest first, and
+//! takes one item for each. A writer waits for its bell, which the desk rings.
 //!
-//! This crate knows of no session, no socket and no machine: a serial is a number, and what a message is, the crates above say.
+//! This crate knows of no session, no socket and no machine: a serial is a number, and the crates above say what a message
+//! is.
 #![tactic(auto)]
 
 mod bell;

@@ -12,13 +12,14 @@ use std::sync::{Condvar, Mutex, MutexGuard, Wait};
 use std::thread;
 use std::time::Duration;
 
-/// How long the desk sleeps where it may not wait for a note without an end.
+/// How long the desk sleeps if it may not wait for a note forever.
 const NAP: Duration = Duration::from_millis(1);
 
-/// An order book that the desk and all workers share. Whoever changes the book under its lock wakes those that wait for a change.
+/// An order book that the desk and all workers share. A thread that changes the book under its lock wakes those that wait
+/// for a change.
 ///
-/// No contract can say what another thread finds in the book. So of the calls here none says which serial it notes or takes: that
-/// is said by `OrderBook`, of which each of them makes one call.
+/// No contract can say what another thread finds in the book. So no call here says which serial it notes or takes:
+/// `OrderBook` says that, and each of these calls makes one call of it.
 #[derive(Drop)]
 pub struct Order<L: Ledger> {
     book: Mutex<OrderBook<L>>,
@@ -26,7 +27,7 @@ pub struct Order<L: Ledger> {
 }
 
 impl<L: Ledger> Order<L> {
-    /// The book begins with nothing noted, and nothing said of the beginning. Takes the room for all notes that may wait.
+    /// A book with nothing noted, and nothing said of the beginning. Allocates the room for all notes that may wait.
     pub fn new(alloc: Global, ledger: Book<L>) -> Result<Order<L>, AllocError>
         requires { ledger.total ≡ 0 }
     {
@@ -37,7 +38,7 @@ impl<L: Ledger> Order<L> {
         })
     }
 
-    /// The book, once nobody else has it. It is given back where the guard is dropped.
+    /// Locks the book, once nobody else has it. Dropping the guard unlocks it.
     pub fn lock<R: Wait>(&self, rt: &R) -> MutexGuard<'_, OrderBook<L>> {
         self.book.lock(rt)
     }
@@ -64,8 +65,8 @@ impl<L: Ledger> Order<L> {
         unreachable!()
     }
 
-    /// Brings the desk an item: pushes it into the ring once there is room, and then notes the serial. Each is done once, so a
-    /// worker that brings all its items so has as many notes in its share as items in its ring.
+    /// Brings the desk an item: pushes it into the ring once there is room, and then notes the serial. Each is done once, so
+    /// a worker that brings all its items this way has as many notes in its share as items in its ring.
     pub fn bring<R: Wait, T: Drop>(
         &self,
         rt: &R,
@@ -84,7 +85,7 @@ impl<L: Ledger> Order<L> {
         self.wait_note(rt, share, serial);
     }
 
-    /// The oldest note, if one comes while it is looked for.
+    /// The oldest note, if one comes while the thread looks for it.
     fn look_for_next<R: Wait>(&self, rt: &R) -> Option<u64> {
         for _ in 0..LOOKS {
             let note = self.lock(rt).next();
@@ -96,7 +97,7 @@ impl<L: Ledger> Order<L> {
         None
     }
 
-    /// The oldest note, once there is one. It sleeps until then.
+    /// The oldest note, once there is one. Sleeps until then.
     fn sleep_for_next<R: Wait>(&self, rt: &R) -> u64 {
         let guard = self.lock(rt);
         let mut book = self.changed.wait_while(rt, guard, |book| book.is_empty());
@@ -106,7 +107,7 @@ impl<L: Ledger> Order<L> {
         serial
     }
 
-    /// Takes the oldest note, once there is one. It is looked for a while before the thread sleeps.
+    /// Takes the oldest note, once there is one. Looks for it for a while before the thread sleeps.
     pub fn wait_next<R: Wait>(&self, rt: &R) -> u64 {
         match self.look_for_next(rt) {
             Some(serial) => serial,
@@ -114,8 +115,8 @@ impl<L: Ledger> Order<L> {
         }
     }
 
-    /// Takes the oldest note, where one comes within a millisecond. It sleeps until then. A caller that `looks` looks for one a
-    /// while before it sleeps; after a call without a note that would only cost processor time.
+    /// Takes the oldest note, if one comes within a millisecond. Sleeps until then. A caller that `looks` looks for one for
+    /// a while before it sleeps; after a call without a note that would only cost processor time.
     pub fn wait_briefly<R: Wait + Clock>(&self, rt: &R, looks: bool) -> Option<u64> {
         if looks {
             let note = self.look_for_next(rt);

@@ -31,7 +31,7 @@ nothing_by : (b : Bool) → cond {A = List (List ℕ)} b [] [] ≡ []
 nothing_by true = refl
 nothing_by false = refl
 
--- where nothing is sent, nothing is added
+-- if nothing is sent, nothing is added
 pub nothing_sent : (s : ℕ) (trees : List Data) (old : WaitingFrames) → map frame trees ≡ [] → PostsSent (to_session s trees) old old
 nothing_sent s trees old is other = sym (ap (λ fs. waiting_for other old ++ fs) (frames_to-to_session s other trees ∙ (ap (λ fs. cond (eqb other s) fs []) is ∙ nothing_by (eqb other s))) ∙ append-nil (waiting_for other old))
 

@@ -7,7 +7,7 @@ use Rattle.ov_specs.specs.machine.Machine.{Sent}
 use Rattle.ov_specs.specs.machine.History.{frames_to}
 use Rattle.ov_outbox.specs.Frames.{WaitingFrames, waiting_for, places_for, PostsFrame, PostsSent, HasSameFrames, GivesUpPlace, TakesPlaces, posted, count_of, frames_for, PostsAll}
 
--- for each of these a place is kept
+-- a place is kept for each of these
 abbrev pub HavePlaces : List (ℕ × List ℕ) → WaitingFrames → Type 0
 HavePlaces frames queues = (other : ℕ) → count_of other frames ≤ places_for other queues
 
@@ -18,7 +18,7 @@ turned a b = by (eqb b a) refl
     by true e = eq-eqb a b (sym (eqb-true b a e))
     by false e = ne_eqb a b (λ k. let f : true ≡ false = sym (eq-eqb b a (sym k)) ∙ e in cc)
 
--- frames that are sent are for whom they are sent to
+-- frames are for the sessions to which they are sent
 pub frames_for-posted : (other : ℕ) (sent : List Sent) → frames_for other (map posted sent) ≡ frames_to other sent
 frames_for-posted other [] = refl
 frames_for-posted other (t ∷ sent) = by (frames_for-posted other sent) (eqb t.session other)
@@ -67,7 +67,7 @@ last_place s f front queues room =
 
 -- ---- one after the other
 
--- Of these frames those are left: what waits now, and then those, is what waited at first, and then all.
+-- Those of these frames are left: what waits now, followed by those, is what waited at first, followed by all.
 pub record IsReleasing (all left : List (ℕ × List ℕ)) (first now : WaitingFrames) : Type 0 where
   pub frames : (other : ℕ) → waiting_for other now ++ frames_for other left ≡ waiting_for other first ++ frames_for other all
   pub places : (other : ℕ) → places_for other now + count_of other all ≡ places_for other first + count_of other left
@@ -76,7 +76,7 @@ pub record IsReleasing (all left : List (ℕ × List ℕ)) (first now : WaitingF
 pub releasing-begins : (all : List (ℕ × List ℕ)) (first : WaitingFrames) → HavePlaces all first → IsReleasing all all first first
 releasing-begins all first room = record { frames = λ other. refl; places = λ other. refl; room = room }
 
--- Of these frames those are left to be given up.
+-- Those of these frames are left to be given up.
 pub record IsGivingUp (all left : List (ℕ × List ℕ)) (first now : WaitingFrames) : Type 0 where
   pub frames : HasSameFrames first now
   pub places : (other : ℕ) → places_for other now + count_of other all ≡ places_for other first + count_of other left

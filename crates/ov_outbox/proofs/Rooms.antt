@@ -1,4 +1,4 @@
--- The places that are kept for notices, after each step of a call that asks for a lock or gives it up.
+-- The places that are kept for notifications, after each step of a call that asks for a lock or gives it up.
 use Rattle.std.proofs.Common.{◌≡◌, ℕ, ◌+◌, ◌-◌, ◌≤◌, ◌<◌, List, [], ◌∷◌, ◌++◌, map, append_assoc, Bool, true, false, cond, eqb, Option, Some, None, option_map, refl, sym, ap, subst, ◌∙◌, arith}
 use Rattle.std.specs.Prelude.{is_some, option_to_list, IfSome, Result, Ok, Err}
 use Rattle.std.proofs.lemmas.Bool.{eqb-true, eq-eqb}
@@ -59,7 +59,7 @@ module _ (name : List ℕ) (s : ℕ) (queues : Queues) (ascend : DoQueuesAscend 
 
   -- ---- steal
 
-  -- the former owner is told in one of its two places
+  -- the former owner is notified in one of its two places
   pub told-room : (former : Option ℕ) (message : Option (ℕ × List ℕ)) (kept both sent end : WaitingFrames) → KeepsPlace s first kept → KeepsTwoFor former kept both → GivesUpPlace s both sent
       → TakesPlaces (option_to_list message) sent end → (f : List ℕ) → former ≡ owner name queues → message ≡ option_map (λ o. (o, f)) (owner name queues) → (after : Queues) → after ≡ steal name s queues → HasRoom end after
   told-room former message kept both sent end keeps two takes tells f is message_is after after_is other =
@@ -81,7 +81,7 @@ module _ (name : List ℕ) (s : ℕ) (queues : Queues) (ascend : DoQueuesAscend 
     reply_taken : HasSamePlaces first sent
     reply_taken other = omega (arith, keeps other, takes other)
 
-    -- who becomes the owner has a place
+    -- the session that becomes the owner has a place
     pub next-place : (message : Option (ℕ × List ℕ)) → message ≡ freeing.told name (next_owner name s queues) → IfSome message (λ p. 0 < places_for p.0 sent)
     next-place message is = subst (λ (n : Option (ℕ × List ℕ)). IfSome n (λ p. 0 < places_for p.0 sent)) (sym is) (by (next_owner name s queues) (λ other. waits-unlock other name s queues ascend))
       where
@@ -134,7 +134,7 @@ module _ (name : List ℕ) (s : ℕ) (queues : Queues) (ascend : DoQueuesAscend 
 
 -- ---- what is sent by unlock
 
--- a reply, and then what is told of it
+-- a reply, and then the notification
 pub replies : (s : ℕ) (f : List ℕ) (notes : List (ℕ × List ℕ)) (first kept sent end : WaitingFrames) → HasSameFrames first kept → PostsFrame s f kept sent → PostsAll notes sent end → PostsAll ((s, f) ∷ notes) first end
 replies s f notes first kept sent end same added all other =
     all other ∙ ap (λ fs. fs ++ frames_for other notes) (added other ∙ ap (λ fs. fs ++ cond (eqb other s) (f ∷ []) []) (same other))
@@ -192,6 +192,6 @@ pub leaving-posts : (s : ℕ) (queues : Queues) (first mid end : WaitingFrames) 
 leaving-posts s queues first mid end all same =
     posts_sent (freeing.told_all (freed s queues)) first end (λ other. same other ∙ all other) (told (told_of_leaving s queues)) (told_all-posted (freed s queues))
 
--- those that are told, where nobody was to be told before
+-- the notified sessions, if none was to be notified before
 pub left : (s : ℕ) (old new : TableValue) → new ≡ (leave s old.0, old.1 ++ freeing.told_all (freed s old.0)) → old.1 ≡ [] → new.1 ≡ freeing.told_all (freed s old.0)
 left s old new is none = ap (λ (t : TableValue). t.1) is ∙ ap (λ ps. ps ++ freeing.told_all (freed s old.0)) none

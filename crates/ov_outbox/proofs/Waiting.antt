@@ -104,7 +104,7 @@ waits-gone s queue = let all = first_and_rest s (without s queue) in let gone = 
 waits-none : (s : ℕ) (queue : List ℕ) → stands_in s queue ≡ false → waits_in s queue ≡ 0
 waits-none s queue out = let all = first_and_rest s queue in let none = times-none s queue out in omega arith
 
--- one that stands in the queue, and is not the first, waits
+-- a session that stands in the queue, and is not the first, waits
 pub waits-some : (s : ℕ) (queue : List ℕ) → stands_in s queue ≡ true → one_for s (first_of queue) ≡ 0 → 1 ≤ waits_in s queue
 waits-some s queue stands apart = let all = first_and_rest s queue in let some = times-some s queue stands in omega arith
 
@@ -112,7 +112,7 @@ next-none : (s : ℕ) (queue : List ℕ) → stands_in s queue ≡ false → nex
 next-none s [] out = refl
 next-none s (f ∷ queue) out = ap (λ b. cond b (first_of (without s queue)) None) (or_parts (eqb f s) (stands_in s queue) out).0
 
--- nobody becomes the first where another leaves
+-- nobody becomes the first if a session that is not the first leaves
 pub next-not_first : (s : ℕ) (queue : List ℕ) → one_for s (first_of queue) ≡ 0 → next_in s queue ≡ None
 next-not_first s [] apart = refl
 next-not_first s (f ∷ queue) apart = by (eqb f s) apart
@@ -170,7 +170,7 @@ module _ (other : ℕ) (name : List ℕ) where
         let one = waits-without other s (queue_of name queues) in
         omega arith
 
--- one that waited, and waits no more
+-- one that waited, and no longer waits
 pub waiter-unlocks : (name : List ℕ) (s : ℕ) (queues : Queues) → DoQueuesAscend queues → has_requested s name queues ≡ true → one_for s (owner name queues) ≡ 0
     → waits_of s (unlock name s queues) + 1 ≤ waits_of s queues
 waiter-unlocks name s queues ascend stands apart =
@@ -217,7 +217,7 @@ leaver-waits s (e ∷ queues) = by (leaver-waits s queues) (stands_in s e.1) ref
         omega arith
     by rest false is = let none = waits-none s e.1 is in omega arith
 
--- ---- one that asked for no lock
+-- ---- a session that has asked for no lock
 
 pub no_waits : (s : ℕ) (queues : Queues) → requests_of s queues ≡ 0 → waits_of s queues ≡ 0
 no_waits s [] none = refl

@@ -1,4 +1,4 @@
--- The frames that wait for sessions, and the places that are kept for more. What names no source is our own.
+-- The frames that wait for sessions, and the places that are kept for more.
 use Rattle.std.specs.Prelude.{◌≡◌, ℕ, ◌+◌, ◌-◌, ◌*◌, ◌==◌, List, [], ◌∷◌, ◌++◌, map, filter, Bool, Option, Some, None, is_some, option_map, unwrap_or, if◌then◌else◌}
 use Rattle.std.specs.List.{count_by}
 use Rattle.std.specs.Map.{lookup}
@@ -36,17 +36,17 @@ waiting_for session queues = frames_in (queue_for session queues)
 abbrev pub places_for : ℕ → WaitingFrames → ℕ
 places_for session queues = places_in (queue_for session queues)
 
--- the session has a queue, be it an empty one
+-- the session has a queue, even an empty one
 abbrev pub has_queue : ℕ → WaitingFrames → Bool
 has_queue session queues = is_some (queue_for session queues)
 
 -- ---- what becomes of the frames
 
--- a frame more waits for the session
+-- one more frame waits for the session
 abbrev pub PostsFrame : ℕ → List ℕ → WaitingFrames → WaitingFrames → Type 0
 PostsFrame session frame old new = (other : ℕ) → waiting_for other new ≡ waiting_for other old ++ (if other == session then frame ∷ [] else [])
 
--- these are sent: their frames wait behind those that waited, each for its session
+-- these are sent: their frames wait after those that waited, each for its session
 abbrev pub PostsSent : List Sent → WaitingFrames → WaitingFrames → Type 0
 PostsSent sent old new = (session : ℕ) → waiting_for session new ≡ waiting_for session old ++ frames_to session sent
 
@@ -54,7 +54,7 @@ PostsSent sent old new = (session : ℕ) → waiting_for session new ≡ waiting
 abbrev pub HasSameFrames : WaitingFrames → WaitingFrames → Type 0
 HasSameFrames old new = (other : ℕ) → waiting_for other new ≡ waiting_for other old
 
--- nothing waits for the session any more, and for the others the same frames
+-- nothing waits for the session, and the same frames wait for the others
 abbrev pub ClearsSession : ℕ → WaitingFrames → WaitingFrames → Type 0
 ClearsSession session old new = (other : ℕ) → waiting_for other new ≡ (if other == session then [] else waiting_for other old)
 
@@ -64,7 +64,7 @@ ClearsSession session old new = (other : ℕ) → waiting_for other new ≡ (if 
 abbrev pub HasSamePlaces : WaitingFrames → WaitingFrames → Type 0
 HasSamePlaces old new = (other : ℕ) → places_for other new ≡ places_for other old
 
--- one place more for the session
+-- one more place is kept for the session
 abbrev pub KeepsPlace : ℕ → WaitingFrames → WaitingFrames → Type 0
 KeepsPlace session old new = (other : ℕ) → places_for other new ≡ places_for other old + (if other == session then 1 else 0)
 
@@ -72,16 +72,16 @@ KeepsPlace session old new = (other : ℕ) → places_for other new ≡ places_f
 abbrev pub GivesUpPlace : ℕ → WaitingFrames → WaitingFrames → Type 0
 GivesUpPlace session old new = (other : ℕ) → places_for other new ≡ places_for other old - (if other == session then 1 else 0)
 
--- no place for the session any more
+-- no place is kept for the session
 abbrev pub GivesUpPlaces : ℕ → WaitingFrames → WaitingFrames → Type 0
 GivesUpPlaces session old new = (other : ℕ) → places_for other new ≡ (if other == session then 0 else places_for other old)
 
--- two places more for the session, if there is one
+-- two more places are kept for the session, if there is one
 abbrev pub KeepsTwoFor : Option ℕ → WaitingFrames → WaitingFrames → Type 0
 KeepsTwoFor None old new = HasSamePlaces old new
 KeepsTwoFor (Some session) old new = (other : ℕ) → places_for other new ≡ places_for other old + 2 * (if other == session then 1 else 0)
 
--- two places less for it, if there are so many
+-- two places less for it, if there are two
 abbrev pub GivesUpTwoFor : Option ℕ → WaitingFrames → WaitingFrames → Type 0
 GivesUpTwoFor None old new = HasSamePlaces old new
 GivesUpTwoFor (Some session) old new = (other : ℕ) → places_for other new ≡ places_for other old - 2 * (if other == session then 1 else 0)
@@ -96,7 +96,7 @@ posted t = (t.session, frame t.tree)
 abbrev pub count_of : ℕ → List (ℕ × List ℕ) → ℕ
 count_of session frames = count_by (λ p. p.0 == session) frames
 
--- the places of these are kept no more
+-- the places of these are no longer kept
 abbrev pub TakesPlaces : List (ℕ × List ℕ) → WaitingFrames → WaitingFrames → Type 0
 TakesPlaces frames old new = (other : ℕ) → places_for other new + count_of other frames ≡ places_for other old
 
@@ -104,6 +104,6 @@ TakesPlaces frames old new = (other : ℕ) → places_for other new + count_of o
 abbrev pub frames_for : ℕ → List (ℕ × List ℕ) → List (List ℕ)
 frames_for session frames = map (λ p. p.1) (filter (λ p. p.0 == session) frames)
 
--- these wait behind those that waited, each for its session
+-- these wait after those that waited, each for its session
 abbrev pub PostsAll : List (ℕ × List ℕ) → WaitingFrames → WaitingFrames → Type 0
 PostsAll frames old new = (session : ℕ) → waiting_for session new ≡ waiting_for session old ++ frames_for session frames

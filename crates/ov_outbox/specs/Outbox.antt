@@ -1,10 +1,10 @@
--- The frames that wait for sessions, beside the queues of the locks. What names no source is our own.
+-- The frames that wait for sessions, and the queues of the locks.
 use Rattle.std.specs.Prelude.{refl}
 use Rattle.std.specs.Coded.{Coded, code_by, coded×, coded_ℕ, coded_list}
 use Rattle.ov_specs.specs.locks.Queues.{Queues}
 use Rattle.ov_outbox.specs.Frames.{WaitingFrames}
 
--- the frames, with the places that are kept for more, and for each lock who asked for it
+-- the frames, with the places that are kept for more, and for each lock the sessions that have asked for it
 pub record Outbox : Type 0 where
   pub frames : WaitingFrames
   pub queues : Queues

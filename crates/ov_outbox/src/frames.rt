@@ -8,7 +8,7 @@ use std::alloc::{AllocError, Global};
 use std::collections::BTreeMap;
 use std::marker::Model;
 
-/// The frames that wait for sessions, each session's oldest first, and the places that are kept for more.
+/// The frames that wait for sessions, oldest first for each session, and the places that are kept for more.
 #[derive(Drop)]
 pub struct FrameQueues {
     queues: BTreeMap<u64, Queue>,
@@ -32,7 +32,7 @@ impl FrameQueues {
         }
     }
 
-    /// Puts a frame behind those of its session, where there is memory for it. The places that are kept are left as they are.
+    /// Appends a frame to those of its session, unless an allocation fails. The kept places stay as they are.
     pub fn push(&mut self, alloc: Global, session: u64, frame: Bytes) -> bool
         ensures frames { MatchBool result (PostsFrame session frame self.old self.new) (HasSameFrames self.old self.new) }
         ensures places { HasSamePlaces self.old self.new }
@@ -46,7 +46,7 @@ impl FrameQueues {
         }
     }
 
-    /// Keeps one place more for the session, where there is memory for it: `push_kept` takes it, or `give_up_place`.
+    /// Keeps one more place for the session, unless an allocation fails: `push_kept` or `give_up_place` takes it.
     pub fn keep_place(&mut self, alloc: Global, session: u64) -> bool
         ensures frames { HasSameFrames self.old self.new }
         ensures places { MatchBool result (KeepsPlace session self.old self.new) (HasSamePlaces self.old self.new) }
@@ -60,7 +60,7 @@ impl FrameQueues {
         }
     }
 
-    /// The session has a queue from now on, be it an empty one, where there is memory for it.
+    /// Gives the session a queue, even if it stays empty, unless an allocation fails.
     fn opens(&mut self, alloc: Global, session: u64) -> bool
         ensures frames { HasSameFrames self.old self.new }
         ensures places { HasSamePlaces self.old self.new }
@@ -71,7 +71,7 @@ impl FrameQueues {
         self.queues.insert(session, Queue::new(alloc)).is_ok()
     }
 
-    /// Keeps one place less for the session, if there is one. It takes no memory.
+    /// Gives up one place of the session, if there is one. Allocates nothing.
     pub fn give_up_place(&mut self, session: u64)
         ensures frames { HasSameFrames self.old self.new }
         ensures places { GivesUpPlace session self.old self.new }
@@ -81,7 +81,7 @@ impl FrameQueues {
         }
     }
 
-    /// Keeps no place for the session. It takes no memory.
+    /// Gives up all places of the session. Allocates nothing.
     pub fn give_up_places(&mut self, session: u64)
         ensures frames { HasSameFrames self.old self.new }
         ensures places { GivesUpPlaces session self.old self.new }
@@ -91,7 +91,7 @@ impl FrameQueues {
         }
     }
 
-    /// Puts a frame behind those of its session, in a place that was kept for it. It takes no memory.
+    /// Appends a frame to those of its session, in a place that was kept for it. Allocates nothing.
     pub fn push_kept(&mut self, session: u64, frame: Bytes)
         requires { 0 < places_for session self.old }
         ensures frames { PostsFrame session frame self.old self.new }
@@ -115,7 +115,7 @@ impl FrameQueues {
         }
     }
 
-    /// A copy of the session's frames, one behind the other.
+    /// A copy of the session's frames, joined in order.
     pub fn joined_for(&self, alloc: Global, session: u64) -> Result<Bytes, AllocError>
         ensures { IfOk result (λ b. b ≡ joined (waiting_for session self.now)) }
     {
@@ -135,7 +135,7 @@ impl FrameQueues {
         }
     }
 
-    /// Takes out all frames of the session. The places that are kept are left as they are.
+    /// Takes out all frames of the session. The kept places stay as they are.
     pub fn clear(&mut self, session: u64)
         ensures frames { ClearsSession session self.old self.new }
         ensures places { HasSamePlaces self.old self.new }
@@ -145,7 +145,7 @@ impl FrameQueues {
         }
     }
 
-    /// Takes out the queue of the session, with its frames and its places. It takes no memory.
+    /// Removes the queue of the session, with its frames and its places. Allocates nothing.
     pub fn drop_queue(&mut self, session: u64)
         ensures frames { ClearsSession session self.old self.new }
         ensures places { GivesUpPlaces session self.old self.new }
@@ -155,7 +155,7 @@ impl FrameQueues {
     }
 }
 
-/// A copy of the frames, one behind the other.
+/// A copy of the frames, joined in order.
 fn join(alloc: Global, queue: &Queue) -> Result<Bytes, AllocError>
     ensures { IfOk result (λ b. b ≡ joined queue.now.0) }
 {
@@ -166,7 +166,7 @@ fn join(alloc: Global, queue: &Queue) -> Result<Bytes, AllocError>
     Ok(Bytes::from_vec(out))
 }
 
-/// Puts the frames behind the bytes.
+/// Appends the frames to the bytes.
 fn append(out: &mut Vec<u8>, frames: &[Bytes]) -> Result<(), AllocError>
     ensures { OnOk result (out.new.items ≡ out.old.items ++ joined frames.now) }
 {

@@ -1,5 +1,5 @@
-//! The frames that wait for sessions, and the locks: whoever becomes the owner of a lock is told so, also where no memory is
-//! left, since each session's queue keeps a place for each notice that may have to be sent so.
+//! The frames that wait for sessions, and the locks. A session that becomes the owner of a lock is notified even if no memory
+//! is left, since each session's queue keeps a place for each notification that may have to be sent this way.
 #![tactic(auto)]
 
 mod frames;

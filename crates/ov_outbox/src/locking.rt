@@ -25,7 +25,7 @@ pub(crate) fn owns(locks: &LockTable, session: u64, name: &str) -> bool
     }
 }
 
-/// The session asks for the lock, and is told whether it is the owner now. If it is not, it keeps one place more.
+/// The session asks for the lock, and the reply says whether it is the owner now. If it is not, it keeps one more place.
 pub(crate) fn lock(
     alloc: Global,
     frames: &mut FrameQueues,
@@ -60,7 +60,7 @@ pub(crate) fn lock(
     }
 }
 
-/// The session takes the lock. The former owner is told, and keeps one place more.
+/// The session takes the lock. The former owner is notified, and keeps one more place.
 pub(crate) fn steal(
     alloc: Global,
     frames: &mut FrameQueues,
@@ -98,8 +98,8 @@ pub(crate) fn steal(
     }
 }
 
-/// The session gives up the lock, or gives up waiting for it, and then keeps one place less. Who becomes the owner by it is
-/// told.
+/// The session gives up the lock, or stops waiting for it, and then keeps one place less. The session that becomes the owner
+/// by that is notified.
 pub(crate) fn unlock(
     alloc: Global,
     frames: &mut FrameQueues,
@@ -135,7 +135,7 @@ pub(crate) fn unlock(
     }
 }
 
-/// The session leaves all queues, and those that become owners by that are told. It takes no memory.
+/// The session leaves all queues, and the sessions that become owners by that are notified. Allocates nothing.
 pub(crate) fn leave(frames: &mut FrameQueues, locks: &mut LockTable, session: u64)
     requires freed { locks.old.1 ≡ [] }
     requires room { HasRoom frames.old locks.old.0 }
@@ -149,7 +149,7 @@ pub(crate) fn leave(frames: &mut FrameQueues, locks: &mut LockTable, session: u6
     frames.give_up_places(session);
 }
 
-/// Those that have become owners are told so, in places that are kept for it. It takes no memory.
+/// Notifies the sessions that have become owners, in places that are kept for that. Allocates nothing.
 fn tell_freed(frames: &mut FrameQueues, locks: &mut LockTable)
     requires { (other : ℕ) → count_of other locks.old.1 ≤ places_for other frames.old }
     ensures posts { PostsAll locks.old.1 frames.old frames.new }
@@ -162,7 +162,7 @@ fn tell_freed(frames: &mut FrameQueues, locks: &mut LockTable)
     }
 }
 
-/// The frame is sent in a place that is kept for it, if there is one. It takes no memory.
+/// Sends the frame, if there is one, in a place that is kept for it. Allocates nothing.
 fn tell(frames: &mut FrameQueues, note: Option<(u64, Bytes)>)
     requires { IfSome note (λ p. 0 < places_for p.0 frames.old) }
     ensures posts { PostsAll (option_to_list note) frames.old frames.new }
@@ -173,7 +173,7 @@ fn tell(frames: &mut FrameQueues, note: Option<(u64, Bytes)>)
     }
 }
 
-/// Keeps two places for the session, if there is one, or none where memory is refused.
+/// Keeps two places for the session, if there is one; keeps none if an allocation fails.
 fn keep_two_for(alloc: Global, frames: &mut FrameQueues, session: Option<u64>) -> bool
     ensures frames { HasSameFrames frames.old frames.new }
     ensures places { MatchBool result (KeepsTwoFor session frames.old frames.new) (HasSamePlaces frames.old frames.new) }

@@ -14,8 +14,8 @@ use ov_locks::{LockCall, LockFault, LockTable};
 use std::alloc::{AllocError, Global};
 use std::marker::Model;
 
-/// The frames that wait for sessions, and the locks that these asked for. For each queue of a lock in which a session waits a
-/// place is kept for it, so that it can be told without memory that it has become the owner.
+/// The frames that wait for sessions, and the locks that sessions have asked for. For each queue of a lock in which a session
+/// waits, a place is kept for it, so that it can be notified without allocating that it has become the owner.
 #[derive(Drop)]
 pub struct Outbox {
     frames: FrameQueues,
@@ -38,7 +38,7 @@ impl Model for Outbox {
 }
 
 impl Outbox {
-    /// Nothing waits, and nobody asked for a lock.
+    /// Nothing waits, and no session has asked for a lock.
     pub fn new(alloc: Global) -> Outbox
         ensures { result ≡ record { frames = []; queues = [] } }
     {
@@ -48,7 +48,7 @@ impl Outbox {
         }
     }
 
-    /// These frames and these locks: nobody is still to be told of a lock, and the places are kept.
+    /// Joins these frames and these locks: no session is still to be notified of a lock, and the places are kept.
     pub fn from_parts(frames: FrameQueues, locks: LockTable) -> Outbox
         requires freed { locks.1 ≡ [] }
         requires room { HasRoom frames locks.0 }
@@ -57,7 +57,7 @@ impl Outbox {
         Outbox { frames, locks }
     }
 
-    /// The frames and the locks apart: nobody is still to be told of a lock, and the places are kept.
+    /// Splits it into the frames and the locks: no session is still to be notified of a lock, and the places are kept.
     pub fn into_parts(self) -> (FrameQueues, LockTable)
         ensures frames { result.0 ≡ self.frames }
         ensures queues { result.1.0 ≡ self.queues }
@@ -68,7 +68,7 @@ impl Outbox {
         (frames, locks)
     }
 
-    /// Puts a frame behind those of its session, where there is memory for it.
+    /// Appends a frame to those of its session, unless an allocation fails.
     pub fn push(&mut self, alloc: Global, session: u64, frame: Bytes) -> bool
         ensures frames { MatchBool result (PostsFrame session frame self.old.frames self.new.frames) (HasSameFrames self.old.frames self.new.frames) }
         ensures queues { self.new.queues ≡ self.old.queues }
@@ -86,14 +86,14 @@ impl Outbox {
         self.frames.pop(session)
     }
 
-    /// A copy of the session's frames, one behind the other.
+    /// A copy of the session's frames, joined in order.
     pub fn joined_for(&self, alloc: Global, session: u64) -> Result<Bytes, AllocError>
         ensures { IfOk result (λ b. b ≡ joined (waiting_for session self.now.frames)) }
     {
         self.frames.joined_for(alloc, session)
     }
 
-    /// Takes out all frames of the session; of one that asked for no lock the queue too.
+    /// Takes out all frames of the session, and removes its queue if it has asked for no lock.
     pub fn clear(&mut self, session: u64)
         ensures frames { ClearsSession session self.old.frames self.new.frames }
         ensures queues { self.new.queues ≡ self.old.queues }
@@ -107,7 +107,7 @@ impl Outbox {
         }
     }
 
-    /// Takes out the queue of a session for which nothing waits, and that asked for no lock.
+    /// Removes the queue of a session for which nothing waits and that has asked for no lock.
     pub fn forget(&mut self, session: u64)
         ensures frames { HasSameFrames self.old.frames self.new.frames }
         ensures queues { self.new.queues ≡ self.old.queues }
@@ -119,7 +119,7 @@ impl Outbox {
         }
     }
 
-    /// The queues of the locks ascend by the locks' names, which each outbox keeps true of itself. It does nothing.
+    /// States that the queues of the locks ascend by the locks' names, an invariant of every outbox. Does nothing.
     pub fn in_order(&self)
         ensures { DoQueuesAscend self.now.queues }
     {
@@ -133,8 +133,8 @@ impl Outbox {
         locking::owns(&self.locks, session, name)
     }
 
-    /// What is asked of a lock is done and answered, and whoever loses the lock by it or becomes its owner is told (RFC 7047,
-    /// 4.1.8 to 4.1.10). Where it is refused, nothing is changed or sent.
+    /// Carries out a call on a lock, replies to it, and notifies the session that loses the lock by it or becomes its owner
+    /// (RFC 7047, 4.1.8 to 4.1.10). If it is refused, nothing is changed or sent.
     pub fn ask(
         &mut self,
         alloc: Global,
@@ -159,8 +159,8 @@ impl Outbox {
         }
     }
 
-    /// The session gives up all locks, and gives up waiting for any. Those that become owners by that are told (RFC 7047,
-    /// 4.1.9). It takes no memory.
+    /// The session gives up all locks, and stops waiting for any. The sessions that become owners by that are notified (RFC
+    /// 7047, 4.1.9). Allocates nothing.
     pub fn leave(&mut self, session: u64)
         ensures queues { self.new.queues ≡ leave session self.old.queues }
         ensures posts { PostsSent (told (told_of_leaving session self.old.queues)) self.old.frames self.new.frames }

@@ -8,8 +8,8 @@ use std::alloc::Global;
 use std::collections::VecDeque;
 use std::marker::Model;
 
-/// Frames that are ready to be sent, in order, each with its session: for each of them its session's queue keeps a place, so
-/// that they can be sent without memory.
+/// Frames that are ready to be sent, in order, each with its session. Each has a place in its session's queue, so that they
+/// can be sent without allocating.
 #[derive(Drop)]
 pub struct Prepared {
     frames: VecDeque<(u64, Bytes)>,
@@ -24,7 +24,7 @@ impl Model for Prepared {
 }
 
 impl Prepared {
-    /// No frame.
+    /// Creates an empty list of frames.
     pub fn new(alloc: Global) -> Prepared
         ensures { result ≡ [] }
     {
@@ -33,7 +33,7 @@ impl Prepared {
         }
     }
 
-    /// One frame more, behind the others, with a place of its own, where there is memory for both.
+    /// Appends a frame, and keeps a place for it, unless an allocation fails.
     pub fn prepare(
         &mut self,
         alloc: Global,
@@ -55,7 +55,7 @@ impl Prepared {
         true
     }
 
-    /// All of them are sent, in order. It takes no memory.
+    /// Sends all frames, in order. Allocates nothing.
     pub fn release(self, queues: &mut FrameQueues)
         requires { (other : ℕ) → count_of other self ≤ places_for other queues.old }
         ensures posts { (sent : List Sent) → self ≡ map posted sent → PostsSent sent queues.old queues.new }
@@ -67,7 +67,7 @@ impl Prepared {
         }
     }
 
-    /// The last of them is sent with this frame in its place, and the others are given up. It takes no memory.
+    /// Sends this frame in place of the last one, and gives up the others. Allocates nothing.
     pub fn release_instead(self, queues: &mut FrameQueues, frame: Bytes)
         requires { (other : ℕ) → count_of other self ≤ places_for other queues.old }
         ensures posts { (front : List (ℕ × List ℕ)) (session : ℕ) (former : List ℕ) → self ≡ front ++ (session, former) ∷ [] → PostsFrame session frame queues.old queues.new }
@@ -81,7 +81,7 @@ impl Prepared {
         give_up_each(frames, queues);
     }
 
-    /// None of them is sent. It takes no memory.
+    /// Sends none of the frames. Allocates nothing.
     pub fn give_up(self, queues: &mut FrameQueues)
         requires { (other : ℕ) → count_of other self ≤ places_for other queues.old }
         ensures frames { HasSameFrames queues.old queues.new }

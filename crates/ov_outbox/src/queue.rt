@@ -5,7 +5,7 @@ use std::alloc::Global;
 use std::collections::VecDeque;
 use std::marker::Model;
 
-/// The frames that wait for one session, oldest first, and places kept for more: in these a frame is put without memory.
+/// The frames that wait for one session, oldest first, and places kept for more: putting a frame in one allocates nothing.
 #[derive(Drop)]
 pub(crate) struct Queue {
     frames: VecDeque<Bytes>,
@@ -34,7 +34,7 @@ impl Queue {
         }
     }
 
-    /// Puts a frame behind the others, where there is memory for it.
+    /// Appends a frame, unless an allocation fails.
     pub fn push(&mut self, frame: Bytes) -> bool
         ensures { self.new ≡ (if result then (self.old.0 ++ frame ∷ [], self.old.1) else self.old) }
     {
@@ -48,7 +48,7 @@ impl Queue {
         true
     }
 
-    /// Keeps one place more, where there is memory for it.
+    /// Keeps one more place, unless an allocation fails.
     pub fn keep_place(&mut self) -> bool
         ensures { self.new ≡ (if result then (self.old.0, self.old.1 + 1) else self.old) }
     {
@@ -62,21 +62,21 @@ impl Queue {
         true
     }
 
-    /// Keeps one place less.
+    /// Gives up one place.
     pub fn give_up_place(&mut self)
         ensures { self.new ≡ (self.old.0, self.old.1 - 1) }
     {
         self.places = self.places.saturating_sub(1);
     }
 
-    /// Keeps no place.
+    /// Gives up all places.
     pub fn give_up_places(&mut self)
         ensures { self.new ≡ (self.old.0, 0) }
     {
         self.places = 0;
     }
 
-    /// Puts a frame behind the others, in a place that was kept. It takes no memory.
+    /// Appends a frame, in a place that was kept. Allocates nothing.
     pub fn push_kept(&mut self, frame: Bytes)
         requires { 0 < self.old.1 }
         ensures { self.new ≡ (self.old.0 ++ frame ∷ [], self.old.1 - 1) }
@@ -108,7 +108,7 @@ impl Queue {
         self.frames.is_empty()
     }
 
-    /// The frames, in two parts: the older ones, and those behind them.
+    /// The frames, in two slices: the older ones, and those after them.
     pub fn as_slices(&self) -> (&[Bytes], &[Bytes])
         ensures { result.0.now ++ result.1.now ≡ self.now.0 }
     {

@@ -17,7 +17,7 @@ placed-append : (before : Members) (ms others : List (List ℕ × Data)) → pla
 placed-append before [] others = refl
 placed-append before (m ∷ ms) others = placed-append (put m.0 m.1 before) ms others
 
--- the column of this name, and then those behind it
+-- the column of this name, and then those after it
 pub shown-at : (names : List (List ℕ)) (r : LineKey × Row) (i : ℕ) (name : List ℕ) (before after : Members) → i < length names → name ≡ get_or names i name
     → after ≡ placed before (map written_column (shown_column r name)) → placed before (map written_column (projection (drop i names) r)) ≡ placed after (map written_column (projection (drop (i + 1) names) r))
 shown-at names r i name before after h e p =
@@ -27,7 +27,7 @@ shown-at names r i name before after h e p =
     ∙ placed-append before (map written_column (shown_column r name)) (map written_column rest)
     ∙ ap (λ ms. placed ms (map written_column rest)) (sym p)
 
--- where the row has a column of this name it is put, and else nothing is
+-- if the row has a column of this name it is put; otherwise nothing is
 pub placed-one : (name : List ℕ) (r : LineKey × Row) (datum : Datum) (before : Members) → entry_value r name ≡ Some datum → placed before (map written_column (shown_column r name)) ≡ put name (tree datum) before
 placed-one name r datum before is = ap (λ o. placed before (map written_column (option_to_list (option_map (λ d. (name, d)) o)))) is
 

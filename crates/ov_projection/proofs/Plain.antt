@@ -1,4 +1,4 @@
--- One member more in an object without reals.
+-- One more member in an object without reals.
 use Rattle.std.proofs.Common.{◌≡◌, ℕ, List, false, refl, ap, ◌∙◌}
 use Rattle.std.specs.Prelude.{Result, Ok, Err, OnOk}
 use Rattle.std.specs.declared.cmp.Ordering.{Ordering}
@@ -21,7 +21,7 @@ put_plain k d (member l e ms) h f =
     let parts = or_parts (has_real e) (members_have_real ms) f in
     put_at (slice_cmp nat_cmp k l) k l d e ms h parts.0 parts.1 (put_plain k d ms h parts.1)
 
--- where a member without reals was put, there is none behind it either
+-- members without reals still have none after a member without reals is put
 pub still_plain : {A E : Type 0} (result : Result A E) (k : List ℕ) (d : Data) (before after : Members) → members_have_real before ≡ false → OnOk result (after ≡ put k d before) → OnOk result (has_real d ≡ false)
     → OnOk result (members_have_real after ≡ false)
 still_plain (Ok a) k d before after plain is real = ap members_have_real is ∙ put_plain k d before real plain

@@ -117,10 +117,10 @@ without_repeats-once : (rows : List Shown) → without_repeats rows ≡ once sam
 without_repeats-once [] = refl
 without_repeats-once (row ∷ rows) = ap (λ others. row ∷ filter (λ other. not (same_columns row other)) others) (without_repeats-once rows)
 
--- of the rows that are equal the first alone, found by one walk from the front
+-- only the first of the rows that are equal, found by one walk from the front
 pub without_repeats-kept : (rows : List Shown) → without_repeats rows ≡ kept_with same_columns [] rows
 without_repeats-kept rows = without_repeats-once rows ∙ sym (kept_with-once same_columns columns_pass [] rows ∙ filter-all (once same_columns rows))
 
--- a row is kept exactly where none of the rows before it is equal to it
+-- a row is kept exactly if none of the rows before it is equal to it
 pub kept_is_seen : (rows : List Shown) (row : Shown) → among same_columns (kept_with same_columns [] rows) row ≡ list_any (λ x. same_columns x row) rows
 kept_is_seen rows row = among-kept same_columns columns_pass [] rows row

@@ -1,4 +1,4 @@
--- What is shown of the rows of a table: those that meet all conditions, and none twice where their identifiers are shown.
+-- What is shown of the rows of a table: those that meet all conditions, and none twice if their identifiers are shown.
 use Rattle.std.proofs.Common.{◌≡◌, ◌<◌, ◌+◌, length, get_or, take, ℕ, List, [], ◌∷◌, ◌++◌, Bool, true, false, not, ◌||◌, cond, if◌then◌else◌, filter, map, Option, Some, None, T, refl, sym, ap, subst, ◌∙◌, codes, Bor, String, string_bytes, Global, Ordering, Less, Equal, Greater}
 use Rattle.std.specs.Prelude.{option_map, option_to_list}
 use Rattle.std.proofs.lemmas.Bool.{and_parts, false≢true}
@@ -45,7 +45,7 @@ pub or_second : (a b : Bool) → a ≡ false → (a || b) ≡ true → b ≡ tru
 or_second false b h k = k
 or_second true b h k = cc
 
--- a row shows its identifier, where that is among the columns
+-- a row shows its identifier, if that is among the columns
 shows_uuid : (names : List (List ℕ)) (r : LineKey × Row) → list_any (bytes_eq uuid_name) names ≡ true → value_at uuid_name (projection names r) ≡ Some (one_uuid r.0.1)
 shows_uuid [] r h = absurd (false≢true h)
 shows_uuid (name ∷ names) r h =
@@ -115,7 +115,7 @@ module _ (names : List (List ℕ)) (among : list_any (bytes_eq uuid_name) names 
           | false ↦ λ is. once_sorted es (right_holds _ _ h)
         ] refl
 
-    -- no two rows are equal where their identifiers are shown
+    -- no two rows are equal if their identifiers are shown
     pub shown_once : (rows : Database) → without_repeats (map (projection names) (matching rows table conditions)) ≡ map (projection names) (matching rows table conditions)
     shown_once rows = once_sorted (entries rows) (entries_sorted rows)
 
@@ -145,7 +145,7 @@ module _ (rows : List Shown) (i : ℕ) (r : Shown) (p : i < length rows) (at : r
   kept_more : kept_with same_columns [] (take (i + 1) rows) ≡ (if among same_columns (kept_with same_columns [] (take i rows)) r then kept_with same_columns [] (take i rows) else kept_with same_columns [] (take i rows) ++ r ∷ [])
   kept_more = ap (kept_with same_columns []) one_more ∙ kept_with-push same_columns [] (take i rows) r
 
-  -- a row is kept where none that is equal was seen, and passed over where one was
+  -- a row is kept if no equal one was seen, and passed over if one was
   pub kept-new : among same_columns (kept_with same_columns [] (take i rows)) r ≡ false → kept_with same_columns [] (take (i + 1) rows) ≡ kept_with same_columns [] (take i rows) ++ r ∷ []
   kept-new h = kept_more ∙ ap (λ b. if b then kept_with same_columns [] (take i rows) else kept_with same_columns [] (take i rows) ++ r ∷ []) h
 

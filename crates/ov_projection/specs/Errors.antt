@@ -1,4 +1,4 @@
--- The errors of the code as those of the definitions, and what may be answered in place of a result.
+-- The errors of the code as those of the definitions, and what may be returned instead of a result.
 use Rattle.std.specs.Prelude.{◌≡◌, Result, Ok, Err}
 use Rattle.ov_specs.specs.operations.Errors as spec
 use Rattle.ov_conds.specs.declared.fault.ConditionFault.{ConditionFault}
@@ -26,13 +26,13 @@ error_view error.ReferentialIntegrity = spec.ReferentialIntegrity
 error_view error.ResourcesExhausted = spec.ResourcesExhausted
 error_view error.InputOutput = spec.InputOutput
 
--- what is given, or the error that there is in place of it; "out of memory" may be answered to anything
+-- what is returned, or the error instead; "out of memory" may be returned in any case
 abbrev pub IsOpResult : {A B : Type 0} → (A → B) → Result B spec.OpError → Result A OpFault → Type 0
 IsOpResult seen given (Ok a) = given ≡ Ok (seen a)
 IsOpResult seen given (Err (Refused error)) = given ≡ Err (error_view error)
 IsOpResult seen given (Err Memory) = Unit {0}
 
--- what stands for a fault of a condition
+-- the operation's fault for a fault of a condition
 abbrev pub fault_of_condition : ConditionFault → OpFault
 fault_of_condition condition.Syntax = Refused error.Syntax
 fault_of_condition condition.UnknownColumn = Refused error.UnknownColumn

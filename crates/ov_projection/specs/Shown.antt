@@ -1,4 +1,4 @@
--- What is shown of a row, column by column. What names no source is our own.
+-- What is shown of a row, column by column.
 use Rattle.std.specs.Prelude.{ℕ, List, option_map, option_to_list}
 use Rattle.ov_specs.specs.operations.Conditions.{entry_value}
 use Rattle.ov_specs.specs.rows.Database.{Row}

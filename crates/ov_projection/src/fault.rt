@@ -26,7 +26,7 @@ pub enum OpError {
 }
 
 impl OpError {
-    /// The text that the client is sent. It is not derived, so that the contract can say which it is.
+    /// The error text sent to the client. Not derived, so that the contract can state it.
     pub fn text(self) -> &'static str
         ensures { result.now ≡ error_text (error_view self) }
     {
@@ -53,9 +53,9 @@ impl OpError {
 /// Why an operation has no result.
 #[derive(Clone, Copy, Debug, PartialEq, Eq)]
 pub enum OpFault {
-    /// It is refused, and the client is told.
+    /// It is refused, and the client receives this error.
     Refused(OpError),
-    /// A growth was refused.
+    /// An allocation failed.
     Memory,
 }
 

@@ -1,5 +1,4 @@
-//! The columns that an operation names, what is shown of a row by them, and the errors of operations (RFC 7047, 3.1 and 5.2). What
-//! names no source is our own.
+//! The columns that an operation names, what is shown of a row in them, and the errors of operations (RFC 7047, 3.1 and 5.2).
 #![tactic(auto)]
 
 mod fault;

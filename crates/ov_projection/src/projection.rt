@@ -63,7 +63,7 @@ fn are_known(table: &Table, names: &[Text]) -> bool
     true
 }
 
-/// The table's columns that are named, in ascending order.
+/// The named columns of the table, in ascending order.
 fn columns_named(alloc: Global, table: &Table, names: &[Text]) -> Result<Vec<Text>, AllocError>
     ensures { IfOk result (λ v. v.items ≡ spec.columns_named table.now names.now) }
 {
@@ -112,7 +112,7 @@ pub fn listed_columns(alloc: Global, table: &Table, columns: &Value) -> Result<V
     Ok(columns_named(alloc, table, names.as_slice())?)
 }
 
-/// The columns that are chosen; without `columns` all of them (RFC 7047, 5.2.2).
+/// The chosen columns; without `columns` all of them (RFC 7047, 5.2.2).
 pub fn chosen_columns(
     alloc: Global,
     table: &Table,
@@ -126,7 +126,7 @@ pub fn chosen_columns(
     }
 }
 
-/// The columns that are compared; without `columns` all but `_uuid` and `_version` (RFC 7047, 5.2.6; the default is our own).
+/// The columns to compare; without `columns` all but `_uuid` and `_version` (RFC 7047, 5.2.6, which names no default).
 pub fn compared_columns(
     alloc: Global,
     table: &Table,

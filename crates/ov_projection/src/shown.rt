@@ -46,7 +46,7 @@ fn one_uuid(id: Uuid) -> Datum
     Datum::of_atom(Atom::Uuid(id))
 }
 
-/// The value of a row's column, `_uuid` and `_version` too (RFC 7047, 3.2).
+/// The value of a row's column, including `_uuid` and `_version` (RFC 7047, 3.2).
 fn column_of(alloc: Global, row: &RowView<'_>, name: &str) -> Result<Option<Datum>, AllocError>
     ensures { IfOk result (λ o. o ≡ column_value row.now.id.now row.now.row.now.version row.now.row.now.columns name.now) }
 {
@@ -196,7 +196,7 @@ impl Ord for ShownRow {
 
     ghost matches_eq = { λ a b. refl };
 
-    /// Column by column, by its name and then by its value.
+    /// Column by column, by name and then by value.
     fn cmp(&self, other: &ShownRow) -> Ordering {
         self.columns.as_slice().cmp(other.columns.as_slice())
     }

@@ -1,4 +1,4 @@
--- Who refers to whom after the references of rows were collected.
+-- Which rows refer to which after the references of rows were collected.
 use Rattle.std.proofs.Common.{◌≡◌, ◌==◌, ◌-◌, List, [], ◌∷◌, ◌++◌, Bool, true, false, cond, T, ◌&&◌, ◌||◌, not, Option, Some, None, is_some, refl, sym, ap, ◌∙◌, Ordering, Less, Equal, Greater}
 use Rattle.std.specs.Prelude.{unwrap_or}
 use Rattle.std.specs.Cmp.{eq_by_cmp_equiv}
@@ -24,7 +24,7 @@ both_tied Less p = refl
 both_tied Equal p = refl
 both_tied Greater p = refl
 
--- keys are the same where the order ties them
+-- keys are the same if the order ties them
 pub same_key-tied : (a b : LineKey) → same_key a b ≡ eq_by_cmp line_cmp a b
 same_key-tied a b = (λ i. texts_ties a.0 b.0 i && texts_ties a.1 b.1 i) ∙ both_tied (slice_cmp nat_cmp a.0 b.0) (slice_cmp nat_cmp a.1 b.1)
 
@@ -52,7 +52,7 @@ module _ (holders : Holders) (at by : LineKey) (to from : LineKey) where
       ∙ given_or (eq_by_cmp line_cmp from by) (get (unwrap_or (get holders at) empty) from)
       ∙ (λ i. in_empty (get holders at) from i || sym (same_key-tied from by) i)
 
-  -- it refers to the row besides those that did
+  -- it refers to the row in addition to those that did
   pub is_holder-with : is_holder (with_holder at by holders) to from ≡ (is_holder holders to from || (same_key at to && same_key from by))
   is_holder-with =
       ap (is_some_and (λ (set : KeySet). contains_key set from)) (get-insert key_total holders at (insert (unwrap_or (get holders at) empty) by tt) to)
@@ -83,7 +83,7 @@ module _ (holders : Holders) (at by : LineKey) (to from : LineKey) where
   abbrev refers_in : Option KeySet → Bool
   refers_in o = is_some_and (λ set. contains_key set from) o
 
-  -- all that referred to the row refer to it, but this one
+  -- all that referred to the row refer to it, except this one
   pub is_holder-without : is_holder (without_holder at by holders) to from ≡ (is_holder holders to from && not (same_key at to && same_key from by))
   is_holder-without = turn (get holders at) refl (eq_by_cmp line_cmp to at) refl
     where
@@ -128,7 +128,7 @@ module _ (holders : Holders) (at by : LineKey) (to from : LineKey) where
 
 -- ---- what is found at a key
 
--- a key that is below all is none of them
+-- a key that is below all is not among them
 pub find-below : {X : Type 0} (key : LineKey) (es : List (LineKey × X)) → T (below_all line_cmp key es) → find line_cmp key es ≡ None
 find-below key [] h = refl
 find-below key (e ∷ es) h = ap (λ b. cond b (Some e.1) (find line_cmp key es)) (not_tied (line_cmp key e.0) (left_holds _ _ h)) ∙ find-below key es (right_holds _ _ h)

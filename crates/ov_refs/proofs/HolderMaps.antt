@@ -1,4 +1,4 @@
--- Who refers to which row, of the code as those of the definitions.
+-- The holders of rows in the code as those of the definitions.
 use Rattle.std.proofs.Common.{◌≡◌, ◌==◌, List, [], Bool, true, false, cond, T, Option, Some, None, refl, sym, ap, ◌∙◌}
 use Rattle.std.specs.Prelude.{unwrap_or}
 use Rattle.std.specs.BTreeMap.{is_at, insert_entry}
@@ -59,17 +59,17 @@ module _ (es es' : Entries) (to from : LineKey) (h : T (is_sorted line_cmp es)) 
       by q false e = rw e refl
       by q true e = rw e (ap (λ set. Some set) same ∙ is ∙ ap (λ k. set_at k es) (tied_same to q e))
 
--- there is nothing to take out where nobody refers to the row
+-- there is nothing to take out if no row refers to the row
 pub fewer-none : (es : Entries) (to from : LineKey) → T (is_sorted line_cmp es) → None ≡ set_at to es → holders_of es ≡ with_fewer to from (holders_of es)
 fewer-none es to from h none = ap (λ o. fewer o to from (holders_of es)) (none ∙ sym (get-holders_of es to h))
 
 -- ---- the last one of a row
 
--- nobody is left to refer to the row
+-- no row is left that refers to the row
 abbrev pub is_left_alone : LineKey → Option KeySet → Bool
 is_left_alone from o = is_some_and (λ set. len (remove set from) == 0) o
 
--- what is put at a key goes where the key does
+-- what is put at a key goes when the key goes
 remove-insert : (holders : Holders) (to : LineKey) (set : KeySet) → remove (insert holders to set) to ≡ remove holders to
 remove-insert holders to set = same_map key_total key_exact _ _ (λ q.
     get-remove key_total (insert holders to set) to q ∙ ap (cond (eq_by_cmp line_cmp q to) None) (get-insert key_total holders to set q)
@@ -80,7 +80,7 @@ remove-insert holders to set = same_map key_total key_exact _ _ (λ q.
     by false o = refl
 
 module _ (to from : LineKey) (holders : Holders) where
-  -- the row is listed no more
+  -- the row is no longer listed
   pub without-last : is_left_alone from (get holders to) ≡ true → remove (with_fewer to from holders) to ≡ without_holder to from holders
   without-last = by (get holders to)
     where

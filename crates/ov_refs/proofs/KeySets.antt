@@ -49,7 +49,7 @@ module _ (ks : List LineKey) (h : T (is_sorted line_cmp (map marked ks))) where
   pub len-set_of : len (set_of_keys ks) ≡ length ks
   len-set_of = len-entries (set_of_keys ks) ∙ ap length (entries-from_sorted line_cmp (map marked ks) h) ∙ as_many ks
 
--- a key with nothing under it
+-- a key without a value
 abbrev kept : Bool → Option (Unit {0})
 kept b = cond b (Some tt) None
 
@@ -128,7 +128,7 @@ module _ (one key : LineKey) where
     pub set_of-other : set_of_keys (one ∷ []) ≡ remove (set_of_keys (one ∷ [])) key
     set_of-other = set_of-remove (one ∷ []) (one ∷ []) key tt tt (λ q. stays q (is_at (line_cmp key) q) refl)
 
--- ---- wherever the keys lie
+-- ---- wherever the keys are stored
 
 module _ (stored : Keys) (set : KeySet) (h : T (is_sorted line_cmp (map marked (keys_in stored)))) (seen : set_of_keys (keys_in stored) ≡ set) where
   pub has_stored : (q : LineKey) → contains_key set q ≡ list_any (is_at (line_cmp q)) (keys_in stored)

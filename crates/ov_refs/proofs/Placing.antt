@@ -1,4 +1,4 @@
--- What becomes of links where references are added and taken out, strong and weak ones alike.
+-- What becomes of links when references are added and removed, strong and weak ones alike.
 use Rattle.std.proofs.Common.{◌≡◌, List, [], ◌∷◌, ◌++◌, Bool, true, false, cond, T, ◌&&◌, ◌||◌, not, Option, Some, None, is_some, refl, sym, ap, ◌∙◌}
 use Rattle.std.specs.Prelude.{unwrap_or}
 use Rattle.std.proofs.lemmas.Bool.{and_parts}
@@ -26,7 +26,7 @@ out_of_both true true y = refl
 out_of_both true false y = refl
 out_of_both false x y = refl
 
--- what is added and listed, where it was not there, is not there without what is listed
+-- what was not there, and is added and listed, is not there without what is listed
 put_and_out : (a x y : Bool) → (x ≡ true → a ≡ false) → ((a || x) && not (y || (x || false))) ≡ (a && not y)
 put_and_out a true y none = rw (none refl) (by y)
   where
@@ -44,7 +44,7 @@ turned false true false = refl
 turned false false true = refl
 turned false false false = refl
 
--- what is there already is there besides
+-- what is there already stays there
 there_already : (a b s : Bool) → (b ≡ true → s ≡ true → a ≡ true) → a ≡ (a || (s && (b || false)))
 there_already true b s has = refl
 there_already false true true has = has refl refl
@@ -74,7 +74,7 @@ target_is strong to target is =
     let parts = and_parts (cond strong target.is_strong (not target.is_strong)) (same_key target.key to) is in
     (same_kind strong target.is_strong parts.0, sym (same_key-is target.key to parts.1))
 
--- the reference is that of the one to the other, strongly or weakly
+-- the reference is from the one to the other, strongly or weakly
 abbrev pub is_reference : Bool → LineKey → LineKey → RowReference → Bool
 is_reference strong to from r = is_target strong to r.to && same_key from r.from
 
@@ -184,7 +184,7 @@ in_weak a b new target is put true to = or_false (contains_key a to) ∙ ap (λ 
 in_weak a b new target is put false to =
     ap (λ (s : KeySet). contains_key s to) put ∙ contains-insert b target.key to ∙ ap (λ t. contains_key b to || (not t && same_key target.key to)) (sym is)
 
--- ---- what a row refers to no more
+-- ---- what a row no longer refers to
 
 either_lost : (s x y n : Bool) → ((s && (x && n)) || (s && (y && n))) ≡ (s && ((x || y) && n))
 either_lost true true y true = refl
@@ -274,7 +274,7 @@ weak_at : (schema : Schema) (to from : LineKey) (o : Option Row) → is_some_and
 weak_at schema to from None = refl
 weak_at schema to from (Some row) = refl
 
--- who refers to whom by links of rows, as the rows tell it
+-- which rows refer to which by the links of rows, as the rows say it
 pub links_at : (schema : Schema) (rows : Database) (links : Links) → AreLinksOf schema rows links → (strong : Bool) (to from : LineKey) → refers strong links to from ≡ has_target strong to (targets_at schema from (get rows from))
 links_at schema rows links linked true to from = linked.strong to from ∙ strong_at schema to from (get rows from)
 links_at schema rows links linked false to from = linked.weak to from ∙ weak_at schema to from (get rows from)
@@ -296,7 +296,7 @@ as_before true = refl
 as_before false = refl
 
 module _ (schema : Schema) (rows after : Database) (old new : Links) (changes : List (LineKey × Option Row)) (gone : List RowReference) where
-  -- what is added and listed once all changes are gone through
+  -- what has been added and listed after all changes
   pub record ArePlaced : Type 0 where
     pub adds : (strong : Bool) (to from : LineKey) → refers strong new to from ≡ (refers strong old to from || list_any (puts strong schema to from) changes)
     pub lists : (strong : Bool) (to from : LineKey) → list_any (is_reference strong to from) gone ≡ list_any (loses strong schema rows to from) changes

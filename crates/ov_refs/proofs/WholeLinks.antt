@@ -1,4 +1,4 @@
--- Whether the references of a database are whole, as its links tell.
+-- Whether the references of a database are whole, judged by its links.
 use Rattle.std.proofs.Common.{◌≡◌, ◌==◌, ℕ, length, List, [], ◌∷◌, ◌++◌, flat_map, Bool, true, false, cond, T, ◌&&◌, ◌||◌, not, ◌⊎◌, inl, inr, Option, Some, None, is_some, refl, sym, ap, ◌∙◌, Less, Greater}
 use Rattle.std.proofs.lemmas.Bool.{and_parts, and_from, or_left, or_right, or_cases, not-true, not_from_false}
 use Rattle.std.proofs.lemmas.List.Folds.{list_all-append, list_all-map}
@@ -60,7 +60,7 @@ module _ {X : Type 0} where
       by true is found later = (λ i. test (tied_same key e.0 is i, same_Some x e.1 (sym found) i)) ∙ parts.0
       by false is found later = later found
 
-  -- where all at keys pass the test, all entries do; and the other way round
+  -- if all at keys pass the test, all entries do; and the other way round
   all_entries : (m : FinMap line_cmp X) (test : LineKey × X → Bool) → ((key : LineKey) (x : X) → get m key ≡ Some x → test (key, x) ≡ true) → list_all test (entries m) ≡ true
   all_entries m test all = all_found test (entries m) (entries_sorted m) (λ key x found. all key x (get-entries m key ∙ found))
 
@@ -141,7 +141,7 @@ apart a b up = by (eq_by_cmp line_cmp b a) refl
     by false is = refl
     by true is = absurd (not_both a b up ((λ i. line_cmp (tied_same b a is i) (sym (tied_same b a is) i)) ∙ up))
 
--- what is found behind a key that is below all is above it
+-- what is found after a key that is below all is above it
 above : (key q : LineKey) (hs : List (LineKey × KeySet)) → T (below_all line_cmp key hs) → is_held q hs ≡ true → line_cmp key q ≡ Less
 above key q [] h held = cc
 above key q (e ∷ hs) h held = by (same_key e.0 q) refl held (above key q hs (right_holds _ _ h))
@@ -150,7 +150,7 @@ above key q (e ∷ hs) h held = by (same_key e.0 q) refl held (above key q hs (r
     by true is held later = ap (line_cmp key) (sym (same_key-is e.0 q is)) ∙ less_is (line_cmp key e.0) (left_holds _ _ h)
     by false is held later = later held
 
--- greater keys are found behind it as they are in all
+-- greater keys are found after it as they are in all
 find-behind : (key q : LineKey) (hs : List (LineKey × KeySet)) → T (is_sorted line_cmp hs) → line_cmp key q ≡ Less → is_held key hs ≡ true → find line_cmp q (behind key hs) ≡ find line_cmp q hs
 find-behind key q [] h up held = refl
 find-behind key q (e ∷ hs) h up held = by (same_key e.0 key) refl held (find-behind key q hs (right_holds _ _ h) up)
@@ -188,7 +188,7 @@ same_behind all hs key (r ∷ rs) h up held same =
     (find-behind key r.0 hs h (less_is (line_cmp key r.0) (left_holds _ _ up)) held ∙ same.0, same_behind all hs key rs h (right_holds _ _ up) held same.1)
 
 module _ (schema : Schema) (all : List (LineKey × KeySet)) where
-  -- the row is of a root table, or another row is among its holders
+  -- the row is in a root table or has another row among its holders
   abbrev pub is_kept : LineKey × Row → Bool
   is_kept r = is_in_root_table schema r.0 || held_in all r.0
 
@@ -210,7 +210,7 @@ module _ (schema : Schema) (all : List (LineKey × KeySet)) where
       by_root true later = later hs (right_holds _ _ sorted) h same.1
       by_root false later = by_held (is_held r.0 hs) refl later ∙ ap (λ b. b && list_all is_kept rs) held
 
--- the rows of a root table are passed over
+-- the rows of a root table are skipped
 pub root_table : (schema : Schema) (name : List ℕ) (es : List (Uuid × Row)) (rest : List (LineKey × Row)) (hs : List (LineKey × KeySet)) → is_some_and (λ table. table.is_root) (get schema.tables name) ≡ true
     → are_supported schema (in_table name es ++ rest) hs ≡ are_supported schema rest hs
 root_table schema name [] rest hs root = refl
@@ -250,7 +250,7 @@ module _ (schema : Schema) (rows : Database) (links : Links) (linked : AreLinksO
       back (inl root) = or_left (is_in_root_table schema key) (is_some_and (has_another key) (get links.strong key)) root
       back (inr one) = or_right (is_in_root_table schema key) (is_some_and (has_another key) (get links.strong key)) (is_held_by key one)
 
-  -- all rows are supported where the holders tell it
+  -- all rows are supported if the holders say so
   pub supported_is : are_supported schema (entries rows) (entries links.strong) ≡ list_all (λ r. is_supported schema rows r.0) (entries rows)
   supported_is =
       kept_each schema (entries links.strong) (entries rows) (entries links.strong) (entries_sorted rows) (entries_sorted links.strong) (same_itself (entries links.strong) (entries rows))
@@ -273,7 +273,7 @@ module _ (schema : Schema) (rows : Database) (links : Links) (linked : AreLinksO
       all-flat_map (λ (r : RowReference). contains_key rows r.to.key) (row_references schema) (entries rows)
       ∙ (λ i. list_all (λ r. list_all-map (λ (x : RowReference). contains_key rows x.to.key) (λ target. record { from = r.0; to = target }) (row_targets schema r) i) (entries rows))
 
-  -- a target that is the row is there where all are
+  -- a target that is the row is there if all are
   one_there : (strong : Bool) (to : LineKey) (targets : List Target) → has_target strong to targets ≡ true → list_all target_there targets ≡ true → contains_key rows to ≡ true
   one_there strong to [] any all = cc
   one_there strong to (t ∷ ts) any all = by (is_target strong to t) refl any (one_there strong to ts)
@@ -325,7 +325,7 @@ module _ (schema : Schema) (rows : Database) (links : Links) (linked : AreLinksO
           let set = some_is (λ (s : KeySet). contains_key s from) (get (of_kind strong) to) holder in
           sym (ap (λ b. b || contains_key rows to) (has_some set.0 from set.2)) ∙ entry_passes (of_kind strong) (is_there rows) to set.0 (all strong) set.1
 
-  -- all references are to rows that are there where the holders tell it
+  -- all references point to existing rows if the holders say so
   pub there_is : (list_all (is_there rows) (entries links.strong) && list_all (is_there rows) (entries links.weak)) ≡ list_all (λ r. contains_key rows r.to.key) (references schema rows)
   there_is =
       both_ways (list_all (is_there rows) (entries links.strong) && list_all (is_there rows) (entries links.weak)) (list_all all_there (entries rows))

@@ -1,4 +1,4 @@
--- Who refers to which row, as maps. What names no source is our own.
+-- Which rows refer to which, as maps.
 use Rattle.std.specs.Prelude.{◌==◌, List, map, Bool, if◌then◌else◌, Option, Some, None, unwrap_or}
 use Rattle.std.specs.Coded.{Coded, coded×, coded_ℕ, coded_list}
 use base.Stored.{coded_unit}
@@ -19,7 +19,7 @@ marked key = (key, tt)
 abbrev pub set_of_keys : List LineKey → KeySet
 set_of_keys keys = map.from_sorted {R = line_cmp} (map marked keys)
 
--- for each row those that refer to it
+-- for each row, the rows that refer to it
 abbrev pub Holders : Type 0
 Holders = FinMap line_cmp KeySet
 
@@ -27,15 +27,15 @@ Holders = FinMap line_cmp KeySet
 abbrev pub holders_of : List (LineKey × KeySet) → Holders
 holders_of es = map.from_sorted {R = line_cmp} es
 
--- the one refers to the other
+-- `from` refers to `to`
 abbrev pub is_holder : Holders → LineKey → LineKey → Bool
 is_holder holders to from = is_some_and (λ set. contains_key set from) (get holders to)
 
--- with one more that refers to the row
+-- with `from` among the rows that refer to `to`
 abbrev pub with_holder : LineKey → LineKey → Holders → Holders
 with_holder to from holders = insert holders to (insert (unwrap_or (get holders to) empty) from tt)
 
--- without the one among those that refer to the row
+-- without `from` among the rows that refer to `to`
 abbrev pub fewer : Option KeySet → LineKey → LineKey → Holders → Holders
 fewer None to from holders = holders
 fewer (Some set) to from holders = insert holders to (remove set from)
@@ -43,12 +43,12 @@ fewer (Some set) to from holders = insert holders to (remove set from)
 abbrev pub with_fewer : LineKey → LineKey → Holders → Holders
 with_fewer to from holders = fewer (get holders to) to from holders
 
--- without the one; where it was the last one, the row is listed no more
+-- without `from`; if it was the last one, `to` is no longer listed
 abbrev pub without : Option KeySet → LineKey → LineKey → Holders → Holders
 without None to from holders = holders
 without (Some set) to from holders = if len (remove set from) == 0 then remove holders to else insert holders to (remove set from)
 
--- without one that refers to the row
+-- without `from` among the rows that refer to `to`; if it was the last one, `to` is no longer listed
 abbrev pub without_holder : LineKey → LineKey → Holders → Holders
 without_holder to from holders = without (get holders to) to from holders
 

@@ -1,4 +1,4 @@
--- Who refers to whom in the rows of a database, and how that is collected row by row. What names no source is our own.
+-- Which rows of a database refer to which, and how that is collected row by row.
 use Rattle.std.specs.Prelude.{◌≡◌, ℕ, List, [], ◌∷◌, Bool, if◌then◌else◌, unwrap_or, refl}
 use Rattle.std.specs.Coded.{Coded, code_by, coded×}
 use Rattle.std.specs.FinMap.{empty, get, remove, len}
@@ -9,7 +9,7 @@ use Rattle.ov_specs.specs.rows.Lines.{LineKey}
 use Rattle.ov_specs.specs.schema.Schema.{is_some_and}
 use Rattle.ov_specs.specs.schema.SchemaTypes.{Schema}
 
--- who refers to which row, strongly and weakly
+-- which rows refer to which, strongly and weakly
 pub record Links : Type 0 where
   pub strong : Holders
   pub weak : Holders
@@ -18,17 +18,17 @@ pub record Links : Type 0 where
 abbrev pub links_code : Coded Links
 links_code = code_by (Holders × Holders) (coded× holders_code holders_code) (λ l. (l.strong, l.weak)) (λ p. record { strong = p.0; weak = p.1 }) (λ _. refl)
 
--- nobody refers to any row
+-- no row refers to any row
 abbrev pub AreNone : Links → Type 0
 AreNone links = (links.strong ≡ empty) × (links.weak ≡ empty)
 
--- ---- of which rows they are
+-- ---- which rows they are of
 
--- the row of the one key refers strongly to that of the other
+-- the row `from` refers strongly to the row `to`
 abbrev pub is_strong_in : Schema → Database → LineKey → LineKey → Bool
 is_strong_in schema rows to from = is_some_and (λ row. refers_strongly schema (from, row) to) (get rows from)
 
--- it refers weakly to it
+-- the row `from` refers weakly to the row `to`
 abbrev pub is_weak_in : Schema → Database → LineKey → LineKey → Bool
 is_weak_in schema rows to from = is_some_and (λ row. refers_weakly schema (from, row) to) (get rows from)
 
@@ -44,14 +44,14 @@ abbrev pub without_reference : RowReference → Links → Links
 without_reference r links =
     if r.to.is_strong then record links { strong = without_holder r.to.key r.from links.strong } else record links { weak = without_holder r.to.key r.from links.weak }
 
--- without all of these
+-- without these references
 abbrev pub without_references : List RowReference → Links → Links
 without_references [] links = links
 without_references (r ∷ rs) links = without_references rs (without_reference r links)
 
 -- ---- support
 
--- how many different rows other than itself refer strongly to the row
+-- the number of different rows, other than itself, that refer strongly to the row
 abbrev pub strong_count : Links → LineKey → ℕ
 strong_count links to = len (remove (unwrap_or (get links.strong to) empty) to)
 

@@ -1,4 +1,4 @@
--- What becomes of links where rows change, strong and weak references alike; for private clauses. What names no source is our own.
+-- What becomes of links when rows change, strong and weak references alike; for private clauses.
 use Rattle.std.specs.Prelude.{◌≡◌, ◌&&◌, ◌||◌, not, List, [], ◌∷◌, Bool, if◌then◌else◌, Option, Some, None}
 use Rattle.std.specs.FinMap.{contains_key}
 use Rattle.std.specs.List.{list_any, flat_map}
@@ -15,7 +15,7 @@ use Rattle.ov_specs.specs.schema.SchemaTypes.{Schema}
 abbrev pub is_target : Bool → LineKey → Target → Bool
 is_target strong to target = (if strong then target.is_strong else not target.is_strong) && same_key target.key to
 
--- one of them is
+-- one of the targets is the row
 abbrev pub has_target : Bool → LineKey → List Target → Bool
 has_target strong to targets = list_any (is_target strong to) targets
 
@@ -29,21 +29,21 @@ abbrev pub lost_one : LineKey → KeySet → KeySet → Target → List RowRefer
 lost_one from strong weak target =
     if contains_key (if target.is_strong then strong else weak) target.key then [] else record { from = from; to = target } ∷ []
 
--- what the row referred to before, and doesn't after
+-- the references that the row had before and does not have after
 abbrev pub lost : LineKey → List Target → List Target → List RowReference
 lost from before after = flat_map (λ target. if has_target target.is_strong target.key after then [] else record { from = from; to = target } ∷ []) before
 
 -- ---- links
 
--- the one refers to the other, strongly or weakly
+-- `from` refers to `to`, strongly or weakly
 abbrev pub refers : Bool → Links → LineKey → LineKey → Bool
 refers strong links to from = is_holder (if strong then links.strong else links.weak) to from
 
--- by both the same rows refer to the same
+-- in both, the same rows refer to the same rows
 abbrev pub AreAlike : Links → Links → Type 0
 AreAlike a b = (strong : Bool) (to from : LineKey) → refers strong a to from ≡ refers strong b to from
 
--- as before, and the row refers to these besides
+-- as before, and the row also refers to these
 abbrev pub Adds : LineKey → List Target → Links → Links → Type 0
 Adds by targets before after =
     (strong : Bool) (to from : LineKey) → refers strong after to from ≡ (refers strong before to from || (same_key from by && has_target strong to targets))

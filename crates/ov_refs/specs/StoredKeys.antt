@@ -1,10 +1,10 @@
--- Where the keys of a set lie. What names no source is our own.
+-- How the keys of a set are stored.
 use Rattle.std.specs.Prelude.{List, [], ◌∷◌}
 use Rattle.ov_refs.specs.declared.key_set.Keys.{Keys}
 use Rattle.ov_refs.specs.declared.key_set.Keys.TheVariants.{Empty, One, Many}
 use Rattle.ov_specs.specs.rows.Lines.{LineKey}
 
--- the keys of a set, wherever they lie
+-- the keys of a set, wherever they are stored
 abbrev pub keys_in : Keys → List LineKey
 keys_in Empty = []
 keys_in (One key) = key ∷ []

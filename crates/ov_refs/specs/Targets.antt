@@ -1,4 +1,4 @@
--- What is referred to, as the code keeps it and finds it. What names no source is our own.
+-- The targets of references, as the code stores and finds them.
 use Rattle.std.specs.Prelude.{Bool, List, [], Option, Some, None, refl}
 use Rattle.std.specs.Coded.{Coded, code_by, coded×, coded_bool, coded_ℕ, coded_list}
 use Rattle.std.specs.FinMap.{keys, values}

@@ -1,4 +1,4 @@
--- Whether the references of a database are whole, as its links tell; for private clauses. What names no source is our own.
+-- Whether the references of a database are whole, judged by its links; for private clauses.
 use Rattle.std.specs.Prelude.{◌&&◌, ◌||◌, ◌==◌, not, List, [], ◌∷◌, Bool, true, false, if◌then◌else◌}
 use Rattle.std.specs.FinMap.{contains_key, remove, len}
 use Rattle.ov_refs.specs.Holding.{KeySet}
@@ -7,7 +7,7 @@ use Rattle.ov_specs.specs.rows.Database.{Row, Database, same_key}
 use Rattle.ov_specs.specs.rows.Lines.{LineKey}
 use Rattle.ov_specs.specs.schema.SchemaTypes.{Schema}
 
--- the row is there, or nobody refers to it
+-- the row exists, or no row refers to it
 abbrev pub is_there : Database → LineKey × KeySet → Bool
 is_there rows h = len h.1 == 0 || contains_key rows h.0
 
@@ -15,17 +15,17 @@ is_there rows h = len h.1 == 0 || contains_key rows h.0
 abbrev pub has_another : LineKey → KeySet → Bool
 has_another key set = not (len (remove set key) == 0)
 
--- the holders behind those of the row
+-- the holders after those of the row
 abbrev pub behind : LineKey → List (LineKey × KeySet) → List (LineKey × KeySet)
 behind key [] = []
 behind key (h ∷ hs) = if same_key h.0 key then hs else behind key hs
 
--- another row is among those of the row
+-- another row is among the holders of the row
 abbrev pub is_held : LineKey → List (LineKey × KeySet) → Bool
 is_held key [] = false
 is_held key (h ∷ hs) = if same_key h.0 key then has_another key h.1 else is_held key hs
 
--- each of these rows is of a root table, or is held so, by holders behind those of the rows before it
+-- each of these rows is in a root table or has another row among its holders, which come after those of the rows before it
 abbrev pub are_supported : Schema → List (LineKey × Row) → List (LineKey × KeySet) → Bool
 are_supported schema [] hs = true
 are_supported schema (r ∷ rs) hs =

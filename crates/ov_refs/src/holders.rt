@@ -9,7 +9,7 @@ use std::alloc::{AllocError, Global};
 use std::collections::BTreeMap;
 use std::marker::Model;
 
-/// For each row that is referred to, and for what is no row yet or no more, those that refer to it.
+/// For each row that is referred to, even if it does not exist yet or any more, the rows that refer to it.
 #[derive(Drop)]
 pub struct Holders {
     of: BTreeMap<RowKey, KeySet>,
@@ -32,7 +32,7 @@ impl Model for Holders {
 }
 
 impl Holders {
-    /// Nobody refers to any row.
+    /// No row refers to any row.
     pub fn new(alloc: Global) -> Holders
         ensures { result ≡ empty }
     {
@@ -41,14 +41,14 @@ impl Holders {
         }
     }
 
-    /// Those that refer to the row.
+    /// The rows that refer to the row.
     pub fn of(&self, to: &RowKey) -> Option<&KeySet>
         ensures { option_copied result ≡ get self.now to.now }
     {
         self.of.get(to)
     }
 
-    /// Whether the one refers to the other.
+    /// Whether `from` refers to `to`.
     pub fn has(&self, to: &RowKey, from: &RowKey) -> bool
         ensures { result ≡ is_holder self.now to.now from.now }
     {
@@ -58,14 +58,14 @@ impl Holders {
         }
     }
 
-    /// All rows that somebody refers to, ascending, with those that do.
+    /// All rows that are referred to, ascending, each with the rows that refer to it.
     pub fn map(&self) -> &BTreeMap<RowKey, KeySet>
         ensures { result.now.entries ≡ entries self.now }
     {
         &self.of
     }
 
-    /// One more that refers to the row, unless it does already. Where a growth is refused, nothing is changed.
+    /// Adds `from` to the rows that refer to `to`, unless it is there. If an allocation fails, nothing is changed.
     pub fn add(&mut self, alloc: Global, to: RowKey, from: RowKey) -> Result<(), AllocError>
         ensures ok { OnOk result (self.new ≡ with_holder to from self.old) }
         ensures err { OnErr result (self.new ≡ self.old) }
@@ -81,7 +81,7 @@ impl Holders {
         }
     }
 
-    /// One fewer, if it refers to the row. A row that nobody is left to refer to is listed no more.
+    /// Removes `from` from the rows that refer to `to`, if it is there. If none is left, `to` is no longer listed.
     pub fn remove(&mut self, to: &RowKey, from: &RowKey)
         ensures { self.new ≡ without_holder to.now from.now self.old }
     {
@@ -90,7 +90,8 @@ impl Holders {
         }
     }
 
-    /// One fewer, if it refers to the row; whether the row is listed and nobody refers to it.
+    /// Removes `from` from the rows that refer to `to`, if it is there; returns whether `to` is listed and no row refers to
+    /// it.
     fn take_from(&mut self, to: &RowKey, from: &RowKey) -> bool
         ensures fewer { self.new ≡ with_fewer to.now from.now self.old }
         ensures none { result ≡ is_some_and (λ set. len (remove set from.now) == 0) (get self.old to.now) }

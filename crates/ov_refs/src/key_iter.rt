@@ -9,14 +9,14 @@ use std::collections::BTreeSet;
 use std::collections::btree_set::Iter;
 use std::marker::Model;
 
-/// The keys that are still to come.
+/// The remaining keys.
 #[derive(Drop)]
 enum Left<'a> {
     OfFew(Option<&'a RowKey>),
     OfMany(Iter<'a, RowKey>),
 }
 
-/// The keys of a set, ascending, which contracts see as the list of those that are still to come.
+/// An iterator over the keys of a set, ascending. Contracts see it as the list of the remaining keys.
 #[derive(Drop)]
 pub struct KeyIter<'a> {
     left: Left<'a>,
@@ -43,7 +43,7 @@ impl<'a> KeyIter<'a> {
         KeyIter { left: OfFew(key) }
     }
 
-    /// Those of the set.
+    /// The keys of the set.
     pub(crate) fn of_many(keys: &'a BTreeSet<RowKey>) -> KeyIter<'a>
         ensures { result ≡ keys.now.keys }
     {

@@ -11,7 +11,7 @@ use std::alloc::{AllocError, Global};
 use std::collections::BTreeSet;
 use std::marker::Model;
 
-/// Where the keys of a set lie: one alone in the set itself, others in memory of their own.
+/// Stores the keys of a set: a single one inline, several in a tree.
 #[derive(Drop)]
 enum Keys {
     Empty,
@@ -19,7 +19,7 @@ enum Keys {
     Many(BTreeSet<RowKey>),
 }
 
-/// A set of rows, by their keys. Most rows that are referred to have one holder, so that one key takes no memory of its own.
+/// A set of rows, by their keys. Most rows that are referred to have one holder, so a single key is stored inline.
 pub struct KeySet {
     stored: Keys,
 }
@@ -42,14 +42,14 @@ impl Model for KeySet {
 }
 
 impl Drop for KeySet {
-    // A drop of its own, so that whoever drops a set need not know where its keys lie.
+    // An explicit drop, so that code that drops a set need not know where its keys are stored.
     fn drop(self) {
         let KeySet { stored } = self;
         drop(stored);
     }
 }
 
-/// These two keys, of which neither is the other.
+/// The set of these two keys, which differ.
 fn pair(alloc: Global, first: &RowKey, second: RowKey) -> Result<BTreeSet<RowKey>, AllocError>
     ensures keys { IfOk result (λ set. set.keys ≡ insert_key line_cmp (first.now ∷ []) second) }
     ensures ordered { IfOk result (λ set. IsStrictlySortedBy line_cmp set.keys) }
@@ -61,14 +61,14 @@ fn pair(alloc: Global, first: &RowKey, second: RowKey) -> Result<BTreeSet<RowKey
 }
 
 impl KeySet {
-    /// No row.
+    /// The empty set.
     pub fn new() -> KeySet
         ensures { result ≡ empty }
     {
         KeySet { stored: Empty }
     }
 
-    /// How many rows it has.
+    /// The number of rows in the set.
     fn len(&self) -> usize
         ensures { result ≡ len self.now }
     {
@@ -79,14 +79,14 @@ impl KeySet {
         }
     }
 
-    /// Whether it has no row.
+    /// Whether the set is empty.
     pub fn is_empty(&self) -> bool
         ensures { result ≡ (len self.now == 0) }
     {
         self.len() == 0
     }
 
-    /// Whether it has the row.
+    /// Whether the set has the row.
     pub fn contains(&self, key: &RowKey) -> bool
         ensures { result ≡ contains_key self.now key.now }
     {
@@ -97,7 +97,7 @@ impl KeySet {
         }
     }
 
-    /// How many it has without this one.
+    /// The number of rows in the set, not counting this one.
     pub fn count_beside(&self, key: &RowKey) -> usize
         ensures { result ≡ len (remove self.now key.now) }
     {
@@ -109,7 +109,7 @@ impl KeySet {
         }
     }
 
-    /// All of them, ascending.
+    /// All keys, ascending.
     pub fn iter(&self) -> KeyIter<'_>
         ensures { result ≡ keys self.now }
     {
@@ -120,7 +120,7 @@ impl KeySet {
         }
     }
 
-    /// Adds the row, unless it is there. Where a growth is refused, nothing is changed.
+    /// Adds the row, unless it is there. If an allocation fails, nothing is changed.
     pub fn insert(&mut self, alloc: Global, key: RowKey) -> Result<(), AllocError>
         ensures ok { OnOk result (self.new ≡ insert self.old key tt) }
         ensures err { OnErr result (self.new ≡ self.old) }
@@ -139,7 +139,7 @@ impl KeySet {
         Ok(())
     }
 
-    /// Takes the row out, if it is there.
+    /// Removes the row, if it is there.
     pub fn remove(&mut self, key: &RowKey)
         ensures { self.new ≡ remove self.old key.now }
     {

@@ -1,5 +1,4 @@
-//! What rows refer to, and who refers to a row (RFC 7047, 3.2, `<base-type>`, refTable and refType). What names no source is
-//! our own.
+//! What rows refer to, and which rows refer to a row (RFC 7047, 3.2, `<base-type>`, refTable and refType).
 #![tactic(auto)]
 
 mod holders;

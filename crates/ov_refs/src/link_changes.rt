@@ -3,17 +3,17 @@ ghost use Rattle.std.specs.Prelude.{◌≡◌, []};
 use crate::reference::RowReference;
 use std::alloc::Global;
 
-/// What a commit has added to the links already, and what it will take from them.
+/// What a commit has already added to the links, and what it will remove from them.
 #[derive(Drop)]
 pub struct LinkChanges {
-    /// What was not there before.
+    /// The references that were not there before.
     pub added: Vec<RowReference>,
-    /// What rows referred to before, and don't after it.
+    /// The references that rows had before the commit and do not have after it.
     pub gone: Vec<RowReference>,
 }
 
 impl LinkChanges {
-    /// Nothing.
+    /// No changes.
     pub fn new(alloc: Global) -> LinkChanges
         ensures added { result.added.items ≡ [] }
         ensures gone { result.gone.items ≡ [] }

@@ -19,7 +19,7 @@ use std::alloc::{AllocError, Global};
 use std::collections::BTreeMap;
 use std::marker::Model;
 
-/// Who refers to which row, strongly and weakly (RFC 7047, 3.2, `<base-type>`, refType).
+/// Which rows refer to which, strongly and weakly (RFC 7047, 3.2, `<base-type>`, refType).
 #[derive(Drop)]
 pub struct Links {
     strong: Holders,
@@ -38,7 +38,7 @@ impl Model for Links {
 }
 
 impl Links {
-    /// Nobody refers to any row.
+    /// No row refers to any row.
     pub fn new(alloc: Global) -> Links
         ensures { AreNone result }
     {
@@ -48,21 +48,21 @@ impl Links {
         }
     }
 
-    /// Those that refer strongly to rows.
+    /// For each row, the rows that refer strongly to it.
     pub fn strong(&self) -> &Holders
         ensures { result.now ≡ self.now.strong }
     {
         &self.strong
     }
 
-    /// Those that refer weakly to rows.
+    /// For each row, the rows that refer weakly to it.
     pub fn weak(&self) -> &Holders
         ensures { result.now ≡ self.now.weak }
     {
         &self.weak
     }
 
-    /// How many different rows other than itself refer strongly to the row.
+    /// The number of different rows, other than itself, that refer strongly to the row.
     pub fn strong_count(&self, to: &RowKey) -> usize
         ensures { result ≡ strong_count self.now to.now }
     {
@@ -83,7 +83,7 @@ impl Links {
         }
     }
 
-    /// One more that refers to the row of the target. Where a growth is refused, nothing is changed.
+    /// Adds the reference from the row to the target. If an allocation fails, nothing is changed.
     fn add_target(&mut self, alloc: Global, from: &RowKey, target: Target) -> Result<(), AllocError>
         ensures ok { OnOk result (self.new ≡ with_target from.now target self.old) }
         ensures err { OnErr result (self.new ≡ self.old) }
@@ -96,7 +96,7 @@ impl Links {
         }
     }
 
-    /// With what the columns of the row of this key refer to.
+    /// Adds the references of the row of this key, which has these columns.
     fn add_row(
         &mut self,
         alloc: Global,
@@ -112,7 +112,7 @@ impl Links {
         Ok(())
     }
 
-    /// With what the rows of a table refer to.
+    /// Adds the references of the rows of a table.
     fn add_table(
         &mut self,
         alloc: Global,
@@ -129,7 +129,7 @@ impl Links {
         Ok(())
     }
 
-    /// Who refers to whom by these rows. All of them are looked at.
+    /// The links of these rows. Reads all of them.
     pub fn of(alloc: Global, schema: &Schema, rows: &Rows) -> Result<Links, AllocError>
         ensures { IfOk result (AreLinksOf schema.now rows.now) }
     {
@@ -140,7 +140,7 @@ impl Links {
         Ok(links)
     }
 
-    /// Adds that the row refers to the target, and lists it, unless that is known.
+    /// Adds the reference from the row to the target and lists it, unless it is there.
     fn place_target(
         &mut self,
         alloc: Global,
@@ -161,7 +161,7 @@ impl Links {
         Ok(())
     }
 
-    /// Adds that the row refers to the targets, and lists those of which that was not known.
+    /// Adds the references from the row to the targets, and lists those that were not there.
     fn place_targets(
         &mut self,
         alloc: Global,
@@ -178,8 +178,8 @@ impl Links {
         Ok(())
     }
 
-    /// Adds what the changed row refers to, and lists it where it was not there before. Lists also what the row referred to before
-    /// and doesn't after.
+    /// Adds the references of the changed row, and lists those that were not there before. Also lists those that the row had
+    /// before and does not have after.
     fn place_change(
         &mut self,
         alloc: Global,
@@ -200,11 +200,11 @@ impl Links {
         after.push_others(alloc, key, before, &mut room.gone)
     }
 
-    /// Makes room for what a commit of these changes makes of the links: adds what the changed rows refer to, and lists it where it
-    /// was not there before. Lists also what the rows of these keys referred to before and don't after.
+    /// Prepares the links for a commit of these changes: adds the references of the changed rows, and lists those that were
+    /// not there before. Also lists those that the rows of these keys had before and do not have after.
     ///
-    /// Where a growth is refused, what was added till then is listed. So taking out what was added gives back who referred to whom,
-    /// and taking out what is gone gives who does after the changes; neither takes memory.
+    /// If an allocation fails, what was added so far is listed. So removing what was added restores the links of the rows
+    /// before the changes, and removing what is gone gives those of the rows after them; neither allocates.
     pub fn place(
         &mut self,
         alloc: Global,
@@ -224,7 +224,7 @@ impl Links {
         Ok(())
     }
 
-    /// Without the reference.
+    /// Removes the reference.
     fn remove(&mut self, reference: &RowReference)
         ensures { self.new ≡ without_reference reference.now self.old }
     {
@@ -235,7 +235,7 @@ impl Links {
         }
     }
 
-    /// Without these references. No memory is taken.
+    /// Removes these references. Allocates nothing.
     pub fn take_out(&mut self, references: &[RowReference])
         ensures { self.new ≡ without_references references.now self.old }
     {

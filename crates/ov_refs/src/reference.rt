@@ -24,7 +24,7 @@ impl Model for RowReference {
 }
 
 impl RowReference {
-    /// The reference of the row of this key to the target.
+    /// The reference from the row of this key to the target.
     pub(crate) fn new(alloc: Global, from: &RowKey, to: Target) -> Result<RowReference, AllocError>
         ensures { IfOk result (λ reference. reference ≡ record { from = from.now; to = to }) }
     {

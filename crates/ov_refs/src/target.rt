@@ -4,7 +4,7 @@ use ov_rows::RowKey;
 use std::alloc::{AllocError, Global};
 use std::marker::Model;
 
-/// The row that a reference is to (RFC 7047, 3.2, `<base-type>`).
+/// The row that a reference points to (RFC 7047, 3.2, `<base-type>`).
 #[derive(Drop)]
 pub struct Target {
     pub key: RowKey,
@@ -24,7 +24,7 @@ impl Model for Target {
 }
 
 impl Target {
-    /// The same target once more.
+    /// A copy of the target.
     pub(crate) fn copied(&self, alloc: Global) -> Result<Target, AllocError>
         ensures { IfOk result (λ target. target ≡ self.now) }
     {

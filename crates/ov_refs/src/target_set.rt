@@ -10,7 +10,7 @@ use crate::target::Target;
 use ov_rows::RowKey;
 use std::alloc::{AllocError, Global};
 
-/// What a row refers to, without order.
+/// The targets of a row, unordered.
 #[derive(Drop)]
 pub(crate) struct TargetSet {
     strong: KeySet,
@@ -18,7 +18,7 @@ pub(crate) struct TargetSet {
 }
 
 impl TargetSet {
-    /// Nothing.
+    /// The empty set.
     fn new() -> TargetSet
         ensures { (strong : Bool) (to : LineKey) → contains_key (if strong then result.strong else result.weak) to ≡ false }
     {
@@ -39,7 +39,7 @@ impl TargetSet {
         }
     }
 
-    /// Those of the list.
+    /// The targets of the list.
     pub(crate) fn of(alloc: Global, targets: Vec<Target>) -> Result<TargetSet, AllocError>
         ensures { IfOk result (λ set. (strong : Bool) (to : LineKey) → contains_key (if strong then set.strong else set.weak) to ≡ has_target strong to targets.items) }
     {
@@ -50,7 +50,7 @@ impl TargetSet {
         Ok(set)
     }
 
-    /// Whether it has the target.
+    /// Whether the set has the target.
     fn contains(&self, target: &Target) -> bool
         ensures { result ≡ contains_key (if target.now.is_strong then self.now.strong else self.now.weak) target.now.key }
     {
@@ -61,7 +61,7 @@ impl TargetSet {
         }
     }
 
-    /// Lists the target as one of the row of this key, unless the set has it.
+    /// Lists a reference from the row of this key to the target, unless the set has the target.
     fn push_other(
         &self,
         alloc: Global,
@@ -77,7 +77,7 @@ impl TargetSet {
         Ok(())
     }
 
-    /// Lists the targets that the set doesn't have as those of the row of this key.
+    /// Lists references from the row of this key to the targets that the set does not have.
     pub(crate) fn push_others(
         &self,
         alloc: Global,

@@ -175,14 +175,14 @@ fn targets_in(alloc: Global, table: &Table, columns: &Columns) -> Result<Vec<Tar
     let mut place: usize = 0;
     for (name, datum) in columns.names().iter().zip(columns.values()) {
         push_column(alloc, &mut targets, table, place, name.as_str(), datum)?;
-        // It is only where the column is looked for first, so any place would do.
+        // The place only says where to look for the column first, so any place would do.
         place = place.wrapping_add(1);
     }
     Ok(targets)
 }
 
-/// What these columns of a row of the table of this name refer to: column by column in ascending order of their names, the keys
-/// of a map before its values, and each time that it is referred to (RFC 7047, 3.2, `<base-type>`, refTable).
+/// What these columns of a row of the table of this name refer to, with repeats: column by column in ascending order of
+/// their names, the keys of a map before its values (RFC 7047, 3.2, `<base-type>`, refTable).
 pub fn targets_of(
     alloc: Global,
     schema: &Schema,

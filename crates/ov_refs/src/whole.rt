@@ -18,7 +18,7 @@ use ov_schema::Schema;
 use std::collections::btree_map::Iter;
 use uuid::Uuid;
 
-/// Whether each row that somebody refers to is there.
+/// Whether each row that is referred to exists.
 fn are_there(rows: &Rows, holders: &Holders) -> bool
     ensures { result ≡ list_all (spec.is_there rows.now) (entries holders.now) }
 {
@@ -30,15 +30,15 @@ fn are_there(rows: &Rows, holders: &Holders) -> bool
     true
 }
 
-/// Whether each row that somebody refers to, strongly or weakly, is there.
+/// Whether each row that is referred to, strongly or weakly, exists.
 fn are_all_there(rows: &Rows, links: &Links) -> bool
     ensures { result ≡ (list_all (spec.is_there rows.now) (entries links.now.strong) && list_all (spec.is_there rows.now) (entries links.now.weak)) }
 {
     are_there(rows, links.strong()) && are_there(rows, links.weak())
 }
 
-/// Goes on to what is behind the holders of the row, and tells whether another row is among them. Where the row has no holders
-/// there, nothing is left.
+/// Advances past the holders of the row, and returns whether another row is among them. If the row has no holders there,
+/// nothing is left.
 fn is_held(holders: &mut Iter<'_, RowKey, KeySet>, table: &str, id: Uuid) -> bool
     ensures held { result ≡ spec.is_held (table.now, id) holders.old }
     ensures behind { IsTrue result → holders.new ≡ spec.behind (table.now, id) holders.old }
@@ -61,7 +61,7 @@ fn is_root_table(schema: &Schema, name: &str) -> bool
     }
 }
 
-/// Whether the table is a root table, or each of its rows has another row among its holders, which are looked for in ascending
+/// Whether the table is a root table, or each of its rows has another row among its holders, which are searched in ascending
 /// order.
 fn is_table_supported(
     schema: &Schema,
@@ -82,8 +82,8 @@ fn is_table_supported(
     true
 }
 
-/// Whether each row is of a root table, or another row is among its holders. Rows and holders ascend alike, so that both are gone
-/// through once.
+/// Whether each row is in a root table or has another row among its holders. Rows and holders are in the same order, so one
+/// pass over both is enough.
 fn are_supported(schema: &Schema, rows: &Rows, strong: &Holders) -> bool
     ensures { result ≡ spec.are_supported schema.now (entries rows.now) (entries strong.now) }
 {
@@ -96,8 +96,9 @@ fn are_supported(schema: &Schema, rows: &Rows, strong: &Holders) -> bool
     true
 }
 
-/// Whether each reference is to a row that is there, and each row is of a root table, or another row refers strongly to it
-/// (RFC 7047, 3.2, `<base-type>`, refType, and `<table-schema>`, isRoot). All rows and links are looked at, and no memory is taken.
+/// Whether each reference points to an existing row, and each row is in a root table or is referred to strongly by another
+/// row (RFC 7047, 3.2, `<base-type>`, refType, and `<table-schema>`, isRoot). Visits all rows and links, and allocates
+/// nothing.
 pub fn are_references_whole(schema: &Schema, rows: &Rows, links: &Links) -> bool
     requires linked { AreLinksOf schema.now rows.now links.now }
     ensures { result ≡ (list_all (λ r. contains_key rows.now r.to.key) (references schema.now rows.now) && list_all (λ r. is_supported schema.now rows.now r.0) (entries rows.now)) }

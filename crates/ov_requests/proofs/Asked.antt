@@ -18,7 +18,7 @@ use Rattle.ov_requests.specs.Params.{is_one, are_three}
 use Rattle.ov_requests.specs.declared.answer.Work as code
 use Rattle.ov_requests.specs.declared.answer.Work.TheVariants as kinds
 
--- a refusal is the work, where the work is refused with this text
+-- a refusal is the work, if the work is refused with this text
 pub refused_asked : (s : State) (session : ℕ) (id : Data) (text : List ℕ) (asked : Work) (w : code.Work) → w ≡ kinds.Answer (Some (frame (failure_tree id text))) → asked ≡ refused id text → IsWork s session asked w
 refused_asked s session id text asked w is same = rw (is, same) refl
 
@@ -62,7 +62,7 @@ unknown_method s session id method params not_list_dbs not_get_schema not_transa
 
 -- ---- transactions
 
--- whether one waits, by the text of its id
+-- whether a transaction waits, by the text of its id
 pub waiting_by_text : (s : State) (session : ℕ) (id : Data) (text : List ℕ) (waiting : List Outstanding) (r : Bool) → s.outstanding ≡ waiting → text ≡ compact_text id → r ≡ list_any (has_text session text) waiting → is_waiting s session id ≡ r
 waiting_by_text s session id text waiting r same text_is r_is =
     ap (list_any (is_request session id)) same ∙ (ap (λ (t : List ℕ). list_any (has_text session t) waiting) (sym text_is) ∙ sym r_is)

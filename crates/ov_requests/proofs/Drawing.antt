@@ -1,4 +1,4 @@
--- One draw more at the end.
+-- One more draw at the end.
 use Rattle.std.proofs.Common.{List, ℕ, [], ◌∷◌, ◌++◌, refl, subst}
 use Rattle.ov_requests.specs.Drawing.{DrawsFrom}
 

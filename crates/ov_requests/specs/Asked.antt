@@ -1,4 +1,4 @@
--- What a message asks for, in the code as in the definitions. What names no source is our own.
+-- What a message asks for, in the code as in the definitions.
 use Rattle.std.specs.Prelude.{◌≡◌, ℕ, map, option_to_list}
 use Rattle.serde_json.specs.Written.{compact_text}
 use Rattle.ov_specs.specs.wire.Frame.{frame}
@@ -9,8 +9,9 @@ use Rattle.ov_locks.specs.Calls.{lock_call_view}
 use Rattle.ov_requests.specs.declared.answer.Work as code
 use Rattle.ov_requests.specs.declared.answer.Work.TheVariants as kinds
 
--- The work of the code, of a session in a state, is what the machine is asked for: its frame is the machine's answer, or it is the same
--- transaction, or to cancel the one with the same id; what is asked of a lock or of a monitor is refused where the machine refuses it.
+-- The work of the code, of a session in a state, is what the machine is asked for: its frame is the machine's answer, or it
+-- is the same transaction, or to cancel the one with the same id; a call on a lock or a monitor is refused if the machine
+-- refuses it.
 abbrev pub IsWork : State → ℕ → Work → code.Work → Type 0
 IsWork s session (Answers trees) (kinds.Answer bytes) = map frame trees ≡ option_to_list bytes
 IsWork s session asked (kinds.Answer bytes) = ⊥

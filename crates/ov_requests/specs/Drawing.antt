@@ -1,4 +1,4 @@
--- Identifiers drawn of a source, one after another.
+-- Identifiers drawn from a source, one after another.
 use Rattle.std.specs.Prelude.{◌≡◌, List, [], ◌∷◌}
 use Rattle.ov_specs.specs.values.Uuid.{Uuid}
 

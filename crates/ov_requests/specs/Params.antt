@@ -1,14 +1,14 @@
--- The params of a call, by how many they are. What names no source is our own.
+-- The params of a call, by their number.
 use Rattle.std.specs.Prelude.{Bool, true, false}
 use Rattle.serde_json.specs.Data.{Items, no_items, item}
 
--- just one
+-- exactly one
 abbrev pub is_one : Items → Bool
 is_one no_items = false
 is_one (item d no_items) = true
 is_one (item d (item e items)) = false
 
--- just three
+-- exactly three
 abbrev pub are_three : Items → Bool
 are_three no_items = false
 are_three (item d no_items) = false

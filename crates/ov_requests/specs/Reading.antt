@@ -1,4 +1,4 @@
--- A transaction that was read, as contracts see it. What names no source is our own.
+-- A transaction that has been read, as contracts see it.
 use Rattle.std.specs.Prelude.{List, refl}
 use Rattle.std.specs.Coded.{Coded, code_by, coded×, coded_ℕ, coded_list}
 use Rattle.serde_json.specs.Data.{Items}

@@ -19,24 +19,24 @@ use ov_schema::Schema;
 use serde_json::{Value, json};
 use std::alloc::{AllocError, Global};
 
-/// What a message asks for (RFC 7047, 4.1). Each but the first has the id that it is answered under.
+/// What a message asks for (RFC 7047, 4.1). Each variant but the first has the id for its reply.
 #[derive(Drop)]
 pub enum Work {
-    /// To be answered at once by this frame, if it is answered.
+    /// A reply at once with this frame, or no reply.
     Answer(Option<Bytes>),
     /// A transaction of these operations.
     Transact(Tree, Trees),
-    /// To cancel the transaction of the session that waits with this id, which has this text.
+    /// To cancel the session's waiting transaction with this id, which has this text.
     Cancel(Tree, Bytes),
     /// To ask for the lock of this name, or to give it up.
     Lock(LockCall, Tree, Text),
-    /// A monitor of this name, and its requests.
+    /// A monitor of this name, with its requests.
     Monitor(Tree, Tree, Tree),
     /// To cancel the monitor of this name.
     CancelMonitor(Tree, Tree),
 }
 
-/// The most transactions of a session that wait.
+/// The most transactions of a session that may wait.
 const MOST_WAITING: usize = 64;
 
 /// The names of the databases (RFC 7047, 4.1.1).
@@ -46,7 +46,7 @@ fn names_of(alloc: Global, name: &Text) -> Result<Value, AllocError>
     json!(in alloc; [name.as_str()])
 }
 
-/// What is said of a request that can't be taken.
+/// The error text for a request that can't be taken.
 fn bad_kind_text(kind: BadKind) -> &'static str
     ensures { result.now ≡ bad_text (bad_kind_view kind) }
 {
@@ -56,21 +56,21 @@ fn bad_kind_text(kind: BadKind) -> &'static str
     }
 }
 
-/// A result, at once.
+/// Work that is answered at once, with a result.
 fn answered_work(alloc: Global, id: Tree, tree: Tree) -> Result<Work, AllocError>
     ensures { IfOk result (λ w. w ≡ Answer (Some (frame (reply_tree id tree)))) }
 {
     Ok(Work::Answer(Some(reply(alloc, id, tree)?)))
 }
 
-/// An error in place of a result.
+/// Work that is answered at once, with an error instead of a result.
 fn refused_work(alloc: Global, id: Tree, text: &str) -> Result<Work, AllocError>
     ensures { IfOk result (λ w. w ≡ Answer (Some (frame (failure_tree id text.now)))) }
 {
     Ok(Work::Answer(Some(failure(alloc, id, text)?)))
 }
 
-/// The first of the trees, and those behind it, not copied; None where there is no tree.
+/// The first tree and those after it, not copied; `None` if there is no tree.
 fn split_first(trees: Trees) -> Option<(Value, Trees)>
     ensures { MatchOption result (trees ≡ no_items) (λ parts. trees ≡ item (view parts.0) parts.1) }
 {
@@ -84,7 +84,7 @@ fn split_first(trees: Trees) -> Option<(Value, Trees)>
     Some((first, Trees::new(items)))
 }
 
-/// The only one of the trees, not copied; None where there is none, or more.
+/// The only tree, not copied; `None` if there is none or more than one.
 fn only_tree(trees: Trees) -> Option<Tree>
     ensures { MatchOption result (is_one trees ≡ false) (λ tree. trees ≡ item tree no_items) }
 {
@@ -97,7 +97,7 @@ fn only_tree(trees: Trees) -> Option<Tree>
     Some(Tree::new(items.remove(0)))
 }
 
-/// The three trees in order, not copied; None where there are not just three.
+/// The three trees in order, not copied; `None` unless there are exactly three.
 fn three_trees(trees: Trees) -> Option<(Tree, Tree, Tree)>
     ensures { MatchOption result (are_three trees ≡ false) (λ t. trees ≡ item t.0 (item t.1 (item t.2 no_items))) }
 {
@@ -113,8 +113,8 @@ fn three_trees(trees: Trees) -> Option<(Tree, Tree, Tree)>
     Some((first, second, third))
 }
 
-/// What a transaction on this database asks for: it is tried, unless one of its session with this id waits, or as many of its
-/// session as may. Where none waits this takes no memory.
+/// What a transaction on this database asks for: it is tried, unless a transaction of its session with this id waits, or as
+/// many of its session wait as may. If none waits, this allocates nothing.
 fn transact_work(
     alloc: Global,
     waiting: &Waiting,
@@ -137,7 +137,7 @@ fn transact_work(
     Ok(Work::Transact(id, operations))
 }
 
-/// What a call of "transact" asks for: its params are the database's name, and then the operations (RFC 7047, 4.1.3).
+/// What a call of "transact" asks for: its params are the database's name, then the operations (RFC 7047, 4.1.3).
 fn transact_call(
     alloc: Global,
     name: &Text,
@@ -163,7 +163,7 @@ fn transact_call(
     }
 }
 
-/// The schema, where its database is named.
+/// The schema, if its database is named.
 fn schema_named(alloc: Global, schema: &Schema, id: Tree, name: &str) -> Result<Work, AllocError>
     ensures { IfOk result (λ w. (s : State) (session : ℕ) → s.schema ≡ schema.now → IsWork s session (schema_call_on s id (Some name.now)) w) }
 {
@@ -200,8 +200,8 @@ fn lock_work(alloc: Global, call: LockCall, id: Tree, params: Trees) -> Result<W
     }
 }
 
-/// What a call of "monitor" asks for: its params are the database's name, the monitor's, which may be any value, and an object
-/// of requests (RFC 7047, 4.1.5).
+/// What a call of "monitor" asks for: its params are the database's name, the monitor's name, which may be any value, and an
+/// object of requests (RFC 7047, 4.1.5).
 fn monitor_work(alloc: Global, schema: &Schema, id: Tree, params: Trees) -> Result<Work, AllocError>
     ensures { IfOk result (λ w. (s : State) (session : ℕ) → s.schema ≡ schema.now → IsWork s session (monitor_call s session id params) w) }
 {
@@ -259,7 +259,7 @@ fn call_work(
     }
 }
 
-/// What the only param of "cancel" asks for: to cancel the transaction of the session that waits with this id, if there is one.
+/// What the only param of "cancel" asks for: to cancel the session's waiting transaction with this id, if there is one.
 fn cancel_work(alloc: Global, waiting: &Waiting, session: u64, id: Tree) -> Result<Work, AllocError>
     ensures { IfOk result (λ w. (s : State) → s.outstanding ≡ waiting.now.outstanding → IsWork s session (cancel_note s session (item id no_items)) w) }
 {
@@ -286,7 +286,7 @@ fn cancel_params(
     }
 }
 
-/// What a notification asks for: nothing but to cancel (RFC 7047, 4.1.4). Where none waits this takes no memory.
+/// What a notification asks for: only to cancel (RFC 7047, 4.1.4). If no transaction waits, this allocates nothing.
 fn note_work(
     alloc: Global,
     waiting: &Waiting,
@@ -306,7 +306,7 @@ fn note_work(
     }
 }
 
-/// What a message of a session asks for, where the database has this schema and these transactions wait.
+/// What a message of a session asks for, given the database's schema and the waiting transactions.
 pub fn work_of(
     alloc: Global,
     schema: &Schema,

@@ -34,8 +34,8 @@ fn count_inserts(operations: &[Value]) -> usize
     count
 }
 
-/// Draws what a transaction uses: the version of the rows that it changes, and then an identifier for each insert. Refused for
-/// memory, it has drawn nothing.
+/// Draws what a transaction uses: the version of the rows that it changes, and then an identifier for each insert. If an
+/// allocation fails, nothing has been drawn.
 pub(crate) fn draws_for<D: Draws>(
     alloc: Global,
     operations: &Trees,
@@ -55,7 +55,7 @@ pub(crate) fn draws_for<D: Draws>(
     Ok(draws)
 }
 
-/// Tells contracts that each of the draws has sixteen bytes (RFC 4122, 4.1.2). It is compiled away.
+/// States for contracts that each of the draws has sixteen bytes (RFC 4122, 4.1.2). It is compiled away.
 pub fn are_uuids(draws: &[Uuid])
     ensures { list_all is_uuid draws.now ≡ true }
 {

@@ -1,5 +1,5 @@
-//! What a message asks for (RFC 7047, 4.1); and the transactions that were read, with what was drawn for them, and of those the
-//! ones that wait to be tried again (4.1.3). No request is carried out here. What names no source is our own.
+//! What a message asks for (RFC 7047, 4.1); the transactions that have been read, with what was drawn for them; and those of
+//! them that wait to be tried again (4.1.3). No request is carried out here.
 #![tactic(auto)]
 
 mod answer;

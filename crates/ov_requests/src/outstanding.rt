@@ -7,12 +7,12 @@ use ov_base::{Bytes, Tree};
 use std::alloc::{AllocError, Global};
 use std::marker::Model;
 
-/// A transaction that waits (RFC 7047, 4.1.3).
+/// A waiting transaction (RFC 7047, 4.1.3).
 #[derive(Drop)]
 pub struct Outstanding {
     session: u64,
     id: Tree,
-    /// The text of the id, by which it is told from others.
+    /// The text of the id, which distinguishes it from others.
     text: Bytes,
     txn: Txn,
     arrival: u64,
@@ -65,7 +65,7 @@ impl Outstanding {
         self.session
     }
 
-    /// The id that it is answered under.
+    /// The id for its reply.
     pub fn id(&self) -> &Tree
         ensures { result.now ≡ self.now.id }
     {
@@ -80,21 +80,21 @@ impl Outstanding {
         &self.txn
     }
 
-    /// How old it is at a moment, in milliseconds.
+    /// Its age at a moment, in milliseconds.
     pub fn age(&self, moment: u64) -> u64
         ensures { result ≡ moment - self.now.arrival }
     {
         moment.saturating_sub(self.arrival)
     }
 
-    /// Whether it is of the session and its id has this text.
+    /// Whether it belongs to the session and its id has this text.
     pub fn has_text(&self, session: u64, text: &[u8]) -> bool
         ensures { result ≡ has_text session text.now self.now }
     {
         self.session == session && self.text.as_slice() == text
     }
 
-    /// When it times out, if it does and its moment comes (RFC 7047, 5.2.6).
+    /// When it times out; `None` if it never does (RFC 7047, 5.2.6).
     pub fn times_out(&self) -> Option<u64>
         ensures { result ≡ timeout_of self.now }
     {
@@ -104,7 +104,7 @@ impl Outstanding {
         }
     }
 
-    /// It is blocked again, by a wait with this timeout.
+    /// Blocks it again, by a wait with this timeout.
     pub fn wait_on(&mut self, timeout: Option<u64>)
         ensures { self.new ≡ record self.old { timeout = timeout } }
     {

@@ -10,7 +10,7 @@ use std::alloc::{AllocError, Global};
 use std::marker::Model;
 use uuid::Uuid;
 
-/// A transaction that was read: its operations, and the identifiers that were drawn for it. It may be tried more than once, each
+/// A transaction that has been read: its operations, and the identifiers drawn for it. It may be tried more than once, each
 /// time with the same identifiers.
 #[derive(Drop)]
 pub struct Txn {
@@ -30,9 +30,9 @@ impl Model for Txn {
 }
 
 impl Txn {
-    /// A transaction of these operations, not copied, with what is drawn for it: the version of the rows that it changes, and
-    /// then an identifier for each operation that is an object whose `op` is `insert`, also for one that will be refused (RFC
-    /// 7047, 5.2.1; the order is our own). Refused for memory, it has drawn nothing.
+    /// Creates a transaction of these operations, not copied, and draws for it: the version of the rows that it changes, then
+    /// an identifier for each operation that is an object whose `op` is `insert`, even for one that will be refused (RFC
+    /// 7047, 5.2.1, which sets no order). If an allocation fails, nothing has been drawn.
     pub fn read<D: Draws>(
         alloc: Global,
         operations: Trees,
@@ -49,14 +49,14 @@ impl Txn {
         Ok(Txn { draws, operations })
     }
 
-    /// The identifiers that were drawn, in order: the version first.
+    /// The identifiers that were drawn, in order, the version first.
     pub fn draws(&self) -> &[Uuid]
         ensures { result.now ≡ self.now.draws }
     {
         self.draws.as_slice()
     }
 
-    /// Gives the transaction up, and the identifiers that were drawn for it.
+    /// Gives up the transaction, and returns the identifiers drawn for it.
     pub fn into_draws(self) -> Vec<Uuid>
         ensures { result.items ≡ self.draws }
     {

@@ -13,11 +13,11 @@ use std::collections::VecDeque;
 use std::marker::Model;
 use std::mem;
 
-/// The most transactions that wait: 64 of each of 64 sessions.
+/// The most transactions that may wait: 64 of each of 64 sessions.
 const MOST_OUTSTANDING: usize = 4096;
 
-/// The transactions that wait, in order of arrival. While they are settled, those that the pass has still to try stand before
-/// them in a queue of their own. Each queue has room for all, so that settling takes no memory for them.
+/// The waiting transactions, in order of arrival. While they are settled, those that the pass has not tried yet stand before
+/// the others, in a queue of their own. Each queue has room for all, so that settling allocates nothing for them.
 #[derive(Drop)]
 pub struct Waiting {
     untried: VecDeque<Outstanding>,
@@ -40,7 +40,7 @@ impl Model for Waiting {
 }
 
 impl Waiting {
-    /// None waits.
+    /// No transaction waits.
     pub fn new(alloc: Global) -> Waiting
         ensures { result ≡ record { untried = []; outstanding = [] } }
     {
@@ -50,7 +50,7 @@ impl Waiting {
         }
     }
 
-    /// How many wait.
+    /// How many transactions wait.
     pub fn len(&self) -> usize
         ensures len { result ≡ length self.now.outstanding }
         ensures few { result ≤ most_outstanding }
@@ -58,7 +58,7 @@ impl Waiting {
         self.outstanding.len()
     }
 
-    /// Whether one of the session waits, with an id of this text.
+    /// Whether a transaction of the session waits whose id has this text.
     pub fn has_text(&self, session: u64, text: &[u8]) -> bool
         ensures { result ≡ list_any (has_text session text.now) self.now.outstanding }
     {
@@ -66,7 +66,7 @@ impl Waiting {
         any_has_text(older, session, text) || any_has_text(newer, session, text)
     }
 
-    /// How many of the session wait.
+    /// How many transactions of the session wait.
     pub fn count_of(&self, session: u64) -> usize
         ensures { result ≡ length (filter (λ o. o.session == session) self.now.outstanding) }
     {
@@ -83,8 +83,8 @@ impl Waiting {
         due_among(newer, due)
     }
 
-    /// Puts one behind the others. It is refused where 4,096 wait or are still to be tried, and where memory is refused; then
-    /// nothing is changed.
+    /// Appends a transaction. It is refused if 4,096 wait or are still to be tried, or if an allocation fails; then nothing
+    /// changes.
     pub fn push(&mut self, outstanding: Outstanding) -> Result<(), AllocError>
         ensures ok { OnOk result (self.new ≡ record self.old { outstanding = self.old.outstanding ++ outstanding ∷ [] }) }
         ensures err { OnErr result (self.new ≡ self.old) }
@@ -98,21 +98,21 @@ impl Waiting {
         Ok(())
     }
 
-    /// Takes the one of the session out that has an id of this text.
+    /// Removes the session's transaction whose id has this text.
     pub fn remove(&mut self, session: u64, text: &[u8])
         ensures { self.new ≡ record self.old { outstanding = filter (λ o. not (has_text session text.now o)) self.old.outstanding } }
     {
         keep_without(&mut self.outstanding, session, text);
     }
 
-    /// Takes those of the session out that are not still to be tried.
+    /// Removes the session's transactions that are not still to be tried.
     pub fn leave(&mut self, session: u64)
         ensures { self.new ≡ record self.old { outstanding = of_others session self.old.outstanding } }
     {
         keep_others(&mut self.outstanding, session);
     }
 
-    /// A pass begins: all that wait are to be tried.
+    /// Begins a pass: all waiting transactions are to be tried.
     pub fn begin(&mut self)
         ensures begins { self.new ≡ record { untried = self.old.outstanding; outstanding = self.old.untried } }
         ensures few { many self.new ≤ most_outstanding }
@@ -120,8 +120,8 @@ impl Waiting {
         mem::swap(&mut self.untried, &mut self.outstanding);
     }
 
-    /// A pass ends where it is, and the next one begins: those that it has not tried wait behind the others, if their sessions
-    /// are open, and then all are to be tried.
+    /// Ends the pass where it is, and begins the next one: the transactions that it has not tried wait after the others, if
+    /// their sessions are open, and then all are to be tried.
     pub fn begin_again(&mut self, sessions: &Sessions)
         ensures { self.new ≡ record {
           untried = self.old.outstanding ++ filter (λ o. has_serial o.session sessions.now.open_sessions) self.old.untried;
@@ -133,28 +133,28 @@ impl Waiting {
         mem::swap(&mut self.untried, &mut self.outstanding);
     }
 
-    /// Whether the pass has still to try some.
+    /// Whether the pass still has transactions to try.
     pub fn is_any_untried(&self) -> bool
         ensures { MatchBool result (0 < length self.now.untried) (self.now.untried ≡ []) }
     {
         !self.untried.is_empty()
     }
 
-    /// The next to be tried.
+    /// The next transaction to be tried.
     pub fn next(&self) -> Option<&Outstanding>
         ensures { MatchOption result (self.now.untried ≡ []) (λ first. (rest : List machine.Outstanding) × (self.now.untried ≡ first.now ∷ rest)) }
     {
         self.untried.front()
     }
 
-    /// The one that was to be tried next waits no more.
+    /// Removes the transaction that was to be tried next.
     pub fn drop_next(&mut self)
         ensures { (first : machine.Outstanding) (rest : List machine.Outstanding) → self.old.untried ≡ first ∷ rest → self.new ≡ record self.old { untried = rest } }
     {
         let _first = self.untried.pop_front();
     }
 
-    /// The one that was to be tried next waits behind the others, for a wait with this timeout.
+    /// Puts the transaction that was to be tried next after the others, for a wait with this timeout.
     pub fn wait_again(&mut self, timeout: Option<u64>)
         ensures { (first : machine.Outstanding) (rest : List machine.Outstanding) → self.old.untried ≡ first ∷ rest
             → self.new ≡ record { untried = rest; outstanding = self.old.outstanding ++ record first { timeout = timeout } ∷ [] } }
@@ -191,7 +191,7 @@ fn earlier(one: Option<u64>, other: Option<u64>) -> Option<u64>
     }
 }
 
-/// The earliest of this moment and those when these time out.
+/// The earliest of this moment and those at which these time out.
 fn due_among(these: &[Outstanding], due: Option<u64>) -> Option<u64>
     ensures { result ≡ earlier due (least (filter_map timeout_of these.now)) }
 {
@@ -226,7 +226,7 @@ fn keep_open(these: &mut VecDeque<Outstanding>, sessions: &Sessions)
     these.retain(|o| sessions.is_open(o.session()));
 }
 
-/// Room for one more in each of the queues, which then takes all.
+/// Reserves room for one more in each of the queues, so that each can take all.
 fn reserve(
     one: &mut VecDeque<Outstanding>,
     other: &mut VecDeque<Outstanding>,
@@ -243,7 +243,7 @@ fn reserve(
     other.reserve(one.len() + 1)
 }
 
-/// Puts all of these behind the others, which have room for them.
+/// Appends all of these to the others, which have room for them.
 fn append_reserved(others: &mut VecDeque<Outstanding>, these: &mut VecDeque<Outstanding>)
     requires { deque_len others.old + deque_len these.old ≤ deque_capacity others.old }
     ensures others { others.new.items ≡ others.old.items ++ these.old.items }

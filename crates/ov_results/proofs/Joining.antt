@@ -10,7 +10,7 @@ use Rattle.ov_results.specs.Texts.{joined, has_none}
 regroup : (a b c d : List ℕ) → a ++ (b ++ (c ++ d)) ≡ (a ++ (b ++ c)) ++ d
 regroup a b c d = ap (λ t. a ++ t) (sym (append_assoc b c d)) ∙ sym (append_assoc a (b ++ c) d)
 
--- three pieces behind a text, one after another
+-- three pieces appended to a text, one after another
 pub in_turn : (text a b c t u v : List ℕ) → t ≡ text ++ a → u ≡ t ++ b → v ≡ u ++ c → v ≡ text ++ (a ++ (b ++ c))
 in_turn text a b c t u v first second third = third ∙ ap (λ x. x ++ c) (second ∙ ap (λ x. x ++ b) first) ∙ append_assoc (text ++ a) b c ∙ append_assoc text a (b ++ c)
 
@@ -18,7 +18,7 @@ pub closed : (later : Bool) (items : Items) → items_text later items ≡ joine
 closed later no_items = refl
 closed later (item d items) = ap (λ t. comma_if later ++ (compact_text d ++ t)) (closed true items) ∙ regroup (comma_if later) (compact_text d) (joined true items) (93 ∷ [])
 
--- one more behind none, and behind some
+-- one more after none, and after some
 longer : (later : Bool) (items : Items) (more : Data) → joined later (and_item items more) ≡ joined later items ++ (comma_if (if has_none items then later else true) ++ compact_text more)
 longer later no_items more = ap (λ t. comma_if later ++ t) (append-nil (compact_text more))
 longer later (item d no_items) more = ap (λ t. comma_if later ++ (compact_text d ++ t)) (longer true no_items more) ∙ regroup (comma_if later) (compact_text d) (joined true no_items) (comma_if true ++ compact_text more)

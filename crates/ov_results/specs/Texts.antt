@@ -1,9 +1,9 @@
--- The text of an array in pieces. What names no source is our own.
+-- The text of an array in pieces.
 use Rattle.std.specs.Prelude.{◌≡◌, ℕ, List, [], ◌++◌, Bool, true, false}
 use Rattle.serde_json.specs.Data.{Items, no_items, item}
 use Rattle.serde_json.specs.Written.{compact_text, comma_if}
 
--- the texts of these trees, with commas between them; one before them where something stands before
+-- the texts of these trees, with commas between them, and one before them if something comes before
 abbrev pub joined : Bool → Items → List ℕ
 joined later no_items = []
 joined later (item d items) = comma_if later ++ (compact_text d ++ joined true items)
@@ -13,6 +13,6 @@ abbrev pub has_none : Items → Bool
 has_none no_items = true
 has_none (item d items) = false
 
--- a text that has grown: the former one, with nothing or something behind it
+-- a text that has grown: the former one, with nothing or something appended
 abbrev pub HasGrown : List ℕ → List ℕ → Type 0
 HasGrown before after = (more : List ℕ) × (after ≡ before ++ more)

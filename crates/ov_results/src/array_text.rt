@@ -9,8 +9,8 @@ use crate::op_result::OpResult;
 use std::alloc::{AllocError, Global};
 use std::marker::Model;
 
-/// JSON trees without reals, in order, as the text of their array without its brackets. A tree is not kept once it is written, so
-/// that many results take little memory.
+/// JSON trees without reals, in order, as the text of their array without its brackets. A tree is not kept after it is
+/// written, to save memory when there are many results.
 #[derive(Drop)]
 pub struct ArrayText {
     text: Vec<u8>,
@@ -33,7 +33,7 @@ impl Model for ArrayText {
     ghost invariant = { λ a. (a.text.items ≡ joined false a.trace.items) × (a.is_empty ≡ has_none a.trace.items) };
 }
 
-/// Writes one more item behind those of an array: a comma but before the first, and the item.
+/// Appends one more item of an array: a comma, except before the first, and the item.
 fn write_item(
     alloc: Global,
     text: &mut Vec<u8>,
@@ -61,14 +61,14 @@ impl ArrayText {
         }
     }
 
-    /// Whether there is none.
+    /// Whether there are no trees.
     pub fn is_empty(&self) -> bool
         ensures { IsTrue result ↔ (self.now ≡ no_items) }
     {
         self.is_empty
     }
 
-    /// Makes room for so many bytes more, so that the text need not grow while these are written. Where that is refused, nothing is
+    /// Reserves space for `more` bytes, so that the text need not grow while they are written. If that fails, nothing is
     /// changed either.
     pub fn reserve(&mut self, more: usize) -> Result<(), AllocError>
         ensures { self.new ≡ self.old }
@@ -76,14 +76,14 @@ impl ArrayText {
         self.text.reserve(more)
     }
 
-    /// What stands between the brackets of their array.
+    /// The text between the brackets of the array.
     pub fn as_slice(&self) -> &[u8]
         ensures { 91 ∷ (result.now ++ 93 ∷ []) ≡ compact_text (array self.now) }
     {
         self.text.as_slice()
     }
 
-    /// One more, behind the others. Where a growth is refused, nothing is changed.
+    /// Appends a tree. If an allocation fails, nothing is changed.
     pub fn push(&mut self, alloc: Global, item: OpResult) -> Result<(), AllocError>
         ensures ok { OnOk result (self.new ≡ and_item self.old item) }
         ensures err { OnErr result (self.new ≡ self.old) }

@@ -21,7 +21,7 @@ impl Model for ItemTrace {
 unsafe impl Send for ItemTrace {}
 
 impl ItemTrace {
-    /// None yet.
+    /// No trees yet.
     pub(crate) fn new() -> ItemTrace
         ensures { result.items ≡ no_items }
     {
@@ -30,7 +30,7 @@ impl ItemTrace {
         }
     }
 
-    /// These, and one more behind them.
+    /// These trees and one more after them.
     pub(crate) fn and(&self, _item: &OpResult) -> ItemTrace
         ensures { result.items ≡ and_item self.now.items _item.now }
     {

@@ -1,5 +1,4 @@
-//! The results of a transaction (RFC 7047, 4.1.3): that of one operation, and those of all, kept as the text that is sent. What
-//! names no source is our own.
+//! The results of a transaction (RFC 7047, 4.1.3): that of one operation, and those of all, kept as the text that is sent.
 #![tactic(auto)]
 
 mod array_text;

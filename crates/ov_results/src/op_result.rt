@@ -11,7 +11,7 @@ use std::alloc::{AllocError, Global};
 use std::marker::Model;
 use uuid::Uuid;
 
-/// What a result is kept as: rows as their text, since they can be many, and the identifier of a new row as it is.
+/// How a result is stored: rows as their text, since they can be many, and the identifier of a new row as it is.
 #[derive(Drop)]
 enum Stored {
     Tree(Tree),
@@ -37,7 +37,7 @@ impl Model for OpResult {
 }
 
 impl Drop for OpResult {
-    // A drop of its own, so that whoever drops a result need not know what it is kept as.
+    // An explicit drop, so that code that drops a result need not know how it is stored.
     fn drop(self) {
         let OpResult { stored } = self;
         drop(stored);
@@ -108,8 +108,8 @@ impl OpResult {
         }
     }
 
-    /// Writes what is sent behind a text: compact, with the members of each object in ascending order of their names' bytes. Where
-    /// a growth is refused, a part of it may have been written.
+    /// Appends the text that is sent: compact, with the members of each object in ascending order of their names' bytes. If
+    /// an allocation fails, a part of it may have been written.
     pub(crate) fn write(&self, alloc: Global, text: &mut Vec<u8>) -> Result<(), AllocError>
         ensures ok { OnOk result (text.new.items ≡ text.old.items ++ compact_text self.now) }
         ensures grown { HasGrown text.old.items text.new.items }

@@ -8,7 +8,7 @@ use Rattle.ov_specs.proofs.laws.Truths.{both_hold, left_holds, right_holds}
 use Rattle.ov_rows.specs.Named.{alone, columns_at, DoAscend}
 use Rattle.ov_rows.proofs.Names.{entries-columns_at}
 
--- names ascend whatever stands at them
+-- names ascend whatever their values are
 below : (name : List ℕ) (names : List (List ℕ)) (vs : List Datum) → T (below_all name_cmp name (map alone names)) → T (below_all name_cmp name (zip names vs))
 below name [] vs h = tt
 below name (n ∷ names) [] h = tt

@@ -80,7 +80,7 @@ get-columns_at names values q h = get-from_sorted name_cmp (zip names values) q 
 pub entries-columns_at : (names : List (List ℕ)) (values : List Datum) → T (is_sorted name_cmp (zip names values)) → entries (columns_at names values) ≡ zip names values
 entries-columns_at names values h = entries-from_sorted name_cmp (zip names values) h
 
--- the first pair has the name that is looked for, or it is found behind
+-- the first pair has the name that is looked for, or a later pair has it
 pub find-paired : (q : List ℕ) (name : String Global) (datum : Datum) (names : List (String Global)) (values : List Datum) (b : Bool) → bytes_eq q (string_bytes name) ≡ b
     → find name_cmp q (paired (name ∷ names) (datum ∷ values)) ≡ cond b (Some datum) (find name_cmp q (paired names values))
 find-paired q name datum names values b is = ap (λ t. cond t (Some datum) (find name_cmp q (paired names values))) (is_eq-slice_cmp q (string_bytes name) ∙ is)
@@ -97,7 +97,7 @@ paired-start pairs given iterator slice names values is first rest are second =
     ap (λ (z : Zip (Iter (String Global)) (Iter Datum)). paired z.a.rest.now z.b.rest.now) is
     ∙ (λ i. zip ((ap (λ (it : Iter (String Global)). map string_bytes it.rest.now) first ∙ ap (map string_bytes) rest ∙ are) i) (second i))
 
--- no pair is left where no name or no value is left
+-- no pair is left if no name or no value is left
 pub paired-end : (names : List (String Global)) (values : List Datum) → (names ≡ []) ⊎ (values ≡ []) → paired names values ≡ []
 paired-end names values (inl is) = ap (λ ns. paired ns values) is
 paired-end [] values (inr is) = refl

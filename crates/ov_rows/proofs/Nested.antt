@@ -1,4 +1,4 @@
--- Tables of the code as the rows by their keys, and what a change of one table makes of them.
+-- Tables of the code as the rows by their keys, and what a change of one table does to them.
 use Rattle.std.proofs.Common.{◌≡◌, ℕ, List, Bool, true, false, cond, T, Option, Some, None, refl, sym, ap, ◌∙◌, String, string_bytes, Global, Ordering, Less, Equal, Greater}
 use Rattle.std.specs.Prelude.{option_and_then, Result, Ok, Err, OnOk, OnErr}
 use Rattle.std.specs.BTreeMap.{is_at}
@@ -85,7 +85,7 @@ module _ (ts ts' : Tables) (name : List ℕ) (id : Uuid) (new : TableRows) (h : 
   pub nested_of-remove : ChangesRow (table_at name ts) new id None → nested_of ts' ≡ remove (nested_of ts) (name, id)
   nested_of-remove changes = same_map key_total key_exact _ _ (λ q. get-changed ts ts' name id new None h h' puts changes q ∙ sym (get-remove key_total (nested_of ts) (name, id) q))
 
--- there is nothing to take out where there is no such table
+-- there is nothing to take out if there is no such table
 pub nested_of-without : (ts : Tables) (name : List ℕ) (id : Uuid) → T (is_sorted name_cmp (named ts)) → table_at name ts ≡ None → nested_of ts ≡ remove (nested_of ts) (name, id)
 nested_of-without ts name id h none = same_map key_total key_exact _ _ (λ q. get-nested_of ts q h ∙ by q (name_cmp q.0 name) refl ∙ sym (get-remove key_total (nested_of ts) (name, id) q ∙ ap (cond (eq_by_cmp line_cmp q (name, id)) None) (get-nested_of ts q h)))
   where

@@ -30,7 +30,7 @@ itself : (name : List ℕ) → name_cmp name name ≡ Equal
 itself name = equal_is _ ((eq_by_cmp_equiv name_cmp_total).refl name)
 
 module _ (name : List ℕ) where
-  -- keys of one table stand by their identifiers
+  -- keys of one table are ordered by their identifiers
   pub within : (a b : Uuid) → line_cmp (name, a) (name, b) ≡ id_cmp a b
   within a b = ap (λ o. ordering_then o (id_cmp a b)) (itself name)
 
@@ -38,7 +38,7 @@ module _ (name : List ℕ) where
   below_within a [] h = tt
   below_within a (e ∷ es) h = both_hold _ _ (subst (λ o. T (is_lt o)) (sym (within a e.0)) (left_holds _ _ h)) (below_within a es (right_holds _ _ h))
 
-  -- those of a later table stand behind
+  -- those of a later table come after
   below_later : (k : LineKey) (es : List (Uuid × Row)) → name_cmp k.0 name ≡ Less → T (below_all line_cmp k (in_table name es))
   below_later k [] h = tt
   below_later k (e ∷ es) h = both_hold _ _ (subst (λ o. T (is_lt (ordering_then o (id_cmp k.1 e.0)))) (sym h) tt) (below_later k es h)
@@ -64,7 +64,7 @@ all_sorted [] h = tt
 all_sorted (t ∷ ts) h =
     sorted_both t.0 (entries t.1) (all_rows ts) (entries_sorted t.1) (λ id. below_tables (t.0, id) ts (left_holds _ _ h)) (all_sorted ts (right_holds _ _ h))
 
--- ---- what stands at a key
+-- ---- what is at a key
 
 abbrev or_else : Option Row → Option Row → Option Row
 or_else (Some row) other = Some row
@@ -90,7 +90,7 @@ module _ (name : List ℕ) (q : LineKey) (ys : Entries) where
         | false ↦ refl
       ])
 
--- a key of an earlier table stands in none of these
+-- a key of an earlier table is in none of these
 find_earlier : (q : LineKey) (ts : Tables) → T (below_all name_cmp q.0 ts) → find line_cmp q (all_rows ts) ≡ None
 find_earlier q [] h = refl
 find_earlier q (t ∷ ts) h = find_apart t.0 q (all_rows ts) (entries t.1) (not_tied _ (left_holds _ _ h)) ∙ find_earlier q ts (right_holds _ _ h)
@@ -112,7 +112,7 @@ find_nested q (t ∷ ts) h = by (find_nested q ts (right_holds _ _ h)) (eq_by_cm
         ∙ ap (or_else (find id_cmp q.1 (entries t.1))) (find_earlier q ts (subst (λ n. T (below_all name_cmp n ts)) (sym (name_exact q.0 t.0 tied)) (left_holds _ _ h)))
         ∙ or_else-none _ ∙ sym (get-entries t.1 q.1)
 
--- what stands at a key is what stands in its table
+-- what is at a key is what is in its table
 pub get_nested : (ts : Tables) (q : LineKey) → T (is_sorted name_cmp ts) → get (database_of (all_rows ts)) q ≡ option_and_then (λ t. get t q.1) (find name_cmp q.0 ts)
 get_nested ts q h = get-from_sorted line_cmp (all_rows ts) q (all_sorted ts h) ∙ find_nested q ts h
 

@@ -38,7 +38,7 @@ get-with_values (e ∷ es) columns name h =
     by true is = ap (λ o. first_of o (Some e.1)) (find-first_not_later e es name h is)
     by false is = refl
 
--- all values of a row, put where there is none, are the row's
+-- all values of a row, added to none, are the row's
 pub with_values-all : (columns : Columns) → with_values (entries columns) empty ≡ columns
 with_values-all columns = same_map name_cmp_total name_exact _ _ (λ name.
     get-with_values (entries columns) empty name (entries_sorted columns)
@@ -66,7 +66,7 @@ in_turn q name other x y z apart = by (same_name q name) (same_name q other) ref
     by true false is is_other = refl
     by false b is is_other = refl
 
--- what stands at a place, from which one name on: within the values, and the value there is the name's
+-- the place of a name, counted from a given one: it is within the values, and the value there is the name's
 pub record IsPlace (names : List (List ℕ)) (values : List Datum) (name : List ℕ) (datum : Datum) (i : ℕ) : Type 0 where
   pub within : i < length values
   pub value : (q : List ℕ) → find name_cmp q (zip names (slice_set values i datum)) ≡ cond (same_name q name) (Some datum) (find name_cmp q (zip names values))
@@ -100,7 +100,7 @@ place_is (known ∷ names) (v ∷ values) name datum from place same h = by (byt
           },
         )
 
--- the names stand in their order whatever stands under them
+-- the names are in order whatever their values are
 below-set : (name : List ℕ) (names : List (List ℕ)) (values : List Datum) (i : ℕ) (datum : Datum) → below_all name_cmp name (zip names (slice_set values i datum)) ≡ below_all name_cmp name (zip names values)
 below-set name [] values i datum = refl
 below-set name (known ∷ names) [] i datum = refl
@@ -128,7 +128,7 @@ module _ (names : List (List ℕ)) (values : List Datum) (name : List ℕ) (datu
   pub set-invariant : T (is_sorted name_cmp (zip names values)) → T (is_sorted name_cmp (zip names (slice_set values place datum))) × (length (slice_set values place datum) ≡ length names)
   set-invariant h = (subst T (sym (sorted-set names values place datum)) h, length-set values place datum ∙ same)
 
-  -- it stands in the column of the name
+  -- it is in the column of the name
   pub columns_at-set : T (is_sorted name_cmp (zip names values)) → columns_at names (slice_set values place datum) ≡ insert (columns_at names values) name datum
   columns_at-set h = same_map name_cmp_total name_exact _ _ (λ q.
       get-from_sorted name_cmp (zip names (slice_set values place datum)) q (set-invariant h).0

@@ -1,4 +1,4 @@
--- The text of a row's columns, which is the body of its line. What names no source is our own.
+-- The text of a row's columns, which is the body of its line.
 use Rattle.std.specs.Prelude.{◌≡◌, true, ℕ, List, ◌∷◌, map, Some}
 use Rattle.std.specs.FinMap.{get, entries}
 use Rattle.json.specs.Token.{Token, key}
@@ -12,7 +12,7 @@ use Rattle.ov_atoms.specs.Tokens.{tokens_of}
 abbrev pub body_of : Columns → Data
 body_of columns = object_of (map written_column (entries columns))
 
--- each value is one of some kinds, as those of every table are
+-- each value is of some kinds, as in every table
 abbrev pub AreOfKinds : Columns → Type 0
 AreOfKinds columns = (name : List ℕ) (datum : Datum) → get columns name ≡ Some datum → (kinds : Kinds) × (is_of kinds datum ≡ true)
 

@@ -1,4 +1,4 @@
--- Rows that are lent, as those of the definitions.
+-- Borrowed rows as those of the definitions.
 use Rattle.std.specs.Prelude.{ℕ, List}
 use Rattle.ov_specs.specs.rows.Database.{Row}
 use Rattle.ov_specs.specs.rows.Lines.{LineKey}

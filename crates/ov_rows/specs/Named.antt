@@ -15,19 +15,19 @@ named = map (λ e. (string_bytes e.0, e.1))
 abbrev pub columns_of : List (String Global × Datum) → Columns
 columns_of es = from_sorted {R = name_cmp} (named es)
 
--- the columns of these names, which ascend, each with the value that stands at its place
+-- the columns of these names, which ascend, each with the value at its place
 abbrev pub columns_at : List (List ℕ) → List Datum → Columns
 columns_at names values = from_sorted {R = name_cmp} (zip names values)
 
--- the place of the name, the first of those that are equal, where the first name of all stands at this one
+-- the place of the name, or the first of them if it occurs more than once, counted from this place
 abbrev pub place_from : ℕ → List ℕ → List (List ℕ) → Option ℕ
 place_from place name [] = None
 place_from place name (known ∷ names) = if bytes_eq name known then Some place else place_from (place + 1) name names
 
--- a name with nothing under it
+-- a name without a value
 abbrev pub alone : List ℕ → List ℕ × Unit {0}
 alone name = (name, tt)
 
--- the names ascend, and none comes twice
+-- the names ascend, and none occurs twice
 abbrev pub DoAscend : List (List ℕ) → Type 0
 DoAscend names = T (is_sorted name_cmp (map alone names))

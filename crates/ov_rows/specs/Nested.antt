@@ -8,7 +8,7 @@ use Rattle.ov_specs.specs.rows.Database.{Row}
 use Rattle.ov_specs.specs.rows.Lines.{LineKey}
 use Rattle.ov_specs.specs.values.Uuid.{Uuid}
 
--- identifiers in order, by their bytes
+-- the order of identifiers, by their bytes
 abbrev pub id_cmp : Uuid → Uuid → Ordering
 id_cmp = slice_cmp nat_cmp
 
@@ -20,7 +20,7 @@ TableRows = FinMap id_cmp Row
 abbrev pub in_table : List ℕ → List (Uuid × Row) → List (LineKey × Row)
 in_table name = map (λ r. ((name, r.0), r.1))
 
--- the rows of the table of this name, by their keys; none where there is no such table
+-- the rows of the table of this name, by their keys; none if there is no such table
 abbrev pub rows_in : List ℕ → Option TableRows → List (LineKey × Row)
 rows_in name None = []
 rows_in name (Some table) = in_table name (entries table)

@@ -1,4 +1,4 @@
--- Rows and databases as models store them. What names no source is our own.
+-- Rows and databases as models store them.
 use Rattle.std.specs.Prelude.{ℕ, List, String, refl}
 use Rattle.std.specs.declared.alloc.Global.{Global}
 use Rattle.std.specs.Coded.{Coded, code_by, coded×, coded_ℕ, coded_list}

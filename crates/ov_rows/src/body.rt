@@ -12,7 +12,7 @@ use std::alloc::{AllocError, Global};
 
 impl Columns {
     /// The body of the row's line: the compact text of the object of all columns, each with its written value, in ascending
-    /// order of their names. It reads back as that object, where each value is one of some kinds, as in every table.
+    /// order of their names. It reads back as that object if each value is of some kinds, as in every table.
     pub fn text(&self, alloc: Global) -> Result<Bytes, AllocError>
         ensures text { IfOk result (λ text. text ≡ compact_text (body_of self.now)) }
         ensures reads_back { AreOfKinds self.now → IfOk result (λ text. tree_of text ≡ Some (body_of self.now)) }
@@ -20,7 +20,7 @@ impl Columns {
         self.text_in(Vec::new(alloc))
     }
 
-    /// The same text in this buffer, which is empty, and grows only where it has too little room.
+    /// The same text in this buffer, which must be empty and grows only if it is too small.
     pub(crate) fn text_in(&self, buffer: Vec<u8>) -> Result<Bytes, AllocError>
         requires { buffer.items ≡ [] }
         ensures text { IfOk result (λ text. text ≡ compact_text (body_of self.now)) }
@@ -36,7 +36,7 @@ impl Columns {
     }
 }
 
-/// Puts a column behind those that the writer has: its name, and its written value.
+/// Appends a column: its name and its written value.
 fn put_column(out: &mut Writer, name: &str, datum: &Datum) -> Result<(), AllocError>
     ensures { Puts result out.old out.new (column_tokens (name.now, datum.now)) }
 {

@@ -12,23 +12,23 @@ use ov_atoms::{AtomFault, Datum};
 use ov_base::ColumnNames;
 use std::alloc::{AllocError, Global};
 
-/// Reads the columns of rows from the bodies of their lines. What one reading takes of memory serves the next.
+/// Reads the columns of rows from the bodies of their lines. Each read reuses the memory of the one before.
 #[derive(Drop)]
 pub struct BodyReader {
     scratch: Scratch,
 }
 
 impl BodyReader {
-    /// A reader that has taken no memory yet.
+    /// A reader that has allocated nothing yet.
     pub fn new(alloc: Global) -> BodyReader {
         BodyReader {
             scratch: Scratch::new(alloc),
         }
     }
 
-    /// The columns of just these names, shared and not copied, whose text is this body. `Syntax` and `Clash` say that none
-    /// were found, and not that there are none: the values are guessed, and their text is compared with the body. A body
-    /// that `Columns::text` wrote of such columns is found.
+    /// The columns of exactly these names, shared and not copied, whose text is this body. `Syntax` and `Clash` say that
+    /// none were found, not that there are none: the values are guessed, and their text is compared with the body. Columns
+    /// are found for a body that `Columns::text` wrote of such columns.
     pub fn columns(
         &mut self,
         alloc: Global,
@@ -50,7 +50,7 @@ impl BodyReader {
         }
     }
 
-    /// A value for each of these names, as the body may have it.
+    /// A guessed value for each of these names, read from the body.
     fn values(
         &mut self,
         alloc: Global,

@@ -9,7 +9,7 @@ use ov_base::ColumnNames;
 use std::alloc::{AllocError, Global};
 use std::marker::Model;
 
-/// The values of a row (RFC 7047, 5.1, `<row>`), in the order of the names of their columns, which other rows share.
+/// The values of a row (RFC 7047, 5.1, `<row>`), in the order of their columns' names, which other rows share.
 pub struct Columns {
     pub(crate) names: ColumnNames,
     pub(crate) values: Vec<Datum>,
@@ -33,7 +33,7 @@ impl Model for Columns {
 }
 
 impl Drop for Columns {
-    // A drop of its own, so that crates above do not prove the drop of its parts again.
+    // An explicit drop, so that crates above need not prove the drop of its parts again.
     fn drop(self) {
         let Columns { names, values } = self;
         drop(names);
@@ -42,7 +42,7 @@ impl Drop for Columns {
 }
 
 impl Columns {
-    /// These values, of columns of just these names. The names are not copied.
+    /// These values, in columns of exactly these names. The names are not copied.
     pub fn of(alloc: Global, names: &ColumnNames, named: NamedValues) -> Result<Columns, AllocError>
         requires { keys named ≡ names.now }
         ensures { IfOk result (λ columns. columns ≡ named) }
@@ -73,7 +73,7 @@ impl Columns {
         Columns::of(alloc, &names, named)
     }
 
-    /// These values. Where they are of columns of just these names, the names are not copied.
+    /// These values. If their columns have exactly these names, the names are not copied.
     pub fn sharing(
         alloc: Global,
         names: &ColumnNames,
@@ -88,7 +88,7 @@ impl Columns {
         }
     }
 
-    /// The same values, copied, under the same names, which are not.
+    /// A copy of the values, under the same names, which are not copied.
     pub fn copy(&self, alloc: Global) -> Result<Columns, AllocError>
         ensures { IfOk result (λ columns. columns ≡ self.now) }
     {
@@ -98,7 +98,7 @@ impl Columns {
         })
     }
 
-    /// The same values, copied, by the names of their columns.
+    /// A copy of the values, by the names of their columns.
     fn to_named(&self, alloc: Global) -> Result<NamedValues, AllocError>
         ensures { IfOk result (λ named. named ≡ self.now) }
     {
@@ -109,8 +109,8 @@ impl Columns {
         Ok(named)
     }
 
-    /// These values with this one in the column of this name (RFC 7047, 5.2.3). Where there is such a column nothing is
-    /// allocated, and the names stay shared.
+    /// These values with this one in the column of this name (RFC 7047, 5.2.3). If there is such a column, nothing is
+    /// allocated and the names stay shared.
     pub fn with_value(self, alloc: Global, name: &str, datum: Datum) -> Result<Columns, AllocError>
         ensures { IfOk result (λ columns. columns ≡ insert self name.now datum) }
     {
@@ -155,7 +155,7 @@ impl Columns {
         None
     }
 
-    /// Whether these are the same values in the same columns.
+    /// Whether both have the same values in the same columns.
     pub fn is_same(&self, other: &Columns) -> bool
         ensures { result ≡ same_columns (entries self.now) (entries other.now) }
     {
@@ -174,7 +174,7 @@ fn copied(alloc: Global, values: &[Datum]) -> Result<Vec<Datum>, AllocError>
     Ok(copies)
 }
 
-/// The place of this name, the first of those that are equal.
+/// The place of this name, or the first of them if it occurs more than once.
 fn place_of(names: &[String], name: &str) -> Option<usize>
     ensures { result ≡ place_from 0 name.now (map string_bytes names.now) }
 {

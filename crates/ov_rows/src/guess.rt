@@ -6,10 +6,10 @@ use ov_base::Text;
 use std::alloc::{AllocError, Global};
 use uuid::Uuid;
 
-// Nothing here promises that it reads right, or that it refuses what is no value: names, most words and most closing brackets are
-// passed over. Who asks compares the text of what is read with the text that it was read from.
+// Nothing here promises to read correctly, or to refuse what is not a value: names, most words and most closing brackets are
+// skipped. The caller compares the text of what was read with the text that it was read from.
 
-/// The values of the first members of an object, as many as are asked for.
+/// The values of the first `count` members of an object.
 pub(crate) fn guess_values(
     alloc: Global,
     count: usize,
@@ -36,7 +36,7 @@ fn guess_datum(alloc: Global, reader: &mut Reader<'_>) -> Result<Datum, AtomFaul
     }
 }
 
-/// A value whose first bracket is read: `["uuid",text]`, `["set",[..]]` or `["map",[..]]`.
+/// A value whose first bracket has been read: `["uuid",text]`, `["set",[..]]` or `["map",[..]]`.
 fn guess_listed(alloc: Global, reader: &mut Reader<'_>) -> Result<Datum, AtomFault> {
     let Some(Token::String(word)) = reader.next() else {
         return Err(AtomFault::Syntax);
@@ -54,7 +54,7 @@ fn guess_listed(alloc: Global, reader: &mut Reader<'_>) -> Result<Datum, AtomFau
     Ok(datum)
 }
 
-/// The set of the atoms up to the next bracket that closes.
+/// The set of the atoms up to the next closing bracket.
 fn guess_set(alloc: Global, reader: &mut Reader<'_>) -> Result<Datum, AtomFault> {
     let mut atoms = Vec::new(alloc);
     'atoms: while !reader.take_end_array() {
@@ -64,7 +64,7 @@ fn guess_set(alloc: Global, reader: &mut Reader<'_>) -> Result<Datum, AtomFault>
     Ok(Datum::of_atoms(atoms)?)
 }
 
-/// The map of the pairs up to the next bracket that closes.
+/// The map of the pairs up to the next closing bracket.
 fn guess_map(alloc: Global, reader: &mut Reader<'_>) -> Result<Datum, AtomFault> {
     let mut pairs = Vec::new(alloc);
     'pairs: while !reader.take_end_array() {
@@ -99,7 +99,7 @@ fn guess_atom(alloc: Global, reader: &mut Reader<'_>) -> Result<Atom, AtomFault>
     }
 }
 
-/// The identifier of `["uuid",text]`, of which the text is next.
+/// The identifier of `["uuid",text]`, whose text is next.
 fn guess_uuid(reader: &mut Reader<'_>) -> Result<Atom, AtomFault>
     ensures shorter { length reader.new ≤ length reader.old }
 {
@@ -113,7 +113,7 @@ fn guess_uuid(reader: &mut Reader<'_>) -> Result<Atom, AtomFault>
     }
 }
 
-/// The atom that is one token.
+/// The atom that a single token stands for.
 fn scalar_of(alloc: Global, token: Token<'_>) -> Result<Atom, AtomFault> {
     match token {
         Token::String(text) => Ok(Atom::Text(Text::from_str(alloc, text)?)),

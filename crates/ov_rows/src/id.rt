@@ -6,7 +6,7 @@ use std::cmp::Ordering;
 use std::marker::Model;
 use uuid::Uuid;
 
-/// A row's identifier (RFC 7047, 3.2), as what rows are kept by.
+/// A row's identifier (RFC 7047, 3.2), as the key that rows are stored by.
 #[derive(Clone, Copy)]
 pub struct RowId {
     id: Uuid,
@@ -26,14 +26,14 @@ impl Model for RowId {
 }
 
 impl RowId {
-    /// The identifier as it is.
+    /// The key of this identifier.
     pub fn new(id: Uuid) -> RowId
         ensures { result ≡ id }
     {
         RowId { id }
     }
 
-    /// The identifier, lent.
+    /// The identifier, borrowed.
     pub fn as_uuid(&self) -> &Uuid
         ensures { result.now ≡ self.now }
     {
@@ -91,14 +91,14 @@ impl Ord for RowId {
 
     ghost matches_eq = { λ a b. refl };
 
-    /// By its bytes, the first before all.
+    /// Compares the bytes, starting with the first.
     fn cmp(&self, other: &RowId) -> Ordering {
         order_of_bytes(self.id.as_bytes(), other.id.as_bytes())
     }
 }
 
-/// The order of sixteen bytes, the first before all. Identifiers that were drawn nearly always differ in the first, so that a loop
-/// which ends there takes less than a comparison of the numbers that the bytes spell.
+/// Compares sixteen bytes, starting with the first. Random identifiers nearly always differ in the first, so a loop that
+/// ends there is faster than a comparison of the numbers that the bytes spell.
 fn order_of_bytes(a: &[u8; 16], b: &[u8; 16]) -> Ordering
     ensures { result ≡ slice_cmp nat_cmp a.now b.now }
 {

@@ -7,7 +7,7 @@ use std::cmp::Ordering;
 use std::marker::Model;
 use uuid::Uuid;
 
-/// What names a row: its table and its identifier (RFC 7047, 3.2).
+/// The key of a row: its table and its identifier (RFC 7047, 3.2).
 #[derive(Drop)]
 pub struct RowKey {
     table: Text,
@@ -50,7 +50,7 @@ impl RowKey {
         *self.id.as_uuid()
     }
 
-    /// The row's identifier, lent.
+    /// The row's identifier, borrowed.
     pub fn as_id(&self) -> &Uuid
         ensures { result.now ≡ self.now.1 }
     {
@@ -108,7 +108,7 @@ impl Ord for RowKey {
 
     ghost matches_eq = { λ a b. refl };
 
-    /// By the bytes of the table's name, then by those of the identifier: rows of one table stand together.
+    /// Compares the bytes of the table's name, then those of the identifier, so that rows of one table are adjacent.
     fn cmp(&self, other: &RowKey) -> Ordering {
         let by_table = self.table.as_str().cmp(other.table.as_str());
         by_table.then(self.id.cmp(&other.id))

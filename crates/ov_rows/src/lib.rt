@@ -1,5 +1,5 @@
-//! The rows of a database as they lie in memory (RFC 7047, 3.2): a key, the values of its columns, and the rows by their keys.
-//! What names no source is our own.
+//! The rows of a database in memory (RFC 7047, 3.2): the key of a row, the values of its columns, and the rows by their
+//! keys.
 #![tactic(auto)]
 
 mod body;

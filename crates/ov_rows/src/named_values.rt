@@ -8,7 +8,7 @@ use std::alloc::{AllocError, Global};
 use std::collections::BTreeMap;
 use std::marker::Model;
 
-/// Values by the names of their columns, as a row is put together of them (RFC 7047, 5.1, `<row>`).
+/// Values by the names of their columns, from which a row is built (RFC 7047, 5.1, `<row>`).
 #[derive(Drop)]
 pub struct NamedValues {
     values: BTreeMap<String, Datum>,
@@ -32,7 +32,7 @@ impl Model for NamedValues {
 }
 
 impl NamedValues {
-    /// No value.
+    /// No values.
     pub fn new(alloc: Global) -> NamedValues
         ensures { result ≡ empty }
     {
@@ -48,7 +48,8 @@ impl NamedValues {
         self.values.contains_key(name)
     }
 
-    /// Puts the value at the column of this name, in place of the one there. Where a growth is refused, nothing is changed.
+    /// Inserts the value for the column of this name, in place of any value there. If an allocation fails, nothing is
+    /// changed.
     pub fn insert(&mut self, name: String, datum: Datum) -> Result<(), AllocError>
         ensures ok { OnOk result (self.new ≡ insert self.old (string_bytes name) datum) }
         ensures err { OnErr result (self.new ≡ self.old) }
@@ -57,14 +58,14 @@ impl NamedValues {
         Ok(())
     }
 
-    /// The values by the names of their columns, in ascending order of these.
+    /// The values by the names of their columns, in ascending order of the names.
     pub fn map(&self) -> &BTreeMap<String, Datum>
         ensures { named result.now.entries ≡ entries self.now }
     {
         &self.values
     }
 
-    /// Whether the columns that have a value are just those of these names.
+    /// Whether the columns that have a value are exactly those of these names.
     pub(crate) fn has_names(&self, names: &ColumnNames) -> bool
         ensures { result ≡ true → keys self.now ≡ names.now }
     {

@@ -6,7 +6,7 @@ use uuid::Uuid;
 pub struct Row {
     /// Its version, the column `_version`.
     pub version: Uuid,
-    /// Its columns but `_uuid` and `_version`.
+    /// Its columns except `_uuid` and `_version`.
     pub columns: Columns,
 }
 
@@ -22,7 +22,7 @@ impl Model for Row {
 }
 
 impl Drop for Row {
-    // A drop of its own, so that crates above do not prove the drop of its parts again.
+    // An explicit drop, so that crates above need not prove the drop of its parts again.
     fn drop(self) {
         let Row {
             columns,

@@ -1,7 +1,7 @@
 use crate::row::Row;
 use uuid::Uuid;
 
-/// A row, lent, with its identifier (RFC 7047, 3.2).
+/// A borrowed row with its identifier (RFC 7047, 3.2).
 #[derive(Clone, Copy)]
 pub struct RowView<'a> {
     /// Its identifier, the column `_uuid`.

@@ -15,7 +15,7 @@ use uuid::Uuid;
 
 /// The rows of a database, by their tables and identifiers (RFC 7047, 3.2). Contracts see them by their keys.
 pub struct Rows {
-    /// A table that has lost its last row stays.
+    /// A table stays when it has lost its last row.
     tables: BTreeMap<String, TableRows>,
 }
 
@@ -37,7 +37,7 @@ impl Model for Rows {
 }
 
 impl Drop for Rows {
-    // A drop of its own, so that crates above do not prove the drop of its parts again.
+    // An explicit drop, so that crates above need not prove the drop of its parts again.
     fn drop(self) {
         let Rows { tables } = self;
         drop(tables);
@@ -45,7 +45,7 @@ impl Drop for Rows {
 }
 
 impl Rows {
-    /// No row.
+    /// No rows.
     pub fn new(alloc: Global) -> Rows
         ensures { result ≡ empty }
     {
@@ -85,7 +85,8 @@ impl Rows {
         &self.tables
     }
 
-    /// Puts the row in place of the one of its key. Only a new key can be refused for memory, and then nothing is changed.
+    /// Inserts the row, in place of any row of its key. Fails only if the key is new and an allocation fails; then nothing
+    /// is changed.
     pub fn insert(&mut self, alloc: Global, key: &RowKey, row: Row) -> Result<(), AllocError>
         ensures ok { OnOk result (self.new ≡ insert self.old key.now row) }
         ensures err { OnErr result (self.new ≡ self.old) }
@@ -102,7 +103,7 @@ impl Rows {
         }
     }
 
-    /// Takes the row of the key out, if there is one.
+    /// Removes the row of the key, if there is one.
     pub fn remove(&mut self, key: &RowKey)
         ensures { self.new ≡ remove self.old key.now }
     {

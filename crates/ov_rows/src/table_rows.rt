@@ -31,7 +31,7 @@ impl Model for TableRows {
 }
 
 impl TableRows {
-    /// This row alone.
+    /// A table with this row alone.
     pub(crate) fn of_row(alloc: Global, id: Uuid, row: Row) -> Result<TableRows, AllocError>
         ensures { IfOk result (λ table. table ≡ insert empty id row) }
     {
@@ -56,7 +56,8 @@ impl TableRows {
         &self.rows
     }
 
-    /// Puts the row in place of the one of its identifier. Only a new one can be refused for memory, and then nothing is changed.
+    /// Inserts the row, in place of any row of its identifier. Fails only if the identifier is new and an allocation fails;
+    /// then nothing is changed.
     pub(crate) fn insert(&mut self, id: Uuid, row: Row) -> Result<(), AllocError>
         ensures ok { OnOk result (self.new ≡ insert self.old id row) }
         ensures err { OnErr result (self.new ≡ self.old) }
@@ -68,7 +69,7 @@ impl TableRows {
         }
     }
 
-    /// Takes the row of the identifier out, if there is one.
+    /// Removes the row of the identifier, if there is one.
     pub(crate) fn remove(&mut self, id: Uuid)
         ensures { self.new ≡ remove self.old id }
     {

@@ -1,4 +1,4 @@
--- The bytes of a reply whose result is an array, and those of the reply with one item more.
+-- The bytes of a reply whose result is an array, and those of the reply with one more item.
 use Rattle.std.proofs.Common.{◌≡◌, ◌↔◌, not, ℕ, ◌+◌, ◌-◌, List, [], ◌∷◌, ◌++◌, Bool, true, false, true≢false, length, take, refl, sym, ap, ◌∙◌, codes, IsTrue, arith, if◌then◌else◌}
 use Rattle.std.proofs.lemmas.List.{append_assoc, append-nil, length-append}
 use Rattle.std.proofs.Math.Seq.{take-append_seam}
@@ -45,7 +45,7 @@ separated false no_items same = absurd (true≢false (sym (same.1 refl)))
 separated true (item d items) same = absurd (true≢false (sym (ap has_none (same.0 refl))))
 separated false (item d items) same = refl
 
--- the bytes of the reply with one item more
+-- the bytes of the reply with one more item
 pub appended : (id : Data) (items : Items) (first : Bool) (more : Data) → (IsTrue first ↔ (items ≡ no_items))
     → ((open_reply id items ++ (if first then [] else 44 ∷ [])) ++ compact_text more) ++ 93 ∷ 125 ∷ [] ≡ frame (reply_tree id (array (and_item items more)))
 appended id items first more same =

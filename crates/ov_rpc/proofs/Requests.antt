@@ -40,7 +40,7 @@ no_tree : (text : List ℕ) (b : Bool) → is_utf8 text ≡ b → (IsUtf8 text �
 no_tree text true e h = rw e (h (IsUtf8-from_is_utf8 text e))
 no_tree text false e h = rw e refl
 
--- a text that is no tree is no message
+-- a text that is not a tree is not a message
 pub no_message : (text : List ℕ) → (IsUtf8 text → read text ≡ None) → message_in text ≡ None
 unfolding message_in
 no_message text h = rw (no_tree text (is_utf8 text) refl h) refl

@@ -9,8 +9,8 @@ use std::alloc::{AllocError, Global};
 /// What closes a reply whose result is an array.
 const CLOSING: &[u8] = b"]}";
 
-/// The reply whose result is the array of a reply with this item behind it: the error of a commit stands behind the results
-/// of all operations (RFC 7047, 4.1.3). What the array has is not encoded once more. `is_first` tells that it has nothing.
+/// Appends this item to the array that is the result of a reply: the error of a commit comes after the results of all
+/// operations (RFC 7047, 4.1.3). The array's items are not encoded again. `is_first` says that the array is empty.
 pub fn append_item(
     alloc: Global,
     reply: &Bytes,

@@ -4,10 +4,10 @@ use thiserror::Error;
 /// Why a text gave no message.
 #[derive(Clone, Copy, Debug, PartialEq, Eq, Error)]
 pub enum RpcFault {
-    /// The text is not UTF-8, no JSON, or its id has a number that is no 64-bit integer.
+    /// The text is not UTF-8 or not JSON, or its id has a number that is not a 64-bit integer.
     #[error("the text is no message")]
     Unreadable,
-    /// The allocator refused.
+    /// An allocation failed.
     #[error("out of memory")]
     Memory,
 }

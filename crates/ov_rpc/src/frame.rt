@@ -22,7 +22,7 @@ fn reply_value(alloc: Global, id: Value, outcome: Value) -> Result<Value, AllocE
     json!(in alloc; {"error": null, "id": id, "result": outcome})
 }
 
-/// The reply to a call, whose result is the array of these, which are not written once more (JSON-RPC 1.0, 1.2).
+/// The reply to a call, whose result is the array of these results, which are not encoded again (JSON-RPC 1.0, 1.2).
 pub fn reply_with(alloc: Global, id: &Tree, results: &ArrayText) -> Result<Bytes, AllocError>
     ensures { IfOk result (λ b. b ≡ frame (reply_tree id.now (array results.now))) }
 {

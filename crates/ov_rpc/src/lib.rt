@@ -1,4 +1,4 @@
-//! Messages and frames of JSON-RPC 1.0: which request a text is, and the bytes of what is sent.
+//! Messages and frames of JSON-RPC 1.0: which request a text is, and the bytes that are sent.
 #![tactic(auto)]
 
 mod append;

@@ -11,16 +11,16 @@ use std::alloc::Global;
 /// Why a request can't be taken.
 #[derive(Clone, Copy, Debug, PartialEq, Eq)]
 pub enum BadKind {
-    /// It isn't built as a request.
+    /// It is malformed.
     Syntax,
-    /// It has a number that is no 64-bit integer.
+    /// It has a number that is not a 64-bit integer.
     Reals,
 }
 
 /// What a peer sends (JSON-RPC 1.0, 1).
 #[derive(Drop)]
 pub enum Message {
-    /// A request that wants an answer (JSON-RPC 1.0, 1.1).
+    /// A request that expects a reply (JSON-RPC 1.0, 1.1).
     Call {
         id: Tree,
         method: Text,
@@ -31,7 +31,7 @@ pub enum Message {
         method: Text,
         params: Trees,
     },
-    /// An answer to a request of ours (JSON-RPC 1.0, 1.2).
+    /// A reply to a request of ours (JSON-RPC 1.0, 1.2).
     Answer,
     /// A request that is answered with an error.
     Bad {
@@ -41,11 +41,11 @@ pub enum Message {
 }
 
 impl Message {
-    /// The message that a text is. It is unreadable where it is not UTF-8 or no JSON, and where its id has a number
-    /// that is no 64-bit integer.
+    /// Reads the message of a text. The text is unreadable if it is not UTF-8 or not JSON, or if its id has a number that is
+    /// not a 64-bit integer.
     ///
-    /// A request that can't be taken is `Bad` where it has an id, and `Answer`, which gets no reply, where it has none.
-    /// A text nests at most 127 levels deep, the message's own object among them: one that goes deeper is unreadable.
+    /// A request that can't be taken is `Bad` if it has an id; otherwise it is `Answer`, which gets no reply. A text nests at
+    /// most 127 levels deep, counting the message's own object; a deeper one is unreadable.
     pub fn read(alloc: Global, text: &[u8]) -> Result<Message, RpcFault>
         ensures message { IfOk result (λ m. message_in text.now ≡ Some (message_view m)) }
         ensures unreadable { result ≡ Err RpcFault.Unreadable → message_in text.now ≡ None }

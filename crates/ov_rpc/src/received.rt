@@ -32,7 +32,7 @@ impl Model for Received {
 }
 
 impl Received {
-    /// The message that a text is, with the text, which is not copied. `Message::read` says when a text is unreadable.
+    /// Reads the message of a text, and keeps the text, which is not copied. `Message::read` says when a text is unreadable.
     pub fn read(alloc: Global, text: Bytes) -> Result<Received, RpcFault>
         ensures message { IfOk result (λ m. message_in text ≡ Some m) }
         ensures unreadable { result ≡ Err RpcFault.Unreadable → message_in text ≡ None }
@@ -41,7 +41,7 @@ impl Received {
         Ok(Received { message, text })
     }
 
-    /// The message, and its text alone.
+    /// Splits it into the message and its text.
     pub fn into_parts(self) -> (Message, MessageText)
         ensures message { message_view result.0 ≡ self }
         ensures text { result.1 ≡ self }
@@ -51,8 +51,8 @@ impl Received {
     }
 }
 
-/// The text of a message, which contracts see as the message. It takes its bytes, where the tree of a message can take many
-/// times as much.
+/// The text of a message, which contracts see as the message. It occupies only its bytes, while the tree of a message can
+/// occupy many times as much.
 #[derive(Drop)]
 pub struct MessageText {
     text: Bytes,
@@ -75,7 +75,7 @@ impl Model for MessageText {
 }
 
 impl MessageText {
-    /// The text, to be read.
+    /// The text.
     pub fn as_slice(&self) -> &[u8]
         ensures { message_in result.now ≡ Some self.now }
     {

@@ -11,7 +11,7 @@ use crate::message::{BadKind, Message};
 use ov_base::{Text, Tree, Trees, has_real};
 use serde_json::{Map, Value};
 
-/// The message that a tree is: the first case that applies decides. What the tree has is moved and not copied.
+/// The message of a tree: the first case that applies decides. The contents of the tree are moved, not copied.
 pub(crate) fn message_of(value: Value) -> Option<Message>
     ensures { option_map message_view result ≡ rpc.message_of (view value) }
 {
@@ -26,7 +26,7 @@ pub(crate) fn message_of(value: Value) -> Option<Message>
     }
 }
 
-/// A number inside the id that is no 64-bit integer.
+/// Whether the id has a number that is not a 64-bit integer.
 fn has_real_id(value: &Value) -> bool
     ensures { result ≡ rpc.has_real_id (view value.now) }
 {
@@ -36,14 +36,14 @@ fn has_real_id(value: &Value) -> bool
     }
 }
 
-/// A result or an error, and no method.
+/// Whether it has a result or an error, and no method.
 fn is_answer(value: &Value) -> bool
     ensures { result ≡ rpc.is_answer (view value.now) }
 {
     value.get("method").is_none() && (value.get("result").is_some() || value.get("error").is_some())
 }
 
-/// Who asks, where the id has no reals.
+/// The id of the asker, if it has no reals.
 fn asker_of(value: Value) -> Option<Tree>
     requires { rpc.has_real_id (view value) ≡ false }
     ensures { result ≡ rpc.asker_of (view value) }
@@ -54,7 +54,7 @@ fn asker_of(value: Value) -> Option<Tree>
     asker(take_member(&mut members, "id"))
 }
 
-/// A call, a notification, or a request that is built wrong: what a tree is that has no reals and is no answer.
+/// The message of a tree that has no reals and is not an answer: a call, a notification, or a malformed request.
 fn request_of(value: Value) -> Message
     requires { has_real (view value) ≡ false }
     ensures { message_view result ≡ rpc.request_in (view value) }
@@ -87,7 +87,7 @@ fn items_of(value: Option<Value>) -> Option<Trees>
     }
 }
 
-/// Who asks, by the member `id`: nobody where it is null or absent.
+/// The id of the asker, from the member `id`; `None` if that is null or absent.
 fn asker(id: Option<Value>) -> Option<Tree>
     requires { ForSome id (λ v. has_real (view v) ≡ false) }
     ensures { result ≡ option_and_then not_null (option_map view id) }
@@ -110,7 +110,7 @@ fn request(method: Option<Text>, params: Option<Trees>, asker: Option<Tree>) -> 
     }
 }
 
-/// What is wrong is told to who asked; where nobody did, nothing is.
+/// Reports the fault to the asker; if there is none, nothing is reported.
 fn bad(asker: Option<Tree>, kind: BadKind) -> Message
     ensures { message_view result ≡ rpc.bad asker (bad_kind_view kind) }
 {
@@ -120,7 +120,7 @@ fn bad(asker: Option<Tree>, kind: BadKind) -> Message
     }
 }
 
-/// The member of this name, taken out of an object.
+/// Takes the member of this name out of an object.
 fn take_member(members: &mut Map<String, Value>, name: &str) -> Option<Value>
     ensures value { option_map view result ≡ get_member name.now (members_view members.old.entries) }
     ensures others { (q : List ℕ) → q ≢ name.now → get_member q (members_view members.new.entries) ≡ get_member q (members_view members.old.entries) }

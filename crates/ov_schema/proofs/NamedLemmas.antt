@@ -31,7 +31,7 @@ put_over m [] = m
 put_over m (e ∷ es) = insert (put_over m es) e.0 e.1
 
 module _ {X : Type 0} where
-  -- a list in order is the entries of its map
+  -- a list in order consists of the entries of its map
   pub entries-from_entries : (es : List (List ℕ × X)) → T (is_sorted name_cmp es) → entries (from_entries {R = name_cmp} es) ≡ es
   entries-from_entries es h =
       ap entries (same_map name_total name_exact (from_entries es) (from_sorted es) (λ q. get-from_entries name_total es q ∙ sym (get-from_sorted name_cmp es q h)))
@@ -96,7 +96,7 @@ module _ {X : Type 0} where
   pub find-later : (q : List ℕ) (es : List (List ℕ × X)) (i : ℕ) (e : List ℕ × X) → i < length es → e ≡ get_or es i e → bytes_eq q e.0 ≡ false → find name_cmp q (drop i es) ≡ find name_cmp q (drop (i + 1) es)
   find-later q es i e h is other = find-drop q es i e h is ∙ ap (λ b. cond b (Some e.1) (find name_cmp q (drop (i + 1) es))) other
 
-  -- an item behind one whose name is below all others has a later name
+  -- an item after one whose name is below all others has a later name
   later-name : (k : List ℕ) (es : List (List ℕ × X)) (i : ℕ) (e : List ℕ × X) → T (below_all name_cmp k es) → i < length es → e ≡ get_or es i e → T (is_lt (name_cmp k e.0))
   later-name k [] i e h l is = absurd (omega arith)
   later-name k (x ∷ es) zero e h l is = subst (λ y. T (is_lt (name_cmp k y.0))) (sym is) (left_holds _ (below_all name_cmp k es) h)

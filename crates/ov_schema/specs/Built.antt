@@ -9,6 +9,6 @@ use Rattle.ov_specs.specs.schema.SchemaTypes.{Table, Schema}
 abbrev pub indexes_in : List (Vec (List ℕ) Global) → List (List (List ℕ))
 indexes_in indexes = map (λ index. index.items) indexes
 
--- the schema of these parts, read of the tree
+-- the schema of these parts, read from the tree
 abbrev pub schema_of_parts : List ℕ → Option (List ℕ) → List (List ℕ × Table) → Data → Schema
 schema_of_parts name version tables tree = record { name = name; version = version; tables = from_entries tables; tree = tree }

@@ -112,7 +112,7 @@ impl BaseType {
         }
     }
 
-    /// The base type that is only a kind, without constraints.
+    /// The base type of a kind, without constraints.
     pub(crate) fn plain(kind: AtomKind) -> BaseType
         ensures { result ≡ record {
           kind = kind_view kind;
@@ -127,7 +127,7 @@ impl BaseType {
         BaseType::new(kind, None, None, None, None, None, None)
     }
 
-    /// The table that its identifiers refer to, if they do.
+    /// The table that its identifiers refer to, if any.
     pub(crate) fn refers(&self) -> Option<&Reference>
         ensures { option_copied result ≡ self.now.refers }
     {
@@ -141,7 +141,7 @@ impl BaseType {
         self.kind
     }
 
-    /// Whether an atom is one of the choices, and in its range.
+    /// Whether an atom is one of the choices and in its range.
     pub(crate) fn atom_fits(&self, atom: &Atom) -> bool
         ensures { result ≡ atom_fits self.now (atom_view atom.now) }
     {
@@ -171,7 +171,7 @@ impl BaseType {
     }
 }
 
-/// Whether a set has the atom. Lists of choices are short, so they are looked through.
+/// Whether a set has the atom. Lists of choices are short, so the search is linear.
 fn is_in(set: &Datum, atom: &Atom) -> bool
     ensures { result ≡ contains_key (set_in set.now) (atom_view atom.now) }
 {

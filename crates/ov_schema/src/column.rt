@@ -43,7 +43,7 @@ impl Column {
         }
     }
 
-    /// `_uuid` or `_version`: one identifier, which clients don't change.
+    /// `_uuid` or `_version`: one identifier, which clients cannot change.
     pub(crate) fn own() -> Column
         ensures { result ≡ own_column }
     {
@@ -58,28 +58,29 @@ impl Column {
         self.type_of.kinds()
     }
 
-    /// The table that its atoms refer to, or the keys of its map, if they do (RFC 7047, 3.2, `<base-type>`, refTable).
+    /// The table that its atoms, or the keys of its map, refer to, if any (RFC 7047, 3.2, `<base-type>`, refTable).
     pub fn key_refers(&self) -> Option<&Reference>
         ensures { option_copied result ≡ self.now.type_of.key.refers }
     {
         self.type_of.key_refers()
     }
 
-    /// The table that the values of its map refer to, if it is a map and they do (RFC 7047, 3.2, `<base-type>`, refTable).
+    /// The table that the values of its map refer to, if it is a map and they refer to one (RFC 7047, 3.2, `<base-type>`,
+    /// refTable).
     pub fn value_refers(&self) -> Option<&Reference>
         ensures { option_copied result ≡ option_and_then (λ b. b.refers) self.now.type_of.value }
     {
         self.type_of.value_refers()
     }
 
-    /// The least count of atoms or pairs: 0 or 1 (RFC 7047, 3.2, `<type>`, min).
+    /// The minimum number of atoms or pairs: 0 or 1 (RFC 7047, 3.2, `<type>`, min).
     pub fn min(&self) -> i64
         ensures { result ≡ self.now.type_of.min }
     {
         self.type_of.min()
     }
 
-    /// Whether it holds one atom, no more and no less: no map, and `min` and `max` are both 1 (RFC 7047, 3.2, `<type>`).
+    /// Whether it holds exactly one atom: it is not a map, and `min` and `max` are both 1 (RFC 7047, 3.2, `<type>`).
     pub fn is_scalar(&self) -> bool
         ensures { result ≡ is_scalar self.now.type_of }
     {
@@ -94,23 +95,23 @@ impl Column {
         self.type_of.fits(datum)
     }
 
-    /// The value that a new row has where none is given: nothing where `min` is 0, else one 0, false, empty text or
-    /// zero UUID, or a pair of two of these (RFC 7047, 5.2.1).
+    /// The value that a new row has if none is given: empty if `min` is 0, else one 0, false, empty text or zero UUID, or a
+    /// pair of two of these (RFC 7047, 5.2.1).
     pub fn default_of(&self, alloc: Global) -> Result<Datum, AllocError>
         ensures { IfOk result (λ d. d ≡ default_of self.now.type_of) }
     {
         self.type_of.default_of(alloc)
     }
 
-    /// Whether clients may change it in a row that is there. A column of weak references is changed by the server
-    /// itself, so it is mutable whatever its schema says.
+    /// Whether clients may change it in an existing row. The server itself changes a column of weak references, so such a
+    /// column is mutable whatever its schema says.
     pub fn is_mutable(&self) -> bool
         ensures { result ≡ self.now.is_mutable }
     {
         self.is_mutable
     }
 
-    /// Whether its values are not kept when the server ends (RFC 7047, 3.2, `<column-schema>`).
+    /// Whether its values are not kept when the server exits (RFC 7047, 3.2, `<column-schema>`).
     pub fn is_ephemeral(&self) -> bool
         ensures { result ≡ self.now.is_ephemeral }
     {

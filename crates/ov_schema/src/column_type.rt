@@ -12,8 +12,7 @@ use ov_atoms::{Atom, Datum, Kinds};
 use std::alloc::{AllocError, Global};
 use std::marker::Model;
 
-/// The type of a column (RFC 7047, 3.2, `<type>`): a map has a type for its values, and no greatest count is
-/// "unlimited".
+/// The type of a column (RFC 7047, 3.2, `<type>`): a map has a type for its values, and no maximum means "unlimited".
 #[derive(Drop)]
 pub struct ColumnType {
     key: BaseType,
@@ -46,14 +45,14 @@ impl ColumnType {
         }
     }
 
-    /// The table that the atoms, or the keys of a map, refer to, if they do.
+    /// The table that the atoms, or the keys of a map, refer to, if any.
     pub(crate) fn key_refers(&self) -> Option<&Reference>
         ensures { option_copied result ≡ self.now.key.refers }
     {
         self.key.refers()
     }
 
-    /// The table that the values of a map refer to, if they do.
+    /// The table that the values of a map refer to, if any.
     pub(crate) fn value_refers(&self) -> Option<&Reference>
         ensures { option_copied result ≡ option_and_then (λ b. b.refers) self.now.value }
     {
@@ -63,7 +62,7 @@ impl ColumnType {
         }
     }
 
-    /// The least count of atoms or pairs.
+    /// The minimum number of atoms or pairs.
     pub(crate) fn min(&self) -> i64
         ensures { result ≡ self.now.min }
     {
@@ -80,7 +79,7 @@ impl ColumnType {
         }
     }
 
-    /// Whether it holds one atom, no more and no less.
+    /// Whether it holds exactly one atom.
     pub(crate) fn is_scalar(&self) -> bool
         ensures { result ≡ is_scalar self.now }
     {
@@ -137,7 +136,7 @@ impl ColumnType {
         }
     }
 
-    /// Nothing where the count may be 0, else one default atom or pair.
+    /// The empty value if the count may be 0, else one default atom or pair.
     pub(crate) fn default_of(&self, alloc: Global) -> Result<Datum, AllocError>
         ensures { IfOk result (λ d. d ≡ default_of self.now) }
     {

@@ -1,7 +1,7 @@
 //! The schema of a database (RFC 7047, 3.2): its tables and columns, the values that fit a column, the defaults of new rows.
 //!
-//! Everything here is made of parts that are given. How a schema is read from its text, and which texts are refused, stands
-//! in `ov_schema_text`, so that what needs only tables and columns does not wait for it. What names no source is our own.
+//! Everything here is built from given parts. How a schema is read from its text, and which texts are refused, is in
+//! `ov_schema_text`, so that crates that need only tables and columns do not wait for it.
 #![tactic(auto)]
 
 mod base_type;

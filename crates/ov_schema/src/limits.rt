@@ -1,7 +1,7 @@
 ghost use Rattle.std.specs.Prelude.{◌≡◌};
 ghost use Rattle.ov_specs.specs.schema.Fitting.{is_between, char_count};
 
-/// Whether a number is neither below the least nor above the greatest, where they are there.
+/// Whether a number is neither below the minimum nor above the maximum, if they are given.
 pub(crate) fn is_between(least: Option<i64>, greatest: Option<i64>, number: i128) -> bool
     ensures { result ≡ is_between least greatest number }
 {
@@ -16,7 +16,7 @@ pub(crate) fn is_between(least: Option<i64>, greatest: Option<i64>, number: i128
     !is_too_small && !is_too_great
 }
 
-/// How many Unicode scalar values a text has.
+/// The number of Unicode scalar values in a text.
 pub(crate) fn char_count(text: &str) -> usize
     ensures { result ≡ char_count text.now }
 {

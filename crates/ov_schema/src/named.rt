@@ -8,7 +8,7 @@ use ov_base::Text;
 use std::alloc::{AllocError, Global};
 use std::collections::BTreeMap;
 
-/// The items in ascending order of their names' bytes. Of two with one name the first stays.
+/// The items in ascending order of their names' bytes. If two have one name, the first is kept.
 pub(crate) fn ascending<T: Drop>(
     alloc: Global,
     named: Vec<(String, T)>,
@@ -39,7 +39,7 @@ pub(crate) fn find_named<'a, T>(named: &'a [(Text, T)], name: &str) -> Option<&'
     None
 }
 
-/// The item of this name, of items in ascending order of their names. It is looked for at this place before all others.
+/// The item of this name among items in ascending order of their names. Looks at this place first.
 pub(crate) fn find_near<'a, Item>(
     named: &'a [(Text, Item)],
     place: usize,

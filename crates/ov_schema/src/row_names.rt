@@ -12,7 +12,7 @@ pub fn is_own(name: &str) -> bool
     name == "_uuid" || name == "_version"
 }
 
-/// The names of these columns but those that each row has by itself.
+/// The names of these columns, except those that each row has by itself.
 pub(crate) fn names_of_row(
     alloc: Global,
     columns: &[(Text, Column)],

@@ -33,7 +33,7 @@ impl Model for Schema {
 }
 
 impl Drop for Schema {
-    // A drop of its own, so that crates above do not prove the drop of its parts again.
+    // An explicit drop, so that crates above need not prove the drop of its parts again.
     fn drop(self) {
         let Schema {
             name,
@@ -76,14 +76,14 @@ impl Schema {
         &self.name
     }
 
-    /// The version, three numbers with dots between, or none where the schema has none.
+    /// The version, three numbers separated by dots, or `None` if the schema has none.
     pub fn version(&self) -> Option<&Text>
         ensures { option_copied result ≡ self.now.version }
     {
         self.version.as_ref()
     }
 
-    /// The tree that was read, whole.
+    /// The whole tree that was read.
     pub fn tree(&self) -> &Tree
         ensures { result.now ≡ self.now.tree }
     {
@@ -97,7 +97,7 @@ impl Schema {
         self.tables.as_slice()
     }
 
-    /// The table of this name. The tables are looked through one by one.
+    /// The table of this name. The search is linear.
     pub fn table(&self, name: &str) -> Option<&Table>
         ensures { option_copied result ≡ get self.now.tables name.now }
     {

@@ -13,11 +13,11 @@ use ov_base::{ColumnNames, Text};
 use std::alloc::{AllocError, Global};
 use std::marker::Model;
 
-/// How many columns each table has beside those that are declared.
+/// The number of columns that each table has besides the declared ones.
 const OWN_COLUMNS: usize = 2;
 
-/// A table of a schema (RFC 7047, 3.2, `<table-schema>`). It has the columns `_uuid` and `_version` beside those that
-/// are declared.
+/// A table of a schema (RFC 7047, 3.2, `<table-schema>`). It has the columns `_uuid` and `_version` besides the declared
+/// ones.
 pub struct Table {
     columns: Vec<(Text, Column)>,
     row_names: ColumnNames,
@@ -44,7 +44,7 @@ impl Model for Table {
 }
 
 impl Drop for Table {
-    // A drop of its own, so that crates above do not prove the drop of its parts again.
+    // An explicit drop, so that crates above need not prove the drop of its parts again.
     fn drop(self) {
         let Table {
             columns,
@@ -60,8 +60,8 @@ impl Drop for Table {
 }
 
 impl Table {
-    /// The table of these parts, with `_uuid` and `_version` in front of the declared columns. Of two columns with one name the
-    /// first stays.
+    /// The table of these parts, with `_uuid` and `_version` before the declared columns. If two columns have one name, the
+    /// first is kept.
     pub fn new(
         alloc: Global,
         columns: Vec<(String, Column)>,
@@ -86,43 +86,43 @@ impl Table {
         })
     }
 
-    /// The column of this name; `_uuid` and `_version` are among them. They are looked through one by one.
+    /// The column of this name, which may be `_uuid` or `_version`. The search is linear.
     pub fn column(&self, name: &str) -> Option<&Column>
         ensures { option_copied result ≡ get self.now.columns name.now }
     {
         find_named(&self.columns, name)
     }
 
-    /// The column of this name, as [`Table::column`] finds it. It is looked for first at the place that it has where it is the one
-    /// at `place` of a row: behind the table's own columns, whose names come before those that begin with a small letter.
+    /// The column of this name, as [`Table::column`] finds it. Looks first where the column at `place` of a row is: after
+    /// the table's own columns, whose names come before those that begin with a lowercase letter.
     pub fn column_near(&self, place: usize, name: &str) -> Option<&Column>
         ensures { option_copied result ≡ get self.now.columns name.now }
     {
         find_near(&self.columns, place.wrapping_add(OWN_COLUMNS), name)
     }
 
-    /// All columns with their names, in ascending order of the names' bytes; `_uuid` and `_version` are among them.
+    /// All columns with their names, including `_uuid` and `_version`, in ascending order of the names' bytes.
     pub fn columns(&self) -> &[(Text, Column)]
         ensures { result.now ≡ entries self.now.columns }
     {
         self.columns.as_slice()
     }
 
-    /// The names of the columns that a row has, `_uuid` and `_version` not among them, in ascending order of their bytes.
+    /// The names of a row's columns, without `_uuid` and `_version`, in ascending order of their bytes.
     pub fn names_of_row(&self) -> &ColumnNames
         ensures { result.now ≡ row_names self.now }
     {
         &self.row_names
     }
 
-    /// The greatest count of rows after a commit, at least 1, or none where there is no limit.
+    /// The maximum number of rows after a commit, at least 1, or `None` if there is no limit.
     pub fn max_rows(&self) -> Option<i64>
         ensures { result ≡ self.now.max_rows }
     {
         self.max_rows
     }
 
-    /// Whether rows stay that nothing refers to (RFC 7047, 3.2, `<table-schema>`, isRoot).
+    /// Whether rows stay even if nothing refers to them (RFC 7047, 3.2, `<table-schema>`, isRoot).
     pub fn is_root(&self) -> bool
         ensures { result ≡ self.now.is_root }
     {
@@ -137,7 +137,7 @@ impl Table {
     }
 }
 
-/// The columns of every table, which no client may change, and then these.
+/// The columns of every table, which no client may change, followed by these.
 fn with_own(
     alloc: Global,
     columns: Vec<(String, Column)>,

@@ -42,7 +42,7 @@ is_set_of_one_or_more-keys (Some []) = sym (ap not no_keys)
 is_set_of_one_or_more-keys (Some (a ∷ atoms)) =
     sym (ap (λ es. not (is_empty (map (λ e. e.0) es))) (entries-insert atom_cmp_total (set_of atoms) a tt) ∙ ap not (put_one a (entries (set_of atoms))))
 
--- an `enum` reads as it should where its set has an atom
+-- an `enum` reads as it should if its set has an atom
 pub reads_as_choices-keys : (of : TypeName) (d : Data) → reads_as_choices of d ≡ is_some_and (λ m. not (is_empty (keys m))) (choices_of of (Some d))
 reads_as_choices-keys (Kind of) d = is_set_of_one_or_more-keys (atoms_read (λ name. None) of d)
 reads_as_choices-keys Real d = refl

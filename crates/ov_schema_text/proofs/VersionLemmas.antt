@@ -6,7 +6,7 @@ use Rattle.std.proofs.Math.Dec.{eqb-suc-zero, eqb-zero-suc, eqb-suc-suc}
 use Rattle.std.proofs.lemmas.Bool.{eqb-true, leb-true, and_parts}
 use Rattle.ov_specs.specs.schema.Schema.{is_empty, is_digit, is_number, before_parts, split_at_dots, is_version}
 
--- what is left of a version: so many dots are still to come, and the part at work has a digit or none so far
+-- what is left of a version: the number of dots still to come, and whether the current part has a digit yet
 abbrev pub left_is_version : List ℕ → ℕ → Bool → Bool
 left_is_version [] dots begun = (dots == 0) && begun
 left_is_version (c ∷ cs) dots begun =
@@ -14,7 +14,7 @@ left_is_version (c ∷ cs) dots begun =
     else if (c == 46) && begun && not (dots == 0) then left_is_version cs (dots - 1) false
     else false
 
--- the same of the parts that are left, the first of them begun
+-- the same for the remaining parts, of which the first has begun
 abbrev left_parts : List (List ℕ) → ℕ → Bool → Bool
 left_parts [] dots begun = false
 left_parts (part ∷ parts) dots begun = (length parts == dots) && (((begun || not (is_empty part)) && list_all is_digit part) && list_all is_number parts)

@@ -1,4 +1,4 @@
--- What is built of the members of a schema, each with its name.
+-- What is built from the members of a schema, each with its name.
 use Rattle.std.specs.Prelude.{ℕ, Bool, List}
 use Rattle.ov_specs.specs.schema.SchemaShape as shape
 use Rattle.ov_specs.specs.schema.SchemaTypes.{Column, Table}

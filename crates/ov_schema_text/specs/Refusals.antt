@@ -7,7 +7,7 @@ use Rattle.ov_specs.specs.schema.Schema.{SchemaRefusal, judged, accepted}
 use Rattle.ov_schema.specs.declared.fault.SchemaFault.{SchemaFault}
 use Rattle.ov_schema_text.specs.FaultViews.{refusal_view}
 
--- the refusal is the answer to the tree, where the fault is one
+-- the refusal is the answer to the tree, if the fault is one
 abbrev pub IsRefusalOf : Option SchemaRefusal → Result Schema SchemaRefusal → Type 0
 IsRefusalOf None answer = Unit {0}
 IsRefusalOf (Some refusal) answer = answer ≡ Err refusal

@@ -33,7 +33,7 @@ base_view b = record {
   ref_type = option_map (λ s. s.now) b.ref_type;
 }
 
--- the greatest count of a type
+-- the maximum count of a type
 abbrev pub most_view : Most → shape.Most
 most_view (AtMost n) = shape.AtMost n
 most_view Unlimited = shape.Unlimited
@@ -50,11 +50,11 @@ column_view c = record { type_of = type_view c.type_of; is_ephemeral = c.is_ephe
 abbrev pub named_column_view : Bor (List ℕ) × ColumnShape → List ℕ × shape.ColumnShape
 named_column_view c = (c.0.now, column_view c.1)
 
--- texts that are lent
+-- borrowed texts
 abbrev pub texts_view : List (Bor (List ℕ)) → List (List ℕ)
 texts_view texts = map (λ text. text.now) texts
 
--- lists of texts that are lent
+-- lists of borrowed texts
 abbrev pub indexes_view : List (Vec (Bor (List ℕ)) Global) → List (List (List ℕ))
 indexes_view indexes = map (λ index. texts_view index.items) indexes
 

@@ -13,14 +13,14 @@ pub record IsSchemaText (text : List ℕ) (schema : Schema) : Type 0 where
   pub tree : tree_of text ≡ Some schema.tree
   pub accepted : accepted schema.tree ≡ Ok schema
 
--- a text is refused where it is no JSON, or its tree is refused; any text may be, when out of memory
+-- a text is refused if it is not JSON or its tree is refused; any text may be, when out of memory
 abbrev pub RefusesText : List ℕ → SchemaFileFault → Type 0
 RefusesText text Unread = ⊥
 RefusesText text NotJson = tree_of text ≡ None
 RefusesText text (Refused fault) = (tree : Data) × (tree_of text ≡ Some tree) × RefusesWith tree fault
 RefusesText text Memory = Unit {0}
 
--- so is what a file holds; and any file may be one that can't be read
+-- so is what a file holds; and any file may be one that cannot be read
 abbrev pub RefusesFile : List ℕ → SchemaFileFault → Type 0
 RefusesFile text Unread = Unit {0}
 RefusesFile text fault = RefusesText text fault

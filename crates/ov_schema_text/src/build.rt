@@ -1,4 +1,4 @@
-//! What the members of a schema make (RFC 7047, 3.2), where they may stand so: columns, with their types, and tables.
+//! Builds columns, with their types, and tables from the accepted members of a schema (RFC 7047, 3.2).
 
 pub(crate) mod columns;
 pub(crate) mod tables;

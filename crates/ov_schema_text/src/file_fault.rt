@@ -5,16 +5,16 @@ use thiserror::Error;
 /// Why a file gives no schema.
 #[derive(Clone, Copy, Debug, PartialEq, Eq, Error)]
 pub enum SchemaFileFault {
-    /// The file is not there, or could not be read to its end.
+    /// The file does not exist, or could not be read to its end.
     #[error("the file of the schema can't be read")]
     Unread,
-    /// The text is not UTF-8 or no JSON, or nests more than 127 levels deep.
+    /// The text is not UTF-8, is not JSON, or nests more than 127 levels deep.
     #[error("the schema is no JSON")]
     NotJson,
-    /// The tree is no schema.
+    /// The tree is not a schema.
     #[error("{0}")]
     Refused(SchemaFault),
-    /// A growth was refused.
+    /// An allocation failed.
     #[error("out of memory")]
     Memory,
 }

@@ -1,4 +1,4 @@
-//! Whether the members of a schema may stand as they do (RFC 7047, 3.2): the rules, and the first that is broken.
+//! Whether the members of a schema are acceptable (RFC 7047, 3.2): the rules, and the first that is broken.
 
 pub(crate) mod base_rules;
 pub(crate) mod flaws;

@@ -15,7 +15,7 @@ use ov_schema::{Schema, SchemaFault, Table};
 use serde_json::Value;
 use std::alloc::{AllocError, Global};
 
-/// What is read of a schema's tree.
+/// What is read from a schema's tree.
 #[derive(Drop)]
 pub(crate) struct SchemaMembers {
     name: Text,
@@ -23,8 +23,8 @@ pub(crate) struct SchemaMembers {
     tables: Vec<(Text, Table)>,
 }
 
-/// The schema that a tree is. The least refusal that applies anywhere in the tree is answered; `Memory` may be
-/// answered to any tree. Members that a schema does not have are passed over, and kept in its tree.
+/// The schema that a tree is. The first refusal in the order of `SchemaFault` that applies anywhere in the tree is returned;
+/// `Memory` may be returned for any tree. Unknown members are ignored, and kept in the tree.
 pub fn schema_of_tree(alloc: Global, tree: Tree) -> Result<Schema, SchemaFault>
     ensures ok { IfOk result (λ s. accepted tree ≡ Ok s) }
     ensures tree { IfOk result (λ s. s.tree ≡ tree) }

@@ -13,7 +13,7 @@ use std::rt::Files;
 
 /// The schema of the JSON text in a file (RFC 7047, 3.2), which is read whole.
 ///
-/// No contract names what a file holds: `schema_from` says what a reader's bytes give.
+/// No contract says what a file holds; that of `schema_from` says what a reader's bytes give.
 pub fn read_schema<R: Files>(rt: &R, alloc: Global, path: &str) -> Result<Schema, SchemaFileFault> {
     match fs::open(rt, path) {
         Ok(file) => schema_from(alloc, file),
@@ -22,7 +22,7 @@ pub fn read_schema<R: Files>(rt: &R, alloc: Global, path: &str) -> Result<Schema
     }
 }
 
-/// The schema of the JSON text that a reader has left (RFC 7047, 3.2).
+/// The schema of the JSON text that remains in a reader (RFC 7047, 3.2).
 pub fn schema_from<R: Read + Drop>(alloc: Global, reader: R) -> Result<Schema, SchemaFileFault>
     ensures schema { IfSome (R.remaining reader) (λ text. IfOk result (IsSchemaText text)) }
     ensures refused { IfSome (R.remaining reader) (λ text. IfErr result (RefusesFile text)) }
@@ -36,7 +36,7 @@ pub fn schema_from<R: Read + Drop>(alloc: Global, reader: R) -> Result<Schema, S
     }
 }
 
-/// The schema that a text is (RFC 7047, 3.2): JSON in UTF-8 without a byte order mark, with nothing behind it.
+/// The schema that a text is (RFC 7047, 3.2): JSON in UTF-8 without a byte order mark, with nothing after it.
 pub fn schema_of(alloc: Global, text: &[u8]) -> Result<Schema, SchemaFileFault>
     ensures schema { IfOk result (IsSchemaText text.now) }
     ensures refused { IfErr result (RefusesText text.now) }

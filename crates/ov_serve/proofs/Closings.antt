@@ -55,7 +55,7 @@ module _ (at n : ℕ) (before : State) where
     cause = closed_by_closing n before h s e t cause leads stepped none turn.cause_is ∙ ap (λ c. Some c) (sym why);
   })
 
-  -- refused memory closed it
+  -- a failed allocation closed it
   by_memory : (s : State) (h : List Entry) (e : Entry) (t : Stepped) → Leads before h s → closed_by before h n ≡ None → IsEntryAt at s (Close n Memory) e t → StandsAfter n before (h ++ e ∷ []) t.state
   by_memory s h e t leads none enters = shut_by s h e t s.next [] Memory leads enters.step (turn_close n s e t enters.step Memory enters.event) (ap stream_cause enters.event) none
 
@@ -63,7 +63,7 @@ module _ (at n : ℕ) (before : State) where
   by_damage : (s : State) (h : List Entry) (e : Entry) (t : Stepped) → Leads before h s → closed_by before h n ≡ None → IsEntryAt at s (Close n Damaged) e t → StandsAfter n before (h ++ e ∷ []) t.state
   by_damage s h e t leads none enters = shut_by s h e t s.next [] Damaged leads enters.step (turn_close n s e t enters.step Damaged enters.event) (ap stream_cause enters.event) none
 
-  -- time passed, and may have closed it, as memory was refused for a transaction of it that waits
+  -- time passed, and may have closed it because an allocation failed for its waiting transaction
   pub tick_stands : (s : State) (h : List Entry) (e : Entry) (t : Stepped) → Leads before h s → is_open s n ≡ true → closed_by before h n ≡ None → IsEntryAt at s Tick e t → StandsAfter n before (h ++ e ∷ []) t.state
   tick_stands s h e t leads there none enters = elim (turn_tick n s e t enters.step enters.event) [
     | inl turn ↦

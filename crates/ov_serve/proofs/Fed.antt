@@ -1,4 +1,4 @@
--- What comes of a piece of an open session, and of the time that passes behind it.
+-- What comes of a piece of an open session, and of the time that passes after it.
 use Rattle.std.proofs.Common.{◌≡◌, ℕ, List, [], ◌∷◌, ◌++◌, Bool, true, false, refl, sym, subst, append_assoc, max}
 use Rattle.ov_specs.specs.wire.Message.{Message, asked}
 use Rattle.ov_specs.specs.machine.Machine as machine
@@ -24,7 +24,7 @@ piece_expands : (at n : ℕ) (s new : State) (before : Streams) (stream piece : 
     → Expands at s before (Feed n piece) entries new (with_fed before n piece)
 piece_expands at n s new before stream piece messages entries there is more feeds = rw there (messages, rw is more, rw is feeds, refl)
 
--- a Tick where a transaction is due
+-- a Tick if a transaction is due
 pub passed_due : {K D : Type 0} (draws : D → Uuid → D → Type 0) (at : ℕ) (old new : CoreState K D) → is_due at old.state ≡ true → IsEntered draws (max at old.state.moment) machine.Tick old answer.Done new → PassesDue at old new
 passed_due draws at old new due e = record {
   is_due = due;
@@ -39,11 +39,11 @@ pub passed_if : {K D : Type 0} (draws : D → Uuid → D → Type 0) (ticks : Bo
 passed_if draws true at old new due entered = passed_due draws at old new (sym due) entered
 passed_if draws false at old new due same = same
 
--- the piece, with whether time passes behind it
+-- the piece, with whether time passes after it
 abbrev pub piece_of : ℕ → List ℕ → Bool → Piece
 piece_of at bytes ticks = record { moment = at; bytes = bytes; ticks = ticks }
 
--- What the piece makes of the core, behind the entries h that led to it from the state before.
+-- What the piece makes of the core, after the entries h that led to it from the state before.
 pub record PieceMakes {K D : Type 0} (n : ℕ) (before : State) (h : List machine.Entry) (streams : Streams) (stream : List ℕ) (p : Piece) (a b : CoreState K D) (cutter : CutterState) : Type 0 where
   pub entries : List machine.Entry
   pub enters : Extends a entries b

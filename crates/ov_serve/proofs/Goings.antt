@@ -97,7 +97,7 @@ module _ {K D : Type 0} (n : ℕ) (a b c : CoreState K D) (frames : List (List �
       subst (λ (all : List ℕ). WritesOf is_whole all before after) (sym (joined-more frames frame))
       (writes_on is_whole (joined frames) frame before told after written (subst (λ (all : List ℕ). WritesOf is_whole all told after) same writes))
 
-  -- no frame was left, and what was written was handed on, or not
+  -- no frame was left, and what was written was flushed, or not
   pub sends-last : (is_whole : Bool) (frame : Option (List ℕ)) (after : List ℕ) → frame ≡ None → waiting_for n b.outbox ≡ option_to_list frame ++ waiting_for n c.outbox → IfNone frame (waiting_for n b.outbox ≡ []) → c.kept ≡ b.kept → ((s : State) (history : List Entry) (given : ℕ → List (List ℕ)) → Follows s history given b → Follows s history (and_handed given n frame) c) → after ≡ told → Sends n is_whole a c before after
   sends-last is_whole frame after none oldest empty kept handed same = record {
     frames = frames;

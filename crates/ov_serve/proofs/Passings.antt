@@ -59,11 +59,11 @@ come_later at later (Some moment) h come = le-leb moment later (omega (arith, h,
 later_of : (at b m : ℕ) → m ≡ max at b → at ≤ m
 later_of at b m is = omega (arith, is)
 
--- time passed where a transaction is due
+-- time passed because a transaction is due
 pub tick_passes : (at : ℕ) (s : State) (e : Entry) (t : Stepped) → is_due at s ≡ true → IsEntryAt at s Tick e t → PassesWhereDue s (e ∷ [])
 tick_passes at s e t come enters = (λ is. come_later at e.choice.moment (due s) (later_of at s.moment e.choice.moment enters.moment) come, λ u stepped. tt)
 
--- one part behind another
+-- one part after another
 passes_behind : (s : State) (h k : List Entry) → PassesWhereDue s h → ((t : Stepped) → run s h ≡ Some t → PassesWhereDue t.state k) → PassesWhereDue s (h ++ k)
 passes_behind s [] k first then = then (record { state = s; sent = [] }) refl
 passes_behind s (e ∷ h) k first then = (

@@ -113,7 +113,7 @@ module _ {K D C : Type 0} (tells : C → ℕ → C → Type 0) (n : ℕ) (old : 
     fed = λ there. on.fed (ap (λ (s : State). is_open s n) (sym same) ∙ there);
   }
 
-  -- a piece was read and entered, and time passed behind it, or not
+  -- a piece was read and entered, and time passed after it, or not
   pub then_fed : (a b : CoreState K D) (to : IoState C) (piece heard : List ℕ) (clock : C) (is_all : Bool) (cutter : CutterState) → is_open a.state n ≡ true → (done : ServedSoFar tells n true old from a to)
       → length piece ≤ most_piece_bytes → heard ≡ to.read ++ piece → ServesPiece tells n (bytes_of done.pieces) piece a to.clock is_all b clock cutter
       → ServedAndFed tells n old from b (io_state heard to.written clock) cutter
@@ -195,11 +195,11 @@ closed_at_last at n cause before h a b after there k =
     let turn = turn_close n a.state (closing at n cause) t k.moves.stepped cause refl in
     closed_by_closing n before h a.state (closing at n cause) t cause (after.sent, after.leads) k.moves.stepped (not_closed n before h a.state after there) turn.cause_is
 
--- the cause of a stream's closing, where no other entry follows
+-- the cause of a stream's closing, if no other entry follows
 closed_within : (n : ℕ) (before : State) (h : List machine.Entry) (s : State) → StandsAfter n before h s → is_open s n ≡ false → (shut : IsShut n before h) × (closed_by before (h ++ []) n ≡ Some (stream_cause shut.last.event))
 closed_within n before h s after gone = let shut = is_shut n before h s after gone in (shut, ap (λ (l : List machine.Entry). closed_by before l n) (append-nil h) ∙ shut.cause)
 
--- where a write failed, the stream may have closed the session
+-- if a write failed, the stream may have closed the session
 told_within : (n : ℕ) (before : State) (h : List machine.Entry) (what : machine.Event) → closed_by before h n ≡ Some (stream_cause what) → IsCauseIn WriteFault (closed_by before h n)
 told_within n before h what is = inr (elim (stream_cause_is what) [
   | inl e ↦ inl (is ∙ ap (λ c. Some c) e)

@@ -28,7 +28,7 @@ nothing_damaged : (asked []).damaged ≡ false
 unfolding asked cut
 nothing_damaged = refl
 
--- a cutter of which nothing was asked yet
+-- a cutter that has not been used yet
 fed_nothing : (cutter : CutterState) → StandsFor [] [] cutter → IsFed [] cutter
 fed_nothing cutter stands = record {
   given = [];

@@ -29,7 +29,7 @@ suits false o x h = cc
 abbrev now : State → Entry → State
 now s e = record s { moment = e.choice.moment }
 
--- where all is sent to open sessions, one that is not open is sent nothing
+-- if all is sent to open sessions, one that is not open is sent nothing
 none_sent : (s : State) (n : ℕ) (sent : List Sent) → list_all (λ x. is_open s x.session) sent ≡ true → is_open s n ≡ false → frames_to n sent ≡ []
 none_sent s n [] to_open away = refl
 none_sent s n (x ∷ sent) to_open away =
@@ -56,12 +56,13 @@ away_silent n s e t h order away = none_sent s n t.sent (step_sends_open s e t h
 
 -- ---- a session that is still to come
 
--- A session whose serial is still to come is not open. Those that are told of locks are open, since the queues are in order.
+-- A session whose serial is still to come is not open. Sessions that are notified of locks are open, since the queues are in
+-- order.
 pub record ToCome (n : ℕ) (s : State) : Type 0 where
   pub away : s.next ≤ n → is_open s n ≡ false
   pub order : InOrder s
 
--- What a step leaves of a session that may be still to come. Where it is after the step, nothing was done to it.
+-- What a step leaves of a session that may be still to come. If it still is after the step, nothing was done to it.
 pub record Awaits (n : ℕ) (s : State) (e : Entry) (t : Stepped) : Type 0 where
   pub grows : s.next ≤ t.state.next
   pub to_come : ToCome n t.state

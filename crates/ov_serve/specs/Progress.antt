@@ -1,4 +1,4 @@
--- What is done of a session on the way; for private clauses. What names no source is our own.
+-- What is done of a session on the way; for private clauses.
 use Rattle.std.specs.Prelude.{◌≡◌, ℕ, List, [], ◌∷◌, ◌++◌, Bool, true, false, Some, None, MatchBool}
 use Rattle.ov_specs.specs.machine.Machine as machine
 use Rattle.ov_specs.specs.machine.Machine.{State, Sent, is_open}
@@ -25,7 +25,7 @@ pub record Sends {K D : Type 0} (n : ℕ) (is_whole : Bool) (old new : CoreState
 
 -- ---- why a session was closed
 
--- why a session was closed by its stream, by the event that closed it: damage, or refused memory
+-- why a session was closed by its stream, by the event that closed it: damage, or a failed allocation
 abbrev pub stream_cause : machine.Event → machine.Cause
 stream_cause (machine.Close session machine.Damaged) = machine.Damaged
 stream_cause event = machine.Memory
@@ -37,8 +37,8 @@ pub record IsShut (n : ℕ) (before : State) (entries : List machine.Entry) : Ty
   pub parts : entries ≡ front ++ last ∷ []
   pub cause : closed_by before entries n ≡ Some (stream_cause last.event)
 
--- The entries lead from the one state to the other. There the session is open, and none of them closed it; or the last of them did,
--- by its stream.
+-- The entries lead from the one state to the other. There the session is open, and none of them closed it; or the last of
+-- them did, by its stream.
 pub record StandsAfter (n : ℕ) (before : State) (entries : List machine.Entry) (s : State) : Type 0 where
   pub sent : List Sent
   pub leads : run before entries ≡ Some (record { state = s; sent = sent })
@@ -46,7 +46,7 @@ pub record StandsAfter (n : ℕ) (before : State) (entries : List machine.Entry)
 
 -- ---- a piece
 
--- time passed to the moment, or to the last one if that is later, where a transaction is due by the moment
+-- time passed to the moment, or to the last one if that is later, because a transaction is due by the moment
 pub record PassesDue {K D : Type 0} (at : ℕ) (old new : CoreState K D) : Type 0 where
   pub is_due : is_due at old.state ≡ true
   pub entry : machine.Entry
@@ -59,8 +59,8 @@ abbrev pub PassesIf : {K D : Type 0} → Bool → ℕ → CoreState K D → Core
 PassesIf true at old new = PassesDue at old new
 PassesIf false at old new = new ≡ old
 
--- A piece of the session's stream was entered at the moment that the clock told. Then time passed to it, where the session is
--- still open and a transaction is due; but for a passing that was refused, where not all was done.
+-- A piece of the session's stream was entered at the moment that the clock reported. Then time passed to it, if the session
+-- is still open and a transaction is due; unless that was refused, and then not all was done.
 pub record ServesPiece {K D C : Type 0} (tells : C → ℕ → C → Type 0) (n : ℕ) (stream piece : List ℕ) (old : CoreState K D) (clock : C) (is_all : Bool) (new : CoreState K D) (clock' : C) (cutter : CutterState) : Type 0 where
   pub at : ℕ
   pub told : tells clock at clock'
@@ -91,7 +91,7 @@ pub record ServedSoFar {K D C : Type 0} (tells : C → ℕ → C → Type 0) (n 
   pub serial : n ≡ old.state.next
   pub stands : StandsAfter n old.state entries new.state
 
--- the same, where the cutter was given what was read, while the session is open
+-- the same; the cutter was given what was read, while the session is open
 pub record ServedAndFed {K D C : Type 0} (tells : C → ℕ → C → Type 0) (n : ℕ) (old : CoreState K D) (from : IoState C) (new : CoreState K D) (to : IoState C) (cutter : CutterState) : Type 0 where
   pub done : ServedSoFar tells n true old from new to
   pub fed : is_open new.state n ≡ true → IsFed (bytes_of done.pieces) cutter

@@ -1,4 +1,4 @@
--- What a session's serving makes of a core and of what stands around it. What names no source is our own.
+-- What serving a session makes of a core and of what stands around it.
 use Rattle.std.specs.Prelude.{◌≡◌, ◌⊎◌, ◌≤◌, ℕ, nat_le, List, [], ◌∷◌, ◌++◌, length, Bool, true, false, if◌then◌else◌, Option, Some, None}
 use Rattle.std.specs.List.{All, flat_map}
 use Rattle.ov_specs.specs.machine.Machine as machine
@@ -29,8 +29,8 @@ io_state read written clock = record { read = read; written = written; clock = c
 
 -- ---- frames handed out
 
--- Whatever history and frames the core has followed, it follows the history with these entries behind it, and these frames of
--- the session were handed out on the way. Of the entries that were kept and these the newest are kept.
+-- Whatever history and frames the core has followed, it follows the history with these entries appended, and these frames of
+-- the session were handed out on the way. The core keeps the newest of the entries it had kept and these.
 pub record ExtendsHanding {K D : Type 0} (n : ℕ) (old : CoreState K D) (entries : List machine.Entry) (frames : List (List ℕ)) (new : CoreState K D) : Type 0 where
   pub follows : (before : State) (history : List machine.Entry) (given : ℕ → List (List ℕ)) → Follows before history given old
       → Follows before (history ++ entries) (and_all_handed given n frames) new
@@ -60,7 +60,7 @@ ArePieces pieces = All (λ p. length p.bytes ≤ most_piece_bytes) pieces
 abbrev pub bytes_of : Pieces → List ℕ
 bytes_of pieces = flat_map (λ p. p.bytes) pieces
 
--- the stream events of a piece: its bytes come at its moment, and then time passes to it, where it does
+-- the stream events of a piece: its bytes come at its moment, and then time passes to it, if it does
 abbrev pub piece_events : ℕ → Piece → List (ℕ × StreamEvent)
 piece_events n p = (p.moment, Feed n p.bytes) ∷ (if p.ticks then (p.moment, Passes p.moment) ∷ [] else [])
 
@@ -68,14 +68,14 @@ piece_events n p = (p.moment, Feed n p.bytes) ∷ (if p.ticks then (p.moment, Pa
 abbrev pub events_of : ℕ → Pieces → List (ℕ × StreamEvent)
 events_of n pieces = (0, Opens) ∷ flat_map (piece_events n) pieces
 
--- the clock told the moments of the pieces, one after another
+-- the clock reported the moments of the pieces, one after another
 abbrev pub TellsMoments : {C : Type 0} → (C → ℕ → C → Type 0) → C → Pieces → C → Type 0
 TellsMoments tells old [] new = new ≡ old
 TellsMoments {C} tells old (p ∷ pieces) new = (mid : C) × tells old p.moment mid × TellsMoments tells mid pieces new
 
 -- ---- when time passes
 
--- From this state on, time passes among the entries only where a transaction is due by then.
+-- From this state on, time passes among the entries only if a transaction is due by then.
 abbrev pub PassesWhereDue : State → List machine.Entry → Type 0
 PassesWhereDue s [] = Unit {0}
 PassesWhereDue s (e ∷ entries) =
@@ -84,7 +84,7 @@ PassesWhereDue s (e ∷ entries) =
 
 -- ---- why a session was closed
 
--- The cause that is told is that of the history. Where a write failed, the stream may have closed the session before.
+-- The cause that is reported is that of the history. If a write failed, the stream may have closed the session before.
 abbrev pub IsCauseIn : Cause → Option machine.Cause → Type 0
 IsCauseIn InputEnded closed = closed ≡ Some machine.InputEnded
 IsCauseIn ReadFault closed = closed ≡ Some machine.ReadFault
@@ -102,7 +102,7 @@ ClosesAfter n cause mid last new =
 abbrev pub ClosesWithin : ℕ → State → List machine.Entry → State → Type 0
 ClosesWithin n mid last new = (is_open mid n ≡ false) × (last ≡ []) × (new ≡ mid)
 
--- how the session was closed, by the cause that is told
+-- how the session was closed, by the cause that is reported
 abbrev pub ClosesFor : ℕ → Cause → State → List machine.Entry → State → Type 0
 ClosesFor n InputEnded mid last new = ClosesAfter n machine.InputEnded mid last new
 ClosesFor n ReadFault mid last new = ClosesAfter n machine.ReadFault mid last new
@@ -122,16 +122,16 @@ is_written Damaged = true
 is_written Overrun = true
 is_written Memory = true
 
--- What a history from an opening says of a session at its end, by the bytes that were written before it and behind it: all
--- that the history sends the session was written, or a beginning of that where a write failed; and the history closes the
--- session for the cause that is told.
+-- What a history from an opening says of a session at its end, by the bytes written before it and after it: all that the
+-- history sends the session was written, or a beginning of that if a write failed; and the history closes the session for
+-- the cause that is reported.
 pub record EndsAs (n : ℕ) (cause : Cause) (schema : Schema) (database : Database) (history : List machine.Entry) (said said' : List ℕ) : Type 0 where
   pub reached : machine.Stepped
   pub legal : run (opening schema database) history ≡ Some reached
   pub written : WritesOf (is_written cause) (out n reached.sent) said said'
   pub told : IsCauseIn cause (closed_by (opening schema database) history n)
 
--- What was done from the opening of the session to its closing. Time passes only where a transaction that waits is due.
+-- What was done from the opening of the session to its closing. Time passes only if a waiting transaction is due.
 pub record Served {K D C : Type 0} (tells : C → ℕ → C → Type 0) (n : ℕ) (old : CoreState K D) (from : IoState C) (cause : Cause) (new : CoreState K D) (to : IoState C) : Type 0 where
   -- what the core entered, what it handed out, and what was read
   pub entries : List machine.Entry
@@ -152,15 +152,15 @@ pub record Served {K D C : Type 0} (tells : C → ℕ → C → Type 0) (n : ℕ
   pub ticks : PassesWhereDue old.state front
   pub closes : ClosesFor n cause mid last new.state
   pub shut : is_open new.state n ≡ false
-  -- the frames were written, and none is left waiting; or a beginning of them where a write failed
+  -- the frames were written, and none is left waiting; or a beginning of them if a write failed
   pub written : WritesOf (is_written cause) (joined frames) from.written to.written
   pub none_left : is_written cause ≡ true → waiting_for n new.outbox ≡ []
-  -- whatever history the core has followed from its opening, this is what it says of the session with the entries behind it
+  -- whatever history the core has followed from its opening, this is what it says of the session with the entries appended
   pub ends : (schema : Schema) (database : Database) (history : List machine.Entry) (given : ℕ → List (List ℕ)) → Follows (opening schema database) history given old
       → EndsAs n cause schema database (history ++ entries) from.written to.written
 
--- What the ends tell of a cause: the input ended only where the reader met its end, and a failure is counted where one is told
--- and nowhere else.
+-- What the ends say of a cause: the input ended only if the reader met its end, and a failure is counted if one is reported
+-- and never otherwise.
 abbrev pub CauseMatchesCounts : Cause → Bool → ℕ → ℕ → ℕ → ℕ → Type 0
 CauseMatchesCounts InputEnded at_end reads reads' writes writes' = (at_end ≡ true) × (reads' ≡ reads) × (writes' ≡ writes)
 CauseMatchesCounts ReadFault at_end reads reads' writes writes' = (reads' ≡ one_more reads) × (writes' ≡ writes)

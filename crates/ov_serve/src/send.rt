@@ -8,7 +8,7 @@ use ov_ends::{Sink, write_frame};
 use ov_keeper::Keeper;
 use ov_requests::Draws;
 
-/// Writes all that waits for the session, oldest first, and hands it on. False where the writer failed.
+/// Writes all that waits for the session, oldest first, and flushes it. Returns false if the writer failed.
 pub(crate) fn write_waiting<K: Keeper + Drop, D: Draws + Drop, W: Sink>(
     core: &mut Core<K, D>,
     session: Session,

@@ -24,13 +24,13 @@ use std::sync::Wait;
 /// The most bytes that are read at once.
 const PIECE_BYTES: usize = 4096;
 
-/// Serves one session: reads its stream in pieces of at most 4,096 bytes, each at the moment in milliseconds that the clock
-/// tells behind it, and writes what is sent to it before it reads on (our own, over RFC 7047, 4). Behind a piece time passes to
-/// its moment, where a `wait` of a transaction that waits has run out by then (RFC 7047, 5.2.6); at no other time.
+/// Serves one session (RFC 7047, 4): reads its stream in pieces of at most 4,096 bytes, asks the clock for the moment of
+/// each, in milliseconds, after reading it, and writes what is sent to the session before reading on. After each piece,
+/// advances time to its moment if a waiting transaction has timed out by then (RFC 7047, 5.2.6); never otherwise.
 ///
-/// It ends with the cause for which the history closed the session, and then all that was sent to it is written and flushed. With
-/// `WriteFault`, where the writer failed, a beginning of that is written, and the stream may have closed the session before.
-/// Where no session can be opened nothing is read or written, and the fault is that of `Core::open_session`.
+/// Returns the cause for which the history closed the session, after all that was sent to it was written and flushed. With
+/// `WriteFault`, the writer failed: a beginning of that is written, and the stream may have closed the session before. If no
+/// session can be opened, nothing is read or written, and the fault is that of `Core::open_session`.
 pub fn serve_one<R: Wait, K: Keeper + Drop, D: Draws + Drop, S: Source, W: Sink, C: Clock>(
     rt: &R,
     core: &mut Core<K, D>,
@@ -43,7 +43,8 @@ pub fn serve_one<R: Wait, K: Keeper + Drop, D: Draws + Drop, S: Source, W: Sink,
         cause core.new (io_state (S.bytes_read reader.new) (W.bytes_written writer.new) clock.new)) }
     ensures flushed { IfOk result (λ cause. is_written cause ≡ true → W.is_flushed writer.new ≡ true) }
     ensures ends { IfOk result (λ cause. CauseMatchesCounts cause (S.at_end reader.new) (S.faults reader.old) (S.faults reader.new) (W.faults writer.old) (W.faults writer.new)) }
-    // What was read is of what the reader had, all of it where its end is told, and what was written is what the writer was given.
+    // What was read is of what the reader had, all of it if its end is reported, and what was written is what the writer was
+    // given.
     ensures input { IfOk result (λ cause. KeepsInput (S.bytes_read reader.old) (S.remaining reader.old) (S.bytes_read reader.new) (S.remaining reader.new)) }
     ensures all { IfOk result (λ cause. cause ≡ Cause.InputEnded → IsAtEnd (S.remaining reader.new)) }
     ensures given { IfOk result (λ cause. GivesWritten (W.bytes_written writer.old) (W.contents writer.old) (W.bytes_written writer.new) (W.contents writer.new)) }
@@ -55,7 +56,7 @@ pub fn serve_one<R: Wait, K: Keeper + Drop, D: Draws + Drop, S: Source, W: Sink,
     Ok(serve_session(rt, core, alloc, session, &mut cutter, reader, writer, clock))
 }
 
-/// Serves a session that was opened, up to its closing.
+/// Serves a session that was opened, until it is closed.
 fn serve_session<R: Wait, K: Keeper + Drop, D: Draws + Drop, S: Source, W: Sink, C: Clock>(
     rt: &R,
     core: &mut Core<K, D>,
@@ -101,8 +102,9 @@ fn serve_session<R: Wait, K: Keeper + Drop, D: Draws + Drop, S: Source, W: Sink,
     unreachable!()
 }
 
-/// Enters a piece of the open session's stream at the moment that the clock tells, and then gives the transactions that are due
-/// their turn, unless the piece closed the session. An `Err` where memory is refused for that: they get it behind the next piece.
+/// Enters a piece of the open session's stream at the moment that the clock reports, and then gives the transactions that
+/// are due their turn, unless the piece closed the session. Returns `Err` if an allocation fails in that: they get it after
+/// the next piece.
 fn serve_piece<K: Keeper + Drop, D: Draws + Drop, C: Clock>(
     core: &mut Core<K, D>,
     alloc: Global,
@@ -125,7 +127,7 @@ fn serve_piece<K: Keeper + Drop, D: Draws + Drop, C: Clock>(
     Ok(())
 }
 
-/// Why the session that was closed last was closed, where its stream closed it: by damage, or when out of memory.
+/// Why the session that was closed last was closed, if its stream closed it: by damage, or when out of memory.
 fn cause_of_closing(history: &VecDeque<Entry>) -> Cause
     ensures one_of { (result ≡ Cause.Damaged) ⊎ (result ≡ Cause.Memory) }
     ensures found { (front : List SpecEntry) (last : SpecEntry) → map entry_view history.now.items ≡ front ++ last ∷ [] → cause_view result ≡ stream_cause last.event }

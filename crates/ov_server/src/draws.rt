@@ -13,7 +13,7 @@ pub struct RandomDraws<G> {
 }
 
 impl RandomDraws<StdRng> {
-    /// Those of a generator that the runtime seeds.
+    /// Identifiers from a generator that the runtime seeds.
     pub fn seeded(rt: &impl RandomSource) -> io::Result<RandomDraws<StdRng>> {
         Ok(RandomDraws {
             generator: make_rng(rt)?,

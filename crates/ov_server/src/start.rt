@@ -32,8 +32,8 @@ where
     }
 }
 
-/// Runs the program, and tells how it ends. Faults are looked for in the arguments, then in the schema, then in the database, and
-/// then in the address. `start` stands for what the database's file and its log hold.
+/// Runs the program, and returns how it ends. Faults are looked for in the arguments, then in the schema, then in the
+/// database, and then in the address. `start` stands for what the database's file and its log hold.
 pub fn run<R, S, I, O>(host: &HostRuntime, rt: &R, start: S, input: I, output: O) -> Ending
 where
     R: Net<Listener = TcpListener, Stream = TcpStream>
@@ -115,7 +115,7 @@ fn settings<R: Env + AllocGlobal>(rt: &R, alloc: Global) -> Result<Settings, End
     }
 }
 
-/// The schema of a file, or the program's own where none is named.
+/// The schema of a file, or the program's own if none is named.
 fn schema_of<R: Files>(rt: &R, alloc: Global, file: Option<Text>) -> Result<Schema, Ending> {
     let schema = match file {
         Some(path) => read_schema(rt, alloc, path.as_str()),

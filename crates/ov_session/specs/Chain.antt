@@ -1,4 +1,4 @@
--- What comes of a keeper, from the opening of its database to the end of the session. What names no source is our own.
+-- What comes of a keeper, from the opening of its database to the end of the session.
 use Rattle.std.specs.Prelude.{◌≡◌, ◌⊎◌, ℕ, List, [], Option, Bool, true, false}
 use Rattle.std.specs.Io.KnownBytes.{IsAtEnd}
 use Rattle.ov_specs.specs.rows.Lines.{Contents}
@@ -55,7 +55,8 @@ pub record RefusesCore {K : Type 0} (k : Ghosts K) (keeper : K) (schema : Schema
   pub honest : k.is_honest refused.keeper → k.is_honest keeper
 
 module _ {K D C : Type 0} (k : Ghosts K) (tells : C → ℕ → C → Type 0) where
-  -- One session of the core was served to its closing. A crash then leaves the lines of the core's database, and an open finds it.
+  -- One session of the core was served to its closing. A crash then leaves the lines of the core's database, and an open
+  -- finds it.
   pub record ServesCore (cause : Cause) (old : CoreState K D) (from : Ends C) (new : CoreState K D) (to : Ends C) : Type 0 where
     pub served : Served tells old.state.next old (io_of from) cause new (io_of to)
     pub flushed : is_written cause ≡ true → to.writer.is_flushed ≡ true
@@ -66,8 +67,8 @@ module _ {K D C : Type 0} (k : Ghosts K) (tells : C → ℕ → C → Type 0) wh
     pub leaves : k.is_honest new.keeper → (held : Contents) → k.leaves new.keeper held → LeavesItsOwn new.state held
     pub finds : k.is_honest new.keeper → MayFind (k.leaves new.keeper) new.state.schema new.state.database new.state.sealed
 
-  -- The session was served, and the ending is that of the cause for which it was closed; or it could not be opened, and nothing is
-  -- changed.
+  -- The session was served, and the ending is that of the cause for which it was closed; or it could not be opened, and
+  -- nothing is changed.
   abbrev pub EndsSession : CoreState K D → Ends C → Ending → CoreState K D → Ends C → Type 0
   EndsSession old from ending new to =
       ((cause : Cause) × (ending ≡ by_cause cause) × ServesCore cause old from new to)
@@ -82,7 +83,7 @@ module _ {K D C : Type 0} (k : Ghosts K) (tells : C → ℕ → C → Type 0) wh
       ⊎ ((refused : RefusedOpen K) × (ending ≡ by_open refused.fault) × RefusesCore k keeper schema refused
       × (left ≡ refused.keeper) × (to ≡ from))
 
-  -- From the first byte of a reader and of a writer; or memory for the writer's buffer was refused, before anything else.
+  -- From the first byte of a reader and of a writer; or the writer's buffer could not be allocated, before anything else.
   abbrev pub EndsOver : K → Schema → D → (remaining contents : Option (List ℕ)) → Ending → K → Type 0
   EndsOver keeper schema draws remaining contents told left =
       ((told ≡ ending.Memory) × (left ≡ keeper))

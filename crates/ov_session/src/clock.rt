@@ -5,7 +5,8 @@ use ov_ends::Clock;
 use std::rt::Clock as SystemClock;
 use std::time::Instant;
 
-/// A clock of milliseconds from its making on, by the system's monotonic clock. Where that can't be read the last moment stands.
+/// A clock of milliseconds since it was made, by the system's monotonic clock. If that can't be read, it stays at the last
+/// moment.
 #[derive(Drop)]
 pub struct MonotonicClock<'a, R: SystemClock> {
     system: &'a R,
@@ -29,7 +30,7 @@ impl<'a, R: SystemClock> MonotonicClock<'a, R> {
     }
 }
 
-/// The milliseconds between two readings; 0 where one of them failed.
+/// The milliseconds between two readings; 0 if one of them failed.
 fn milliseconds_between(start: Option<Instant>, now: Option<Instant>) -> u64
     ensures { result ≡ milliseconds_between start now }
 {

@@ -22,9 +22,9 @@ pub struct Ended<K> {
 }
 
 /// Serves one session of the database that a keeper holds under a schema, over a reader and a writer of std's: what comes is
-/// what the reader had, and what is sent is what the writer was given. The moments are milliseconds from the call on.
+/// what the reader had, and what is sent is what the writer was given. The moments are milliseconds since the call.
 ///
-/// Where memory for the writer's buffer is refused, the database is not opened.
+/// If the writer's buffer can't be allocated, the database is not opened.
 pub fn serve_over<
     'a,
     R: Wait + SystemClock,
@@ -58,7 +58,7 @@ pub fn serve_over<
 }
 
 /// Opens the machine over what a keeper holds under a schema, and serves one session of it, from the first byte of the input
-/// to its end. Where it is not opened, nothing is read or written.
+/// to its end. If the machine is not opened, nothing is read or written.
 pub fn serve<R: Wait, K: Keeper + Drop, D: Draws + Drop, S: Source, W: Sink, C: Clock>(
     rt: &R,
     alloc: Global,
@@ -88,8 +88,8 @@ pub fn serve<R: Wait, K: Keeper + Drop, D: Draws + Drop, S: Source, W: Sink, C: 
     }
 }
 
-/// Serves one session of the machine, and tells how the program ends: by the cause for which the session was closed, where
-/// it was opened.
+/// Serves one session of the machine, and returns how the program ends: by the cause for which the session was closed, if it
+/// was opened.
 fn serve_core<R: Wait, K: Keeper + Drop, D: Draws + Drop, S: Source, W: Sink, C: Clock>(
     rt: &R,
     core: &mut Core<K, D>,

@@ -45,7 +45,7 @@ pub serials_by_keys : (es : Keys) → keys_of es ≡ map (λ n. n.serial) (map s
 serials_by_keys [] = refl
 serials_by_keys (e ∷ es) = ap (λ (rest : List ℕ). e.0 ∷ rest) (serials_by_keys es)
 
--- ---- one session more
+-- ---- one more session
 
 -- a serial above all others comes last
 pub insert_last : (next key : ℕ) (es : Keys) → AllByRecursion (λ e. e.0 < next) es → insert_entry nat_cmp es next key ≡ es ++ (next, key) ∷ []
@@ -54,7 +54,7 @@ insert_last next key (e ∷ es) below = rw (← nat_cmp_is next e.0 Greater belo
 
 -- ---- one session less
 
--- where no key has the serial, none is left out
+-- if no key has the serial, none is left out
 pub none_left_out : (n : ℕ) (es : Keys) → lookup (is_at (nat_cmp n)) es ≡ None → map session_at es ≡ without_serial n (map session_at es)
 none_left_out n [] none = refl
 none_left_out n (e ∷ es) none = by (is_at (nat_cmp n) e.0) (eqb e.0 n) (same_serial n e.0) none (none_left_out n es)
@@ -109,7 +109,7 @@ pub below_more : (next key : ℕ) (es : Keys) → AllByRecursion (λ e. e.0 < ne
 below_more next key [] below = (omega arith, below)
 below_more next key (e ∷ es) below = let here = below.0 in (omega arith, below_more next key es below.1)
 
--- the serial at a key was taken out, which no session has any more
+-- the serial at a key was taken out, which no session has any longer
 pub held_less : (old new : Slab ℕ) (serial key : ℕ) (es : Keys) → get old key ≡ Some serial → Updates old new key None → lookup (is_at (nat_cmp serial)) es ≡ None → AllByRecursion (λ e. get old e.1 ≡ Some e.0) es
     → AllByRecursion (λ e. get new e.1 ≡ Some e.0) es
 held_less old new serial key [] was updates none held = held
@@ -139,7 +139,7 @@ held_at serials n key (e ∷ es) found held = by (is_at (nat_cmp n) e.0) (same_s
 
 -- ---- room
 
--- where there is room, fewer sessions are open than may be
+-- if there is room, fewer sessions are open than may be
 pub room_for_one : (count next : ℕ) → has_no_room count next ≡ false → count < most_sessions
 room_for_one count next h = by (leb most_sessions count) refl h
   where
@@ -147,9 +147,9 @@ room_for_one count next h = by (leb most_sessions count) refl h
     by true is k = cc
     by false is k = leb-false most_sessions count is
 
--- ---- the sessions but for one
+-- ---- the sessions without one
 
--- a session is among them where it was and is not the one
+-- a session is among them if it was and is not the one
 among_without : (n k : ℕ) (sessions : List Session) → has_serial k (without_serial n sessions) ≡ (not (eqb k n) && has_serial k sessions)
 among_without n k [] = never (eqb k n)
   where
@@ -171,7 +171,7 @@ among_without n k (s ∷ sessions) = by (eqb s.serial n) refl (eqb s.serial k) r
     by false is_n true is_k false same rest = rw is_k refl
     by false is_n false is_k d same rest = rw is_k rest
 
--- the one is not open any more
+-- the one is no longer open
 pub shut_without : (n : ℕ) (sessions : List Session) → has_serial n (without_serial n sessions) ≡ false
 shut_without n sessions = among_without n n sessions ∙ ap (λ (b : Bool). not b && has_serial n sessions) (eq-eqb n n refl)
 
@@ -206,11 +206,11 @@ all_kept : (p : Session → Bool) (sessions : List Session) → AllByRecursion (
 all_kept p [] all = refl
 all_kept p (s ∷ sessions) all = rw all.0 (ap (λ (left : List Session). s ∷ left) (all_kept p sessions all.1))
 
--- where none was closed, all are
+-- if none was closed, all are open
 pub still_all : (sessions : List Session) → sessions ≡ filter (λ m. has_serial m.serial sessions) sessions
 still_all sessions = all_kept (λ m. has_serial m.serial sessions) sessions (each_open sessions)
 
--- where one was closed, the others are
+-- if one was closed, the others are open
 pub still_others : (n : ℕ) (sessions : List Session) → without_serial n sessions ≡ filter (λ m. has_serial m.serial (without_serial n sessions)) sessions
 still_others n sessions = same_kept (λ m. not (eqb m.serial n)) (λ m. has_serial m.serial (without_serial n sessions)) sessions (agree sessions (each_open sessions))
   where
@@ -259,7 +259,7 @@ left_then a b c first then =
     then ∙ (ap (filter (λ n. has_serial n.serial c)) first
     ∙ kept_of_kept (λ n. has_serial n.serial c) (λ n. has_serial n.serial b) a (λ s h. among_kept (λ n. has_serial n.serial c) s.serial b (ap (has_serial s.serial) (sym then) ∙ h)))
 
--- where all serials are below the next, no session has that one
+-- if all serials are below the next, no session has that one
 pub none_beyond : (next : ℕ) (es : Keys) → AllByRecursion (λ e. e.0 < next) es → has_serial next (map session_at es) ≡ false
 none_beyond next [] below = refl
 none_beyond next (e ∷ es) below = rw (ne_eqb e.0 next (λ same. omega (arith, same, below.0)), none_beyond next es below.1) refl

@@ -1,4 +1,4 @@
--- The open sessions: their serials and their keys. What names no source is our own.
+-- The open sessions: their serials and their keys.
 use Rattle.std.specs.Prelude.{◌≡◌, ◌≢◌, ℕ, ◌+◌, ◌-◌, ◌^◌, ◌<◌, ◌≤◌, ◌==◌, ◌||◌, nat_le, not, List, [], ◌∷◌, ◌++◌, filter, length, Bool, false, Option, Some, None, if◌then◌else◌, refl}
 use Rattle.std.specs.List.{All, AllByRecursion, list_any}
 use Rattle.std.specs.Coded.{Coded, code_by, coded×, coded_ℕ, coded_list}
@@ -9,11 +9,11 @@ use Rattle.ov_sessions.specs.declared.session.Session.{Session}
 abbrev pub most_sessions : ℕ
 most_sessions = 64
 
--- the number that is no serial any more: the last serial is the one before it
+-- the number after the last serial
 abbrev pub beyond_serials : ℕ
 beyond_serials = 2 ^ 64 - 1
 
--- what contracts see of the open sessions: they with their keys, in order of opening, and the serial of the next
+-- what contracts see of the open sessions: the sessions with their keys, in order of opening, and the next serial
 pub record OpenSessions : Type 0 where
   pub open_sessions : List Session
   pub next : ℕ
@@ -22,19 +22,19 @@ pub record OpenSessions : Type 0 where
 abbrev pub has_serial : ℕ → List Session → Bool
 has_serial serial sessions = list_any (λ n. n.serial == serial) sessions
 
--- where so many sessions are open and this is the next serial, no place is left for a session, or no serial
+-- no place or no serial is left, if this many sessions are open and this is the next serial
 abbrev pub has_no_room : ℕ → ℕ → Bool
 has_no_room count next = nat_le most_sessions count || nat_le beyond_serials next
 
--- the next serial, where one is left
+-- the next serial, if one is left
 abbrev pub serial_left : ℕ → Option ℕ
 serial_left next = if nat_le beyond_serials next then None else Some next
 
--- the sessions but for the one of a serial
+-- the sessions without the one of a serial
 abbrev pub without_serial : ℕ → List Session → List Session
 without_serial serial sessions = filter (λ n. not (n.serial == serial)) sessions
 
--- no session was opened: these are those that are left of the others
+-- no session was opened: these are the ones left of the others
 abbrev pub IsLeft : List Session → List Session → Type 0
 IsLeft old new = new ≡ filter (λ n. has_serial n.serial new) old
 
@@ -42,8 +42,7 @@ IsLeft old new = new ≡ filter (λ n. has_serial n.serial new) old
 abbrev pub IsFreeKey : ℕ → List Session → Type 0
 IsFreeKey key sessions = All (λ n. n.key ≢ key) sessions
 
--- The session was opened: it comes last, with the serial that was the next one, which no open session has, and with a key that was
--- free.
+-- The session was opened: it comes last, with the next serial, which no open session has, and with a key that was free.
 pub record OpensSession (old : OpenSessions) (session : Session) (new : OpenSessions) : Type 0 where
   pub sessions : new ≡ record { open_sessions = old.open_sessions ++ session ∷ []; next = old.next + 1 }
   pub serial : session.serial ≡ old.next
@@ -65,6 +64,6 @@ pub record AreTied (serials : Slab ℕ) (keys : List (ℕ × ℕ)) (next : ℕ) 
   pub held : AllByRecursion (λ e. get serials e.1 ≡ Some e.0) keys
   pub below : AllByRecursion (λ e. e.0 < next) keys
 
--- how a model stores the open sessions, where a session is stored so
+-- how a model stores the open sessions, given how it stores a session
 abbrev pub open_sessions_code : Coded Session → Coded OpenSessions
 open_sessions_code code = code_by (List Session × ℕ) (coded× (coded_list code) coded_ℕ) (λ s. (s.open_sessions, s.next)) (λ p. record { open_sessions = p.0; next = p.1 }) (λ _. refl)

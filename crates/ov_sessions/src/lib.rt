@@ -1,5 +1,4 @@
-//! The open sessions: each has a serial, in order of opening, and a key of its own while it is open. What names no source is our
-//! own.
+//! The open sessions: each has a serial, in order of opening, and a key of its own while it is open.
 #![tactic(auto)]
 
 mod session;

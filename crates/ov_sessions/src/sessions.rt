@@ -12,8 +12,8 @@ use std::marker::Model;
 /// The most sessions that may be open.
 const MOST_SESSIONS: usize = 64;
 
-/// The open sessions, each with a key below 64 that is its own while it is open. Serials only rise, so in their order the
-/// sessions stand in order of opening.
+/// The open sessions, each with a key below 64 that is its own while it is open. Serials only rise, so sessions ordered by
+/// serial are in order of opening.
 #[derive(Drop)]
 pub struct Sessions {
     /// The serial of each open session, at its key.
@@ -39,12 +39,12 @@ impl Model for Sessions {
 }
 
 impl Sessions {
-    /// No session is open, and the next serial is 1. The room for all serials is taken here.
+    /// No session is open, and the next serial is 1. Allocates the room for all serials.
     pub fn new(alloc: Global) -> Result<Sessions, AllocError>
         ensures { IfOk result (λ s. s ≡ record { open_sessions = []; next = 1 }) }
     {
         let serials = Slab::with_capacity(alloc, MOST_SESSIONS)?;
-        // Its keys are below its capacity, so it must have no more room than it was asked for.
+        // Keys are below the capacity, so it must not exceed what was asked for.
         if serials.capacity() != MOST_SESSIONS {
             return Err(AllocError);
         }
@@ -55,14 +55,14 @@ impl Sessions {
         })
     }
 
-    /// How many sessions more may be open.
+    /// How many more sessions may be open.
     pub fn free_places(&self) -> usize
         ensures { result ≡ most_sessions - length self.now.open_sessions }
     {
         MOST_SESSIONS - self.keys.len()
     }
 
-    /// The next serial; None where none is left.
+    /// The next serial; `None` if none is left.
     pub fn next_serial(&self) -> Option<u64>
         ensures { result ≡ serial_left self.now.next }
     {
@@ -73,7 +73,7 @@ impl Sessions {
         }
     }
 
-    /// Whether no place is left, or no serial.
+    /// Whether no place or no serial is left.
     pub fn is_full(&self) -> bool
         ensures { result ≡ has_no_room (length self.now.open_sessions) self.now.next }
     {
@@ -96,7 +96,7 @@ impl Sessions {
         self.keys.keys()
     }
 
-    /// Opens a session, with the next serial. Where memory is refused nothing is changed.
+    /// Opens a session, with the next serial. If an allocation fails, nothing changes.
     pub fn open(&mut self) -> Result<Session, AllocError>
         requires { has_no_room (length self.old.open_sessions) self.old.next ≡ false }
         ensures opened { IfOk result (λ session. OpensSession self.old session self.new) }
@@ -110,7 +110,7 @@ impl Sessions {
         Ok(Session { key, serial })
     }
 
-    /// Closes the session of this serial, if it is open. It takes no memory.
+    /// Closes the session of this serial, if it is open. Allocates nothing.
     pub fn close(&mut self, serial: u64)
         ensures { self.new ≡ record self.old { open_sessions = without_serial serial self.old.open_sessions } }
     {

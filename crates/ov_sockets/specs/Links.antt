@@ -1,4 +1,4 @@
--- The ends of a connection. What names no source is our own.
+-- The ends of a connection.
 use Rattle.std.specs.Prelude.{◌≡◌, [], false}
 use Rattle.std.specs.Borrow.{Bor}
 use Rattle.std.specs.Io.Buffered.{writer_buffer, writer_inner}
@@ -7,7 +7,7 @@ use Rattle.std.specs.declared.net.tcp.TcpStream.{TcpStream}
 use Rattle.ov_ends.specs.declared.watched.Watched.{Watched}
 use Rattle.ov_lanes.specs.declared.link.Link.{Link}
 
--- it was asked for nothing yet
+-- it has not been used yet
 abbrev pub IsUnused : {T : Type 0} → Watched T → Type 0
 IsUnused end = (end.trace.bytes ≡ []) × (end.ended ≡ false) × (end.flushed ≡ false) × (end.failures ≡ 0)
 

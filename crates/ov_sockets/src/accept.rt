@@ -4,10 +4,10 @@ use crate::fault::ListenFault;
 use std::alloc::Global;
 use std::net::{TcpListener, TcpStream};
 
-/// Accepts so many connections, one after another, and waits for each. What is written to one of them is sent at once, and not
-/// gathered (TCP_NODELAY), unless the system refuses that.
+/// Accepts this many connections, one after another, and waits for each. What is written to one of them is sent at once and
+/// not gathered (TCP_NODELAY), unless the system refuses that.
 ///
-/// It is Refused where one is not accepted, and then those before it are closed. Without a client it waits without an end.
+/// Returns `Refused` if one is not accepted, and then those before it are closed. Without a client it waits forever.
 pub fn accept_all(
     alloc: Global,
     listener: &TcpListener,

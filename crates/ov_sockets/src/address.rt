@@ -7,11 +7,12 @@ use ov_base::Text;
 use std::alloc::{AllocError, Global};
 use std::net::{Net, SocketAddr, TcpListener, TcpStream};
 
-/// Listens at an address, HOST:PORT: a name or an IP address, in brackets where it is of version 6, and a port from 0 to 65535.
-/// The first address of a name that can be bound is taken. Where the port is 0 the system chooses a free one.
+/// Listens at an address, HOST:PORT: a name or an IP address, in brackets if it is of version 6, and a port from 0 to 65535.
+/// The first address of a name that can be bound is taken. If the port is 0, the system chooses a free one.
 ///
-/// From now on clients connect, before they are accepted: up to 128 wait then. It is Refused where the text is no address, or
-/// none of its addresses can be bound, as where another listens at the port; and `Memory` where the system is out of memory.
+/// Afterwards clients can connect before they are accepted: up to 128 then wait. Returns `Refused` if the text is not an
+/// address, or none of its addresses can be bound, for example because another program listens at the port; and `Memory` if
+/// the system is out of memory.
 pub fn listen<R: Net<Listener = TcpListener, Stream = TcpStream>>(
     net: &R,
     address: &str,
@@ -19,8 +20,9 @@ pub fn listen<R: Net<Listener = TcpListener, Stream = TcpStream>>(
     Ok(TcpListener::bind(net, address)?)
 }
 
-/// The line that tells where a listener listens, without its end, where the address that was named ends in `:0`: then the system
-/// chose the port. For any other address there is none. It is Refused where the system doesn't tell the address.
+/// The line that reports where a listener listens, without its line end, if the address that was named ends in `:0`: then
+/// the system chose the port. For any other address there is none. Returns `Refused` if the system doesn't report the
+/// address.
 pub fn chosen_line(
     alloc: Global,
     named: &str,
@@ -43,7 +45,7 @@ fn leaves_port_open(named: &str) -> bool
     named.as_bytes().ends_with(b":0")
 }
 
-/// The line that tells an address.
+/// The line that reports an address.
 fn line_of(alloc: Global, address: SocketAddr) -> Result<Text, AllocError>
     ensures { IfOk result (λ text. text ≡ line address) }
 {

@@ -6,10 +6,11 @@ use thiserror::Error;
 /// Why there are no connections.
 #[derive(Clone, Copy, Debug, PartialEq, Eq, Error)]
 pub enum ListenFault {
-    /// The address is none, or none of its own, or it is in use; or a connection was not accepted.
+    /// The text is not an address, or the address is not one of this machine's or is in use; or a connection was not
+    /// accepted.
     #[error("no connection")]
     Refused,
-    /// Memory was refused.
+    /// An allocation failed.
     #[error("out of memory")]
     Memory,
 }

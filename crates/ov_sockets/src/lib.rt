@@ -1,6 +1,7 @@
-//! Sessions over TCP: a listener, so many connections of it, and of each the two ends that a session is served over.
+//! Sessions over TCP: a listener, a number of its connections, and for each the two ends that a session is served over.
 //!
-//! This crate knows of no session and no protocol. What comes over a connection is the reader's, and what is sent the writer's.
+//! This crate knows of no session and no protocol. What comes over a connection is the reader's, and what is sent is the
+//! writer's.
 #![tactic(auto)]
 
 mod accept;

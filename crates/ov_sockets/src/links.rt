@@ -16,8 +16,8 @@ pub type SocketReader<'a> = Watched<&'a TcpStream>;
 /// What writes to a connection. It gathers up to 8,192 bytes, until a flush.
 pub type SocketWriter<'a> = Watched<BufWriter<&'a TcpStream>>;
 
-/// The two ends of each connection, in order: of them nothing was read yet, and to them nothing written. A connection is closed
-/// where it is dropped, and so not before its ends are.
+/// The two ends of each connection, in order. Nothing has been read from them or written to them yet. A connection is closed
+/// when it is dropped, and so not before its ends are.
 pub fn links_of<'a>(
     alloc: Global,
     streams: &'a Vec<TcpStream>,

@@ -1,4 +1,4 @@
--- What a query gives, and that it keeps the commit.
+-- What a query returns, and that it keeps the commit.
 use Rattle.std.proofs.Common.{◌≡◌, ◌⊎◌, inl, inr, ℕ, List, [], ◌∷◌, map, codes, refl, sym, ap, subst, ◌∙◌, Option, Some, None, IsTrue, true}
 use Rattle.std.specs.List.{flat_map}
 use Rattle.std.specs.List.Sorted.{IsPermutation}
@@ -81,7 +81,7 @@ rows_keep : (sql : List ℕ) (a b : State) (c : Compiled) (params : Row) (rows :
 rows_keep sql a b c params rows None mode h = unchanged_keeps a b h.3
 rows_keep sql a b c params rows (Some what) mode h = record { was_open = λ _. h.1.shown.was_open; committed = λ _. rw mode at h.1.shown.committed_is }
 
--- within a transaction a query keeps the commit, whether it gives rows or fails
+-- within a transaction a query keeps the commit, whether it returns rows or fails
 pub shown_keeps : (sql : List ℕ) (params : Row) (a b : State) (rows : List Row) → a.in_transaction ≡ true → Shown sql params a b rows → KeepsCommit a b
 unfolding Shown
 shown_keeps sql params a b rows mode h = rows_keep sql a b h.0 _ rows h.0.returning mode h.2
@@ -102,7 +102,7 @@ fails_keeps sql params a b e (inl (inl none)) = not_run_keeps sql params a b e n
 fails_keeps sql params a b e (inl (inr h)) = show_keeps sql _ a b h.0 e h.0.returning h.2
 fails_keeps sql params a b e (inr late) = unchanged_keeps a b late.5
 
--- and then the rollback gives back what was there
+-- and then the rollback restores what was there
 pub rolled_as_before : (old begun mid new : State) → (IsTrue begun.is_open → IsTrue old.is_open) → (IsTrue begun.is_open → begun.committed ≡ old.now) → KeepsCommit begun mid → IsRolledBack mid new → IsAsBefore old new
 rolled_as_before old begun mid new opens settled kept back = record {
   was_open = λ up. opens (kept.was_open (back.was_open up));

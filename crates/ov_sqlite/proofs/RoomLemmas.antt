@@ -1,4 +1,4 @@
--- A schema with our two tables behind all that it had.
+-- A schema with our two tables after all that it had.
 use Rattle.std.proofs.Common.{◌≡◌, ◌≢◌, ◌⊎◌, ◌<◌, ◌≤◌, ◌+◌, ℕ, max, fold, List, [], ◌∷◌, ◌++◌, find, slice_get, Bool, true, false, not, ◌&&◌, ◌||◌, ◌==◌, cond, Option, Some, None, is_some, unwrap_or, option_map, option_and_then, refl, sym, ap, ap₂, subst, ◌∙◌, arith, codes, inl, inr, ne_eqb}
 use Rattle.std.specs.Option.{option_or}
 use Rattle.std.specs.Fmt.{digits}

@@ -1,4 +1,4 @@
--- What a statement makes of the lines. What names no source is our own.
+-- How a statement changes the lines.
 use Rattle.std.specs.Prelude.{◌≡◌, ◌≢◌, ℕ, Bool, List, IsTrue, None, codes, if◌then◌else◌}
 use Rattle.std.specs.List.{AllByRecursion}
 use Rattle.std.specs.FinMap.{get, insert, remove}
@@ -12,7 +12,7 @@ use Rattle.ov_specs.specs.rows.Lines.{LineKey, LineBody, Lines}
 use Rattle.ov_sqlite.specs.Format.{IsFormat, entry, stored_lines, rows_of_meta, rows_of_line}
 use Rattle.ov_sqlite.specs.Tables.{tree_of}
 
--- rows with one number are one line
+-- rows with the same number are the same line
 abbrev pub IsNumbered : List Row → Type 0
 IsNumbered rows = AllByRecursion (λ r. AllByRecursion (λ s. column s 0 ≡ column r 0 → entry s ≡ entry r) rows) rows
 
@@ -22,16 +22,16 @@ pub record IsStored (text : List ℕ) (db : Database) : Type 0 where
   pub numbered : IsNumbered (rows_of_line db.trees)
   pub sound : IsDatabase db
 
--- it is so while the connection is open
+-- the database is so while the connection is open
 abbrev pub MayBeStored : List ℕ → State → Type 0
 MayBeStored text s = IsTrue s.is_open → IsStored text s.now
 
--- what is not of `line` is as it was: the rows of each other table, and whatever stands in a tree that is no index's
+-- everything outside `line` is as it was: the rows of each other table, and the contents of each tree that is not an index's
 pub record KeepsOthers (schema : Schema) (old new : Trees) : Type 0 where
   pub tables : AllByRecursion (λ t. t.tree ≢ tree_of schema (codes "line") → new t.tree ≡ old t.tree) schema.tables
   pub trees : (t : ℕ) → t ≢ tree_of schema (codes "line") → IsNoIndex schema t → new t ≡ old t
 
--- in a transaction that goes on the lines became what f makes of them, and nothing was committed
+-- in a transaction that goes on, the lines became what f makes of them, and nothing was committed
 pub record Makes (text : List ℕ) (f : Lines → Lines) (old new : State) : Type 0 where
   pub mode : IsTrue new.in_transaction
   pub opens : IsTrue new.is_open → IsTrue old.is_open
@@ -42,7 +42,7 @@ pub record Makes (text : List ℕ) (f : Lines → Lines) (old new : State) : Typ
   pub others : KeepsOthers old.now.schema old.now.trees new.now.trees
   pub committed : new.committed ≡ old.committed
 
--- one line was added, where its key had none
+-- one line was added, if its key had none
 pub record AddsLine (text : List ℕ) (k : LineKey) (v : LineBody) (old new : State) : Type 0 where
   pub mode : IsTrue new.in_transaction
   pub opens : IsTrue new.is_open → IsTrue old.is_open
@@ -53,7 +53,7 @@ pub record AddsLine (text : List ℕ) (k : LineKey) (v : LineBody) (old new : St
   pub others : KeepsOthers old.now.schema old.now.trees new.now.trees
   pub committed : new.committed ≡ old.committed
 
--- the line of a key takes another version and body; where none was found, no line has the key
+-- the line of a key takes another version and body; if none was found, no line has the key
 abbrev pub after_update : Bool → LineKey → LineBody → Lines → Lines
 after_update is_found k v m = if is_found then insert m k v else remove m k
 

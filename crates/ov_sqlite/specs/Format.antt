@@ -1,4 +1,4 @@
--- Stored format 1: what the two tables hold, and what it stands for. What names no source is our own.
+-- Stored format 1: what the two tables hold, and what it stands for.
 use Rattle.std.specs.Prelude.{◌≡◌, ◌⊎◌, ◌&&◌, ◌-◌, ℕ, ℤ, Bool, List, [], ◌∷◌, length, map, find, codes, unwrap_or, option_map, IsUtf8}
 use Rattle.std.specs.List.{AllByRecursion}
 use Rattle.std.specs.Ordering.{is_eq}
@@ -45,7 +45,7 @@ pub record IsSchemaRow (text : List ℕ) (r : Row) : Type 0 where
   pub value : column r 2 ≡ Blob text
   pub utf8 : IsUtf8 text
 
--- `meta` has these two rows, and no other
+-- `meta` has these two rows and no others
 pub record IsMeta (text : List ℕ) (rows : List Row) : Type 0 where
   pub first : Row
   pub second : Row

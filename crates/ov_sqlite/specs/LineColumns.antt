@@ -1,4 +1,4 @@
--- The columns of a row that is a line, as its key and the rest. What names no source is our own.
+-- The columns of a row that is a line, as its key and the rest.
 use Rattle.ov_specs.specs.rows.Lines.{LineKey, LineBody}
 use Rattle.ov_sqlite.specs.declared.line.LineColumns.{LineColumns}
 

@@ -1,4 +1,4 @@
--- A database on its way to the two tables. What names no source is our own.
+-- A database while its two tables are being made.
 use Rattle.std.specs.Prelude.{◌≡◌, ℕ, ℤ, List, [], ◌∷◌, IsTrue, true}
 use Rattle.sqlite.specs.declared.types.Value.TheVariants.{Int, Text, Blob}
 use Rattle.sqlite.specs.Order.{Row}
@@ -11,11 +11,11 @@ use Rattle.ov_sqlite.specs.Tables.{with_meta, with_ours, HasRoom, HasOurTables}
 use Rattle.ov_sqlite.specs.Format.{IsMeta, rows_of_meta, rows_of_line}
 use Rattle.ov_sqlite.specs.Changing.{IsStored}
 
--- while it is open there is room for the two tables, and its trees obey its schema
+-- while the connection is open, there is room for the two tables, and its trees obey its schema
 abbrev pub MayMake : State → Type 0
 MayMake s = IsTrue s.is_open → HasRoom s.now.schema × IsDatabase s.now
 
--- the first table is made behind all that there was
+-- the first table is made after everything that was there
 pub record HasMeta (before : Database) (s : State) : Type 0 where
   pub mode : IsTrue s.in_transaction
   pub room : HasRoom before.schema
@@ -24,7 +24,7 @@ pub record HasMeta (before : Database) (s : State) : Type 0 where
   pub others : KeepsRows before.schema.tables before.trees s.now.trees
   pub meta : s.now.trees (next_tree before.schema) ≡ []
 
--- both tables are made behind all that there was, and there is no line
+-- both tables are made after everything that was there, and there are no lines
 pub record HasTables (before : Database) (s : State) : Type 0 where
   pub mode : IsTrue s.in_transaction
   pub is_open : IsTrue s.is_open
@@ -51,7 +51,7 @@ pub record IsFilled (before : Database) (text : List ℕ) (s : State) : Type 0 w
   pub tables : HasTables before s
   pub meta : IsMeta text (rows_of_meta s.now.trees)
 
--- a database of stored format 1 with this text and no line
+-- a database of stored format 1 with this text and no lines
 pub record IsNewDatabase (text : List ℕ) (db : Database) : Type 0 where
   pub stored : IsStored text db
   pub no_line : rows_of_line db.trees ≡ []
@@ -62,7 +62,7 @@ pub record IsNewFile (text : List ℕ) (trees : Trees) : Type 0 where
   pub trees_are : trees ≡ db.trees
   pub new : IsNewDatabase text db
 
--- the same where something stood already: the tables are behind all of it, and every other table has its rows
+-- the same if something was there already: the tables come after all of it, and every other table has its rows
 pub record IsNewBeside (text : List ℕ) (old : State) (trees : Trees) : Type 0 where
   pub was_open : IsTrue old.is_open
   pub was_settled : old.now ≡ old.committed
@@ -70,7 +70,7 @@ pub record IsNewBeside (text : List ℕ) (old : State) (trees : Trees) : Type 0 
   pub schema : file.db.schema ≡ with_ours old.now.schema
   pub others : KeepsRows old.now.schema.tables old.now.trees trees
 
--- the tables are made behind all that there was, of stored format 1 with no line, and an open finds just that
+-- the tables are made after everything that was there, in stored format 1 with no lines, and an open finds exactly that
 pub record IsNew (text : List ℕ) (old new : State) : Type 0 where
   pub was_open : IsTrue old.is_open
   pub was_settled : old.now ≡ old.committed

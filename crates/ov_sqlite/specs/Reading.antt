@@ -1,4 +1,4 @@
--- What is read of the rows of the two tables. What names no source is our own.
+-- The rows of the two tables, as they are read.
 use Rattle.std.specs.Prelude.{◌≡◌, ◌≢◌, ◌⊎◌, ℕ, ℤ, List, [], ◌∷◌, codes, IsUtf8, length}
 use Rattle.sqlite.specs.declared.types.Value.{Value}
 use Rattle.sqlite.specs.declared.types.Value.TheVariants.{Int, Text, Blob}

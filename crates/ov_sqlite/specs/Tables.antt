@@ -1,4 +1,4 @@
--- The two tables of stored format 1, as `sqlite` understands their texts. What names no source is our own.
+-- The two tables of stored format 1, as `sqlite` understands their texts.
 use Rattle.std.specs.Prelude.{◌≡◌, true, false, not, ◌&&◌, ◌||◌, ◌==◌, [], ◌∷◌, find, Option, Some, None, option_map, unwrap_or, codes, Bool, List, ℕ}
 use Rattle.std.specs.List.{list_any, list_all}
 use Rattle.sqlite.specs.Collation.TheVariants.{Binary}
@@ -18,7 +18,7 @@ use Rattle.sqlite.specs.Does.{lacks_sequence}
 abbrev pub loose : List ℕ → Kind → Column
 loose name kind = record { name = name; kind = kind; is_strict = false; not_null = false; default = Null; collation = Binary }
 
--- a table with no rule but its primary key, which is not the number of a row (SQLite: CREATE TABLE)
+-- a table with no rule except its primary key, which is not the number of a row (SQLite: CREATE TABLE)
 abbrev pub plain_table : List ℕ → ℕ → List Column → List ℕ → Table
 plain_table name tree columns key = record {
   name = name;
@@ -51,20 +51,20 @@ line_table tree = plain_table (codes "line") tree (loose (codes "tbl") Text ∷ 
 abbrev pub no_schema : Schema
 no_schema = record { tables = []; indexes = []; views = [] }
 
--- the schema with `meta` behind all that there is, as CREATE TABLE makes it
+-- the schema with `meta` after everything that is there, as CREATE TABLE makes it
 abbrev pub with_meta : Schema → Schema
 with_meta schema = created schema (meta_table 0)
 
--- the schema with both tables behind all that there is
+-- the schema with both tables after everything that is there
 abbrev pub with_ours : Schema → Schema
 with_ours schema = created (with_meta schema) (line_table 0)
 
--- a foreign key that names one of the two, which need not be there
+-- a foreign key that names one of the two, which need not exist
 abbrev pub names_ours : Reference → Bool
 names_ours ref = same_name (codes "meta") ref.parent || same_name (codes "line") ref.parent
 
--- there is room for the two: no table, index or view has one of their names, and no foreign key names one. Where rows are
--- counted, the table of the counts is there, so that none is made besides (SQLite: AUTOINCREMENT, sqlite_sequence)
+-- there is room for the two: no table, index or view has one of their names, and no foreign key names one. If rows are
+-- counted, the table of the counts exists, so that none is made besides (SQLite: AUTOINCREMENT, sqlite_sequence)
 pub record HasRoom (schema : Schema) : Type 0 where
   pub meta : is_used schema (codes "meta") ≡ false
   pub line : is_used schema (codes "line") ≡ false
@@ -99,11 +99,11 @@ is_apart schema t = not (list_any (refers_to_ours schema) t.references)
 abbrev pub is_key_of_ours : Index → Bool
 is_key_of_ours i = same_name (codes "sqlite_autoindex_meta_1") i.name || same_name (codes "sqlite_autoindex_line_1") i.name
 
--- an index that forbids them no row but for their primary keys
+-- an index that forbids no row of theirs, except by their primary keys
 abbrev pub is_allowed_index : Schema → Index → Bool
 is_allowed_index schema i = not (i.is_unique && is_tree_of_ours schema i.table) || is_key_of_ours i
 
--- the schema has this table under its name, and none besides it with its tree
+-- the schema has this table under its name, and no other with its tree
 pub record HasTable (schema : Schema) (table : Table) : Type 0 where
   pub named : table_of schema table.name ≡ Some table
   pub alone : list_all (λ t. not (t.tree == table.tree) || same_name t.name table.name) schema.tables ≡ true

@@ -1,4 +1,4 @@
--- Where a write stopped. What names no source is our own.
+-- Where a write stopped.
 use Rattle.std.specs.Prelude.{⊤}
 use Rattle.ov_sqlite.specs.declared.write.WriteError.{WriteError}
 use Rattle.ov_sqlite.specs.declared.write.WriteError.TheVariants.{Before, AtCommit}

@@ -1,4 +1,4 @@
-//! Which fault an error of SQLite is, where a connection was asked for something.
+//! Which fault an error of a call on a connection is.
 
 ghost use Rattle.std.specs.Prelude.{◌≡◌, ◌⊎◌, ◌≢◌, false, IfSome};
 ghost use Rattle.sqlite.specs.State.{HasCleanDisk, Survives, KeepsCommit, IsUnchanged};
@@ -11,7 +11,7 @@ use crate::write::{WriteError, is_up};
 use ov_keeper::KeepFault;
 use sqlite::{Alter, Connection, Error, ErrorCode};
 
-/// Which refusal an error is, if the device has no part in it.
+/// Which refusal an error is, if the device is not to blame.
 pub fn refusal(error: &Error) -> Option<KeepFault>
     ensures which { IfSome result (λ fault. (fault ≡ KeepFault.Memory) ⊎ (fault ≡ KeepFault.TooLarge)) }
     ensures kind { IfSome result IsCommitFault }
@@ -23,7 +23,7 @@ pub fn refusal(error: &Error) -> Option<KeepFault>
     }
 }
 
-/// What an error of SQLite is where the device is to blame for what is neither memory nor size.
+/// Which fault an error of SQLite is, if the device is to blame for anything that is neither memory nor size.
 pub(crate) fn fault_of(error: &Error) -> KeepFault
     ensures kind { IsCommitFault result }
     ensures format { result ≢ KeepFault.Format }
@@ -32,8 +32,7 @@ pub(crate) fn fault_of(error: &Error) -> KeepFault
     refusal(error).unwrap_or(KeepFault::Device)
 }
 
-/// Why a write stopped. A commit may have gone through on a device that failed: a call that succeeds shows that it did
-/// not.
+/// Why a write stopped. On a device that failed, the commit may have gone through; a call that succeeds shows that it did not.
 pub fn fault_at<S: Alter>(conn: &mut Connection<S>, failure: &WriteError) -> KeepFault
     requires { conn.old.in_transaction ≡ false }
     ensures mode { conn.new.in_transaction ≡ false }

@@ -1,4 +1,4 @@
-//! Whether what stands in the two tables is of stored format 1.
+//! Whether the contents of the two tables are of stored format 1.
 
 ghost use Rattle.std.specs.Prelude.{◌≡◌, ◌≢◌, false, IfOk, OnOk, IsTrue, Err};
 ghost use Rattle.std.specs.List.{AllByRecursion};
@@ -61,7 +61,7 @@ fn test_lines<S: Alter>(conn: &mut Connection<S>) -> Result<(), KeepFault>
     }
 }
 
-/// Tests all rows, and gives the schema's text.
+/// Tests all rows, and returns the schema's text.
 pub fn test_format<S: Alter>(alloc: Global, conn: &mut Connection<S>) -> Result<Text, KeepFault>
     requires { conn.old.in_transaction ≡ false }
     ensures mode { conn.new.in_transaction ≡ false }
@@ -73,7 +73,7 @@ pub fn test_format<S: Alter>(alloc: Global, conn: &mut Connection<S>) -> Result<
     ensures same { HasCleanDisk (state S.Store conn.new) → IsAsBefore (state S.Store conn.old) (state S.Store conn.new) }
     ensures survives { Survives (state S.Store conn.old) (state S.Store conn.new) (λ _. ⊥) }
 {
-    // Its clause says that the rows obey the schema.
+    // Its contract says that the rows obey the schema.
     let _schema = conn.schema();
     let text = match read_meta(alloc, conn) {
         Ok(text) => text,

@@ -1,9 +1,8 @@
-//! The two tables of stored format 1, asked of SQLite and read from it: how they are found and made, what is written to them,
-//! what their rows are, and which fault an error is meanwhile.
+//! The two tables of stored format 1 in SQLite: how they are found and made, what is written to them, what their rows are,
+//! and which fault an error is meanwhile.
 //!
-//! Everything here is about a connection that is open and what stands in it. How one is opened over files, and what keeps lines
-//! in it, stands in `ov_store`, where no SQL is written. The calls are generic over the kit's `Alter`. What names no source is
-//! our own.
+//! Everything here is about an open connection and its contents. Opening one over files, and keeping lines in it, is the
+//! task of `ov_store`, which has no SQL. The calls are generic over the kit's `Alter`.
 #![tactic(auto)]
 
 mod fault;

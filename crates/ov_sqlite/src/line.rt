@@ -43,7 +43,7 @@ pub(crate) fn line_columns_of(row: &Row) -> Option<LineColumns<'_>>
 }
 
 impl LineColumns<'_> {
-    /// A line of these columns.
+    /// A line with these columns.
     pub(crate) fn to_line(&self, alloc: Global) -> Result<Line, AllocError>
         ensures { IfOk result (λ line. line_entry line ≡ columns_entry self.now) }
     {

@@ -81,7 +81,7 @@ fn make_all<S: Alter>(tx: &mut Transaction<'_, S>, schema: &Text) -> Result<(), 
     fill_meta(tx, schema)
 }
 
-/// Makes the two tables behind all that there is, of a schema's text and no line, in one transaction.
+/// Makes the two tables after everything that is there, with a schema's text and no lines, in one transaction.
 pub fn make_tables<S: Alter>(conn: &mut Connection<S>, schema: &Text) -> Result<(), WriteError>
     requires { conn.old.in_transaction ≡ false }
     ensures mode { conn.new.in_transaction ≡ false }
@@ -91,7 +91,7 @@ pub fn make_tables<S: Alter>(conn: &mut Connection<S>, schema: &Text) -> Result<
     ensures crash { Survives (state S.Store conn.old) (state S.Store conn.new) (λ trees. MayMake (state S.Store conn.old) → IsNewBeside schema.now (state S.Store conn.old) trees) }
     ensures unmoved { HasCleanDisk (state S.Store conn.new) → OnErr result (KeepsCommit (state S.Store conn.old) (state S.Store conn.new)) }
 {
-    // Its clause says that all is committed.
+    // Its contract says that everything is committed.
     let _before = conn.is_autocommit();
     let mut tx = conn.transaction();
     match make_all(&mut tx, schema) {

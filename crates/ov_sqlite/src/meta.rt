@@ -6,14 +6,14 @@ ghost use Rattle.ov_sqlite.specs.Reading.{ReadsFormat, ReadsSchema, ReadsMeta};
 use crate::value::{blob_at, is_blob_at, is_text_at};
 use sqlite::Row;
 
-/// Whether it names the format 1.
+/// Whether the row names format 1.
 fn is_format(row: &Row) -> bool
     ensures { IsTrue result ↔ ReadsFormat row.now }
 {
     is_text_at(row, 0, b"format") && is_blob_at(row, 1, b"1")
 }
 
-/// The schema's text, if it is the row of that.
+/// The schema's text, if this is its row.
 fn schema_in(row: &Row) -> Option<&str>
     ensures { MatchOption result ((text : _) → ¬ ReadsSchema text row.now) (λ text. ReadsSchema text.now row.now) }
 {

@@ -1,4 +1,4 @@
-//! What the first page of a file tells without an opening.
+//! What the first page of a file shows without opening the file.
 
 ghost use Rattle.std.specs.Prelude.{IsTrue};
 ghost use Rattle.ov_sqlite.specs.HasText.{HasText};
@@ -9,7 +9,7 @@ use crate::make::{CREATE_LINE, CREATE_META};
 /// The first bytes of a file that SQLite made.
 const MAGIC: &[u8] = b"SQLite format 3\0";
 
-/// Whether a first page is that of a file in write-ahead mode with four objects, of which two are the tables.
+/// Whether this is the first page of a file in write-ahead mode with four objects, two of which are the tables.
 pub fn lists_tables(page: &[u8]) -> bool
     ensures { IsTrue result → HasText create_meta page.now × HasText create_line page.now }
 {
@@ -20,7 +20,7 @@ pub fn lists_tables(page: &[u8]) -> bool
         && has_text(page, CREATE_LINE.as_bytes())
 }
 
-/// Whether the text stands somewhere in the bytes.
+/// Whether the text occurs in the bytes.
 fn has_text(bytes: &[u8], text: &[u8]) -> bool
     ensures { IsTrue result → HasText text.now bytes.now }
 {

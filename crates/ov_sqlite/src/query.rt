@@ -12,7 +12,7 @@ ghost use Rattle.ov_sqlite.specs.Reading.{line_selected, meta_selected};
 
 use sqlite::{Alter, Connection, Error, Row};
 
-/// The rows that a query gives. It runs in a transaction that is rolled back, so nothing is committed.
+/// The rows that a query returns. It runs in a transaction that is rolled back, so nothing is committed.
 fn query<S: Alter>(conn: &mut Connection<S>, sql: &str) -> Result<Vec<Row>, Error>
     requires { conn.old.in_transaction ≡ false }
     ensures mode { conn.new.in_transaction ≡ false }
@@ -24,7 +24,7 @@ fn query<S: Alter>(conn: &mut Connection<S>, sql: &str) -> Result<Vec<Row>, Erro
     if !conn.is_autocommit() {
         return Err(Error::InvalidQuery);
     }
-    // Its clause says that the rows obey the schema.
+    // Its contract says that the rows obey the schema.
     let _schema = conn.schema();
     let mut tx = conn.transaction();
     let rows = tx.query_all(sql, &[]);

@@ -10,7 +10,7 @@ use sqlite_catalog::layout::is_used;
 use sqlite_schema::names::same_name;
 use sqlite_schema::schema::{Reference, Schema, Table};
 
-/// Whether it is a foreign key that names one of the two, which need not be there.
+/// Whether the foreign key names one of the two tables, which need not exist.
 fn names_ours(reference: &Reference) -> bool
     ensures { result ≡ names_ours reference.now }
 {
@@ -29,21 +29,21 @@ fn has_key_to_ours(table: &Table) -> bool
         .any(|reference| names_ours(reference))
 }
 
-/// Whether a table has one.
+/// Whether any of the tables has one.
 fn have_key_to_ours(tables: &[Table]) -> bool
     ensures { result ≡ list_any (λ t. list_any names_ours t.references) tables.now }
 {
     tables.iter().any(|table| has_key_to_ours(table))
 }
 
-/// Whether the rows of a table are counted.
+/// Whether the rows of any table are counted.
 fn are_counted(tables: &[Table]) -> bool
     ensures { result ≡ list_any (λ t. t.is_counted) tables.now }
 {
     tables.iter().any(|table| table.is_counted)
 }
 
-/// Whether SQLite's table of the counts is there.
+/// Whether SQLite's table of the counts exists.
 fn has_sequence(schema: &Schema) -> bool
     ensures { result ≡ is_some (sequence schema.now) }
 {
@@ -53,14 +53,14 @@ fn has_sequence(schema: &Schema) -> bool
     }
 }
 
-/// Whether rows are counted, and the table of the counts is missing: SQLite would make it beside the next table.
+/// Whether rows are counted and the table of the counts is missing: SQLite would make it beside the next table.
 fn lacks_sequence(schema: &Schema) -> bool
     ensures { result ≡ lacks_sequence schema.now }
 {
     are_counted(schema.tables.as_slice()) && !has_sequence(schema)
 }
 
-/// Whether the two tables can be made behind all that there is.
+/// Whether the two tables can be made after everything that is there.
 pub fn has_room(schema: &Schema) -> bool
     ensures { IsTrue result ↔ HasRoom schema.now }
 {

@@ -1,4 +1,4 @@
-//! Rows of `line` that were read: whether they are lines, and the lines.
+//! Rows that were read from `line`: whether they are lines, and the lines.
 
 ghost use Rattle.std.specs.Prelude.{◌≡◌, ◌<ℤ◌, map, OnOk, IfOk, IfSome, IsTrue, Err};
 ghost use Rattle.std.specs.List.{AllByRecursion};
@@ -11,7 +11,7 @@ use ov_keeper::{KeepFault, Line};
 use sqlite::Row;
 use std::alloc::{AllocError, Global};
 
-/// Whether a row's number comes after the last one.
+/// Whether a row's number is greater than the last one.
 fn is_above(number: i64, last: Option<i64>) -> bool
     ensures { IsTrue result → IfSome last (λ n. n <ℤ number) }
 {
@@ -21,8 +21,8 @@ fn is_above(number: i64, last: Option<i64>) -> bool
     }
 }
 
-/// Whether each row is a line, and the numbers rise: `Format` where one is no line. Numbers that do not rise are a wrong
-/// answer of the device, since a table is read in the order of its numbers.
+/// Checks that each row is a line and that the numbers rise. Returns `Format` if a row is not a line. Numbers that do not
+/// rise are a wrong answer of the device, since a table is read in the order of its numbers.
 pub(crate) fn test_rows(rows: &[Row]) -> Result<(), KeepFault>
     ensures lines { OnOk result (AllByRecursion IsLine rows.now) }
     ensures numbered { OnOk result (IsNumbered rows.now) }
@@ -42,7 +42,7 @@ pub(crate) fn test_rows(rows: &[Row]) -> Result<(), KeepFault>
     Ok(())
 }
 
-/// The lines of rows, if each is one.
+/// The lines of the rows, if each row is one.
 pub fn lines_of(alloc: Global, rows: &[Row]) -> Result<Option<Vec<Line>>, AllocError>
     ensures { IfOk result (λ all. IfSome all (λ lines. map line_entry lines.items ≡ map entry rows.now)) }
 {

@@ -12,14 +12,14 @@ use sqlite_schema::names::same_name;
 use sqlite_schema::schema::{Column, Index, Kind, Reference, Schema, Table};
 use sqlite_value::keys::{Collation, Order};
 
-/// Whether nothing was made yet.
+/// Whether nothing has been made yet.
 pub fn is_blank(schema: &Schema) -> bool
     ensures { IsTrue result ↔ (schema.now ≡ no_schema) }
 {
     schema.tables.is_empty() && schema.indexes.is_empty() && schema.views.is_empty()
 }
 
-/// Whether it is a column without rules.
+/// Whether the column has this name and kind, and no rules.
 fn is_loose(column: &Column, name: &[u8], kind: Kind) -> bool
     ensures { IsTrue result ↔ (column.now ≡ loose name.now kind) }
 {
@@ -82,7 +82,7 @@ fn is_ascending(orders: &[Order]) -> bool
     }
 }
 
-/// Whether it has no rule but its primary key, which is not the number of a row.
+/// Whether the table has no rule except its primary key, which is not the number of a row.
 fn is_plain(table: &Table) -> bool
     ensures { IsTrue result ↔ (table.now ≡ plain_table table.now.name table.now.tree table.now.columns table.now.primary) }
 {
@@ -151,7 +151,7 @@ impl Trees {
         tree == self.meta || tree == self.line
     }
 
-    /// Whether it is a foreign key to one of the two.
+    /// Whether the reference is a foreign key to one of the two.
     fn are_referred(self, schema: &Schema, reference: &Reference) -> bool
         ensures { result ≡ points_to self.meta self.line schema.now reference.now }
     {
@@ -172,7 +172,7 @@ impl Trees {
             .any(|reference| self.are_referred(schema, reference))
     }
 
-    /// Whether it forbids them no row but for their primary keys.
+    /// Whether the index forbids no row of theirs, except by their primary keys.
     fn allow(self, index: &Index) -> bool
         ensures { result ≡ (not (index.now.is_unique && ((index.now.table == self.meta) || (index.now.table == self.line))) || is_key_of_ours index.now) }
     {
@@ -180,7 +180,7 @@ impl Trees {
     }
 }
 
-/// Whether it is the index of one of our primary keys.
+/// Whether the index is that of one of our primary keys.
 fn is_key_of_ours(index: &Index) -> bool
     ensures { result ≡ is_key_of_ours index.now }
 {
@@ -208,7 +208,7 @@ fn are_allowed(schema: &Schema, trees: Trees) -> bool
         .all(|index| trees.allow(index))
 }
 
-/// Whether the two tables are those of stored format 1, and what else there is leaves them alone.
+/// Whether the two tables are those of stored format 1, and everything else leaves them alone.
 fn are_ours(schema: &Schema, meta: &Table, line: &Table) -> bool
     requires meta { table_of schema.now (codes "meta") ≡ Some meta.now }
     requires line { table_of schema.now (codes "line") ≡ Some line.now }
@@ -226,7 +226,7 @@ fn are_ours(schema: &Schema, meta: &Table, line: &Table) -> bool
         && are_allowed(schema, trees)
 }
 
-/// Whether the database has the two tables of stored format 1, wherever they stand. Others may stand beside them.
+/// Whether the database has the two tables of stored format 1, wherever they are in it. It may have others too.
 pub fn is_ours(schema: &Schema) -> bool
     ensures { IsTrue result ↔ HasOurTables schema.now }
 {

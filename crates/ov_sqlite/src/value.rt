@@ -18,7 +18,7 @@ pub(crate) fn number_at(row: &Row, at: usize) -> Option<i64>
     }
 }
 
-/// Whether it is this text.
+/// Whether the value is this text.
 pub(crate) fn is_text_at(row: &Row, at: usize, text: &[u8]) -> bool
     ensures { IsTrue result ↔ (column row.now at ≡ Text text.now) }
 {
@@ -28,7 +28,7 @@ pub(crate) fn is_text_at(row: &Row, at: usize, text: &[u8]) -> bool
     }
 }
 
-/// Whether it is a blob of these bytes.
+/// Whether the value is a blob of these bytes.
 pub(crate) fn is_blob_at(row: &Row, at: usize, blob: &[u8]) -> bool
     ensures { IsTrue result ↔ (column row.now at ≡ Blob blob.now) }
 {

@@ -37,7 +37,7 @@ fn id_bytes(id: &Uuid) -> &[u8]
     id.as_bytes()
 }
 
-/// Gives the row of the line's key the line's version and body. Whether there was one.
+/// Sets the version and body of the row with the line's key. Returns whether there was such a row.
 fn update_line<S: Alter>(tx: &mut Transaction<'_, S>, line: &Line) -> Result<bool, Error>
     ensures same_reference { tx.new.conn.ghost_name ≡ tx.old.conn.ghost_name }
     ensures ok { HasCleanDisk (state S.Store tx.new.conn.now) → IsTrue (state S.Store tx.old.conn.now).in_transaction → (text : _) → MayBeStored text (state S.Store tx.old.conn.now)
@@ -127,7 +127,7 @@ fn apply_all<S: Alter>(tx: &mut Transaction<'_, S>, changes: &[Change]) -> Resul
     Ok(())
 }
 
-/// Where a write stopped: before the commit, which then changed nothing, or at the commit.
+/// Where a write stopped: before the commit, so that it changed nothing, or at the commit.
 #[derive(Debug, Drop)]
 pub enum WriteError {
     Before(Error),
@@ -161,7 +161,7 @@ pub fn write_all<S: Alter>(conn: &mut Connection<S>, changes: &[Change]) -> Resu
     }
 }
 
-/// Whether the connection is open, by a call that does nothing else.
+/// Whether the connection is open, found by a call that does nothing else.
 pub(crate) fn is_up<S: Alter>(conn: &mut Connection<S>) -> bool
     requires { conn.old.in_transaction ≡ false }
     ensures mode { conn.new.in_transaction ≡ false }

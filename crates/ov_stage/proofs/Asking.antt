@@ -1,4 +1,4 @@
--- What conditions ask for in the columns of an index, and the rows that stand there.
+-- What conditions ask for in the columns of an index, and the rows found there.
 use Rattle.std.proofs.Common.{◌≡◌, ℕ, ◌+◌, ◌<◌, List, [], ◌∷◌, ◌++◌, T, Some, None, is_some, length, get_or, take, map, refl, sym, ap, subst, ◌∙◌}
 use Rattle.std.specs.Prelude.{slice_get, option_map, unwrap_or}
 use Rattle.std.proofs.lemmas.List.{nil_from_length, take_more}
@@ -21,7 +21,7 @@ use Rattle.ov_stage.specs.Asked.{Ascend, AreIdsOf, AreValuesOf, IsKeyOf, IsValue
 
 -- ---- the values of an index
 
--- one column more
+-- one more column
 pub values-asked : (conditions : List Condition) (index : List (List ℕ)) (i : ℕ) (column : List ℕ) (values more : List Datum) (value copy : Datum) → i < length index → column ≡ get_or index i column
     → more ≡ values ++ copy ∷ [] → copy ≡ value → IsValueOf conditions column value → AreValuesOf conditions (take i index) values → AreValuesOf conditions (take (i + 1) index) more
 values-asked conditions index i column values more value copy within at pushed same one all row met =
@@ -31,7 +31,7 @@ values-asked conditions index i column values more value copy within at pushed s
 
 -- ---- the key
 
--- the values stand at the key of this index
+-- the values are at the key of this index
 pub key-asked : {A : Type 0} (conditions : List Condition) (name : List ℕ) (table : Table) (seen : A → List (List ℕ)) (items : List A) (number : ℕ) (item : A) (values : List Datum) (key : IndexKey)
     → map seen items ≡ table.indexes → number < length items → item ≡ get_or items number item → AreValuesOf conditions (seen item) values
     → key ≡ record { table = name; number = number; values = values } → IsKeyOf conditions name table key
@@ -68,7 +68,7 @@ kept indexes key id =
       | Some ids ↦ refl
     ])
 
--- each row that meets all conditions is kept at the key that they ask for
+-- every row that meets all conditions is kept at the key that they ask for
 pub ids-asked : (conditions : List Condition) (schema : Schema) (rows : Database) (indexes : Indexes) (name : List ℕ) (table : Table) (key : IndexKey) → AreIndexesOf schema rows indexes → Some table ≡ get schema.tables name
     → IsKeyOf conditions name table key → AreIdsOf conditions rows name (keys (ids_at indexes key))
 ids-asked conditions schema rows indexes name table key are is of id row found met =

@@ -1,4 +1,4 @@
--- One row of a table, found by its key, and the rows that meet conditions which no other row meets.
+-- One row of a table, found by its key, and the rows that meet conditions that no other row meets.
 use Rattle.std.proofs.Common.{◌≡◌, ℕ, List, [], ◌∷◌, Bool, true, false, ◌&&◌, cond, T, Option, Some, None, filter, option_map, refl, sym, ap, subst, ◌∙◌, Ordering, Equal}
 use Rattle.std.specs.Prelude.{option_to_list}
 use Rattle.std.proofs.lemmas.Bool.{and_parts, false≢true}
@@ -29,7 +29,7 @@ use Rattle.ov_stage.specs.Staging.{AreOnlyOf, is_met, with_key}
 abbrev Entries : Type 0
 Entries = List (LineKey × Row)
 
--- what stands at a key, with it
+-- what is at a key, with the key
 abbrev pub at_key : LineKey → Option Row → Entries
 at_key key row = option_to_list (with_key key row)
 
@@ -88,7 +88,7 @@ module _ (table : List ℕ) (id : Uuid) where
   pub get-no_table : (db : Database) → rows_in table None ≡ filter (λ r. bytes_eq r.0.0 table) (entries db) → get db (table, id) ≡ None
   get-no_table db is = get-rows_in db None is
 
-  -- the row, lent with its identifier, and with its key
+  -- the row, borrowed with its identifier, and with its key
   pub keyed-lent : (row : Option RowView) (is : Option Row) → option_map lent_row row ≡ with_key id is → option_map (lent_row_of table) row ≡ with_key (table, id) is
   keyed-lent None None e = refl
   keyed-lent None (Some r) e = cc
@@ -139,7 +139,7 @@ module _ (P : LineKey × Row → Bool) (k : LineKey) (only : (r : LineKey × Row
           ap (cond (P e) (e ∷ filter P es)) above ∙ ap (λ (rest : Entries). cond (P e) (e ∷ rest) []) above ∙ ap (λ (q : LineKey). filter P ((q, e.1) ∷ [])) (sym (tied_same k e.0 tied))
       first false tied others = ap (λ b. cond b (e ∷ filter P es) (filter P es)) (fails_apart e tied) ∙ others
 
--- where all conditions are met by one row alone, those that meet them are found at its key
+-- if one row alone can meet all conditions, the rows that meet them are found at its key
 pub matching-at : (db : Database) (table : List ℕ) (id : Uuid) (conditions : List Condition) → AreOnlyOf id conditions
     → filter (is_met conditions) (at_key (table, id) (get db (table, id))) ≡ matching db table conditions
 matching-at db table id conditions only =

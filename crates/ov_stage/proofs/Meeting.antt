@@ -1,4 +1,4 @@
--- The rows of a table that meet conditions, and the same rows lent.
+-- The rows of a table that meet conditions, and the same rows borrowed.
 use Rattle.std.proofs.Common.{◌≡◌, ℕ, List, [], ◌∷◌, true, false, ◌&&◌, cond, filter, map, refl, ap}
 use Rattle.std.specs.Str.{bytes_eq}
 use Rattle.ov_rows.specs.Lending.{lent_row_of}
@@ -20,7 +20,7 @@ matching-of_table table conditions (r ∷ rows) =
       | false ↦ matching-of_table table conditions rows
     ]
 
--- without conditions each row meets them all
+-- without conditions, every row meets them all
 pub meeting-none : (rows : List RowView) → filter (meets []) rows ≡ rows
 meeting-none [] = refl
 meeting-none (r ∷ rows) = ap (λ (rest : List RowView). r ∷ rest) (meeting-none rows)

@@ -1,4 +1,4 @@
--- Two ascending lists, of rows and of changes, made one: a change replaces or removes the row of its key.
+-- Two ascending lists, of rows and of changes, merged: a change replaces or removes the row of its key.
 use Rattle.std.proofs.Common.{◌≡◌, ℕ, ◌+◌, ◌<◌, ◌≤◌, List, [], ◌∷◌, ◌++◌, length, get_or, drop, map, Bool, true, false, cond, not, T, Option, Some, None, refl, sym, ap, subst, ◌∙◌, append-nil, append_assoc, Less, Equal, Greater}
 use Rattle.std.proofs.lemmas.List.{drop_all, nil_from_length}
 use Rattle.std.specs.Cmp.{eq_by_cmp_equiv}
@@ -32,7 +32,7 @@ module _ {X : Type 0} (m : FinMap line_cmp X) (p : LineKey → Bool) where
   part_sorted : T (is_sorted line_cmp (where_key line_cmp p (entries m)))
   part_sorted = is_sorted-where_key line_cmp p (entries m) (entries_sorted m)
 
-  -- what stands at a key of the entries that pass a test
+  -- what is at a key, of the entries that pass a test
   get-part : (q : LineKey) → get (from_sorted {R = line_cmp} (where_key line_cmp p (entries m))) q ≡ cond (p q) (get m q) None
   get-part q =
       get-from_sorted line_cmp (where_key line_cmp p (entries m)) q part_sorted ∙ find-where_key line_cmp p q (λ x e. ap p (sym (key_exact q x e))) (entries m)
@@ -61,7 +61,7 @@ Rows = List (Uuid × Row)
 abbrev pub Made : Type 0
 Made = List (Uuid × Option Row)
 
--- ---- what stands first
+-- ---- what comes first
 
 module _ {X : Type 0} where
   pub sorted_rest : (e : Uuid × X) (es : List (Uuid × X)) → T (is_sorted id_cmp (e ∷ es)) → T (is_sorted id_cmp es)
@@ -131,12 +131,12 @@ placed_over k None cs r es g e h =
     ap (placed id_cmp cs) (ap (λ o. cond (not (is_eq o)) (r ∷ others) others) (ap (id_cmp k) same_key ∙ sym (ap (λ q. id_cmp q k) same_key) ∙ e)
     ∙ all_others k es (below_same k r.0 es (sym same_key) (left_holds _ _ h)))
 
--- changes where there is no row
+-- changes without rows
 pub placed_all : (cs : Made) → T (is_sorted id_cmp cs) → placed id_cmp cs [] ≡ flat_map row_made cs
 placed_all [] h = refl
 placed_all (c ∷ cs) h = placed_first c.0 c.1 cs [] (left_holds _ _ h) tt ∙ ap (λ rest. row_made (c.0, c.1) ++ rest) (placed_all cs (right_holds _ _ h))
 
--- ---- two lists that are gone through side by side
+-- ---- two lists that are walked side by side
 
 module _ {A B : Type 0} (f : A → Uuid × Row) (g : B → Uuid × Option Row) (xs : List A) (ys : List B) where
   row_at : (i : ℕ) (x : A) → i < length xs → x ≡ get_or xs i x → map f (drop i xs) ≡ f x ∷ map f (drop (i + 1) xs)
@@ -187,7 +187,7 @@ module _ {A B : Type 0} (f : A → Uuid × Row) (g : B → Uuid × Option Row) (
         below : T (below_all id_cmp (g y).0 (map f (drop i xs)))
         below = subst (λ (es : Rows). T (below_all id_cmp (g y).0 es)) (sym (row_at i x p at_x)) (below_sorted (g y).0 (f x) (map f (drop (i + 1) xs)) (before_greater (f x).0 (g y).0 e) rows_here)
 
-  -- one of the two lists is through
+  -- one of the two lists is used up
   pub rows_through : (ms : Rows) (i j : ℕ) → length xs ≤ i → T (is_sorted id_cmp (map g (drop j ys))) → (ms ++ map f (drop i xs)) ++ flat_map row_made (map g (drop j ys)) ≡ with_others ms i j
   rows_through ms i j h k =
       ap (λ zs. (ms ++ map f zs) ++ flat_map row_made (map g (drop j ys))) (drop_all i xs h)
@@ -216,7 +216,7 @@ module _ (table : List ℕ) (delta : Delta) where
   pub its_changes_sorted : T (is_sorted line_cmp its_changes)
   its_changes_sorted = part_sorted delta of_it
 
-  -- what stands at a key after the table's changes
+  -- what is at a key after the table's changes
   pub get-after : (rows : Database) (q : LineKey) → get (with_rows its_changes rows) q ≡ or_before (cond (of_it q) (get delta q) None) (get rows q)
   get-after rows q =
       ap (λ (cs : Changes). get (with_rows cs rows) q) (sym (entries-from_sorted line_cmp its_changes its_changes_sorted))

@@ -1,4 +1,4 @@
--- Rows of a table by their identifiers, among which are all that meet conditions: they stand for the whole table.
+-- Rows of a table by identifiers that include all rows that meet the conditions: they stand for the whole table.
 use Rattle.std.proofs.Common.{◌≡◌, ℕ, List, [], ◌∷◌, ◌++◌, Bool, true, false, ◌&&◌, ◌||◌, cond, T, Option, Some, None, filter, map, refl, sym, ap, subst, ◌∙◌}
 use Rattle.std.specs.Prelude.{option_to_list}
 use Rattle.std.proofs.lemmas.Bool.{and_parts, false≢true}
@@ -40,7 +40,7 @@ find-below k [] h = refl
 find-below k (e ∷ es) h = ap (λ b. cond b (Some e.1) (find line_cmp k es)) (not_tied (line_cmp k e.0) (left_holds _ _ h)) ∙ find-below k es (right_holds _ _ h)
 
 module _ (P : LineKey × Row → Bool) where
-  -- what stands at a key, if it passes
+  -- what is at a key, if it passes
   abbrev passing : LineKey → Option Row → Option Row
   passing q None = None
   passing q (Some row) = cond (P (q, row)) (Some row) None
@@ -80,7 +80,7 @@ module _ (P : LineKey × Row → Bool) where
   get-filter m q =
       get-from_sorted line_cmp (filter P (entries m)) q (sorted-filter (entries m) (entries_sorted m)) ∙ find-filter q (entries m) (entries_sorted m) ∙ ap (passing q) (sym (get-entries m q))
 
-  -- where at each key the same passes, the same entries do
+  -- if the same passes at each key, the same entries do
   same-filter : (m n : Database) → ((q : LineKey) → passing q (get m q) ≡ passing q (get n q)) → filter P (entries m) ≡ filter P (entries n)
   same-filter m n same =
       sym (entries-from_sorted line_cmp (filter P (entries m)) (sorted-filter (entries m) (entries_sorted m)))
@@ -148,7 +148,7 @@ module _ (db : Database) (table : List ℕ) where
       keyed-at id (get rows id) others
       ∙ ap (λ o. at_key (table, id) o ++ keyed table others) (sym (get-of_table table id db rows is)) ∙ ap (λ (es : Entries). at_key (table, id) (get db (table, id)) ++ es) (rows-in_table rows is ids)
 
-  -- there are none where there is no table
+  -- there are none if there is no table
   pub rows-no_table : rows_in table None ≡ filter (λ r. bytes_eq r.0.0 table) (entries db) → (ids : List Uuid) → rows_at ids ≡ []
   rows-no_table is [] = refl
   rows-no_table is (id ∷ ids) = ap (λ o. at_key (table, id) o ++ rows_at ids) (get-no_table table id db is) ∙ rows-no_table is ids

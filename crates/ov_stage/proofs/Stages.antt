@@ -17,7 +17,7 @@ use Rattle.ov_db.proofs.Same.{database-same}
 use Rattle.ov_stage.specs.Staging.{Differs, has_columns}
 use Rattle.ov_projection.proofs.SameRows.{columns-is, database-is}
 
--- ---- what stands at a key
+-- ---- what is at a key
 
 pub row_changed : (delta : Delta) (db : Database) (key : LineKey) (change : Option Row) → get delta key ≡ Some change → change ≡ get (applied delta db) key
 row_changed delta db key change is = sym (get-applied delta db key ∙ ap (λ o. or_before o (get db key)) is)
@@ -39,7 +39,7 @@ applied-empty db = same_map key_total key_exact _ _ (λ q. get-applied empty db 
 pub applied-none : (delta : Delta) (db : Database) → len delta ≡ 0 → applied delta db ≡ db
 applied-none delta db none = ap (λ (d : Delta). applied d db) (empty_of_len delta none) ∙ applied-empty db
 
--- ---- one change more, and one taken back
+-- ---- one more change, and one taken back
 
 put_over : (b : Bool) (new : Option Row) (change : Option (Option Row)) (old : Option Row) → or_before (cond b (Some new) change) old ≡ cond b new (or_before change old)
 put_over true new change old = refl
@@ -55,7 +55,7 @@ taken_back : (b : Bool) (change : Option (Option Row)) (old : Option Row) → or
 taken_back true change old = refl
 taken_back false change old = refl
 
--- where a change is taken back, what stood there before stands there again
+-- if a change is taken back, its key is as before again
 pub applied-remove : (delta : Delta) (db : Database) (key : LineKey) (old : Option Row) → get db key ≡ old → applied (remove delta key) db ≡ with_row key old (applied delta db)
 applied-remove delta db key old is = same_map key_total key_exact _ _ (λ q.
     get-applied (remove delta key) db q ∙ ap (λ o. or_before o (get db q)) (get-remove key_total delta key q)
@@ -67,7 +67,7 @@ applied-remove delta db key old is = same_map key_total key_exact _ _ (λ q.
     stood true q other tied = ap (get db) (tied_same q key tied) ∙ is
     stood false q other tied = refl
 
--- ---- no change leaves what stood there before
+-- ---- no change leaves its key as it was before
 
 nothing_is : {A : Type 0} (a : A) → None ≡ Some a → ⊥
 nothing_is a e = cc
@@ -89,7 +89,7 @@ differs-remove delta db key differs q change is = by (same q key) (sym (get-remo
     by true here stays = nothing_is change here
     by false here stays = differs q change here stays
 
--- so where nothing differs there is no change
+-- so if nothing differs, there is no change
 unchanged : (delta : Delta) (db : Database) → Differs delta db → db ≡ applied delta db → delta ≡ empty
 unchanged delta db differs stays = same_map key_total key_exact _ _ (λ q. none q (get delta q) refl ∙ sym (get-empty line_cmp q))
   where
@@ -97,7 +97,7 @@ unchanged delta db differs stays = same_map key_total key_exact _ _ (λ q. none 
     none q None is = is
     none q (Some change) is = absurd (differs q change is (sym (get-applied delta db q ∙ ap (λ o. or_before o (get db q)) is) ∙ sym (ap (λ (d : Database). get d q) stays)))
 
--- there are no changes exactly where the rows are the same
+-- there are no changes exactly if the rows are the same
 pub least : (delta : Delta) (db : Database) → Differs delta db → (len delta == 0) ≡ same_database db (applied delta db)
 least delta db differs = by_test (same_database db (applied delta db)) (len delta) refl refl
   where
@@ -116,7 +116,7 @@ least-empty db = least empty db (differs-empty db) ∙ ap (same_database db) (ap
 
 -- ---- a row that is as before, and one that is not
 
--- a row of the columns that stood at the key is the one that stood there
+-- a row of the columns that were at the key is the one that was there
 pub former_is : (db : Database) (version : Uuid) (key : LineKey) (columns : Columns) → has_columns columns (get db key) ≡ true → get db key ≡ Some (row_now db version key columns)
 former_is db version key columns h = by (get db key) refl h
   where
@@ -135,7 +135,7 @@ changed_is db version key columns h = by (get db key) refl h
     by None is h = ap (λ o. with (version_over o version columns)) is
     by (Some row) is h = ap (λ o. with (version_over o version columns)) is ∙ (rw h refl)
 
--- and is none that stood there
+-- and is not one that was there
 pub changed_differs : (db : Database) (version : Uuid) (key : LineKey) (columns : Columns) → has_columns columns (get db key) ≡ false → Some (record { version = version; columns = columns }) ≡ get db key → ⊥
 changed_differs db version key columns h e = false≢true (sym h ∙ ap (has_columns columns) (sym e) ∙ columns-same (entries columns))
 

@@ -1,4 +1,4 @@
--- Rows that are shown with all columns of an index in which no two of them are alike: none is shown twice.
+-- Rows that are shown with all columns of an index in which no two of them are equal: none is shown twice.
 use Rattle.std.proofs.Common.{◌≡◌, ℕ, List, [], ◌∷◌, ◌++◌, Bool, true, false, not, ◌||◌, cond, filter, map, Option, Some, None, refl, sym, ap, subst, ◌∙◌, codes}
 use Rattle.std.specs.Prelude.{option_map, option_to_list}
 use Rattle.std.proofs.lemmas.Bool.{and_parts, and_from, or_parts, false≢true}
@@ -36,7 +36,7 @@ module _ (r : LineKey × Row) (name : List ℕ) where
   abbrev with_first : Option Datum → List (List ℕ) → Shown
   with_first o names = option_to_list (option_map (λ datum. (name, datum)) o) ++ projection names r
 
-  -- a column that the row has not is not shown
+  -- a column that the row does not have is not shown
   shows_none : (names : List (List ℕ)) → entry_value r name ≡ None → value_at name (projection names r) ≡ None
   shows_none [] h = refl
   shows_none (n ∷ names) h =
@@ -58,7 +58,7 @@ module _ (r : LineKey × Row) (name : List ℕ) where
       first None is = ap (λ o. value_at name (with_first o names)) is ∙ shows_none names is ∙ sym is
       first (Some datum) is = ap (λ o. value_at name (with_first o names)) is ∙ at_front name datum (projection names r) ∙ sym is
 
--- a column that is not one that each row has by itself
+-- a column that is not one that every row has by itself
 stored : (r : LineKey × Row) (name : List ℕ) → not (is_own_column name) ≡ true → entry_value r name ≡ get r.1.columns name
 stored r name h = by (bytes_eq name (codes "_uuid")) (bytes_eq name (codes "_version")) h
   where
@@ -67,7 +67,7 @@ stored r name h = by (bytes_eq name (codes "_uuid")) (bytes_eq name (codes "_ver
     by false true h = cc
     by false false h = refl
 
--- ---- rows that are shown alike
+-- ---- rows that are shown as equal
 
 module _ (names : List (List ℕ)) where
   same_stored : (r s : LineKey × Row) (column : List ℕ) → has_column names column ≡ true → projection names r ≡ projection names s → get r.1.columns column ≡ get s.1.columns column
@@ -98,7 +98,7 @@ module _ (names : List (List ℕ)) where
         let kept = filter (λ other. not (same_columns (projection names r) other)) (map (projection names) es) in
         ap (λ b. cond (not b) (projection names e ∷ kept) kept) (differ r e parts.0) ∙ ap (λ others. projection names e ∷ others) (none_equal r es parts.1)
 
-    -- of rows of which no two are alike in the index none is shown twice
+    -- if no two rows are equal in the index, none is shown twice
     pub shown_apart : (es : List (LineKey × Row)) → has_two_alike index es ≡ false → without_repeats (map (projection names) es) ≡ map (projection names) es
     shown_apart [] h = refl
     shown_apart (e ∷ es) h =
@@ -140,7 +140,7 @@ any_index names chosen es (index ∷ indexes) shown apart =
       | false ↦ λ is. any_index names chosen es indexes (or_second (has_index names index) (list_any (has_index names) indexes) is shown) parts.1
     ] refl
 
--- where the columns of an index are shown, and no two rows are alike in one
+-- if the columns of an index are shown, and no two rows are equal in one
 pub told_by_index : (schema : Schema) (rows : Database) (table : List ℕ) (names : List (List ℕ)) → are_any_alike schema rows ≡ false → has_any_index schema table names ≡ true → AreToldApart rows table names
 told_by_index schema rows table names apart shown conditions =
     subst (λ (es : List (LineKey × Row)). without_repeats (map (projection names) es) ≡ map (projection names) es) (sym (matching-of_table table conditions (entries rows)))

@@ -1,4 +1,4 @@
--- What conditions ask for in the columns of an index, and the rows that stand there. What names no source is our own.
+-- What conditions ask for in the columns of an index, and the rows found there.
 use Rattle.std.specs.Prelude.{◌≡◌, true, false, Bool, ℕ, T, List, map, Option, Some, IfSome, option_to_list, slice_get}
 use Rattle.std.specs.FinMap.{get, entries, is_sorted}
 use Rattle.std.specs.List.{filter, flat_map, list_any}
@@ -20,7 +20,7 @@ use Rattle.ov_specs.specs.values.Value.{Datum}
 use Rattle.ov_stage.specs.Staging.{is_met, with_key}
 use Rattle.ov_stage.specs.declared.indexed.Indexed.{Indexed}
 
--- ---- what each row has that meets all conditions
+-- ---- what every row has that meets all conditions
 
 -- it has this value in the column of this name
 abbrev pub IsValueOf : List Condition → List ℕ → Datum → Type 0
@@ -30,17 +30,17 @@ IsValueOf conditions column value = (row : LineKey × Row) → is_met conditions
 abbrev pub AreValuesOf : List Condition → List (List ℕ) → List Datum → Type 0
 AreValuesOf conditions index values = (row : LineKey × Row) → is_met conditions row ≡ true → values_in index row.1.columns ≡ values
 
--- columns of a row of the table, which has this name, stand at the key
+-- the row of the table, which has this name, is at this key
 abbrev pub stands_in : List ℕ → Table → Row → IndexKey → Bool
 stands_in name table row key = is_some_and (λ index. same_index_key (key_at name key.number index row.columns) key) (slice_get table.indexes key.number)
 
--- the key is one of the table of this name, and a row of it stands there
+-- the key is one of the table of this name, and every row that meets all conditions is at it
 abbrev pub IsKeyOf : List Condition → List ℕ → Table → IndexKey → Type 0
 IsKeyOf conditions name table key = (key.table ≡ name) × ((row : LineKey × Row) → is_met conditions row ≡ true → stands_in name table row.1 key ≡ true)
 
--- ---- rows among which they are
+-- ---- rows that include them
 
--- identifiers that ascend
+-- identifiers in ascending order
 abbrev pub Ascend : List Uuid → Type 0
 Ascend ids = T (is_sorted id_cmp (map marked ids))
 
@@ -48,15 +48,15 @@ Ascend ids = T (is_sorted id_cmp (map marked ids))
 abbrev pub has_id : List Uuid → Uuid → Bool
 has_id ids id = list_any (eq_by_cmp id_cmp id) ids
 
--- each row of the table of this name that meets all conditions has one of these identifiers
+-- every row of the table of this name that meets all conditions has one of these identifiers
 abbrev pub AreIdsOf : List Condition → Database → List ℕ → List Uuid → Type 0
 AreIdsOf conditions rows table ids = (id : Uuid) (row : Row) → get rows (table, id) ≡ Some row → is_met conditions ((table, id), row) ≡ true → has_id ids id ≡ true
 
--- the rows of these identifiers that there are in the table of this name
+-- the rows of these identifiers that exist in the table of this name
 abbrev pub rows_of_ids : Database → List ℕ → List Uuid → List (LineKey × Row)
 rows_of_ids rows table ids = flat_map (λ id. option_to_list (with_key (table, id) (get rows (table, id)))) ids
 
--- the indexes are those of the rows, and no two of the rows are alike in one, where there are some
+-- if there are indexes, they are those of the rows, and no two of the rows are equal in one
 abbrev pub AreIndexesIf : Database → Option Indexed → Type 0
 AreIndexesIf rows indexed = IfSome indexed (λ i. AreIndexesOf i.schema.now rows i.indexes.now × (are_any_alike i.schema.now rows ≡ false))
 

@@ -1,4 +1,4 @@
--- The rows of a transaction, and changes made in a list of rows. What names no source is our own.
+-- The rows of a transaction, and changes made in a list of rows.
 use Rattle.std.specs.Prelude.{◌≡◌, ◌≢◌, not, List, [], ◌∷◌, refl, Bool, true, false, Option, Some, None, option_map, option_to_list}
 use Rattle.std.specs.declared.cmp.Ordering.{Ordering}
 use Rattle.std.specs.Ordering.{eq_by_cmp}
@@ -25,7 +25,7 @@ pub record Stage : Type 0 where
 abbrev pub stage_code : Coded Stage
 stage_code = code_by (Database × Database) (coded× database_code database_code) (λ s. (s.before, s.now)) (λ p. record { before = p.0; now = p.1 }) (λ _. refl)
 
--- no change leaves what stood there before
+-- no change leaves its key as it was before
 abbrev pub Differs : Delta → Database → Type 0
 Differs delta before = (key : LineKey) (change : Option Row) → get delta key ≡ Some change → change ≢ get before key
 
@@ -34,7 +34,7 @@ abbrev pub has_columns : Columns → Option Row → Bool
 has_columns columns None = false
 has_columns columns (Some row) = same_columns (entries row.columns) (entries columns)
 
--- what stands at a key, with the key
+-- what is at a key, with the key
 abbrev pub with_key : {K X : Type 0} → K → Option X → Option (K × X)
 with_key key found = option_map (λ x. (key, x)) found
 
@@ -44,15 +44,15 @@ with_key key found = option_map (λ x. (key, x)) found
 abbrev pub is_met : List Condition → LineKey × Row → Bool
 is_met conditions r = list_all (holds (entry_value r)) conditions
 
--- each row that meets all conditions has this identifier
+-- every row that meets all conditions has this identifier
 abbrev pub AreOnlyOf : Uuid → List Condition → Type 0
 AreOnlyOf id conditions = (row : LineKey × Row) → is_met conditions row ≡ true → row.0.1 ≡ id
 
--- a row, lent, that meets all conditions
+-- a borrowed row that meets all conditions
 abbrev pub meets : List Condition → RowView → Bool
 meets conditions r = list_all (holds (column_value r.id.now r.row.now.version r.row.now.columns)) conditions
 
--- ---- changes that are made in an ascending list of rows, by whatever keys
+-- ---- changes made in an ascending list of rows, by keys of any kind
 
 -- the row that a change makes, if it makes one
 abbrev pub row_made : {K : Type 0} → K × Option Row → List (K × Row)
@@ -63,7 +63,7 @@ abbrev pub place : {K : Type 0} → (K → K → Ordering) → K → Option Row 
 place order key (Some row) rows = put order key row rows
 place order key None rows = where_key order (λ other. not (eq_by_cmp order key other)) rows
 
--- the rows after these changes, the first of them first
+-- the rows after these changes, applied first to last
 abbrev pub placed : {K : Type 0} → (K → K → Ordering) → List (K × Option Row) → List (K × Row) → List (K × Row)
 placed order [] rows = rows
 placed order (change ∷ changes) rows = placed order changes (place order change.0 change.1 rows)

@@ -14,7 +14,7 @@ use serde_json::Value;
 use std::alloc::{AllocError, Global};
 use uuid::Uuid;
 
-/// The conditions of a `where`, or the fault of the first that does not read (RFC 7047, 5.2.2).
+/// The conditions of a `where`, or the fault of the first that cannot be read (RFC 7047, 5.2.2).
 pub fn conditions_of<N: Names>(
     alloc: Global,
     table: &Table,
@@ -33,7 +33,7 @@ pub fn conditions_of<N: Names>(
     Ok(conditions)
 }
 
-/// Whether a row meets all conditions, its identifier and version among its columns.
+/// Whether a row meets all conditions; its identifier and version count as columns.
 fn meets(conditions: &[Condition], row: &RowView<'_>) -> bool
     ensures { result ≡ meets conditions.now row.now }
 {
@@ -45,7 +45,7 @@ fn meets(conditions: &[Condition], row: &RowView<'_>) -> bool
     true
 }
 
-/// The identifier that each row that meets all conditions has, where one of them asks for it.
+/// The identifier of every row that meets all conditions, if one of them asks for it.
 pub(crate) fn only_id(conditions: &[Condition]) -> Option<Uuid>
     ensures { IfSome result (λ id. AreOnlyOf id conditions.now) }
 {
@@ -57,7 +57,7 @@ pub(crate) fn only_id(conditions: &[Condition]) -> Option<Uuid>
     None
 }
 
-/// Those of the rows that meet all conditions. Without conditions these are the same rows, and nothing is allocated.
+/// The rows that meet all conditions. Without conditions, returns the same rows and allocates nothing.
 pub(crate) fn meeting<'a>(
     alloc: Global,
     rows: Vec<RowView<'a>>,

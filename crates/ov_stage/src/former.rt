@@ -15,7 +15,7 @@ fn has_columns(row: Option<&Row>, columns: &Columns) -> bool
     }
 }
 
-/// Whether a row of these columns stood at this key before the transaction (RFC 7047, 3.2).
+/// Whether a row of these columns was at this key before the transaction (RFC 7047, 3.2).
 pub(crate) fn is_former(before: &Rows, key: &RowKey, columns: &Columns) -> bool
     ensures { result ≡ has_columns columns.now (get before.now key.now) }
 {

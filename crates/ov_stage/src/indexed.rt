@@ -12,14 +12,14 @@ use ov_schema::{Schema, Table, is_own};
 use std::alloc::{AllocError, Global};
 use uuid::Uuid;
 
-/// The indexes of rows, and the schema that says of which columns they are.
+/// The indexes of rows, and the schema that defines their columns.
 #[derive(Clone, Copy)]
 pub(crate) struct Indexed<'a> {
     pub(crate) schema: &'a Schema,
     pub(crate) indexes: &'a Indexes,
 }
 
-/// The value that each row that meets all conditions has in the column of this name, where one of them asks for it.
+/// The value in the column of this name of every row that meets all conditions, if one of them asks for it.
 fn value_asked<'a>(conditions: &'a [Condition], column: &str) -> Option<&'a Datum>
     ensures { IfSome result (λ value. IsValueOf conditions.now column.now value.now) }
 {
@@ -34,7 +34,7 @@ fn value_asked<'a>(conditions: &'a [Condition], column: &str) -> Option<&'a Datu
     None
 }
 
-/// The values in the columns of the index, where there is a condition that asks for each.
+/// The values in the columns of the index, if conditions ask for each of them.
 fn values_asked(
     alloc: Global,
     conditions: &[Condition],
@@ -52,7 +52,7 @@ fn values_asked(
     Ok(Some(values))
 }
 
-/// The key in the first index of the table, which has this name, for each of whose columns a condition asks.
+/// The key in the first index of the table, which has this name, whose columns the conditions all ask for.
 fn key_asked(
     alloc: Global,
     conditions: &[Condition],
@@ -80,8 +80,8 @@ fn ids_at<'a>(indexes: &'a Indexes, key: &IndexKey) -> &'a [Uuid]
 }
 
 impl<'a> Indexed<'a> {
-    /// Identifiers among which are those of all rows of the table of this name that meet all conditions, where the conditions ask
-    /// for values in all columns of an index. They ascend.
+    /// Ascending identifiers that include those of all rows of the table of this name that meet all conditions, if the
+    /// conditions ask for values in all columns of an index.
     pub(crate) fn ids_asked(
         self,
         alloc: Global,

@@ -1,5 +1,5 @@
-//! What the operations of a transaction share: the rows as those so far have made them, and which rows match (RFC 7047, 4.1.3 and
-//! 5.2). What names no source is our own.
+//! What the operations of a transaction share: the rows as the operations so far have made them, and which rows match
+//! (RFC 7047, 4.1.3 and 5.2).
 #![tactic(auto)]
 
 mod apart;

@@ -44,7 +44,7 @@ fn change_at<'a>(delta: &'a Delta, key: &RowKey) -> Option<(&'a Uuid, &'a Option
     }
 }
 
-/// The row of this key after the changes. No other row is looked at.
+/// The row of this key after the changes. Looks at no other row.
 pub(crate) fn row_after<'a>(rows: &'a Rows, delta: &'a Delta, key: &RowKey) -> Option<RowView<'a>>
     ensures { option_map (lent_row_of key.now.0) result ≡ with_key key.now (get (applied delta.now rows.now) key.now) }
 {
@@ -55,7 +55,7 @@ pub(crate) fn row_after<'a>(rows: &'a Rows, delta: &'a Delta, key: &RowKey) -> O
     }
 }
 
-/// The rows of these identifiers in a table, those of them that there are.
+/// The rows of these identifiers that exist in a table.
 fn listed_at<'a>(
     alloc: Global,
     table: &'a TableRows,
@@ -72,7 +72,7 @@ fn listed_at<'a>(
     Ok(rows)
 }
 
-/// The rows of these identifiers in the table of this name, those of them that there are. No other row is looked at.
+/// The rows of these identifiers that exist in the table of this name. Looks at no other row.
 pub(crate) fn rows_of_ids<'a>(
     alloc: Global,
     rows: &'a Rows,

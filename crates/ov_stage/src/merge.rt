@@ -42,7 +42,7 @@ pub(crate) fn rows_of<'a>(
     }
 }
 
-/// The changes of the table of this name, in ascending order of their identifiers. All changes are looked at.
+/// The changes of the table of this name, in ascending order of their identifiers. Looks at all changes.
 fn changes_of<'a>(
     alloc: Global,
     delta: &'a Delta,
@@ -84,8 +84,8 @@ fn push_changes<'a>(
     Ok(())
 }
 
-/// The rows after the changes, in ascending order: a change replaces or removes the row of its identifier, and a new one
-/// stands at its place. Each row and each change is looked at once.
+/// The rows after the changes, in ascending order: a change replaces or removes the row of its identifier, and a new row is
+/// inserted at its place. Looks at each row and each change once.
 fn merged<'a>(
     alloc: Global,
     rows: &[RowView<'a>],
@@ -122,7 +122,7 @@ fn merged<'a>(
     Ok(merged)
 }
 
-/// These rows of the table of this name after the changes of the table.
+/// These rows of the table of this name, after the changes of the table.
 pub(crate) fn rows_after<'a>(
     alloc: Global,
     rows: Vec<RowView<'a>>,

@@ -30,11 +30,11 @@ use std::alloc::{AllocError, Global};
 use std::marker::Model;
 use uuid::Uuid;
 
-/// The rows as a transaction has made them so far. The committed ones are not touched.
+/// The rows as a transaction has made them so far. The committed rows are not touched.
 #[derive(Drop)]
 pub struct Stage<'a> {
     rows: &'a Rows,
-    /// The indexes of these rows, where they are kept. No two of the rows are alike in one.
+    /// The indexes of these rows, if they are kept. No two of the rows are equal in one.
     indexed: Option<Indexed<'a>>,
     delta: Delta,
 }
@@ -54,7 +54,7 @@ impl<'a> Model for Stage<'a> {
 }
 
 impl<'a> Stage<'a> {
-    /// The rows before the first operation.
+    /// Starts with the rows before the first operation.
     pub fn new(alloc: Global, rows: &'a Rows) -> Stage<'a>
         ensures { result ≡ record { before = rows.now; now = rows.now } }
     {
@@ -65,8 +65,8 @@ impl<'a> Stage<'a> {
         }
     }
 
-    /// The rows before the first operation, of which no two are alike in an index, with their indexes: where conditions ask for
-    /// values in all columns of an index, only the rows that have them are looked at.
+    /// Starts with the rows before the first operation, of which no two are equal in an index, and their indexes: when
+    /// conditions ask for values in all columns of an index, only the rows that have them are looked at.
     pub fn with_indexes(
         alloc: Global,
         schema: &'a Schema,
@@ -91,7 +91,7 @@ impl<'a> Stage<'a> {
         self.rows
     }
 
-    /// What the operations have changed so far. Each change is one: it differs from what stood at its key before.
+    /// What the operations have changed so far. Each change differs from what was at its key before.
     pub fn changes(&self) -> &Delta
         ensures made { applied result.now self.now.before ≡ self.now.now }
         ensures differs { Differs result.now self.now.before }
@@ -99,7 +99,7 @@ impl<'a> Stage<'a> {
         &self.delta
     }
 
-    /// The row of this key as it is now, if there is one. No other row is looked at.
+    /// The current row of this key, if there is one. Looks at no other row.
     pub fn row(&self, key: &RowKey) -> Option<&Row>
         ensures { option_copied result ≡ get self.now.now key.now }
     {
@@ -109,7 +109,7 @@ impl<'a> Stage<'a> {
         }
     }
 
-    /// Whether there is a row of this key now.
+    /// Whether there is now a row of this key.
     pub fn contains(&self, key: &RowKey) -> bool
         ensures { result ≡ contains_key self.now.now key.now }
     {
@@ -119,8 +119,8 @@ impl<'a> Stage<'a> {
         }
     }
 
-    /// Puts a row of these columns at the key, in a transaction of this version. A row that is as it was before the transaction
-    /// keeps its version, and is no change (RFC 7047, 3.2). Where a growth is refused, nothing is changed.
+    /// Puts a row of these columns at the key, in a transaction of this version. A row that is as it was before the
+    /// transaction keeps its version, and is no change (RFC 7047, 3.2). If an allocation fails, nothing is changed.
     pub fn put(&mut self, key: RowKey, version: Uuid, columns: Columns) -> Result<(), AllocError>
         ensures ok { OnOk result (self.new ≡ record self.old { now = insert self.old.now key (row_now self.old.before version key columns) }) }
         ensures err { OnErr result (self.new ≡ self.old) }
@@ -133,7 +133,7 @@ impl<'a> Stage<'a> {
         Ok(())
     }
 
-    /// Takes the row of the key out, if there is one. Where a growth is refused, nothing is changed.
+    /// Removes the row of the key, if there is one. If an allocation fails, nothing is changed.
     pub fn remove(&mut self, key: RowKey) -> Result<(), AllocError>
         ensures ok { OnOk result (self.new ≡ record self.old { now = remove self.old.now key }) }
         ensures err { OnErr result (self.new ≡ self.old) }
@@ -146,7 +146,7 @@ impl<'a> Stage<'a> {
         Ok(())
     }
 
-    /// The rows of the table of this name as they are now, in ascending order of their identifiers.
+    /// The current rows of the table of this name, in ascending order of their identifiers.
     pub fn rows_of(&self, alloc: Global, table: &str) -> Result<Vec<RowView<'_>>, AllocError>
         ensures { IfOk result (λ rows. map (lent_row_of table.now) rows.items ≡ filter (λ r. bytes_eq r.0.0 table.now) (entries self.now.now)) }
     {
@@ -154,8 +154,8 @@ impl<'a> Stage<'a> {
         rows_after(alloc, rows, &self.delta, table)
     }
 
-    /// Identifiers among which are those of all rows of the table of this name that met all conditions before the first operation,
-    /// where the conditions ask for values in all columns of an index.
+    /// Identifiers that include those of all rows of the table of this name that met all conditions before the first
+    /// operation, if the conditions ask for values in all columns of an index.
     fn ids_asked(
         &self,
         alloc: Global,
@@ -171,7 +171,7 @@ impl<'a> Stage<'a> {
         }
     }
 
-    /// Rows of the table of this name as they are now: those of these identifiers before the first operation, and those that the
+    /// Current rows of the table of this name: those of these identifiers before the first operation, and those that the
     /// operations have put.
     fn rows_of_ids(
         &self,
@@ -186,7 +186,7 @@ impl<'a> Stage<'a> {
         rows_after(alloc, before, &self.delta, table)
     }
 
-    /// The row of this identifier in the table of this name as it is now, if there is one.
+    /// The current row of this identifier in the table of this name, if there is one.
     fn rows_at(&self, alloc: Global, table: &str, id: Uuid) -> Result<Vec<RowView<'_>>, AllocError>
         ensures { IfOk result (λ rows. map (lent_row_of table.now) rows.items ≡ option_to_list (with_key (table.now, id) (get self.now.now (table.now, id)))) }
     {
@@ -198,7 +198,7 @@ impl<'a> Stage<'a> {
         Ok(rows)
     }
 
-    /// Rows of the table of this name: those that meet all conditions, and maybe others.
+    /// Rows of the table of this name: all that meet the conditions, and possibly others.
     fn candidates(
         &self,
         alloc: Global,
@@ -216,9 +216,9 @@ impl<'a> Stage<'a> {
         }
     }
 
-    /// The rows of the table of this name that meet all conditions, in ascending order of their identifiers (RFC 7047, 5.2.2).
-    /// Where a condition asks for one identifier, no other row is looked at. Where conditions ask for values in all columns of an
-    /// index, only the rows that have them and those that the operations have put are.
+    /// The rows of the table of this name that meet all conditions, in ascending order of their identifiers (RFC 7047,
+    /// 5.2.2). If a condition asks for one identifier, looks at no other row. If conditions ask for values in all columns of
+    /// an index, looks only at the rows that have them and at those that the operations have put.
     pub fn matching(
         &self,
         alloc: Global,
@@ -231,8 +231,8 @@ impl<'a> Stage<'a> {
         meeting(alloc, rows, conditions)
     }
 
-    /// Whether an index tells the rows of the table of this name apart, of which these columns are shown. Of the rows that
-    /// operations have put two may be alike until the commit, so where there are changes no index does.
+    /// Whether an index tells the rows of the table of this name apart when these columns are shown. Two rows that operations
+    /// have put may be equal until the commit, so once there are changes, no index does.
     fn has_any_index(&self, table: &str, names: &[Text]) -> bool
         ensures { result ≡ true → AreToldApart self.now.now table.now names.now }
     {
@@ -242,16 +242,16 @@ impl<'a> Stage<'a> {
         }
     }
 
-    /// Whether these columns tell the rows of the table of this name apart, so that no two are equal in all of them: where the
-    /// identifiers are among them, and, as long as nothing is changed, where all columns of an index are. No row is looked at:
-    /// false says nothing of the rows.
+    /// Whether these columns tell the rows of the table of this name apart, so that no two are equal in all of them: if the
+    /// identifiers are among them or, as long as nothing is changed, all columns of an index are. Looks at no row: false says
+    /// nothing about the rows.
     pub fn tells_apart(&self, table: &str, names: &[Text]) -> bool
         ensures { result ≡ true → AreToldApart self.now.now table.now names.now }
     {
         is_among(names, "_uuid") || self.has_any_index(table, names)
     }
 
-    /// What the operations have changed. It is empty exactly where the rows are as before them.
+    /// What the operations have changed. It is empty exactly if the rows are as before them.
     pub fn into_delta(self) -> Delta
         ensures made { applied result self.entry.before ≡ self.entry.now }
         ensures least { (len result == 0) ≡ same_database self.entry.before self.entry.now }

@@ -40,7 +40,7 @@ module _ {D : Type 0} (g : disk.Ghosts D) where
   IsStart image files = (image_of g files ≡ image) × (faults_of g files ≡ 0) × ((tally_of_files g (files.log, files.db)).caught ≡ 0)
 
 module _ {D : Type 0} {g : disk.Ghosts D} where
-  -- what a failure of this kind is, where the count of damage tells of that kind
+  -- the fault for a failure of this kind, if the count of damage reports that kind
   of_kind : (image : Image) (left : Leftover D g) (old : Tally) → old.caught ≡ 0 → HasFault left → Explains image left (fault_of_open (store_error (named old (tally_left left))))
   of_kind image left old zero failed =
       let new = tally_left left in
@@ -120,7 +120,7 @@ module _ {D : Type 0} {g : disk.Ghosts D} where
       let image : seen ≡ record { log = log; db = db } = λ i. record { log = is_log i; db = is_db i } in
       subst (λ (i : Image). IsCopyRefused i (fault_of_open e)) image (of_copy seen e fails)
 
--- of a copy that was opened, what does not pass is somebody else's
+-- a copy that was opened and does not pass is foreign
 pub foreign_refused : {T : Type 0} (seen : Image) (log db : List ℕ) (s : State) → Opens s → IsLive s → AreFoundIn seen s.committed.trees → seen.log ≡ log → seen.db ≡ db
     → (schema : Schema) → schema ≡ s.now.schema → (r : Result T KeepFault) → IfErr r (λ fault. (fault ≡ NotOurs) × (schema ≢ no_schema) × (¬ HasOurTables schema)) → IfErr r (IsCopyRefused (record { log = log; db = db }))
 foreign_refused seen log db s opens live found is_log is_db schema is (Ok x) refused = tt

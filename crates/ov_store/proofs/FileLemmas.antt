@@ -20,7 +20,7 @@ use Rattle.ov_store.specs.Finding.{new_contents, IsNewStore, IsStoreOf, HasNoTab
 pub no_tables : (schema : Schema) → schema ≡ no_schema → ¬ HasOurTables schema
 no_tables schema blank has = let none = (rw blank at has).meta.named in absurd cc
 
--- what was opened and has a schema that passes is nobody else's
+-- what was opened and has a schema that passes is not foreign
 pub nobody_elses : (seen : Image) (log db : List ℕ) (s : State) → Opens s → IsLive s → AreFoundIn seen s.committed.trees → seen.log ≡ log → seen.db ≡ db
     → (schema : Schema) → schema ≡ s.now.schema → (schema ≡ no_schema) ⊎ HasOurTables schema → IsNobodyElses (record { log = log; db = db })
 nobody_elses seen log db s opens live found is_log is_db schema is ours =
@@ -38,7 +38,7 @@ module _ {S : Type 0} (g : Ghosts S) where
   new_of_blank text c s blank (inl new) = new
   new_of_blank text c s blank (inr old) = absurd (no_tables c.schema blank old.tables)
 
-  -- what an open finds is new, where the files had no table, or what they held
+  -- what an open finds is new, if the files had no table, or what they held
   pub found_in : (image : Image) (text : List ℕ) (c : Connected S) (s : StoreState S) → (HasCleanDisk (state g c) → Opens (state g c) × IsLive (state g c)) → (HasCleanDisk (state g c) → FindsIn image (state g c))
       → IsStoreOf g text c s → HasCleanDisk (state g s.connection) → (contents : Contents) → MayFind g s.connection contents → (HasNoTable image × (contents ≡ new_contents text)) ⊎ IsStoredIn image contents
   found_in image text c s opens finds (inl new) clean contents found =

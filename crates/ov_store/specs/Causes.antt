@@ -1,4 +1,4 @@
--- Why files are refused at an open, by what the program answers. What names no source is our own.
+-- Why files are refused at an open, by what the program answers.
 use Rattle.std.specs.Prelude.{◌≡◌, ◌≢◌, ◌⊎◌, ◌<◌, ⊤, IsTrue}
 use Rattle.sqlite.specs.declared.error.ErrorCode.TheVariants.{OutOfMemory, NotADatabase, DatabaseCorrupt, DiskFull, SystemIoFailure}
 use Rattle.sqlite.specs.declared.error.Error.{Error}
@@ -15,11 +15,11 @@ use Rattle.ov_keeper.specs.declared.fault.KeepFault.TheVariants.{Memory, Device,
 use Rattle.ov_store.specs.Refusing.{fault_of_open}
 use Rattle.ov_sqlite.specs.Tables.{no_schema, HasOurTables}
 
--- the files hold a database, or none was made yet
+-- the files hold a database, or none has been made yet
 abbrev pub IsOpenable : Image → Type 0
 IsOpenable image = ((db : Trees) × HoldsDatabase image db) ⊎ IsNothing image
 
--- what the files recover to is somebody else's: it has a table, an index or a view, and not the tables of the format
+-- what the files recover to is foreign: it has a table, an index or a view, but not the tables of the format
 pub record IsSomebodyElses (image : Image) : Type 0 where
   pub db : Database
   pub sound : IsDatabase db
@@ -27,22 +27,22 @@ pub record IsSomebodyElses (image : Image) : Type 0 where
   pub some : db.schema ≢ no_schema
   pub foreign : ¬ HasOurTables db.schema
 
--- why a copy in memory of a file and its log is refused; the device is named where the copy is at a limit of SQLite
+-- why a copy in memory of a file and its log is refused; `Device` is named if the copy is at a limit of SQLite
 abbrev pub IsCopyRefused : Image → KeepFault → Type 0
 IsCopyRefused copy Memory = ⊤
 IsCopyRefused copy Device = ⊤
 IsCopyRefused copy NotOurs = (¬ IsOpenable copy) ⊎ IsSomebodyElses copy
 IsCopyRefused copy _ = ⊥
 
--- the fault is what an error of SQLite at an open is
+-- the fault is that of some error of SQLite at an open
 abbrev pub IsOpenRefused : KeepFault → Type 0
 IsOpenRefused fault = (error : Error) × IsTrue (is_open_error error) × (fault ≡ fault_of_open error)
 
--- a copy was refused so
+-- some copy was refused with this fault
 abbrev pub IsLookRefused : KeepFault → Type 0
 IsLookRefused fault = IsOpenRefused fault × ((copy : Image) × IsCopyRefused copy fault)
 
--- a file in memory fails only where it can't grow
+-- a file in memory fails only if it cannot grow
 abbrev pub error_in_memory : Error → Error
 error_in_memory (SqliteFailure SystemIoFailure) = SqliteFailure OutOfMemory
 error_in_memory e = e
@@ -56,7 +56,7 @@ module _ {D : Type 0} {g : disk.Ghosts D} where
   abbrev pub HasCaught : Leftover D g → Type 0
   HasCaught left = (tally_left left).caught ≢ 0
 
-  -- of files that held this, what is left explains the fault
+  -- for files that held this, what is left explains the fault
   abbrev pub Explains : Image → Leftover D g → KeepFault → Type 0
   Explains image left Memory = ⊤
   Explains image left Device = HasFault left ⊎ IsFullLeft left
@@ -64,8 +64,8 @@ module _ {D : Type 0} {g : disk.Ghosts D} where
   Explains image left _ = ⊥
 
 module _ {D : Type 0} (g : disk.Ghosts D) where
-  -- why files that held this were not opened: the system did not give them, or what is left of them explains the fault, where
-  -- their device was honest
+  -- why files that held this were not opened: the system refused them, or, if their device was honest, what is left of them
+  -- explains the fault
   abbrev pub IsUnopened : Image → KeepFault → Type 0
   IsUnopened image fault = IsOpenRefused fault
       × (((fault ≡ Memory) ⊎ (fault ≡ Device)) ⊎ ((left : Leftover D g) × (IsCleanLeft left → Explains image left fault)))
@@ -79,6 +79,6 @@ module _ {D : Type 0} (g : disk.Ghosts D) where
   FailsInMemory image e =
       (e ≡ SqliteFailure OutOfMemory) ⊎ ((((e ≡ SqliteFailure NotADatabase) ⊎ (e ≡ SqliteFailure DatabaseCorrupt)) × (¬ IsOpenable image)) ⊎ MeetsLimit e)
 
-  -- and empty ones
+  -- why empty files in memory are not opened
   abbrev pub FailsToBegin : Error → Type 0
   FailsToBegin e = (e ≡ SqliteFailure OutOfMemory) ⊎ MeetsLimit e

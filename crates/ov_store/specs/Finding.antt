@@ -1,4 +1,4 @@
--- What the store of a connection that was just opened holds. What names no source is our own.
+-- What the store of a connection that was just opened holds.
 use Rattle.std.specs.Prelude.{◌≡◌, ◌≢◌, ◌↔◌, ◌⊎◌, ℕ, List, Result, Ok, Err}
 use Rattle.std.specs.FinMap.{empty}
 use Rattle.sqlite.specs.Store.{Ghosts}
@@ -23,7 +23,7 @@ use Rattle.ov_store.specs.Refusing.{fault_of_open}
 use Rattle.ov_store.specs.Causes.{IsLookRefused, IsUnopened, FailsToBegin}
 use Rattle.ov_store.specs.StoreState.{StoreState, MayFind}
 
--- the text of a schema, and no line
+-- a schema text and no lines
 abbrev pub new_contents : List ℕ → Contents
 new_contents text = record { schema = text; lines = empty }
 
@@ -42,12 +42,12 @@ module _ {S : Type 0} (g : Ghosts S) where
     pub format : HasCleanDisk (state g s.connection) → IsFormat s.schema (state g c).now
     pub holds : HasCleanDisk (state g s.connection) → Opens (state g c) → (contents : Contents) → MayFind g s.connection contents → contents ≡ held (state g c).now.trees
 
-  -- one of the two
+  -- the store is one of the two
   abbrev pub IsStoreOf : List ℕ → Connected S → StoreState S → Type 0
   IsStoreOf text c s = IsNewStore text c s ⊎ IsOldStore c s
 
-  -- why a connection has no store, and what is left of it: what it held, but that a device which failed at the making may
-  -- leave the whole new database
+  -- why a connection has no store, and what it still holds: what it held before, except that a device that failed while the
+  -- tables were made may leave the whole new database
   pub record IsRefused (text : List ℕ) (c left : Connected S) (fault : KeepFault) : Type 0 where
     pub ours : (fault ≡ NotOurs) ↔ ((c.schema ≢ no_schema) × (¬ HasOurTables c.schema))
     pub tables : fault ≡ Format → HasOurTables c.schema
@@ -55,7 +55,7 @@ module _ {S : Type 0} (g : Ghosts S) where
     pub same : HasCleanDisk (state g left) → IsAsBefore (state g c) (state g left)
     pub crash : Survives (state g c) (state g left) (λ trees. (fault ≡ Device) × (c.schema ≡ no_schema) × IsNewFile text trees)
 
-  -- why what a crash left of a store is none: it is one of those that an open might find, and that is refused
+  -- why what a crash left of a store is not one: it is among the contents that an open might find, and these are refused
   pub record IsRefusedAgain (s : StoreState S) (left : Connected S) (fault : KeepFault) : Type 0 where
     pub again : Connected S
     pub opened : HasCleanDisk (state g again) → Opens (state g again) × MayFind g s.connection (held (state g again).now.trees)
@@ -78,7 +78,7 @@ pub record IsStoredIn (image : Image) (contents : Contents) : Type 0 where
   pub format : IsFormat text db
   pub contents_are : contents ≡ held db.trees
 
--- what the files recover to is nobody else's: it has no table, index or view, or the tables of the format
+-- what the files recover to is not foreign: it has no table, index or view, or it has the tables of the format
 pub record IsNobodyElses (image : Image) : Type 0 where
   pub db : Database
   pub sound : IsDatabase db
@@ -86,19 +86,19 @@ pub record IsNobodyElses (image : Image) : Type 0 where
   pub ours : (db.schema ≡ no_schema) ⊎ HasOurTables db.schema
 
 module _ {D : Type 0} {g : disk.Ghosts D} where
-  -- SQLite opened the files and found what they held, and that has no store
+  -- SQLite opened the files and found what they held, which has no store
   pub record IsFoundRefused (image : Image) (text : List ℕ) (fault : KeepFault) (found left : Connected (FileStore D g)) : Type 0 where
     pub fresh : IsNew found
     pub opened : HasCleanDisk (file_state found) → IsOpened found
     pub holds : HasCleanDisk (file_state found) → FindsIn image (file_state found)
     pub refused : IsRefused over_files text found left fault
 
-  -- a refusal is one of the three: of a copy, of the files as they were opened, or of what they held
+  -- a refusal is one of three: of a copy, of the files as they were opened, or of what they held
   abbrev pub IsFileRefused : Image → List ℕ → Result (StoreState (FileStore D g)) KeepFault → Type 0
   IsFileRefused image text (Ok s) = Unit {0}
   IsFileRefused image text (Err fault) = (IsLookRefused fault ⊎ IsUnopened g image fault) ⊎ ((found : Connected (FileStore D g)) × (left : Connected (FileStore D g)) × IsFoundRefused image text fault found left)
 
-  -- of a connection that has no table
+  -- a refusal in memory is of the empty files, or of a connection that has no table
   abbrev pub IsMemoryRefused : List ℕ → Result (StoreState (FileStore D g)) KeepFault → Type 0
   IsMemoryRefused text (Ok s) = Unit {0}
   IsMemoryRefused text (Err fault) = ((error : Error) × FailsToBegin g error × (fault ≡ fault_of_open error)) ⊎ ((found : Connected (FileStore D g)) × (left : Connected (FileStore D g)) × IsEmpty (file_state found) × IsRefused over_files text found left fault)

@@ -1,10 +1,10 @@
--- An open finds something. What names no source is our own.
+-- An open finds something.
 use Rattle.std.proofs.Common.{◌≡◌, refl}
 use Rattle.std.proofs.Math.Logic.{∥∥₁_map}
 use Rattle.sqlite.specs.Tree.{Trees}
 use Rattle.ov_specs.specs.rows.Lines.{Contents}
 use Rattle.ov_sqlite.specs.Format.{held}
 
--- what some trees hold is found where some trees are found
+-- if some trees are found, so are the contents that they hold
 pub some_held : (recovers : Trees → Type 0) → ∥ ((db : Trees) × recovers db) ∥₁ → ∥ ((contents : Contents) × ((trees : Trees) × recovers trees × (contents ≡ held trees))) ∥₁
 some_held recovers some = ∥∥₁_map some (λ found. (held found.0, (found.0, found.1, refl)))

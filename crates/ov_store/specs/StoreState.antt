@@ -1,4 +1,4 @@
--- What contracts see of a store. What names no source is our own.
+-- What contracts see of a store.
 use Rattle.std.specs.Prelude.{◌≡◌, ℕ, List, false, refl}
 use Rattle.std.specs.Coded.{Coded, code_by, coded×, coded_ℕ, coded_list}
 use Rattle.sqlite.specs.Store.{Ghosts}
@@ -16,7 +16,7 @@ pub record StoreState (S : Type 0) : Type 0 where
   pub schema : List ℕ
   pub failures : ℕ
 
--- kept as a triple
+-- the state of a store, as a triple
 abbrev pub store_code : {S : Type 0} → Coded S → Coded (StoreState S)
 store_code {S} code = code_by (Connected S × (List ℕ × ℕ)) (coded× (held_code code) (coded× (coded_list coded_ℕ) coded_ℕ)) (λ s. (s.connection, (s.schema, s.failures)))
     (λ p. record { connection = p.0; schema = p.1.0; failures = p.1.1 }) (λ _. refl)
@@ -30,10 +30,10 @@ module _ {S : Type 0} (g : Ghosts S) where
   abbrev pub MayFind : Connected S → Contents → Type 0
   MayFind c contents = (trees : Trees) × (state g c).may_leave trees × (contents ≡ held trees)
 
-  -- whatever an open may find now, beside the lines it is what one might have found before
+  -- apart from the lines, whatever an open may find now might have been found before
   abbrev pub LeavesOthers : Connected S → Connected S → Type 0
   LeavesOthers old new = (trees : Trees) → (state g new).may_leave trees → (before : Trees) × (state g old).may_leave before × KeepsOthers old.schema before trees
 
-  -- whatever an open may find now has the rows of each table that there was, as one might have found them before
+  -- whatever an open may find now has the rows of each former table as an open might have found them before
   abbrev pub LeavesTables : Connected S → Connected S → Type 0
   LeavesTables old new = (trees : Trees) → (state g new).may_leave trees → (before : Trees) × (state g old).may_leave before × KeepsRows old.schema.tables before trees

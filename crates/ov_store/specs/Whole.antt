@@ -1,4 +1,4 @@
--- What is left of a store that is closed. What names no source is our own.
+-- What remains of a closed store.
 use Rattle.std.specs.Prelude.{◌≡◌, []}
 use Rattle.sqlite_disk.specs.declared.Disk as disk
 use Rattle.sqlite_disk.specs.declared.Files.{Files}
@@ -20,6 +20,6 @@ module _ {D : Type 0} {g : disk.Ghosts D} where
     pub seen : ∥ HoldsDatabase (record (image_of g files) { log = [] }) db ∥₁
     pub left : (image : Image) → outcomes g files.log files.db image → ∥ HoldsDatabase (record image { log = [] }) db ∥₁
 
-  -- the two files were so as they were let go
+  -- the two files were so when they were released
   abbrev pub WasWhole : StoreState (FileStore D g) → Type 0
   WasWhole s = (files : Files D) × (AreClean g files.log files.db → IsWhole s files)

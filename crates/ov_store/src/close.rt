@@ -1,4 +1,4 @@
-//! The end of a store over files: all is in the database file, and the log can go.
+//! Closing a store over files: everything is in the database file, and the log can be removed.
 
 ghost use Rattle.std.specs.Prelude.{◌≡◌, IfOk, OnOk, IfErr, IsTrue};
 ghost use Rattle.sqlite_wal.specs.Reads.{AreClean};
@@ -17,14 +17,14 @@ use std::fs;
 use std::io::{self, ErrorKind};
 
 impl<S: Alter> Store<S> {
-    /// While the connection is open, an open finds its last commit. The body is empty: it hands the law up.
+    /// While the connection is open, an open finds its last commit. The body is empty: it passes the law on.
     fn found(&self)
         ensures { IsTrue (state S.Store self.now.connection).is_open → (contents : _) → MayFind S.Store self.now.connection contents → contents ≡ held (state S.Store self.now.connection).committed.trees }
     {}
 }
 
 impl<S: Alter + Drop> Store<S> {
-    /// The connection, as `close` gives it, with the law of `found`.
+    /// The connection, as `close` returns it, with the law of `found`.
     fn into_found(self) -> Connection<S>
         ensures same { result ≡ self.connection }
         ensures found { IsTrue (state S.Store self.connection).is_open → (contents : _) → MayFind S.Store self.connection contents → contents ≡ held (state S.Store self.connection).committed.trees }
@@ -35,7 +35,7 @@ impl<S: Alter + Drop> Store<S> {
 }
 
 impl<D: Disk + Drop> Store<FileStore<D>> {
-    /// Copies all that is in the log into the database file, which then has the whole, and gives the two files back.
+    /// Copies everything in the log into the database file, which then holds the whole database, and returns the two files.
     pub fn into_files(self) -> Result<Files<D>, KeepFault>
         ensures whole { IfOk result (λ files. AreClean D.Disk files.log files.db → IsWhole self files) }
         ensures kinds { IfErr result IsLoadFault }
@@ -50,9 +50,9 @@ impl<D: Disk + Drop> Store<FileStore<D>> {
     }
 }
 
-/// Closes the store of the file at a path: the file then has the whole, and its log is removed. Where the system refuses
-/// the removal it is `Device`, and the file has the whole all the same. What a file holds after it was let go, and that a log
-/// is gone, no contract can say; so `whole` speaks of the two files as they are let go.
+/// Closes the store of the file at a path: the file then holds the whole database, and its log is removed. If the system
+/// refuses the removal, returns `Device`, and the file still holds the whole database. No contract can say what a file holds
+/// after it is released, or that a log is gone; so `whole` speaks of the two files as they are released.
 pub fn close_in_file<S: Start>(
     rt: &HostRuntime,
     path: &str,
@@ -64,7 +64,7 @@ pub fn close_in_file<S: Start>(
     let Files { log, db } = store.into_files()?;
     drop(log);
     let removed = remove_log(rt, path);
-    // Its lock keeps every other process from the log up to here.
+    // Until here its lock keeps every other process from the log.
     drop(db);
     match removed {
         Ok(()) => Ok(()),
@@ -73,7 +73,7 @@ pub fn close_in_file<S: Start>(
     }
 }
 
-/// Removes the log of the file at a path, which lies where a link leads.
+/// Removes the log of the file at a path. If the path is a link, the log is beside the link's target.
 fn remove_log(rt: &HostRuntime, path: &str) -> io::Result<()> {
     let real = fs::canonicalize(rt, path)?;
     let log = format!(in rt.alloc(); "{}-wal", real.as_str())?;

@@ -12,8 +12,8 @@ use sqlite::Alter;
 
 impl<S: Alter> Store<S> {
     /// Makes all changes in order, in one transaction, or none of them. After `Device` the file may hold all of them or
-    /// none: open it again. An error of SQLite that is neither memory nor size counts as a failure of the device. Whatever
-    /// stands in other tables is kept.
+    /// none: open it again. An error of SQLite that is neither memory nor size counts as a failure of the device. The
+    /// contents of other tables are kept.
     pub fn commit(&mut self, changes: &[Change]) -> Result<(), KeepFault>
         ensures ok { HasCleanDisk (state S.Store self.new.connection) → OnOk result (LeavesChanged (changes_view changes.now) (MayFind S.Store self.old.connection) (MayFind S.Store self.new.connection)) }
         ensures err { HasCleanDisk (state S.Store self.new.connection) → IfErr result (LeavesRefused (changes_view changes.now) (MayFind S.Store self.old.connection) (MayFind S.Store self.new.connection)) }

@@ -20,7 +20,7 @@ use sqlite_trees::error::StoreError;
 use sqlite_trees::store::Reopen;
 use std::alloc::Global;
 
-/// What a failure of the store below is.
+/// The fault for a failure of the store below.
 fn fault_below(error: StoreError) -> KeepFault
     ensures kind { IsLoadFault result }
     ensures device { result ≡ KeepFault.Device → error ≢ Below.OutOfMemory }
@@ -31,7 +31,7 @@ fn fault_below(error: StoreError) -> KeepFault
     }
 }
 
-/// What an error of memory or of the device is.
+/// The fault for an error of memory or of the device.
 pub(crate) fn fault_over(error: &Error) -> KeepFault
     ensures kind { IsLoadFault result }
     ensures device { result ≡ KeepFault.Device → error.now ≢ SqliteFailure OutOfMemory }
@@ -42,8 +42,8 @@ pub(crate) fn fault_over(error: &Error) -> KeepFault
     }
 }
 
-/// Crashes and opens the connection again. What it then holds is one of those that the store said an open may find. A
-/// refusal gives back what is left: `Memory`, or `Device` where it failed in this call.
+/// Crashes and opens the connection again. It then holds one of the contents that the store said an open may find. A refusal
+/// gives back what is left, with `Memory`, or with `Device` if it failed in this call.
 fn crash_and_reopen<S: Alter + Reopen + Drop>(
     alloc: Global,
     store: Store<S>,
@@ -64,11 +64,11 @@ fn crash_and_reopen<S: Alter + Reopen + Drop>(
     }
 }
 
-/// The store of what a crash at this moment leaves: what it may hold is what the former one might have held, so after a
-/// commit that was answered the former lines with all its changes, and never with a part of them.
+/// The store of what a crash at this moment leaves. It may hold only what the former store might have held: after a commit
+/// that was answered, the former lines with all its changes, and never with a part of them.
 ///
-/// `Ok(Err(..))` where what the crash left was opened, and is refused as `Store::open` does; `Err(..)` where it was not
-/// opened, when out of memory or by a device that failed.
+/// Returns `Ok(Err(..))` if what the crash left was opened but is refused as by `Store::open`, and `Err(..)` if it was not
+/// opened, when out of memory or because the device failed.
 pub fn reopen_after_crash<S: Alter + Reopen + Drop>(
     alloc: Global,
     store: Store<S>,

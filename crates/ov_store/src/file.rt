@@ -22,7 +22,7 @@ use sqlite::{Connection, Error, ErrorCode, FileFrom, FileStore, Start};
 use sqlite_disk::Disk;
 use std::alloc::Global;
 
-/// What an error of SQLite at an open is.
+/// The fault for an error of SQLite at an open.
 pub(crate) fn fault_of_open(error: &Error) -> KeepFault
     ensures { result ≡ fault_of_open error.now }
 {
@@ -36,14 +36,14 @@ pub(crate) fn fault_of_open(error: &Error) -> KeepFault
     }
 }
 
-/// A connection to the file at a path, which is made where there is none; its log lies beside it. `start` stands for what
-/// the two held, as in the kit's `open_from`. Each page of a new file ends in a sum of its bytes, as SQLite's cksumvfs
-/// writes it, and a file with sums is `NotOurs` where one is wrong.
+/// Opens a connection to the file at a path, and creates the file if there is none. Its log is beside it. `start` stands for
+/// what the two held, as in the kit's `open_from`. Each page of a new file ends in a checksum of its bytes, as SQLite's
+/// cksumvfs writes it. A file with checksums is `NotOurs` if one is wrong.
 ///
-/// `NotOurs` where the file holds no database, and where a read returned other bytes than an earlier one. A path of `:memory:`,
-/// one that begins with `file:`, a folder, and a file that another process has open are `Device`, as are all that the system
-/// refuses, and a file at a limit of SQLite. Of files that were opened the contract says so under an honest device; what kept
-/// the system from giving them it does not say.
+/// Returns `NotOurs` if the file holds no database, or if a read returned other bytes than an earlier one. Returns `Device`
+/// for the path `:memory:`, a path that begins with `file:`, a folder, a file that another process has open, anything else
+/// that the system refuses, and a file at a limit of SQLite. For files that were opened, the contract says so under an
+/// honest device. It does not say why the system refused a file.
 pub fn open_file<S: Start>(
     rt: &HostRuntime,
     path: &str,
@@ -63,10 +63,10 @@ pub fn open_file<S: Start>(
     }
 }
 
-/// The store of the file at a path, as `store_over` gives it of `open_file`. A new one is made only where the files have no
-/// table, index or view. A file that is somebody else's is found before anything is written, and left as it is.
+/// Opens the store of the file at a path: `store_over` on the connection of `open_file`. Makes a new store only if the files
+/// have no table, index or view. A foreign file is recognized before anything is written, and left as it is.
 ///
-/// It is found in a copy, and what the contract says of such a refusal is said of the bytes of the copy: nothing ties a path to
+/// It is recognized in a copy, and for such a refusal the contract speaks of the bytes of the copy: nothing ties a path to
 /// what its file holds.
 pub fn store_in_file<S: Start>(
     rt: &HostRuntime,
@@ -84,9 +84,9 @@ pub fn store_in_file<S: Start>(
     store_over_files(rt.alloc(), connection, schema)
 }
 
-/// A new store in memory, with this text of a schema and no line. It is refused when out of memory, at a limit of SQLite, and as
-/// `store_over` is by a device. Whatever is promised under an honest device needs no premise over it: in memory each one is
-/// honest, this store and what becomes of it.
+/// A new store in memory, with this schema text and no lines. Refused when out of memory, at a limit of SQLite, and by a
+/// device as `store_over` is. What is promised under an honest device needs no such premise here: in memory every store is
+/// honest, this one and what becomes of it.
 pub fn store_in_memory(
     alloc: Global,
     schema: Text,

@@ -17,7 +17,7 @@ impl<S: Alter> Store<S> {
         ensures ok { HasCleanDisk (state S.Store self.new.connection) → IfOk result (λ lines. (contents : _) → MayFind S.Store self.old.connection contents → contents ≡ record { schema = self.old.schema; lines = lines_of lines.items }) }
         ensures same { HasCleanDisk (state S.Store self.new.connection) → LeavesNoMore (MayFind S.Store self.old.connection) (MayFind S.Store self.new.connection) }
         ensures honest { HasCleanDisk (state S.Store self.new.connection) → HasCleanDisk (state S.Store self.old.connection) }
-        // A failure of the device has a cause: the count rises, where it is not at its greatest.
+        // A failure of the device has a cause: the count rises, unless it is at its maximum.
         ensures cause { result ≡ Err KeepFault.Device → (self.old.failures < self.new.failures) ⊎ (self.old.failures ≡ 2 ^ 64 - 1) }
         ensures counts { self.old.failures ≤ self.new.failures }
         ensures schema { self.new.schema ≡ self.old.schema }
@@ -33,7 +33,7 @@ impl<S: Alter> Store<S> {
         };
         match ov_sqlite::lines_of(alloc, rows.as_slice()) {
             Ok(Some(lines)) => Ok(lines),
-            // A line was changed behind this store, or read wrongly.
+            // Something other than this store changed a line, or it was read wrongly.
             Ok(None) => Err(self.count_failure()),
             Err(_) => Err(KeepFault::Memory),
         }

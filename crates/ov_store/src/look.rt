@@ -1,4 +1,4 @@
-//! What a file is, found without a change to it.
+//! Finds out what a file is without changing it.
 
 ghost use Rattle.std.specs.Prelude.{◌≡◌, ◌≢◌, ◌⊎◌, IfErr, IsTrue, OnOk};
 ghost use Rattle.sqlite.specs.declared.error.Error.TheVariants.{SqliteFailure};
@@ -20,14 +20,14 @@ use std::alloc::Global;
 use std::fs;
 use std::io::{self, ErrorKind, Read};
 
-/// A log of fewer bytes has no commit.
+/// A log with fewer bytes holds no commit.
 const LOG_HEADER: u64 = 56;
 
-/// Refuses the file at a path where an opening would refuse it as somebody else's. It passes a file that is absent, and one
-/// that has no table yet, or those of stored format 1.
+/// Refuses the file at a path if an open would refuse it as foreign. Passes a file that is absent, that has no table yet, or
+/// that has the tables of stored format 1.
 ///
-/// An opening for writing turns a file of SQLite to write-ahead mode and begins a log beside it, whatever is in it. So the
-/// file is opened here as a copy in memory; but where it lists its tables on its first page, and has no log, at once.
+/// Opening an SQLite file for writing switches it to write-ahead mode and begins a log beside it, whatever it holds. So the
+/// file is opened here as a copy in memory. If it lists its tables on its first page and has no log, it passes at once.
 pub(crate) fn test_file(rt: &HostRuntime, path: &str) -> Result<(), KeepFault>
     ensures refused { IfErr result IsOpenRefused }
     ensures cause { IfErr result IsLookRefused }
@@ -36,12 +36,12 @@ pub(crate) fn test_file(rt: &HostRuntime, path: &str) -> Result<(), KeepFault>
         Ok(None) => Ok(()),
         Ok(Some(files)) => test_copies(rt.alloc(), files),
         Err(error) if error.kind() == ErrorKind::OutOfMemory => Err(no_memory()),
-        // What can't be read can't be opened for writing, and that changes nothing.
+        // A file that cannot be read cannot be opened for writing, and trying that changes nothing.
         Err(_) => Ok(()),
     }
 }
 
-/// What the program answers to an error of an opening.
+/// The program's answer to an error of an open.
 fn refusal(code: ErrorCode) -> KeepFault
     requires { IsTrue (is_open_error (SqliteFailure code)) }
     ensures value { result ≡ fault_of_open (SqliteFailure code) }
@@ -50,7 +50,7 @@ fn refusal(code: ErrorCode) -> KeepFault
     fault_of_open(&Error::SqliteFailure(code))
 }
 
-/// The same, where memory for the copies was refused.
+/// The same, if an allocation for the copies fails.
 fn no_memory() -> KeepFault
     ensures value { result ≡ KeepFault.Memory }
     ensures refused { IsOpenRefused result }
@@ -66,8 +66,8 @@ struct Copies {
     db: Vec<u8>,
 }
 
-/// The bytes of the file at a path and of its log, which lies where a link leads; none where the file may be opened at once:
-/// where no commit is in a log, and it is empty, or lists the tables of stored format 1.
+/// The bytes of the file at a path and of its log, which is beside the link's target if the path is a link. `None` if the
+/// file may be opened at once: if no log holds a commit, and the file is empty or lists the tables of stored format 1.
 fn read_to_test(rt: &HostRuntime, path: &str) -> io::Result<Option<Copies>> {
     let real = fs::canonicalize(rt, path)?;
     let db = real.as_str();
@@ -91,7 +91,7 @@ fn read_to_test(rt: &HostRuntime, path: &str) -> io::Result<Option<Copies>> {
     }))
 }
 
-/// The size of a regular file. Of nothing else is a size known, since it may have no end.
+/// The size of a regular file. Anything else is refused, since it may have no end.
 fn size_of(rt: &HostRuntime, path: &str) -> io::Result<u64> {
     let found = fs::metadata(rt, path)?;
     if !found.is_file() {
@@ -100,7 +100,7 @@ fn size_of(rt: &HostRuntime, path: &str) -> io::Result<u64> {
     Ok(found.len())
 }
 
-/// The first page of a file, of which all is zero where the file has no whole one.
+/// The first page of a file, or zeros if the file does not have a whole one.
 fn first_page(rt: &HostRuntime, path: &str) -> io::Result<[u8; 4096]> {
     let mut page = [0; 4096];
     match fs::open(rt, path)?.read_exact(&mut page) {
@@ -110,7 +110,7 @@ fn first_page(rt: &HostRuntime, path: &str) -> io::Result<[u8; 4096]> {
     }
 }
 
-/// Opens the copies as files are opened, and passes just what is nobody else's.
+/// Opens the copies as files are opened, and passes only what is not foreign.
 fn test_copies(alloc: Global, files: Copies) -> Result<(), KeepFault>
     ensures passes { OnOk result (IsNobodyElses (record { log = files.log.items; db = files.db.items })) }
     ensures refused { IfErr result IsOpenRefused }
@@ -128,9 +128,9 @@ fn test_copies(alloc: Global, files: Copies) -> Result<(), KeepFault>
     }
 }
 
-/// Refuses a connection to a file and its log of what is neither blank nor ours, and closes it.
+/// Refuses a connection to a file and its log if they are neither blank nor ours, and closes it.
 ///
-/// It stands apart for the reason that `store_over_files` does.
+/// It is a function of its own for the same reason as `store_over_files`.
 fn test_over_files<D: Disk + Drop>(connection: Connection<FileStore<D>>) -> Result<(), KeepFault>
     ensures passes { OnOk result ((connection.schema ≡ no_schema) ⊎ HasOurTables connection.schema) }
     ensures foreign { IfErr result (λ fault. (fault ≡ KeepFault.NotOurs) × (connection.schema ≢ no_schema) × (¬ HasOurTables connection.schema)) }
@@ -148,7 +148,7 @@ fn test_over<S: Alter + Drop>(connection: Connection<S>) -> Result<(), KeepFault
     test_schema(connection.schema())
 }
 
-/// Refuses what is neither blank nor ours.
+/// Refuses a schema that is neither blank nor ours.
 fn test_schema(schema: &Schema) -> Result<(), KeepFault>
     ensures passes { OnOk result ((schema.now ≡ no_schema) ⊎ HasOurTables schema.now) }
     ensures foreign { IfErr result (λ fault. (fault ≡ KeepFault.NotOurs) × (schema.now ≢ no_schema) × (¬ HasOurTables schema.now)) }

@@ -11,7 +11,7 @@ use sqlite::{Connection, Error, ErrorCode, FileStore, Files, Options};
 use sqlite_disk::Disk;
 use std::alloc::Global;
 
-/// What refused files in memory: SQLite tells of the device where one can't grow.
+/// The error for refused files in memory: SQLite reports the device if one cannot grow.
 fn error_in_memory(error: Error) -> Error
     ensures value { result ≡ error_in_memory error }
     ensures named { IsTrue (is_open_error error) → IsTrue (is_open_error result) }
@@ -24,8 +24,8 @@ fn error_in_memory(error: Error) -> Error
     }
 }
 
-/// A connection to files in memory. They are refused when out of memory, as no database, and with `DiskFull` where they are
-/// at a limit of SQLite.
+/// Opens a connection to files in memory. Refuses them when out of memory, if they hold no database, and with `DiskFull` if
+/// they are at a limit of SQLite.
 pub(crate) fn open_memory_files(
     alloc: Global,
     files: Files<MemoryDisk>,
@@ -43,7 +43,7 @@ pub(crate) fn open_memory_files(
 }
 
 /// A database in memory, with no table yet: its file and its log, each a file in memory. A change takes about as long in a
-/// large database as in a small one. It is refused when out of memory, or with `DiskFull`, at a limit of SQLite.
+/// large database as in a small one. Refused when out of memory, or with `DiskFull` at a limit of SQLite.
 pub fn open_in_memory(alloc: Global) -> Result<Connection<FileStore<MemoryDisk>>, Error>
     ensures new { IfOk result IsNew }
     ensures clean { IfOk result (λ c. HasCleanDisk (file_state c)) }

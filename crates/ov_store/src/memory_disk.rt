@@ -6,8 +6,8 @@ use sqlite_disk::{Disk, Tally, digest_of};
 use std::alloc::{AllocError, Global};
 use std::io;
 
-/// A file in memory that is durable as it is written, so a sync does nothing, and a write or a sync takes no longer in a
-/// long file than in a short one. It fails only when out of memory.
+/// A file in memory. It is durable as it is written, so a sync does nothing, and a write or a sync takes no longer in a long
+/// file than in a short one. It fails only when out of memory.
 #[derive(Drop)]
 pub struct MemoryDisk {
     bytes: Vec<u8>,
@@ -26,7 +26,7 @@ impl MemoryDisk {
         }
     }
 
-    /// A file of these bytes.
+    /// A file with these bytes.
     pub(crate) fn holding(bytes: Vec<u8>) -> MemoryDisk
         ensures holds { ⟦<MemoryDisk as Disk>⟧.seen result ≡ bytes.items }
     {
@@ -108,7 +108,7 @@ impl Disk for MemoryDisk {
     }
 }
 
-/// Counts a growth that was refused.
+/// Counts a failed allocation.
 fn count(outcome: Result<(), AllocError>, faults: &mut u64) -> io::Result<()>
     ensures variant { is_ok result ≡ is_ok outcome }
     ensures kind { finds_no_room result ≡ false }

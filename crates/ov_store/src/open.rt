@@ -17,7 +17,7 @@ use ov_sqlite::{fault_at, has_room, is_ours, make_tables, test_format};
 use sqlite::{Alter, Connection};
 use std::alloc::Global;
 
-/// Makes the tables, or tells why there are none.
+/// Makes the tables, or returns why there are none.
 fn make_new<S: Alter>(conn: &mut Connection<S>, schema: &Text) -> Result<(), KeepFault>
     requires { conn.old.in_transaction ≡ false }
     ensures mode { conn.new.in_transaction ≡ false }
@@ -32,16 +32,17 @@ fn make_new<S: Alter>(conn: &mut Connection<S>, schema: &Text) -> Result<(), Kee
         return Ok(());
     };
     let fault = fault_at(conn, &failure);
-    // Its clause says that all is committed.
+    // Its contract says that everything is committed.
     let _after = conn.is_autocommit();
     Err(fault)
 }
 
 impl<S: Alter + Drop> Store<S> {
-    /// Makes the tables of stored format 1 with this text of a schema and no line, behind whatever else there is, which
-    /// stays as it is. `NotOurs` where a table, an index or a view has the name of one of the two, where a foreign key names
-    /// one, or where rows are counted and SQLite's table of the counts is missing. A refusal leaves the connection with what
-    /// it held. After `Device` a crash may leave both tables, and never a part of them; after the others what it left before.
+    /// Makes the tables of stored format 1, with this schema text and no lines, after everything else that is there, which
+    /// stays as it is. Refuses as `NotOurs` if a table, an index or a view has the name of one of the two, if a foreign key
+    /// names one, or if rows are counted and SQLite's table of the counts is missing. A refusal leaves the connection with
+    /// what it held. After `Device` a crash may leave both tables, but never a part of them; after the other faults it
+    /// leaves what it left before.
     pub fn create(mut connection: Connection<S>, schema: Text) -> Result<Store<S>, Unopened<S>>
         requires { connection.in_transaction ≡ false }
         ensures ok { IfOk result (λ s. HasCleanDisk (state S.Store s.connection) → (contents : _) → MayFind S.Store s.connection contents → contents ≡ record { schema = schema; lines = empty }) }
@@ -71,10 +72,10 @@ impl<S: Alter + Drop> Store<S> {
         }
     }
 
-    /// The store of a database that has stored format 1. `NotOurs` where one of its two tables is missing or is another, where
-    /// another table has a foreign key to them, or another index of theirs is unique; what else stands beside them is passed
-    /// over. `Format` where a row of `meta` or of `line` is not as there. Each row is read once. A refusal
-    /// leaves the connection with what it held, and a crash then leaves what it left before.
+    /// Opens the store of a database in stored format 1. Refuses as `NotOurs` if one of its two tables is missing or
+    /// differs, if another table has a foreign key to them, or if another index of theirs is unique; anything else beside
+    /// them is ignored. Refuses as `Format` if a row of `meta` or of `line` is not as in that format. Reads each row once. A
+    /// refusal leaves the connection with what it held, and a crash then leaves what it left before.
     pub fn open(alloc: Global, mut connection: Connection<S>) -> Result<Store<S>, Unopened<S>>
         requires { connection.in_transaction ≡ false }
         ensures ok { IfOk result (λ s. HasCleanDisk (state S.Store s.connection) → IsFormat s.schema (state S.Store connection).now) }

@@ -12,11 +12,11 @@ use sqlite::{Alter, Connection, FileStore};
 use sqlite_disk::Disk;
 use std::alloc::Global;
 
-/// The store over a connection that was just opened: a new one, with this text of a schema and no line, where there is no
-/// table, index or view yet, and else the one that is there, whose text may be another.
+/// The store over a connection that was just opened. If there is no table, index or view yet, it is a new one with this
+/// schema text and no lines; otherwise it is the one that is there, whose text may differ.
 ///
-/// `NotOurs` where there is something, and not the tables of stored format 1; `Format` where a row is not as there. A
-/// refusal gives the connection back.
+/// Refuses as `NotOurs` if there is something but not the tables of stored format 1, and as `Format` if a row is not as in
+/// that format. A refusal gives the connection back.
 pub fn store_over<S: Alter + Drop>(
     alloc: Global,
     connection: Connection<S>,
@@ -34,7 +34,7 @@ pub fn store_over<S: Alter + Drop>(
     }
 }
 
-/// The same, where the connection of a refusal is closed and the fault alone is kept.
+/// The same, but a refusal closes the connection and returns only the fault.
 fn store_or_fault<S: Alter + Drop>(
     alloc: Global,
     connection: Connection<S>,
@@ -53,7 +53,7 @@ fn store_or_fault<S: Alter + Drop>(
 
 /// The store over a connection to a file and its log, or why there is none.
 ///
-/// It stands apart from its callers because the proof that such a pair of files is an `Alter` is long: here it is needed once,
+/// It is a function of its own because the proof that such a pair of files is an `Alter` is long: here it is needed once,
 /// for any kind of file.
 pub(crate) fn store_over_files<D: Disk + Drop>(
     alloc: Global,
@@ -68,7 +68,7 @@ pub(crate) fn store_over_files<D: Disk + Drop>(
     store_or_fault(alloc, connection, schema)
 }
 
-/// The new store of a connection that has nothing.
+/// The new store of an empty connection.
 fn create<S: Alter + Drop>(connection: Connection<S>, schema: Text) -> Result<Store<S>, Unopened<S>>
     requires autocommit { connection.in_transaction ≡ false }
     requires blank { connection.schema ≡ no_schema }
@@ -79,7 +79,7 @@ fn create<S: Alter + Drop>(connection: Connection<S>, schema: Text) -> Result<St
     Store::create(connection, schema)
 }
 
-/// The store that a connection has, which has something.
+/// The store of a connection that is not empty.
 fn open<S: Alter + Drop>(alloc: Global, connection: Connection<S>) -> Result<Store<S>, Unopened<S>>
     requires autocommit { connection.in_transaction ≡ false }
     requires some { connection.schema ≢ no_schema }

@@ -27,7 +27,7 @@ impl<S: Alter> Model for Store<S> {
 }
 
 impl<S: Alter + Drop> Drop for Store<S> {
-    // A drop of its own, so that crates above do not prove the drop of its parts again.
+    // Has its own `drop`, so that crates above do not prove the drop of its parts again.
     fn drop(self) {
         let Store {
             connection,
@@ -47,7 +47,7 @@ impl<S: Alter> Store<S> {
         &self.schema
     }
 
-    /// How often the device has failed since the store was opened; it stays at 2^64-1.
+    /// How often the device has failed since the store was opened. The count stays at 2^64-1.
     pub fn failures(&self) -> u64
         ensures { result ≡ self.now.failures }
     {
@@ -68,7 +68,7 @@ impl<S: Alter> Store<S> {
 }
 
 impl<S: Alter + Drop> Store<S> {
-    /// Gives the connection back.
+    /// Returns the connection.
     pub fn close(self) -> Connection<S>
         ensures { result ≡ self.connection }
     {

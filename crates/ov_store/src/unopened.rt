@@ -3,7 +3,7 @@ use sqlite::{Alter, Connection};
 use std::fmt;
 use thiserror::Error;
 
-/// Why no store is made of a connection, and the connection, given back.
+/// A refused connection: why no store is made of it, and the connection given back.
 #[derive(Drop, Error)]
 #[error("{fault}")]
 pub struct Unopened<S: Alter> {

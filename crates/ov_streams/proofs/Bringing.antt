@@ -28,7 +28,7 @@ more_by : (o : Option Message) (rest more others : Asked) → (with_asked o rest
 more_by None rest more others h again = absurd (false≢true (sym h))
 more_by (Some m) rest more others h again = ap (λ (a : Asked). record a { messages = m ∷ a.messages }) (again h)
 
--- behind texts that are all read
+-- after texts that are all read
 asked_more : (texts others : List (List ℕ)) (d e : Bool) → (asked_of texts d).damaged ≡ false → asked_of (texts ++ others) e ≡ with_all (asked_of texts d).messages (asked_of others e)
 asked_more [] others d e h = refl
 asked_more (text ∷ texts) others d e h = more_by (message_in text) (asked_of texts d) (asked_of (texts ++ others) e) (asked_of others e) h (asked_more texts others d e)
@@ -43,7 +43,7 @@ shut_by : (n : ℕ) (at : ℕ) (s : State) (cause : machine.Cause) (e : Entry) (
 shut_by n at s cause e t new enters same there =
     false≢true (sym ((turn_close n s e t enters.step cause enters.event).open_is) ∙ (ap (λ v. is_open v n) (sym same) ∙ there))
 
--- where a stream is damaged its session does not stay open
+-- if a stream is damaged, its session does not stay open
 damage_closes : (at : ℕ) (s : State) (n : ℕ) (ms : List Message) (entries : List Entry) (new : State) → Feeds at s n ms true entries new → is_open new n ≡ true → ⊥
 damage_closes at s n [] [] new f there = f
 damage_closes at s n [] (e ∷ []) new (t, inl enters, same) there = shut_by n at s machine.Memory e t new enters same there
@@ -59,7 +59,7 @@ undamaged : (at : ℕ) (s : State) (n : ℕ) (ms : List Message) (d : Bool) (ent
 undamaged at s n ms true entries new f there = absurd (damage_closes at s n ms entries new f there)
 undamaged at s n ms false entries new f there = refl
 
--- ---- how damage is told
+-- ---- how damage is reported
 
 told_none : (d : Option Damage) (f : Option CutFault) → fault_of_damage d ≡ f → f ≡ None → is_some d ≡ false
 told_none None f h e = refl
@@ -73,7 +73,7 @@ told_some (Some x) f why h e = refl
 -- ---- the piece
 
 module _ {K D : Type 0} (at n : ℕ) (stream piece : List ℕ) (texts : List (List ℕ)) (old mid : CoreState K D) (before after : CutterState) (f : IsFed stream before) (all : EntersTexts at n texts old mid) where
-  -- what is asked with the piece, by the texts that it ends and others behind them
+  -- what is asked with the piece, by the texts that it ends and others after them
   split : (others : List (List ℕ)) (e : Bool) → (f.given ++ texts) ++ others ≡ (cut (stream ++ piece)).messages → is_some (cut (stream ++ piece)).damage ≡ e
       → asked (stream ++ piece) ≡ with_all (asked stream).messages (asked_of (texts ++ others) e)
   unfolding asked
@@ -100,7 +100,7 @@ module _ {K D : Type 0} (at n : ℕ) (stream piece : List ℕ) (texts : List (Li
       let e : Bool = is_some (cut (stream ++ piece)).damage in
       brings others e (split others e p refl) all.entries mid all.enters (all.ends away others e) (λ there. absurd (false≢true (sym away ∙ there)))
 
-  -- memory was refused for more texts
+  -- an allocation for more texts failed
   pub at_memory : (others : List (List ℕ)) → (f.given ++ texts) ++ others ≡ (cut (stream ++ piece)).messages → is_open mid.state n ≡ true → (new : CoreState K D) → ClosesByEntry at n machine.Memory mid new → EntersPiece at n stream piece old new after
   at_memory others p there new s =
       let e : Bool = is_some (cut (stream ++ piece)).damage in
@@ -133,7 +133,7 @@ module _ {K D : Type 0} (at n : ℕ) (stream piece : List ℕ) (texts : List (Li
           whole = ap (λ (a : Asked). a.damaged) split' ∙ undamaged at old.state n (asked_of (texts ++ []) false).messages (asked_of (texts ++ []) false).damaged all.entries mid.state all' there;
         })
 
--- the cutter told a fault
+-- the cutter reported a fault
 pub at_fault : {K D : Type 0} (at n : ℕ) (stream piece : List ℕ) (texts : List (List ℕ)) (old mid : CoreState K D) (before after : CutterState) (f : IsFed stream before) (all : EntersTexts at n texts old mid)
     (fault_of_damage : Option CutFault) (why : CutFault) → fault_of_damage ≡ Some why → fault_of_damage ≡ after.fault → (fault_of_damage ≢ Some fault.Memory → StandsFor (stream ++ piece) (f.given ++ texts) after) → IsBeginning (f.given ++ texts) (cut (stream ++ piece)).messages
     → is_open mid.state n ≡ true → (new : CoreState K D) → ClosesByEntry at n (cause_of_fault why) mid new → EntersPiece at n stream piece old new after

@@ -70,13 +70,13 @@ took draws at n text message old new (answer.Refused fault.NotOpen) there is (sa
 pub was_unreadable : {K D : Type 0} (at n : ℕ) (text : List ℕ) (old new : CoreState K D) → message_in text ≡ None → ClosesByEntry at n machine.Damaged old new → EntersText at n text old new
 was_unreadable at n text old new none s = record { entry = s.entry; step = s.step; adds = s.adds; outcome = inr (s.shut, inr (inr (none, s.is))) }
 
--- refused memory closed the session
+-- a failed allocation closed the session
 pub wanted_memory : {K D : Type 0} (at n : ℕ) (text : List ℕ) (old new : CoreState K D) → ClosesByEntry at n machine.Memory old new → EntersText at n text old new
 wanted_memory at n text old new s = record { entry = s.entry; step = s.step; adds = s.adds; outcome = inr (s.shut, inr (inl s.is)) }
 
 -- ---- what comes of one text, before others
 
--- refused memory closes the session, whatever was to come
+-- a failed allocation closes the session, whatever was to come
 pub by_memory : (at : ℕ) (s : State) (n : ℕ) (ms : List Message) (d : Bool) (e : Entry) (t : Stepped) → streams.IsEntryAt at s (machine.Close n machine.Memory) e t → Feeds at s n ms d (e ∷ []) t.state
 by_memory at s n [] true e t h = (t, inl h, refl)
 by_memory at s n [] false e t h = (t, inl h, refl)

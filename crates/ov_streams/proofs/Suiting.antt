@@ -117,7 +117,7 @@ has_kept n m stream old new h ne has = subst (λ (o : Option CutterState). IsSom
 abbrev pub over : {K D : Type 0} → CoreState K D → Cutters → StreamsState K D
 over core cutters = record { core = core; cutters = cutters }
 
--- whatever the streams suited before, they suit with other cutters, where each open session has its own
+-- whatever the streams suited before, they suit with other cutters, if each open session has its own
 with_cutters : {K D : Type 0} (old : StreamsState K D) (cutters : Cutters) → ((schema : Schema) (database : Database) (list : List streams.StreamEvent) (h : List Entry) (given : ℕ → List (List ℕ)) (s : FollowsEvents schema database list h given old)
     → (m : ℕ) → is_open old.core.state m ≡ true → HasCutter m (s.fed m) cutters) → RunsEvents [] old (over old.core cutters)
 with_cutters old cutters has schema database list h given s = (

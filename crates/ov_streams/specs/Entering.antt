@@ -1,4 +1,4 @@
--- What comes of some of the messages of a piece; for private clauses. What names no source is our own.
+-- What comes of some of the messages of a piece; for private clauses.
 use Rattle.std.specs.Prelude.{◌≡◌, ◌⊎◌, ℕ, ◌++◌, List, [], ◌∷◌, Bool, true, false, Some, None}
 use Rattle.ov_specs.specs.wire.Message.{Message, message_in, asked_of}
 use Rattle.ov_specs.specs.machine.Machine as machine
@@ -41,8 +41,8 @@ pub record EntersText {K D : Type 0} (at n : ℕ) (text : List ℕ) (old new : C
   pub adds : ExtendsByStep old entry step new
   pub outcome : TextOutcome at n text old.state entry step
 
--- These texts were entered, whatever texts and damage follow them: where the session is still open, what comes of those goes on
--- from here; else nothing comes of them.
+-- These texts were entered, whatever texts and damage follow them: if the session is still open, what comes of those goes on
+-- from here; otherwise nothing comes of them.
 pub record EntersTexts {K D : Type 0} (at n : ℕ) (texts : List (List ℕ)) (old new : CoreState K D) : Type 0 where
   pub entries : List Entry
   pub enters : Extends old entries new
@@ -52,7 +52,7 @@ pub record EntersTexts {K D : Type 0} (at n : ℕ) (texts : List (List ℕ)) (ol
   pub ends : is_open new.state n ≡ false → (others : List (List ℕ)) (damaged : Bool)
       → Feeds at old.state n (asked_of (texts ++ others) damaged).messages (asked_of (texts ++ others) damaged).damaged entries new.state
 
--- why a session is closed whose stream can't be cut
+-- why a session is closed if its stream can't be cut
 abbrev pub cause_of_fault : CutFault → machine.Cause
 cause_of_fault (fault.Damaged offset) = machine.Damaged
 cause_of_fault fault.TooLong = machine.Damaged

@@ -12,7 +12,7 @@ pub record IsFed (stream : List ℕ) (cutter : CutterState) : Type 0 where
   pub stands : StandsFor stream given cutter
   pub whole : (asked stream).damaged ≡ false
 
--- The messages that the piece ends were entered, and then damage, if it is new. Where the session is still open the cutter was
+-- The messages that the piece ends were entered, and then damage, if it is new. If the session is still open, the cutter was
 -- given the longer stream.
 pub record EntersPiece {K D : Type 0} (at n : ℕ) (stream piece : List ℕ) (old new : CoreState K D) (cutter : CutterState) : Type 0 where
   pub messages : List Message

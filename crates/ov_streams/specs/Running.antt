@@ -1,4 +1,4 @@
--- Which lists of stream events a core with its streams has followed. What names no source is our own.
+-- Which lists of stream events a core with its streams has followed.
 use Rattle.std.specs.Prelude.{◌≡◌, ℕ, ◌++◌, List, map, Option, IsSomeAnd, true}
 use Rattle.std.specs.Map.{lookup}
 use Rattle.std.specs.BTreeMap.{is_at}
@@ -33,7 +33,7 @@ pub record StreamsState (K D : Type 0) : Type 0 where
   pub core : CoreState K D
   pub cutters : List (ℕ × CutterState)
 
--- the cutter of a session, where it has one
+-- the cutter of a session, if it has one
 abbrev pub cutter_of : ℕ → List (ℕ × CutterState) → Option CutterState
 cutter_of n cutters = lookup (is_at (nat_cmp n)) cutters
 
@@ -49,14 +49,14 @@ pub record FollowsEvents {K D : Type 0} (schema : Schema) (database : Database) 
   pub expands : ExpandsAll (opening schema database) no_streams list history now.core.state fed
   pub cutters : (n : ℕ) → is_open now.core.state n ≡ true → HasCutter n (fed n) now.cutters
 
--- whatever list the streams suited before, they suit it with these events behind it
+-- whatever list the streams suited before, they suit it with these events appended
 abbrev pub RunsEvents : {K D : Type 0} → List streams.StreamEvent → StreamsState K D → StreamsState K D → Type 0
 RunsEvents events old new =
     (schema : Schema) (database : Database) (list : List streams.StreamEvent) (history : List Entry) (given : ℕ → List (List ℕ)) → FollowsEvents schema database list history given old
     → (entries : List Entry) × FollowsEvents schema database (list ++ events) (history ++ entries) given new
 
--- An event is refused in a state where the machine's step for it is, with the fault of that step: an opening or a passing of time
--- may be, what a session sends and its end never are.
+-- An event is refused in a state if the machine's step for it is, with the fault of that step: an opening or a passing of
+-- time may be refused, what a session sends and its end never are.
 abbrev pub RefusesEvent : StreamEvent → State → StepFault → Type 0
 RefusesEvent Open s fault = RefusesStep machine.Open s fault
 RefusesEvent (Feed session bytes) s fault = ⊥

@@ -12,8 +12,8 @@ use ov_requests::Draws;
 use ov_rpc::{Received, RpcFault};
 use std::alloc::Global;
 
-/// Enters the messages that a piece of the open session's stream ends, at the moment or at the last one if that is later, and
-/// then closes the session as Damaged where the stream is damaged. It is closed as Memory where memory is refused.
+/// Enters the messages that a piece of the open session's stream ends, at the moment or at the last one if that is later,
+/// and then closes the session as Damaged if the stream is damaged. Closes it as Memory if an allocation fails.
 pub fn feed_session<K: Keeper + Drop, D: Draws + Drop>(
     core: &mut Core<K, D>,
     alloc: Global,
@@ -36,7 +36,7 @@ pub fn feed_session<K: Keeper + Drop, D: Draws + Drop>(
     close_at(core, alloc, moment, session, cause_of(fault));
 }
 
-/// Why a session is closed whose stream can't be cut.
+/// Why a session is closed if its stream can't be cut.
 fn cause_of(fault: CutFault) -> Cause
     ensures { cause_view result ≡ cause_of_fault fault }
 {
@@ -65,7 +65,7 @@ fn enter_all<K: Keeper + Drop, D: Draws + Drop>(
     }
 }
 
-/// Enters one message, which the history then keeps as this text, or closes the session as Damaged where it is unreadable.
+/// Enters one message, which the history then keeps as this text, or closes the session as Damaged if it is unreadable.
 fn enter_one<K: Keeper + Drop, D: Draws + Drop>(
     core: &mut Core<K, D>,
     alloc: Global,

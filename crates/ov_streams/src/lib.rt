@@ -1,4 +1,4 @@
-//! Lists of stream events, entered into the core: each session's bytes, in whatever pieces they come, become messages taken.
+//! Lists of stream events, entered into the core: each session's bytes, in whatever pieces they come, become messages.
 #![tactic(auto)]
 
 mod event;

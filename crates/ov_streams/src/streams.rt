@@ -24,7 +24,7 @@ use std::marker::Model;
 #[derive(Drop)]
 pub struct Streams<K: Keeper, D> {
     core: Core<K, D>,
-    /// The cutter of each open session, by its serial. The next session may have its own already.
+    /// The cutter of each open session, by its serial. The next session may already have its own.
     cutters: BTreeMap<u64, Cutter>,
 }
 
@@ -65,10 +65,10 @@ impl<K: Keeper + Drop, D: Draws + Drop> Streams<K, D> {
     /// Serves the events in order, up to an opening or a passing of time that is refused.
     pub fn run(&mut self, alloc: Global, events: Vec<StreamEvent>) -> Ran
         ensures served { result.served ≤ length events.items }
-        // Whatever list suited before, it suits now with the events that were served behind it.
+        // Whatever list suited before, it now suits with the served events appended.
         ensures suits { RunsEvents (stream_events_view (take result.served events.items)) self.old self.new }
         ensures whole { IfNone result.refused (result.served ≡ length events.items) }
-        // There is an event behind those that were served, and its step from where they led is refused for this fault.
+        // An event follows those that were served, and its step from where they led is refused for this fault.
         ensures refused { IfSome result.refused (λ fault. IsSomeAnd (slice_get events.items result.served) (λ event. RefusesEvent event self.new.core.state fault)) }
     {
         let mut served = 0;
@@ -87,7 +87,7 @@ impl<K: Keeper + Drop, D: Draws + Drop> Streams<K, D> {
         }
     }
 
-    /// Hands out and joins the frames that wait for session n; none where memory is refused.
+    /// Hands out and joins the frames that wait for session n; none if an allocation fails.
     pub fn output(&mut self, alloc: Global, session: u64) -> Result<Bytes, AllocError>
         ensures all { IfOk result (λ b. b ≡ joined (waiting_for session self.old.core.outbox)) }
         ensures handed { IfOk result (λ b. (schema : Schema) (database : Database) (list : List SpecEvent) (history : List Entry) (given : ℕ → List (List ℕ)) → FollowsEvents schema database list history given self.old
@@ -96,7 +96,7 @@ impl<K: Keeper + Drop, D: Draws + Drop> Streams<K, D> {
         ensures none_left { OnOk result (waiting_for session self.new.core.outbox ≡ []) }
         ensures others { OnOk result ((other : ℕ) → other ≢ session → waiting_for other self.new.core.outbox ≡ waiting_for other self.old.core.outbox) }
         ensures same { OnOk result (self.new ≡ record self.old { core = record self.old.core { outbox = self.new.core.outbox } }) }
-        // Where memory is refused, nothing was handed out.
+        // If an allocation fails, nothing was handed out.
         ensures refused { OnErr result (self.new ≡ self.old) }
     {
         self.core.take_output(
@@ -134,7 +134,7 @@ impl<K: Keeper + Drop, D: Draws + Drop> Streams<K, D> {
         }
     }
 
-    /// Opens a session, with a cutter of its own that is at hand before.
+    /// Opens a session, whose cutter is made first.
     fn open(&mut self, alloc: Global) -> Result<(), StepFault>
         ensures { MatchResult result
             (λ _. RunsEvents (stream_event_view StreamEvent.Open ∷ []) self.old self.new)
@@ -187,7 +187,7 @@ impl<K: Keeper + Drop, D: Draws + Drop> Streams<K, D> {
         feed_session(&mut self.core, alloc, 0, owner, cutter, bytes);
     }
 
-    /// Gives up the cutter of the session, if it is closed.
+    /// Drops the cutter of the session, if it is closed.
     fn forget(&mut self, session: u64)
         ensures { RunsEvents [] self.old self.new }
     {
@@ -196,7 +196,7 @@ impl<K: Keeper + Drop, D: Draws + Drop> Streams<K, D> {
         }
     }
 
-    /// Gives up the cutters of all closed sessions: a step of one session may close others, of which nothing may come any more.
+    /// Drops the cutters of all closed sessions: a step of one session may close others, for which nothing comes afterwards.
     fn forget_closed(&mut self)
         ensures { RunsEvents [] self.old self.new }
     {

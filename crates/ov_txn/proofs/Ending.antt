@@ -1,4 +1,4 @@
--- How a transaction ends: what is to be changed.
+-- How a transaction ends: the changes to make.
 use Rattle.std.proofs.Common.{◌≡◌, Result, Err, refl, sym, ap, subst, ◌∙◌}
 use Rattle.std.specs.FinMap.{empty}
 use Rattle.serde_json.specs.Data.{Items}
@@ -18,18 +18,18 @@ use Rattle.ov_txn.specs.declared.perform.Performed.{Performed}
 use Rattle.ov_txn.specs.declared.perform.Performed.TheVariants.{Completed}
 use Rattle.ov_txn.proofs.Performing.{append_none, append_one}
 
--- no change leaves the database as it was
+-- without changes the database is as it was
 pub unchanged : (outcome : TransactionOutcome) (rows : Database) (results : Items) (delta : Delta) → delta ≡ empty → outcome ≡ Completes results rows → IsPerformed outcome rows (Completed results delta)
 unchanged outcome rows results delta none ends =
     subst (λ (d : Delta). IsPerformed outcome rows (Completed results d)) (sym none) (ends ∙ ap (Completes results) (sym (applied-empty rows)), least-empty rows ∙ ap (same_database rows) (sym (applied-empty rows)))
 
--- with these results of the operations, what the commit comes to
+-- the result of the commit, with these results of the operations
 module _ (results : Items) (before : Database) (r : Result Database OpError) where
   -- the changes lead to the database that it makes
   pub changed : (delta : Delta) → IsFinished r before (Changed delta) → IsPerformed (prefixed results (ended before r)) before (Completed results delta)
   changed delta is = (ap (λ x. prefixed results (ended before x)) is.0 ∙ ap (λ rs. Completes rs (applied delta before)) (append_none results), is.1)
 
-  -- its error stands behind the results, and nothing is changed
+  -- its error follows the results, and nothing is changed
   pub refused : (error : OpError) (performed : Performed) → r ≡ Err error → performed ≡ Completed (and_error results error) empty → IsPerformed (prefixed results (ended before r)) before performed
   refused error performed is made =
       subst (IsPerformed (prefixed results (ended before r)) before) (sym made)

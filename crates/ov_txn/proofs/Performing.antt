@@ -28,21 +28,21 @@ nulls_is : (xs ys : Items) → items_append xs (nulls ys) ≡ nulls_after xs ys
 nulls_is xs no_items = append_none xs
 nulls_is xs (item y ys) = sym (append_and xs null (nulls ys)) ∙ nulls_is (and_item xs null) ys
 
--- nothing but a result follows
+-- nothing follows but one result
 pub append_one : (xs : Items) (d : Data) → items_append xs (item d no_items) ≡ and_item xs d
 append_one xs d = sym (append_and xs d no_items) ∙ append_none (and_item xs d)
 
--- a result more in front of what follows
+-- one more result before what follows
 prefixed_and : (rs : Items) (r : Data) (t : TransactionOutcome) → prefixed rs (and_result r t) ≡ prefixed (and_item rs r) t
 prefixed_and rs r (Completes others database) = ap (λ ys. Completes ys database) (sym (append_and rs r others))
 prefixed_and rs r (Waits timeout) = refl
 
--- nothing is in front
+-- nothing comes before
 pub prefixed_none : (t : TransactionOutcome) → t ≡ prefixed no_items t
 prefixed_none (Completes others database) = refl
 prefixed_none (Waits timeout) = refl
 
--- the whole transaction, where these results are in front and these operations are left from this place on
+-- the whole transaction, if these results come before and these operations are left from this place on
 module _ (c : OpContext) (all : TransactionOutcome) (place : ℕ) (rows : Database) (rest rs : Items) (going : all ≡ prefixed rs (performed c place rest rows)) where
   next : (d : Data) (ds : Items) (outcome : OpOutcome) → rest ≡ item d ds → outcome_of c place rows d ≡ outcome → all ≡ prefixed rs (after c.before outcome ds (performed c (place + 1) ds))
   next d ds outcome at is = going ∙ ap (λ ys. prefixed rs (performed c place ys rows)) at ∙ ap (λ o. prefixed rs (after c.before o ds (performed c (place + 1) ds))) is

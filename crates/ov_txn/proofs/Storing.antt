@@ -1,4 +1,4 @@
--- What comes of a transaction for which the store is to be asked.
+-- The result of a transaction for which the store is to be asked.
 use Rattle.std.proofs.Common.{◌≡◌, Option, Some, None, false, refl, inl, inr}
 use Rattle.std.specs.Prelude.{is_some}
 use Rattle.serde_json.specs.Data.{Items}

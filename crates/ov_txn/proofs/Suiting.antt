@@ -1,4 +1,4 @@
--- What a transaction changes are rows of the schema, and leaves whole rows.
+-- The rows that a transaction changes are rows of the schema, and it leaves whole rows.
 use Rattle.std.proofs.Common.{◌≡◌, ℕ, List, true, ap, subst, ◌∙◌}
 use Rattle.std.specs.List.{list_all}
 use Rattle.std.specs.FinMap.{get}

@@ -1,4 +1,4 @@
--- What an attempt of a transaction comes to. What names no source is our own.
+-- The result of an attempt of a transaction.
 use Rattle.std.specs.Prelude.{◌≡◌, ◌⊎◌, ℕ, Bool, true, false, is_some, None}
 use Rattle.serde_json.specs.Data.{Items}
 use Rattle.ov_db.specs.Changing.{Delta, applied}
@@ -17,8 +17,8 @@ use Rattle.ov_txn.specs.declared.ready.Replies.{Replies}
 abbrev pub Readies : Type 0 → Type 0 → Type 1
 Readies R K = R → KeptDatabase K → Delta → Replies → Bool → R → Type 0
 
--- The results where the store is not asked. Where the transaction leaves the database as it was, they are its own; where it would
--- change one that is sealed, the error of a commit that fails stands behind them (RFC 7047, 4.1.3).
+-- The results if the store is not asked. If the transaction leaves the database as it was, they are its own; if it would
+-- change a sealed database, the error of a failed commit follows them (RFC 7047, 4.1.3).
 abbrev pub IsAnswer : {K : Type 0} → TransactionOutcome → KeptDatabase K → Items → Type 0
 IsAnswer (Completes made database) old results =
     ((same_database old.committed database ≡ true) × (results ≡ made))
@@ -26,7 +26,7 @@ IsAnswer (Completes made database) old results =
 IsAnswer (Waits timeout) old results = ⊥
 
 -- The transaction changes a database that is not sealed, and what follows its commit was made ready, with the changes and its
--- results, or could not be for want of memory.
+-- results, or could not be because an allocation failed.
 pub record MadeReady {K R : Type 0} (readies : Readies R K) (outcome : TransactionOutcome) (old : KeptDatabase K) (was : R) (ready : Bool) (is : R) : Type 0 where
   pub results : Items
   pub delta : Delta
@@ -35,22 +35,22 @@ pub record MadeReady {K R : Type 0} (readies : Readies R K) (outcome : Transacti
   pub unsealed : old.sealed ≡ None
   pub made : readies was old delta (replies_with results) ready is
 
--- What an attempt comes to. Where the transaction changes a database that is not sealed, all is made ready, and the database is
--- as a commit of its changes leaves it; where anything else comes of it, nothing is changed.
+-- The result of an attempt. If the transaction changes a database that is not sealed, all is made ready, and the database is
+-- as a commit of its changes leaves it; otherwise nothing is changed.
 abbrev pub IsTried : {K R : Type 0} → Readies R K → TransactionOutcome → KeptDatabase K → R → Tried → KeptDatabase K → R → Type 0
 IsTried readies outcome old was (Answer results) new is = (new ≡ old) × (is ≡ was) × IsAnswer outcome old results
 IsTried readies outcome old was (Stored answer) new is = (r : MadeReady readies outcome old was true is) × Commits r.delta old answer new
 IsTried readies outcome old was (Blocked timeout) new is = (new ≡ old) × (is ≡ was) × (outcome ≡ Waits timeout)
 IsTried readies outcome old was NoMemory new is = (new ≡ old) × ((is ≡ was) ⊎ MadeReady readies outcome old was false is)
 
--- the same of a transaction with these results and changes, for which the store is to be asked
+-- the same for a transaction with these results and changes, for which the store is to be asked
 abbrev pub IsAsked : {K R : Type 0} → Readies R K → Items → Delta → KeptDatabase K → R → Tried → KeptDatabase K → R → Type 0
 IsAsked readies results delta old was (Stored answer) new is = readies was old delta (replies_with results) true is × Commits delta old answer new
 IsAsked readies results delta old was NoMemory new is = (new ≡ old) × ((is ≡ was) ⊎ readies was old delta (replies_with results) false is)
 IsAsked readies results delta old was (Answer others) new is = ⊥
 IsAsked readies results delta old was (Blocked timeout) new is = ⊥
 
--- the answer of a database that is sealed, if there is memory for it
+-- the answer of a sealed database, unless an allocation fails
 abbrev pub IsSealedAnswer : Items → Tried → Type 0
 IsSealedAnswer made (Answer results) = results ≡ failed_results made
 IsSealedAnswer made NoMemory = Unit {0}

@@ -1,4 +1,4 @@
--- What a transaction comes to in the code, as it does in the definitions. What names no source is our own.
+-- What performing a transaction results in, in the code as in the definitions.
 use Rattle.std.specs.Prelude.{◌≡◌, ◌==◌, true}
 use Rattle.std.specs.FinMap.{len}
 use Rattle.ov_db.specs.Changing.{applied, SuitsChanges}
@@ -9,17 +9,17 @@ use Rattle.ov_specs.specs.schema.SchemaTypes.{Schema}
 use Rattle.ov_txn.specs.declared.perform.Performed.{Performed}
 use Rattle.ov_txn.specs.declared.perform.Performed.TheVariants.{Completed, Blocked}
 
--- the results, with the changes that lead to the database and are none just where it is as before; or the timeout
+-- the results, with the changes that lead to the database and are empty exactly if it is as before; or the timeout
 abbrev pub IsPerformed : TransactionOutcome → Database → Performed → Type 0
 IsPerformed outcome before (Completed results delta) = (outcome ≡ Completes results (applied delta before)) × ((len delta == 0) ≡ same_database before (applied delta before))
 IsPerformed outcome before (Blocked timeout) = outcome ≡ Waits timeout
 
--- what is to be put are rows of the schema
+-- the rows to be put are rows of the schema
 abbrev pub SuitsPerformed : Schema → Performed → Type 0
 SuitsPerformed schema (Completed results delta) = SuitsChanges schema delta
 SuitsPerformed schema (Blocked timeout) = Unit {0}
 
--- what is to be changed leaves whole rows
+-- the changes leave whole rows
 abbrev pub WholePerformed : Schema → Database → Performed → Type 0
 WholePerformed schema before (Completed results delta) = is_whole schema (applied delta before) ≡ true
 WholePerformed schema before (Blocked timeout) = Unit {0}

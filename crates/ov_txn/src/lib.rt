@@ -1,5 +1,5 @@
 //! One transaction: its operations in order, each on the rows that those before it left, and its commit (RFC 7047, 4.1.3 and
-//! 5.2). What names no source is our own.
+//! 5.2).
 #![tactic(auto)]
 
 mod perform;

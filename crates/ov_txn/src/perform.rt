@@ -32,16 +32,16 @@ use serde_json::Value;
 use std::alloc::{AllocError, Global};
 use uuid::Uuid;
 
-/// What a transaction has come to.
+/// What performing a transaction results in.
 #[derive(Drop)]
 pub(crate) enum Performed {
-    /// The results, one for each operation, and the error of the commit where that fails; and what is to be changed.
+    /// The results, one for each operation, plus the error of the commit if it fails; and the changes to make.
     Completed(ArrayText, Delta),
-    /// A wait is not met. It is given up when the transaction is so many milliseconds old, if ever.
+    /// A wait is not met. The transaction times out at this age in milliseconds, if ever.
     Blocked(Option<u64>),
 }
 
-/// After an operation that fails the results of the others are null, and nothing is changed (RFC 7047, 4.1.3).
+/// If an operation fails, the results of those after it are null, and nothing is changed (RFC 7047, 4.1.3).
 fn failed(
     alloc: Global,
     results: ArrayText,
@@ -56,7 +56,7 @@ fn failed(
     Ok(results)
 }
 
-/// Where the commit fails, one result more tells its error, and nothing is changed (RFC 7047, 4.1.3).
+/// If the commit fails, one more result reports its error, and nothing is changed (RFC 7047, 4.1.3).
 fn refused(alloc: Global, results: ArrayText, error: OpError) -> Result<Performed, AllocError>
     ensures { IfOk result (λ p. p ≡ Completed (and_error results (error_view error)) empty) }
 {
@@ -65,7 +65,7 @@ fn refused(alloc: Global, results: ArrayText, error: OpError) -> Result<Performe
     Ok(Performed::Completed(results, Delta::new(alloc)))
 }
 
-/// The end of the operations, which have these results: what the commit makes of the rows that they left (RFC 7047, 3.2).
+/// Ends the operations, which have these results: commits the rows that they left (RFC 7047, 3.2).
 fn end(
     alloc: Global,
     schema: &Schema,
@@ -88,7 +88,7 @@ fn end(
     }
 }
 
-/// The operations of a transaction in order, on a stage over the rows, and their commit.
+/// Performs the operations of a transaction in order, on a stage over the rows, and their commit.
 fn perform_operations<O: Owns>(
     alloc: Global,
     schema: &Schema,
@@ -135,13 +135,13 @@ fn perform_operations<O: Owns>(
     end(alloc, schema, *version, links, indexes, results, stage)
 }
 
-/// The operations of a transaction of this age in milliseconds, of a session that owns these locks, in order, each on the rows
-/// that those before it left (RFC 7047, 4.1.3), and then its commit. That refuses strong references to rows that are not there,
-/// takes out the rows that nothing keeps and weak references to rows that are gone, and refuses what then breaks a limit (3.2).
-/// Where it refuses, one result more tells the error (4.1.3).
+/// Performs the operations of a transaction of this age in milliseconds, whose session owns these locks, in order, each on
+/// the rows that those before it left (RFC 7047, 4.1.3), and then the commit. The commit refuses strong references to missing
+/// rows, removes the rows that nothing keeps and the weak references to rows that are gone, and refuses what then breaks a
+/// limit (3.2). If it refuses, one more result reports the error (4.1.3).
 ///
-/// The rows are not touched. What is to be changed is empty exactly where that is nothing. The rows, to which the links belong,
-/// are whole rows of the schema, and whole rows of the schema are made of them.
+/// The rows are not touched. The changes are empty exactly if nothing is to be changed. The rows, to which the links belong,
+/// are whole rows of the schema, and the changes make whole rows of the schema of them.
 pub(crate) fn perform<O: Owns>(
     alloc: Global,
     schema: &Schema,

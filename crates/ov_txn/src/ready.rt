@@ -16,17 +16,17 @@ use std::alloc::{AllocError, Global};
 /// The results of a transaction whose changes are to be stored, for each answer of the store (RFC 7047, 4.1.3).
 #[derive(Drop)]
 pub struct Replies {
-    /// Where the store keeps the changes.
+    /// The results if the store keeps the changes.
     pub kept: ArrayText,
-    /// What stands behind these results where memory is refused to the store, or the changes are too large for it:
+    /// What is appended to these results if the store runs out of memory or the changes are too large for it:
     /// `resources exhausted`.
     pub exhausted: Tree,
-    /// What stands behind them where the store fails: `I/O error`.
+    /// What is appended to them if the store fails: `I/O error`.
     pub failed: Tree,
 }
 
 impl Replies {
-    /// Those with these results.
+    /// The replies with these results.
     pub(crate) fn new(alloc: Global, results: ArrayText) -> Result<Replies, AllocError>
         ensures { IfOk result (λ replies. replies ≡ replies_with results) }
     {
@@ -40,12 +40,12 @@ impl Replies {
     }
 }
 
-/// What makes everything ready that has to follow a commit, so that nothing takes memory behind it.
+/// Makes everything ready that has to follow a commit, so that nothing is allocated after it.
 pub trait Ready<K: Keeper> {
     /// The state before, the database, its changes, the replies, whether all is ready, and the state after.
     ghost readies: { Self → KeptDatabase K → Changes → Prepared → Bool → Self → Type 0 };
 
-    /// Makes ready what follows the store's answer on these changes of the database. False where memory is refused.
+    /// Makes ready what follows the store's answer on these changes of the database. False if an allocation fails.
     fn ready(&mut self, db: &Db<K>, delta: &Delta, replies: Replies) -> bool
         ensures { readies self.old db.now delta.now replies result self.new };
 }

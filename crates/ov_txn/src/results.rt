@@ -10,7 +10,7 @@ use ov_results::ArrayText;
 use serde_json::{Value, json};
 use std::alloc::{AllocError, Global};
 
-/// Puts null behind the results for each of the operations that were not tried (RFC 7047, 4.1.3).
+/// Appends null to the results for each operation that was not tried (RFC 7047, 4.1.3).
 pub(crate) fn push_nulls(
     alloc: Global,
     results: &mut ArrayText,
@@ -31,7 +31,7 @@ fn error_value(alloc: Global, error: OpError) -> Result<Value, AllocError>
     json!(in alloc; {"error": text})
 }
 
-/// The result of what failed (RFC 7047, 4.1.3).
+/// The result of a failed operation or commit (RFC 7047, 4.1.3).
 pub(crate) fn error_tree(alloc: Global, error: OpError) -> Result<Tree, AllocError>
     ensures { IfOk result (λ t. t ≡ spec.error_tree (error_view error)) }
 {

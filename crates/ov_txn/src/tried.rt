@@ -17,21 +17,21 @@ use ov_requests::Txn;
 use ov_results::ArrayText;
 use std::alloc::{AllocError, Global};
 
-/// What an attempt of a transaction comes to (RFC 7047, 4.1.3).
+/// The result of an attempt of a transaction (RFC 7047, 4.1.3).
 #[derive(Drop)]
 pub enum Tried {
-    /// It is answered with these results, and nothing is stored.
+    /// The transaction is answered with these results, and nothing is stored.
     Answer(ArrayText),
-    /// The store was asked to keep its changes, and answered so.
+    /// The store was asked to keep the changes, and gave this answer.
     Stored(StoreAnswer),
-    /// A wait is not met, so nothing is changed. It is given up when the transaction is so many milliseconds old, if ever (RFC
-    /// 7047, 5.2.6).
+    /// A wait is not met, so nothing is changed. The transaction times out at this age in milliseconds, if ever (RFC 7047,
+    /// 5.2.6).
     Blocked(Option<u64>),
-    /// A growth was refused, and nothing is changed.
+    /// An allocation failed, and nothing is changed.
     NoMemory,
 }
 
-/// What a transaction of this age in milliseconds comes to on the database as it is, where its session owns these locks.
+/// Performs a transaction of this age in milliseconds on the database as it is; its session owns these locks.
 fn perform_on<K: Keeper + Drop, O: Owns>(
     alloc: Global,
     db: &Db<K>,
@@ -60,10 +60,10 @@ fn perform_on<K: Keeper + Drop, O: Owns>(
 
 /// Tries a transaction of this age in milliseconds, whose session owns these locks, and counts the attempt.
 ///
-/// It has its operations done in order, and is committed by the rules for references, unreferenced rows and limits (RFC 7047,
-/// 3.2). Where that changes the database, all that follows the commit is made ready, and the store is asked last of all. A
-/// database that is sealed is not asked any more: such a transaction is answered as where the store fails. Where nothing is
-/// changed, and where an operation or the commit fails, the store is not asked either (4.1.3).
+/// Performs the operations in order and commits by the rules for references, unreferenced rows and limits (RFC 7047, 3.2). If
+/// that changes the database, prepares all that follows the commit, and asks the store last of all. For a sealed database the
+/// store is no longer asked: the transaction is answered as if the store had failed. Nor is it asked if nothing is changed,
+/// or if an operation or the commit fails (4.1.3).
 pub fn attempt<K: Keeper + Drop, O: Owns, R: Ready<K>>(
     alloc: Global,
     db: &mut Db<K>,
@@ -94,7 +94,7 @@ pub fn attempt<K: Keeper + Drop, O: Owns, R: Ready<K>>(
     }
 }
 
-/// The results with the error of a commit that fails behind them.
+/// The results, followed by the error of a failed commit.
 fn with_failure(alloc: Global, results: ArrayText) -> Result<ArrayText, AllocError>
     ensures { IfOk result (λ all. all ≡ failed_results results) }
 {
@@ -103,7 +103,7 @@ fn with_failure(alloc: Global, results: ArrayText) -> Result<ArrayText, AllocErr
     Ok(results)
 }
 
-/// The answer of a database that is sealed, where there is memory for it.
+/// The answer of a sealed database; `NoMemory` if an allocation fails.
 fn answer_sealed(alloc: Global, results: ArrayText) -> Tried
     ensures { IsSealedAnswer results result }
 {
@@ -113,7 +113,7 @@ fn answer_sealed(alloc: Global, results: ArrayText) -> Tried
     }
 }
 
-/// Makes all ready, and then asks the store.
+/// Makes everything ready, then asks the store.
 fn store<K: Keeper + Drop, R: Ready<K>>(
     alloc: Global,
     db: &mut Db<K>,

@@ -18,7 +18,7 @@ impl Model for Tries {
 }
 
 impl Tries {
-    /// None yet.
+    /// No attempts yet.
     pub fn new() -> Tries
         ensures { result ≡ 0 }
     {
@@ -27,7 +27,7 @@ impl Tries {
         }
     }
 
-    /// One more.
+    /// Counts one more attempt.
     pub(crate) fn add(&mut self)
         ensures { self.new ≡ self.old + 1 }
     {

@@ -1,4 +1,4 @@
--- What comes of a monitor that is asked for, step by step.
+-- What comes of a request for a monitor, step by step.
 use Rattle.std.proofs.Common.{◌≡◌, ℕ, ◌≤◌, ◌<◌, nat_le, List, length, true, false, Option, Some, None, is_some, refl, ap, ◌∙◌, arith}
 use Rattle.std.proofs.lemmas.Bool.Decides.{nat_tests}
 use Rattle.std.specs.Prelude.{Result, Err}
@@ -31,7 +31,7 @@ module _ (schema : Schema) (monitors : List Monitor) (id requests : Data) (asked
   pub judged : list_any (is_named id) monitors ≡ false → length monitors < 64 → added schema monitors id requests ≡ with_monitor monitors id (monitored_tables schema asked)
   judged absent few = of_asked ∙ rw (absent, has_room (length monitors) few) refl
 
--- a fault of the tables is that of all
+-- a fault of the tables is the fault of the whole
 pub refused : {A B : Type 0} (seen : A → List Monitor) (tables_seen : B → List MonitoredTable) (monitors : List Monitor) (id : Data) (tables : Result (List MonitoredTable) MonitorFault) (all : Result (List Monitor) MonitorFault) (fault : WatchFault)
     → all ≡ with_monitor monitors id tables → IsWatchResult tables_seen tables (Err fault) → IsWatchResult seen all (Err fault)
 refused seen tables_seen monitors id tables all Syntax is h = is ∙ ap (with_monitor monitors id) h

@@ -1,4 +1,4 @@
--- What is told of a commit is what is told of its changes.
+-- What is reported of a commit is what is reported of its changes.
 use Rattle.std.proofs.Common.{◌≡◌, [], ◌∷◌, cond, T, Option, Some, None, refl, sym, ap, ◌∙◌}
 use Rattle.std.specs.FinMap.{get, get-entries, find, is_sorted, entries, entries_sorted}
 use Rattle.std.specs.List.{filter_map, cons_option}

@@ -1,4 +1,4 @@
--- Tables that are judged one after another: those so far stand before the others, and a fault is that of all.
+-- Tables that are checked one after another: those so far stand before the others, and a fault is that of all.
 use Rattle.std.proofs.Common.{◌≡◌, ◌<◌, ◌+◌, ℕ, List, [], ◌∷◌, ◌++◌, length, get_or, drop, refl, sym, ap, ◌∙◌, append_assoc, append-nil}
 use Rattle.std.specs.Prelude.{Result, Ok, Err}
 use Rattle.std.specs.FinMap.{get}

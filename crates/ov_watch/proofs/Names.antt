@@ -67,7 +67,7 @@ others-removed id (e ∷ es) h = by (is_key id e.0) (is_named id e.1) (key_is id
     by false false same is same_rest =
         ap (λ c. cond (not c) (e.1 ∷ others id (map (λ e. e.1) (remove_entry (is_key id) es))) (others id (map (λ e. e.1) (remove_entry (is_key id) es)))) is ∙ ap (λ ms. e.1 ∷ ms) same_rest
 
--- where no monitor has the name, all are others
+-- if no monitor has the name, all are others
 others-all : (id : Data) (es : List Entry) → AreUnderNames es → lookup (is_key id) es ≡ None → others id (map (λ e. e.1) es) ≡ map (λ e. e.1) es
 others-all id [] h none = refl
 others-all id (e ∷ es) h none = by (is_key id e.0) (is_named id e.1) (key_is id e h.0) none (others-all id es h.1)

@@ -30,7 +30,7 @@ placed-more start (m ∷ ms) h = placed-more (put m.0 m.1 start) ms (put-some m.
 placed-some : (m : List ℕ × Data) (ms : List (List ℕ × Data)) → has_no_members (placed no_members (m ∷ ms)) ≡ false
 placed-some m ms = placed-more (put m.0 m.1 no_members) ms refl
 
--- where nothing was put, there was nothing to put
+-- if nothing was put, there was nothing to put
 pub none_placed : (ms : List (List ℕ × Data)) → has_no_members (placed no_members ms) ≡ true → ms ≡ []
 none_placed [] h = refl
 none_placed (m ∷ ms) h = let some : has_no_members (placed no_members (m ∷ ms)) ≡ false = placed-some m ms in cc

@@ -1,4 +1,4 @@
--- Whether a name stands twice in a list, name by name.
+-- Whether a name occurs twice in a list, name by name.
 use Rattle.std.proofs.Common.{◌≡◌, ℕ, List, [], ◌∷◌, ◌++◌, Bool, true, false, ◌||◌, cond, not, refl, sym, ap, ◌∙◌, Bor}
 use Rattle.std.specs.Cmp.Lexicographic.{slice_cmp, nat_list_eq_equiv, texts_ties}
 use Rattle.std.specs.Ordering.{nat_cmp, eq_by_cmp}
@@ -7,7 +7,7 @@ use Rattle.std.specs.List.{list_any}
 use Rattle.std.specs.Str.{bytes_eq}
 use Rattle.ov_specs.specs.schema.Schema.{has_twice}
 
--- a name that is equal to this one is among those that are lent
+-- a name that is equal to this one is among those that are borrowed
 abbrev pub any_key : List ℕ → List (Bor (List ℕ)) → Bool
 any_key q keys = list_any (λ k. eq_by_cmp (slice_cmp nat_cmp) q k.now) keys
 
@@ -24,7 +24,7 @@ has_twice-push (n ∷ ns) x =
     (λ i. list_any-append (λ other. bytes_eq other n) ns (x ∷ []) i || has_twice-push ns x i)
     ∙ either (list_any (λ other. bytes_eq other n) ns) (bytes_eq x n) (has_twice ns) (list_any (bytes_eq x) ns)
 
--- what stands twice in a front stands twice in the whole
+-- what occurs twice in a front occurs twice in the whole
 pub has_twice-front : (xs ys : List (List ℕ)) → has_twice xs ≡ true → has_twice (xs ++ ys) ≡ true
 has_twice-front [] ys h = cc
 has_twice-front (n ∷ ns) ys h = ap (λ b. b || has_twice (ns ++ ys)) (list_any-append (λ other. bytes_eq other n) ns ys) ∙ by (list_any (λ other. bytes_eq other n) ns) (has_twice ns) h (has_twice-front ns ys)

@@ -35,12 +35,12 @@ same_watched s monitors old new same h other = h other ∙ here (eqb other s) re
     here true e = same ∙ ap (λ n. monitors_at n old) (sym (eqb-true other s e))
     here false e = refl
 
--- a list with one behind it is not empty
+-- a list with one more at its end is not empty
 pub not_empty : (front : List Monitor) (m : Monitor) → [] ≡ front ++ m ∷ [] → ⊥
 not_empty [] m h = cc
 not_empty (x ∷ front) m h = cc
 
--- where there is a fault, what was changed is no matter
+-- if there is a fault, it does not matter what was changed
 its_fault : (seen : Unit {0} → List Monitor) (given : Result (List Monitor) MonitorFault) (fault : WatchFault) → IsWatchResult seen given (Err fault) → IsWatchResult {A = Unit {0}} (λ _. []) given (Err fault)
 its_fault seen given fault.Syntax h = h
 its_fault seen given fault.UnknownTable h = h

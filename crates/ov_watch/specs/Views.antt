@@ -1,4 +1,4 @@
--- What the code has of requests, objects and faults, as the definitions have it.
+-- Requests, objects and faults of the code as those of the definitions.
 use Rattle.std.specs.Prelude.{◌≡◌, ℕ, List, Bool, true, false, Option, Some, None, unwrap_or, Result, Ok, Err, refl}
 use Rattle.std.specs.Coded.{Coded, code_by}
 use Rattle.serde_json.specs.Data.{Data, object, Members, no_members, member}
@@ -15,25 +15,25 @@ use Rattle.ov_watch.specs.declared.select.MonitorSelect.{MonitorSelect}
 
 -- ---- requests
 
--- which kinds of change are told
+-- which kinds of change are reported
 abbrev pub select_view : MonitorSelect → spec.MonitorSelect
 select_view s = record { initial = s.initial; insert = s.insert; delete = s.delete; modify = s.modify }
 
--- whether this one is
+-- whether this one is reported
 abbrev pub selects : Kind → spec.MonitorRequest → Bool
 selects kind.Initial r = r.select.initial
 selects kind.Insert r = r.select.insert
 selects kind.Delete r = r.select.delete
 selects kind.Modify r = r.select.modify
 
--- the columns that are named, or none where they are not
+-- the named columns, or none if they are not named
 abbrev pub choice_view : ColumnChoice → Option (List (List ℕ))
 choice_view NotNamed = None
 choice_view (Named names) = Some names.items
 
 -- ---- objects
 
--- members as a model stores them: as those of an object
+-- members as a model stores them: like those of an object
 abbrev pub members_code : Coded Members
 members_code = code_by Data tree_code object (λ d. unwrap_or (as_object d) no_members) (λ _. refl)
 
@@ -44,7 +44,7 @@ has_no_members (member _ _ _) = false
 
 -- ---- faults
 
--- what a client is told; it is not told that memory was refused
+-- the error that a client receives; it is not told that an allocation failed
 abbrev pub fault_view : WatchFault → Option spec.MonitorFault
 fault_view fault.Syntax = Some spec.Syntax
 fault_view fault.UnknownTable = Some spec.UnknownTable
@@ -54,7 +54,7 @@ fault_view fault.Unknown = Some spec.Unknown
 fault_view fault.Limit = Some spec.Limit
 fault_view fault.Memory = None
 
--- What is given, or the fault that there is in place of it; "out of memory" may be answered to anything.
+-- What is returned, or the fault instead; "out of memory" may be returned in any case.
 abbrev pub IsWatchResult : {A B : Type 0} → (A → B) → Result B spec.MonitorFault → Result A WatchFault → Type 0
 IsWatchResult seen given (Ok a) = given ≡ Ok (seen a)
 IsWatchResult seen given (Err fault.Syntax) = given ≡ Err spec.Syntax

@@ -1,4 +1,4 @@
--- The monitors of the sessions, as contracts see them. What names no source is our own.
+-- The monitors of the sessions, as contracts see them.
 use Rattle.std.specs.Prelude.{◌≡◌, ℕ, ◌==◌, List, [], unwrap_or, if◌then◌else◌, Result, Ok, Err}
 use Rattle.std.specs.BTreeMap.{is_at}
 use Rattle.std.specs.Coded.{Coded, coded×, coded_ℕ, coded_list}
@@ -10,7 +10,7 @@ use Rattle.ov_specs.specs.monitors.Requests.{MonitorFault}
 use Rattle.ov_watch.specs.declared.fault.WatchFault.{WatchFault}
 use Rattle.ov_watch.specs.Views.{IsWatchResult}
 
--- the monitors of each session that has, or had, some, by its serial
+-- the monitors of each session that has, or had, any, by its serial
 abbrev pub Watching : Type 0
 Watching = List (ℕ × List Monitor)
 
@@ -18,7 +18,7 @@ Watching = List (ℕ × List Monitor)
 abbrev pub monitors_at : ℕ → Watching → List Monitor
 monitors_at session watching = unwrap_or (lookup (is_at (nat_cmp session)) watching) []
 
--- the session has these monitors then, and each other session those that it had
+-- the session then has these monitors, and each other session those that it had
 abbrev pub WatchesWith : ℕ → List Monitor → Watching → Watching → Type 0
 WatchesWith session monitors old new = (other : ℕ) → monitors_at other new ≡ (if other == session then monitors else monitors_at other old)
 
@@ -26,8 +26,8 @@ WatchesWith session monitors old new = (other : ℕ) → monitors_at other new �
 abbrev pub SameWatching : Watching → Watching → Type 0
 SameWatching old new = (other : ℕ) → monitors_at other new ≡ monitors_at other old
 
--- The session has the monitors that are given. Where a fault is given in place of them, or memory was refused, each session has
--- the same.
+-- The session has the monitors that are given. If a fault is given instead, or an allocation failed, each session has the
+-- same monitors as before.
 abbrev pub WatchesAsGiven : ℕ → Result (List Monitor) MonitorFault → Watching → Result (Unit {0}) WatchFault → Watching → Type 0
 WatchesAsGiven session given old (Ok _) new = (monitors : List Monitor) × (given ≡ Ok monitors) × WatchesWith session monitors old new
 WatchesAsGiven session given old (Err fault) new = IsWatchResult {A = Unit {0}} (λ _. []) given (Err fault) × SameWatching old new

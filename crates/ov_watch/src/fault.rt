@@ -5,10 +5,10 @@ ghost use Rattle.ov_watch.specs.Views.{fault_view};
 use std::alloc::AllocError;
 use thiserror::Error;
 
-/// Why there is no new monitor, or none is canceled. The monitors are as before.
+/// Why a monitor is not added or not canceled. The monitors are unchanged.
 #[derive(Clone, Copy, Debug, PartialEq, Eq, Error)]
 pub enum WatchFault {
-    /// The requests are built wrong, or name a column of a table twice.
+    /// The requests are malformed, or name a column of a table twice.
     #[error("syntax error")]
     Syntax,
     /// The schema has no table of this name.
@@ -17,23 +17,22 @@ pub enum WatchFault {
     /// The table has no column of this name.
     #[error("unknown column")]
     UnknownColumn,
-    /// A monitor of the session has this name (RFC 7047, 4.1.5).
+    /// The session already has a monitor of this name (RFC 7047, 4.1.5).
     #[error("duplicate monitor id")]
     Duplicate,
-    /// No monitor of the session has this name (RFC 7047, 4.1.7).
+    /// The session has no monitor of this name (RFC 7047, 4.1.7).
     #[error("unknown monitor")]
     Unknown,
     /// The session has as many monitors as it may have.
     #[error("resources exhausted")]
     Limit,
-    /// A growth was refused.
+    /// An allocation failed.
     #[error("out of memory")]
     Memory,
 }
 
 impl WatchFault {
-    /// The text that the client is sent; `Memory` closes the session instead. It is not derived, so that the contract can say
-    /// which it is.
+    /// The error text sent to the client; `Memory` closes the session instead. Not derived, so that the contract can state it.
     pub fn text(self) -> &'static str
         ensures { IfSome (fault_view self) (λ fault. result.now ≡ monitor_fault_text fault) }
     {

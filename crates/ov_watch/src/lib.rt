@@ -1,7 +1,7 @@
-//! The monitors of a session: what is asked of them, and what they are told of the rows (RFC 7047, 4.1.5 to 4.1.7).
+//! The monitors of a session: what clients ask of them, and what they report of the rows (RFC 7047, 4.1.5 to 4.1.7).
 //!
-//! A monitor is judged by the schema once, as it comes: of each table it keeps the columns that are told at each kind of change.
-//! What it is told of a commit is found by the changes alone. What names no source is our own.
+//! A monitor is checked against the schema once, when it is created: for each table it keeps the columns to report for each
+//! kind of change. What it reports of a commit is computed from the changes alone.
 #![tactic(auto)]
 
 mod fault;

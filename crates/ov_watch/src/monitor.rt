@@ -14,7 +14,7 @@ use ov_rows::Rows;
 use std::alloc::{AllocError, Global};
 use std::marker::Model;
 
-/// A monitor: the value that names it, and what it tells of which tables (RFC 7047, 4.1.5).
+/// A monitor: the value that names it, and what it reports of which tables (RFC 7047, 4.1.5).
 #[derive(Drop)]
 pub(crate) struct Monitor {
     pub(crate) id: Tree,
@@ -32,7 +32,7 @@ impl Model for Monitor {
     ghost view = { λ m. record { id = m.id; tables = m.tables.items } };
 }
 
-/// Puts the rows of a table under its name, where there are some.
+/// Puts the rows of a table under its name, if there are any.
 fn put_table(
     alloc: Global,
     told: &mut Object,
@@ -48,7 +48,7 @@ fn put_table(
 }
 
 impl Monitor {
-    /// What it is told at first (RFC 7047, 4.1.5).
+    /// What it reports initially (RFC 7047, 4.1.5).
     pub(crate) fn initial(&self, alloc: Global, rows: &Rows) -> Result<Tree, AllocError>
         ensures { IfOk result (λ t. t ≡ spec.initial rows.now self.now) }
     {
@@ -60,7 +60,7 @@ impl Monitor {
         Ok(told.into_tree())
     }
 
-    /// Its tables that are told of, under their names.
+    /// Its tables with something to report, under their names.
     fn updated_tables(
         &self,
         alloc: Global,
@@ -77,7 +77,7 @@ impl Monitor {
         Ok(told)
     }
 
-    /// What it is told of these changes, if anything (RFC 7047, 4.1.6).
+    /// What it reports of these changes, if anything (RFC 7047, 4.1.6).
     fn updates(&self, alloc: Global, rows: &Rows, delta: &Delta) -> Result<Option<Tree>, AllocError>
         ensures { IfOk result (λ o. o ≡ spec.updates rows.now (applied delta.now rows.now) self.now) }
     {
@@ -88,7 +88,7 @@ impl Monitor {
         Ok(Some(told.into_tree()))
     }
 
-    /// The params of its update, if it is told anything (RFC 7047, 4.1.6).
+    /// The params of its update, if it reports anything (RFC 7047, 4.1.6).
     pub(crate) fn update_params(
         &self,
         alloc: Global,
@@ -104,7 +104,7 @@ impl Monitor {
     }
 }
 
-/// Two trees in order.
+/// The two trees, in order.
 fn pair(alloc: Global, first: Tree, second: Tree) -> Result<Trees, AllocError>
     ensures { IfOk result (λ t. t ≡ item first (item second no_items)) }
 {

@@ -19,13 +19,13 @@ use serde_json::Value;
 use std::alloc::{AllocError, Global};
 use std::marker::Model;
 
-/// How many monitors a session may have.
+/// The most monitors that a session may have.
 const MAX_MONITORS: usize = 64;
 
 /// The monitors of a session, in order of creation (RFC 7047, 4.1.5).
 #[derive(Drop)]
 pub struct Monitors {
-    /// By the text that the name of each is sent as.
+    /// Each under the text that its name is sent as.
     monitors: IndexMap<String, Monitor>,
 }
 
@@ -47,7 +47,7 @@ impl Model for Monitors {
 }
 
 impl Monitors {
-    /// No monitor.
+    /// Creates an empty list of monitors.
     pub fn new(alloc: Global) -> Monitors
         ensures { result ≡ [] }
     {
@@ -56,12 +56,12 @@ impl Monitors {
         }
     }
 
-    /// One monitor more, behind the others. Its name may be any value; two names are one where they are sent as the same text.
+    /// Adds a monitor after the others. Its name may be any value; two names are equal if they are sent as the same text.
     ///
-    /// The first of these that applies is answered: the requests are built wrong, or name a column of a table twice (`Syntax`);
-    /// there is a monitor of this name (`Duplicate`); there are 64 of them (`Limit`); table by table, in ascending order, the
-    /// schema does not have the table, or the table a column (`UnknownTable`, `UnknownColumn`). `Memory` may be answered to
-    /// anything. A refusal changes nothing (RFC 7047, 4.1.5; the order is our own).
+    /// Returns the first fault that applies: the requests are malformed, or name a column of a table twice (`Syntax`); there
+    /// is a monitor of this name (`Duplicate`); there are 64 monitors (`Limit`); table by table, in ascending order, the
+    /// schema lacks the table, or the table a column (`UnknownTable`, `UnknownColumn`). `Memory` may be returned in any case.
+    /// A refusal changes nothing (RFC 7047, 4.1.5, which sets no order).
     pub fn add(
         &mut self,
         alloc: Global,
@@ -82,7 +82,7 @@ impl Monitors {
         if self.monitors.len() >= MAX_MONITORS {
             return Err(WatchFault::Limit);
         }
-        // A match, and no `?`: so the proof sees which fault is handed on.
+        // A `match` instead of `?`, so that the proof sees which fault is returned.
         let tables = match monitored_tables(alloc, schema, asked.as_slice()) {
             Ok(tables) => tables,
             Err(fault) => return Err(fault),
@@ -93,8 +93,8 @@ impl Monitors {
         }
     }
 
-    /// Without the monitor of this name. `Unknown` is answered where there is none, and `Memory` may be; then nothing is
-    /// changed (RFC 7047, 4.1.7).
+    /// Removes the monitor of this name. Returns `Unknown` if there is none, and may return `Memory`; then nothing changes
+    /// (RFC 7047, 4.1.7).
     pub fn cancel(&mut self, alloc: Global, id: &Tree) -> Result<(), WatchFault>
         ensures canceled { IsWatchResult (λ _. self.new) (spec.canceled self.old id.now) result }
         ensures err { OnErr result (self.new ≡ self.old) }
@@ -106,8 +106,8 @@ impl Monitors {
         }
     }
 
-    /// What the monitor of this name is told at first, the result of `monitor`; none where there is no such monitor (RFC 7047,
-    /// 4.1.5).
+    /// What the monitor of this name reports initially, the result of `monitor`; `None` if there is no such monitor (RFC
+    /// 7047, 4.1.5).
     pub fn initial<K: Keeper + Drop>(
         &self,
         alloc: Global,
@@ -123,9 +123,8 @@ impl Monitors {
         }
     }
 
-    /// The params of each `update` that tells of these changes, in order of creation of the monitors; a monitor that is told
-    /// nothing has none. The database is as it was before them. The changes alone are looked through, and not the rows (RFC
-    /// 7047, 4.1.6).
+    /// The params of the `update` of each monitor that reports any of these changes, in order of creation of the monitors.
+    /// The database is as it was before the changes. Looks only at the changes, not at the rows (RFC 7047, 4.1.6).
     pub fn updates<K: Keeper + Drop>(
         &self,
         alloc: Global,

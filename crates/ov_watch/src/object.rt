@@ -30,7 +30,7 @@ impl Model for Object {
 }
 
 impl Object {
-    /// No member.
+    /// Creates an object without members.
     pub(crate) fn new(alloc: Global) -> Object
         ensures { result ≡ no_members }
     {
@@ -39,14 +39,14 @@ impl Object {
         }
     }
 
-    /// Whether it has no member.
+    /// Whether it has no members.
     pub(crate) fn is_empty(&self) -> bool
         ensures { result ≡ has_no_members self.now }
     {
         self.members.is_empty()
     }
 
-    /// Puts the tree at this name.
+    /// Puts the tree under this name.
     pub(crate) fn put(&mut self, alloc: Global, name: &str, tree: Tree) -> Result<(), AllocError>
         ensures { OnOk result (self.new ≡ put name.now tree self.old) }
     {
@@ -55,7 +55,7 @@ impl Object {
         Ok(())
     }
 
-    /// The object.
+    /// The object as a tree.
     pub(crate) fn into_tree(self) -> Tree
         ensures { result ≡ object self }
     {

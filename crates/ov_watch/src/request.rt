@@ -14,12 +14,12 @@ use serde_json::Value;
 use std::alloc::{AllocError, Global};
 use std::marker::Model;
 
-/// Which columns of a table a request is about.
+/// Which columns of a table a request covers.
 #[derive(Drop)]
 pub(crate) enum ColumnChoice {
     /// All but `_uuid`.
     NotNamed,
-    /// Those of these names.
+    /// The columns of these names.
     Named(Vec<Text>),
 }
 
@@ -43,7 +43,7 @@ impl Model for MonitorRequest {
 }
 
 impl MonitorRequest {
-    /// The request that a tree is, or none where it is built wrong.
+    /// Reads a request from a tree; `None` if it is malformed.
     pub(crate) fn read(alloc: Global, tree: &Value) -> Result<Option<MonitorRequest>, AllocError>
         ensures { IfOk result (λ o. o ≡ spec.request_read (view tree.now)) }
     {
@@ -75,7 +75,7 @@ impl MonitorRequest {
         }
     }
 
-    /// Whether it is about the column of this name.
+    /// Whether it covers the column of this name.
     pub(crate) fn is_about(&self, name: &str) -> bool
         ensures { result ≡ spec.is_one_of self.now.columns name.now }
     {
@@ -86,7 +86,7 @@ impl MonitorRequest {
     }
 }
 
-/// The request that an object is.
+/// Reads a request from an object.
 fn request_in(alloc: Global, tree: &Value) -> Result<Option<MonitorRequest>, AllocError>
     ensures { IfOk result (λ o. o ≡ option_and_then (λ columns. spec.with_columns columns (spec.select_read (find.get (codes "select") (view tree.now)))) (spec.columns_read (find.get (codes "columns") (view tree.now)))) }
 {
@@ -99,7 +99,7 @@ fn request_in(alloc: Global, tree: &Value) -> Result<Option<MonitorRequest>, All
     }
 }
 
-/// What is chosen by a member `columns`, which may be left out; or none where it is built wrong.
+/// The columns chosen by a member `columns`, which may be left out; `None` if it is malformed.
 fn chosen_columns(alloc: Global, tree: Option<&Value>) -> Result<Option<ColumnChoice>, AllocError>
     ensures { IfOk result (λ o. option_map choice_view o ≡ spec.columns_read (option_map view (option_copied tree.entry))) }
 {

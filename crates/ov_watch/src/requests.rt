@@ -31,7 +31,7 @@ impl Model for TableRequests {
     ghost view = { λ t. (t.table, t.requests.items) };
 }
 
-/// The requests of a monitor, in ascending order of the tables' names, or none where a part is built wrong.
+/// The requests of a monitor, in ascending order of the tables' names; `None` if any part is malformed.
 pub(crate) fn read_requests(
     alloc: Global,
     tree: &Value,
@@ -117,7 +117,7 @@ fn name_twice(alloc: Global, requests: &[MonitorRequest]) -> Result<bool, AllocE
     has_twice(alloc, names.as_slice())
 }
 
-/// The columns that the requests name, one request after another.
+/// The columns that the requests name, request by request.
 fn names_in(alloc: Global, requests: &[MonitorRequest]) -> Result<Vec<&Text>, AllocError>
     ensures { IfOk result (λ v. map (λ t. t.now) v.items ≡ spec.requested_columns requests.now) }
 {
@@ -137,7 +137,7 @@ fn add_names<'a>(names: &mut Vec<&'a Text>, more: &'a [Text]) -> Result<(), Allo
     Ok(())
 }
 
-/// Whether a name stands twice among these. The names are put into a set, since there may be as many as a message has room for.
+/// Whether a name occurs twice among these. Uses a set, since there may be as many names as fit in a message.
 fn has_twice(alloc: Global, names: &[&Text]) -> Result<bool, AllocError>
     ensures { IfOk result (λ b. b ≡ has_twice (map (λ t. t.now) names.now)) }
 {

@@ -28,7 +28,7 @@ fn alone(alloc: Global, name: &str, tree: Tree) -> Result<Tree, AllocError>
     Ok(update.into_tree())
 }
 
-/// An object of the columns as they are and as they were.
+/// An object of the columns' new and old values.
 fn new_and_old(alloc: Global, new: Tree, old: Tree) -> Result<Tree, AllocError>
     ensures { IfOk result (λ t. t ≡ object (member (codes "new") new (member (codes "old") old no_members))) }
 {
@@ -38,7 +38,7 @@ fn new_and_old(alloc: Global, new: Tree, old: Tree) -> Result<Tree, AllocError>
     Ok(update.into_tree())
 }
 
-/// These columns of a row that is there, or has come, where they are told (RFC 7047, 4.1.6, `<row-update>`).
+/// These columns of a row that exists or was inserted, if they are reported (RFC 7047, 4.1.6, `<row-update>`).
 pub(crate) fn new_row(
     alloc: Global,
     names: &Option<Vec<Text>>,
@@ -54,7 +54,7 @@ pub(crate) fn new_row(
     Ok(Some(alone(alloc, "new", row)?))
 }
 
-/// These columns of a row that has gone, where they are told (RFC 7047, 4.1.6, `<row-update>`).
+/// These columns of a row that was deleted, if they are reported (RFC 7047, 4.1.6, `<row-update>`).
 fn old_row(
     alloc: Global,
     names: &Option<Vec<Text>>,
@@ -70,7 +70,7 @@ fn old_row(
     Ok(Some(alone(alloc, "old", row)?))
 }
 
-/// Whether a row had another value in the column before. Its identifier is the same.
+/// Whether the row had another value in the column before. The row's identifier is the same.
 fn is_modified(before: &Row, after: &Row, name: &str) -> bool
     ensures { (table : List ℕ) (id : List ℕ) → result ≡ spec.is_modified ((table, id), before.now) ((table, id), after.now) name.now }
 {
@@ -87,7 +87,7 @@ fn is_modified(before: &Row, after: &Row, name: &str) -> bool
     }
 }
 
-/// Of these columns of a row those that are modified.
+/// Those of these columns that are modified in the row.
 fn modified_columns(
     alloc: Global,
     names: &[Text],
@@ -105,8 +105,8 @@ fn modified_columns(
     Ok(modified)
 }
 
-/// These columns of a row that is there before and after, and the former values of those that are modified; nothing where none
-/// is (RFC 7047, 4.1.6, `<row-update>`).
+/// These columns of a row that exists before and after, and the former values of those that are modified; nothing if none is
+/// (RFC 7047, 4.1.6, `<row-update>`).
 fn modification(
     alloc: Global,
     names: &[Text],
@@ -125,7 +125,7 @@ fn modification(
     Ok(Some(new_and_old(alloc, new, old)?))
 }
 
-/// What is told of a row that is there before.
+/// What is reported of a row that existed before.
 fn former_update(
     alloc: Global,
     table: &MonitoredTable,
@@ -144,7 +144,7 @@ fn former_update(
     }
 }
 
-/// What is told of a row, by what stands at its identifier before and after (RFC 7047, 4.1.6, `<row-update>`).
+/// What is reported of a row, given what its identifier refers to before and after (RFC 7047, 4.1.6, `<row-update>`).
 pub(crate) fn row_update(
     alloc: Global,
     table: &MonitoredTable,

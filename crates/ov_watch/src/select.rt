@@ -7,7 +7,7 @@ ghost use Rattle.ov_watch.specs.Views.{select_view};
 
 use serde_json::Value;
 
-/// Which kinds of change are told (RFC 7047, 4.1.5, `<monitor-select>`).
+/// Which kinds of change are reported (RFC 7047, 4.1.5, `<monitor-select>`).
 #[derive(Clone, Copy, Debug, PartialEq, Eq)]
 pub(crate) struct MonitorSelect {
     pub(crate) initial: bool,
@@ -26,7 +26,7 @@ pub(crate) enum Kind {
 }
 
 impl MonitorSelect {
-    /// What is selected by a member `select`, which may be left out; or none where it is built wrong.
+    /// What a member `select`, which may be left out, selects; `None` if it is malformed.
     pub(crate) fn read(tree: Option<&Value>) -> Option<MonitorSelect>
         ensures { option_map select_view result ≡ spec.select_read (option_map view (option_copied tree.entry)) }
     {
@@ -61,7 +61,7 @@ fn flags(tree: &Value) -> Option<MonitorSelect>
     })
 }
 
-/// The flag of this name, which is true where it is left out.
+/// The flag of this name, which is true if it is left out.
 fn flag(tree: &Value, name: &str) -> Option<bool>
     ensures { result ≡ spec.flag_read (find.get name.now (view tree.now)) }
 {

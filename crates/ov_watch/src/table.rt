@@ -13,7 +13,7 @@ use ov_schema::{Schema, Table};
 use std::alloc::{AllocError, Global};
 use std::marker::Model;
 
-/// What is told of a table: at each kind of change the columns, in ascending order, or none where it is not told at all.
+/// What is reported of a table: for each kind of change the columns, in ascending order, or `None` if the kind is not reported.
 #[derive(Drop)]
 pub(crate) struct MonitoredTable {
     pub(crate) table: Text,
@@ -36,7 +36,7 @@ impl Model for MonitoredTable {
 }
 
 impl MonitoredTable {
-    /// What these requests come to under the schema. A table that it does not have is refused before a column.
+    /// What these requests amount to under the schema. A missing table is refused before a missing column.
     fn of(
         alloc: Global,
         schema: &Schema,
@@ -54,7 +54,7 @@ impl MonitoredTable {
     }
 }
 
-/// What the requests for each table come to, or the first fault.
+/// What the requests for each table amount to, or the first fault.
 pub(crate) fn monitored_tables(
     alloc: Global,
     schema: &Schema,
@@ -99,7 +99,7 @@ fn has_columns(table: &Table, names: &[Text]) -> bool
     true
 }
 
-/// What the requests come to, whose columns the table has.
+/// What the requests amount to; the table has all of their columns.
 fn monitored(
     alloc: Global,
     table: &Table,
@@ -117,7 +117,7 @@ fn monitored(
     })
 }
 
-/// The columns that are told at this kind of change, or none where no request selects it.
+/// The columns that are reported at this kind of change, or `None` if no request selects it.
 fn told_columns(
     alloc: Global,
     table: &Table,
@@ -150,7 +150,7 @@ fn selected(
     Ok(selected)
 }
 
-/// The columns of the table that one of the requests is about.
+/// The columns of the table that at least one request covers.
 fn columns_of(
     alloc: Global,
     table: &Table,
@@ -167,7 +167,7 @@ fn columns_of(
     Ok(names)
 }
 
-/// Whether one of the requests is about the column of this name.
+/// Whether at least one request covers the column of this name.
 fn is_asked(requests: &[&MonitorRequest], name: &str) -> bool
     ensures { result ≡ list_any (λ request. spec.is_one_of request.columns name.now) (map (λ r. r.now) requests.now) }
 {

@@ -18,7 +18,7 @@ use ov_rows::{Row, RowKey, Rows};
 use std::alloc::{AllocError, Global};
 use uuid::Uuid;
 
-/// Puts what is told of a row under its identifier.
+/// Puts what is reported of a row under its identifier.
 fn put_under_id(alloc: Global, told: &mut Object, id: &Uuid, update: Tree) -> Result<(), AllocError>
     ensures { OnOk result (told.new ≡ put (hyphenated_text lower id.now) update told.old) }
 {
@@ -27,7 +27,7 @@ fn put_under_id(alloc: Global, told: &mut Object, id: &Uuid, update: Tree) -> Re
     told.put(alloc, name, update)
 }
 
-/// Puts a row that is there at first.
+/// Puts a row of the initial contents.
 fn put_first(
     alloc: Global,
     told: &mut Object,
@@ -43,7 +43,7 @@ fn put_first(
     }
 }
 
-/// Puts what is told of a change, where it is one of the table's.
+/// Puts what is reported of a change, if it is a change of this table.
 fn put_change(
     alloc: Global,
     told: &mut Object,
@@ -65,7 +65,7 @@ fn put_change(
 }
 
 impl MonitoredTable {
-    /// Its rows at first, under their identifiers (RFC 7047, 4.1.5).
+    /// Its initial rows, under their identifiers (RFC 7047, 4.1.5).
     pub(crate) fn initial_rows(&self, alloc: Global, rows: &Rows) -> Result<Object, AllocError>
         ensures { IfOk result (λ o. o ≡ placed no_members (spec.initial_rows rows.now self.now)) }
     {
@@ -79,7 +79,7 @@ impl MonitoredTable {
         Ok(told)
     }
 
-    /// Its rows that are told of, under their identifiers (RFC 7047, 4.1.6, `<table-update>`).
+    /// Its reported rows, under their identifiers (RFC 7047, 4.1.6, `<table-update>`).
     #[tactic(auto, using(crate::proofs::Changes::changes_told))]
     pub(crate) fn updated_rows(
         &self,

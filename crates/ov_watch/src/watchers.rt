@@ -20,7 +20,7 @@ use std::marker::Model;
 /// The monitors of the sessions (RFC 7047, 4.1.5 to 4.1.7).
 #[derive(Drop)]
 pub struct Watchers {
-    /// Those of each session that has some, by its serial. A session that canceled its last one may still stand here.
+    /// The monitors of each session that has any, by its serial. A session that canceled its last monitor may still be listed.
     monitors: BTreeMap<u64, Monitors>,
 }
 
@@ -35,7 +35,7 @@ impl Model for Watchers {
 }
 
 impl Watchers {
-    /// No session has a monitor.
+    /// Starts with no monitors.
     pub fn new(alloc: Global) -> Watchers
         ensures { result ≡ [] }
     {
@@ -44,15 +44,15 @@ impl Watchers {
         }
     }
 
-    /// Whether no session has had a monitor since it was opened. Then none is told anything.
+    /// Whether no session has had a monitor since it was opened. Then there is nothing to report to any.
     pub fn is_empty(&self) -> bool
         ensures { IsTrue result ↔ (self.now ≡ []) }
     {
         self.monitors.is_empty()
     }
 
-    /// One monitor more of the session, behind its others, or why there is none (RFC 7047, 4.1.5). `Memory` may be answered to
-    /// anything. A refusal changes nothing.
+    /// Adds a monitor to the session, after its others, or returns why not (RFC 7047, 4.1.5). `Memory` may be returned in any
+    /// case. A refusal changes nothing.
     pub fn add(
         &mut self,
         alloc: Global,
@@ -67,7 +67,7 @@ impl Watchers {
             return monitors.add(alloc, schema, id, requests);
         }
         let mut monitors = Monitors::new(alloc);
-        // A match, and no `?`: so the proof sees which fault is handed on.
+        // A `match` instead of `?`, so that the proof sees which fault is returned.
         if let Err(fault) = monitors.add(alloc, schema, id, requests) {
             return Err(fault);
         }
@@ -77,8 +77,8 @@ impl Watchers {
         }
     }
 
-    /// The session is without the monitor of this name. `Unknown` is answered where there is none, and `Memory` may be; then
-    /// nothing is changed (RFC 7047, 4.1.7).
+    /// Removes the session's monitor of this name. Returns `Unknown` if there is none, and may return `Memory`; then nothing
+    /// changes (RFC 7047, 4.1.7).
     pub fn cancel(&mut self, alloc: Global, session: u64, id: &Tree) -> Result<(), WatchFault>
         ensures { WatchesAsGiven session (spec.canceled (monitors_at session self.old) id.now) self.old result self.new }
     {
@@ -88,7 +88,7 @@ impl Watchers {
         }
     }
 
-    /// What the session's monitor of this name is told at first, the result of `monitor`; none where there is no such monitor
+    /// What the session's monitor of this name reports initially, the result of `monitor`; `None` if there is no such monitor
     /// (RFC 7047, 4.1.5).
     pub fn initial<K: Keeper + Drop>(
         &self,
@@ -105,8 +105,8 @@ impl Watchers {
         }
     }
 
-    /// The params of each `update` that tells the session of these changes, in order of creation of its monitors. The database
-    /// is as it was before them (RFC 7047, 4.1.6).
+    /// The params of each `update` that reports these changes to the session, in order of creation of its monitors. The
+    /// database is as it was before the changes (RFC 7047, 4.1.6).
     pub fn updates<K: Keeper + Drop>(
         &self,
         alloc: Global,
@@ -122,7 +122,7 @@ impl Watchers {
         }
     }
 
-    /// The session has no monitor any more. It takes no memory.
+    /// Removes all monitors of the session. Allocates nothing.
     pub fn leave(&mut self, session: u64)
         ensures { WatchesWith session [] self.old self.new }
     {

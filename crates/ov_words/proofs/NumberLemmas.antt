@@ -1,4 +1,4 @@
--- The number of sessions that a text tells, by what is known of its parse.
+-- The number of sessions that a text gives, by what is known of its parse.
 use Rattle.std.proofs.Common.{◌≡◌, ◌≢◌, ℕ, ◌<◌, ◌≤◌, ◌^◌, List, [], ◌∷◌, length, get_or, refl, true, false, Bool, arith}
 use Rattle.std.specs.Prelude.{Option, Some, None, Result, if◌then◌else◌, ◌&&◌}
 use Rattle.std.specs.Int.{is_in_range}
@@ -9,7 +9,7 @@ use Rattle.std.proofs.lemmas.Bool.Decides.{nat_tests}
 use Rattle.std.proofs.lemmas.Str.Parse.{IsNumeralModel, numerals_by_value, parse_plain, tells_all_ascii_digits}
 use Rattle.ov_words.specs.Words.{sessions_in}
 
--- the number where these are digits, and else none
+-- the number if these are digits, and otherwise none
 abbrev number_by : Bool → ℕ → Option ℕ
 number_by are n = if are && is_in_range 1 64 n then Some n else None
 
@@ -33,7 +33,7 @@ none_by false v out = refl
 numerals : IsNumeralModel (λ ds. all_ascii_digits ds ≡ true) (digits_value 10)
 numerals = numerals_by_value (λ ds. all_ascii_digits ds ≡ true) tells_all_ascii_digits
 
--- what a parse tells of a text that has no plus in front
+-- what a parse says of a text without a leading plus
 pub parsed : {E : Type 0} (digits : List ℕ) (r : Result ℕ E) → ParsesUnsigned 64 10 digits r → get_or digits 0 0 ≢ 43
     → OkIff r ((all_ascii_digits digits ≡ true) × (0 < length digits) × (digits_value 10 digits < 2 ^ 64)) (digits_value 10 digits)
 parsed digits r h plain = parse_plain numerals 64 digits r h plain

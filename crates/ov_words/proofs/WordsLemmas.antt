@@ -75,7 +75,7 @@ pub settings_by-unfit : (faults : Kinds) (value : Text → Option Text) → fit_
 settings_by-unfit faults value unfit = settings_by-refused faults value
     (rw (unfit, and_false (is_named (value (codes "schema")) && is_named (value (codes "db")) && is_named (value (codes "listen")) && is_number (value (codes "sessions")))) refl)
 
--- arguments are refused only where there is something wrong
+-- arguments are refused only if something is wrong
 pub some_of_refused : (k : ErrorKind) (faults : Kinds) → fault_by k ≡ Refused → (k ≡ OutOfMemory) ⊎ IsAmong k faults → faults ≢ []
 some_of_refused k [] e (inl memory) = absurd (let bad = rw memory at e in cc)
 some_of_refused k [] e (inr among) = absurd among

@@ -1,4 +1,4 @@
--- How the program ends, by what it met. What names no source is our own.
+-- How the program ends, by what it met.
 use Rattle.ov_words.specs.declared.ending.Ending.{Ending}
 use Rattle.ov_words.specs.declared.ending.Ending.TheVariants as ends
 use Rattle.ov_words.specs.declared.fault.WordFault.{WordFault}
@@ -14,19 +14,19 @@ use Rattle.ov_history.specs.declared.event.Cause.TheVariants as causes
 use Rattle.ov_history.specs.declared.event.StepFault.{StepFault}
 use Rattle.ov_history.specs.declared.event.StepFault.TheVariants as steps
 
--- where the arguments give no settings
+-- the ending if the arguments give no settings
 abbrev pub by_words : WordFault → Ending
 by_words words.Refused = ends.Arguments
 by_words words.Memory = ends.Memory
 
--- where a file gives no schema
+-- the ending if a file gives no schema
 abbrev pub by_schema : SchemaFileFault → Ending
 by_schema schemas.Memory = ends.Memory
 by_schema schemas.Unread = ends.Schema
 by_schema schemas.NotJson = ends.Schema
 by_schema (schemas.Refused fault) = ends.Schema
 
--- where a keeper refuses
+-- the ending if a keeper refuses
 abbrev pub by_keeping : KeepFault → Ending
 by_keeping keeping.Memory = ends.Memory
 by_keeping keeping.Device = ends.Database
@@ -34,20 +34,20 @@ by_keeping keeping.NotOurs = ends.Database
 by_keeping keeping.Format = ends.Database
 by_keeping keeping.TooLarge = ends.Database
 
--- where a database is not opened
+-- the ending if a database is not opened
 abbrev pub by_open : OpenFault → Ending
 by_open opening.SchemaDiffers = ends.Database
 by_open opening.BadBody = ends.Database
 by_open opening.Broken = ends.Database
 by_open (opening.Keeping fault) = by_keeping fault
 
--- where a session is not opened
+-- the ending if a session is not opened
 abbrev pub by_step : StepFault → Ending
 by_step steps.TooMany = ends.Streams
 by_step steps.NotOpen = ends.Streams
 by_step steps.Memory = ends.Memory
 
--- where a session was closed
+-- the ending after a session was closed
 abbrev pub by_cause : Cause → Ending
 by_cause causes.InputEnded = ends.InputEnded
 by_cause causes.ReadFault = ends.Streams

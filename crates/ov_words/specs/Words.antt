@@ -38,27 +38,27 @@ app = with_ends (with_database (without_help (new_app (codes "ov_server"))))
 abbrev pub option_value : List Text → Text → Option Text
 option_value words name = first_of name (matches_of app words)
 
--- no file and no address is named by the empty text
+-- the empty text names no file and no address
 abbrev pub is_named : Option Text → Bool
 is_named None = true
 is_named (Some []) = false
 is_named (Some (x ∷ xs)) = true
 
--- a flag's value is the text `true` where the flag is used
+-- a flag's value is the text `true` if the flag is used
 abbrev pub is_set : Option Text → Bool
 is_set value = option_map_or (λ text. bytes_eq text (codes "true")) value false
 
--- the number of sessions that decimal digits alone tell: from 1 to as many as may be open
+-- the number of sessions, in decimal digits alone: from 1 to the most that may be open
 abbrev pub sessions_in : Text → Option ℕ
 sessions_in digits = if all_ascii_digits digits && is_in_range 1 most_sessions (digits_value 10 digits)
     then Some (digits_value 10 digits) else None
 
--- where a number of sessions is given it is such a number
+-- if a number of sessions is given, it is such a number
 abbrev pub is_number : Option Text → Bool
 is_number None = true
 is_number (Some digits) = is_some (sessions_in digits)
 
--- where an address is named the streams are not, and else no number of sessions is given
+-- if an address is named, the streams are not; otherwise no number of sessions is given
 abbrev pub fit_together : (Text → Option Text) → Bool
 fit_together value = if is_some (value (codes "listen"))
     then not (is_set (value (codes "stdio"))) else is_none (value (codes "sessions"))
@@ -78,11 +78,11 @@ as_settings value = record {
   is_on_streams = is_set (value (codes "stdio"));
 }
 
--- the settings, by what `clap` finds wrong and by the values that the arguments give: none where anything is wrong
+-- the settings, by what `clap` finds wrong and by the values that the arguments give: none if anything is wrong
 abbrev pub settings_by : Kinds → (Text → Option Text) → Option Settings
 settings_by [] value = if are_taken value then Some (as_settings value) else None
 settings_by (k ∷ ks) value = None
 
--- the settings that the arguments give, or none where they are refused
+-- the settings that the arguments give, or none if they are refused
 abbrev pub settings_of : List Text → Option Settings
 settings_of words = settings_by (fault_of app words) (option_value words)

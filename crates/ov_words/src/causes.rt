@@ -10,7 +10,7 @@ use ov_history::{Cause, StepFault};
 use ov_keeper::KeepFault;
 use ov_schema_text::SchemaFileFault;
 
-/// Where the arguments give no settings.
+/// How the program ends if the arguments give no settings.
 pub fn ending_of_words(fault: WordFault) -> Ending
     ensures { result ≡ by_words fault }
 {
@@ -20,7 +20,7 @@ pub fn ending_of_words(fault: WordFault) -> Ending
     }
 }
 
-/// Where a file gives no schema.
+/// How the program ends if a file gives no schema.
 pub fn ending_of_schema(fault: SchemaFileFault) -> Ending
     ensures { result ≡ by_schema fault }
 {
@@ -32,7 +32,7 @@ pub fn ending_of_schema(fault: SchemaFileFault) -> Ending
     }
 }
 
-/// Where a keeper refuses.
+/// How the program ends if a keeper refuses.
 pub fn ending_of_keeping(fault: KeepFault) -> Ending
     ensures { result ≡ by_keeping fault }
 {
@@ -44,7 +44,7 @@ pub fn ending_of_keeping(fault: KeepFault) -> Ending
     }
 }
 
-/// Where a database is not opened.
+/// How the program ends if a database is not opened.
 pub fn ending_of_open(fault: OpenFault) -> Ending
     ensures { result ≡ by_open fault }
 {
@@ -54,7 +54,7 @@ pub fn ending_of_open(fault: OpenFault) -> Ending
     }
 }
 
-/// Where a session is not opened.
+/// How the program ends if a session is not opened.
 pub fn ending_of_step(fault: StepFault) -> Ending
     ensures { result ≡ by_step fault }
 {
@@ -64,7 +64,7 @@ pub fn ending_of_step(fault: StepFault) -> Ending
     }
 }
 
-/// Where a session was closed.
+/// How the program ends after a session was closed.
 pub fn ending_of_cause(cause: Cause) -> Ending
     ensures { result ≡ by_cause cause }
 {

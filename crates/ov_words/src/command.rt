@@ -8,7 +8,7 @@ use std::alloc::{AllocError, Global};
 use std::convert::AsStr;
 
 #[tactic(auto, using(crate::proofs::WordsLemmas::some_of_refused))]
-/// The program's arguments, of which the first is its name, as `clap` matches them.
+/// The program's arguments as `clap` matches them. The first is the program's name.
 pub(crate) fn matches<'a, S: AsStr>(
     alloc: Global,
     words: &'a [S],
@@ -24,7 +24,7 @@ pub(crate) fn matches<'a, S: AsStr>(
     }
 }
 
-/// What `clap` is told of the arguments. It adds no flags of its own.
+/// What `clap` knows of the arguments. It adds no flags of its own.
 fn command<'a>(alloc: Global) -> Result<Command<'a>, AllocError>
     ensures { IfOk result (λ command. app_of command ≡ app) }
 {
@@ -56,7 +56,7 @@ fn with_ends<'a>(alloc: Global, command: Command<'a>) -> Result<Command<'a>, All
         .arg(option(alloc, "sessions"))
 }
 
-/// An option of a name and with one value, at most once.
+/// An option with a name and one value, at most once.
 fn option<'a>(alloc: Global, name: &'a str) -> Arg<'a>
     ensures rule { rule_of result ≡ option_rule name.entry.now }
     ensures own { result.global ≡ false }

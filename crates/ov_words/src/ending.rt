@@ -4,22 +4,22 @@ ghost use Rattle.ov_words.specs.Endings.{error_line, status};
 /// How the program ended.
 #[derive(Clone, Copy, Debug, PartialEq, Eq)]
 pub enum Ending {
-    /// The input ended; or, at an address, all sessions that were to be served have ended.
+    /// The input ended; or, at an address, all sessions to be served have ended.
     InputEnded,
     /// The arguments were refused.
     Arguments,
-    /// The schema's file could not be read, or is no JSON, or its schema was refused.
+    /// The schema's file could not be read or is not JSON, or its schema was refused.
     Schema,
     /// The database could not be opened, or was refused.
     Database,
-    /// Standard input or output failed, or what came in was damaged. Or nobody could be listened to: an address was refused, a
-    /// connection was not accepted, or no thread could be started.
+    /// Standard input or output failed, or what came in was damaged. Or serving at an address failed: the address was
+    /// refused, a connection was not accepted, or no thread could be started.
     Streams,
-    /// A growth was refused.
+    /// An allocation failed.
     Memory,
 }
 
-/// The status that the program ends with.
+/// The program's exit status.
 pub fn status_of(ending: Ending) -> u8
     ensures { result ≡ status ending }
 {
@@ -33,7 +33,7 @@ pub fn status_of(ending: Ending) -> u8
     }
 }
 
-/// The line that is said on standard error, without its end. Where the status is 0, none is.
+/// The line for standard error, without its line end. None if the status is 0.
 pub fn error_line_of(ending: Ending) -> Option<&'static str>
     ensures { option_map (λ text. text.now) result ≡ error_line ending }
 {

@@ -5,11 +5,11 @@ use thiserror::Error;
 /// Why the program's arguments give no settings.
 #[derive(Clone, Copy, Debug, PartialEq, Eq, Error)]
 pub enum WordFault {
-    /// `clap` refuses them; a FILE or an ADDR is empty; N is no number from 1 to 64; `--stdio` stands beside `--listen`, or
-    /// `--sessions` without it. There is no help page, so `--help` is refused as well.
+    /// `clap` refuses them; a FILE or an ADDR is empty; N is not a number from 1 to 64; `--stdio` is given with `--listen`,
+    /// or `--sessions` without it. There is no help page, so `--help` is refused as well.
     #[error("not the arguments of ov_server")]
     Refused,
-    /// A growth was refused.
+    /// An allocation failed.
     #[error("out of memory")]
     Memory,
 }

@@ -1,7 +1,7 @@
-//! What the program is told by its arguments, and how it ends.
+//! What the program's arguments say, and how the program ends.
 //!
-//! The arguments are read by `clap`: no file is opened here, and nothing is written. What ends the program is told by the faults
-//! of the crates below.
+//! `clap` reads the arguments: no file is opened here, and nothing is written. The faults of the crates below say what ends
+//! the program.
 #![tactic(auto)]
 
 mod causes;

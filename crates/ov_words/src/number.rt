@@ -4,11 +4,11 @@ ghost use Rattle.ov_words.specs.Words.{sessions_in};
 /// The most sessions that may be open at once.
 const MOST_SESSIONS: u64 = 64;
 
-/// The number of sessions that decimal digits alone tell, from 1 to 64. Zeros may lead.
+/// The number of sessions, from 1 to 64, in decimal digits alone. Zeros may lead.
 pub(crate) fn sessions_in(digits: &str) -> Option<u64>
     ensures { result ≡ sessions_in digits.now }
 {
-    // A number may have a plus in front where it is parsed, and no other sign.
+    // A number that is parsed may have a leading plus, and no other sign.
     if has_plus(digits) {
         return None;
     }

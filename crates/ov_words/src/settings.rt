@@ -10,29 +10,29 @@ use ov_base::Text;
 use std::alloc::Global;
 use std::convert::AsStr;
 
-/// What the program is told to serve, and where.
+/// What the program is to serve, and where.
 #[derive(Drop)]
 pub struct Settings {
-    /// The path of the file that holds the schema, or none for the program's own schema.
+    /// The path of the file that holds the schema; None for the program's own schema.
     pub schema: Option<Text>,
-    /// The path of the file that keeps the database, or none for a database in memory.
+    /// The path of the file that keeps the database; None for a database in memory.
     pub db: Option<Text>,
-    /// The address at which connections are accepted, or none where the streams are served.
+    /// The address at which connections are accepted; None if the streams are served.
     pub listen: Option<Text>,
-    /// How many connections are served at that address, from 1 to 64, or none where no number is given. Without an address there
-    /// is none.
+    /// How many connections are served at that address, from 1 to 64; None if no number is given. Without an address it is
+    /// None.
     pub sessions: Option<u64>,
-    /// Whether standard input and output are named as what is served. Where no address is, they are served without the argument
-    /// too; where one is, they are not named.
+    /// Whether `--stdio` is given. Without an address, standard input and output are served even without it; with an
+    /// address, it is never given.
     pub is_on_streams: bool,
 }
 
-/// Reads the program's arguments, `[--schema FILE] [--db FILE] [--stdio | --listen ADDR [--sessions N]]`, of which the first is
-/// the program's name.
+/// Reads the program's arguments, `[--schema FILE] [--db FILE] [--stdio | --listen ADDR [--sessions N]]`. The first is the
+/// program's name.
 ///
-/// A path or an address is any text but the empty one: no file is looked for, and no address is tried. N is a number from 1 to
-/// 64 in decimal digits alone, with no sign; zeros may lead, so `08` is 8. `--db=FILE` is read as `--db FILE`; an argument that
-/// is given twice is refused. So are `--stdio` beside `--listen`, and `--sessions` without it.
+/// A path or an address is any text but the empty one: no file is looked for, and no address is tried. N is a number from 1
+/// to 64 in decimal digits alone, with no sign; zeros may lead, so `08` is 8. `--db=FILE` is read as `--db FILE`. An
+/// argument that is given twice is refused, and so are `--stdio` with `--listen`, and `--sessions` without it.
 pub fn read_words<S: AsStr>(alloc: Global, words: &[S]) -> Result<Settings, WordFault>
     ensures taken { IfOk result (λ settings. settings_of (map S.text words.now) ≡ Some settings) }
     ensures refused { result ≡ Err WordFault.Refused → settings_of (map S.text words.now) ≡ None }
@@ -88,7 +88,7 @@ fn has_flag(matches: &ArgMatches<'_>, name: &str) -> bool
     }
 }
 
-/// Whether what is served is said without a contradiction.
+/// Whether the arguments that say what is served don't contradict one another.
 fn fit_together(matches: &ArgMatches<'_>) -> bool
     ensures { result ≡ fit_together (first_value (found_of matches.now)) }
 {

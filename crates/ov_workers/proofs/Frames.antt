@@ -14,19 +14,19 @@ use Rattle.ov_workers.specs.Writing.{Writes}
 joined-append : (xs ys : List (List ℕ)) → joined (xs ++ ys) ≡ joined xs ++ joined ys
 joined-append xs ys = flat_map-append (λ (bytes : List ℕ). bytes) xs ys
 
--- frames behind frames
+-- frames after frames
 pub frames_behind : (items items' more : List Sent) (frames others : List (List ℕ)) → items ≡ map Frame frames → items' ≡ items ++ (map Frame others ++ more) → items' ≡ map Frame (frames ++ others) ++ more
 frames_behind items items' more frames others is taken =
     taken ∙ (ap (λ (l : List Sent). l ++ (map Frame others ++ more)) is
     ∙ (sym (append_assoc (map Frame frames) (map Frame others) more) ∙ ap (λ (l : List Sent). l ++ more) (sym (map-append Frame frames others))))
 
--- one frame was taken behind others
+-- one frame was taken after others
 pub frames_push : (first items items' : List Sent) (frames : List (List ℕ)) (frame : List ℕ) → items ≡ first ++ map Frame frames → items' ≡ items ++ Frame frame ∷ [] → items' ≡ first ++ map Frame (frames ++ frame ∷ [])
 frames_push first items items' frames frame is taken =
     taken ∙ (ap (λ (l : List Sent). l ++ Frame frame ∷ []) is
     ∙ (append_assoc first (map Frame frames) (Frame frame ∷ []) ∙ ap (λ (l : List Sent). first ++ l) (sym (map-append Frame frames (frame ∷ [])))))
 
--- the end mark was taken behind frames
+-- the end mark was taken after frames
 pub frames_end : (first items items' : List Sent) (frames : List (List ℕ)) → items ≡ first ++ map Frame frames → items' ≡ items ++ End ∷ [] → items' ≡ first ++ (map Frame frames ++ End ∷ [])
 frames_end first items items' frames is taken =
     taken ∙ (ap (λ (l : List Sent). l ++ End ∷ []) is ∙ append_assoc first (map Frame frames) (End ∷ []))
@@ -49,7 +49,7 @@ written_none s items none = record {
 }
 
 module _ (old mid : SinkState) (items : List Sent) (so_far : WrittenSoFar old mid items) where
-  -- what is held was handed on, or nothing was done
+  -- what is held was flushed, or nothing was done
   pub written_same : (new : SinkState) → new.written ≡ mid.written → new.faults ≡ mid.faults → GivesWritten mid.written mid.contents new.written new.contents → WrittenSoFar old new items
   written_same new same good given = record {
     frames = so_far.frames;
@@ -71,7 +71,7 @@ module _ (old mid : SinkState) (items : List Sent) (so_far : WrittenSoFar old mi
     given = given-more old.written mid.written new.written old.contents mid.contents new.contents so_far.given given;
   }
 
-  -- the writer failed, and the frames behind were dropped
+  -- the writer failed, and the frames after that were dropped
   pub written_part : (new : SinkState) (items' : List Sent) (behind : List (List ℕ)) → items' ≡ items ++ (map Frame behind ++ End ∷ []) → WritesOf false (joined behind) mid.written new.written → new.faults ≡ one_more mid.faults
       → GivesWritten mid.written mid.contents new.written new.contents → Writes false old new items'
   written_part new items' behind taken (part, wrote, (others, begins)) bad given = record {
@@ -87,7 +87,7 @@ module _ (old mid : SinkState) (items : List Sent) (so_far : WrittenSoFar old mi
     given = given-more old.written mid.written new.written old.contents mid.contents new.contents so_far.given given;
   }
 
-  -- the writer failed as it handed on what it held
+  -- the writer failed as it flushed what it held
   pub failed_flush : (new : SinkState) (items' : List Sent) (behind : List (List ℕ)) → items' ≡ items ++ (map Frame behind ++ End ∷ []) → new.written ≡ mid.written → new.faults ≡ one_more mid.faults
       → GivesWritten mid.written mid.contents new.written new.contents → Writes false old new items'
   unfolding written_part
@@ -100,7 +100,7 @@ module _ (old mid : SinkState) (items : List Sent) (so_far : WrittenSoFar old mi
       written_part new items' (frame ∷ behind) (dropped ∙ (ap (λ (l : List Sent). l ++ (map Frame behind ++ End ∷ [])) taken ∙ append_assoc items (Frame frame ∷ []) (map Frame behind ++ End ∷ [])))
       (part, wrote, (others ++ joined behind, sym (append_assoc part others (joined behind)) ∙ ap (λ (l : List ℕ). l ++ joined behind) (begins ∙ same))) bad given
 
-  -- the end mark was taken, and what is held was handed on, or not
+  -- the end mark was taken, and what is held was flushed, or not
   pub written_all : (is_whole : Bool) (new : SinkState) (items' : List Sent) → items' ≡ items ++ End ∷ [] → new.written ≡ mid.written → new.is_flushed ≡ is_whole → (is_whole ≡ true → new.faults ≡ mid.faults) → (is_whole ≡ false → new.faults ≡ one_more mid.faults)
       → GivesWritten mid.written mid.contents new.written new.contents → Writes is_whole old new items'
   written_all false new items' taken same flushed good bad given = failed_flush new items' [] taken same (bad refl) given

@@ -49,7 +49,7 @@ front_more texts rest later text message old mid new so_far is reads brought = r
 abbrev with_all : List wire.Message → Asked → Asked
 with_all messages a = record a { messages = messages ++ a.messages }
 
--- behind texts that are read
+-- after texts that are read
 asked_front : (texts rest : List (List ℕ)) (messages : List wire.Message) (d : Bool) → AreTextsOf texts messages → asked_of (texts ++ rest) d ≡ with_all messages (asked_of rest d)
 asked_front [] rest [] d h = refl
 asked_front [] rest (m ∷ messages) d h = cc
@@ -66,13 +66,13 @@ unfolding asked
 asked_by stream front rest messages d parts is read =
     ap (asked_of (cut stream).messages) is ∙ (ap (λ (ts : List (List ℕ)). asked_of ts d) (sym parts) ∙ asked_front front rest messages d read)
 
--- where no text follows
+-- if no text follows
 asked_all : (stream : List ℕ) (texts : List (List ℕ)) (messages : List wire.Message) (d : Bool) → texts ≡ (cut stream).messages → is_some (cut stream).damage ≡ d → AreTextsOf texts messages
     → asked stream ≡ record { messages = messages; damaged = d }
 asked_all stream texts messages d same is read =
     asked_by stream texts [] messages d (append-nil texts ∙ same) is read ∙ ap (λ (ms : List wire.Message). record { messages = ms; damaged = d }) (append-nil messages)
 
--- where an unreadable text follows
+-- if an unreadable text follows
 asked_unreadable : (stream : List ℕ) (front others : List (List ℕ)) (text : List ℕ) (messages : List wire.Message) → front ++ text ∷ others ≡ (cut stream).messages → message_in text ≡ None → AreTextsOf front messages
     → asked stream ≡ record { messages = messages; damaged = true }
 asked_unreadable stream front others text messages parts none read =
@@ -80,13 +80,13 @@ asked_unreadable stream front others text messages parts none read =
     asked_by stream front (text ∷ others) messages d parts refl read ∙ (ap (λ (o : Option wire.Message). with_all messages (with_asked o (asked_of others d))) none
     ∙ ap (λ (ms : List wire.Message). record { messages = ms; damaged = true }) (append-nil messages))
 
--- where memory was refused for more texts
+-- if an allocation for more texts failed
 asked_begins : (stream : List ℕ) (front rest : List (List ℕ)) (messages : List wire.Message) → front ++ rest ≡ (cut stream).messages → AreTextsOf front messages → BeginsAs messages (asked stream).messages
 asked_begins stream front rest messages parts read =
     let d : Bool = is_some (cut stream).damage in
     ((asked_of rest d).messages, sym (ap (λ (a : Asked). a.messages) (asked_by stream front rest messages d parts refl read)))
 
--- ---- how damage is told
+-- ---- how damage is reported
 
 told_none : (d : Option Damage) (f : Option CutFault) → fault_of_damage d ≡ f → f ≡ None → is_some d ≡ false
 told_none None f h e = refl
@@ -106,7 +106,7 @@ module _ (stream piece : List ℕ) (texts : List (List ℕ)) (before after : Cut
       append_assoc f.texts front (behind ++ others) ∙ (ap (λ (ts : List (List ℕ)). f.texts ++ ts) (sym (append_assoc front behind others) ∙ ap (λ (ts : List (List ℕ)). ts ++ others) (sym parts))
       ∙ (sym (append_assoc f.texts texts others) ∙ whole))
 
-  -- the first text that is left is unreadable, or memory was refused for it
+  -- the first text that is left is unreadable, or an allocation for it failed
   pub at_text : (cause : Option ReadCause) (why : ReadCause) → cause ≡ Some why → BringsTexts texts cause old new → IsBeginning (f.texts ++ texts) (cut (stream ++ piece)).messages → BroughtSoFar (Some why) (stream ++ piece) after new
   at_text cause InputEnded is b begins = let none : Remain b.behind (Some InputEnded) = subst (Remain b.behind) is b.remain in absurd none
   at_text cause ReadFault is b begins = let none : Remain b.behind (Some ReadFault) = subst (Remain b.behind) is b.remain in absurd none
@@ -153,7 +153,7 @@ module _ (stream piece : List ℕ) (texts : List (List ℕ)) (before after : Cut
       asks = asked_all (stream ++ piece) (f.texts ++ texts) (f.messages ++ b.brings.messages) true (sym stands.messages) (told_some (cut (stream ++ piece)).damage after.fault why stands.fault is) read_all;
     }
 
-    -- the cutter told a fault
+    -- the cutter reported a fault
     pub at_fault : (fault_of_cut : Option CutFault) (why : CutFault) → fault_of_cut ≡ Some why → fault_of_cut ≡ after.fault → (fault_of_cut ≢ Some fault.Memory → StandsFor (stream ++ piece) (f.texts ++ texts) after)
         → IsBeginning (f.texts ++ texts) (cut (stream ++ piece)).messages → BroughtSoFar (Some (cause_of_fault why)) (stream ++ piece) after new
     at_fault fault_of_cut (fault.Damaged x) is same stands begins = at_damage (fault.Damaged x) (stands (λ h. let g : Some (fault.Damaged x) ≡ Some fault.Memory = sym is ∙ h in cc)) (sym same ∙ is)
@@ -170,7 +170,7 @@ no_fault : fault_of_damage (cut []).damage ≡ None
 unfolding cut
 no_fault = refl
 
--- a cutter of which nothing was asked yet
+-- a cutter that has not been used yet
 pub brought_none : (cutter : CutterState) (items : List Item) → StandsFor [] [] cutter → items ≡ [] → IsBrought [] cutter items
 brought_none cutter items stands none = record {
   texts = [];
@@ -181,7 +181,7 @@ brought_none cutter items stands none = record {
   brought = none;
 }
 
--- the input ended, or a read failed, where nothing is damaged
+-- the input ended, or a read failed, and nothing is damaged
 brought_whole : (stream : List ℕ) (cutter : CutterState) (items : List Item) → (f : IsBrought stream cutter items) → asked stream ≡ record { messages = f.messages; damaged = false }
 brought_whole stream cutter items f =
     asked_all stream f.texts f.messages false (sym f.stands.messages) (told_none (cut stream).damage cutter.fault f.stands.fault f.whole) f.read

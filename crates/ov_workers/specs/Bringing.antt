@@ -1,4 +1,4 @@
--- What was brought of a stream so far; for private clauses. What names no source is our own.
+-- What was brought of a stream so far; for private clauses.
 use Rattle.std.specs.Prelude.{◌≡◌, ℕ, ◌++◌, List, [], ◌∷◌, map, Option, Some, None}
 use Rattle.ov_ends.specs.States.{SourceState}
 use Rattle.ov_specs.specs.wire.Message as wire
@@ -17,7 +17,7 @@ use Rattle.ov_workers.specs.Reading.{Item, SuitsSource}
 abbrev pub AreTextsOf : List (List ℕ) → List wire.Message → Type 0
 AreTextsOf texts messages = map message_in texts ≡ map Some messages
 
--- why no more of the texts were brought, if some were left: one is unreadable, or memory was refused for it
+-- why no more of the texts were brought, if some were left: one is unreadable, or an allocation for it failed
 abbrev pub Remain : List (List ℕ) → Option ReadCause → Type 0
 Remain texts None = texts ≡ []
 Remain texts (Some InputEnded) = ⊥
@@ -25,7 +25,7 @@ Remain texts (Some ReadFault) = ⊥
 Remain texts (Some Damaged) = (text : List ℕ) × (others : List (List ℕ)) × (texts ≡ text ∷ others) × (message_in text ≡ None)
 Remain texts (Some Memory) = Unit {0}
 
--- the messages were brought that the texts in front of these are
+-- the messages in the texts before these were brought
 pub record BringsFront (texts behind : List (List ℕ)) (old new : List Item) : Type 0 where
   pub front : List (List ℕ)
   pub parts : texts ≡ front ++ behind
@@ -33,7 +33,7 @@ pub record BringsFront (texts behind : List (List ℕ)) (old new : List Item) : 
   pub read : AreTextsOf front messages
   pub brought : new ≡ old ++ map Message messages
 
--- the messages were brought that the texts are, up to the first for which that can't be
+-- the messages in the texts were brought, up to the first that can't be
 pub record BringsTexts (texts : List (List ℕ)) (end : Option ReadCause) (old new : List Item) : Type 0 where
   pub behind : List (List ℕ)
   pub brings : BringsFront texts behind old new
@@ -62,7 +62,7 @@ BroughtSoFar (Some ReadFault) stream cutter items = ⊥
 BroughtSoFar (Some Damaged) stream cutter items = IsBroughtToEnd Damaged stream items
 BroughtSoFar (Some Memory) stream cutter items = IsBroughtToEnd Memory stream items
 
--- why a stream ends that can't be cut
+-- why a stream that can't be cut ends
 abbrev pub cause_of_fault : CutFault → ReadCause
 cause_of_fault (fault.Damaged offset) = Damaged
 cause_of_fault fault.TooLong = Damaged

@@ -1,4 +1,4 @@
--- What a reader's worker did from its beginning to its end. It is our own.
+-- What a reader's worker did from its beginning to its end.
 use Rattle.std.specs.Prelude.{◌≡◌, ℕ, ◌++◌, List, [], ◌∷◌, map, true}
 use Rattle.std.specs.Io.KnownBytes.{IsAtEnd}
 use Rattle.ov_specs.specs.wire.Message as wire
@@ -15,7 +15,7 @@ use Rattle.ov_workers.specs.Stream.{AreAskedFor}
 abbrev pub Item : Type 0
 Item = Brought wire.Message ReadCause
 
--- What the reader tells of a cause: it met its end and all of the input was read; or one more read failed; and a failure is
+-- What the reader reports of a cause: it met its end and all of the input was read; or one more read failed. A failure is
 -- counted nowhere else.
 abbrev pub SuitsSource : ReadCause → SourceState → SourceState → Type 0
 SuitsSource InputEnded old new = (new.at_end ≡ true) × IsAtEnd new.remaining × (new.faults ≡ old.faults)

@@ -8,8 +8,8 @@ use Rattle.ov_workers.specs.declared.cause.ReadCause.TheVariants.{InputEnded, Re
 abbrev pub BeginsAs : List Message → List Message → Type 0
 BeginsAs some all = (others : List Message) × (some ++ others ≡ all)
 
--- The messages are what the stream asked for, where it ended for this cause: all of it, behind which the stream is damaged where
--- that is the cause, and else is not. Where memory was refused, some may be missing at the end.
+-- The messages are what the stream asked for, if it ended for this cause: all of it, and the stream is damaged after them if
+-- that is the cause, and otherwise is not. If an allocation failed, some may be missing at the end.
 abbrev pub AreAskedFor : ReadCause → List Message → Asked → Type 0
 AreAskedFor InputEnded messages a = a ≡ record { messages = messages; damaged = false }
 AreAskedFor ReadFault messages a = a ≡ record { messages = messages; damaged = false }

@@ -1,4 +1,4 @@
--- What a writer's worker did from its beginning to its end. It is our own.
+-- What a writer's worker did from its beginning to its end.
 use Rattle.std.specs.Prelude.{◌≡◌, ℕ, ◌++◌, List, [], ◌∷◌, map, Bool, true}
 use Rattle.ov_specs.specs.machine.History.{joined}
 use Rattle.ov_ends.specs.Ends.{GivesWritten}
@@ -7,7 +7,7 @@ use Rattle.ov_ends.specs.Writing.{WritesOf, CountsFailures}
 use Rattle.ov_order.specs.declared.items.Sent.{Sent}
 use Rattle.ov_order.specs.declared.items.Sent.TheVariants.{Frame, End}
 
--- These items were taken: frames, and the end mark behind them. All of the frames were written and flushed; or, where the writer
+-- These items were taken: frames, and the end mark after them. All of the frames were written and flushed; or, if the writer
 -- failed, which was once, a beginning of them was written.
 pub record Writes (is_whole : Bool) (old new : SinkState) (items : List Sent) : Type 0 where
   pub frames : List (List ℕ)

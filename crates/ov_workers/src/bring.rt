@@ -13,7 +13,7 @@ use std::alloc::Global;
 use std::sync::Wait;
 use std::sync::ledger::{Ledger, Share};
 
-/// Brings the desk an item, behind the gate.
+/// Brings the desk an item, after passing the gate.
 pub(crate) fn bring<R: Wait, L: Ledger, G: Gate>(
     rt: &R,
     order: &Order<L>,
@@ -34,7 +34,7 @@ pub(crate) fn bring<R: Wait, L: Ledger, G: Gate>(
     order.bring(rt, ring, share, serial, item);
 }
 
-/// Brings the messages that these texts are, as far as the first for which that can't be. Says why, where there is one.
+/// Brings the messages in these texts, up to the first that can't be brought. Returns why, if there is one.
 fn bring_texts<R: Wait, L: Ledger, G: Gate>(
     rt: &R,
     alloc: Global,
@@ -65,7 +65,7 @@ fn bring_texts<R: Wait, L: Ledger, G: Gate>(
     None
 }
 
-/// Brings the messages that a piece of the stream ends. Says why the stream has ended, where it has.
+/// Brings the messages that a piece of the stream ends. Returns why the stream has ended, if it has.
 pub(crate) fn bring_piece<R: Wait, L: Ledger, G: Gate>(
     rt: &R,
     alloc: Global,
@@ -94,7 +94,7 @@ pub(crate) fn bring_piece<R: Wait, L: Ledger, G: Gate>(
     }
 }
 
-/// Why a stream ends that can't be cut.
+/// Why a stream that can't be cut ends.
 fn cause_of(fault: CutFault) -> ReadCause
     ensures { result ≡ cause_of_fault fault }
 {

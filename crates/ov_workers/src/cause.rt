@@ -1,12 +1,12 @@
-/// Why a reader ended. It tells the desk so by its end mark.
+/// Why a reader ended. Its end mark reports this to the desk.
 #[derive(Clone, Copy, Debug, PartialEq, Eq, Drop)]
 pub enum ReadCause {
-    /// The end of the input.
+    /// The input ended.
     InputEnded,
     /// A read failed.
     ReadFault,
     /// The stream can't be cut, or one of its texts is unreadable.
     Damaged,
-    /// Memory was refused for a message.
+    /// An allocation for a message failed.
     Memory,
 }

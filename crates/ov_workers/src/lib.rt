@@ -1,8 +1,8 @@
-//! The two workers of a session: a reader, which brings the desk the messages of a stream and last an end mark, and a writer,
-//! which writes the frames that the desk sends it.
+//! The two workers of a session: a reader, which brings the desk the messages of a stream and last an end mark, and a
+//! writer, which writes the frames that the desk sends it.
 //!
-//! This crate knows of no session, no machine and no database. It cuts a stream into messages and tells its end by a cause; what
-//! a message asks for, and what a frame answers, the crates above say.
+//! This crate knows of no session, no machine and no database. It cuts a stream into messages and reports its end by a
+//! cause; the crates above say what a message asks for, and what a frame answers.
 #![tactic(auto)]
 
 mod bring;

@@ -22,21 +22,22 @@ const PIECE_BYTES: usize = 4096;
 /// What a reader's worker hands back.
 #[derive(Drop)]
 pub struct ReadEnd<S, L: Ledger> {
-    /// The reader, behind the last read.
+    /// The reader, after its last read.
     pub reader: S,
     /// The worker's end of the ring, into which it put the end mark last.
     pub ring: Producer<Brought<Received, ReadCause>>,
-    /// What it noted: one for each item that it put into the ring.
+    /// Its share of the notes: one for each item that it put into the ring.
     pub share: Share<L>,
-    /// The cause in the end mark; None where the worker might not begin, and then nothing was read or brought.
+    /// The cause in the end mark; None if the worker was not allowed to begin, and then nothing was read or brought.
     pub cause: Option<ReadCause>,
 }
 
-/// Waits until it is said whether the workers may begin. Where they may, it reads the stream in pieces of at most 4,096 bytes
-/// until the input ends, a read fails, the stream is damaged or memory is refused for a message; it brings the desk each message
-/// that the stream asks for, and last one end mark with the cause. Where they may not, it reads nothing and brings nothing.
+/// Waits until it is said whether the workers may begin. If they may, it reads the stream in pieces of at most 4,096 bytes
+/// until the input ends, a read fails, the stream is damaged or an allocation for a message fails; it brings the desk each
+/// message that the stream asks for, and last one end mark with the cause. If they may not, it reads nothing and brings
+/// nothing.
 ///
-/// It waits where its ring or the order of notes is full, without an end where nobody takes anything out.
+/// It waits while its ring or the order of notes is full, forever if nobody takes anything out.
 pub fn read_worker<R: Wait, L: Ledger, G: Gate, S: Source>(
     rt: &R,
     alloc: Global,
@@ -81,7 +82,7 @@ pub fn read_worker<R: Wait, L: Ledger, G: Gate, S: Source>(
     }
 }
 
-/// Brings what the reader gives, and then the end mark, whose cause it tells.
+/// Brings what the reader gives, and then the end mark, whose cause it returns.
 fn read_all<R: Wait, L: Ledger, G: Gate, S: Source>(
     rt: &R,
     alloc: Global,
@@ -105,7 +106,7 @@ fn read_all<R: Wait, L: Ledger, G: Gate, S: Source>(
     cause
 }
 
-/// Brings the messages of what the reader gives, until the stream ends, and tells why it did.
+/// Brings the messages of what the reader gives, until the stream ends, and returns why it did.
 fn read_messages<R: Wait, L: Ledger, G: Gate, S: Source>(
     rt: &R,
     alloc: Global,

@@ -57,7 +57,7 @@ impl<S: Source, L: Ledger> Reads<S, L> {
     }
 }
 
-/// Starts a reader's worker in a thread of the scope. Where no thread could be started it says that no worker may begin, and runs
+/// Starts a reader's worker in a thread of the scope. If no thread can be started, says that no worker may begin, and runs
 /// the worker here, so that it hands back what it was given.
 pub fn start_reader<'s, E, R, L, G, S>(
     rt: &'s R,
@@ -116,7 +116,7 @@ impl<W: Sink> Promise<WriteEnd<W>> for Writes<W> {
         ((received end.ring ≡ []) × (end.writer ≡ p.writer.value) × (end.failed ≡ false)) };
 }
 
-/// Starts a writer's worker in a thread of the scope. Where no thread could be started it says that no worker may begin, and runs
+/// Starts a writer's worker in a thread of the scope. If no thread can be started, says that no worker may begin, and runs
 /// the worker here, so that it hands back what it was given.
 pub fn start_writer<'s, E, R, L, G, W>(
     rt: &'s R,

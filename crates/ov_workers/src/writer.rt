@@ -16,22 +16,22 @@ use std::sync::ledger::Ledger;
 /// What a writer's worker hands back.
 #[derive(Drop)]
 pub struct WriteEnd<W> {
-    /// The writer, behind the last write.
+    /// The writer, after its last write.
     pub writer: W,
-    /// The worker's end of the ring, out of which it took the end mark last.
+    /// The worker's end of the ring, from which it took the end mark last.
     pub ring: Consumer<Sent>,
-    /// Whether it might begin. Where it might not, it took nothing out of the ring and wrote nothing.
+    /// Whether it was allowed to begin. If not, it took nothing from the ring and wrote nothing.
     pub begun: bool,
-    /// Whether a write or a flush failed, once, behind which it dropped what it took.
+    /// Whether a write or a flush failed, once; after that it dropped what it took.
     pub failed: bool,
 }
 
-/// Waits until it is said whether the workers may begin. Where they may, it takes what is in its ring and writes each frame
-/// whole, with nothing between two of them, until it takes the end mark, and flushes then. Where the ring is empty before that,
-/// it flushes what it wrote and waits for its bell. Once the writer has failed it is asked for nothing more, and the frames that
-/// are taken are dropped. Where the workers may not begin it takes nothing and writes nothing.
+/// Waits until it is said whether the workers may begin. If they may, it takes what is in its ring and writes each frame
+/// whole, with nothing between two frames, until it takes the end mark; then it flushes. When the ring is empty before that,
+/// it flushes what it wrote and waits for its bell. Once the writer has failed it is not used again, and the frames that are
+/// taken are dropped. If the workers may not begin, it takes nothing and writes nothing.
 ///
-/// It waits without an end where no end mark comes, or where the bell is not rung behind it.
+/// It waits forever if no end mark comes, or if the bell is not rung after it.
 pub fn write_worker<R: Wait, L: Ledger, G: Gate, W: Sink>(
     rt: &R,
     order: &Order<L>,
@@ -60,7 +60,7 @@ pub fn write_worker<R: Wait, L: Ledger, G: Gate, W: Sink>(
     }
 }
 
-/// Writes the frames of the ring up to the end mark. False where the writer failed, and then they are taken all the same.
+/// Writes the frames of the ring up to the end mark. Returns false if the writer failed; the frames are taken all the same.
 fn write_all<R: Wait, G: Gate, W: Sink>(
     rt: &R,
     bell: &Bell,
@@ -95,7 +95,7 @@ fn write_all<R: Wait, G: Gate, W: Sink>(
     unreachable!()
 }
 
-/// Takes the next item. Before it waits for one it flushes, where something was written since the last flush; None where that
+/// Takes the next item. Before it waits for one it flushes, if something was written since the last flush. None if that
 /// failed, and then nothing is taken.
 fn next_item<R: Wait, W: Sink>(
     rt: &R,
@@ -121,7 +121,7 @@ fn next_item<R: Wait, W: Sink>(
     }
 }
 
-/// Takes the next item, and waits for the bell where there is none.
+/// Takes the next item, and waits for the bell if there is none.
 fn wait_item<R: Wait>(rt: &R, bell: &Bell, ring: &mut Consumer<Sent>) -> Sent
     ensures ring { SameConsumer ring.old ring.new }
     ensures taken { received ring.new ≡ received ring.old ++ result ∷ [] }

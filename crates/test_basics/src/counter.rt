@@ -8,7 +8,7 @@ pub struct Counter {
 }
 
 impl Counter {
-    /// Nothing was drawn yet.
+    /// Nothing has been drawn yet.
     pub fn new() -> Counter {
         Counter { drawn: 0 }
     }

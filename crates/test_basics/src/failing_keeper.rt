@@ -3,18 +3,18 @@ ghost use Rattle.ov_specs.specs.rows.Lines.{Contents};
 use ov_keeper::{Change, KeepFault, Keeper, Loaded};
 use std::alloc::Global;
 
-/// A keeper whose device fails when it is told to, over one that keeps: for tests of what stands over a keeper.
+/// A keeper over another, whose device fails as configured: for tests of the layers above a keeper.
 #[derive(Drop)]
 pub struct FailingKeeper<K: Keeper> {
-    /// What keeps the schema and the lines.
+    /// The keeper of the schema and the lines.
     pub inner: K,
     /// Whether the next commit is refused as too large.
     pub is_too_large: bool,
-    /// How many loads fail. The later ones are made.
+    /// How many loads fail. Later ones are made.
     pub bad_loads: u64,
     /// How many commits are made before the device fails.
     pub good: u64,
-    /// How many commits fail then. The later ones are made.
+    /// How many commits fail then. Later ones are made.
     pub bad: u64,
     /// How often the device has failed.
     pub failures: u64,

@@ -7,10 +7,10 @@ use ov_schema::{Schema, text_of};
 use std::alloc::Global;
 use std::test::Fail;
 
-/// A keeper in memory that fails when it is told to.
+/// A keeper in memory that fails as configured.
 pub type NetKeeper = FailingKeeper<ListKeeper>;
 
-/// When a keeper fails, as `FailingKeeper` tells.
+/// When a keeper fails, as in `FailingKeeper`.
 #[derive(Clone, Copy)]
 pub struct Faults {
     /// Whether the next commit is refused as too large.
@@ -22,7 +22,7 @@ pub struct Faults {
 }
 
 impl Faults {
-    /// Never.
+    /// The keeper never fails.
     pub const NONE: Faults = Faults {
         is_too_large: false,
         good: 0,
@@ -30,7 +30,7 @@ impl Faults {
     };
 }
 
-/// The changes that put lines.
+/// The changes that put these lines.
 fn changes_of(alloc: Global, lines: &str) -> Result<Vec<Change>, Fail> {
     let mut changes = Vec::new(alloc);
     for line in lines.lines() {
@@ -39,7 +39,7 @@ fn changes_of(alloc: Global, lines: &str) -> Result<Vec<Change>, Fail> {
     Ok(changes)
 }
 
-/// A keeper of this schema's text, and of these lines.
+/// A keeper that holds this schema text and these lines.
 pub fn keeper_of(alloc: Global, schema: &str, lines: &str) -> Result<ListKeeper, Fail> {
     let changes = changes_of(alloc, lines)?;
     let mut keeper = ListKeeper::new(alloc, Text::from_str(alloc, schema)?);
@@ -49,7 +49,7 @@ pub fn keeper_of(alloc: Global, schema: &str, lines: &str) -> Result<ListKeeper,
     }
 }
 
-/// A keeper over another, failing as it is told.
+/// A keeper over another, with these faults.
 pub fn failing<K: Keeper>(inner: K, faults: Faults) -> FailingKeeper<K> {
     FailingKeeper {
         inner,
@@ -61,13 +61,13 @@ pub fn failing<K: Keeper>(inner: K, faults: Faults) -> FailingKeeper<K> {
     }
 }
 
-/// A keeper of a new database Net, failing as it is told.
+/// A keeper of a new database Net, with these faults.
 pub fn net_keeper(alloc: Global, faults: Faults) -> Result<NetKeeper, Fail> {
     let schema = Text::from_str(alloc, NET)?;
     Ok(failing(ListKeeper::new(alloc, schema), faults))
 }
 
-/// A keeper of a new database of this schema, failing as it is told.
+/// A keeper of a new database with this schema and these faults.
 pub fn new_keeper(alloc: Global, schema: &Schema, faults: Faults) -> Result<NetKeeper, Fail> {
     let text = text_of(alloc, schema)?;
     Ok(failing(ListKeeper::new(alloc, text), faults))

@@ -4,7 +4,7 @@ use ov_keeper::{Change, Keeper, Line};
 use std::alloc::Global;
 use std::test::Fail;
 
-/// A keeper behind a script, and the changes of its next commit.
+/// A keeper driven by a script, and the changes of its next commit.
 ///
 /// The commands are a change, `commit`, `lines`, `schema` and `failures`.
 #[derive(Drop)]
@@ -21,13 +21,13 @@ impl<K: Keeper + Drop> Keeping<K> {
         }
     }
 
-    /// Gives the keeper back.
+    /// Returns the keeper.
     pub fn into_keeper(self) -> K {
         let Keeping { keeper, changes: _ } = self;
         keeper
     }
 
-    /// Commits the changes: `made`, or why they are not, and then they wait for the next commit.
+    /// Commits the changes: `made`, or why not, in which case they wait for the next commit.
     fn commit(&mut self, alloc: Global) -> Result<String, Fail> {
         match self.keeper.commit(alloc, self.changes.as_slice()) {
             Ok(()) => {
@@ -38,7 +38,7 @@ impl<K: Keeper + Drop> Keeping<K> {
         }
     }
 
-    /// All lines, or why they are not loaded.
+    /// All lines, or why the load fails.
     fn lines(&mut self, alloc: Global) -> Result<String, Fail> {
         match self.keeper.load(alloc) {
             Ok(loaded) => text_of_lines(alloc, loaded.lines.as_slice()),
@@ -46,7 +46,7 @@ impl<K: Keeper + Drop> Keeping<K> {
         }
     }
 
-    /// The text of the schema, or why it is not loaded.
+    /// The text of the schema, or why the load fails.
     fn schema(&mut self, alloc: Global) -> Result<String, Fail> {
         match self.keeper.load(alloc) {
             Ok(loaded) => Ok(String::from_str(alloc, loaded.schema.as_str())?),
@@ -70,7 +70,7 @@ impl<K: Keeper + Drop> Scripted for Keeping<K> {
     }
 }
 
-/// The texts of lines in ascending order, with a semicolon behind each.
+/// The texts of lines in ascending order, each followed by a semicolon.
 fn text_of_lines(alloc: Global, lines: &[Line]) -> Result<String, Fail> {
     let mut texts = Vec::new(alloc);
     for line in lines {
@@ -80,7 +80,7 @@ fn text_of_lines(alloc: Global, lines: &[Line]) -> Result<String, Fail> {
     joined(alloc, texts.as_slice())
 }
 
-/// Texts with a semicolon behind each.
+/// Texts, each followed by a semicolon.
 fn joined(alloc: Global, texts: &[String]) -> Result<String, Fail> {
     let mut all = String::new(alloc);
     for text in texts {

@@ -1,8 +1,8 @@
-//! What tests of any crate share: scripts of commands and answers, a text and a fact that fail a test, schemas, trees and lines
-//! of their texts, identifiers that are counted, a keeper that fails when it is told to, one behind a script, and readers and
-//! writers that are slow.
+//! What the tests of all crates share: scripts of commands and answers, checks of texts and facts, schemas, trees and lines
+//! read from text, counted identifiers, a keeper that fails as configured, one driven by a script, and slow readers and
+//! writers.
 //!
-//! What runs a script, and what fails a test, has no contract, so that a test's own proof stays small.
+//! The functions that run a script or fail a test have no contract, so that a test's own proof stays small.
 #![tactic(auto)]
 
 mod counter;

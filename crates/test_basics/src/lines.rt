@@ -4,12 +4,12 @@ use std::alloc::Global;
 use std::test::Fail;
 use uuid::Uuid;
 
-/// The identifier that is this number.
+/// The identifier with this number.
 pub fn number(text: &str) -> Result<Uuid, Fail> {
     Ok(Uuid::from_u128(text.parse::<u128>()?))
 }
 
-/// The line of a text: its table, the numbers that its identifier and its version are, and its body.
+/// The line of a text: its table, its identifier and version as numbers, and its body.
 pub fn line_of(alloc: Global, text: &str) -> Result<Line, Fail> {
     let (table, rest) = text.split_once(" ").ok_or("no identifier")?;
     let (id, rest) = rest.split_once(" ").ok_or("no version")?;
@@ -25,7 +25,7 @@ pub fn line_of(alloc: Global, text: &str) -> Result<Line, Fail> {
     })
 }
 
-/// The removal of the line of a key's text: its table, and the number that its identifier is.
+/// The removal of the line of a key's text: its table, and its identifier as a number.
 fn removal_of(alloc: Global, key: &str) -> Result<Change, Fail> {
     let (table, id) = key.split_once(" ").ok_or("no identifier")?;
     let id = number(id)?;

@@ -1,16 +1,16 @@
 use std::io;
 use std::io::{ErrorKind, Read};
 
-/// A reader that gives at most so many bytes a call, and fails once so many calls were answered.
+/// A reader that returns at most `most` bytes a call, and fails after `calls` calls.
 #[derive(Drop)]
 pub struct SlowReader<'a> {
-    /// What it still has.
+    /// The bytes still to read.
     pub rest: &'a [u8],
-    /// The most bytes of one call.
+    /// The most bytes per call.
     pub most: usize,
     /// How many calls are answered.
     pub calls: usize,
-    /// The error of the later ones.
+    /// The error of later calls.
     pub error: ErrorKind,
 }
 

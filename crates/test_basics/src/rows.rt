@@ -4,7 +4,7 @@ use ov_rows::{Columns, NamedValues, Row};
 use std::alloc::{AllocError, Global};
 use uuid::Uuid;
 
-/// Puts a value at a column.
+/// Puts a value in a column.
 fn put(
     alloc: Global,
     values: &mut NamedValues,
@@ -15,7 +15,7 @@ fn put(
     values.insert(String::from_str(alloc, name)?, datum)
 }
 
-/// Puts a name and a load at their columns.
+/// Puts a name and a load in their columns.
 fn put_name_and_load(
     alloc: Global,
     values: &mut NamedValues,
@@ -27,7 +27,7 @@ fn put_name_and_load(
     put(alloc, values, "load", vec![in alloc; Atom::Integer(load)]?)
 }
 
-/// A switch of this name and load in version 1, with no port.
+/// A switch with this name and load in version 1, with no port.
 pub fn switch(alloc: Global, name: &str, load: i64) -> Result<Row, AllocError> {
     let mut values = NamedValues::new(alloc);
     put_name_and_load(alloc, &mut values, name, load)?;

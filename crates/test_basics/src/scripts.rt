@@ -3,12 +3,12 @@ use std::test::Fail;
 
 /// What answers the commands of a script.
 pub trait Scripted {
-    /// What comes of a command, in one line.
+    /// The answer to a command, in one line.
     fn answer(&mut self, alloc: Global, command: &str) -> Result<String, Fail>;
 }
 
-/// Runs a script up to the first line that is not as it says, which is the failure. A line is a command, an arrow, and what
-/// comes of it; without an arrow, nothing comes of it.
+/// Runs a script up to the first line whose answer differs, which is the failure. A line is a command, an arrow and the
+/// expected answer; without an arrow, the answer must be empty.
 pub fn follows<S: Scripted>(alloc: Global, subject: &mut S, script: &str) -> Result<(), Fail> {
     for line in script.lines() {
         let (command, want) = line.split_once(" -> ").unwrap_or((line, ""));
@@ -20,7 +20,7 @@ pub fn follows<S: Scripted>(alloc: Global, subject: &mut S, script: &str) -> Res
     Ok(())
 }
 
-/// The same with what is not used again.
+/// The same for a subject that is not used again.
 pub fn agrees<S: Scripted + Drop>(alloc: Global, subject: S, script: &str) -> Result<(), Fail> {
     let mut subject = subject;
     follows(alloc, &mut subject, script)

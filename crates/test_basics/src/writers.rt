@@ -1,18 +1,18 @@
 use std::io;
 use std::io::{ErrorKind, Write};
 
-/// A writer that takes at most so many bytes a call, and so many in all. Then it fails, or takes no byte.
+/// A writer that accepts at most `most` bytes a call and `left` bytes in all. Then it fails, or accepts no byte.
 #[derive(Drop)]
 pub struct SlowWriter {
-    /// What it took.
+    /// The bytes accepted.
     pub taken: Vec<u8>,
-    /// The most bytes of one call.
+    /// The most bytes per call.
     pub most: usize,
-    /// How many bytes it still takes.
+    /// How many more bytes it accepts.
     pub left: usize,
     /// Whether it fails then.
     pub fails: bool,
-    /// Whether it can hand on what it took.
+    /// Whether `flush` succeeds.
     pub flushes: bool,
 }
 

@@ -14,7 +14,7 @@ use std::alloc::{AllocError, Global};
 use std::test::Fail;
 use uuid::Uuid;
 
-/// What a commit of this version makes of a stage over the rows of a database.
+/// What a commit with this version makes of a stage over the rows of a database.
 fn finished<K: Keeper + Drop>(
     alloc: Global,
     db: &Db<K>,
@@ -36,7 +36,7 @@ fn finished<K: Keeper + Drop>(
     }
 }
 
-/// Commits the row that a line is.
+/// Commits the row of a line.
 pub fn put_line<K: Keeper + Drop>(
     alloc: Global,
     db: &mut Db<K>,
@@ -54,7 +54,7 @@ pub fn put_line<K: Keeper + Drop>(
     Ok(db.commit(alloc, delta))
 }
 
-/// Commits that there is no row of this identifier in a table.
+/// Commits that a table has no row with this identifier.
 pub fn remove_row<K: Keeper + Drop>(
     alloc: Global,
     db: &mut Db<K>,

@@ -16,8 +16,8 @@ pub(crate) const ALL: usize = 1_000_000;
 
 /// A client: what it sends, and how its writer takes what it is sent.
 ///
-/// A line of the script is sent at once. A line `after MARK` before it says what is waited for first, and a line `fail` is a read
-/// that fails. Behind the last line the input ends.
+/// A line of the script is sent at once. A line `after MARK` before it says what to wait for first, and a line `fail` is a
+/// read that fails. The input ends after the last line.
 #[derive(Clone, Copy)]
 pub(crate) struct Client<'a> {
     /// What it sends.
@@ -54,7 +54,7 @@ fn mark_of(line: &str) -> Option<Mark> {
 }
 
 impl<'g, 'r, 's, R: Clock> ScriptedReader<'g, 'r, 's, R> {
-    /// Takes the next line of the script; behind the last one they are empty.
+    /// Takes the next line of the script; after the last one they are empty.
     fn take_line(&mut self) -> &'s str {
         let (line, rest) = self.script.split_once("\n").unwrap_or((self.script, ""));
         self.script = rest;
@@ -88,10 +88,10 @@ impl<R: Clock> Read for ScriptedReader<'_, '_, '_, R> {
     }
 }
 
-/// What is read of a client.
+/// The reader of a client.
 pub(crate) type ClientReader<'g, 'r, 's, R> = Watched<ScriptedReader<'g, 'r, 's, R>>;
 
-/// What a client is written.
+/// The writer of a client.
 pub(crate) type ClientWriter = Watched<SlowWriter>;
 
 /// The links of clients.
@@ -119,16 +119,16 @@ pub(crate) fn links_of<'g, 'r, 's, R: Clock>(
     Ok(links)
 }
 
-/// The serial of a client, why its session was closed, and what it was written.
+/// A client's serial, why its session was closed, and what it was written.
 type Told = (u64, Cause, Vec<u8>);
 
-/// This of what is left of a client.
+/// The same, taken from what remains of a client.
 fn told_of<R: Clock>(end: End<ClientReader<'_, '_, '_, R>, ClientWriter>) -> Told {
     let (serial, cause) = (end.serial, end.cause);
     (serial, cause, end.writer.into_inner().taken)
 }
 
-/// Adds its line.
+/// Adds the line of a client.
 fn push_line(alloc: Global, lines: &mut String, told: Told) -> Result<(), Fail> {
     let (serial, cause, taken) = told;
     let taken = String::from_utf8(taken)?;
@@ -137,7 +137,7 @@ fn push_line(alloc: Global, lines: &mut String, told: Told) -> Result<(), Fail> 
     Ok(())
 }
 
-/// The lines of what is left of clients. Where one of them has waited too long, that stands behind them.
+/// The lines of what remains of clients. If one of them has waited too long, a last line says so.
 pub(crate) fn lines_of<R: Clock>(
     alloc: Global,
     gate: &HoldingGate<'_, R>,

@@ -1,4 +1,4 @@
-//! Clients of a desk, with a line for what is left of each: its serial, why its session was closed, and what it was written.
+//! Clients of a desk, with a line for each: its serial, why its session was closed, and what it was written.
 
 use crate::clients::{ALL, Client, client_of};
 use crate::desks::{converse, conversed};
@@ -11,7 +11,7 @@ use test_basics::holds;
 
 const LIST: &str = r#"{"id":0,"method":"list_dbs","params":[]}"#;
 
-/// Each reader is held up before its message until the other has come to that too, and each writer before its frame.
+/// Each reader is held up before its message until the other has reached its own, and each writer before its frame.
 const MEETING: &str = "1 push 1 until 2 push 1
 2 push 1 until 1 push 1
 1 frame 1 until 2 frame 1
@@ -27,7 +27,7 @@ fn sessions_at_the_same_time(rt: HostRuntime) -> Result<(), Fail> {
     conversed(&rt, rt.alloc(), MEETING, &clients, MET)
 }
 
-/// Waits for a row that never comes, and ends once the reply is there.
+/// Waits for a row that never comes, and ends after the reply.
 const WAITING: &str =
     r#"{"id":1,"method":"transact","params":["Net",{"op":"wait","table":"Switch","timeout":50,"where":[["name","==","s9"]],"columns":["name"],"until":"==","rows":[{"name":"s9"}]}]}
 after 1 frame 1"#;
@@ -40,12 +40,12 @@ fn ticks_are_given(rt: HostRuntime) -> Result<(), Fail> {
     conversed(&rt, rt.alloc(), "", &[client_of(WAITING)], TIMED_OUT)
 }
 
-/// Owns the lock, and gives it up once the other was told to wait.
+/// Owns the lock, and gives it up once the other client has been told to wait.
 const OWNER: &str = r#"{"id":1,"method":"lock","params":["L"]}
 after 2 frame 1
 {"id":2,"method":"unlock","params":["L"]}"#;
 
-/// Asks for the lock once it has an owner, and ends once it was told twice.
+/// Asks for the lock once it has an owner, and ends at its second frame.
 const WAITER: &str = r#"after 1 frame 1
 {"id":1,"method":"lock","params":["L"]}
 after 2 frame 2"#;
@@ -66,7 +66,7 @@ const FAILING: &str = r#"{"id":1,"method":"echo","params":["a"]}
 {"id":2,"method":"echo","params":[]}{"id":3,"method":
 fail"#;
 
-/// What stands behind the first message is no message.
+/// What follows the first message is no message.
 const DAMAGED: &str =
     r#"{"id":0,"method":"list_dbs","params":[]}] {"id":1,"method":"list_dbs","params":[]}"#;
 
@@ -82,12 +82,12 @@ fn what_came_before_a_bad_end_is_answered(rt: HostRuntime) -> Result<(), Fail> {
     conversed(&rt, rt.alloc(), "", &clients, ENDED_BADLY)
 }
 
-/// The first writer takes all, byte by byte, and the second takes twenty bytes.
+/// The first writer takes everything, byte by byte, and the second takes twenty bytes.
 const CUT: &str = r#"1 InputEnded {"error":null,"id":0,"result":["Net"]}
 2 WriteFault {"error":null,"id":0
 "#;
 
-/// A client that asks for the list, whose writer takes byte by byte, and as many bytes as these.
+/// A client that asks for the list, and whose writer takes one byte at a time, `left` bytes in all.
 fn slow_client(left: usize) -> Client<'static> {
     Client {
         script: LIST,
@@ -102,7 +102,7 @@ fn writers_take_byte_by_byte(rt: HostRuntime) -> Result<(), Fail> {
     conversed(&rt, rt.alloc(), "", &clients, CUT)
 }
 
-/// Texts with a number in their middle, from 0 on.
+/// `count` texts with a number in the middle, counted from 0.
 fn numbered(alloc: Global, count: u64, before: &str, after: &str) -> Result<String, Fail> {
     let mut text = String::new(alloc);
     for number in 0..count {
@@ -111,33 +111,33 @@ fn numbered(alloc: Global, count: u64, before: &str, after: &str) -> Result<Stri
     Ok(text)
 }
 
-/// Calls of `echo`, with ids from 0 on.
+/// `count` calls of `echo`, with ids from 0 on.
 fn echoes(alloc: Global, count: u64) -> Result<String, Fail> {
     let after = ",\"method\":\"echo\",\"params\":[]}";
     numbered(alloc, count, "{\"id\":", after)
 }
 
-/// What two clients are told, of whom the first is overrun after so many replies.
+/// What two clients are written if the first is overrun after `count` replies.
 fn overrun(alloc: Global, count: u64) -> Result<String, Fail> {
     let replies = numbered(alloc, count, "{\"error\":null,\"id\":", ",\"result\":[]}")?;
     let beside = r#"{"error":null,"id":0,"result":["Net"]}"#;
     Ok(format!(in alloc; "1 Overrun {replies}\n2 InputEnded {beside}\n")?)
 }
 
-/// Whether they are told this.
+/// Whether the two clients were written this.
 fn is_overrun(alloc: Global, told: &str, count: u64) -> Result<bool, Fail> {
     let wanted = overrun(alloc, count)?;
     Ok(told == wanted.as_str())
 }
 
-/// Fails unless they are told this of 1,024 replies, or of one more.
+/// Fails unless the two clients were written this for 1,024 replies, or for one more.
 fn tells_overrun(alloc: Global, told: &str) -> Result<(), Fail> {
     let is_so = is_overrun(alloc, told, 1_024)? || is_overrun(alloc, told, 1_025)?;
     let what = format!(in alloc; "overrun, in {} bytes", told.len())?;
     holds(alloc, is_so, what.as_str())
 }
 
-/// Holds the writer of a client up until its reader has come to the end of 1,100 echoes. Another client is served meanwhile.
+/// Holds up the writer of a client until its reader has reached the end of 1,100 echoes. Another client is served meanwhile.
 fn is_overrun_by<R: Threads + Wait + Clock + Sync>(
     rt: &R,
     alloc: Global,
@@ -148,8 +148,8 @@ fn is_overrun_by<R: Threads + Wait + Clock + Sync>(
     tells_overrun(alloc, told.as_str())
 }
 
-/// When the reader comes to the end, all but 64 echoes were taken. The writer's ring has room for 1,024 frames, and it may have
-/// taken one more before it was held up.
+/// When the reader reaches the end, all but 64 echoes have been taken. The writer's ring has room for 1,024 frames, and the
+/// writer may have taken one more before it was held up.
 #[test]
 fn a_writer_that_is_slow_is_overrun(rt: HostRuntime) -> Result<(), Fail> {
     let script = echoes(rt.alloc(), 1_100)?;

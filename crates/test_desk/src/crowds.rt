@@ -1,4 +1,4 @@
-//! 64 clients at once, each with an echo, a monitor, an insert and an echo, against the history that their desk kept.
+//! 64 clients at once, each with an echo, a monitor, an insert and an echo, compared with the history that their desk kept.
 
 use crate::clients::{Client, ClientReader, ClientWriter, client_of, lines_of, links_of};
 use crate::desks::{ClientsServed, converse_at, refusal, serve};
@@ -15,13 +15,13 @@ use std::thread::Threads;
 use test_basics::{Counter, Faults, NetKeeper, is_text};
 use test_support::net_core;
 
-/// How many clients there are.
+/// The number of clients.
 const CLIENTS: u64 = 64;
 
 /// The place of the insert among a client's messages. The monitor comes before it.
 const INSERT: u64 = 2;
 
-/// What is asked for to be told of each new switch.
+/// The method and the params of a monitor that reports each new switch.
 const MONITOR: &str =
     r#""monitor","params":["Net","m",{"Switch":{"columns":["name"],"select":{"initial":false}}}]"#;
 
@@ -57,7 +57,7 @@ fn message_of(alloc: Global, serial: u64, place: u64) -> Result<String, Fail> {
     Ok(format!(in alloc; "{{\"id\":[{serial},{place}],\"method\":{asked}}}")?)
 }
 
-/// The result of the insert of so many.
+/// The result of insert number `inserts`.
 fn inserted(alloc: Global, inserts: u64) -> Result<String, Fail> {
     let row = row_of(alloc, inserts)?;
     Ok(format!(in alloc; "[{{\"uuid\":[\"uuid\",\"{row}\"]}}]")?)
@@ -68,7 +68,7 @@ fn echoed(alloc: Global, serial: u64) -> Result<String, Fail> {
     Ok(format!(in alloc; "[{serial}]")?)
 }
 
-/// The result of a client's message at a place, where it is the insert of so many.
+/// The result of a client's message at a place. If it is an insert, it is number `inserts`.
 fn result_of(alloc: Global, serial: u64, place: u64, inserts: u64) -> Result<String, Fail> {
     match place {
         1 => text_of(alloc, "{}"),
@@ -77,19 +77,19 @@ fn result_of(alloc: Global, serial: u64, place: u64, inserts: u64) -> Result<Str
     }
 }
 
-/// The reply to it.
+/// The reply to that message.
 fn reply_of(alloc: Global, serial: u64, place: u64, inserts: u64) -> Result<String, Fail> {
     let result = result_of(alloc, serial, place, inserts)?;
     Ok(format!(in alloc; "{{\"error\":null,\"id\":[{serial},{place}],\"result\":{result}}}")?)
 }
 
-/// The identifier of the row of an insert, which draws its version before it.
+/// The identifier of the row of an insert, which draws its version first.
 fn row_of(alloc: Global, insert: u64) -> Result<String, Fail> {
     let drawn = insert.saturating_mul(2);
     Ok(format!(in alloc; "00000000-0000-4000-8000-{drawn:012x}")?)
 }
 
-/// What a monitor is told of a client's insert.
+/// The update that a monitor receives for a client's insert.
 fn update_of(alloc: Global, serial: u64, insert: u64) -> Result<String, Fail> {
     let row = row_of(alloc, insert)?;
     Ok(format!(in alloc;
@@ -97,7 +97,7 @@ fn update_of(alloc: Global, serial: u64, insert: u64) -> Result<String, Fail> {
     )?)
 }
 
-/// The script of a client, which ends once all clients have come to their last message, and so have brought the others.
+/// The script of a client. It ends after all clients have reached their last message, and so have brought the others.
 fn script_of(alloc: Global, serial: u64) -> Result<String, Fail> {
     let mut script = String::new(alloc);
     for place in 0..4 {
@@ -107,7 +107,7 @@ fn script_of(alloc: Global, serial: u64) -> Result<String, Fail> {
     Ok(script)
 }
 
-/// What a client is to be written of what was taken so far.
+/// What a client should be written for the messages taken so far.
 #[derive(Drop)]
 struct Wanted {
     serial: u64,
@@ -117,7 +117,7 @@ struct Wanted {
 }
 
 impl Wanted {
-    /// Takes a message of a client. If it is an insert, who has asked for a monitor is told of it first.
+    /// Takes a message of a client. If it is an insert, a client that has asked for a monitor receives the update first.
     fn take(&mut self, alloc: Global, from: u64, message: &[u8]) -> Result<(), Fail> {
         if message == message_of(alloc, from, INSERT)?.as_bytes() {
             self.inserts = self.inserts.saturating_add(1);
@@ -132,7 +132,7 @@ impl Wanted {
         Ok(())
     }
 
-    /// Answers its own message, which is the next one of its script.
+    /// Answers the client's own message, which must be the next one of its script.
     fn answer(&mut self, alloc: Global, message: &[u8]) -> Result<(), Fail> {
         if message != message_of(alloc, self.serial, self.taken)?.as_bytes() {
             return Err(Fail::new("another message"));
@@ -144,7 +144,7 @@ impl Wanted {
     }
 }
 
-/// What a client is to be written, by the history.
+/// What a client should be written, according to the history.
 fn wanted_of(alloc: Global, history: &VecDeque<Entry>, serial: u64) -> Result<String, Fail> {
     let mut wanted = Wanted {
         serial,
@@ -160,7 +160,7 @@ fn wanted_of(alloc: Global, history: &VecDeque<Entry>, serial: u64) -> Result<St
     Ok(wanted.text)
 }
 
-/// Adds the line of a client, by the history.
+/// Adds the line of a client, according to the history.
 fn push_wanted(
     alloc: Global,
     lines: &mut String,
@@ -173,7 +173,7 @@ fn push_wanted(
     Ok(())
 }
 
-/// The lines of all clients, by the history.
+/// The lines of all clients, according to the history.
 fn wanted_lines(alloc: Global, history: &VecDeque<Entry>) -> Result<String, Fail> {
     let mut lines = String::new(alloc);
     for serial in 1..CLIENTS + 1 {
@@ -186,13 +186,13 @@ fn wanted_lines(alloc: Global, history: &VecDeque<Entry>) -> Result<String, Fail
 const COUNTING: &str =
     r#"{"id":0,"method":"transact","params":["Net",{"op":"mutate","table":"Switch","where":[],"mutations":[["load","+=",1]]}]}"#;
 
-/// Fails where these lines of clients are not as the history tells.
+/// Fails unless these lines of clients agree with the history.
 fn are_wanted(alloc: Global, history: &VecDeque<Entry>, lines: &str) -> Result<(), Fail> {
     let wanted = wanted_lines(alloc, history)?;
     is_text(alloc, lines, wanted.as_str())
 }
 
-/// Fails where what is left of clients is not as the history tells.
+/// Fails unless what remains of clients agrees with the history.
 fn agree<R: Clock>(
     alloc: Global,
     gate: &HoldingGate<'_, R>,
@@ -203,7 +203,7 @@ fn agree<R: Clock>(
     are_wanted(alloc, history, lines.as_str())
 }
 
-/// What one more client is told at the desk of others, where what is left of these is as the history tells.
+/// What one more client is written at the desk of others. Fails unless what remains of these agrees with the history.
 fn counted<'g, 'r, 's, R: Threads + Wait + Clock + Sync>(
     rt: &R,
     alloc: Global,
@@ -217,7 +217,7 @@ fn counted<'g, 'r, 's, R: Threads + Wait + Clock + Sync>(
     }
 }
 
-/// What one more client is told, once these were served at a desk.
+/// What one more client is written, after these were served at a desk.
 fn counted_after<'g, 'r, 's, R: Threads + Wait + Clock + Sync>(
     rt: &R,
     alloc: Global,
@@ -243,7 +243,7 @@ fn counted_at_new_desk<R: Threads + Wait + Clock + Sync>(
     counted_after(rt, alloc, Desk::new(core), links, gate)
 }
 
-/// What a client is told that counts the rows, once these were served at a new desk.
+/// What a client that counts the rows is written, after these were served at a new desk.
 fn served<R: Threads + Wait + Clock + Sync>(
     rt: &R,
     alloc: Global,
@@ -255,7 +255,7 @@ fn served<R: Threads + Wait + Clock + Sync>(
 
 const COUNTED: &str = "65 InputEnded {\"error\":null,\"id\":0,\"result\":[{\"count\":64}]}\n";
 
-/// A client counts 64 rows, once these were served.
+/// Fails unless a client counts 64 rows after these were served.
 fn are_served<R: Threads + Wait + Clock + Sync>(
     rt: &R,
     alloc: Global,
@@ -283,7 +283,7 @@ fn clients_of(alloc: Global, scripts: &Vec<String>) -> Result<Vec<Client<'_>>, F
     Ok(clients)
 }
 
-/// The clients with these scripts are served.
+/// The same for clients with these scripts.
 fn are_followed<R: Threads + Wait + Clock + Sync>(
     rt: &R,
     alloc: Global,

@@ -12,10 +12,10 @@ use std::thread::Threads;
 use test_basics::{Counter, Faults, NetKeeper, is_text};
 use test_support::net_core;
 
-/// A clock that tells a later moment at each call.
+/// A clock that returns a later moment at each call.
 #[derive(Drop)]
 pub(crate) struct RisingClock {
-    /// The last moment that it told.
+    /// The last moment that it returned.
     pub moment: u64,
 }
 
@@ -28,7 +28,7 @@ impl Clock for RisingClock {
     }
 }
 
-/// What is left of clients and their desk.
+/// What remains of clients and their desk.
 pub(crate) type ClientsServed<'g, 'r, 's, R> = Served<
     NetKeeper,
     Counter,
@@ -36,7 +36,7 @@ pub(crate) type ClientsServed<'g, 'r, 's, R> = Served<
     ClientWriter,
 >;
 
-/// What comes back of clients that are not served.
+/// What is handed back of clients that are not served.
 pub(crate) type ClientsUnserved<'g, 'r, 's, R> = Unserved<
     NetKeeper,
     Counter,
@@ -44,7 +44,7 @@ pub(crate) type ClientsUnserved<'g, 'r, 's, R> = Unserved<
     ClientWriter,
 >;
 
-/// Serves the links of clients behind their gate, by a clock that rises.
+/// Serves the links of clients through their gate, by a clock that rises.
 pub(crate) fn serve<'g, 'r, 's, R: Threads + Wait + SystemClock + Sync>(
     rt: &R,
     alloc: Global,
@@ -55,7 +55,7 @@ pub(crate) fn serve<'g, 'r, 's, R: Threads + Wait + SystemClock + Sync>(
     serve_links(rt, alloc, desk, links, gate, &mut RisingClock { moment: 0 })
 }
 
-/// A fault, and how many links and entries of the history there are.
+/// A fault, and the numbers of links and of history entries.
 fn fault_line(
     alloc: Global,
     fault: ServeFault,
@@ -65,7 +65,7 @@ fn fault_line(
     Ok(format!(in alloc; "{fault:?} {links} {entries}")?)
 }
 
-/// Why clients are not served, and how many links and entries of the history there are then.
+/// Why clients are not served, and the numbers of links and of history entries then.
 pub(crate) fn refusal<R: SystemClock>(
     alloc: Global,
     unserved: ClientsUnserved<'_, '_, '_, R>,
@@ -75,7 +75,7 @@ pub(crate) fn refusal<R: SystemClock>(
     fault_line(alloc, fault, links.len(), entries)
 }
 
-/// A line for each of the links that are served at a desk, or why they are not served.
+/// A line for each link that is served at a desk, or why they are not served.
 fn lines_at<'g, 'r, 's, R: Threads + Wait + SystemClock + Sync>(
     rt: &R,
     alloc: Global,
@@ -89,7 +89,7 @@ fn lines_at<'g, 'r, 's, R: Threads + Wait + SystemClock + Sync>(
     }
 }
 
-/// What comes of clients at a desk, behind their gate: a line for each client, or why they are not served.
+/// The outcome of clients at a desk, through their gate: a line for each client, or why they are not served.
 pub(crate) fn converse_at<R: Threads + Wait + SystemClock + Sync>(
     rt: &R,
     alloc: Global,
@@ -101,7 +101,7 @@ pub(crate) fn converse_at<R: Threads + Wait + SystemClock + Sync>(
     lines_at(rt, alloc, desk, links, gate)
 }
 
-/// What comes of clients at a new desk, behind their gate.
+/// The outcome of clients at a new desk, through their gate.
 fn converse_behind<R: Threads + Wait + SystemClock + Sync>(
     rt: &R,
     alloc: Global,
@@ -112,7 +112,7 @@ fn converse_behind<R: Threads + Wait + SystemClock + Sync>(
     converse_at(rt, alloc, Desk::new(core), clients, gate)
 }
 
-/// What comes of clients at a new desk, whose workers are held up as it is told.
+/// The outcome of clients at a new desk whose workers are held up as `holds` says.
 pub(crate) fn converse<R: Threads + Wait + SystemClock + Sync>(
     rt: &R,
     alloc: Global,
@@ -123,7 +123,7 @@ pub(crate) fn converse<R: Threads + Wait + SystemClock + Sync>(
     converse_behind(rt, alloc, clients, &gate)
 }
 
-/// Fails unless this comes of clients at a new desk.
+/// Fails unless this is the outcome of clients at a new desk.
 pub(crate) fn conversed<R: Threads + Wait + SystemClock + Sync>(
     rt: &R,
     alloc: Global,

@@ -9,7 +9,7 @@ pub(crate) struct CountingGate {
 }
 
 impl CountingGate {
-    /// Nobody has passed it.
+    /// A gate that nobody has passed yet.
     pub(crate) fn new(point: Point) -> CountingGate {
         CountingGate {
             point,
@@ -17,7 +17,7 @@ impl CountingGate {
         }
     }
 
-    /// How often it was passed.
+    /// How often it has been passed.
     pub(crate) fn passed(&self) -> u64 {
         self.passed.load(Ordering::SeqCst)
     }

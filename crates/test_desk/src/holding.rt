@@ -6,13 +6,14 @@ use std::test::Fail;
 use std::thread;
 use std::time::Duration;
 
-/// How many serials are counted, with the one that stands for all.
+/// The number of serials that are counted, including the one that stands for all.
 const SERIALS: usize = 66;
 
-/// How many turns of a millisecond somebody waits for a mark.
+/// How many turns of a millisecond a wait for a mark lasts at most.
 const TURNS: u32 = 10_000;
 
-/// The workers of the session of this serial have come to this point so often. The serial 0 stands for all sessions together.
+/// The workers of the session with this serial have reached this point `times` times. Serial 0 stands for all sessions
+/// together.
 #[derive(Clone, Copy, PartialEq, Eq)]
 pub(crate) struct Mark {
     serial: u64,
@@ -38,7 +39,7 @@ impl Mark {
     }
 }
 
-/// A worker that comes to the one mark is held up until the other was come to.
+/// A worker that reaches the first mark is held up until the second has been reached.
 type Hold = (Mark, Mark);
 
 /// The hold of a line `MARK until MARK`.
@@ -47,7 +48,7 @@ fn hold_of(line: &str) -> Option<Hold> {
     Some((Mark::read(held)?, Mark::read(until)?))
 }
 
-/// The holds of a text, one in each line.
+/// The holds of a text, one per line.
 fn holds_of(alloc: Global, text: &str) -> Result<Vec<Hold>, Fail> {
     let mut holds = Vec::new(alloc);
     for line in text.lines() {
@@ -65,9 +66,9 @@ fn new_counts(alloc: Global) -> Result<Vec<AtomicU64>, Fail> {
     Ok(counts)
 }
 
-/// A gate that counts who comes to it, and holds some up until others have come.
+/// A gate that counts the workers that reach it, and holds some up until others have come.
 ///
-/// After ten seconds who waits is let go, and all others with it; the gate then says that it was too late.
+/// After ten seconds a worker that waits is let go, and all others with it; the gate then says that it was too late.
 #[derive(Drop)]
 pub(crate) struct HoldingGate<'a, R: Clock> {
     rt: &'a R,
@@ -78,7 +79,7 @@ pub(crate) struct HoldingGate<'a, R: Clock> {
 }
 
 impl<'a, R: Clock> HoldingGate<'a, R> {
-    /// Nobody has come yet. The holds are lines `MARK until MARK`.
+    /// A gate that nobody has reached yet. The holds are lines `MARK until MARK`.
     pub(crate) fn new(rt: &'a R, alloc: Global, holds: &str) -> Result<HoldingGate<'a, R>, Fail> {
         Ok(HoldingGate {
             rt,
@@ -94,7 +95,7 @@ impl<'a, R: Clock> HoldingGate<'a, R> {
         self.is_late.load(Ordering::SeqCst)
     }
 
-    /// Adds to the number of times that a point was come to, and says how many there were before.
+    /// Adds to the number of times that a point has been reached, and returns the number before.
     fn count(&self, serial: u64, point: Point, more: u64) -> u64 {
         let counts = match point {
             Point::BeforePush => &self.pushes,
@@ -106,7 +107,7 @@ impl<'a, R: Clock> HoldingGate<'a, R> {
         }
     }
 
-    /// Waits until a mark was come to.
+    /// Waits until a mark has been reached.
     pub(crate) fn wait(&self, mark: Mark) {
         for _ in 0..TURNS {
             if self.count(mark.serial, mark.point, 0) >= mark.times || self.is_late() {

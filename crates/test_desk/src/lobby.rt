@@ -1,4 +1,4 @@
-//! A lobby and its clients, who come when their listener gives them, with what each of them was written.
+//! A lobby and its clients, which come when their listener gives them, with what each of them was written.
 
 use crate::desks::RisingClock;
 use ov_ends::Watched;
@@ -19,10 +19,10 @@ use std::time::Duration;
 use test_basics::{Faults, is_text};
 use test_support::net_core;
 
-/// How many clients there are at most.
+/// The largest number of clients.
 const CLIENTS: usize = 70;
 
-/// How many turns of a millisecond somebody waits for another.
+/// How many turns of a millisecond a wait for another client lasts at most.
 const TURNS: u32 = 10_000;
 
 /// What is seen of a client: what it was written, how often that was handed on, and how many of its two ends are closed.
@@ -33,7 +33,8 @@ struct Seen {
     closed: AtomicU64,
 }
 
-/// What is seen of all clients, and whether their listener was dropped. Who has waited too long is let go, and all others with it.
+/// What is seen of all clients, and whether their listener was dropped. If one waits too long, it is let go, and all others
+/// with it.
 #[derive(Drop)]
 struct Board<'r, R: Wait + Clock> {
     rt: &'r R,
@@ -43,7 +44,7 @@ struct Board<'r, R: Wait + Clock> {
 }
 
 impl<'r, R: Wait + Clock> Board<'r, R> {
-    /// Nothing was seen yet.
+    /// A board on which nothing has been seen yet.
     fn new(rt: &'r R, alloc: Global) -> Result<Board<'r, R>, Fail> {
         let mut clients = Vec::new(alloc);
         for _ in 0..CLIENTS {
@@ -68,8 +69,8 @@ impl<'r, R: Wait + Clock> Board<'r, R> {
         }
     }
 
-    /// Whether `CLIENT told` or `CLIENT closed` has come true: something was handed on to it, or both its ends are closed. Or whether
-    /// `listener closed` has.
+    /// Whether `CLIENT told`, `CLIENT closed` or `listener closed` has come true. A client is told once something was handed
+    /// on to it, and closed once both its ends are closed.
     fn is_so(&self, fact: &str) -> bool {
         if fact == "listener closed" {
             return self.is_deaf.load(Ordering::SeqCst);
@@ -85,7 +86,7 @@ impl<'r, R: Wait + Clock> Board<'r, R> {
         }
     }
 
-    /// Waits until that is so.
+    /// Waits until a fact has come true.
     fn wait(&self, fact: &str) {
         for _ in 0..TURNS {
             if self.is_so(fact) || self.is_late.load(Ordering::SeqCst) {
@@ -96,7 +97,7 @@ impl<'r, R: Wait + Clock> Board<'r, R> {
         self.is_late.store(true, Ordering::SeqCst);
     }
 
-    /// A line of what a client was written, and how many of its ends are closed.
+    /// The line of a client: how many of its ends are closed, and what it was written.
     fn line(&self, alloc: Global, client: usize) -> Result<String, Fail> {
         let Some(seen) = self.clients.get(client) else {
             return Err("no such client")?;
@@ -107,14 +108,14 @@ impl<'r, R: Wait + Clock> Board<'r, R> {
     }
 }
 
-/// A line of how many ends of a client are closed, and what it was written.
+/// A line with how many ends of a client are closed, and what it was written.
 fn line_of(alloc: Global, closed: u64, text: &[u8]) -> Result<String, Fail> {
     let text = std::str::from_utf8(text)?;
     Ok(format!(in alloc; "{closed} {text}\n")?)
 }
 
-/// A client's reader, which follows a script: a line is sent at once, and a line `after FACT` before it says what is waited for
-/// first. Behind the last line the input ends.
+/// A client's reader, which follows a script: a line is sent at once, and a line `after FACT` before it says what to wait for
+/// first. The input ends after the last line.
 struct LobbyReader<'b, 'r, 's, R: Wait + Clock> {
     board: &'b Board<'r, R>,
     client: usize,
@@ -123,7 +124,7 @@ struct LobbyReader<'b, 'r, 's, R: Wait + Clock> {
 }
 
 impl<'s, R: Wait + Clock> LobbyReader<'_, '_, 's, R> {
-    /// Takes the next line of the script; behind the last one they are empty.
+    /// Takes the next line of the script; after the last one they are empty.
     fn take_line(&mut self) -> &'s str {
         let (line, rest) = self.script.split_once("\n").unwrap_or((self.script, ""));
         self.script = rest;
@@ -197,7 +198,7 @@ impl<R: Wait + Clock> Drop for LobbyWriter<'_, '_, R> {
     }
 }
 
-/// A client that is to come once this fact is so, and its script.
+/// The fact after which a client comes, and its script.
 type Coming<'s> = (&'s str, &'s str);
 
 /// A listener that gives clients, one after another.
@@ -244,7 +245,7 @@ impl<R: Wait + Clock> Drop for LobbyListener<'_, '_, '_, R> {
     }
 }
 
-/// Serves clients in a lobby, and tells how many entries the history has then. None where the lobby is refused.
+/// Serves clients in a lobby, and returns how many entries the history then has. None if the lobby is refused.
 fn serve_clients<R: Threads + Wait + Clock + Sync, K: Keeper + Drop, D: Draws + Drop>(
     rt: &R,
     alloc: Global,
@@ -258,7 +259,7 @@ fn serve_clients<R: Threads + Wait + Clock + Sync, K: Keeper + Drop, D: Draws + 
     }
 }
 
-/// How many entries there are, and what is seen of so many clients.
+/// The number of entries, and what is seen of `clients` clients.
 fn told_of<R: Wait + Clock>(
     alloc: Global,
     board: &Board<'_, R>,
@@ -275,7 +276,7 @@ fn told_of<R: Wait + Clock>(
     Ok(told)
 }
 
-/// What comes of clients at a lobby whose board this is: how many entries the history has then, and a line for each client.
+/// The outcome of clients at a lobby with this board: how many entries the history then has, and a line for each client.
 fn converse_on<R: Threads + Wait + Clock + Sync>(
     rt: &R,
     alloc: Global,
@@ -292,7 +293,7 @@ fn converse_on<R: Threads + Wait + Clock + Sync>(
     told_of(alloc, board, entries.ok_or("no lobby")?, clients.len())
 }
 
-/// The same with a board of its own.
+/// The same with a new board.
 fn converse<R: Threads + Wait + Clock + Sync>(
     rt: &R,
     alloc: Global,
@@ -302,7 +303,7 @@ fn converse<R: Threads + Wait + Clock + Sync>(
     converse_on(rt, alloc, &board, clients)
 }
 
-/// Fails unless this comes of clients at a lobby.
+/// Fails unless this is the outcome of clients at a lobby.
 fn conversed<R: Threads + Wait + Clock + Sync>(
     rt: &R,
     alloc: Global,
@@ -320,7 +321,7 @@ fn a_lobby_where_nobody_comes(rt: HostRuntime) -> Result<(), Fail> {
     conversed(&rt, rt.alloc(), &[], "0\n")
 }
 
-/// Goes on once nobody is listened to any more.
+/// Goes on once the listener is closed.
 const LAST: &str = r#"{"id":0,"method":"list_dbs","params":[]}
 after listener closed
 {"id":1,"method":"echo","params":[2]}"#;
@@ -334,12 +335,12 @@ fn nobody_is_listened_to_while_the_last_is_served(rt: HostRuntime) -> Result<(),
     conversed(&rt, rt.alloc(), &[("", LAST)], LAST_SERVED)
 }
 
-/// Goes on once the other is closed.
+/// Goes on once the other client is closed.
 const PATIENT: &str = r#"{"id":0,"method":"list_dbs","params":[]}
 after 1 closed
 {"id":1,"method":"echo","params":[2]}"#;
 
-/// Is damaged behind its message, once the other was answered.
+/// Is damaged after its message, once the other client has been answered.
 const DAMAGED: &str = r#"after 0 told
 {"id":0,"method":"list_dbs","params":[]}]
 after 9 told"#;
@@ -355,10 +356,10 @@ fn a_client_goes_on_beside_one_that_is_damaged(rt: HostRuntime) -> Result<(), Fa
     conversed(&rt, rt.alloc(), &clients, BOTH_SERVED)
 }
 
-/// What a client that asks for the list is written.
+/// What is written to a client that asks for the list.
 const LISTED: &str = "2 {\"error\":null,\"id\":0,\"result\":[\"Net\"]}\n";
 
-/// What is told of so many clients that ask for the list, where one of them may be turned away.
+/// The outcome of `count` clients that ask for the list, one of which may be turned away.
 fn listed(alloc: Global, entries: u64, count: usize, away: Option<usize>) -> Result<String, Fail> {
     let mut told = format!(in alloc; "{entries}\n")?;
     for client in 0..count {
@@ -367,7 +368,7 @@ fn listed(alloc: Global, entries: u64, count: usize, away: Option<usize>) -> Res
     Ok(told)
 }
 
-/// Fails unless that is told of clients.
+/// Fails unless that is the outcome of clients.
 fn are_listed<R: Threads + Wait + Clock + Sync>(
     rt: &R,
     alloc: Global,
@@ -379,7 +380,7 @@ fn are_listed<R: Threads + Wait + Clock + Sync>(
     conversed(rt, alloc, clients, wanted.as_str())
 }
 
-/// What clients wait for: the first comes at once, and each other once the one before has gone.
+/// The facts that clients wait for: the first client comes at once, and each other after the one before has gone.
 fn facts_in_turn(alloc: Global) -> Result<Vec<String>, Fail> {
     let mut facts = Vec::new(alloc);
     facts.push(String::new(alloc))?;
@@ -389,7 +390,7 @@ fn facts_in_turn(alloc: Global) -> Result<Vec<String>, Fail> {
     Ok(facts)
 }
 
-/// Clients that say the same, each once its fact is told.
+/// Clients that say the same, each once its fact has come true.
 fn clients_after<'a>(
     alloc: Global,
     facts: &'a Vec<String>,
@@ -402,7 +403,7 @@ fn clients_after<'a>(
     Ok(clients)
 }
 
-/// Fails unless a client is listed once each fact is told.
+/// Fails unless a client is listed once each fact has come true.
 fn are_listed_after<R: Threads + Wait + Clock + Sync>(
     rt: &R,
     alloc: Global,
@@ -418,7 +419,7 @@ fn a_place_is_free_again(rt: HostRuntime) -> Result<(), Fail> {
     are_listed_after(&rt, rt.alloc(), &facts)
 }
 
-/// Holds its place until one was turned away.
+/// Holds its place until one client has been turned away.
 const HOLDING: &str = r#"{"id":0,"method":"list_dbs","params":[]}
 after 64 closed
 "#;

@@ -7,6 +7,7 @@ use ov_order::{Brought, Order, OrderBook, Sent, inbound_ring, outbound_ring};
 use rtrb::{PopError, Producer};
 use std::alloc::Global;
 use std::marker::Brand;
+use std::rt::Clock;
 use std::sync::Wait;
 use std::sync::ledger::{Blank, Ledger, Share};
 use std::test::Fail;
@@ -25,7 +26,7 @@ fn answers_of(
     Ok(format!(in alloc; "{begun:?} {notes:?} {taken:?} {noted}")?)
 }
 
-/// What a book answers: two workers note, the desk takes, and the shares are put together again.
+/// What a book answers: two workers note, the desk takes, and the shares are merged again.
 fn book_answers<L: Ledger>(alloc: Global, blank: Blank) -> Result<String, Fail>
     requires name { blank.name ≡ L.name }
     requires parts { (blank.parts ≡ L.parts) × (blank.parts ≡ 2) }
@@ -67,7 +68,8 @@ fn told_of(
     Ok(format!(in alloc; "{go} {is_noted} {serial} {next:?} {noted}")?)
 }
 
-/// What an order answers where nobody has to wait: a worker brings a message and notes once more, and the desk takes both notes.
+/// What an order answers when nobody has to wait: a worker brings a message and notes once more, and the desk takes both
+/// notes.
 fn order_answers<R: Wait, L: Ledger>(rt: &R, alloc: Global, blank: Blank) -> Result<String, Fail>
     requires name { blank.name ≡ L.name }
     requires parts { (blank.parts ≡ L.parts) × (blank.parts ≡ 1) }
@@ -92,6 +94,28 @@ fn an_order_answers_where_nobody_has_to_wait(rt: HostRuntime) -> Result<(), Fail
     is_text(rt.alloc(), answers.as_str(), "false true 5 Some(6) 2")
 }
 
+/// What a desk finds that waits briefly: nothing where nothing is noted, and then a note, with and without a look for it.
+fn brief_waits<R: Wait + Clock, L: Ledger>(rt: &R, alloc: Global, blank: Blank) -> Result<String, Fail>
+    requires name { blank.name ≡ L.name }
+    requires parts { (blank.parts ≡ L.parts) × (blank.parts ≡ 1) }
+{
+    let (ledger, mut share) = blank.open::<L>();
+    let order = Order::new(alloc, ledger)?;
+    let none = order.wait_briefly(rt, true);
+    let _ = order.lock(rt).note(&mut share, 5);
+    let _ = order.lock(rt).note(&mut share, 6);
+    let looked = order.wait_briefly(rt, true);
+    let slept = order.wait_briefly(rt, false);
+    let again = order.wait_briefly(rt, false);
+    Ok(format!(in alloc; "{none:?} {looked:?} {slept:?} {again:?}")?)
+}
+
+#[test]
+fn a_brief_wait_ends_without_a_note(rt: HostRuntime) -> Result<(), Fail> {
+    let found = brief_waits::<HostRuntime, Brand>(&rt, rt.alloc(), Blank::new(1))?;
+    is_text(rt.alloc(), found.as_str(), "None Some(5) Some(6) None")
+}
+
 /// What an item is: a message or the end, and its number.
 fn brought_word(item: Result<Brought<u64, u8>, PopError>) -> (&'static str, u64) {
     match item {
@@ -101,7 +125,7 @@ fn brought_word(item: Result<Brought<u64, u8>, PopError>) -> (&'static str, u64)
     }
 }
 
-/// How many slots a ring has left, and what its items are.
+/// The number of slots that a ring has left, and its items.
 fn ring_text(
     alloc: Global,
     slots: usize,
@@ -111,7 +135,7 @@ fn ring_text(
     Ok(format!(in alloc; "{slots} {first:?} {second:?}")?)
 }
 
-/// This of a ring to the desk, to which a message and the end are brought.
+/// The same for a ring to the desk, to which a message and the end are brought.
 fn brought_items(alloc: Global) -> Result<String, Fail> {
     let (mut reader, mut desk) = inbound_ring::<u64, u8>(alloc)?;
     reader.push_reserved(Brought::Message(3));
@@ -142,12 +166,12 @@ fn is_end(item: Result<Sent, PopError>) -> bool {
     matches!(item, Ok(Sent::End))
 }
 
-/// How many slots a ring has left, and whether its items are the frame and the end that were sent.
+/// The number of slots that a ring has left, and whether its items are the frame and the end that were sent.
 fn sent_text(alloc: Global, slots: usize, is_frame: bool, is_end: bool) -> Result<String, Fail> {
     Ok(format!(in alloc; "{slots} {is_frame} {is_end}")?)
 }
 
-/// This of a ring to a writer, to which a frame and the end are sent.
+/// The same for a ring to a writer, to which a frame and the end are sent.
 fn sent_items(alloc: Global) -> Result<String, Fail> {
     let frame = Bytes::from_slice(alloc, b"{}")?;
     let (mut desk, mut writer) = outbound_ring(alloc)?;
@@ -193,7 +217,7 @@ fn work<R: Wait, L: Ledger>(
     Worked { ring, share }
 }
 
-/// The serials that a desk takes, which lets the worker begin.
+/// Lets the worker begin, and returns the serials that the desk takes.
 fn take<R: Wait, L: Ledger>(rt: &R, order: &Order<L>) -> (u64, u64, u64) {
     order.lock(rt).begin(true);
     order.wake();
@@ -204,7 +228,7 @@ fn take<R: Wait, L: Ledger>(rt: &R, order: &Order<L>) -> (u64, u64, u64) {
     )
 }
 
-/// What the desk took, and the number noted.
+/// What the desk took, and the number of notes.
 fn across_threads<R: Threads + Wait + Sync, L: Ledger + Send + Sync>(
     rt: &R,
     alloc: Global,

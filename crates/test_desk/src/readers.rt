@@ -19,7 +19,7 @@ use test_basics::is_text;
 pub(crate) const STREAM: &[u8] =
     b"{\"id\":0,\"method\":\"echo\",\"params\":[]}\n{\"id\":1,\"method\":\"echo\",\"params\":[\"}\"]}";
 
-/// A reader that gives at most so many bytes at once. After so many calls it fails.
+/// A reader that gives at most `most` bytes per call, and fails after `calls` calls.
 #[derive(Drop)]
 pub(crate) struct PieceReader<'a> {
     rest: &'a [u8],
@@ -77,7 +77,7 @@ fn push_item(
     Ok(())
 }
 
-/// The lines of what lies in the ring.
+/// The lines of the items in the ring.
 fn lines_of(alloc: Global, ring: Consumer<Brought<Received, ReadCause>>) -> Result<Vec<u8>, Fail> {
     let mut ring = ring;
     let mut lines = Vec::new(alloc);
@@ -90,7 +90,7 @@ fn lines_of(alloc: Global, ring: Consumer<Brought<Received, ReadCause>>) -> Resu
     Ok(lines)
 }
 
-/// The lines of what lies in the ring, and then how many notes were made, the first of them, how often the gate was passed, and
+/// The lines of the items in the ring, then how many notes were made, the first of them, how often the gate was passed, and
 /// the cause.
 fn told_of(
     alloc: Global,
@@ -106,8 +106,8 @@ fn told_of(
     Ok(lines)
 }
 
-/// What a worker brings of a reader, where it may begin or may not, and then how many notes it made, the first of them,
-/// how often it passed the gate, and its cause.
+/// What a worker brings from a reader if it may begin, or may not, then how many notes it made, the first of them, how often
+/// it passed the gate, and its cause.
 fn read_by<R: Wait, L: Ledger>(
     rt: &R,
     alloc: Global,
@@ -139,7 +139,7 @@ fn read_by<R: Wait, L: Ledger>(
     told_of(alloc, desk, noted, first, gate.passed(), end.cause)
 }
 
-/// The same, of a ledger of its own.
+/// The same with a ledger of its own.
 fn read<R: Wait>(
     rt: &R,
     alloc: Global,
@@ -154,7 +154,7 @@ pub(crate) fn are_text(alloc: Global, bytes: &[u8], wanted: &str) -> Result<(), 
     is_text(alloc, str::from_utf8(bytes)?, wanted)
 }
 
-/// Fails unless a worker brings this of a reader.
+/// Fails unless a worker brings this from a reader.
 fn brings<R: Wait>(
     rt: &R,
     alloc: Global,
@@ -181,7 +181,7 @@ fn messages_and_the_end_are_brought(rt: HostRuntime) -> Result<(), Fail> {
 
 const ONE_AND_DAMAGE: &str = "{\"result\":0}\nDamaged\n2 Some(7) 2 Some(Damaged)";
 
-/// By a stray letter, and by a text that can't be read.
+/// A stray letter ends a stream, and so does a text that can't be read.
 #[test]
 fn damage_ends_a_stream(rt: HostRuntime) -> Result<(), Fail> {
     let stray = reader_of(b"{\"result\":0} x {\"result\":1}", 9);

@@ -49,8 +49,8 @@ struct Ends<'a, R: Wait, L: Ledger> {
     to_writer: Consumer<Sent>,
 }
 
-/// Sends three frames, each once the writer has handed on the one before, and the end. A frame that there is no memory for is not
-/// sent, and is then missing in what was written.
+/// Sends three frames, each after the writer has handed on the one before, and the end. If the allocation of a frame fails it
+/// is not sent, and is missing in what was written.
 fn send<R: Wait>(rt: &R, alloc: Global, bell: &Bell, flushed: &Bell, out: Producer<Sent>) {
     let mut out = out;
     for text in [b"[1]".as_slice(), b"[2]".as_slice(), b"[3]".as_slice()] {
@@ -64,7 +64,8 @@ fn send<R: Wait>(rt: &R, alloc: Global, bell: &Bell, flushed: &Bell, out: Produc
     bell.ring(rt);
 }
 
-/// What a desk makes of a session: it sends three frames and joins the workers. It tells the reader's cause, and what was written.
+/// Does what a desk does for a session: sends three frames and joins the workers. Returns the reader's cause and what was
+/// written.
 fn serve_in<'s, E, R: Threads + Wait + Sync, L: Ledger + Send + Sync + 's>(
     rt: &'s R,
     alloc: Global,
@@ -138,7 +139,7 @@ fn told_of(
     Ok(format!(in alloc; "{cause:?} {written} {first:?} {passed}")?)
 }
 
-/// What is told of a session with a ledger and an order of its own.
+/// The same for a session with a ledger and an order of its own.
 fn serve<R: Threads + Wait + Sync, L: Ledger + Send + Sync>(
     rt: &R,
     alloc: Global,

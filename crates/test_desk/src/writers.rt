@@ -15,7 +15,7 @@ use std::sync::Wait;
 use std::sync::ledger::{Blank, Ledger};
 use std::test::Fail;
 
-/// A writer that takes at most so many bytes at once. After so many bytes it takes none, or fails.
+/// A writer that takes at most `most` bytes per call. After `left` bytes it takes none, or fails.
 #[derive(Drop)]
 struct ShortWriter {
     taken: Vec<u8>,
@@ -42,7 +42,7 @@ impl Write for ShortWriter {
     }
 }
 
-/// A writer that takes one byte at once, and as many bytes as are told. Then it takes none, or fails.
+/// A writer that takes one byte per call, and `left` bytes in all. Then it takes none, or fails.
 fn writer_of(alloc: Global, left: usize, fails: bool) -> ShortWriter {
     ShortWriter {
         taken: Vec::new(alloc),
@@ -53,7 +53,7 @@ fn writer_of(alloc: Global, left: usize, fails: bool) -> ShortWriter {
     }
 }
 
-/// Two frames and the end mark go into the ring.
+/// Pushes two frames and the end mark into the ring.
 fn send(alloc: Global, ring: Producer<Sent>) -> Result<(), Fail> {
     let mut ring = ring;
     for frame in [b"[12]".as_slice(), b"[345]".as_slice()] {
@@ -68,8 +68,8 @@ fn send(alloc: Global, ring: Producer<Sent>) -> Result<(), Fail> {
     Ok(())
 }
 
-/// What was written. Behind that stands whether the worker began, whether it failed, whether its ring is empty, how often it
-/// passed the gate, and how often it flushed.
+/// What was written, then whether the worker began, whether it failed, whether its ring is empty, how often it passed the
+/// gate, and how often it flushed.
 fn told_of(
     alloc: Global,
     taken: Vec<u8>,
@@ -84,7 +84,7 @@ fn told_of(
     Ok(lines)
 }
 
-/// What a worker writes of two frames to such a writer, where it may begin or may not.
+/// What a worker writes of two frames to such a writer if it may begin, or may not.
 fn written_by<R: Wait, L: Ledger>(
     rt: &R,
     alloc: Global,
@@ -114,7 +114,7 @@ fn written_by<R: Wait, L: Ledger>(
     told_of(alloc, writer.taken, ends, gate.passed(), flushes)
 }
 
-/// The same, of a ledger of its own.
+/// The same with a ledger of its own.
 fn written<R: Wait>(
     rt: &R,
     alloc: Global,

@@ -9,35 +9,35 @@ use test_basics::{Faults, NetKeeper, Scripted, agrees, follows, line_of, net, ne
 use test_commits::{commit_nothing, put_line, remove_row};
 use uuid::Uuid;
 
-/// A database Net behind a script.
+/// A database Net, driven by a script.
 ///
-/// The commands are commits of one switch, `put NUMBER NAME` and `remove NUMBER`, and one of `nothing`; `row KEY`, whether there is a
-/// row of a key; `rows`, the switches; `sealed` and `failures`.
+/// The commands are commits of one switch, `put NUMBER NAME` and `remove NUMBER`, and one of `nothing`; `row KEY`, whether
+/// the key has a row; `rows`, the switches; `sealed` and `failures`.
 pub(crate) struct Database {
     pub(crate) db: Db<NetKeeper>,
 }
 
 impl Drop for Database {
-    // A drop of its own, so that whoever drops one need not prove the drops of all that it holds once more.
+    // Has its own drop, so that code that drops a database need not prove the drops of its parts again.
     fn drop(self) {
         let Database { db } = self;
         drop(db);
     }
 }
 
-/// The database of what a keeper holds.
+/// The database that a keeper holds.
 fn opened(alloc: Global, keeper: NetKeeper) -> Result<Database, Fail> {
     let schema = net(alloc)?;
     let db = Db::open(alloc, keeper, schema)?;
     Ok(Database { db })
 }
 
-/// A new database over a keeper that keeps all.
+/// A new database over a keeper without faults.
 pub(crate) fn new_database(alloc: Global) -> Result<Database, Fail> {
     opened(alloc, net_keeper(alloc, Faults::NONE)?)
 }
 
-/// The line of a switch of this number and name.
+/// The line of a switch with this number and name.
 fn line_of_switch(alloc: Global, put: &str) -> Result<Line, Fail> {
     let (number, name) = put.split_once(" ").ok_or("no name")?;
     let body = format!(in alloc;
@@ -88,7 +88,7 @@ impl Database {
         fact_text(alloc, self.db.row(key.table(), key.id()).is_some())
     }
 
-    /// What comes of a command for one row.
+    /// The answer to a command for one row.
     fn act(&mut self, alloc: Global, command: &str) -> Result<String, Fail> {
         let (word, row) = command.split_once(" ").ok_or("no number")?;
         match word {
@@ -98,7 +98,7 @@ impl Database {
         }
     }
 
-    /// Gives the database up, and its keeper back.
+    /// Consumes the database and returns its keeper.
     fn into_keeper(self) -> NetKeeper {
         let Database { db } = self;
         db.into_keeper()
@@ -129,14 +129,14 @@ impl Scripted for Database {
     }
 }
 
-/// Runs a script over a new database whose keeper fails as it is told, and gives the keeper back.
+/// Runs a script over a new database whose keeper has these faults, and returns the keeper.
 fn followed(alloc: Global, faults: Faults, script: &str) -> Result<NetKeeper, Fail> {
     let mut database = opened(alloc, net_keeper(alloc, faults)?)?;
     follows(alloc, &mut database, script)?;
     Ok(database.into_keeper())
 }
 
-/// The same, and then another over what the keeper then has.
+/// The same; then runs another script over what the keeper holds afterwards.
 fn commits(alloc: Global, faults: Faults, script: &str, again: &str) -> Result<(), Fail> {
     let keeper = followed(alloc, faults, script)?;
     agrees(alloc, opened(alloc, keeper)?, again)
@@ -172,7 +172,7 @@ row Port 1 -> false";
     commits(rt.alloc(), Faults::NONE, script, ONE_ROW)
 }
 
-/// After a device that failed at a commit the rows are as before it, and nothing is committed any more.
+/// After the device fails at a commit, the rows are as before it and nothing more is committed.
 const FAILED: &str = r#"put 1 s1 -> kept
 put 1 s9 -> failed
 put 3 s3 -> failed
@@ -191,7 +191,7 @@ fn device_fails_at_commit(rt: HostRuntime) -> Result<(), Fail> {
     commits(rt.alloc(), faults, FAILED, ONE_ROW)
 }
 
-/// A commit without a change does not ask the device, which would fail.
+/// A commit without a change does not use the device, which would fail.
 #[test]
 fn nothing_to_commit(rt: HostRuntime) -> Result<(), Fail> {
     let faults = Faults {

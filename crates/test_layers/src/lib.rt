@@ -1,5 +1,5 @@
-//! Tests of the layers below a transaction and beside it: rows, changes, commits and stages, locks, monitors, sessions and the
-//! frames that wait for them.
+//! Tests of the layers below and beside a transaction: rows, changes, commits, stages, locks, monitors, sessions and their
+//! waiting frames.
 #![tactic(auto)]
 
 #[cfg(test)]

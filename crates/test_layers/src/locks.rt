@@ -5,7 +5,7 @@ use std::alloc::Global;
 use std::test::Fail;
 use test_basics::{Scripted, agrees};
 
-/// The one that asks first is the owner. Who waits can't steal, and gives up waiting; nobody is told of that.
+/// The first session to ask owns the lock. A session that waits can't steal; when it gives up waiting, nobody is notified.
 const ONE_OWNER: &str = r#"owner L -> nobody
 lock 1 L -> locked
 lock 2 L -> waits
@@ -22,8 +22,8 @@ owner L -> nobody
 steal 2 L -> locked
 owner L -> 2"#;
 
-/// The former owner is told that it has lost the lock, and waits before all others. It is told again as it has it back. Where
-/// the lock is stolen twice, the last one that stole it gives it back to the one before.
+/// The former owner is notified that it has lost the lock, and waits before all others; it is notified again when it gets the
+/// lock back. If the lock is stolen twice, the last session that stole it gives it back to the one before.
 const STOLEN: &str = r#"lock 1 L -> locked
 lock 2 L -> waits
 steal 3 L -> 1 {"id":null,"method":"stolen","params":["L"]}
@@ -42,7 +42,7 @@ unlock 1 L -> 2 {"id":null,"method":"locked","params":["L"]}
 unlock 2 L -> unlocked
 owner L -> nobody"#;
 
-/// A session that leaves gives on all its locks, in ascending order of their names, and waits for none.
+/// A session that leaves passes on all its locks, in ascending order of name, and no longer waits for any.
 const LEFT: &str = r#"lock 1 B -> locked
 lock 1 A -> locked
 lock 2 B -> waits
@@ -62,26 +62,26 @@ leave 2
 freed
 owner A -> nobody"#;
 
-/// Locks behind a script. The commands are `lock SESSION NAME`, `steal SESSION NAME` and `unlock SESSION NAME`, answered with
-/// whom a frame is for, and the frame; `leave SESSION`; `freed`, the next one that is told of another's leaving; and `owner
-/// NAME`.
+/// Locks, driven by a script. The commands are `lock SESSION NAME`, `steal SESSION NAME` and `unlock SESSION NAME`, answered
+/// with the session that a frame is for, and the frame; `leave SESSION`; `freed`, the next session notified because another
+/// left; and `owner NAME`.
 #[derive(Drop)]
 struct Locks {
     table: LockTable,
 }
 
-/// A session, and the frame that it is sent.
+/// A session and the frame sent to it.
 fn sent(alloc: Global, session: u64, frame: Bytes) -> Result<String, Fail> {
     let text = String::from_utf8(frame.into_vec())?;
     Ok(format!(in alloc; "{session} {text}")?)
 }
 
-/// Why there is none.
+/// Why a request is refused.
 fn fault_text(alloc: Global, fault: LockFault) -> Result<String, Fail> {
     Ok(format!(in alloc; "{fault}")?)
 }
 
-/// Whom a frame is for and the frame, if there is one, or why there is none.
+/// The session that a frame is for and the frame, if there is one, or why the request is refused.
 fn answered(
     alloc: Global,
     told: Result<Option<(u64, Bytes)>, LockFault>,
@@ -94,7 +94,7 @@ fn answered(
     }
 }
 
-/// Whether a session is the owner of a lock that it asked for.
+/// Whether a session owns a lock that it asked for.
 fn locked(alloc: Global, is_owner: Result<bool, LockFault>) -> Result<String, Fail> {
     match is_owner {
         Ok(true) => owned(alloc, "locked"),
@@ -103,7 +103,7 @@ fn locked(alloc: Global, is_owner: Result<bool, LockFault>) -> Result<String, Fa
     }
 }
 
-/// Whom a frame is for and the frame, if there is one.
+/// The session that a frame is for and the frame, if there is one.
 fn freed(alloc: Global, told: Option<(u64, Bytes)>) -> Result<String, Fail> {
     match told {
         Some((session, frame)) => sent(alloc, session, frame),
@@ -129,7 +129,7 @@ impl Locks {
         Ok(String::new(alloc))
     }
 
-    /// What a session asks of the lock of a name.
+    /// Answers a session's request for the lock of a name.
     fn asked(&mut self, alloc: Global, word: &str, rest: &str) -> Result<String, Fail> {
         let (session, name) = rest.split_once(" ").ok_or("no name")?;
         let session = session.parse::<u64>()?;
@@ -153,7 +153,7 @@ impl Scripted for Locks {
     }
 }
 
-/// Locks that nobody asked for do what the script says.
+/// Runs a script over locks that nobody has asked for.
 fn ask(alloc: Global, script: &str) -> Result<(), Fail> {
     let table = LockTable::new(alloc);
     agrees(alloc, Locks { table }, script)
@@ -174,7 +174,7 @@ fn locks_are_given_on_by_name(rt: HostRuntime) -> Result<(), Fail> {
     ask(rt.alloc(), LEFT)
 }
 
-/// What comes of 256 requests and of one more: of every second lock the session waits for the other, which owns it.
+/// 256 requests and one more. For every second lock, the session waits for the other session, which owns it.
 const TOO_MANY: &str = r#"lock 1 M -> resources exhausted
 steal 1 M -> resources exhausted
 lock 1 L7 -> lock already requested
@@ -188,7 +188,7 @@ lock 1 N -> resources exhausted
 leave 1
 lock 1 N -> locked"#;
 
-/// Session 1 asks for a lock, which it does not own where its number is even.
+/// Session 1 asks for a lock, which it does not own if the lock's number is even.
 fn ask_for_one(alloc: Global, table: &mut LockTable, number: u64) -> Result<(), Fail> {
     let name = format!(in alloc; "L{number}")?;
     if number % 2 == 0 {
@@ -198,7 +198,7 @@ fn ask_for_one(alloc: Global, table: &mut LockTable, number: u64) -> Result<(), 
     Ok(())
 }
 
-/// It asks for 256 locks.
+/// Session 1 asks for 256 locks.
 fn ask_for_many(alloc: Global, table: &mut LockTable) -> Result<(), Fail> {
     for number in 0..256 {
         ask_for_one(alloc, table, number)?;

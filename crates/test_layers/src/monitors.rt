@@ -14,8 +14,8 @@ use test_basics::{NetKeeper, Scripted, agrees, compact, line_of, net, number, tr
 use test_commits::{put_line, remove_row};
 use uuid::Uuid;
 
-/// A row that comes, one whose name changes, and one that goes are told; a change of its load alone is not. Then the monitor is
-/// asked for again, and canceled twice.
+/// An insert, a change of the name and a delete are reported; a change of the load alone is not. Then the monitor is
+/// requested again, and canceled twice.
 const ONE_COLUMN: &str = r#"monitor "m" {"Switch":[{"columns":["name"]}]} -> {}
 put 2 1 s1 0
 commit -> ["m",{"Switch":{"00000000-0000-0000-0000-000000000002":{"new":{"name":"s1"}}}}]
@@ -31,8 +31,8 @@ cancel "m" -> unknown monitor
 put 2 5 s1 0
 commit"#;
 
-/// Of two requests for a table each tells of its columns at the kinds that it selects. A row that changes is told with all
-/// columns, and with the former values of those that have changed.
+/// Of two requests for one table, each reports its columns for the kinds that it selects. A modified row is reported with all
+/// columns, and with the old values of those that changed.
 const TWO_REQUESTS: &str = r#"put 2 1 s1 0
 commit
 monitor "m" {"Switch":[{"columns":["name"],"select":{"initial":false}},{"columns":["load"],"select":{"insert":false}}]} -> {"Switch":{"00000000-0000-0000-0000-000000000002":{"new":{"load":0}}}}
@@ -44,8 +44,8 @@ put 2 6 s3 1
 remove 4
 commit -> ["m",{"Switch":{"00000000-0000-0000-0000-000000000002":{"new":{"load":1,"name":"s3"},"old":{"load":0,"name":"s1"}},"00000000-0000-0000-0000-000000000004":{"old":{"load":5,"name":"s2"}}}}]"#;
 
-/// What is selected at no kind is not told. A request without columns is about all but the identifier, and one of no columns
-/// tells that a row is there.
+/// What no kind selects is not reported. A request without `columns` covers all columns but the identifier; one with an empty
+/// list reports that a row is there.
 const SELECTED: &str = r#"put 2 1 s1 0
 commit
 monitor 1 {"Switch":{"columns":["name"],"select":{"initial":false}}} -> {}
@@ -57,8 +57,8 @@ commit -> [1,{"Switch":{"00000000-0000-0000-0000-000000000002":{"new":{"name":"s
 remove 2
 commit -> [1,{"Switch":{"00000000-0000-0000-0000-000000000002":{"old":{"name":"s2"}}}}] [3,{"Switch":{"00000000-0000-0000-0000-000000000002":{"old":{}}}}]"#;
 
-/// A row that comes and goes in one transaction, one that goes and comes as it was, and rows of other tables than those that
-/// are asked for.
+/// A row that is inserted and deleted in one transaction, one that is deleted and inserted again unchanged, and rows of
+/// tables that were not requested.
 const UNTOLD: &str = r#"put 2 1 s1 0
 commit
 monitor 1 {"Switch":{"columns":["name"]},"Port":{}} -> {"Switch":{"00000000-0000-0000-0000-000000000002":{"new":{"name":"s1"}}}}
@@ -74,7 +74,8 @@ commit
 put 3 7 s3 0
 commit -> [1,{"Switch":{"00000000-0000-0000-0000-000000000003":{"new":{"name":"s3"}}}}]"#;
 
-/// Any value names a monitor, and two are one where they are sent as the same text. Monitors are told in order of creation.
+/// Any value names a monitor; two values are the same name if they are sent as the same text. Monitors report in order of
+/// creation.
 const IDS: &str = r#"monitor null {"Switch":{"columns":["name"]}} -> {}
 monitor ["a",{"b":1,"a":2}] {"Switch":{"columns":["load"]}} -> {}
 monitor ["a",{"a":2,"b":1}] {} -> duplicate monitor id
@@ -90,8 +91,8 @@ cancel ["a",{"a":2,"b":1}] -> canceled
 cancel "null" -> canceled
 cancel [null] -> unknown monitor"#;
 
-/// Requests that are built wrong are refused before a name that is in use, and this before tables and columns, which are
-/// looked at table by table.
+/// Malformed requests are refused before a name that is in use, and that before tables and columns, which are checked table
+/// by table.
 const REFUSED: &str = r#"monitor "m" {} -> {}
 monitor "m" {"Switch":{"columns":["name","name"]}} -> syntax error
 monitor "m" {"Switch":[{"columns":["name"]},{"columns":["load","name"]}]} -> syntax error
@@ -103,11 +104,11 @@ monitor "n" {"Swich":[],"Switch":{"columns":["nam"]}} -> unknown table
 monitor "n" {"Switch":{"columns":["nam"]},"Twitch":[]} -> unknown column
 cancel "n" -> unknown monitor"#;
 
-/// A database Net, and the monitors of a session, behind a script.
+/// A database Net and the monitors of a session, driven by a script.
 ///
-/// The commands are `monitor ID REQUESTS`, answered with what the monitor is told at first, or why there is none; `cancel ID`;
-/// the changes `put NUMBER VERSION NAME LOAD` and `remove NUMBER` of switches; and `commit`, answered with the params of each
-/// update that tells of these.
+/// The commands are `monitor ID REQUESTS`, answered with the monitor's initial rows or why it is refused; `cancel ID`; the
+/// changes `put NUMBER VERSION NAME LOAD` and `remove NUMBER` of switches; and `commit`, answered with the params of each
+/// update that reports them.
 struct Watching {
     database: Database,
     monitors: Monitors,
@@ -115,7 +116,7 @@ struct Watching {
 }
 
 impl Drop for Watching {
-    // A drop of its own, as that of a database.
+    // Has its own drop, like a database.
     fn drop(self) {
         let Watching {
             database,
@@ -128,7 +129,7 @@ impl Drop for Watching {
     }
 }
 
-/// The line of a switch of this number, version, name and load.
+/// The line of a switch with this number, version, name and load.
 fn line_of_switch(alloc: Global, put: &str) -> Result<Line, Fail> {
     let (number, rest) = put.split_once(" ").ok_or("no version")?;
     let (version, rest) = rest.split_once(" ").ok_or("no name")?;
@@ -140,7 +141,7 @@ fn line_of_switch(alloc: Global, put: &str) -> Result<Line, Fail> {
     line_of(alloc, text.as_str())
 }
 
-/// The removal of the switch of this number.
+/// The removal of the switch with this number.
 fn removal_of(alloc: Global, id: &str) -> Result<Change, Fail> {
     let table = Text::from_str(alloc, "Switch")?;
     let id = number(id)?;
@@ -221,7 +222,7 @@ fn text_of(alloc: Global, updates: Vec<Trees>) -> Result<String, Fail> {
     Ok(text)
 }
 
-/// What a monitor is told at first.
+/// The text of a monitor's initial rows.
 fn first_text(alloc: Global, told: Option<Tree>) -> Result<String, Fail> {
     match told {
         Some(told) => compact(alloc, &told),
@@ -229,7 +230,7 @@ fn first_text(alloc: Global, told: Option<Tree>) -> Result<String, Fail> {
     }
 }
 
-/// That a monitor is canceled, or why it is not.
+/// That a monitor was canceled, or why not.
 fn canceled_text(alloc: Global, canceled: Result<(), WatchFault>) -> Result<String, Fail> {
     match canceled {
         Ok(()) => owned(alloc, "canceled"),
@@ -238,7 +239,7 @@ fn canceled_text(alloc: Global, canceled: Result<(), WatchFault>) -> Result<Stri
 }
 
 impl Watching {
-    /// Adds a monitor, or tells why there is none.
+    /// Adds a monitor, or returns why it is refused.
     fn add(&mut self, alloc: Global, id: &str, requests: &str) -> Result<Option<WatchFault>, Fail> {
         let requests = value(alloc, requests)?;
         let id = tree(alloc, id)?;
@@ -246,14 +247,14 @@ impl Watching {
         Ok(self.monitors.add(alloc, schema, id, &requests).err())
     }
 
-    /// What a monitor is told at first.
+    /// A monitor's initial rows.
     fn first(&self, alloc: Global, id: &str) -> Result<String, Fail> {
         let id = tree(alloc, id)?;
         let told = self.monitors.initial(alloc, &self.database.db, &id)?;
         first_text(alloc, told)
     }
 
-    /// Adds a monitor, and what it is told at first.
+    /// Adds a monitor and returns its initial rows.
     fn monitor(&mut self, alloc: Global, asked: &str) -> Result<String, Fail> {
         let (id, requests) = asked.split_once(" ").ok_or("no requests")?;
         match self.add(alloc, id, requests)? {
@@ -277,7 +278,7 @@ impl Watching {
         Ok(String::new(alloc))
     }
 
-    /// The changes of a transaction that makes these.
+    /// The delta of a transaction that makes the changes.
     fn delta(&self, alloc: Global) -> Result<Delta, Fail> {
         let db = &self.database.db;
         let mut stage = Stage::new(alloc, db.rows());
@@ -287,7 +288,7 @@ impl Watching {
         Ok(stage.into_delta())
     }
 
-    /// What is told of the changes.
+    /// The updates that report the changes.
     fn told(&self, alloc: Global) -> Result<String, Fail> {
         let delta = self.delta(alloc)?;
         let updates = self.monitors.updates(alloc, &self.database.db, &delta)?;
@@ -300,7 +301,7 @@ impl Watching {
         commit_each(alloc, &mut self.database.db, changes.as_slice())
     }
 
-    /// What is told of the changes, which are committed.
+    /// Commits the changes and returns the updates that report them.
     fn commit(&mut self, alloc: Global) -> Result<String, Fail> {
         let told = self.told(alloc)?;
         self.commit_changes(alloc)?;
@@ -321,7 +322,7 @@ impl Scripted for Watching {
     }
 }
 
-/// These monitors of a new database tell what the script says.
+/// Runs a script over a new database with these monitors.
 fn watches_with(alloc: Global, monitors: Monitors, script: &str) -> Result<(), Fail> {
     let watching = Watching {
         database: new_database(alloc)?,
@@ -331,7 +332,7 @@ fn watches_with(alloc: Global, monitors: Monitors, script: &str) -> Result<(), F
     agrees(alloc, watching, script)
 }
 
-/// The monitors of a new database tell what the script says.
+/// Runs a script over a new database without monitors.
 fn watches(alloc: Global, script: &str) -> Result<(), Fail> {
     watches_with(alloc, Monitors::new(alloc), script)
 }
@@ -366,7 +367,7 @@ fn monitors_are_refused_in_order(rt: HostRuntime) -> Result<(), Fail> {
     watches(rt.alloc(), REFUSED)
 }
 
-/// What comes of one monitor more than there may be.
+/// One monitor more than a session may have.
 const TOO_MANY: &str = r#"monitor 64 {"Switch":1} -> syntax error
 monitor 63 {} -> duplicate monitor id
 monitor 64 {"Swich":[]} -> resources exhausted
@@ -375,7 +376,7 @@ monitor 64 {"Swich":[]} -> unknown table
 monitor 64 {} -> {}
 monitor 7 {} -> resources exhausted"#;
 
-/// Adds a monitor of nothing, with a number for its name.
+/// Adds a monitor of no table, named by a number.
 fn add_one(
     alloc: Global,
     schema: &Schema,

@@ -1,4 +1,4 @@
-//! The frames that wait for sessions, those that are prepared, and the locks that sessions are told of, call by call.
+//! The frames that wait for sessions, the prepared frames, and the locks that sessions are notified of, call by call.
 
 ghost use Rattle.std.specs.Prelude.{◌≡◌, ◌≤◌, ◌+◌, ℕ, IfOk};
 ghost use Rattle.ov_outbox.specs.Frames.{count_of, places_for};
@@ -25,12 +25,12 @@ fn frame_of(alloc: Global, text: &str) -> Result<Bytes, AllocError> {
     Bytes::from_slice(alloc, text.as_bytes())
 }
 
-/// Frames behind a script.
+/// Frames, driven by a script.
 ///
-/// The commands are `push SESSION FRAME`, `keep SESSION`, `kept SESSION FRAME` for a frame in a place that is kept for it,
-/// `give_up SESSION` and `give_up_all SESSION` for places, `pop SESSION`, `joined SESSION`, `empty SESSION`, `clear SESSION` and
-/// `drop SESSION`. The others prepare the frames x for session 1, y for session 2 and z for session 1: `release` sends them,
-/// `instead 1 FRAME` sends this frame in the place of z, and `withdraw` sends none.
+/// The commands are `push SESSION FRAME`, `keep SESSION`, `kept SESSION FRAME` for a frame in a place kept for it,
+/// `give_up SESSION` and `give_up_all SESSION` for places, `pop SESSION`, `joined SESSION`, `empty SESSION`, `clear SESSION`
+/// and `drop SESSION`. The others prepare the frames x for session 1, y for session 2 and z for session 1: `release` sends
+/// them, `instead 1 FRAME` sends this frame in place of z, and `withdraw` sends none.
 #[derive(Drop)]
 struct Frames {
     queues: FrameQueues,
@@ -66,7 +66,7 @@ fn prepare_three(alloc: Global, queues: &mut FrameQueues) -> Result<Prepared, Fa
 }
 
 impl Frames {
-    /// Puts a frame in a place that is kept for it; false where there is no memory for the place.
+    /// Puts a frame in a place kept for it; false if the place can't be allocated.
     fn push_kept(&mut self, alloc: Global, session: u64, frame: Bytes) -> bool {
         if !self.queues.keep_place(alloc, session) {
             return false;
@@ -75,20 +75,20 @@ impl Frames {
         true
     }
 
-    /// Whether a frame could be put so.
+    /// Whether a frame could be put in a kept place.
     fn kept(&mut self, alloc: Global, session: u64, text: &str) -> Result<String, Fail> {
         let frame = frame_of(alloc, text)?;
         fact_text(alloc, self.push_kept(alloc, session, frame))
     }
 
-    /// Sends what is prepared.
+    /// Sends the prepared frames.
     fn release(&mut self, alloc: Global) -> Result<(), Fail> {
         let prepared = prepare_three(alloc, &mut self.queues)?;
         prepared.release(&mut self.queues);
         Ok(())
     }
 
-    /// Sends a frame in the place of the last one that is prepared.
+    /// Sends a frame in place of the last prepared one.
     fn release_instead(&mut self, alloc: Global, text: &str) -> Result<(), Fail> {
         let frame = frame_of(alloc, text)?;
         let prepared = prepare_three(alloc, &mut self.queues)?;
@@ -96,20 +96,20 @@ impl Frames {
         Ok(())
     }
 
-    /// Sends nothing of what is prepared.
+    /// Sends none of the prepared frames.
     fn withdraw(&mut self, alloc: Global) -> Result<(), Fail> {
         let prepared = prepare_three(alloc, &mut self.queues)?;
         prepared.give_up(&mut self.queues);
         Ok(())
     }
 
-    /// Sends a frame, where there is memory for it.
+    /// Sends a frame, unless an allocation fails.
     fn push(&mut self, alloc: Global, session: u64, text: &str) -> Result<String, Fail> {
         let frame = frame_of(alloc, text)?;
         fact_text(alloc, self.queues.push(alloc, session, frame))
     }
 
-    /// What is told of a session, by a command that tells.
+    /// The answer to a session's command that has one.
     fn tell(
         &mut self,
         alloc: Global,
@@ -148,7 +148,7 @@ impl Scripted for Frames {
     }
 }
 
-/// Frames wait each for its session, oldest first, also those that are put in places that were kept for them.
+/// Each frame waits for its session, oldest first, including frames put in places kept for them.
 const WAITING: &str = "push 1 a -> true
 push 2 b -> true
 kept 1 c -> true
@@ -173,7 +173,7 @@ drop 3
 pop 3 -> none
 joined 2 -> b";
 
-/// What is prepared is sent in order, or its last frame is replaced and the others are not sent, or none is.
+/// Prepared frames are sent in order; or the last is replaced and the others are not sent; or none is sent.
 const PREPARED: &str = "push 1 a -> true
 release
 joined 1 -> axz
@@ -186,7 +186,7 @@ joined 1 -> axzw
 pop 2 -> y
 pop 2 -> none";
 
-/// New frames wait as the script says.
+/// Runs a script over new queues.
 fn wait(alloc: Global, script: &str) -> Result<(), Fail> {
     let queues = FrameQueues::new(alloc);
     agrees(alloc, Frames { queues }, script)
@@ -198,18 +198,18 @@ fn frames_wait_for_their_sessions(rt: HostRuntime) -> Result<(), Fail> {
     wait(rt.alloc(), PREPARED)
 }
 
-/// An outbox behind a script.
+/// An outbox, driven by a script.
 ///
-/// The commands are `lock SESSION ID NAME`, `steal SESSION ID NAME` and `unlock SESSION ID NAME`, which tell why they are
-/// refused, `owns SESSION NAME` and `leave SESSION`; `push SESSION FRAME`, `pop SESSION`, `joined SESSION`, `clear SESSION` and
-/// `forget SESSION`; and `apart SESSION`, which takes the frames and the locks apart and puts them together, whatever the
-/// session.
+/// The commands are `lock SESSION ID NAME`, `steal SESSION ID NAME` and `unlock SESSION ID NAME`, answered with why they are
+/// refused, `owns SESSION NAME` and `leave SESSION`; `push SESSION FRAME`, `pop SESSION`, `joined SESSION`, `clear SESSION`
+/// and `forget SESSION`; and `apart SESSION`, which takes the frames and the locks apart and puts them back together,
+/// whatever the session.
 #[derive(Drop)]
 struct Sending {
     outbox: Outbox,
 }
 
-/// Takes an outbox apart, and puts it together.
+/// Takes an outbox apart and puts it back together.
 fn taken_apart(outbox: Outbox) -> Outbox {
     outbox.in_order();
     let (frames, locks) = outbox.into_parts();
@@ -225,7 +225,7 @@ fn asked_text(alloc: Global, asked: Result<(), LockFault>) -> Result<String, Fai
 }
 
 impl Sending {
-    /// What a session asks of a lock, under an id.
+    /// A session's request for a lock, with this id.
     fn ask(
         &mut self,
         alloc: Global,
@@ -238,13 +238,13 @@ impl Sending {
         asked_text(alloc, self.outbox.ask(alloc, call, session, &id, name))
     }
 
-    /// Sends a frame, where there is memory for it.
+    /// Sends a frame, unless an allocation fails.
     fn push(&mut self, alloc: Global, session: u64, text: &str) -> Result<String, Fail> {
         let frame = frame_of(alloc, text)?;
         fact_text(alloc, self.outbox.push(alloc, session, frame))
     }
 
-    /// What is told of a session, by a command that tells.
+    /// The answer to a session's command that has one.
     fn tell(
         &mut self,
         alloc: Global,
@@ -264,7 +264,7 @@ impl Sending {
         }
     }
 
-    /// Takes the outbox apart, and puts it together.
+    /// Takes the outbox apart and puts it back together.
     fn take_apart(&mut self, alloc: Global) {
         let outbox = mem::replace(&mut self.outbox, Outbox::new(alloc));
         self.outbox = taken_apart(outbox);
@@ -287,7 +287,7 @@ impl Scripted for Sending {
     }
 }
 
-/// Calls are answered, and who loses a lock or becomes its owner is told so, also after its frames were cleared.
+/// Calls are answered, and a session that loses a lock or becomes its owner is notified, even after its frames were cleared.
 const TOLD: &str = r#"lock 1 1 L
 lock 2 1 L
 joined 2 -> {"error":null,"id":1,"result":{"locked":false}}
@@ -313,7 +313,7 @@ pop 2 -> {"id":null,"method":"locked","params":["L"]}
 unlock 1 3 L -> lock not held
 pop 1 -> none"#;
 
-/// Frames wait as they are put, and a queue that is forgotten has none.
+/// Frames wait in the order in which they are put, and a forgotten queue has none.
 const PUT: &str = "push 1 a -> true
 push 1 b -> true
 push 2 c -> true
@@ -329,7 +329,7 @@ apart 0
 push 2 d -> true
 joined 2 -> d";
 
-/// A new outbox does what the script says.
+/// Runs a script over a new outbox.
 fn tells(alloc: Global, script: &str) -> Result<(), Fail> {
     let outbox = Outbox::new(alloc);
     agrees(alloc, Sending { outbox }, script)

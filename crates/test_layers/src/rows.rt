@@ -27,7 +27,7 @@ struct Cells {
 }
 
 impl Cells {
-    /// What stands at a column.
+    /// The kind of value in a column.
     fn get(&self, name: &str) -> &'static str {
         match self.columns.get(name) {
             Some(datum) if datum.atoms().is_some() => "atoms",
@@ -52,7 +52,7 @@ fn columns_are_found_by_name_and_written_in_order(rt: HostRuntime) -> Result<(),
     agrees(rt.alloc(), Cells { columns }, COLUMNS)
 }
 
-/// Of two values of one name the second stays.
+/// Of two values with the same name, the second is kept.
 const GATHERED: &str = r#"has name -> false
 put name s1
 put name s2
@@ -62,14 +62,14 @@ has load -> false
 text -> {"id":"a","name":"s2"}
 has name -> false"#;
 
-/// Values by their names. The commands are `put NAME TEXT`, `has NAME` and `text`, which makes columns of them.
+/// Values by name. The commands are `put NAME TEXT`, `has NAME` and `text`, which turns them into columns.
 #[derive(Drop)]
 struct Gathered {
     values: NamedValues,
 }
 
 impl Gathered {
-    /// Puts a text at a column.
+    /// Puts a text in a column.
     fn put(&mut self, alloc: Global, cell: &str) -> Result<String, Fail> {
         let (name, text) = cell.split_once(" ").ok_or("no text")?;
         let name = String::from_str(alloc, name)?;
@@ -78,7 +78,7 @@ impl Gathered {
         Ok(String::new(alloc))
     }
 
-    /// The columns of these values. No value is left.
+    /// Turns the values into columns; no value remains.
     fn text(&mut self, alloc: Global) -> Result<String, Fail> {
         let values = mem::replace(&mut self.values, NamedValues::new(alloc));
         let columns = Columns::with_own_names(alloc, values)?;
@@ -103,7 +103,7 @@ fn values_are_gathered_by_their_names(rt: HostRuntime) -> Result<(), Fail> {
     agrees(rt.alloc(), Gathered { values }, GATHERED)
 }
 
-/// Names with a semicolon behind each.
+/// Names, each followed by a semicolon.
 fn joined(alloc: Global, names: &[String]) -> Result<String, Fail> {
     let mut text = String::new(alloc);
     for name in names {
@@ -118,7 +118,7 @@ fn names_of(alloc: Global, table: &Table) -> Result<String, Fail> {
     joined(alloc, names.as_slice())
 }
 
-/// Those of a switch.
+/// The names of a switch's columns.
 fn names_of_switch(alloc: Global) -> Result<String, Fail> {
     let schema = net(alloc)?;
     names_of(alloc, schema.table("Switch").ok_or("no table")?)
@@ -143,7 +143,7 @@ put Switch 1
 put Switch 2
 keys -> Port 9;Switch 1;Switch 2;";
 
-/// A row is taken out by its key, where there is one.
+/// A row is removed by its key, if there is one.
 const TAKEN_OUT: &str = "put Switch 2
 put Port 9
 put Switch 1
@@ -153,7 +153,7 @@ keys -> Port 9;Switch 1;Switch 2;
 remove Switch 2
 keys -> Port 9;Switch 1;";
 
-/// Rows that are put and taken out. The commands are `put KEY`, `remove KEY` and `keys`.
+/// Rows that are put and removed. The commands are `put KEY`, `remove KEY` and `keys`.
 #[derive(Drop)]
 pub(crate) struct Standing {
     pub(crate) rows: Rows,
@@ -206,7 +206,7 @@ impl Scripted for Standing {
     }
 }
 
-/// The keys of rows are as the script says.
+/// Runs a script, starting with no rows.
 fn stand(alloc: Global, script: &str) -> Result<(), Fail> {
     let rows = Rows::new(alloc);
     agrees(alloc, Standing { rows }, script)
@@ -222,7 +222,7 @@ fn a_row_is_taken_out_by_its_key(rt: HostRuntime) -> Result<(), Fail> {
     stand(rt.alloc(), TAKEN_OUT)
 }
 
-/// A row that is put and taken out again, and one that is put.
+/// A row that is put and removed again, and one that is put.
 const ONE_CHANGE: &str = "empty -> true
 put Switch 1
 remove Switch 1
@@ -239,7 +239,7 @@ struct Changing {
     delta: Delta,
 }
 
-/// What a change is.
+/// The word for a change.
 fn word_of(change: Option<&Option<Row>>) -> &'static str {
     match change {
         Some(Some(_)) => "a row",
@@ -257,14 +257,14 @@ impl Changing {
         Ok(String::new(alloc))
     }
 
-    /// Puts none in its place.
+    /// Puts no row at the key.
     fn remove(&mut self, alloc: Global, key: &str) -> Result<String, Fail> {
         let key = key_of(alloc, key)?;
         self.delta.insert(key, None)?;
         Ok(String::new(alloc))
     }
 
-    /// What is said of the key.
+    /// The word for the key's change.
     fn change(&self, alloc: Global, key: &str) -> Result<String, Fail> {
         let key = key_of(alloc, key)?;
         owned(alloc, word_of(self.delta.change(&key)))

@@ -1,4 +1,4 @@
-//! The open sessions, and their monitors, call by call.
+//! The open sessions and their monitors, call by call.
 
 use crate::databases::{Database, new_database};
 use crate::texts::{fact_text, number_text, owned, push_item};
@@ -11,7 +11,8 @@ use std::alloc::Global;
 use std::test::Fail;
 use test_basics::{Scripted, agrees, compact, number, switch, tree, value};
 
-/// Sessions behind a script. The commands are `open`, `close SERIAL`, `is_open SERIAL`, `free`, `full`, `next` and `serials`.
+/// Sessions, driven by a script. The commands are `open`, `close SERIAL`, `is_open SERIAL`, `free`, `full`, `next` and
+/// `serials`.
 #[derive(Drop)]
 struct Opening {
     sessions: Sessions,
@@ -38,7 +39,7 @@ fn serial_text(alloc: Global, serial: Option<u64>) -> Result<String, Fail> {
 }
 
 impl Opening {
-    /// Opens a session, where there is room for it.
+    /// Opens a session, if there is room for it.
     fn open(&mut self, alloc: Global) -> Result<String, Fail> {
         if self.sessions.is_full() {
             return owned(alloc, "full");
@@ -80,7 +81,7 @@ impl Scripted for Opening {
     }
 }
 
-/// A key is given again, and a serial is not. Sessions stand in order of opening.
+/// A key is reused; a serial is not. Sessions are in order of opening.
 const OPENED: &str = "free -> 64
 full -> false
 next -> 1
@@ -102,17 +103,17 @@ fn sessions_are_opened_and_closed(rt: HostRuntime) -> Result<(), Fail> {
     agrees(rt.alloc(), Opening { sessions }, OPENED)
 }
 
-/// The monitors of sessions behind a script, with a change that puts a switch into a new database.
+/// The monitors of sessions, driven by a script, with a change that puts a switch into a new database.
 ///
-/// The commands are `add SESSION ID REQUESTS` and `cancel SESSION ID`, which tell why they are refused, `initial SESSION ID`,
-/// `updates SESSION`, `leave SESSION` and `empty 0`.
+/// The commands are `add SESSION ID REQUESTS` and `cancel SESSION ID`, answered with why they are refused,
+/// `initial SESSION ID`, `updates SESSION`, `leave SESSION` and `empty 0`.
 struct Watching {
     database: Database,
     watchers: Watchers,
 }
 
 impl Drop for Watching {
-    // A drop of its own, as that of a database.
+    // Has its own drop, like a database.
     fn drop(self) {
         let Watching { database, watchers } = self;
         drop(database);
@@ -144,7 +145,7 @@ fn done_text(alloc: Global, done: Result<(), WatchFault>) -> Result<String, Fail
     }
 }
 
-/// What a monitor is told at first, or that there is none.
+/// The text of a monitor's initial rows, or that there is no such monitor.
 fn first_text(alloc: Global, told: Option<Tree>) -> Result<String, Fail> {
     match told {
         Some(told) => compact(alloc, &told),
@@ -169,7 +170,7 @@ impl Watching {
         done_text(alloc, self.watchers.cancel(alloc, session, &id))
     }
 
-    /// What a monitor is told at first.
+    /// A monitor's initial rows.
     fn initial(&self, alloc: Global, session: u64, id: &str) -> Result<String, Fail> {
         let id = tree(alloc, id)?;
         let told = self
@@ -178,7 +179,7 @@ impl Watching {
         first_text(alloc, told)
     }
 
-    /// What the monitors of a session are told of the change.
+    /// The updates with which a session's monitors report the change.
     fn updates(&self, alloc: Global, session: u64) -> Result<String, Fail> {
         let delta = one_switch(alloc)?;
         let updates = self
@@ -210,7 +211,7 @@ impl Scripted for Watching {
     }
 }
 
-/// Each session has monitors of its own.
+/// Each session has its own monitors.
 const WATCHED: &str = r#"empty 0 -> true
 add 1 "m" {"Switch":{"columns":["name"]}}
 add 1 "m" {} -> duplicate monitor id

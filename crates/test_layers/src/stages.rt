@@ -13,7 +13,7 @@ use std::mem;
 use std::test::Fail;
 use test_basics::{Scripted, agrees, compact, follows, net, number, switch};
 
-/// Rows are put and removed, and put as they were; what is left of that is no change.
+/// Rows are put and removed, and put back as they were, which leaves no change.
 const STAGED: &str = r#"where [] -> 3/1;9/1;
 put 5 7 4
 put 3 7 5
@@ -33,7 +33,7 @@ put 9 7 4
 where [] -> 3/1;9/1;
 changes -> 0"#;
 
-/// A condition on the identifier finds the one row that has it, if there is one and the others hold too.
+/// A condition on the identifier finds the one row that has it, if that row exists and meets the other conditions.
 const FOUND: &str = r#"put 5 7 4
 put 3 7 5
 remove 9
@@ -44,7 +44,7 @@ where [["_uuid","==",["uuid","00000000-0000-0000-0000-000000000009"]]]
 where [["_uuid","==",["uuid","00000000-0000-0000-0000-000000000004"]]]
 where [["_uuid","!=",["uuid","00000000-0000-0000-0000-000000000003"]]] -> 5/7;"#;
 
-/// Names are put in order, once; without names it is all that are not of each row by itself.
+/// Names are sorted and listed once; without names, all columns but those that every row has by itself.
 const COLUMNS: &str = r#"listed ["name","load","name"] -> load;name;
 listed []
 listed ["name","colour"] -> refused
@@ -52,7 +52,7 @@ listed [1] -> refused
 compared ["_uuid"] -> _uuid;
 compared -> load;main;name;ports;"#;
 
-/// Rows are shown with their columns by name, and told apart by their identifiers; by others only where an index does it.
+/// Rows are shown with their columns by name. Their identifiers tell them apart; other columns do so only through an index.
 const SHOWN: &str = r#"apart ["_uuid","name"] -> true
 apart ["load","name"] -> false
 apart [] -> false
@@ -69,8 +69,8 @@ const COMMITTED: &str = "put Switch 9
 put Port 4
 put Switch 3";
 
-/// A stage over rows. The commands are `put ID VERSION LOAD`, `remove ID`, `has ID`, `where CONDITIONS`, `listed NAMES`,
-/// `compared NAMES`, `apart NAMES`, `shown NAMES`, and `changes`, which begins again. They are about switches.
+/// A stage over rows. The commands, all about switches, are `put ID VERSION LOAD`, `remove ID`, `has ID`, `where CONDITIONS`,
+/// `listed NAMES`, `compared NAMES`, `apart NAMES`, `shown NAMES` and `changes`, which starts again.
 #[derive(Drop)]
 struct Staged<'a> {
     schema: &'a Schema,
@@ -78,7 +78,7 @@ struct Staged<'a> {
     stage: Stage<'a>,
 }
 
-/// The key of the switch of this number.
+/// The key of the switch with this number.
 fn switch_key(alloc: Global, id: &str) -> Result<RowKey, Fail> {
     Ok(RowKey::new(alloc, "Switch", number(id)?)?)
 }
@@ -100,7 +100,7 @@ fn text_of(alloc: Global, rows: &[RowView<'_>]) -> Result<String, Fail> {
     Ok(text)
 }
 
-/// Names with a semicolon behind each.
+/// Names, each followed by a semicolon.
 fn joined(alloc: Global, names: &[Text]) -> Result<String, Fail> {
     let mut text = String::new(alloc);
     for name in names {
@@ -117,7 +117,7 @@ fn names_of(alloc: Global, names: Result<Vec<Text>, OpFault>) -> Result<String, 
     }
 }
 
-/// The names, which are not refused.
+/// The names; fails if they are refused.
 fn chosen_of(names: Result<Vec<Text>, OpFault>) -> Result<Vec<Text>, Fail> {
     match names {
         Ok(names) => Ok(names),
@@ -125,7 +125,7 @@ fn chosen_of(names: Result<Vec<Text>, OpFault>) -> Result<Vec<Text>, Fail> {
     }
 }
 
-/// Adds the columns of these names of a row.
+/// Adds a row's columns with these names.
 fn push_shown(
     alloc: Global,
     text: &mut String,
@@ -138,7 +138,7 @@ fn push_shown(
     Ok(())
 }
 
-/// The columns of these names of rows.
+/// The rows' columns with these names.
 fn shown_of(alloc: Global, names: &[Text], rows: &[RowView<'_>]) -> Result<String, Fail> {
     let mut text = String::new(alloc);
     for row in rows {
@@ -147,7 +147,7 @@ fn shown_of(alloc: Global, names: &[Text], rows: &[RowView<'_>]) -> Result<Strin
     Ok(text)
 }
 
-/// The columns of these names, or all, of a table.
+/// A table's columns with these names, or all of them.
 fn compared_of(alloc: Global, table: &Table, names: &str) -> Result<String, Fail> {
     let tree = Value::from_str(alloc, names)?;
     names_of(alloc, compared_columns(alloc, table, Some(&tree)))
@@ -204,7 +204,7 @@ impl Staged<'_> {
         names_of(alloc, listed_columns(alloc, table, &tree))
     }
 
-    /// The columns of these names that are compared; without names all.
+    /// The compared columns with these names; without names, all.
     fn compared(&self, alloc: Global, names: &str) -> Result<String, Fail> {
         let table = self.schema.table("Switch").ok_or("no table")?;
         if names.is_empty() {
@@ -225,13 +225,13 @@ impl Staged<'_> {
         shown_of(alloc, names, rows.as_slice())
     }
 
-    /// The columns of these names of all switches.
+    /// The columns with these names, of all switches.
     fn shown(&self, alloc: Global, names: &str) -> Result<String, Fail> {
         let names = self.chosen(alloc, names)?;
         self.shown_by(alloc, names.as_slice())
     }
 
-    /// The columns of these names, each of which there must be.
+    /// The columns with these names, all of which must exist.
     fn chosen(&self, alloc: Global, names: &str) -> Result<Vec<Text>, Fail> {
         let table = self.schema.table("Switch").ok_or("no table")?;
         let tree = Value::from_str(alloc, names)?;
@@ -262,7 +262,7 @@ impl Scripted for Staged<'_> {
     }
 }
 
-/// A stage over these rows does what the script says.
+/// Runs a script over a stage of these rows.
 fn stages_over(alloc: Global, schema: &Schema, rows: &Rows, script: &str) -> Result<(), Fail> {
     let stage = Stage::new(alloc, rows);
     let staged = Staged {
@@ -273,7 +273,7 @@ fn stages_over(alloc: Global, schema: &Schema, rows: &Rows, script: &str) -> Res
     agrees(alloc, staged, script)
 }
 
-/// A stage over two switches and a port does.
+/// Runs a script over a stage of two switches and a port.
 fn stages(alloc: Global, script: &str) -> Result<(), Fail> {
     let mut standing = Standing {
         rows: Rows::new(alloc),

@@ -16,7 +16,7 @@ pub(crate) fn number_text(alloc: Global, number: u64) -> Result<String, Fail> {
     Ok(format!(in alloc; "{number}")?)
 }
 
-/// Adds a text, with a semicolon behind it.
+/// Adds a text, followed by a semicolon.
 pub(crate) fn push_item(text: &mut String, item: &str) -> Result<(), Fail> {
     text.push_str(item)?;
     text.push_str(";")?;

@@ -6,35 +6,35 @@ use std::alloc::{AllocError, Global};
 use std::test::Fail;
 use test_basics::{Scripted, agrees, holds, is_text};
 
-/// Three inputs, one behind the other: of one message, of one with a brace in a literal, and of two.
+/// Three inputs in a row: of one message, of one with a brace in a literal, and of two.
 const JOINED: &str =
     r#"{"id":0,"method":"list_dbs","params":[]}{"id":"x","method":"echo","params":["a\"}",{}]}{"id":1,"method":"transact","params":["Net",{"op":"insert","table":"Switch","row":{"name":"s1"}}]}{"id":2,"method":"transact","params":["Net",{"op":"select","table":"Switch","where":[]}]}"#;
 
-/// The same, with a bar behind each message.
+/// The same, with a bar after each message.
 const CUT: &str =
     r#"{"id":0,"method":"list_dbs","params":[]}|{"id":"x","method":"echo","params":["a\"}",{}]}|{"id":1,"method":"transact","params":["Net",{"op":"insert","table":"Switch","row":{"name":"s1"}}]}|{"id":2,"method":"transact","params":["Net",{"op":"select","table":"Switch","where":[]}]}|"#;
 
-/// A brace in a literal, behind an escaped quote, behind an escaped backslash; white space before, between and behind.
+/// A brace in a literal, after an escaped quote, after an escaped backslash; white space before, between and after.
 const BRACES: &str = r#"{"a":"}"} -> {"a":"}"}|None
 {"a\"}":1} -> {"a\"}":1}|None
 {"a\\":{}} -> {"a\\":{}}|None
  {} {"a":{}}  -> {}|{"a":{}}|None
 rest"#;
 
-/// A stray bracket is told by its offset, whatever comes behind it.
+/// A stray bracket is reported by its offset, whatever follows.
 const STRAY: &str =
     r#"{"id":0,"method":"list_dbs","params":[]} -> {"id":0,"method":"list_dbs","params":[]}|None
 ] -> Some(Damaged(40))
 {"id":1,"method":"list_dbs","params":[]} -> Some(Damaged(40))
  -> Some(Damaged(40))"#;
 
-/// What does not end stays, also where nothing comes behind it.
+/// What does not end remains, even if nothing follows.
 const UNFINISHED: &str = r#"{"id":0,"method":"echo","params":[ -> None
 rest -> {"id":0,"method":"echo","params":[
  -> None
 rest -> {"id":0,"method":"echo","params":["#;
 
-/// A cutter, and the messages that it gave, with a bar behind each.
+/// A cutter and the messages that it returned, with a bar after each.
 #[derive(Drop)]
 struct Cut {
     cutter: Cutter,
@@ -49,7 +49,7 @@ impl Cut {
         }
     }
 
-    /// Puts messages behind the others.
+    /// Appends messages.
     fn put(&mut self, messages: &[Bytes]) -> Result<(), Fail> {
         for message in messages {
             self.messages.push_str(str::from_utf8(message.as_slice())?)?;
@@ -58,7 +58,7 @@ impl Cut {
         Ok(())
     }
 
-    /// Takes what a piece brought.
+    /// Appends the messages of a piece and returns its fault.
     fn take(&mut self, fed: &Fed) -> Result<Option<CutFault>, Fail> {
         self.put(fed.messages.as_slice())?;
         Ok(fed.fault)
@@ -76,7 +76,7 @@ impl Cut {
     }
 }
 
-/// The commands are pieces: the messages of one, and the fault. `rest` is what is left.
+/// The commands are pieces, answered with their messages and the fault. `rest` is answered with what is left.
 impl Scripted for Cut {
     fn answer(&mut self, alloc: Global, command: &str) -> Result<String, Fail> {
         if command == "rest" {
@@ -89,20 +89,20 @@ impl Scripted for Cut {
     }
 }
 
-/// Whether all messages are cut, where their bytes come in these two pieces.
+/// Whether all messages are cut when their bytes come in these two pieces.
 fn is_cut_in_two(alloc: Global, cut: &mut Cut, first: &str, second: &str) -> Result<bool, Fail> {
     let is_good = cut.feed(alloc, first.as_bytes())?.is_none();
     let is_good_still = cut.feed(alloc, second.as_bytes())?.is_none();
     Ok(is_good && is_good_still && cut.is_whole())
 }
 
-/// Whether all messages are cut, where their bytes come in two pieces.
+/// Whether all messages are cut when their bytes come in two pieces.
 fn is_cut_at(alloc: Global, place: usize) -> Result<bool, Fail> {
     let (first, second) = JOINED.split_at_checked(place).ok_or("no place")?;
     is_cut_in_two(alloc, &mut Cut::new(alloc), first, second)
 }
 
-/// The first place at which the bytes come in two pieces, and not all messages are cut.
+/// The first place at which a split of the bytes in two does not give all messages.
 fn first_uncut(alloc: Global) -> Result<Option<usize>, Fail> {
     for place in 0..=JOINED.len() {
         if !is_cut_at(alloc, place)? {
@@ -118,7 +118,7 @@ fn joined_inputs_may_be_cut_at_any_place(rt: HostRuntime) -> Result<(), Fail> {
     is_text(rt.alloc(), found.as_str(), "None")
 }
 
-/// Whether all messages are cut, where their bytes come one by one.
+/// Whether all messages are cut when their bytes come one by one.
 fn is_cut_by_bytes(alloc: Global, cut: &mut Cut) -> Result<bool, Fail> {
     for byte in JOINED.as_bytes() {
         if cut.feed(alloc, &[*byte])?.is_some() {
@@ -150,7 +150,7 @@ fn an_unfinished_message_stays_the_rest(rt: HostRuntime) -> Result<(), Fail> {
     agrees(rt.alloc(), Cut::new(rt.alloc()), UNFINISHED)
 }
 
-/// An echo of a text of so many letters; it has 38 bytes more.
+/// An echo of a text of `letters` letters; it has 38 bytes more.
 fn long_echo(alloc: Global, letters: usize) -> Result<Vec<u8>, AllocError> {
     let mut text = Vec::from_slice(alloc, b"{\"id\":0,\"method\":\"echo\",\"params\":[\"")?;
     text.extend_from_slice(&vec![in alloc; b'a'; letters]?)?;
@@ -158,7 +158,7 @@ fn long_echo(alloc: Global, letters: usize) -> Result<Vec<u8>, AllocError> {
     Ok(text)
 }
 
-/// How many messages a text brought, whether the text is the only one, and the fault.
+/// The number of messages of a text, whether the text is the only one, and the fault.
 fn brought(alloc: Global, fed: &Fed, text: &[u8]) -> Result<String, Fail> {
     let count = fed.messages.len();
     let is_given = match fed.messages.as_slice() {
@@ -168,13 +168,13 @@ fn brought(alloc: Global, fed: &Fed, text: &[u8]) -> Result<String, Fail> {
     Ok(format!(in alloc; "{count} {is_given} {:?}", fed.fault)?)
 }
 
-/// The same where all of the text comes at once.
+/// The same when the whole text comes at once.
 fn brought_at_once(alloc: Global, text: &[u8]) -> Result<String, Fail> {
     let fed = Cutter::new(alloc).feed(alloc, text);
     brought(alloc, &fed, text)
 }
 
-/// The same of an echo of a text of so many letters.
+/// The same for an echo of a text of `letters` letters.
 fn brought_by_echo(alloc: Global, letters: usize) -> Result<String, Fail> {
     let text = long_echo(alloc, letters)?;
     brought_at_once(alloc, &text)
@@ -186,7 +186,7 @@ fn the_longest_message_is_given(rt: HostRuntime) -> Result<(), Fail> {
     is_text(rt.alloc(), found.as_str(), "1 true None")
 }
 
-/// The last message that ends where the text comes byte by byte. Each byte is looked at once at most, however many came before.
+/// The last message that ends when the text comes byte by byte. Each byte is examined at most once, however many came before.
 fn last_by_bytes(alloc: Global, cutter: &mut Cutter, text: &[u8]) -> Option<Bytes>
     ensures { cutter.new.looked ≤ cutter.old.looked + length text.now }
 {
@@ -200,7 +200,7 @@ fn last_by_bytes(alloc: Global, cutter: &mut Cutter, text: &[u8]) -> Option<Byte
     last
 }
 
-/// Whether a text that comes byte by byte is given, and nothing is left.
+/// Whether a text that comes byte by byte is returned, and nothing is left.
 fn is_given_by_bytes(alloc: Global, cutter: &mut Cutter, text: &[u8]) -> bool {
     match last_by_bytes(alloc, cutter, text) {
         Some(message) => message.as_slice() == text && cutter.rest().is_empty(),
@@ -208,7 +208,7 @@ fn is_given_by_bytes(alloc: Global, cutter: &mut Cutter, text: &[u8]) -> bool {
     }
 }
 
-/// The same of the longest message.
+/// The same for the longest message.
 fn is_longest_given(alloc: Global) -> Result<bool, AllocError> {
     let text = long_echo(alloc, 1_048_538)?;
     Ok(is_given_by_bytes(alloc, &mut Cutter::new(alloc), &text))
@@ -230,20 +230,20 @@ fn a_byte_more_is_too_long(rt: HostRuntime) -> Result<(), Fail> {
     is_text(rt.alloc(), found.as_str(), "0 false Some(TooLong)")
 }
 
-/// The beginning of an echo, which has 1,048,576 bytes.
+/// The first 1,048,576 bytes of an echo.
 fn long_beginning(alloc: Global) -> Result<Vec<u8>, AllocError> {
     let mut text = Vec::from_slice(alloc, b"{\"id\":0,\"method\":\"echo\",\"params\":[\"")?;
     text.extend_from_slice(&vec![in alloc; b'a'; 1_048_541]?)?;
     Ok(text)
 }
 
-/// The fault of a piece, and how many bytes are left.
+/// The fault of a piece, and the number of bytes left.
 fn fault_and_rest(alloc: Global, cutter: &mut Cutter, piece: &[u8]) -> Result<String, Fail> {
     let fault = cutter.feed(alloc, piece).fault;
     Ok(format!(in alloc; "{fault:?} {}", cutter.rest().len())?)
 }
 
-/// Fails unless the beginning is left, and a byte more is too long.
+/// Fails unless the beginning is left and one more byte is too long.
 fn is_full(alloc: Global, cutter: &mut Cutter, beginning: &[u8]) -> Result<(), Fail> {
     let found = fault_and_rest(alloc, cutter, beginning)?;
     is_text(alloc, found.as_str(), "None 1048576")?;
@@ -258,7 +258,7 @@ fn an_unfinished_message_may_be_too_long(rt: HostRuntime) -> Result<(), Fail> {
     is_full(alloc, &mut Cutter::new(alloc), &text)
 }
 
-/// Fails unless a text brings no message and is damaged at its first byte.
+/// Fails unless a text yields no message and is damaged at its first byte.
 fn is_damage(alloc: Global, text: &[u8]) -> Result<(), Fail> {
     let found = brought_at_once(alloc, text)?;
     is_text(alloc, found.as_str(), "0 false Some(Damaged(0))")

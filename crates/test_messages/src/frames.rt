@@ -39,13 +39,13 @@ fn note_of(alloc: Global, method: &str, params: &str) -> Result<String, Fail> {
     text_of(note(alloc, method, trees(alloc, params)?)?)
 }
 
-/// A reply, and one item more behind its results.
+/// A reply with one more item after its results.
 fn appended_to(alloc: Global, reply: &Bytes, is_first: bool, item: &str) -> Result<String, Fail> {
     let item = tree(alloc, item)?;
     text_of(append_item(alloc, reply, is_first, &item)?)
 }
 
-/// A reply with these results, and one item more behind them.
+/// A reply with these results and one more item after them.
 fn appended(alloc: Global, results: &str, item: &str) -> Result<String, Fail> {
     let results = trees(alloc, results)?;
     let is_first = results.as_slice().is_empty();
@@ -53,7 +53,7 @@ fn appended(alloc: Global, results: &str, item: &str) -> Result<String, Fail> {
     appended_to(alloc, &reply, is_first, item)
 }
 
-/// Puts a tree behind the others of an array.
+/// Appends a tree to an array.
 fn put(alloc: Global, array: &mut ArrayText, item: Value) -> Result<(), Fail> {
     if has_real(&item) {
         return Err(Fail::new("a real"));
@@ -61,7 +61,7 @@ fn put(alloc: Global, array: &mut ArrayText, item: Value) -> Result<(), Fail> {
     Ok(array.push(alloc, Tree::new(item).into())?)
 }
 
-/// Puts trees behind the others of an array.
+/// Appends trees to an array.
 fn put_all(alloc: Global, array: &mut ArrayText, items: Vec<Value>) -> Result<(), Fail> {
     for item in items {
         put(alloc, array, item)?;
@@ -77,7 +77,7 @@ fn items_of(alloc: Global, text: &str) -> Result<Vec<Value>, Fail> {
     }
 }
 
-/// The trees of an array, one put behind the other.
+/// The array of a text, built by appending its trees one by one.
 fn array_of(alloc: Global, text: &str) -> Result<ArrayText, Fail> {
     let mut array = ArrayText::new(alloc);
     put_all(alloc, &mut array, items_of(alloc, text)?)?;
@@ -115,7 +115,7 @@ fn reply_of_rows(alloc: Global, id: &str, rows: &str) -> Result<String, Fail> {
 #[derive(Drop)]
 struct Frames;
 
-/// The frame of a kind and its two parts.
+/// The frame of a kind with these two parts.
 fn frame_of(alloc: Global, kind: &str, first: &str, second: &str) -> Result<String, Fail> {
     match kind {
         "reply" => reply_of(alloc, first, second),
@@ -140,23 +140,23 @@ fn each_frame_is_these_bytes(rt: HostRuntime) -> Result<(), Fail> {
     agrees(rt.alloc(), Frames, FRAMES)
 }
 
-/// The result of an insert, alone and behind another.
+/// The result of an insert, alone and after another.
 const INSERTED: &str = r#"insert -> {"uuid":["uuid","0a1b2c3d-4e5f-4aaa-bfff-0123456789ab"]}
 push {}
 put
 text -> [{},{"uuid":["uuid","0a1b2c3d-4e5f-4aaa-bfff-0123456789ab"]}]"#;
 
-/// What is put makes an array that is not empty.
+/// An array is not empty once something is put.
 const PUT: &str = "reserve
 empty -> true
 push {}
 empty -> false
 text -> [{}]";
 
-/// An array of results, behind a script.
+/// An array of results, driven by a script.
 ///
-/// The commands are `empty`, `reserve`, `push TREE`, `insert`, answered with the result of an insert, `put`, which puts that
-/// result, and `text`.
+/// The commands are `empty`, `reserve`, `push TREE`, `insert`, answered with the result of an insert, `put`, which appends
+/// that result, and `text`.
 #[derive(Drop)]
 struct Results {
     array: ArrayText,
@@ -167,7 +167,7 @@ fn result_of_insert() -> OpResult {
     OpResult::of_new_row(Uuid::from_u128(0x0a1b_2c3d_4e5f_4aaa_bfff_0123_4567_89ab))
 }
 
-/// The text of that result.
+/// The text of the result of an insert.
 fn text_of_insert(alloc: Global) -> Result<String, Fail> {
     let result = result_of_insert();
     text_of(result.to_bytes(alloc)?)
@@ -212,7 +212,7 @@ impl Scripted for Results {
     }
 }
 
-/// An empty array does what the script says.
+/// Runs a script over an empty array.
 fn results_agree(alloc: Global, script: &str) -> Result<(), Fail> {
     let array = ArrayText::new(alloc);
     agrees(alloc, Results { array }, script)

@@ -1,4 +1,4 @@
-//! Tests of what goes over a stream: cuts of its bytes, messages and frames, and the texts, bytes and trees that they are made of.
+//! Tests of what goes over a stream: cuts of its bytes, messages and frames, and the texts, bytes and trees they are made of.
 #![tactic(auto)]
 
 #[cfg(test)]

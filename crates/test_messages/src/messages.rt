@@ -34,13 +34,13 @@ const MEMBERS: &str = r#"{"id":0,"method":"echo","params":["a\"b}"]} -> call 0 e
 {"id":1,"method":"m","params":[9223372036854775807]} -> call 1 m [9223372036854775807]
 {"id":1,"method":"m","params":[],"result":1} -> call 1 m []"#;
 
-/// The last of several members of one name counts.
+/// Of several members with the same name, the last counts.
 const REPEATED: &str =
     r#"{"id":1.5,"method":7,"params":{},"id":2,"method":"m","params":[]} -> call 2 m []
 {"id":2,"method":"m","params":[],"id":null} -> note m []"#;
 
-/// A request that is built wrong is told to who asked. A method that is no text is there, so a result beside it makes no
-/// answer. Of the last six nobody asked.
+/// A malformed request is reported to the client that asked. A method that is not a text is still a method, so a result
+/// beside it makes no answer. In the last six, nobody asked.
 const BUILT_WRONG: &str = r#"{"id":1,"params":[]} -> bad 1 syntax
 {"id":1,"method":"m"} -> bad 1 syntax
 {"id":1,"method":7,"params":[]} -> bad 1 syntax
@@ -61,8 +61,8 @@ const ANSWERS: &str = r#"{"id":1,"result":[],"error":null} -> answer
 {"error":"x"} -> answer
 {"id":1,"result":null,"params":[]} -> answer"#;
 
-/// A real outside the id is told to who asked, also where the text is built wrong, or is an answer; one in the id goes before
-/// it. A later member of the same name replaces it.
+/// A real outside the id is reported to the client that asked, even if the text is malformed or is an answer; a real in the
+/// id comes first. A later member of the same name replaces it.
 const REALS: &str = r#"{"id":1,"method":"m","params":[0.5]} -> bad 1 reals
 {"id":1,"method":"m","params":[{"a":[-0]}]} -> bad 1 reals
 {"id":1,"method":"m","params":[9223372036854775808]} -> bad 1 reals
@@ -76,8 +76,8 @@ const REALS: &str = r#"{"id":1,"method":"m","params":[0.5]} -> bad 1 reals
 [0.5] -> answer
 {"id":1,"method":"m","params":[0.5],"params":[]} -> call 1 m []"#;
 
-/// A text that is no JSON: nothing, a name without a value, a number that no value is read of, more behind it, a comma too many,
-/// surrogates that stand alone.
+/// Texts that are not JSON: nothing, a name without a value, a number that can't be read, trailing text, an extra comma,
+/// unpaired surrogates.
 const NO_JSON: &str = r#" -> unreadable
 {"id"} -> unreadable
 {"id":1,"method":"m","params":[1e999]} -> unreadable
@@ -151,7 +151,7 @@ impl Scripted for Messages {
     }
 }
 
-/// Each text is the message of its words.
+/// Runs a script of texts of messages.
 fn are_read(rt: &HostRuntime, script: &str) -> Result<(), Fail> {
     agrees(rt.alloc(), Messages { are_ids: false }, script)
 }
@@ -211,7 +211,7 @@ a surrogate -> unreadable
 beyond the last -> unreadable
 a part -> unreadable";
 
-/// The bytes of these words.
+/// The bytes for these words.
 fn bytes_of(words: &str) -> &'static [u8] {
     match words {
         "a byte of none" => b"\xff",
@@ -230,7 +230,7 @@ fn text_with(alloc: Global, inside: &[u8]) -> Result<Vec<u8>, AllocError> {
     Ok(text)
 }
 
-/// The commands are words of bytes in a literal.
+/// The commands are words for bytes in a literal.
 #[derive(Drop)]
 struct Literals;
 
@@ -246,7 +246,7 @@ fn a_text_that_is_not_utf8_is_unreadable(rt: HostRuntime) -> Result<(), Fail> {
     agrees(rt.alloc(), Literals, NOT_UTF8)
 }
 
-/// How many levels the first parameter of a call has, arrays or objects, and whether the call is read.
+/// How many levels of arrays or objects the first parameter of a call has, and whether the call is read.
 const NESTED: &str = "array 1 -> true
 array 125 -> true
 array 126 -> false
@@ -256,7 +256,7 @@ object 125 -> true
 object 126 -> false
 object 5000 -> false";
 
-/// Puts so many copies of a piece behind a text.
+/// Appends `times` copies of a piece to a text.
 fn put_times(text: &mut Vec<u8>, times: u32, piece: &[u8]) -> Result<(), AllocError> {
     for _ in 0..times {
         text.extend_from_slice(piece)?;
@@ -264,7 +264,7 @@ fn put_times(text: &mut Vec<u8>, times: u32, piece: &[u8]) -> Result<(), AllocEr
     Ok(())
 }
 
-/// Puts a value of so many levels behind a text: each is `open`, and then come as many of `close`.
+/// Appends a value of `levels` levels to a text: an `open` for each, then as many of `close`.
 fn put_nest(text: &mut Vec<u8>, levels: u32, open: &[u8], close: &[u8]) -> Result<(), AllocError> {
     put_times(text, levels, open)?;
     text.extend_from_slice(b"1")?;
@@ -273,7 +273,7 @@ fn put_nest(text: &mut Vec<u8>, levels: u32, open: &[u8], close: &[u8]) -> Resul
     Ok(())
 }
 
-/// A call whose first parameter goes this many levels deep.
+/// A call whose first parameter has `levels` levels.
 fn deep_call(alloc: Global, levels: u32, open: &[u8], close: &[u8]) -> Result<Vec<u8>, AllocError> {
     let mut text = Vec::from_slice(alloc, b"{\"id\":1,\"method\":\"m\",\"params\":[")?;
     put_nest(&mut text, levels, open, close)?;
@@ -287,7 +287,7 @@ fn is_deep_call_read(alloc: Global, levels: u32, open: &[u8], close: &[u8]) -> R
     Ok(words.as_str() != "unreadable")
 }
 
-/// The same of arrays or of objects.
+/// The same for arrays or objects.
 fn is_nest_read(alloc: Global, kind: &str, levels: u32) -> Result<bool, Fail> {
     match kind {
         "array" => is_deep_call_read(alloc, levels, b"[", b"]"),
@@ -301,7 +301,7 @@ fn text_of_nest(alloc: Global, kind: &str, levels: u32) -> Result<String, Fail> 
     Ok(format!(in alloc; "{is_read}")?)
 }
 
-/// The commands are a kind, and a number of levels behind it.
+/// The commands are a kind followed by a number of levels.
 #[derive(Drop)]
 struct Nests;
 
@@ -317,7 +317,7 @@ fn nesting_ends_at_127_levels_with_the_message_and_its_params(rt: HostRuntime) -
     agrees(rt.alloc(), Nests, NESTED)
 }
 
-/// A call of a mebibyte.
+/// A call of one mebibyte.
 fn long_call(alloc: Global) -> Result<Vec<u8>, AllocError> {
     let mut text = Vec::from_slice(alloc, b"{\"id\":1,\"method\":\"echo\",\"params\":[0")?;
     put_times(&mut text, 349_513, b",12")?;
@@ -339,13 +339,13 @@ fn length_of_echo(alloc: Global, text: &[u8]) -> Result<usize, Fail> {
     }
 }
 
-/// How many bytes a call has, and its echo.
+/// How many bytes a call and its echo have.
 fn lengths_of(alloc: Global, text: &[u8]) -> Result<String, Fail> {
     let echo = length_of_echo(alloc, text)?;
     Ok(format!(in alloc; "{} {echo}", text.len())?)
 }
 
-/// The same of the call of a mebibyte.
+/// The same for the call of one mebibyte.
 fn lengths(alloc: Global) -> Result<String, Fail> {
     let text = long_call(alloc)?;
     lengths_of(alloc, &text)

@@ -4,7 +4,7 @@ use std::alloc::Global;
 use std::test::Fail;
 use test_basics::{Scripted, agrees, compact, is_text, tree, trees};
 
-/// A real is a number that no integer of 64 bits is.
+/// A real is a number that is not a 64-bit integer.
 const REALS: &str = r#"0 -> false
 -1 -> false
 9223372036854775807 -> false
@@ -24,7 +24,7 @@ true -> false
 {"a": 1, "b": {"c": 0.5}, "d": 2} -> true
 {"1.5": [1, {"b": "0.5"}]} -> false"#;
 
-/// Whether a text has a real.
+/// Whether a text contains a real.
 #[derive(Drop)]
 struct Reals;
 
@@ -42,13 +42,13 @@ fn a_real_is_a_number_that_no_64_bit_integer_is(rt: HostRuntime) -> Result<(), F
 
 const BYTES: &[u8] = b"\x00ab\xff";
 
-/// Fails unless bytes are those four.
+/// Fails unless bytes are the four of `BYTES`.
 fn are_bytes(alloc: Global, bytes: &[u8]) -> Result<(), Fail> {
     let found = format!(in alloc; "{bytes:?}")?;
     is_text(alloc, found.as_str(), "[0, 97, 98, 255]")
 }
 
-/// The bytes of a vector that is moved in and out again.
+/// The bytes of a vector moved in and out again.
 fn moved(bytes: Bytes) -> Vec<u8> {
     Bytes::from_vec(bytes.into_vec()).into_vec()
 }
@@ -69,7 +69,7 @@ fn bytes_give_back_what_they_were_made_of(rt: HostRuntime) -> Result<(), Fail> {
     are_bytes_moved(rt.alloc())
 }
 
-/// Sixteen bytes lie in the text itself, and seventeen do not.
+/// Sixteen bytes are stored in the text itself; seventeen are not.
 const TEXTS: &str = "kept -> true
 kept éa -> true
 kept sixteen letters. -> true
@@ -88,7 +88,7 @@ copied_as_tree [true,{"c":-5}] -> [true,{"c":-5}]"#;
 
 const SLICE_COPY: &str = r#"copied_from_slice [true,{"c":-5}] -> [true,{"c":-5}]"#;
 
-/// Whether a text is the same, copied and not copied.
+/// Whether a text is unchanged, both copied and moved.
 fn is_kept(alloc: Global, text: &str) -> Result<bool, Fail> {
     let copied = Text::from_str(alloc, text)?;
     let moved = Text::from_string(String::from_str(alloc, text)?);
@@ -101,7 +101,7 @@ fn kept(alloc: Global, text: &str) -> Result<String, Fail> {
     Ok(format!(in alloc; "{is_kept}")?)
 }
 
-/// A tree, as it is printed.
+/// The printed text of a tree.
 fn printed(alloc: Global, text: &str) -> Result<String, Fail> {
     let tree = tree(alloc, text)?;
     compact(alloc, &tree)
@@ -113,19 +113,19 @@ fn object(alloc: Global, text: &str) -> Result<String, Fail> {
     Ok(format!(in alloc; "{is_object}")?)
 }
 
-/// The copy of a tree, as it is printed.
+/// The printed text of a copy of a tree.
 fn copied(alloc: Global, text: &str) -> Result<String, Fail> {
     let copy = tree(alloc, text)?.copy()?;
     compact(alloc, &copy)
 }
 
-/// How many trees there are.
+/// The number of trees.
 fn count(alloc: Global, text: &str) -> Result<String, Fail> {
     let count = trees(alloc, text)?.as_slice().len();
     Ok(format!(in alloc; "{count}")?)
 }
 
-/// Trees as one tree, as it is printed.
+/// The printed text of trees joined in one tree.
 fn joined(alloc: Global, text: &str) -> Result<String, Fail> {
     let tree = trees(alloc, text)?.into_tree();
     compact(alloc, &tree)
@@ -143,7 +143,7 @@ fn copied_from_slice(alloc: Global, text: &str) -> Result<String, Fail> {
     compact(alloc, &copy.into_tree())
 }
 
-/// The commands are a word for what is made of a text, and the text.
+/// The commands are a word for what to make of a text, and the text.
 #[derive(Drop)]
 struct Made;
 
@@ -193,7 +193,7 @@ fn trees_are_copied_from_a_slice(rt: HostRuntime) -> Result<(), Fail> {
     agrees(rt.alloc(), Made, SLICE_COPY)
 }
 
-/// The bytes that a trace takes which has some.
+/// The size in bytes of a trace to which bytes were added.
 fn size_of_trace() -> usize {
     let mut trace = ByteTrace::new();
     trace.add(b"ab");

@@ -1,5 +1,5 @@
-//! Tests of what serves: the machine, with transactions, waits, locks and monitors, its streams, one session over a reader and a
-//! writer, and the program's arguments and endings.
+//! Tests of the server: the machine with transactions, waits, locks and monitors; its streams; one session over a reader and
+//! a writer; and the program's arguments and endings.
 #![tactic(auto)]
 
 #[cfg(test)]

@@ -1,10 +1,11 @@
-//! Locks and what is asserted of them, call by call (RFC 7047, 4.1.8 to 4.1.10 and 5.2.10).
+//! Locks and `assert`, call by call (RFC 7047, 4.1.8 to 4.1.10 and 5.2.10).
 
 use std::alloc::Global;
 use std::test::Fail;
 use test_support::calls;
 
-/// The first that asks is the owner. The second waits, and can neither assert that it owns the lock nor steal it.
+/// The first session that asks becomes the owner. The second waits, and can neither assert that it owns the lock nor steal
+/// it.
 const OWNED: &str = r#"open 2 -> 1;2;
 call 1 1 lock ["L"] -> {"error":null,"id":1,"result":{"locked":true}}
 call 2 1 lock ["L"] -> {"error":null,"id":1,"result":{"locked":false}}
@@ -17,7 +18,8 @@ fn lock_has_one_owner(rt: HostRuntime) -> Result<(), Fail> {
     calls(rt.alloc(), OWNED)
 }
 
-/// Then a third session steals the lock, and ends: the former owner is told of both. The one that waited gives up waiting.
+/// Then a third session steals the lock and ends: the former owner is notified of both. The session that waited gives up
+/// waiting.
 const STOLEN: &str = r#"open 1 -> 3;
 call 3 1 steal ["L"] -> {"error":null,"id":1,"result":{"locked":true}}
 got 1 -> {"id":null,"method":"stolen","params":["L"]}
@@ -38,7 +40,7 @@ fn stolen_and_given_back(rt: HostRuntime) -> Result<(), Fail> {
     calls(rt.alloc(), script.as_str())
 }
 
-/// A session that ends gives its locks on in ascending order of their names, whatever the order in which it asked for them.
+/// A session that ends passes its locks on in ascending order of their names, whatever the order in which it asked for them.
 const BY_NAME: &str = r#"open 2 -> 1;2;
 call 1 1 lock ["B"] -> {"error":null,"id":1,"result":{"locked":true}}
 call 1 2 lock ["A"] -> {"error":null,"id":2,"result":{"locked":true}}
@@ -53,7 +55,7 @@ fn locks_are_given_on_by_name(rt: HostRuntime) -> Result<(), Fail> {
     calls(rt.alloc(), BY_NAME)
 }
 
-/// A session that waits and ends is passed over, and nobody is told of it. One that is closed for another reason gives its
+/// A waiting session that ends is skipped, and nobody is notified. A session that is closed for another reason passes its
 /// locks on too.
 const CLOSED: &str = r#"open 3 -> 1;2;3;
 call 1 1 lock ["L"] -> {"error":null,"id":1,"result":{"locked":true}}
@@ -78,8 +80,8 @@ fn a_closed_session_asks_for_nothing(rt: HostRuntime) -> Result<(), Fail> {
     calls(rt.alloc(), CLOSED)
 }
 
-/// Who has asked for a lock asks for it again only after giving it up: be it the owner, one that waits, one that stole it, or one
-/// that it was stolen from.
+/// A session that has asked for a lock may ask again only after giving it up: whether it owns the lock, waits for it, stole
+/// it, or had it stolen.
 const AGAIN: &str = r#"open 3 -> 1;2;3;
 call 1 1 lock ["L"] -> {"error":null,"id":1,"result":{"locked":true}}
 call 1 2 lock ["L"] -> {"error":"lock already requested","id":2,"result":null}
@@ -105,7 +107,7 @@ fn a_lock_is_asked_for_once(rt: HostRuntime) -> Result<(), Fail> {
     calls(rt.alloc(), AGAIN)
 }
 
-/// Nobody is told that one gives up waiting. The owner gives the lock to the next one.
+/// A session that gives up waiting causes no notification. The owner passes the lock to the next session.
 const GIVES_UP: &str = r#"open 3 -> 1;2;3;
 call 1 1 lock ["L"] -> {"error":null,"id":1,"result":{"locked":true}}
 call 2 1 lock ["L"] -> {"error":null,"id":1,"result":{"locked":false}}
@@ -127,8 +129,8 @@ fn one_that_waits_gives_up(rt: HostRuntime) -> Result<(), Fail> {
     calls(rt.alloc(), GIVES_UP)
 }
 
-/// The last thief gives the lock back to the one before, and this to the owner that it stole it from. What nobody has is stolen
-/// from nobody.
+/// The last thief returns the lock to the thief before, and that one to the owner that it stole it from. A lock that nobody
+/// owns is stolen from nobody.
 const TWICE: &str = r#"open 4 -> 1;2;3;4;
 call 1 1 lock ["L"] -> {"error":null,"id":1,"result":{"locked":true}}
 call 2 1 lock ["L"] -> {"error":null,"id":1,"result":{"locked":false}}
@@ -161,7 +163,7 @@ fn a_lock_is_stolen_twice(rt: HostRuntime) -> Result<(), Fail> {
     calls(rt.alloc(), TWICE)
 }
 
-/// Only what a session asked for is given up, and once. Capital letters name other locks than small ones.
+/// A session can give up only what it asked for, and only once. Lock names are case-sensitive.
 const NOT_HELD: &str = r#"open 2 -> 1;2;
 call 1 1 unlock ["L"] -> {"error":"lock not held","id":1,"result":null}
 call 1 2 lock ["L"] -> {"error":null,"id":2,"result":{"locked":true}}
@@ -178,7 +180,7 @@ fn what_is_not_held_is_not_given_up(rt: HostRuntime) -> Result<(), Fail> {
     calls(rt.alloc(), NOT_HELD)
 }
 
-/// What comes of more requests than a session may hold. That it has asked for a lock is told first.
+/// Requests beyond what a session may hold. That it has already asked for a lock is reported first.
 const TOO_MANY: &str =
     r#"call 1 257 lock ["M"] -> {"error":"resources exhausted","id":257,"result":null}
 call 1 258 steal ["M"] -> {"error":"resources exhausted","id":258,"result":null}
@@ -194,12 +196,12 @@ end 1
 call 2 4 lock ["M"] -> {"error":null,"id":4,"result":{"locked":true}}
 call 2 5 lock ["L7"] -> {"error":null,"id":5,"result":{"locked":true}}"#;
 
-/// The last of them, which another session has.
+/// The last of these locks, which another session owns.
 const LAST: &str = r#"call 2 1 lock ["L256"] -> {"error":null,"id":1,"result":{"locked":true}}
 call 1 256 lock ["L256"] -> {"error":null,"id":256,"result":{"locked":false}}
 "#;
 
-/// Adds the call by which session 1 asks for the lock of a number.
+/// Adds the call by which session 1 asks for lock number `id`.
 fn push_request(alloc: Global, script: &mut String, id: u64) -> Result<(), Fail> {
     let line = format!(in alloc;
         "call 1 {id} lock [\"L{id}\"] -> {{\"error\":null,\"id\":{id},\"result\":{{\"locked\":true}}}}\n"
@@ -208,7 +210,7 @@ fn push_request(alloc: Global, script: &mut String, id: u64) -> Result<(), Fail>
     Ok(())
 }
 
-/// Session 1 asks for 256 locks, and waits for the last of them; then it asks for more.
+/// Session 1 asks for 256 locks, waits for the last of them, and then asks for more.
 fn many_requests(alloc: Global) -> Result<String, Fail> {
     let mut script = String::from_str(alloc, "open 2 -> 1;2;\n")?;
     for id in 1..256 {
@@ -225,7 +227,7 @@ fn a_session_asks_for_256_locks(rt: HostRuntime) -> Result<(), Fail> {
     calls(rt.alloc(), script.as_str())
 }
 
-/// Params of a wrong number or kind, and names that are no `<id>`.
+/// Params of the wrong number or kind, and names that are no `<id>`.
 const WRONG: [&str; 12] = [
     "[]",
     r#"["A","B"]"#,
@@ -241,7 +243,7 @@ const WRONG: [&str; 12] = [
     r#"["é"]"#,
 ];
 
-/// Adds the call of a method that refuses params.
+/// Adds a call of a method that refuses its params.
 fn push_refused(
     alloc: Global,
     script: &mut String,
@@ -289,8 +291,8 @@ fn locks_have_names(rt: HostRuntime) -> Result<(), Fail> {
     calls(rt.alloc(), NAMES)
 }
 
-/// A transaction fails where its session is not the owner, before the first lock, after an unlock and after a steal, and nothing
-/// of it stays.
+/// A transaction fails if its session is not the owner: before the first lock, after an unlock and after a steal. None of its
+/// changes stay.
 const ASSERTED: &str = r#"open 2 -> 1;2;
 call 1 1 transact ["Net",{"op":"assert","lock":"L"}] -> {"error":null,"id":1,"result":[{"error":"not owner"}]}
 call 1 2 lock ["L"] -> {"error":null,"id":2,"result":{"locked":true}}
@@ -315,7 +317,7 @@ fn assert_wants_the_owner(rt: HostRuntime) -> Result<(), Fail> {
 const FIRST: &str = r#"open 1 -> 1;
 call 1 1 lock ["L"] -> {"error":null,"id":1,"result":{"locked":true}}"#;
 
-/// Asserts that are built wrong.
+/// Malformed asserts.
 const BAD_ASSERTS: [&str; 8] = [
     r#"{"op":"assert"}"#,
     r#"{"op":"assert","name":"L"}"#,
@@ -327,7 +329,7 @@ const BAD_ASSERTS: [&str; 8] = [
     r#"{"op":"assert","lock":"L","lock":"9"}"#,
 ];
 
-/// Session 1 owns L, and makes each of them before another operation.
+/// Session 1 owns L, and makes each of these asserts before another operation.
 fn bad_asserts(alloc: Global) -> Result<String, Fail> {
     let mut script = String::from_str(alloc, FIRST)?;
     for operation in BAD_ASSERTS {
@@ -354,21 +356,21 @@ got 1 -> {"id":null,"method":"stolen","params":["L"]}
 call 2 2 transact ["Net",{"op":"insert","table":"Switch","row":{"name":"s9"}}] -> {"error":null,"id":2,"result":[{"uuid":["uuid","00000000-0000-4000-8000-000000000003"]}]}
 got 1 -> {"error":null,"id":2,"result":[{},{"error":"not owner"}]}"#;
 
-/// The session still owns it as the wait is met.
+/// The session still owns it when the wait is met.
 const STILL_OWNED: &str = r#"open 2 -> 1;2;
 call 1 1 lock ["L"] -> {"error":null,"id":1,"result":{"locked":true}}
 call 1 2 transact ["Net",{"op":"wait","table":"Switch","where":[["name","==","s9"]],"columns":["name"],"until":"==","rows":[{"name":"s9"}]},{"op":"assert","lock":"L"}]
 call 2 1 transact ["Net",{"op":"insert","table":"Switch","row":{"name":"s9"}}] -> {"error":null,"id":1,"result":[{"uuid":["uuid","00000000-0000-4000-8000-000000000003"]}]}
 got 1 -> {"error":null,"id":2,"result":[{},{}]}"#;
 
-/// The session asks for it only after the transaction came.
+/// The session asks for it only after the transaction arrived.
 const OWNED_BY_THEN: &str = r#"open 2 -> 1;2;
 call 1 1 transact ["Net",{"op":"wait","table":"Switch","where":[["name","==","s9"]],"columns":["name"],"until":"==","rows":[{"name":"s9"}]},{"op":"assert","lock":"L"}]
 call 1 2 lock ["L"] -> {"error":null,"id":2,"result":{"locked":true}}
 call 2 1 transact ["Net",{"op":"insert","table":"Switch","row":{"name":"s9"}}] -> {"error":null,"id":1,"result":[{"uuid":["uuid","00000000-0000-4000-8000-000000000003"]}]}
 got 1 -> {"error":null,"id":1,"result":[{},{}]}"#;
 
-/// The lock is stolen, and given back before the wait is met.
+/// The lock is stolen, and returned before the wait is met.
 const GIVEN_BACK: &str = r#"open 3 -> 1;2;3;
 call 1 1 lock ["L"] -> {"error":null,"id":1,"result":{"locked":true}}
 call 1 2 transact ["Net",{"op":"wait","table":"Switch","where":[["name","==","s9"]],"columns":["name"],"until":"==","rows":[{"name":"s9"}]},{"op":"assert","lock":"L"}]
@@ -379,7 +381,7 @@ got 1 -> {"id":null,"method":"locked","params":["L"]}
 call 3 1 transact ["Net",{"op":"insert","table":"Switch","row":{"name":"s9"}}] -> {"error":null,"id":1,"result":[{"uuid":["uuid","00000000-0000-4000-8000-000000000003"]}]}
 got 1 -> {"error":null,"id":2,"result":[{},{}]}"#;
 
-/// The assert stands before the wait: a steal makes no try, and a tick does.
+/// The assert comes before the wait: a steal starts no try, and a tick does.
 const ASSERTED_FIRST: &str = r#"open 2 -> 1;2;
 call 1 1 lock ["L"] -> {"error":null,"id":1,"result":{"locked":true}}
 call 1 2 transact ["Net",{"op":"assert","lock":"L"},{"op":"wait","table":"Switch","where":[["name","==","s9"]],"columns":["name"],"until":"==","rows":[{"name":"s9"}]},{"op":"insert","table":"Switch","row":{"name":"s1"}}]

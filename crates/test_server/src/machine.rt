@@ -8,7 +8,7 @@ use test_basics::{
 };
 use test_support::{NetCore, steps};
 
-/// Up to 64 sessions are open, each with a key of its own, and the key of one that is closed is given again.
+/// Up to 64 sessions are open, each with its own key. The key of a closed session is used again.
 const SIXTY_FOUR: &str = r#"free -> 64
 next -> 1
 opens 32 -> 0;1;2;3;4;5;6;7;8;9;10;11;12;13;14;15;16;17;18;19;20;21;22;23;24;25;26;27;28;29;30;31;
@@ -28,7 +28,7 @@ open 0 -> Refused(TooMany)
 free -> 0
 next -> 66"#;
 
-/// Each of two sessions is answered its own requests, in the order of these.
+/// Each of two sessions receives the replies to its own requests, in the order of the requests.
 const INTERLEAVED: &str = r#"open 0 -> Opened(Session { key: 0, serial: 1 })
 open 0 -> Opened(Session { key: 1, serial: 2 })
 take 1 {"id":1,"method":"list_dbs","params":[]} -> Done
@@ -42,7 +42,7 @@ take 2 {"id":4,"method":"list_dbs","params":[]} -> Done
 output 2 -> {"error":null,"id":4,"result":["Net"]}
 output 1"#;
 
-/// What waits for a closed session can be dropped, and what waits for an open one can't.
+/// Frames that wait for a closed session can be discarded; those that wait for an open one can't.
 const DISCARDED: &str = r#"open 0 -> Opened(Session { key: 0, serial: 1 })
 open 0 -> Opened(Session { key: 1, serial: 2 })
 take 1 {"id":1,"method":"list_dbs","params":[]} -> Done
@@ -58,14 +58,14 @@ close 2 -> true
 frame 2 -> {"error":null,"id":3,"result":["Net"]}
 frame 2 -> none"#;
 
-/// A serial is not used again.
+/// Serials are not reused.
 const SERIALS: &str = r#"open 0 -> Opened(Session { key: 0, serial: 1 })
 end 1 -> Done
 open 0 -> Opened(Session { key: 0, serial: 2 })
 is_open 1 -> false
 end 1 -> Refused(NotOpen)"#;
 
-/// A closed session is handed what waits, and nothing more.
+/// A closed session is handed what waits for it, and nothing more.
 const CLOSED: &str = r#"open 0 -> Opened(Session { key: 0, serial: 1 })
 take 1 {"id":0,"method":"list_dbs","params":[]} -> Done
 close 1 -> true
@@ -75,7 +75,7 @@ moments -> 0;0;0;
 frame 1 -> {"error":null,"id":0,"result":["Net"]}
 frame 1 -> none"#;
 
-/// What waits is handed out joined, and once.
+/// Waiting frames are handed out joined, and only once.
 const HANDED_OUT: &str = r#"open 0 -> Opened(Session { key: 0, serial: 1 })
 take 1 {"id":0,"method":"list_dbs","params":[]} -> Done
 take 1 {"id":0,"method":"list_dbs","params":[]} -> Done
@@ -92,7 +92,7 @@ open 9 -> Opened(Session { key: 0, serial: 1 })
 close 1 -> true
 moments -> 5;5;9;9;"#;
 
-/// The last 4,096 entries are kept.
+/// The history keeps the last 4,096 entries.
 const NEWEST: &str = r#"open 0 -> Opened(Session { key: 0, serial: 1 })
 echoes 0 4095
 entries -> 4096
@@ -152,14 +152,14 @@ fn fault_of(opened: Result<NetCore, RefusedOpen<NetKeeper>>) -> Option<OpenFault
     }
 }
 
-/// Why a machine is not opened over a keeper of this schema's text and of these lines.
+/// Why a machine is not opened over a keeper with this schema text and these lines.
 fn refusal(alloc: Global, stored: &str, lines: &str) -> Result<Option<OpenFault>, Fail> {
     let keeper = failing(keeper_of(alloc, stored, lines)?, Faults::NONE);
     let schema = net(alloc)?;
     Ok(fault_of(Core::open(alloc, keeper, schema, Counter::new())))
 }
 
-/// Fails unless this is why.
+/// Fails unless a machine is refused for this reason.
 fn refuses(alloc: Global, stored: &str, lines: &str, wanted: &str) -> Result<(), Fail> {
     let fault = refusal(alloc, stored, lines)?;
     let told = format!(in alloc; "{fault:?}")?;
@@ -188,21 +188,21 @@ fn over_a_switch(alloc: Global) -> Result<NetCore, Fail> {
     Ok(Core::open(alloc, keeper, net(alloc)?, Counter::new())?)
 }
 
-/// How many failures it has counted.
+/// The number of failures that it has counted.
 fn failures_over_a_switch(alloc: Global) -> Result<u64, Fail> {
     let core = over_a_switch(alloc)?;
     core.kept();
     Ok(core.failures())
 }
 
-/// What a machine keeps true of its rows is told without a call of the keeper.
+/// A machine states what holds of its rows without calling the keeper.
 #[test]
 fn a_machine_tells_that_its_rows_are_whole(rt: HostRuntime) -> Result<(), Fail> {
     let failures = failures_over_a_switch(rt.alloc())?;
     holds(rt.alloc(), failures == 0, "the keeper has not failed")
 }
 
-/// The refusal of a machine, where it is refused.
+/// The refusal of a machine. Fails if the machine was opened.
 fn refused(
     opened: Result<NetCore, RefusedOpen<NetKeeper>>,
 ) -> Result<RefusedOpen<NetKeeper>, Fail> {
@@ -220,19 +220,19 @@ fn refused_at_the_load(alloc: Global) -> Result<RefusedOpen<NetKeeper>, Fail> {
     refused(Core::open(alloc, keeper, schema, Counter::new()))
 }
 
-/// How many failures a machine over this keeper has counted, as it is opened.
+/// The number of failures that a machine over this keeper has counted when it is opened.
 fn failures_of(alloc: Global, keeper: NetKeeper) -> Result<u64, Fail> {
     let core = Core::open(alloc, keeper, net(alloc)?, Counter::new())?;
     Ok(core.failures())
 }
 
-/// Fails unless the device has failed once, as the keeper tells and then a machine over it.
+/// Fails unless the device has failed once, as reported by the keeper and then by a machine over it.
 fn is_failed_once(alloc: Global, fault: OpenFault, before: u64, after: u64) -> Result<(), Fail> {
     let told = format!(in alloc; "{fault:?} {before} {after}")?;
     is_text(alloc, told.as_str(), "Keeping(Device) 1 1")
 }
 
-/// The device's failure is told and counted, and the keeper that is given back can be opened.
+/// The device's failure is reported and counted, and the keeper that is handed back can be opened.
 #[test]
 fn a_refused_opening_gives_the_keeper_back(rt: HostRuntime) -> Result<(), Fail> {
     let RefusedOpen { fault, keeper } = refused_at_the_load(rt.alloc())?;

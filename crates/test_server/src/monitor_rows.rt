@@ -1,11 +1,12 @@
-//! Monitors call by call: what they are told at first, and what of each commit (RFC 7047, 4.1.5 to 4.1.7).
+//! Monitors, call by call: their initial rows, and the updates of each commit (RFC 7047, 4.1.5 to 4.1.7).
 
 use std::alloc::Global;
 use std::test::Fail;
 use test_basics::Faults;
 use test_support::{calls, calls_over, converses};
 
-/// A row that comes, one whose name changes, and one that goes: each is told before the reply. A change of its load alone is not.
+/// A row is inserted, one is renamed, and one is deleted: each update comes before the reply. A change of its load alone
+/// sends none.
 const TOLD: &str =
     r#">{"id":1,"method":"monitor","params":["Net","m",{"Switch":[{"columns":["name"]}]}]}
 <{"error":null,"id":1,"result":{}}
@@ -23,7 +24,7 @@ fn updates_before_reply(rt: HostRuntime) -> Result<(), Fail> {
     converses(rt.alloc(), TOLD)
 }
 
-/// Then the monitor is asked for again, and canceled twice.
+/// Then the monitor is requested again, and canceled twice.
 const ASKED_AGAIN: &str =
     r#">{"id":6,"method":"monitor","params":["Net","m",{"Switch":[{"columns":["name"]}]}]}
 <{"error":"duplicate monitor id","id":6,"result":null}
@@ -38,7 +39,7 @@ fn monitor_ids(rt: HostRuntime) -> Result<(), Fail> {
     converses(rt.alloc(), conversation.as_str())
 }
 
-/// Of two requests for a table each tells of its columns at the kinds that it selects.
+/// Of two requests for a table, each reports its columns for the kinds that it selects.
 const TWO_REQUESTS: &str = r#"open 1 -> 1;
 call 1 1 transact ["Net",{"op":"insert","table":"Switch","row":{"name":"s1"}}] -> {"error":null,"id":1,"result":[{"uuid":["uuid","00000000-0000-4000-8000-000000000002"]}]}
 call 1 2 monitor ["Net","m",{"Switch":[{"columns":["name"],"select":{"initial":false}},{"columns":["load"],"select":{"insert":false}}]}] -> {"error":null,"id":2,"result":{"Switch":{"00000000-0000-4000-8000-000000000002":{"new":{"load":0}}}}}
@@ -51,7 +52,7 @@ fn each_request_tells_of_its_columns(rt: HostRuntime) -> Result<(), Fail> {
     calls(rt.alloc(), TWO_REQUESTS)
 }
 
-/// No column of a table is named twice, in one request or in two. That is told even where the identifier is in use.
+/// No column of a table may be named twice, in one request or in two. This is reported even if the identifier is in use.
 const NAMED_TWICE: &str = r#"open 1 -> 1;
 call 1 1 monitor ["Net","m",{"Switch":{"columns":["name","name"]}}] -> {"error":"syntax error","id":1,"result":null}
 call 1 2 monitor ["Net","m",{"Switch":[{"columns":["name"]},{"columns":["load","name"]}]}] -> {"error":"syntax error","id":2,"result":null}
@@ -66,7 +67,7 @@ fn a_column_is_asked_for_once(rt: HostRuntime) -> Result<(), Fail> {
     calls(rt.alloc(), NAMED_TWICE)
 }
 
-/// A kind that no request selects is not told. A request without columns is about all but the identifier.
+/// A kind that no request selects is not reported. A request without columns covers all columns but the identifier.
 const SELECTED: &str = r#"open 1 -> 1;
 call 1 1 transact ["Net",{"op":"insert","table":"Switch","row":{"name":"s1"}}] -> {"error":null,"id":1,"result":[{"uuid":["uuid","00000000-0000-4000-8000-000000000002"]}]}
 call 1 2 monitor ["Net","m",{"Switch":{"columns":["name"],"select":{"initial":false}}}] -> {"error":null,"id":2,"result":{}}
@@ -82,7 +83,7 @@ fn what_is_not_selected_is_not_told(rt: HostRuntime) -> Result<(), Fail> {
     calls(rt.alloc(), SELECTED)
 }
 
-/// A request of no columns tells that a row is there, has come, or has gone.
+/// A request of no columns reports that a row exists, was inserted, or was deleted.
 const NO_COLUMNS: &str = r#"open 1 -> 1;
 call 1 1 transact ["Net",{"op":"insert","table":"Switch","row":{"name":"s1"}}] -> {"error":null,"id":1,"result":[{"uuid":["uuid","00000000-0000-4000-8000-000000000002"]}]}
 call 1 2 monitor ["Net","m",{"Switch":{"columns":[]}}] -> {"error":null,"id":2,"result":{"Switch":{"00000000-0000-4000-8000-000000000002":{"new":{}}}}}
@@ -95,7 +96,8 @@ fn a_request_of_no_columns_tells_of_rows(rt: HostRuntime) -> Result<(), Fail> {
     calls(rt.alloc(), NO_COLUMNS)
 }
 
-/// Null and an array name monitors too. Two values are one where they are sent as the same text, and each session has its own.
+/// Null and arrays identify monitors too. Two values are equal if they are sent as the same text. Each session has its own
+/// identifiers.
 const IDS: &str = r#"open 2 -> 1;2;
 call 1 1 monitor ["Net",null,{"Switch":{"columns":["name"]}}] -> {"error":null,"id":1,"result":{}}
 call 1 2 monitor ["Net",["a",{"b":1,"a":2}],{"Switch":{"columns":["load"]}}] -> {"error":null,"id":2,"result":{}}
@@ -118,7 +120,8 @@ fn any_value_names_a_monitor(rt: HostRuntime) -> Result<(), Fail> {
     calls(rt.alloc(), IDS)
 }
 
-/// A row that comes and goes in one transaction, changes of other columns and tables, and what is not committed are not told.
+/// A row that is inserted and deleted in one transaction, changes of other columns and tables, and what is not committed send
+/// no update.
 const UNTOLD: &str = r#"open 1 -> 1;
 call 1 1 monitor ["Net","m",{"Switch":{"columns":["name"]}}] -> {"error":null,"id":1,"result":{}}
 call 1 2 transact ["Net",{"op":"insert","table":"Switch","row":{"name":"s1"}},{"op":"delete","table":"Switch","where":[]}] -> {"error":null,"id":2,"result":[{"uuid":["uuid","00000000-0000-4000-8000-000000000002"]},{"count":1}]}
@@ -136,7 +139,8 @@ fn what_changes_no_watched_column_is_not_told(rt: HostRuntime) -> Result<(), Fai
     calls(rt.alloc(), UNTOLD)
 }
 
-/// Rows that go since no other row refers to them, and weak references that are taken out with them, are told as other changes.
+/// Rows that are deleted because no other row refers to them, and weak references that are removed with them, are reported
+/// like other changes.
 const TAKEN_OUT: &str = r#"open 2 -> 1;2;
 call 1 1 transact ["Net",{"op":"insert","table":"Switch","row":{"main":["named-uuid","p"],"name":"s1"}},{"op":"insert","table":"Switch","row":{"name":"s2","ports":["named-uuid","p"]}},{"op":"insert","table":"Port","uuid-name":"p","row":{"name":"p1"}}] -> {"error":null,"id":1,"result":[{"uuid":["uuid","00000000-0000-4000-8000-000000000002"]},{"uuid":["uuid","00000000-0000-4000-8000-000000000003"]},{"uuid":["uuid","00000000-0000-4000-8000-000000000004"]}]}
 call 2 1 monitor ["Net","m",{"Port":{"columns":["name"]},"Switch":{"columns":["_version","main"]}}] -> {"error":null,"id":1,"result":{"Port":{"00000000-0000-4000-8000-000000000004":{"new":{"name":"p1"}}},"Switch":{"00000000-0000-4000-8000-000000000002":{"new":{"_version":["uuid","00000000-0000-4000-8000-000000000001"],"main":["uuid","00000000-0000-4000-8000-000000000004"]}},"00000000-0000-4000-8000-000000000003":{"new":{"_version":["uuid","00000000-0000-4000-8000-000000000001"],"main":["set",[]]}}}}}
@@ -152,7 +156,7 @@ fn what_a_commit_takes_out_is_told(rt: HostRuntime) -> Result<(), Fail> {
     calls(rt.alloc(), TAKEN_OUT)
 }
 
-/// Each of three sessions is told, and of its monitors in order of creation.
+/// Each of three sessions receives its updates, in the order in which its monitors were created.
 const IN_ORDER: &str = r#"open 3 -> 1;2;3;
 call 2 1 monitor ["Net","m",{"Switch":{"columns":["name"]}}] -> {"error":null,"id":1,"result":{}}
 call 1 1 monitor ["Net","m",{"Switch":{"columns":["load"]}}] -> {"error":null,"id":1,"result":{}}
@@ -175,7 +179,8 @@ fn each_monitor_of_each_session_is_told(rt: HostRuntime) -> Result<(), Fail> {
     calls(rt.alloc(), IN_ORDER)
 }
 
-/// Params, then the name of the database, requests that are built wrong, the identifier, and the tables one after another.
+/// Faults are reported in order: params, the name of the database, malformed requests, the identifier, and the tables one
+/// after another.
 const REFUSED: &str = r#"open 1 -> 1;
 call 1 1 monitor [] -> {"error":"syntax error","id":1,"result":null}
 call 1 2 monitor ["Net","m"] -> {"error":"syntax error","id":2,"result":null}
@@ -204,7 +209,7 @@ fn monitors_are_refused_in_order(rt: HostRuntime) -> Result<(), Fail> {
     calls(rt.alloc(), REFUSED)
 }
 
-/// Nor is one of a session that has ended; a new session in its place has no monitor.
+/// Neither a canceled monitor nor one of a session that has ended sends updates. A new session in its place has no monitor.
 const SILENT: &str = r#"open 2 -> 1;2;
 call 1 1 monitor ["Net","m",{"Switch":{"columns":["name"]}}] -> {"error":null,"id":1,"result":{}}
 call 2 1 monitor ["Net","m",{"Switch":{"columns":["name"]}}] -> {"error":null,"id":1,"result":{}}
@@ -226,7 +231,7 @@ fn a_canceled_monitor_is_told_nothing(rt: HostRuntime) -> Result<(), Fail> {
     calls(rt.alloc(), SILENT)
 }
 
-/// A transaction that waited commits behind the one that lets it go on: each is told before its own reply.
+/// A transaction that waited commits after the one that lets it continue. Each update comes before its own reply.
 const SETTLED: &str = r#"open 2 -> 1;2;
 call 1 1 monitor ["Net","m",{"Switch":{"columns":["name"]}}] -> {"error":null,"id":1,"result":{}}
 call 1 2 transact ["Net",{"op":"wait","table":"Switch","where":[["name","==","s9"]],"columns":["name"],"until":"==","rows":[{"name":"s9"}]},{"op":"insert","table":"Switch","row":{"name":"s10"}}]
@@ -246,7 +251,7 @@ call 1 2 transact ["Net",{"op":"insert","table":"Switch","row":{"name":"s1"}}] -
 call 1 3 transact ["Net",{"op":"insert","table":"Switch","row":{"name":"s2"}}] -> {"error":null,"id":3,"result":[{"uuid":["uuid","00000000-0000-4000-8000-000000000004"]},{"error":"I/O error"}]}
 call 1 4 monitor ["Net","n",{"Switch":{"columns":["name"]}}] -> {"error":null,"id":4,"result":{}}"#;
 
-/// The store has no room for the first commit, and makes the second.
+/// The store has no room for the first commit, and accepts the second.
 const NO_ROOM: &str = r#"open 1 -> 1;
 call 1 1 monitor ["Net","m",{"Switch":{"columns":["name"]}}] -> {"error":null,"id":1,"result":{}}
 call 1 2 transact ["Net",{"op":"insert","table":"Switch","row":{"name":"s1"}}] -> {"error":null,"id":2,"result":[{"uuid":["uuid","00000000-0000-4000-8000-000000000002"]},{"error":"resources exhausted"}]}
@@ -265,7 +270,7 @@ fn what_is_not_committed_is_not_told(rt: HostRuntime) -> Result<(), Fail> {
     Ok(())
 }
 
-/// What comes of one monitor more than a session may have.
+/// One monitor more than a session may have.
 const ONE_MORE: &str =
     r#"call 1 65 monitor ["Net",65,{"Switch":1}] -> {"error":"syntax error","id":65,"result":null}
 call 1 66 monitor ["Net",64,{}] -> {"error":"duplicate monitor id","id":66,"result":null}

@@ -51,7 +51,7 @@ fn writer_of(alloc: Global) -> SlowWriter {
     }
 }
 
-/// Why a session ended, which is the end of its input where its reader has ended.
+/// Why a session ended. It must be the end of its input if and only if its reader has ended.
 fn cause_of(served: Result<Cause, StepFault>, has_ended: bool) -> Result<Cause, Fail> {
     let cause = served?;
     if has_ended != (cause == Cause::InputEnded) {
@@ -60,7 +60,7 @@ fn cause_of(served: Result<Cause, StepFault>, has_ended: bool) -> Result<Cause, 
     Ok(cause)
 }
 
-/// Why a session over a new machine ended, by a clock.
+/// Serves a session over a new machine by a clock, and returns why it ended.
 fn serve_by<H: Wait, R: Read + Drop, W: Write + Drop, C: Clock>(
     rt: &H,
     alloc: Global,
@@ -73,7 +73,7 @@ fn serve_by<H: Wait, R: Read + Drop, W: Write + Drop, C: Clock>(
     cause_of(served, reader.ended())
 }
 
-/// What comes of a session by a clock, and its reader and writer behind it.
+/// Serves a session by a clock, and returns why it ended, its reader and its writer.
 fn served_by<H: Wait, R: Read + Drop, W: Write + Drop, C: Clock>(
     rt: &H,
     alloc: Global,
@@ -87,7 +87,7 @@ fn served_by<H: Wait, R: Read + Drop, W: Write + Drop, C: Clock>(
     Ok((cause, reader.into_inner(), writer.into_inner()))
 }
 
-/// The same by a clock that stands still.
+/// The same with a clock that stands still.
 fn served<H: Wait, R: Read + Drop, W: Write + Drop>(
     rt: &H,
     alloc: Global,
@@ -103,7 +103,7 @@ fn told_of(alloc: Global, cause: Cause, taken: Vec<u8>) -> Result<String, Fail> 
     Ok(format!(in alloc; "{cause:?} {taken}")?)
 }
 
-/// This of a session.
+/// The same for a session over this reader and writer.
 fn told<H: Wait>(
     rt: &H,
     alloc: Global,
@@ -114,7 +114,7 @@ fn told<H: Wait>(
     told_of(alloc, cause, writer.taken)
 }
 
-/// Fails unless this comes of a session.
+/// Fails unless this is the outcome of a session.
 fn tells<H: Wait>(
     rt: &H,
     alloc: Global,
@@ -126,10 +126,10 @@ fn tells<H: Wait>(
     is_text(alloc, told.as_str(), wanted)
 }
 
-/// The request is answered, and then the input ends.
+/// The request is answered; then the input ends.
 const ANSWERED: &str = r#"InputEnded {"error":null,"id":0,"result":["Net"]}"#;
 
-/// The request is answered, and then a read fails.
+/// The request is answered; then a read fails.
 const READ_FAULT: &str = r#"ReadFault {"error":null,"id":0,"result":["Net"]}"#;
 
 /// The flush before the first read fails, so nothing is read or written.
@@ -141,7 +141,8 @@ fn a_request_is_answered(rt: HostRuntime) -> Result<(), Fail> {
     tells(&rt, rt.alloc(), reader, writer, ANSWERED)
 }
 
-/// Fails unless this comes of a session whose reader gives at most so many bytes a call, and fails after so many calls.
+/// Fails unless this is the outcome of a session whose reader gives at most `most` bytes per call, and fails after `calls`
+/// calls.
 fn tells_of_reads<H: Wait>(
     rt: &H,
     alloc: Global,
@@ -186,8 +187,8 @@ fn a_stream_that_stops_or_is_damaged_ends(rt: HostRuntime) -> Result<(), Fail> {
     Ok(())
 }
 
-/// Fails unless this comes of a session whose writer takes at most so many bytes a call, and so many in all. Then it fails, or
-/// takes no byte.
+/// Fails unless this is the outcome of a session whose writer takes at most `most` bytes per call, and `left` bytes in all.
+/// Then it fails, or takes no byte.
 fn tells_of_writes<H: Wait>(
     rt: &H,
     alloc: Global,
@@ -227,7 +228,7 @@ fn a_flush_that_fails_is_a_write_fault(rt: HostRuntime) -> Result<(), Fail> {
     tells(&rt, rt.alloc(), reader_of(REQUEST), writer, WRITE_FAULT)
 }
 
-/// A reader of two requests, one a call, which counts the calls before which not all answers were handed on.
+/// A reader of two requests, one per call. It counts the calls before which not all replies had been handed on.
 #[derive(Drop)]
 struct AskingReader<'a> {
     handed_on: &'a Cell<usize>,
@@ -250,7 +251,7 @@ impl Read for AskingReader<'_> {
     }
 }
 
-/// A writer that tells at each flush how many bytes it handed on.
+/// A writer that reports at each flush how many bytes it has handed on.
 #[derive(Drop)]
 struct HandingWriter<'a> {
     handed_on: &'a Cell<usize>,
@@ -269,12 +270,12 @@ impl Write for HandingWriter<'_> {
     }
 }
 
-/// Why a session ended, how often its reader was called, and how often before all answers were handed on.
+/// Why a session ended, how often its reader was called, and how often before all replies had been handed on.
 fn asked_text(alloc: Global, cause: Cause, calls: usize, early: usize) -> Result<String, Fail> {
     Ok(format!(in alloc; "{cause:?} {calls} {early}")?)
 }
 
-/// This of a session of two requests.
+/// The same for a session of two requests.
 fn asked<H: Wait>(rt: &H, alloc: Global) -> Result<String, Fail> {
     let handed_on = Cell::new(0);
     let reader = AskingReader {
@@ -296,7 +297,7 @@ fn answers_are_handed_on_before_more_is_read(rt: HostRuntime) -> Result<(), Fail
     is_text(rt.alloc(), told.as_str(), "InputEnded 3 0")
 }
 
-/// A reader that gives one piece a call, and then none.
+/// A reader that gives one piece per call, and then none.
 #[derive(Drop)]
 struct PieceReader<'a> {
     first: &'a [u8],
@@ -314,7 +315,7 @@ impl Read for PieceReader<'_> {
     }
 }
 
-/// A clock that tells 0, and then this moment.
+/// A clock that returns 0, and then this moment.
 #[derive(Drop)]
 struct LeapingClock {
     later: u64,
@@ -337,11 +338,11 @@ impl Clock for LeapingClock {
 const WAIT: &[u8] =
     b"{\"id\":1,\"method\":\"transact\",\"params\":[\"Net\",{\"op\":\"wait\",\"table\":\"Switch\",\"timeout\":50,\"where\":[[\"name\",\"==\",\"s9\"]],\"columns\":[\"name\"],\"until\":\"==\",\"rows\":[{\"name\":\"s9\"}]}]}";
 
-/// The wait runs out once the request is answered.
+/// The wait times out after the request is answered.
 const TIMED_OUT: &str =
     r#"{"error":null,"id":0,"result":["Net"]}{"error":null,"id":1,"result":[{"error":"timed out"}]}"#;
 
-/// What is written of a session whose second piece comes at a moment.
+/// What a session writes if its second piece arrives at this moment.
 fn told_at<H: Wait>(rt: &H, alloc: Global, later: u64) -> Result<String, Fail> {
     let reader = PieceReader {
         first: WAIT,
@@ -352,13 +353,13 @@ fn told_at<H: Wait>(rt: &H, alloc: Global, later: u64) -> Result<String, Fail> {
     Ok(String::from_utf8(writer.taken)?)
 }
 
-/// Fails unless this is written.
+/// Fails unless the session writes this.
 fn tells_at<H: Wait>(rt: &H, alloc: Global, later: u64, wanted: &str) -> Result<(), Fail> {
     let told = told_at(rt, alloc, later)?;
     is_text(alloc, told.as_str(), wanted)
 }
 
-/// Behind the piece that comes where a wait runs out, time passes. It does not before.
+/// Time advances after a piece that arrives when a wait has run out, and not before.
 #[test]
 fn ticks_are_given(rt: HostRuntime) -> Result<(), Fail> {
     tells_at(&rt, rt.alloc(), 49, REPLY)?;

@@ -25,7 +25,7 @@ const CONVERSATION: &str =
 const ANSWERED: &str =
     r#"{"error":null,"id":0,"result":["Net"]}{"error":null,"id":"x","result":["a\"}",{}]}{"error":null,"id":1,"result":[{"uuid":["uuid","00000000-0000-4000-8000-000000000002"]}]}{"error":null,"id":2,"result":[{"rows":[{"_uuid":["uuid","00000000-0000-4000-8000-000000000002"],"_version":["uuid","00000000-0000-4000-8000-000000000001"],"load":0,"main":["set",[]],"name":"s1","ports":["set",[]]}]}]}"#;
 
-/// A conversation in which the input comes in two pieces, cut at a place.
+/// A conversation whose input comes in two pieces, cut at this place.
 fn cut_at(alloc: Global, place: usize) -> Result<String, Fail> {
     let (first, second) = CONVERSATION.split_at_checked(place).ok_or("no place")?;
     Ok(format!(in alloc; ">{first}\n>{second}\n<{ANSWERED}")?)
@@ -45,7 +45,7 @@ fn cut_at_every_place(rt: HostRuntime) -> Result<(), Fail> {
     Ok(())
 }
 
-/// The lines in which the input comes byte by byte.
+/// Lines that send the input byte by byte.
 fn bytes_of_input(alloc: Global) -> Result<String, Fail> {
     let mut lines = String::new(alloc);
     for byte in CONVERSATION.chars() {
@@ -54,7 +54,7 @@ fn bytes_of_input(alloc: Global) -> Result<String, Fail> {
     Ok(lines)
 }
 
-/// A conversation of these lines, in which nothing is sent behind the answers.
+/// A conversation of these lines, in which nothing is sent after the replies.
 fn cut_everywhere(alloc: Global) -> Result<String, Fail> {
     let lines = bytes_of_input(alloc)?;
     Ok(format!(in alloc; "{lines}<{ANSWERED}\n<")?)
@@ -66,8 +66,8 @@ fn answered_byte_by_byte(rt: HostRuntime) -> Result<(), Fail> {
     converses(rt.alloc(), conversation.as_str())
 }
 
-/// What is sent for an input, and how many entries the history then has: for damage, an unfinished message, a real in an id and a
-/// request behind one, an unknown method, a notification, requests that are built wrong, a request, and nothing.
+/// What is sent for an input, and how many entries the history then has: for damage, an unfinished message, a real in an id,
+/// a request after one, an unknown method, a notification, malformed requests, a request, and nothing.
 const SMALL: [&str; 9] = [
     r#">{"id":0,"method":"list_dbs","params":[]}] {"id":0,"method":"list_dbs","params":[]}
 <{"error":null,"id":0,"result":["Net"]}
@@ -106,31 +106,31 @@ fn small_inputs(rt: HostRuntime) -> Result<(), Fail> {
     Ok(())
 }
 
-/// A text of so many letters.
+/// A text of `count` letters.
 fn letters(alloc: Global, count: usize) -> Result<String, Fail> {
     Ok(String::from_utf8(vec![in alloc; b'a'; count]?)?)
 }
 
-/// An echo of a text of so many letters.
+/// An echo of a text of `count` letters.
 fn echo_of(alloc: Global, count: usize) -> Result<String, Fail> {
     let text = letters(alloc, count)?;
     Ok(format!(in alloc; "{{\"id\":0,\"method\":\"echo\",\"params\":[\"{text}\"]}}")?)
 }
 
-/// The reply to it.
+/// The reply to that echo.
 fn reply_of(alloc: Global, count: usize) -> Result<String, Fail> {
     let text = letters(alloc, count)?;
     Ok(format!(in alloc; "{{\"error\":null,\"id\":0,\"result\":[\"{text}\"]}}")?)
 }
 
-/// How many bytes these have.
+/// The lengths of both in bytes.
 fn lengths(alloc: Global, count: usize) -> Result<(usize, usize), Fail> {
     let echo = echo_of(alloc, count)?.len();
     let reply = reply_of(alloc, count)?.len();
     Ok((echo, reply))
 }
 
-/// Fails unless they have so many.
+/// Fails unless both have these lengths.
 fn are_lengths(alloc: Global, count: usize, wanted: &str) -> Result<(), Fail> {
     let lengths = lengths(alloc, count)?;
     let told = format!(in alloc; "{lengths:?}")?;
@@ -144,7 +144,7 @@ fn answered(alloc: Global, count: usize) -> Result<String, Fail> {
     Ok(format!(in alloc; ">{echo}\n<{reply}")?)
 }
 
-/// A conversation in which it is not.
+/// A conversation in which an echo is not answered.
 fn unanswered(alloc: Global, count: usize) -> Result<String, Fail> {
     let echo = echo_of(alloc, count)?;
     Ok(format!(in alloc; ">{echo}\n<")?)
@@ -156,13 +156,13 @@ fn is_answered(alloc: Global, count: usize) -> Result<(), Fail> {
     converses(alloc, conversation.as_str())
 }
 
-/// Holds the conversation in which it is not.
+/// Holds the conversation in which an echo is not answered.
 fn is_not_answered(alloc: Global, count: usize) -> Result<(), Fail> {
     let conversation = unanswered(alloc, count)?;
     converses(alloc, conversation.as_str())
 }
 
-/// A message of 1,048,576 bytes is answered, and one with a byte more is not.
+/// A message of 1,048,576 bytes is answered, and one that is a byte longer is not.
 #[test]
 fn longest_message(rt: HostRuntime) -> Result<(), Fail> {
     are_lengths(rt.alloc(), 1_048_538, "(1048576, 1048573)")?;
@@ -170,7 +170,7 @@ fn longest_message(rt: HostRuntime) -> Result<(), Fail> {
     is_not_answered(rt.alloc(), 1_048_539)
 }
 
-/// What comes of a closed session does nothing.
+/// What a closed session sends has no effect.
 const OPENED_AGAIN: &str = r#"entries -> 1
 tick -> true
 entries -> 2
@@ -189,7 +189,7 @@ fn ended_and_opened_again(rt: HostRuntime) -> Result<(), Fail> {
     converses(rt.alloc(), OPENED_AGAIN)
 }
 
-/// What one of two sessions sends, in pieces between those of the other, does nothing to the other, damage too.
+/// What one of two sessions sends between the pieces of the other, even damage, does not affect the other.
 const TWO_STREAMS: &str = r#"open -> true
 >{"id":1,"method":
 2>{"id":2,"meth

@@ -2,7 +2,7 @@ use std::test::Fail;
 use test_basics::Faults;
 use test_support::{converses, converses_over};
 
-/// A transaction without operations, an insert, and a select with all columns.
+/// A transaction without operations, an insert, and a select of all columns.
 const INSERTED: &str = r#">{"id":0,"method":"transact","params":["Net"]}
 <{"error":null,"id":0,"result":[]}
 >{"id":1,"method":"transact","params":["Net",{"op":"insert","table":"Switch","row":{"name":"s1"}}]}
@@ -10,7 +10,8 @@ const INSERTED: &str = r#">{"id":0,"method":"transact","params":["Net"]}
 >{"id":2,"method":"transact","params":["Net",{"op":"select","table":"Switch","where":[]}]}
 <{"error":null,"id":2,"result":[{"rows":[{"_uuid":["uuid","00000000-0000-4000-8000-000000000003"],"_version":["uuid","00000000-0000-4000-8000-000000000002"],"load":0,"main":["set",[]],"name":"s1","ports":["set",[]]}]}]}"#;
 
-/// Behind the operation that fails the results are null, and the table is as before. All that it wanted was drawn.
+/// After the operation that fails the results are null, and the table is as before. All that the transaction wanted was
+/// drawn.
 const UNDONE: &str =
     r#">{"id":1,"method":"transact","params":["Net",{"op":"insert","table":"Switch","row":{"name":"s1"}},{"op":"select","table":"Swich","where":[],"columns":[]},{"op":"insert","table":"Switch","row":{"name":"s2"}}]}
 <{"error":null,"id":1,"result":[{"uuid":["uuid","00000000-0000-4000-8000-000000000002"]},{"error":"unknown table"},null]}
@@ -19,7 +20,7 @@ const UNDONE: &str =
 >{"id":3,"method":"transact","params":["Net",{"op":"insert","table":"Switch","row":{"name":"s3"}}]}
 <{"error":null,"id":3,"result":[{"uuid":["uuid","00000000-0000-4000-8000-000000000006"]}]}"#;
 
-/// Of members with one name the last counts, and unknown members are passed over.
+/// If a member is repeated the last one counts. Unknown members are ignored.
 const REPEATED: &str =
     r#">{"id":1,"method":"transact","params":["Net",{"op":"insert","table":"Swich","table":"Switch","row":{"name":"a","name":"b"},"colour":1}]}
 <{"error":null,"id":1,"result":[{"uuid":["uuid","00000000-0000-4000-8000-000000000002"]}]}
@@ -40,7 +41,7 @@ const PARAMS: &str = r#">{"id":1,"method":"transact","params":[]}
 >{"id":6,"method":"transact","params":["Net",{"op":"insert","table":"Switch","row":{"name":"s1"}}]}
 <{"error":null,"id":6,"result":[{"uuid":["uuid","00000000-0000-4000-8000-000000000003"]}]}"#;
 
-/// Of what is refused nothing stays.
+/// Refused operations change nothing.
 const REFUSED: &str =
     r#">{"id":1,"method":"transact","params":["Net",{"op":"erase"},{"op":"insert","table":"Switch","row":{"name":"s1"}}]}
 <{"error":null,"id":1,"result":[{"error":"unknown operation"},null]}
@@ -57,7 +58,7 @@ const REFUSED: &str =
 >{"id":7,"method":"transact","params":["Net",{"op":"select","table":"Port","where":[],"columns":["name"]}]}
 <{"error":null,"id":7,"result":[{"rows":[]}]}"#;
 
-/// After the device has failed nothing is committed any more, and what was committed is still read.
+/// After the device has failed nothing more is committed, and what was committed can still be read.
 const SEALED: &str =
     r#">{"id":1,"method":"transact","params":["Net",{"op":"insert","table":"Switch","row":{"name":"s1"}}]}
 <{"error":null,"id":1,"result":[{"uuid":["uuid","00000000-0000-4000-8000-000000000002"]},{"error":"I/O error"}]}
@@ -68,7 +69,7 @@ const SEALED: &str =
 >{"id":4,"method":"transact","params":["Net"]}
 <{"error":null,"id":4,"result":[]}"#;
 
-/// The store has no room for the first commit, and makes the second.
+/// The store has no room for the first commit, and accepts the second.
 const NO_ROOM: &str =
     r#">{"id":1,"method":"transact","params":["Net",{"op":"insert","table":"Switch","row":{"name":"s1"}}]}
 <{"error":null,"id":1,"result":[{"uuid":["uuid","00000000-0000-4000-8000-000000000002"]},{"error":"resources exhausted"}]}
@@ -77,7 +78,7 @@ const NO_ROOM: &str =
 >{"id":3,"method":"transact","params":["Net",{"op":"select","table":"Switch","where":[],"columns":["name"]}]}
 <{"error":null,"id":3,"result":[{"rows":[{"name":"s2"}]}]}"#;
 
-/// Those rows are selected that meet all conditions.
+/// Selects the rows that meet all conditions.
 const SELECTED: &str =
     r#">{"id":1,"method":"transact","params":["Net",{"op":"insert","table":"Switch","row":{"load":4,"name":"s1"}},{"op":"insert","table":"Switch","row":{"load":-1,"name":"s2"}}]}
 <{"error":null,"id":1,"result":[{"uuid":["uuid","00000000-0000-4000-8000-000000000002"]},{"uuid":["uuid","00000000-0000-4000-8000-000000000003"]}]}
@@ -98,7 +99,7 @@ const SELECTED: &str =
 >{"id":9,"method":"transact","params":["Net",{"op":"select","table":"Switch","where":[["ports","includes",["uuid","00000000-0000-4000-8000-000000000002"]]],"columns":["name"]}]}
 <{"error":null,"id":9,"result":[{"rows":[]}]}"#;
 
-/// The conditions are read one after another, each wholly, and before the columns. The last of these reads.
+/// Conditions are read one after another, each completely, and before the columns. The last of these can be read.
 const MISREAD: &str =
     r#">{"id":1,"method":"transact","params":["Net",{"op":"select","table":"Switch","where":[["load","=="]],"columns":["nam"]}]}
 <{"error":null,"id":1,"result":[{"error":"syntax error"}]}
@@ -136,7 +137,7 @@ const OPERATIONS: &str =
 >{"id":7,"method":"transact","params":["Net",{"op":"insert","table":"Switch","uuid-name":"p","row":{}},{"op":"insert","table":"Switch","uuid-name":"p","row":{}}]}
 <{"error":null,"id":7,"result":[{"uuid":["uuid","00000000-0000-4000-8000-00000000000a"]},{"error":"duplicate uuid-name"}]}"#;
 
-/// A transaction that waits is not answered, and nothing of it is committed. One whose timeout has come is answered.
+/// A transaction that waits is not answered, and nothing of it is committed. One whose timeout has passed is answered.
 const WAITING: &str =
     r#">{"id":1,"method":"transact","params":["Net",{"op":"insert","table":"Switch","row":{"name":"s1"}},{"op":"wait","table":"Switch","where":[["name","==","s9"]],"columns":["name"],"until":"==","rows":[{"name":"s9"}]}]}
 <

@@ -2,15 +2,15 @@ use std::test::Fail;
 use test_basics::NET;
 use test_support::converses;
 
-/// Sets merge and ascend, a set of one is its atom, and identifiers are in lower case. The rows are deleted before the commit,
-/// since they refer to none.
+/// Sets are merged and in ascending order, a set of one is its atom, and identifiers are in lower case. The rows are deleted
+/// before the commit, since what they refer to does not exist.
 const WRITTEN: &str =
     r#">{"id":1,"method":"transact","params":["Net",{"op":"insert","table":"Port","row":{"name":"p1","peer":["set",[["uuid","00000000-0000-4000-8000-0000000000AB"]]],"tag":["set",[7,7]]}},{"op":"select","table":"Port","where":[],"columns":["name","peer","tag"]},{"op":"delete","table":"Port","where":[]}]}
 <{"error":null,"id":1,"result":[{"uuid":["uuid","00000000-0000-4000-8000-000000000002"]},{"rows":[{"name":"p1","peer":["uuid","00000000-0000-4000-8000-0000000000ab"],"tag":7}]},{"count":1}]}
 >{"id":2,"method":"transact","params":["Net",{"op":"insert","table":"Switch","row":{"load":-9223372036854775808,"ports":["set",[["uuid","00000000-0000-4000-8000-0000000000AB"],["uuid","00000000-0000-4000-8000-000000000001"]]]}},{"op":"select","table":"Switch","where":[],"columns":["load","ports"]},{"op":"delete","table":"Switch","where":[]}]}
 <{"error":null,"id":2,"result":[{"uuid":["uuid","00000000-0000-4000-8000-000000000004"]},{"rows":[{"load":-9223372036854775808,"ports":["set",[["uuid","00000000-0000-4000-8000-000000000001"],["uuid","00000000-0000-4000-8000-0000000000ab"]]]}]},{"count":1}]}"#;
 
-/// Each is a syntax error, but a real, which no request may have.
+/// Each is a syntax error, except a real, which no request may contain.
 const UNREAD: &str =
     r#">{"id":1,"method":"transact","params":["Net",{"op":"insert","table":"Switch","row":{"load":9223372036854775807}}]}
 <{"error":null,"id":1,"result":[{"uuid":["uuid","00000000-0000-4000-8000-000000000002"]}]}
@@ -37,7 +37,7 @@ const NOT_TOLD: &str = r#">{"id":1,"method":"get_schema","params":["Nat"]}
 >{"id":4,"method":"get_schema","params":["Net","Net"]}
 <{"error":"syntax error","id":4,"result":null}"#;
 
-/// Requests that are built wrong are answered, where they have an id, and the session goes on.
+/// Malformed requests are answered if they have an id, and the session goes on.
 const BUILT_WRONG: &str = r#">{"id":1,"method":"echo","params":[1.5]}
 <{"error":"reals not supported","id":1,"result":null}
 >{"id":2,"method":"echo"}

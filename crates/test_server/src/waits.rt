@@ -6,13 +6,15 @@ use std::test::Fail;
 use test_basics::{Faults, Scripted, agrees};
 use test_support::{NetCore, net_core, number_or_none, session_of, step_text};
 
-/// A machine behind a script, for transactions that wait.
+/// A machine driven by a script, for transactions that wait.
 ///
-/// `wait SERIAL ID NAME` is a transaction that waits for a switch of the name, with a timeout in milliseconds behind it or without
-/// one, `insert SERIAL ID NAME` one that inserts it, and `chain SERIAL ID NAME OTHER` one that waits for the first and inserts the
-/// other. `waits SERIAL FIRST BEYOND` takes waits for s9 with the ids from the first up to below the second, and `cancel SERIAL ID`
-/// the note that cancels one. `open`, `tick MOMENT` and `finish SERIAL` are the other events. `got SERIAL` tells what a session was
-/// sent since then, `outcomes` the attempts that the last entry lists, and `due` when the first of the transactions times out.
+/// `wait SERIAL ID NAME` is a transaction that waits for a switch of this name, optionally followed by a timeout in
+/// milliseconds; `insert SERIAL ID NAME` is one that inserts it, and `chain SERIAL ID NAME OTHER` one that waits for the
+/// first and inserts the other. `waits SERIAL FIRST BEYOND` takes waits for s9 with the ids from FIRST up to but not
+/// including BEYOND, and `cancel SERIAL ID` the notification that cancels one. `open`, `tick MOMENT` and `finish SERIAL` are
+/// the other events; `pass MOMENT` is a tick if a transaction is due, and returns whether one was. `got SERIAL` returns what a
+/// session was sent since the last `got`, `outcomes` the attempts that the last entry lists, and `due` when the first
+/// transaction times out.
 #[derive(Drop)]
 struct Waits {
     core: NetCore,
@@ -32,7 +34,7 @@ fn insert_of(alloc: Global, name: &str) -> Result<String, Fail> {
     )?)
 }
 
-/// The operation of a `wait` command: a name, with a timeout behind it or without one.
+/// The operation of a `wait` command: a name, optionally followed by a timeout.
 fn wait_of(alloc: Global, rest: &str) -> Result<String, Fail> {
     match rest.split_once(" ") {
         Some((name, timeout)) => wait_within(alloc, name, timeout),
@@ -88,7 +90,7 @@ impl Waits {
         self.take(alloc, serial, text.as_str())
     }
 
-    /// Takes the note that cancels a transaction.
+    /// Takes the notification that cancels a transaction.
     fn cancel(&mut self, alloc: Global, serial: &str, id: &str) -> Result<String, Fail> {
         let text = format!(in alloc; "{{\"id\":null,\"method\":\"cancel\",\"params\":[{id}]}}")?;
         self.take(alloc, serial, text.as_str())
@@ -124,7 +126,7 @@ impl Waits {
         self.transact(alloc, serial, id, operation.as_str())
     }
 
-    /// Takes waits for s9 of a session, by their ids.
+    /// Takes waits of a session for s9, with these ids.
     fn waits(
         &mut self,
         alloc: Global,
@@ -156,9 +158,28 @@ impl Waits {
         Ok(text)
     }
 
-    /// Lets time pass to a moment.
+    /// Opens a session, and returns its serial.
+    fn open(&mut self, alloc: Global) -> Result<String, Fail> {
+        match self.core.open_session() {
+            Ok(session) => Ok(format!(in alloc; "{}", session.serial)?),
+            Err(fault) => Ok(format!(in alloc; "{fault:?}")?),
+        }
+    }
+
+    /// Advances time to a moment.
     fn tick(&mut self, alloc: Global, moment: &str) -> Result<String, Fail> {
-        self.step(alloc, moment.parse::<u64>()?, Event::Tick)
+        match self.core.tick(alloc, moment.parse::<u64>()?) {
+            Ok(()) => Ok(String::new(alloc)),
+            Err(fault) => Ok(format!(in alloc; "{fault:?}")?),
+        }
+    }
+
+    /// Advances time to a moment if a transaction is due by it, and returns whether one was.
+    fn pass(&mut self, alloc: Global, moment: &str) -> Result<String, Fail> {
+        match self.core.pass_where_due(alloc, moment.parse::<u64>()?) {
+            Ok(ticks) => Ok(format!(in alloc; "{ticks}")?),
+            Err(fault) => Ok(format!(in alloc; "{fault:?}")?),
+        }
     }
 
     /// Ends the input of a session.
@@ -167,7 +188,7 @@ impl Waits {
         self.step(alloc, 0, Event::Close(session, Cause::InputEnded))
     }
 
-    /// What comes of a transaction of a session.
+    /// The answer to a command about a transaction of a session.
     fn act(&mut self, alloc: Global, word: &str, serial: &str, rest: &str) -> Result<String, Fail> {
         let (id, rest) = rest.split_once(" ").unwrap_or((rest, ""));
         match word {
@@ -186,8 +207,9 @@ impl Scripted for Waits {
         let (word, rest) = command.split_once(" ").unwrap_or((command, ""));
         let (serial, others) = rest.split_once(" ").unwrap_or((rest, ""));
         match word {
-            "open" => self.step(alloc, 0, Event::Open),
+            "open" => self.open(alloc),
             "tick" => self.tick(alloc, rest),
+            "pass" => self.pass(alloc, rest),
             "finish" => self.finish(alloc, serial),
             "got" => self.got(alloc, serial),
             "outcomes" => self.outcomes(alloc),
@@ -197,13 +219,14 @@ impl Scripted for Waits {
     }
 }
 
-/// Runs a script of commands to a new machine, whose keeper fails as it is told.
+/// Runs a script of commands on a new machine, whose keeper fails as `faults` says.
 fn waits_over(alloc: Global, faults: Faults, script: &str) -> Result<(), Fail> {
     let core = net_core(alloc, faults)?;
     agrees(alloc, Waits { core }, script)
 }
 
-/// An insert of another session meets a wait. A second transaction with the id of one that waits is refused, and draws nothing.
+/// An insert by another session meets a wait. A second transaction with the id of a waiting one is refused, and draws
+/// nothing.
 const MET: &str = r#"open -> 1
 open -> 2
 wait 1 1 s9
@@ -223,7 +246,7 @@ fn wait_is_met_by_another(rt: HostRuntime) -> Result<(), Fail> {
     waits_over(rt.alloc(), Faults::NONE, MET)
 }
 
-/// A wait times out where its timeout has passed since it arrived, whatever was tried since then; or it is canceled.
+/// A wait times out once its timeout has passed since it arrived, regardless of tries in between; or it is canceled.
 const TIMED_OUT: &str = r#"open -> 1
 wait 1 1 s9 0
 got 1 -> {"error":null,"id":1,"result":[{"error":"timed out"}]}
@@ -232,13 +255,15 @@ wait 1 1 s9 50
 wait 1 2 s9 70
 due -> 1050
 tick 1049
+pass 1049 -> false
 got 1
 insert 1 3 s1
 got 1 -> {"error":null,"id":3,"result":[{"uuid":["uuid","00000000-0000-4000-8000-000000000005"]}]}
 tick 1050
 got 1 -> {"error":null,"id":1,"result":[{"error":"timed out"}]}
 due -> 1070
-tick 1070
+pass 1069 -> false
+pass 1070 -> true
 got 1 -> {"error":null,"id":2,"result":[{"error":"timed out"}]}
 due -> none
 wait 1 4 s9
@@ -252,7 +277,8 @@ fn wait_times_out(rt: HostRuntime) -> Result<(), Fail> {
     waits_over(rt.alloc(), Faults::NONE, TIMED_OUT)
 }
 
-/// A try that changes the database begins the tries anew with the first: attempt 2 leaves 1 waiting, 3 answers 2, and 4 answers 1.
+/// A try that changes the database restarts the tries with the first: attempt 2 leaves 1 waiting, 3 answers 2, and 4 answers
+/// 1.
 const AGAIN: &str = r#"open -> 1
 open -> 2
 wait 1 1 s10
@@ -268,7 +294,7 @@ fn settling_starts_again(rt: HostRuntime) -> Result<(), Fail> {
     waits_over(rt.alloc(), Faults::NONE, AGAIN)
 }
 
-/// Up to 64 transactions of a session wait. The others of what is sent to session 1 stand behind these lines.
+/// Up to 64 transactions of a session wait. The rest of what session 1 is sent follows these lines.
 const SIXTY_FOUR: &str = r#"open -> 1
 open -> 2
 waits 1 1 65
@@ -283,7 +309,7 @@ insert 1 65 s9
 got 2
 got 1 -> {"error":null,"id":65,"result":[{"uuid":["uuid","00000000-0000-4000-8000-000000000043"]}]}"#;
 
-/// The replies to what waits under the ids from 2 to 64.
+/// The replies to the transactions that wait with the ids from 2 to 64.
 fn replies(alloc: Global) -> Result<String, Fail> {
     let mut text = String::new(alloc);
     for id in 2..65 {
@@ -305,7 +331,8 @@ fn sixty_four_wait_at_most(rt: HostRuntime) -> Result<(), Fail> {
     waits_over(rt.alloc(), Faults::NONE, script.as_str())
 }
 
-/// What a closed session asked for is dropped. A cancel of an id that does not wait, or that waits for another session, does nothing.
+/// What a closed session asked for is dropped. Canceling an id that does not wait, or that waits for another session, does
+/// nothing.
 const DROPPED: &str = r#"open -> 1
 open -> 2
 wait 1 1 s9 50
@@ -331,7 +358,7 @@ fn a_closed_session_waits_for_nothing(rt: HostRuntime) -> Result<(), Fail> {
     waits_over(rt.alloc(), Faults::NONE, DROPPED)
 }
 
-/// The last moment is 2^64-1. What would time out behind it never does.
+/// The last moment is 2^64-1. What would time out after it never does.
 const LATE: &str = r#"open -> 1
 tick 9223372036854775808
 wait 1 1 s9 9223372036854775807
@@ -351,8 +378,8 @@ fn what_is_due_behind_the_last_moment_never_is(rt: HostRuntime) -> Result<(), Fa
     waits_over(rt.alloc(), Faults::NONE, LATE)
 }
 
-/// The device fails at the second commit, which is that of a later try: its session is told, and the database is sealed. What
-/// waits still waits, and times out.
+/// The device fails at the second commit, which is that of a later try: its session receives the error, and the database is
+/// sealed. Transactions that wait still wait, and time out.
 const SEALED: &str = r#"open -> 1
 open -> 2
 chain 1 1 s9 s10

@@ -48,7 +48,7 @@ impl Write for CountedWriter {
     }
 }
 
-/// What comes of one read, the failures that are counted then, and the reads that were made.
+/// The outcome of one read, the failures counted afterwards, and the reads that were made.
 fn read_once(fails: bool) -> (Option<usize>, u64, u64) {
     let mut reader = Watched::new(CountedReader { fails, reads: 0 });
     let mut piece = [0; 4];
@@ -57,7 +57,7 @@ fn read_once(fails: bool) -> (Option<usize>, u64, u64) {
     (read, failures, reader.into_inner().reads)
 }
 
-/// What comes of one write, the failures that are counted then, and the writes that were made.
+/// The outcome of one write, the failures counted afterwards, and the writes that were made.
 fn written_once(fails: bool) -> (Option<usize>, u64, u64) {
     let mut writer = Watched::new(CountedWriter {
         fails,
@@ -69,7 +69,7 @@ fn written_once(fails: bool) -> (Option<usize>, u64, u64) {
     (written, failures, writer.into_inner().writes)
 }
 
-/// What comes of one flush, the failures that are counted then, and the flushes that were made.
+/// The outcome of one flush, the failures counted afterwards, and the flushes that were made.
 fn flushed_once(fails: bool) -> (bool, u64, u64) {
     let mut writer = Watched::new(CountedWriter {
         fails,
@@ -81,7 +81,7 @@ fn flushed_once(fails: bool) -> (bool, u64, u64) {
     (flushed, failures, writer.into_inner().flushes)
 }
 
-/// Fails unless this came of a call.
+/// Fails unless this is the outcome of a call.
 fn is_once(alloc: Global, found: (Option<usize>, u64, u64), wanted: &str) -> Result<(), Fail> {
     let told = format!(in alloc; "{found:?}")?;
     is_text(alloc, told.as_str(), wanted)
@@ -95,7 +95,7 @@ fn a_failure_is_one_of_what_is_watched(rt: HostRuntime) -> Result<(), Fail> {
     is_once(rt.alloc(), written_once(true), "(None, 1, 1)")
 }
 
-/// Fails unless this came of a flush.
+/// Fails unless this is the outcome of a flush.
 fn is_flushed(alloc: Global, found: (bool, u64, u64), wanted: &str) -> Result<(), Fail> {
     let told = format!(in alloc; "{found:?}")?;
     is_text(alloc, told.as_str(), wanted)

@@ -4,8 +4,8 @@ use std::alloc::Global;
 use std::test::Fail;
 use test_basics::{Scripted, agrees, is_text};
 
-/// Arguments behind the program's name, with a comma behind each, and the settings: the schema, the database, the address, how
-/// many sessions, and whether the streams are named.
+/// Arguments after the program's name, each followed by a comma, and the settings: the schema, the database, the address, the
+/// number of sessions, and whether the streams are named.
 const TAKEN: &str = " -> -|-|-|-|false
 --stdio, -> -|-|-|-|true
 --schema,a.json, -> a.json|-|-|-|false
@@ -62,7 +62,7 @@ help, -> refused
 --listen,a,--sessions,0x1, -> refused
 --listen,a,--sessions,two, -> refused";
 
-/// The arguments of a case, behind the program's name.
+/// The program's name, followed by the arguments of a case.
 fn words_of<'a>(alloc: Global, case: &'a str) -> Result<Vec<&'a str>, Fail> {
     let mut words = Vec::new(alloc);
     words.push("ov_server")?;
@@ -72,7 +72,7 @@ fn words_of<'a>(alloc: Global, case: &'a str) -> Result<Vec<&'a str>, Fail> {
     Ok(words)
 }
 
-/// The name of a file or an address, where `-` stands for none.
+/// The name of a file or an address, or `-` for none.
 fn name_of(named: &Option<Text>) -> &str {
     match named {
         Some(name) => name.as_str(),
@@ -80,7 +80,7 @@ fn name_of(named: &Option<Text>) -> &str {
     }
 }
 
-/// A number of sessions, where `-` stands for none.
+/// A number of sessions, or `-` for none.
 fn number_of(alloc: Global, sessions: Option<u64>) -> Result<String, Fail> {
     match sessions {
         Some(count) => Ok(format!(in alloc; "{count}")?),
@@ -97,7 +97,7 @@ fn text_of(alloc: Global, settings: &Settings) -> Result<String, Fail> {
     Ok(format!(in alloc; "{schema}|{db}|{listen}|{sessions}|{is_on_streams}")?)
 }
 
-/// What arguments give.
+/// The settings that arguments give, or `refused`.
 fn told(alloc: Global, read: Result<Settings, WordFault>) -> Result<String, Fail> {
     match read {
         Ok(settings) => text_of(alloc, &settings),
@@ -135,7 +135,7 @@ fn ends(alloc: Global, ending: Ending, wanted: &str) -> Result<(), Fail> {
     is_text(alloc, told.as_str(), wanted)
 }
 
-/// Each ending has its status, and its line where the status is not 0.
+/// Each ending has its status, and its line unless the status is 0.
 #[test]
 fn tells_each_ending(rt: HostRuntime) -> Result<(), Fail> {
     for (ending, wanted) in [

@@ -16,12 +16,12 @@ const NOWHERE: &str = "
 192.0.2.1:0
 [::1:0";
 
-/// Whether it is refused to listen at an address.
+/// Whether listening at an address is refused.
 fn is_refused<R: Net<Listener = TcpListener, Stream = TcpStream>>(rt: &R, address: &str) -> bool {
     matches!(listen(rt, address), Err(ListenFault::Refused))
 }
 
-/// Fails unless it is refused to listen at an address.
+/// Fails unless listening at an address is refused.
 fn refuses<R: Net<Listener = TcpListener, Stream = TcpStream>>(
     rt: &R,
     alloc: Global,
@@ -45,7 +45,7 @@ pub(crate) fn address_of(alloc: Global, listener: &TcpListener) -> Result<String
     Ok(format!(in alloc; "{address}")?)
 }
 
-/// Fails unless it is refused to listen where a listener does.
+/// Fails unless listening at the address of a listener is refused.
 fn refuses_another<R: Net<Listener = TcpListener, Stream = TcpStream>>(
     rt: &R,
     alloc: Global,
@@ -61,7 +61,7 @@ fn a_port_is_listened_at_once(rt: HostRuntime) -> Result<(), Fail> {
     refuses_another(&rt, rt.alloc(), &listener)
 }
 
-/// The line that is told of a listener for which this address was named, or `none`.
+/// The line that reports a listener for which this address was named, or `none`.
 fn line_of(alloc: Global, named: &str, listener: &TcpListener) -> Result<Text, Fail> {
     match chosen_line(alloc, named, listener)? {
         Some(line) => Ok(line),
@@ -69,13 +69,13 @@ fn line_of(alloc: Global, named: &str, listener: &TcpListener) -> Result<Text, F
     }
 }
 
-/// Fails unless this line is told.
+/// Fails unless this line is reported.
 fn tells(alloc: Global, named: &str, listener: &TcpListener, wanted: &str) -> Result<(), Fail> {
     let line = line_of(alloc, named, listener)?;
     is_text(alloc, line.as_str(), wanted)
 }
 
-/// Fails unless the address of a listener is told where the system chose its port.
+/// Fails unless the address of a listener is reported if the system chose its port.
 fn tells_its_address(alloc: Global, listener: &TcpListener) -> Result<(), Fail> {
     let address = listener.local_addr()?;
     let wanted = format!(in alloc; "ov_server: listening at {address}")?;
@@ -89,12 +89,12 @@ fn a_chosen_port_is_told(rt: HostRuntime) -> Result<(), Fail> {
     tells(rt.alloc(), "127.0.0.1:6640", &listener, "none")
 }
 
-/// Whether it is refused to accept a client.
+/// Whether accepting a client is refused.
 fn is_accept_refused(alloc: Global, listener: &TcpListener) -> bool {
     matches!(accept_all(alloc, listener, 1), Err(ListenFault::Refused))
 }
 
-/// A listener that does not wait fails where nobody has connected.
+/// A listener that does not wait fails if nobody has connected.
 #[test]
 fn a_failed_accept_is_refused(rt: HostRuntime) -> Result<(), Fail> {
     let listener = listen(&rt, "127.0.0.1:0")?;

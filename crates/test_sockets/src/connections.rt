@@ -8,7 +8,7 @@ use std::net::{Net, Shutdown, TcpListener, TcpStream};
 use std::test::Fail;
 use test_basics::{holds, is_text};
 
-/// Reads up to 16 bytes and sends them back. It tells how many.
+/// Reads up to 16 bytes, sends them back, and returns how many.
 fn echo(link: &mut Link<SocketReader<'_>, SocketWriter<'_>>) -> Option<usize> {
     let mut piece = [0; 16];
     let n = link.reader.read(&mut piece)?;
@@ -18,18 +18,18 @@ fn echo(link: &mut Link<SocketReader<'_>, SocketWriter<'_>>) -> Option<usize> {
     None
 }
 
-/// The ends of a connection may be moved into threads of their own.
+/// The ends of a connection can be moved into threads of their own.
 fn crosses<S: Send, W: Send>(link: Link<S, W>) -> Link<S, W> {
     link
 }
 
-/// The same as `echo`, of a link that is dropped then.
+/// Like `echo`, and drops the link afterwards.
 fn echo_once(link: Link<SocketReader<'_>, SocketWriter<'_>>) -> Option<usize> {
     let mut link = crosses(link);
     echo(&mut link)
 }
 
-/// The same, of each connection in order.
+/// The same for each connection, in order.
 fn echo_all(alloc: Global, streams: &Vec<TcpStream>) -> Result<Vec<usize>, Fail> {
     let mut lengths = Vec::new(alloc);
     for link in links_of(alloc, streams)? {
@@ -38,7 +38,7 @@ fn echo_all(alloc: Global, streams: &Vec<TcpStream>) -> Result<Vec<usize>, Fail>
     Ok(lengths)
 }
 
-/// Fails unless so many bytes are sent back.
+/// Fails unless these numbers of bytes are sent back.
 fn echoes(alloc: Global, streams: &Vec<TcpStream>, wanted: &str) -> Result<(), Fail> {
     let lengths = echo_all(alloc, streams)?;
     let told = format!(in alloc; "{lengths:?}")?;
@@ -60,7 +60,7 @@ fn reads(alloc: Global, client: &TcpStream, wanted: &str) -> Result<(), Fail> {
     is_text(alloc, str::from_utf8(&piece[..n])?, wanted)
 }
 
-/// Both clients are answered, and the second goes on once the first has ended.
+/// Both clients are answered, and the second goes on after the first has ended.
 fn are_answered(
     alloc: Global,
     streams: &Vec<TcpStream>,
@@ -78,7 +78,7 @@ fn are_answered(
     reads(alloc, second, "{}")
 }
 
-/// The same of new connections, until they are dropped.
+/// The same with new connections, until they are dropped.
 fn are_accepted(
     alloc: Global,
     listener: &TcpListener,
@@ -89,7 +89,7 @@ fn are_accepted(
     are_answered(alloc, &streams, first, second)
 }
 
-/// The same, and then both clients meet the end.
+/// The same; then both clients meet the end.
 fn meet_their_ends(
     alloc: Global,
     listener: &TcpListener,
@@ -101,7 +101,7 @@ fn meet_their_ends(
     reads(alloc, second, "")
 }
 
-/// The same of new clients.
+/// The same with new clients.
 fn two_meet_their_ends<R: Net<Listener = TcpListener, Stream = TcpStream>>(
     rt: &R,
     alloc: Global,
@@ -112,7 +112,7 @@ fn two_meet_their_ends<R: Net<Listener = TcpListener, Stream = TcpStream>>(
     meet_their_ends(alloc, listener, &first, &second)
 }
 
-/// Two clients are served over a connection of their own, and each sees its end once it is dropped.
+/// Serves two clients over connections of their own. Each sees its end once its connection is dropped.
 #[test]
 fn clients_meet_the_ends_of_their_connections(rt: HostRuntime) -> Result<(), Fail> {
     let listener = listen(&rt, "127.0.0.1:0")?;

@@ -5,6 +5,8 @@
 #[cfg(test)]
 mod addresses;
 #[cfg(test)]
+mod clocks;
+#[cfg(test)]
 mod connections;
 #[cfg(test)]
 mod lobby;

@@ -29,7 +29,7 @@ impl Clock for StillClock {
     }
 }
 
-/// The first connections of a listener, and none behind them.
+/// The first connections of a listener, and no others.
 #[derive(Drop)]
 struct Few<'l> {
     listener: &'l TcpListener,
@@ -48,7 +48,7 @@ impl Listen<Watched<TcpStream>, Watched<TcpStream>> for Few<'_> {
     }
 }
 
-/// Serves connections in a lobby, and tells how many entries the history has then. None where the lobby is refused.
+/// Serves connections in a lobby, and returns how many entries the history then has. None if the lobby is refused.
 fn serve_few<R: Threads + Wait + Sync, K: Keeper + Drop, D: Draws + Drop>(
     rt: &R,
     alloc: Global,
@@ -61,7 +61,7 @@ fn serve_few<R: Threads + Wait + Sync, K: Keeper + Drop, D: Draws + Drop>(
     }
 }
 
-/// The same of the first two connections of a listener, over a new database Net in memory.
+/// The same with the first two connections of a listener, over a new in-memory database Net.
 fn serve_two<R: Threads + Wait + Sync>(
     rt: &R,
     alloc: Global,
@@ -71,15 +71,16 @@ fn serve_two<R: Threads + Wait + Sync>(
     Ok(serve_few(rt, alloc, desk, Few { listener, left: 2 }))
 }
 
-/// Once the first was answered the second sends a request and a stray bracket. It does not end, but its connection is closed
-/// behind the reply.
+/// After the first client was answered, the second sends a request and a stray bracket. It does not end, but its connection
+/// is closed after the reply.
 const DAMAGED: &str = r#"1 sends {"id":0,"method":"list_dbs","params":[]}
 1 reads {"error":null,"id":0,"result":["Net"]}
 2 sends {"id":0,"method":"list_dbs","params":[]}]
 2 reads {"error":null,"id":0,"result":["Net"]}
 2 meets end"#;
 
-/// Follows that, and then ends the first. However the talk went both have ended then: who serves them waits for that.
+/// Follows this script, and then ends the first client. Both have ended afterwards, however the talk went, because serving
+/// waits for that.
 fn talk_and_end(alloc: Global, first: &TcpStream, second: &TcpStream) -> Option<()> {
     let talked = talk(alloc, first, second, DAMAGED);
     let ended = first.shutdown(Shutdown::Write).ok();
@@ -100,7 +101,7 @@ fn is_served(
     is_text(alloc, told.as_str(), "Some(6) true")
 }
 
-/// The same of clients that talk while they are served.
+/// The same with clients that talk while they are served.
 fn are_served<R: Threads + Wait + Sync>(
     rt: &R,
     alloc: Global,
@@ -116,7 +117,7 @@ fn are_served<R: Threads + Wait + Sync>(
     is_served(alloc, entries, talked)
 }
 
-/// The same of new clients.
+/// The same with new clients.
 fn two_are_served<R>(rt: &R, alloc: Global, listener: &TcpListener) -> Result<(), Fail>
 where
     R: Net<Listener = TcpListener, Stream = TcpStream> + Threads + Wait + Sync,

@@ -21,8 +21,8 @@ use test_support::net_core;
 /// How many seconds a client waits for what it is sent.
 const PATIENCE: u64 = 20;
 
-/// The first client owns a lock, and gives it up once the second was told that it has to wait. The second is then told that the
-/// lock is its own.
+/// The first client owns a lock, and gives it up after the second was told to wait. The second is then notified that it owns
+/// the lock.
 const GIVEN_ON: &str = r#"1 sends {"id":1,"method":"lock","params":["L"]}
 1 reads {"error":null,"id":1,"result":{"locked":true}}
 2 sends {"id":1,"method":"lock","params":["L"]}
@@ -31,7 +31,7 @@ const GIVEN_ON: &str = r#"1 sends {"id":1,"method":"lock","params":["L"]}
 1 reads {"error":null,"id":2,"result":{}}
 2 reads {"id":null,"method":"locked","params":["L"]}"#;
 
-/// Reads as many bytes as these. None where they are others.
+/// Reads as many bytes as `wanted` has. None if they differ.
 fn reads(alloc: Global, client: &TcpStream, wanted: &str) -> Option<()> {
     let mut reader = client;
     let mut got = Vec::new(alloc);
@@ -44,7 +44,7 @@ fn reads(alloc: Global, client: &TcpStream, wanted: &str) -> Option<()> {
     }
 }
 
-/// Meets the end of what the client is sent. None where there is more, or no end for a while.
+/// Meets the end of what the client is sent. None if there is more, or no end for a while.
 pub(crate) fn meets_end(client: &TcpStream) -> Option<()> {
     let mut reader = client;
     match reader.read(&mut [0; 1]) {
@@ -68,7 +68,7 @@ fn follow(alloc: Global, first: &TcpStream, second: &TcpStream, line: &str) -> O
     }
 }
 
-/// Follows a script, line by line. None where something else is read, or nothing for a while.
+/// Follows a script, line by line. None if something else is read, or nothing for a while.
 pub(crate) fn talk(
     alloc: Global,
     first: &TcpStream,
@@ -81,14 +81,14 @@ pub(crate) fn talk(
     Some(())
 }
 
-/// The same, and then ends both inputs, however the talk went: who serves them waits for that.
+/// The same, and then ends both inputs, however the talk went, because serving waits for that.
 fn talk_to_end(alloc: Global, first: &TcpStream, second: &TcpStream, script: &str) -> bool {
     let talked = talk(alloc, first, second, script).is_some();
     let ended = first.shutdown(Shutdown::Write).is_ok();
     second.shutdown(Shutdown::Write).is_ok() && ended && talked
 }
 
-/// How the sessions over these connections end, of a new database Net in memory.
+/// How the sessions over these connections end, with a new in-memory database Net.
 fn served<R: Threads + Wait + Clock + Sync>(
     rt: &R,
     alloc: Global,
@@ -108,7 +108,7 @@ pub(crate) fn client_of<R: Net<Listener = TcpListener, Stream = TcpStream>>(
     Ok(client)
 }
 
-/// Fails unless sessions end so.
+/// Fails unless this is how sessions end.
 fn is_ending(alloc: Global, ending: Ending, wanted: &str) -> Result<(), Fail> {
     let told = format!(in alloc; "{ending:?}")?;
     is_text(alloc, told.as_str(), wanted)
@@ -120,7 +120,7 @@ fn have_talked(alloc: Global, ended: Result<Ending, Fail>, is_as_told: bool) -> 
     holds(alloc, is_as_told, "the clients have talked to the end")
 }
 
-/// The same of clients that talk while these connections are served.
+/// The same with clients that talk while these connections are served.
 fn share_a_lock<R: Threads + Wait + Clock + Sync>(
     rt: &R,
     alloc: Global,
@@ -138,7 +138,7 @@ fn share_a_lock<R: Threads + Wait + Clock + Sync>(
     have_talked(alloc, ended, is_as_told)
 }
 
-/// The same of new clients.
+/// The same with new clients.
 fn two_share_a_lock<R>(rt: &R, alloc: Global, listener: &TcpListener) -> Result<(), Fail>
 where
     R: Net<Listener = TcpListener, Stream = TcpStream> + Threads + Wait + Clock + Sync,
@@ -154,7 +154,7 @@ fn two_clients_share_a_lock(rt: HostRuntime) -> Result<(), Fail> {
     two_share_a_lock(&rt, rt.alloc(), &listener)
 }
 
-/// How a session at an address ends, of a new database Net in memory.
+/// How a session at an address ends, with a new in-memory database Net.
 fn ending_at<R>(rt: &R, alloc: Global, address: &str) -> Result<Ending, Fail>
 where
     R: Net<Listener = TcpListener, Stream = TcpStream> + Threads + Wait + Clock + Eprint + Sync,
@@ -164,7 +164,7 @@ where
     Ok(serve_at(rt, alloc, keeper, schema, Counter::new(), address, Some(1)).ending)
 }
 
-/// Fails unless it ends so.
+/// Fails unless this is how it ends.
 fn ends_at<R>(rt: &R, alloc: Global, address: &str, wanted: &str) -> Result<(), Fail>
 where
     R: Net<Listener = TcpListener, Stream = TcpStream> + Threads + Wait + Clock + Eprint + Sync,
@@ -177,7 +177,7 @@ fn no_address_ends_as_streams(rt: HostRuntime) -> Result<(), Fail> {
     ends_at(&rt, rt.alloc(), "127.0.0.1", "Streams")
 }
 
-/// Fails unless a session ends so at the address of another listener.
+/// Fails unless this is how a session at the address of another listener ends.
 fn ends_beside<R>(rt: &R, alloc: Global, listener: &TcpListener, wanted: &str) -> Result<(), Fail>
 where
     R: Net<Listener = TcpListener, Stream = TcpStream> + Threads + Wait + Clock + Eprint + Sync,
@@ -192,7 +192,7 @@ fn a_port_in_use_ends_as_streams(rt: HostRuntime) -> Result<(), Fail> {
     ends_beside(&rt, rt.alloc(), &listener, "Streams")
 }
 
-/// How sessions end where they are asked for, of a new database Net in memory.
+/// How sessions end at this place, with a new in-memory database Net.
 fn ending_of<R, I, O>(rt: &R, alloc: Global, place: Place<I, O>) -> Result<Ending, Fail>
 where
     R: Net<Listener = TcpListener, Stream = TcpStream> + Threads + Wait + Clock + Eprint + Sync,
@@ -211,7 +211,7 @@ fn told_of(alloc: Global, ended: Result<Ending, Fail>, output: Vec<u8>) -> Resul
     Ok(format!(in alloc; "{ending:?} {output}")?)
 }
 
-/// The same of a session over this input.
+/// The same for a session over this input.
 fn told_over_streams<R>(rt: &R, alloc: Global, input: &[u8]) -> Result<String, Fail>
 where
     R: Net<Listener = TcpListener, Stream = TcpStream> + Threads + Wait + Clock + Eprint + Sync,

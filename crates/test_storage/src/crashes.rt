@@ -16,8 +16,8 @@ put Switch 2 1 two again
 put Port 1 1 port
 commit";
 
-/// What may be found: how many commits were made, and then the lines of all these and of no other, or of the one that failed
-/// too. After a create that was refused there is nothing, or the whole new store.
+/// What may be found: the number of commits made, then the lines of exactly these, or of the one that failed too. After a
+/// refused create there is nothing, or the whole new store.
 const ALLOWED: &str = "no database
 refused: nothing
 refused: a store
@@ -27,7 +27,7 @@ made 1:Switch 1 0 one;Switch 2 0 two;
 made 1:Port 1 1 port;Switch 2 1 two again;
 made 2:Port 1 1 port;Switch 2 1 two again;";
 
-/// Which lines a store has that was not made.
+/// Whether a store whose create was refused has lines.
 fn lines_of_refused<S: Alter + Drop>(
     alloc: Global,
     store: &mut Store<S>,
@@ -39,13 +39,13 @@ fn lines_of_refused<S: Alter + Drop>(
     }
 }
 
-/// The same of a store that is not used again.
+/// The same for a store that is not used again.
 fn found_in_refused<S: Alter + Drop>(alloc: Global, store: Store<S>) -> Result<&'static str, Fail> {
     let mut store = store;
     lines_of_refused(alloc, &mut store)
 }
 
-/// What a database has that is no store.
+/// What a database has that is not a store.
 fn found_beside<S: Alter + Drop>(connection: &Connection<S>) -> &'static str {
     if connection.schema().tables.is_empty() {
         "refused: nothing"
@@ -54,7 +54,7 @@ fn found_beside<S: Alter + Drop>(connection: &Connection<S>) -> &'static str {
     }
 }
 
-/// What is found in a database that is opened again, on which no store was made.
+/// What is found in a reopened database on which no store was made.
 fn found_again<S: Alter + Drop>(alloc: Global, again: Connection<S>) -> Result<&'static str, Fail> {
     if !again.is_autocommit() {
         return Err(Fail::new("in a transaction"));
@@ -89,7 +89,7 @@ fn text_of_refused<S: Alter + Reopen + Drop>(
     Ok(String::from_str(alloc, found)?)
 }
 
-/// How many commits of the script are made, up to the first that is not.
+/// The number of commits of the script that are made before the first that is not.
 fn made<S: Scripted>(alloc: Global, keeping: &mut S) -> Result<u64, Fail> {
     let mut made: u64 = 0;
     for line in SCRIPT.lines() {
@@ -103,7 +103,7 @@ fn made<S: Scripted>(alloc: Global, keeping: &mut S) -> Result<u64, Fail> {
     Ok(made)
 }
 
-/// What is found after that many commits.
+/// What is found after `made` commits.
 fn found_in_store<S: Alter + Drop>(
     alloc: Global,
     made: u64,
@@ -113,7 +113,7 @@ fn found_in_store<S: Alter + Drop>(
     Ok(format!(in alloc; "made {made}:{lines}")?)
 }
 
-/// What is found after that many commits and a crash.
+/// What is found after `made` commits and a crash.
 fn found_after<S: Alter + Reopen + Drop>(
     alloc: Global,
     made: u64,
@@ -126,14 +126,14 @@ fn found_after<S: Alter + Reopen + Drop>(
     }
 }
 
-/// What is found after a crash behind the script.
+/// What is found after the script and a crash.
 fn found_of_made<S: Alter + Reopen + Drop>(alloc: Global, store: Store<S>) -> Result<String, Fail> {
     let mut keeping = Keeping::new(alloc, store);
     let made = made(alloc, &mut keeping)?;
     found_after(alloc, made, keeping.into_keeper())
 }
 
-/// Makes a store, runs the script until a commit fails, and tells what is found after a crash.
+/// Makes a store, runs the script until a commit fails, and returns what is found after a crash.
 fn found<S: Alter + Reopen + Drop>(
     alloc: Global,
     connection: Connection<S>,
@@ -148,7 +148,7 @@ fn found<S: Alter + Reopen + Drop>(
     }
 }
 
-/// The same over two files in memory, each of which fails after so many calls.
+/// The same over two files in memory, each of which fails after a number of calls.
 fn found_over_fuses(alloc: Global, log_calls: u64, file_calls: u64) -> Result<String, Fail> {
     let schema = Text::from_str(alloc, NET)?;
     let files = Files {
@@ -171,7 +171,7 @@ fn is_allowed(found: &str) -> bool {
     false
 }
 
-/// What is found where the log fails after so many calls, or the file does.
+/// What is found if the log, or else the file, fails after this number of calls.
 fn found_over_fuse(alloc: Global, is_log: bool, calls: u64) -> Result<String, Fail> {
     if is_log {
         found_over_fuses(alloc, calls, u64::MAX)
@@ -180,7 +180,7 @@ fn found_over_fuse(alloc: Global, is_log: bool, calls: u64) -> Result<String, Fa
     }
 }
 
-/// Fails unless that is allowed.
+/// Fails unless what is found is allowed.
 fn leaves_no_part(alloc: Global, is_log: bool, calls: u64) -> Result<(), Fail> {
     let found = found_over_fuse(alloc, is_log, calls)?;
     if is_allowed(found.as_str()) {
@@ -189,7 +189,7 @@ fn leaves_no_part(alloc: Global, is_log: bool, calls: u64) -> Result<(), Fail> {
     Err(Fail::new(format!(in alloc; "{calls} {found}")?))
 }
 
-/// Fails unless what is found is allowed where the log fails after each number of calls in turn, or the file does.
+/// Fails unless what is found is allowed when the log, or else the file, fails after each number of calls in turn.
 fn leave_no_part(alloc: Global, is_log: bool) -> Result<(), Fail> {
     for calls in 0..60u64 {
         leaves_no_part(alloc, is_log, calls)?;
@@ -197,7 +197,7 @@ fn leave_no_part(alloc: Global, is_log: bool) -> Result<(), Fail> {
     Ok(())
 }
 
-/// What is found where nothing fails.
+/// What is found if nothing fails.
 const WHOLE: &str = "made 2:Port 1 1 port;Switch 2 1 two again;";
 
 #[test]

@@ -4,13 +4,13 @@ use std::alloc::Global;
 use std::test::Fail;
 use test_basics::is_text;
 
-/// Fails unless a disk has so many bytes.
+/// Fails unless a disk has this number of bytes.
 fn has_length(alloc: Global, disk: &mut MemoryDisk, want: &str) -> Result<(), Fail> {
     let found = format!(in alloc; "{}", disk.len()?)?;
     is_text(alloc, found.as_str(), want)
 }
 
-/// What a read of four bytes from the third on gives.
+/// The result of reading four bytes, starting with the third.
 fn read(alloc: Global, disk: &mut MemoryDisk) -> Result<String, Fail> {
     let mut read = [0u8; 4];
     match disk.read_at(2, &mut read) {
@@ -19,13 +19,13 @@ fn read(alloc: Global, disk: &mut MemoryDisk) -> Result<String, Fail> {
     }
 }
 
-/// Fails unless that read gives this.
+/// Fails unless that read returns this.
 fn reads(alloc: Global, disk: &mut MemoryDisk, want: &str) -> Result<(), Fail> {
     let found = read(alloc, disk)?;
     is_text(alloc, found.as_str(), want)
 }
 
-/// Fails unless an empty disk is written, read and cut.
+/// Fails unless an empty disk can be written, read and truncated.
 fn is_written(alloc: Global, disk: &mut MemoryDisk) -> Result<(), Fail> {
     disk.write_at(3, b"abc")?;
     disk.sync()?;

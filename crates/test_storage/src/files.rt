@@ -1,4 +1,4 @@
-//! Stores over files of the system, in a folder of their own below the one that the tests run in.
+//! Stores over files of the system, in their own folder below the one that the tests run in.
 
 use crate::stores::{FOUND, TWO_COMMITS, kept};
 use ov_base::Text;
@@ -15,7 +15,7 @@ const PATH: &str = "test_storage_files/net.db";
 
 const LOG: &str = "test_storage_files/net.db-wal";
 
-/// Makes the folder anew, with nothing in it.
+/// Makes the folder again, empty.
 fn clear(rt: &HostRuntime) -> Result<(), Fail> {
     let _ = fs::remove_dir_all(rt, FOLDER);
     fs::create_dir(rt, FOLDER)?;
@@ -31,7 +31,7 @@ fn served(rt: &HostRuntime, script: &str) -> Result<(), Fail> {
     Ok(())
 }
 
-/// Why the file has no store, where it has none.
+/// Why the file has no store, if it has none.
 fn refused(rt: &HostRuntime) -> Result<Option<KeepFault>, Fail> {
     let text = Text::from_str(rt.alloc(), "new")?;
     match store_in_file(rt, PATH, text, Unknown) {
@@ -40,7 +40,7 @@ fn refused(rt: &HostRuntime) -> Result<Option<KeepFault>, Fail> {
     }
 }
 
-/// Fails unless the file has no store, since it is not ours.
+/// Fails unless the file has no store because it is not ours.
 fn is_not_ours(rt: &HostRuntime) -> Result<(), Fail> {
     let found = format!(in rt.alloc(); "{:?}", refused(rt)?)?;
     is_text(rt.alloc(), found.as_str(), "Some(NotOurs)")
@@ -66,7 +66,7 @@ fn a_closed_file_has_all(rt: HostRuntime) -> Result<(), Fail> {
     Ok(())
 }
 
-/// Makes a file of somebody else's, as SQLite has it without a log.
+/// Makes a foreign file, as SQLite leaves it without a log.
 fn make_foreign(rt: &HostRuntime) -> Result<(), Fail> {
     let mut connection = Connection::open(rt, PATH)?;
     connection.execute_batch("CREATE TABLE other(a);")?;
@@ -75,7 +75,7 @@ fn make_foreign(rt: &HostRuntime) -> Result<(), Fail> {
     Ok(())
 }
 
-/// Turns a byte of the file, and gives what it has then.
+/// Flips bits of a byte of the file, and returns the file's new bytes.
 fn turned(rt: &HostRuntime, at: usize, by: u8) -> Result<Vec<u8>, Fail> {
     let mut bytes = fs::read(rt, PATH)?;
     if at < bytes.len() {
@@ -90,14 +90,14 @@ fn has_bytes(rt: &HostRuntime, bytes: &[u8]) -> Result<bool, Fail> {
     Ok(fs::read(rt, PATH)?.as_slice() == bytes)
 }
 
-/// Fails unless the file is refused and left with these bytes, and without a log.
+/// Fails unless the file is refused and left with these bytes and without a log.
 fn is_left(rt: &HostRuntime, bytes: &[u8]) -> Result<(), Fail> {
     is_not_ours(rt)?;
     holds(rt.alloc(), has_bytes(rt, bytes)?, "the file is as before")?;
     has_no_log(rt)
 }
 
-/// The same where a byte of the file is turned.
+/// The same after bits of a byte of the file are flipped.
 fn is_left_turned(rt: &HostRuntime, at: usize) -> Result<(), Fail> {
     let bytes = turned(rt, at, 3)?;
     is_left(rt, &bytes)
@@ -114,7 +114,7 @@ fn a_foreign_file_is_left_as_it_is(rt: HostRuntime) -> Result<(), Fail> {
     Ok(())
 }
 
-/// Fails unless the file is refused where a bit of a byte is turned, which is turned back then.
+/// Fails unless the file is refused while a bit of a byte is flipped; flips it back.
 fn is_found_turned(rt: &HostRuntime, at: usize) -> Result<(), Fail> {
     turned(rt, at, 1)?;
     is_not_ours(rt)?;

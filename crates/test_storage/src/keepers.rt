@@ -4,7 +4,7 @@ use std::alloc::Global;
 use std::test::Fail;
 use test_basics::{Faults, Keeping, NET, agrees, is_text, net_keeper};
 
-/// Runs a script over a new keeper in memory of the schema Net, which fails as it is told.
+/// Runs a script over a new keeper in memory of the schema Net, with these faults.
 fn keeps(alloc: Global, faults: Faults, script: &str) -> Result<(), Fail> {
     agrees(
         alloc,

@@ -1,4 +1,4 @@
-//! Tests of what is stored: keepers, the disk in memory, the store, and stored lines that are opened as rows.
+//! Tests of storage: keepers, the disk in memory, the store, and stored lines opened as rows.
 #![tactic(auto)]
 
 #[cfg(test)]

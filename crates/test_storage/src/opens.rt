@@ -11,15 +11,15 @@ use uuid::Uuid;
 const NET_0: &str =
     r#"{"name":"Net","tables":{"Switch":{"columns":{"name":{"type":"string"}}}},"version":"0.0.0"}"#;
 
-/// Lines of both tables, in their order.
+/// Lines of both tables, in order.
 const STORED: &str = r#"Port 3 4 {"name":"p1","peer":["set",[]],"tag":4095}
 Port 5 4 {"name":"","peer":["uuid","00000000-0000-0000-0000-000000000003"],"tag":["set",[]]}
 Switch 2 1 {"load":0,"main":["set",[]],"name":"s1","ports":["set",[]]}
 Switch 6 1 {"load":-9223372036854775808,"main":["uuid","00000000-0000-0000-0000-000000000003"],"name":"\"\u0001é","ports":["set",[["uuid","00000000-0000-0000-0000-000000000003"],["uuid","00000000-0000-0000-0000-000000000005"]]]}
 "#;
 
-/// The bodies of lines of Port that are a row or none: no JSON, no object, a column less, one more, one twice, another order, a
-/// space; values of another kind, out of their range, too many, not in order, not as they are written; a real.
+/// Bodies of lines of Port that are or are not rows: not JSON, not an object, a column missing, added or repeated, another
+/// order, a space; values of another kind, out of range, too many, out of order, not as they are written; a real.
 const BODIES: &str = r#"x -> a stored row does not fit the schema
 [] -> a stored row does not fit the schema
 {"name":"p1","peer":["set",[]]} -> a stored row does not fit the schema
@@ -43,8 +43,9 @@ const BODIES: &str = r#"x -> a stored row does not fit the schema
 const EVERY: &str =
     r#"{"name":"Every","tables":{"All":{"columns":{"flag":{"type":"boolean"},"id":{"type":"uuid"},"ids":{"type":{"key":"uuid","max":"unlimited","min":0}},"name":{"type":"string"},"number":{"type":"integer"},"numbers":{"type":{"key":"integer","max":"unlimited","min":0}},"truths":{"type":{"key":"uuid","max":"unlimited","min":0,"value":"boolean"}},"words":{"type":{"key":"string","max":"unlimited","min":0,"value":"string"}}}}},"version":"1.0.0"}"#;
 
-/// Bodies of lines of All that are a row or none: each kind of value, with no elements and with some, and texts with escapes; then
-/// other names, words and brackets, elements not in order or twice, a key twice, values of another kind, a U+0000, other numbers.
+/// Bodies of lines of All that are or are not rows: each kind of value, with no elements and with some, and texts with
+/// escapes; then other names, words and brackets, elements out of order or repeated, a repeated key, values of another kind,
+/// a U+0000, other numbers.
 const EVERY_BODIES: &str =
     r#"{"flag":true,"id":["uuid","01234567-89ab-cdef-0123-456789abcdef"],"ids":["set",[["uuid","00000000-0000-0000-0000-000000000003"],["uuid","00000000-0000-0000-0000-000000000005"]]],"name":"a\"\\n\u0001é😀","number":-9223372036854775808,"numbers":["set",[-3,0,7]],"truths":["map",[[["uuid","00000000-0000-0000-0000-000000000003"],false],[["uuid","00000000-0000-0000-0000-000000000005"],true]]],"words":["map",[["","x"],["map","set"],["set","uuid"]]]} -> kept
 {"flag":false,"id":["uuid","00000000-0000-0000-0000-000000000000"],"ids":["set",[]],"name":"","number":9223372036854775807,"numbers":["set",[]],"truths":["map",[]],"words":["map",[]]} -> kept
@@ -62,7 +63,7 @@ const EVERY_BODIES: &str =
 {"flag":null,"id":["uuid","00000000-0000-0000-0000-000000000000"],"ids":["set",[]],"name":"","number":0,"numbers":["set",[]],"truths":["map",[]],"words":["map",[]]} -> refused
 {"flag":false,"id":["uuid","0000000000000000-0000-000000000000"],"ids":["set",[]],"name":"","number":0,"numbers":["set",[]],"truths":["map",[]],"words":["map",[]]} -> refused"#;
 
-/// The text of a row, as that of its line.
+/// The text of a row, in the form of its line.
 fn text_of_row(alloc: Global, table: &str, id: &Uuid, row: &Row) -> Result<String, Fail> {
     let body = row.columns.text(alloc)?;
     let id = id.as_u128();
@@ -71,7 +72,7 @@ fn text_of_row(alloc: Global, table: &str, id: &Uuid, row: &Row) -> Result<Strin
     Ok(format!(in alloc; "{table} {id} {version} {body}")?)
 }
 
-/// Adds the text of a row, with the end of its line.
+/// Adds the text of a row and a line feed.
 fn push_row(
     alloc: Global,
     text: &mut String,
@@ -84,7 +85,7 @@ fn push_row(
     Ok(text.push_str("\n")?)
 }
 
-/// Adds the texts of a table's rows, each with the end of its line.
+/// Adds the texts of a table's rows, each with a line feed.
 fn push_rows(alloc: Global, text: &mut String, table: &str, rows: &TableRows) -> Result<(), Fail> {
     for (id, row) in rows.map() {
         push_row(alloc, text, table, id.as_uuid(), row)?;
@@ -92,7 +93,7 @@ fn push_rows(alloc: Global, text: &mut String, table: &str, rows: &TableRows) ->
     Ok(())
 }
 
-/// The texts of rows, each with the end of its line.
+/// The texts of rows, each with a line feed.
 fn text_of_rows(alloc: Global, rows: &Rows) -> Result<String, Fail> {
     let mut text = String::new(alloc);
     for (table, rows) in rows.tables() {
@@ -101,7 +102,7 @@ fn text_of_rows(alloc: Global, rows: &Rows) -> Result<String, Fail> {
     Ok(text)
 }
 
-/// The rows of what a keeper holds, each as the text of its line; or why they can't be opened under the schema.
+/// The rows that a keeper holds, each as the text of its line; or why they can't be opened under the schema.
 fn rows_of(alloc: Global, keeper: ListKeeper, schema: &str) -> Result<String, Fail> {
     let schema = schema_of_text(alloc, schema)?;
     match Db::open(alloc, keeper, schema) {
@@ -110,12 +111,12 @@ fn rows_of(alloc: Global, keeper: ListKeeper, schema: &str) -> Result<String, Fa
     }
 }
 
-/// The same of these lines, and of the text of a schema that is stored with them.
+/// The same for these lines and the schema text stored with them.
 fn opened(alloc: Global, stored: &str, lines: &str, schema: &str) -> Result<String, Fail> {
     rows_of(alloc, keeper_of(alloc, stored, lines)?, schema)
 }
 
-/// Fails unless that is this text.
+/// Fails unless the result is this text.
 fn opens_as(
     alloc: Global,
     stored: &str,
@@ -136,7 +137,7 @@ fn rows_are_opened_as_they_were_stored(rt: HostRuntime) -> Result<(), Fail> {
 const HOLDER: &str =
     r#"Switch 1 1 {"load":0,"main":["set",[]],"name":"s1","ports":["uuid","00000000-0000-0000-0000-000000000002"]}"#;
 
-/// What is opened of a line of Port with this body, beside the switch that refers to the port.
+/// What a line of Port with this body opens as, next to the switch that refers to the port.
 #[derive(Drop)]
 struct Bodies;
 
@@ -146,7 +147,7 @@ fn first_line(alloc: Global, text: &str) -> Result<String, Fail> {
     Ok(String::from_str(alloc, first)?)
 }
 
-/// What the first of lines is opened as.
+/// What the first of the lines opens as.
 fn first_opened(alloc: Global, lines: &str) -> Result<String, Fail> {
     let text = opened(alloc, NET, lines, NET)?;
     first_line(alloc, text.as_str())
@@ -164,11 +165,11 @@ fn bodies_that_are_no_row_are_refused(rt: HostRuntime) -> Result<(), Fail> {
     agrees(rt.alloc(), Bodies, BODIES)
 }
 
-/// Whether a line of All with this body is opened as it is.
+/// Whether a line of All with this body opens unchanged.
 #[derive(Drop)]
 struct EveryBodies;
 
-/// Whether a line is opened as it is.
+/// Whether a line opens unchanged.
 fn is_kept(alloc: Global, line: &str) -> Result<bool, Fail> {
     let text = opened(alloc, EVERY, line, EVERY)?;
     Ok(text.as_str().trim_end() == line)
@@ -195,7 +196,7 @@ ports 2 1 {}"#;
     opens_as(rt.alloc(), NET, lines, NET, want)
 }
 
-/// The schema is looked at before the lines.
+/// The schema is checked before the lines.
 #[test]
 fn another_schema_is_refused(rt: HostRuntime) -> Result<(), Fail> {
     let alloc = rt.alloc();
@@ -208,8 +209,8 @@ fn another_schema_is_refused(rt: HostRuntime) -> Result<(), Fail> {
 /// Why rows that a commit would refuse or change are not opened.
 const BREAKS: &str = "the stored rows break a constraint";
 
-/// Rows that a commit would refuse or change: two switches of one name; a port that no row refers to, or itself alone, or by a
-/// weak reference; and a strong and a weak reference to a row that is not there.
+/// Rows that a commit would refuse or change: two switches with the same name; a port to which no row refers, or only itself,
+/// or only a weak reference; and a strong and a weak reference to a missing row.
 const BROKEN: [&str; 6] = [
     r#"Switch 1 1 {"load":0,"main":["set",[]],"name":"s1","ports":["set",[]]}
 Switch 2 1 {"load":7,"main":["set",[]],"name":"s1","ports":["set",[]]}"#,
@@ -240,7 +241,7 @@ fn rows_that_support_each_other_are_opened(rt: HostRuntime) -> Result<(), Fail> 
     opens_as(rt.alloc(), NET, PEERS, NET, PEERS)
 }
 
-/// A table of one row at most.
+/// A table of at most one row.
 const ONE: &str =
     r#"{"name":"One","tables":{"T":{"columns":{"n":{"type":"integer"}},"maxRows":1}},"version":"1.0.0"}"#;
 
@@ -252,21 +253,21 @@ fn a_table_with_too_many_rows_is_refused(rt: HostRuntime) -> Result<(), Fail> {
     opens_as(rt.alloc(), ONE, two, ONE, BREAKS)
 }
 
-/// What the keeper holds after the row of a line was committed beside what is opened.
+/// What the keeper holds after its rows are opened and the row of a line is committed.
 fn committed(alloc: Global, keeper: ListKeeper, line: &Line) -> Result<ListKeeper, Fail> {
     let mut db = Db::open(alloc, keeper, net(alloc)?)?;
     put_line(alloc, &mut db, line)?;
     Ok(db.into_keeper())
 }
 
-/// What is opened after the row of a line was put beside these lines.
+/// What is opened after the row of a line is added to these lines.
 fn opened_again(alloc: Global, lines: &str, line: &str) -> Result<String, Fail> {
     let keeper = keeper_of(alloc, NET, lines)?;
     let keeper = committed(alloc, keeper, &line_of(alloc, line)?)?;
     rows_of(alloc, keeper, NET)
 }
 
-/// What was committed is found again, by the table, the identifier, the version and the bytes of its line.
+/// What was committed is found again, with the table, the identifier, the version and the bytes of its line.
 #[test]
 fn committed_rows_are_opened_again(rt: HostRuntime) -> Result<(), Fail> {
     let lines = r#"Port 3 1 {"name":"p1","peer":["set",[]],"tag":["set",[]]}

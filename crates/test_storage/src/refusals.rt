@@ -10,7 +10,7 @@ use std::alloc::Global;
 use std::test::Fail;
 use test_basics::{Scripted, agrees};
 
-/// A statement by its word.
+/// The statement for a word.
 fn statement(word: &str) -> &'static str {
     match word {
         "meta" => "CREATE TABLE meta(k TEXT PRIMARY KEY, v BLOB);",
@@ -42,7 +42,7 @@ fn statement(word: &str) -> &'static str {
     }
 }
 
-/// What an open gives of the database that these statements make.
+/// What an open of the database made by these statements returns.
 const OPENED: &str = "meta line schema format -> old 0
 meta line schema format row -> old 1
 line -> not a database of this program
@@ -65,7 +65,7 @@ meta line schema format row short -> another format
 meta line schema format row no_version -> another format
 meta line schema format row no_text -> another format";
 
-/// What is made or opened of it, with the text `new` for a new one.
+/// What making or opening a store there returns; a new one has the text `new`.
 const MADE_OR_OPENED: &str = " -> new 0
 meta line format schema row -> old 1
 meta line format -> another format
@@ -74,7 +74,7 @@ foreign line meta schema format row -> old 1
 foreign -> not a database of this program
 view -> not a database of this program";
 
-/// What is made beside it.
+/// What making a store there returns.
 const MADE: &str = " -> new 0
 foreign -> new 0
 foreign seven_there view -> new 0
@@ -85,25 +85,25 @@ foreign line_view -> not a database of this program
 foreign line_index -> not a database of this program
 key -> not a database of this program";
 
-/// What is made of a database in which a store was made.
+/// What making a store returns if one was made there before.
 const MADE_AGAIN: &str = " -> not a database of this program";
 
-/// Whether the other table has its row after a commit, where it was made after those of the store.
+/// Whether the other table, made after those of the store, has its row after a commit.
 const KEPT_BEHIND: &str = "meta line schema format foreign seven_there -> true";
 
-/// The same where it was made before them.
+/// The same if it was made before them.
 const KEPT_BEFORE: &str = "foreign seven_there line meta format schema -> true";
 
-/// The same of a new store.
+/// The same for a new store.
 const KEPT_BY_NEW: &str = "foreign seven_there view -> true";
 
-/// The schema's text that a store has, and how many lines.
+/// The schema text of a store and its number of lines.
 fn contents<S: Alter + Drop>(alloc: Global, store: &mut Store<S>) -> Result<String, Fail> {
     let lines = store.load_all(alloc)?.len();
     Ok(format!(in alloc; "{} {lines}", store.schema_text().as_str())?)
 }
 
-/// The same of a store that is not used again.
+/// The same for a store that is not used again.
 fn text_of_store<S: Alter + Drop>(alloc: Global, store: Store<S>) -> Result<String, Fail> {
     let mut store = store;
     contents(alloc, &mut store)
@@ -114,7 +114,7 @@ fn refused(alloc: Global, fault: KeepFault) -> Result<String, Fail> {
     Ok(format!(in alloc; "{fault}")?)
 }
 
-/// What an open gives of the database of a connection.
+/// What opening the database of a connection returns.
 fn text_of_opened<S: Alter + Drop>(
     alloc: Global,
     connection: Connection<S>,
@@ -128,7 +128,7 @@ fn text_of_opened<S: Alter + Drop>(
     }
 }
 
-/// What is made or opened of it.
+/// What making or opening a store there returns.
 fn text_of_made_or_opened<S: Alter + Drop>(
     alloc: Global,
     connection: Connection<S>,
@@ -143,7 +143,7 @@ fn text_of_made_or_opened<S: Alter + Drop>(
     }
 }
 
-/// What is made beside it.
+/// What making a store there returns.
 fn text_of_made<S: Alter + Drop>(
     alloc: Global,
     connection: Connection<S>,
@@ -158,7 +158,7 @@ fn text_of_made<S: Alter + Drop>(
     }
 }
 
-/// What is made beside a store that was made of it.
+/// What making a store returns if one was made there before.
 fn text_of_made_again<S: Alter + Drop>(
     alloc: Global,
     connection: Connection<S>,
@@ -181,7 +181,7 @@ fn has_other_row<S: Alter + Drop>(connection: &mut Connection<S>) -> Result<bool
     })
 }
 
-/// The same, as it is told.
+/// The same, as text.
 fn text_of_other_row<S: Alter + Drop>(
     alloc: Global,
     connection: &mut Connection<S>,
@@ -192,7 +192,7 @@ fn text_of_other_row<S: Alter + Drop>(
     Ok(format!(in alloc; "{has_row}")?)
 }
 
-/// Whether the other table has its row after a commit beside it.
+/// Whether the other table has its row after a commit to the store.
 fn text_of_kept<S: Alter + Drop>(alloc: Global, store: Store<S>) -> Result<String, Fail> {
     let script = "put Switch 1 0 one
 commit -> made
@@ -201,7 +201,7 @@ lines -> Switch 1 0 one;";
     text_of_other_row(alloc, &mut connection)
 }
 
-/// The same of a commit to the store of the database.
+/// The same for a commit to the store of the database.
 fn text_of_kept_by_opened<S: Alter + Drop>(
     alloc: Global,
     connection: Connection<S>,
@@ -209,7 +209,7 @@ fn text_of_kept_by_opened<S: Alter + Drop>(
     text_of_kept(alloc, opened(alloc, connection)?)
 }
 
-/// The same of a commit to a new store.
+/// The same for a commit to a new store.
 fn text_of_kept_by_new<S: Alter + Drop>(
     alloc: Global,
     connection: Connection<S>,
@@ -228,7 +228,7 @@ enum Way {
     CommitToNew,
 }
 
-/// What comes of the database of a connection.
+/// The answer for the database of a connection.
 fn text_by<S: Alter + Drop>(
     alloc: Global,
     connection: Connection<S>,
@@ -253,7 +253,7 @@ fn execute<S: Alter + Drop>(connection: &mut Connection<S>, words: &str) -> Resu
     Ok(())
 }
 
-/// What comes of it after these statements.
+/// The answer for the database after these statements.
 fn found<S: Alter + Drop>(
     alloc: Global,
     connection: Connection<S>,
@@ -280,7 +280,7 @@ impl Scripted for Databases {
     }
 }
 
-/// What comes of databases is as in the script.
+/// Runs a script over databases.
 fn are_found(alloc: Global, way: Way, script: &str) -> Result<(), Fail> {
     agrees(alloc, Databases { way }, script)
 }

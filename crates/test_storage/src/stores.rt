@@ -43,14 +43,14 @@ commit -> made
 lines -> Port 1 7 port;Switch 1 1 one again;
 failures -> 0";
 
-/// What the next one who opens it finds.
+/// What the next open finds.
 pub(crate) const FOUND: &str = "lines -> Port 1 7 port;Switch 1 1 one again;
 commit -> made
 remove Port 1
 commit -> made
 lines -> Switch 1 1 one again;";
 
-/// Runs a script over a keeper, and gives it back.
+/// Runs a script over a keeper and returns the keeper.
 pub(crate) fn kept<K: Keeper + Drop>(alloc: Global, keeper: K, script: &str) -> Result<K, Fail> {
     let mut keeping = Keeping::new(alloc, keeper);
     follows(alloc, &mut keeping, script)?;
@@ -67,8 +67,8 @@ fn found<S: Alter + Drop>(
     agrees(alloc, Keeping::new(alloc, store), script)
 }
 
-/// Runs a script over a new database in memory, closes it, and runs another over what its file holds then, without the log.
-/// A test holds no connection to files by itself, since each function that holds one is long to prove.
+/// Runs a script over a new database in memory, closes it, and runs another over what its file then holds, without the log.
+/// No test holds a connection to files itself, since each function that holds one takes long to prove.
 fn found_after_a_close(alloc: Global, script: &str, next: &str) -> Result<(), Fail> {
     let store = store_in_memory(alloc, Text::from_str(alloc, "new")?)?;
     let Files { log: _, db } = kept(alloc, store, script)?.into_files()?;
@@ -84,7 +84,7 @@ fn a_commit_is_found_after_a_close(rt: HostRuntime) -> Result<(), Fail> {
     found_after_a_close(rt.alloc(), TWO_COMMITS, FOUND)
 }
 
-/// Runs a script over a new store behind a keeper that fails as it is told.
+/// Runs a script over a keeper with these faults, over a new store.
 fn kept_by_failing<S: Alter + Drop>(
     alloc: Global,
     connection: Connection<S>,

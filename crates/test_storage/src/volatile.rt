@@ -1,11 +1,11 @@
-//! A keeper in memory that has no line in it.
+//! A keeper in memory that holds no lines.
 
 use crate::stores::kept;
 use ov_base::Text;
 use ov_keeper::VolatileKeeper;
 use std::test::Fail;
 
-/// A new one has the schema and no line; behind a commit its lines can't be loaded.
+/// A new keeper has the schema and no line; after a commit its lines can't be loaded.
 const ONE_COMMIT: &str = "schema -> new
 lines
 put Switch 1 0 one

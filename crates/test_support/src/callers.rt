@@ -7,12 +7,12 @@ use std::alloc::Global;
 use std::test::Fail;
 use test_basics::{Faults, Scripted, agrees};
 
-/// A machine behind a script, for calls of several sessions.
+/// A machine driven by a script, for calls of several sessions.
 ///
-/// `call SERIAL ID METHOD PARAMS` is a call, answered with all that its session was sent since it was last looked at, and `got
-/// SERIAL` tells the same without a call. With the id `null` it is a notification. The other events are `open COUNT` for so many
-/// sessions, which tells their serials, `end SERIAL` and `tick MOMENT`; `close SERIAL` closes a session that did not take what
-/// was sent to it.
+/// `call SERIAL ID METHOD PARAMS` is a call, answered with all that its session was sent since it was last looked at; `got
+/// SERIAL` returns the same without a call. With the id `null` the call is a notification. The other events are `open COUNT`,
+/// which opens COUNT sessions and returns their serials, `end SERIAL` and `tick MOMENT`; `close SERIAL` closes a session that
+/// did not take what was sent to it.
 #[derive(Drop)]
 struct Callers {
     core: NetCore,
@@ -40,7 +40,7 @@ impl Callers {
         Ok(())
     }
 
-    /// Opens so many sessions, and tells their serials.
+    /// Opens `count` sessions, and returns their serials.
     fn open(&mut self, alloc: Global, count: u64) -> Result<String, Fail> {
         let mut serials = String::new(alloc);
         for _ in 0..count {
@@ -66,7 +66,7 @@ impl Callers {
         }
     }
 
-    /// What comes of a command for a session.
+    /// The answer to a command for a session.
     fn act(
         &mut self,
         alloc: Global,
@@ -97,13 +97,13 @@ impl Scripted for Callers {
     }
 }
 
-/// Runs a script of commands to a new machine, whose keeper fails as it is told.
+/// Runs a script of commands on a new machine, whose keeper fails as `faults` says.
 pub fn calls_over(alloc: Global, faults: Faults, script: &str) -> Result<(), Fail> {
     let core = net_core(alloc, faults)?;
     agrees(alloc, Callers { core }, script)
 }
 
-/// The same over a keeper that keeps all.
+/// The same with a keeper that keeps everything.
 pub fn calls(alloc: Global, script: &str) -> Result<(), Fail> {
     calls_over(alloc, Faults::NONE, script)
 }

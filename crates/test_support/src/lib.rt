@@ -1,7 +1,8 @@
-//! What tests of the machine and of what stands on it share: a machine and the streams of a server behind scripts of commands and
-//! answers, and what a database tells of its references and indexes beside what it tells when it is opened again.
+//! What tests of the machine and of the layers above it share: a machine and the streams of a server driven by scripts of
+//! commands and answers, and what a database reports of its references and indexes, compared with what it reports when it is
+//! opened again.
 //!
-//! What runs a script has no contract, so that a test's own proof stays small.
+//! The code that runs a script has no contract, so that a test's own proof stays small.
 #![tactic(auto)]
 
 mod callers;

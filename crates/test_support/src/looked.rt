@@ -7,7 +7,7 @@ use std::alloc::Global;
 use std::test::Fail;
 use test_basics::{Counter, Faults, NetKeeper, new_keeper, schema_of_text, trees};
 
-/// Has nothing to make ready.
+/// Makes nothing ready.
 #[derive(Drop)]
 struct Unprepared;
 
@@ -19,7 +19,7 @@ impl<K: Keeper> Ready<K> for Unprepared {
     }
 }
 
-/// A database, and the keys of all rows that it has or had, with those at which they stand or stood in indexes.
+/// A database, the keys of all rows that it has or had, and the index keys at which they stand or stood.
 pub struct Looked {
     db: Db<NetKeeper>,
     draws: Counter,
@@ -27,7 +27,7 @@ pub struct Looked {
 }
 
 impl Drop for Looked {
-    // A drop of its own, so that whoever drops one need not prove the drops of all that it holds once more.
+    // A drop of its own, so that code that drops one need not prove the drops of all that it holds again.
     fn drop(self) {
         let Looked { db, draws, lookups } = self;
         drop(db);
@@ -37,7 +37,7 @@ impl Drop for Looked {
 }
 
 impl Looked {
-    /// A new database of the schema of a text, with draws that are counted.
+    /// A new database of the schema in a text, with counted draws.
     pub fn new(alloc: Global, schema: &str) -> Result<Looked, Fail> {
         let schema = schema_of_text(alloc, schema)?;
         let keeper = new_keeper(alloc, &schema, Faults::NONE)?;
@@ -65,19 +65,19 @@ impl Looked {
         Ok(())
     }
 
-    /// What the database tells by the keys, with those of the rows that it has now.
+    /// What the database reports for the keys, including those of the rows that it has now.
     pub fn told(&mut self, alloc: Global) -> Result<String, Fail> {
         self.lookups.add(alloc, self.db.schema(), self.db.rows())?;
         self.lookups.told(alloc, &self.db)
     }
 
-    /// What a database tells by the keys that is opened from the lines of its rows.
+    /// What a database that is opened from the lines of these rows reports for the keys.
     fn told_again(&self, alloc: Global) -> Result<String, Fail> {
         let db = opened_from(alloc, self.db.schema(), self.db.rows())?;
         self.lookups.told(alloc, &db)
     }
 
-    /// Attempts the transaction of a command, after which both tell the same.
+    /// Attempts the transaction of a command. Fails unless both report the same afterwards.
     pub fn look(&mut self, alloc: Global, command: &str) -> Result<(), Fail> {
         let (_age, operations) = command.split_once(" ").ok_or("no age")?;
         self.attempt(alloc, operations)?;
@@ -89,8 +89,8 @@ impl Looked {
     }
 }
 
-/// After each attempt of a script what a new database of the schema of a text tells of its references and indexes is what it is
-/// when it is opened.
+/// Fails unless, after each attempt of a script, a new database of this schema reports the same references and indexes as
+/// when it is opened again.
 pub fn looks(alloc: Global, schema: &str, script: &str) -> Result<(), Fail> {
     let mut looked = Looked::new(alloc, schema)?;
     for line in script.lines() {

@@ -11,7 +11,7 @@ use std::test::Fail;
 use test_basics::schema_of_text;
 use uuid::Uuid;
 
-/// The keys of rows, and those at which rows stand in the indexes of their tables.
+/// The keys of rows, and the keys at which the rows stand in the indexes of their tables.
 #[derive(Drop)]
 pub(crate) struct Lookups {
     rows: BTreeSet<RowKey>,
@@ -19,7 +19,7 @@ pub(crate) struct Lookups {
 }
 
 impl Lookups {
-    /// No key.
+    /// No keys.
     pub(crate) fn new(alloc: Global) -> Lookups {
         Lookups {
             rows: BTreeSet::new(alloc),
@@ -27,7 +27,7 @@ impl Lookups {
         }
     }
 
-    /// Adds where a row of the table of this name stands.
+    /// Adds the index keys of a row of the table with this name.
     fn add_places(
         &mut self,
         alloc: Global,
@@ -73,8 +73,9 @@ impl Lookups {
         Ok(())
     }
 
-    /// What a database tells by these keys. For the key of a row: how many rows refer to it strongly, and those that do weakly;
-    /// for a key of an index: the row that stands there. Each stands in a line with its key, of an index without the values.
+    /// What a database reports for these keys. For the key of a row: how many rows refer to it strongly, and which rows do
+    /// weakly. For a key of an index: the row that stands there. Each has a line with its key; that of an index omits the
+    /// values.
     pub(crate) fn told<K: Keeper + Drop>(&self, alloc: Global, db: &Db<K>) -> Result<String, Fail> {
         let mut text = String::new(alloc);
         for key in &self.rows {
@@ -87,7 +88,7 @@ impl Lookups {
     }
 }
 
-/// Adds what a database tells of who refers to a row.
+/// Adds what a database reports of the rows that refer to a row.
 fn push_row<K: Keeper + Drop>(
     alloc: Global,
     text: &mut String,
@@ -104,7 +105,7 @@ fn push_row<K: Keeper + Drop>(
     Ok(())
 }
 
-/// Adds the keys of rows, each behind a space.
+/// Adds the keys of rows, each after a space.
 fn push_keys(alloc: Global, text: &mut String, keys: &KeySet) -> Result<(), Fail> {
     for key in keys.iter() {
         text.push_str(" ")?;
@@ -120,7 +121,7 @@ fn text_of_key(alloc: Global, key: &RowKey) -> Result<String, Fail> {
     Ok(format!(in alloc; "{table} {id}")?)
 }
 
-/// What a database tells of the row at a key of an index.
+/// What a database reports of the row at a key of an index.
 fn text_of_place<K: Keeper + Drop>(
     alloc: Global,
     db: &Db<K>,
@@ -157,7 +158,7 @@ fn push_lines(
     Ok(())
 }
 
-/// A keeper of these rows' lines.
+/// A keeper of the lines of these rows.
 fn keeper_of_rows(alloc: Global, schema: Text, rows: &Rows) -> Result<ListKeeper, Fail> {
     let mut changes = Vec::new(alloc);
     for (name, table) in rows.tables() {

@@ -9,7 +9,7 @@ use test_basics::{Counter, Faults, NetKeeper, Scripted, agrees, net, net_keeper}
 /// The machine over a database Net.
 pub type NetCore = Core<NetKeeper, Counter>;
 
-/// The machine over a new database Net, whose keeper fails as it is told.
+/// The machine over a new database Net, whose keeper fails as `faults` says.
 pub fn net_core(alloc: Global, faults: Faults) -> Result<NetCore, Fail> {
     let keeper = net_keeper(alloc, faults)?;
     let schema = net(alloc)?;
@@ -55,14 +55,14 @@ fn frame_text(alloc: Global, frame: Option<Bytes>) -> Result<String, Fail> {
     }
 }
 
-/// A machine behind a script.
+/// A machine driven by a script.
 ///
-/// The commands are `open MOMENT`, `tick MOMENT`, `take SERIAL MESSAGE`, `end SERIAL`, `close SERIAL`, `is_open SERIAL`, `frame SERIAL`
-/// for the oldest frame that waits, `output SERIAL` for all of them, and `discard SERIAL`. What comes of an event is told in the words
-/// of the code. `opens COUNT` opens as many sessions, and tells their keys; `free` tells how many more may be open, and `next` the
-/// serial of the next.
-/// Of the history, `moments` tells those of all entries that are kept, `entries` how many there are, and `first` what the first
-/// is. `echoes ID BEYOND` takes echoes of session 1, with the ids from the first up to below the second.
+/// The commands are `open MOMENT`, `tick MOMENT`, `take SERIAL MESSAGE`, `end SERIAL`, `close SERIAL`, `is_open SERIAL`,
+/// `frame SERIAL` for the oldest frame that waits, `output SERIAL` for all of them, and `discard SERIAL`. The outcome of an
+/// event is given in the words of the code. `opens COUNT` opens COUNT sessions and returns their keys, `free` returns how
+/// many more may be open, and `next` the serial of the next one. Of the history, `moments` returns the moments of all entries
+/// that are kept, `entries` their number, and `first` the event of the first one. `echoes ID BEYOND` takes echoes of session
+/// 1 with the ids from ID up to but not including BEYOND.
 #[derive(Drop)]
 struct Machine {
     core: NetCore,
@@ -95,13 +95,13 @@ impl Machine {
         Ok(String::new(alloc))
     }
 
-    /// What the first entry is that the history keeps.
+    /// The event of the first entry that the history keeps.
     fn first(&self, alloc: Global) -> Result<String, Fail> {
         let entry = self.core.history().front().ok_or("no entry")?;
         event_text(alloc, &entry.event)
     }
 
-    /// Opens as many sessions, and tells their keys.
+    /// Opens `count` sessions, and returns their keys.
     fn opens(&mut self, alloc: Global, count: u64) -> Result<String, Fail> {
         let mut keys = String::new(alloc);
         for _ in 0..count {
@@ -132,7 +132,7 @@ impl Machine {
         Ok(text)
     }
 
-    /// What comes of a command for a number, which is a moment, a serial, an id or a count.
+    /// The answer to a command with a number, which is a moment, a serial, an id or a count.
     fn act(&mut self, alloc: Global, word: &str, number: u64, text: &str) -> Result<String, Fail> {
         let session = session_of(number);
         match word {
@@ -151,7 +151,7 @@ impl Machine {
         }
     }
 
-    /// What comes of a command with a number behind it, and maybe a text.
+    /// The answer to a command followed by a number and perhaps a text.
     fn act_on(&mut self, alloc: Global, command: &str) -> Result<String, Fail> {
         let (word, rest) = command.split_once(" ").ok_or("no number")?;
         let (number, text) = rest.split_once(" ").unwrap_or((rest, ""));
@@ -172,7 +172,7 @@ impl Scripted for Machine {
     }
 }
 
-/// Runs a script of commands to a new machine.
+/// Runs a script of commands on a new machine.
 pub fn steps(alloc: Global, script: &str) -> Result<(), Fail> {
     let core = net_core(alloc, Faults::NONE)?;
     agrees(alloc, Machine { core }, script)

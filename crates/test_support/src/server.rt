@@ -6,25 +6,25 @@ use std::alloc::Global;
 use std::test::Fail;
 use test_basics::{Counter, Faults, NetKeeper, Scripted, agrees};
 
-/// The streams of a server behind a conversation.
+/// The streams of a server, driven by a conversation.
 ///
-/// A line is what session 1 sends behind `>`, or all that it was sent since then behind `<`, and so for session 2 behind `2>` and
-/// `2<`. Other lines are `open`, `tick` and `finish`, which tell whether the event was served, and `entries` for how many there are
-/// in the history.
+/// A line that begins with `>` is what session 1 sends, and one with `<` is all that it was sent since the last such line;
+/// `2>` and `2<` are the same for session 2. Other lines are `open`, `tick` and `finish`, which return whether the event was
+/// served, and `entries` for how many there are in the history.
 #[derive(Drop)]
 struct Server {
     streams: Streams<NetKeeper, Counter>,
 }
 
 impl Server {
-    /// Opens session 1. Where it is not opened, no conversation agrees.
+    /// Opens session 1. If it is not opened, no conversation agrees.
     fn open(&mut self, alloc: Global) {
         if let Ok(events) = vec![in alloc; StreamEvent::Open] {
             self.streams.run(alloc, events);
         }
     }
 
-    /// Serves one event, and tells whether it was.
+    /// Serves one event, and returns whether it was served.
     fn run(&mut self, alloc: Global, event: StreamEvent) -> Result<String, Fail> {
         let ran = self.streams.run(alloc, vec![in alloc; event]?);
         fact_text(alloc, ran.refused.is_none())
@@ -37,7 +37,7 @@ impl Server {
         Ok(String::new(alloc))
     }
 
-    /// What a session was sent, if it is not this.
+    /// What a session was sent, or nothing if it is this.
     fn output(&mut self, alloc: Global, session: u64, want: &str) -> Result<String, Fail> {
         let output = self.streams.output(alloc, session)?;
         if output.as_slice() == want.as_bytes() {
@@ -51,7 +51,7 @@ impl Server {
         number_text(alloc, self.streams.core().history().len() as u64)
     }
 
-    /// What comes of an event, or how many entries there are.
+    /// The outcome of an event, or the number of entries.
     fn act(&mut self, alloc: Global, word: &str) -> Result<String, Fail> {
         match word {
             "open" => self.run(alloc, StreamEvent::Open),
@@ -81,7 +81,7 @@ impl Scripted for Server {
     }
 }
 
-/// Holds a conversation with session 1 of a new server over a new database Net, whose keeper fails as it is told.
+/// Holds a conversation with session 1 of a new server over a new database Net, whose keeper fails as `faults` says.
 pub fn converses_over(alloc: Global, faults: Faults, conversation: &str) -> Result<(), Fail> {
     let mut server = Server {
         streams: Streams::new(alloc, net_core(alloc, faults)?),
@@ -90,7 +90,7 @@ pub fn converses_over(alloc: Global, faults: Faults, conversation: &str) -> Resu
     agrees(alloc, server, conversation)
 }
 
-/// The same over a keeper that keeps all.
+/// The same with a keeper that keeps everything.
 pub fn converses(alloc: Global, conversation: &str) -> Result<(), Fail> {
     converses_over(alloc, Faults::NONE, conversation)
 }

@@ -20,7 +20,7 @@ pub fn number_or_none(alloc: Global, number: Option<u64>) -> Result<String, Fail
     }
 }
 
-/// Adds a number, with a semicolon behind it.
+/// Adds a number and a semicolon.
 pub(crate) fn push_number(alloc: Global, text: &mut String, number: u64) -> Result<(), Fail> {
     let item = format!(in alloc; "{number};")?;
     text.push_str(item.as_str())?;
@@ -32,12 +32,12 @@ pub(crate) fn fact_text(alloc: Global, is_so: bool) -> Result<String, Fail> {
     Ok(format!(in alloc; "{is_so}")?)
 }
 
-/// What comes of an event, in the words of the code.
+/// The outcome of an event, in the words of the code.
 pub(crate) fn step_word(alloc: Global, stepped: Stepped) -> Result<String, Fail> {
     Ok(format!(in alloc; "{stepped:?}")?)
 }
 
-/// What comes of an event: the serial of the session that was opened, nothing where the event is done, and else a word.
+/// The outcome of an event: the serial of the session that was opened, nothing if the event is done, and otherwise a word.
 pub fn step_text(alloc: Global, stepped: Stepped) -> Result<String, Fail> {
     match stepped {
         Stepped::Opened(session) => number_text(alloc, session.serial),

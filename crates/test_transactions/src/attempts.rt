@@ -12,10 +12,10 @@ use test_basics::{
 use test_support::OwnsOne;
 use uuid::Uuid;
 
-/// What follows a commit, in tests: the replies that are made ready, and how many rows are changed.
+/// What follows a commit in tests: the replies that are made ready, and how many rows change.
 #[derive(Drop)]
 struct Prepared {
-    /// Whether memory is refused.
+    /// Whether the allocation fails.
     is_refused: bool,
     replies: Option<Replies>,
     changes: usize,
@@ -31,9 +31,9 @@ impl<K: Keeper> Ready<K> for Prepared {
     }
 }
 
-/// Attempts of transactions on a database, each with an age and its operations. What is told of one are the results that it is
-/// answered with; or the store's answer, the results that were made ready, how many rows they change, and what stands behind
-/// them; or how long it waits. `refuse` refuses memory to what is made ready from then on.
+/// Attempts of transactions on a database, each with an age and its operations. An attempt is shown as the results that it is
+/// answered with; or as the store's answer, the results that were made ready, and how many rows they change or the error that
+/// follows them; or as how long it waits. After `refuse`, allocations for what is made ready fail.
 pub(crate) struct Attempts<D> {
     db: Db<NetKeeper>,
     draws: D,
@@ -41,7 +41,7 @@ pub(crate) struct Attempts<D> {
 }
 
 impl<D: Drop> Drop for Attempts<D> {
-    // A drop of its own, so that whoever drops them need not prove the drops of all that they hold once more.
+    // A drop of its own, so that code that drops them need not prove the drops of all that they hold again.
     fn drop(self) {
         let Attempts {
             db,
@@ -54,18 +54,18 @@ impl<D: Drop> Drop for Attempts<D> {
     }
 }
 
-/// What is told of changes that the store keeps.
+/// How changes that the store keeps are shown.
 fn kept_text(alloc: Global, results: &str, changes: usize) -> Result<String, Fail> {
     Ok(format!(in alloc; "kept {results} {changes}")?)
 }
 
-/// What is told of changes that it does not keep.
+/// How changes that it does not keep are shown.
 fn unkept_text(alloc: Global, word: &str, results: &str, error: &Tree) -> Result<String, Fail> {
     let error = compact(alloc, error)?;
     Ok(format!(in alloc; "{word} {results} {error}")?)
 }
 
-/// What is told of a store's answer, where these replies were made ready.
+/// How a store's answer is shown, with the replies that were made ready.
 fn answer_text(
     alloc: Global,
     answer: StoreAnswer,
@@ -81,7 +81,7 @@ fn answer_text(
     }
 }
 
-/// What is told of a store's answer.
+/// How a store's answer is shown.
 fn told_stored(
     alloc: Global,
     answer: StoreAnswer,
@@ -91,7 +91,7 @@ fn told_stored(
     answer_text(alloc, answer, &replies, prepared.changes)
 }
 
-/// What is told of a transaction that waits.
+/// How a transaction that waits is shown.
 pub(crate) fn wait_text(alloc: Global, timeout: Option<u64>) -> Result<String, Fail> {
     match timeout {
         Some(timeout) => Ok(format!(in alloc; "waits {timeout}")?),
@@ -99,7 +99,7 @@ pub(crate) fn wait_text(alloc: Global, timeout: Option<u64>) -> Result<String, F
     }
 }
 
-/// What is told of an attempt.
+/// How an attempt is shown.
 fn told(alloc: Global, tried: Tried, prepared: &mut Prepared) -> Result<String, Fail> {
     match tried {
         Tried::Answer(results) => array_text(alloc, &results),
@@ -110,7 +110,7 @@ fn told(alloc: Global, tried: Tried, prepared: &mut Prepared) -> Result<String, 
 }
 
 impl<D: Draws> Attempts<D> {
-    /// Attempts a transaction of an age.
+    /// Attempts a transaction of this age.
     fn attempt(&mut self, alloc: Global, age: u64, operations: &str) -> Result<String, Fail> {
         let txn = Txn::read(alloc, trees(alloc, operations)?, &mut self.draws)?;
         let mut tries = Tries::new();
@@ -126,7 +126,7 @@ impl<D: Draws> Attempts<D> {
         told(alloc, tried, &mut self.prepared)
     }
 
-    /// Refuses memory to what is made ready.
+    /// Makes allocations for what is made ready fail.
     fn refuse(&mut self, alloc: Global) -> Result<String, Fail> {
         self.prepared.is_refused = true;
         Ok(String::new(alloc))
@@ -142,7 +142,7 @@ impl<D: Draws> Scripted for Attempts<D> {
     }
 }
 
-/// Attempts on a new database of this schema, over a keeper that fails as it is told.
+/// Attempts on a new database of this schema, over a keeper that fails as `faults` says.
 fn new_attempts<D: Draws + Drop>(
     alloc: Global,
     schema: Schema,
@@ -161,13 +161,14 @@ fn new_attempts<D: Draws + Drop>(
     })
 }
 
-/// Attempts on a new database of the schema of a text, with draws that are counted.
+/// Attempts on a new database of the schema in a text, with counted draws.
 pub(crate) fn attempts_on(alloc: Global, schema: &str) -> Result<Attempts<Counter>, Fail> {
     let schema = schema_of_text(alloc, schema)?;
     new_attempts(alloc, schema, Counter::new(), Faults::NONE)
 }
 
-/// The attempts of a script come to what it says, on a new database Net over a keeper that fails as it is told.
+/// Fails unless the attempts of a script have the outcomes that it lists, on a new database Net over a keeper that fails as
+/// `faults` says.
 fn attempts_with<D: Draws + Drop>(
     alloc: Global,
     draws: D,
@@ -178,12 +179,12 @@ fn attempts_with<D: Draws + Drop>(
     agrees(alloc, attempts, script)
 }
 
-/// The same with draws that are counted.
+/// The same with counted draws.
 fn attempts_over(alloc: Global, faults: Faults, script: &str) -> Result<(), Fail> {
     attempts_with(alloc, Counter::new(), faults, script)
 }
 
-/// Draws the same identifier again and again.
+/// Always draws the same identifier.
 #[derive(Drop)]
 struct Same;
 
@@ -195,7 +196,7 @@ impl Draws for Same {
     }
 }
 
-/// Rows that are shown alike are one, and columns without a value have their defaults.
+/// Rows that look the same are shown once, and columns without a value have their defaults.
 const MERGED: &str =
     r#"0 [{"op":"insert","table":"Switch","row":{}},{"op":"insert","table":"Switch","row":{"name":"s1"}},{"op":"select","table":"Switch","where":[],"columns":["main","load","main"]},{"op":"select","table":"Switch","where":[],"columns":["name"]}] -> kept [{"uuid":["uuid","00000000-0000-4000-8000-000000000002"]},{"uuid":["uuid","00000000-0000-4000-8000-000000000003"]},{"rows":[{"load":0,"main":["set",[]]}]},{"rows":[{"name":""},{"name":"s1"}]}] 2"#;
 
@@ -212,7 +213,7 @@ fn identifiers_are_not_used_twice(rt: HostRuntime) -> Result<(), Fail> {
     attempts_with(rt.alloc(), Same, Faults::NONE, DRAWN_TWICE)
 }
 
-/// What changes nothing is not stored: a select, a failure, an update to what there is, an insert that is undone.
+/// What changes nothing is not stored: a select, a failure, an update to the current values, an insert that is undone.
 const ATTEMPTS: &str =
     r#"0 [{"op":"insert","table":"Switch","row":{"name":"s1"}},{"op":"insert","table":"Switch","row":{"name":"s2"}}] -> kept [{"uuid":["uuid","00000000-0000-4000-8000-000000000002"]},{"uuid":["uuid","00000000-0000-4000-8000-000000000003"]}] 2
 0 [{"op":"select","table":"Switch","where":[],"columns":["name"]}] -> [{"rows":[{"name":"s1"},{"name":"s2"}]}]
@@ -227,7 +228,7 @@ fn what_changes_nothing_is_not_stored(rt: HostRuntime) -> Result<(), Fail> {
     attempts_over(rt.alloc(), Faults::NONE, ATTEMPTS)
 }
 
-/// Behind the first fault the results are null, and nothing of the transaction is done.
+/// After the first fault the results are null, and nothing of the transaction is done.
 const FAULTS: &str =
     r#"0 [{"op":"insert","table":"Switch","row":{}},{"op":"select","table":"Swich","where":[]},{"op":"insert","table":"Switch","row":{}}] -> [{"uuid":["uuid","00000000-0000-4000-8000-000000000002"]},{"error":"unknown table"},null]
 0 [{"op":"insert","table":"Switch","row":{}},{"op":"select","table":"Switch","where":[["colour","==",1]]},{"op":"comment","comment":""},{"op":"erase"}] -> [{"uuid":["uuid","00000000-0000-4000-8000-000000000005"]},{"error":"unknown column"},null,null]
@@ -240,7 +241,7 @@ fn results_behind_a_fault_are_null(rt: HostRuntime) -> Result<(), Fail> {
     attempts_over(rt.alloc(), Faults::NONE, FAULTS)
 }
 
-/// A transaction that waits changes nothing, whatever its operations did; it is given up at its age.
+/// A transaction that waits changes nothing, whatever its operations did; it is given up once its age reaches the timeout.
 const WAITS: &str =
     r#"0 [{"op":"insert","table":"Switch","row":{"name":"s1"}}] -> kept [{"uuid":["uuid","00000000-0000-4000-8000-000000000002"]}] 1
 49 [{"op":"delete","table":"Switch","where":[]},{"op":"wait","table":"Switch","timeout":50,"where":[],"until":"!=","rows":[]}] -> waits 50
@@ -253,7 +254,7 @@ fn a_wait_that_is_not_met_changes_nothing(rt: HostRuntime) -> Result<(), Fail> {
     attempts_over(rt.alloc(), Faults::NONE, WAITS)
 }
 
-/// Where memory is refused to what is made ready, nothing is stored.
+/// If an allocation for what is made ready fails, nothing is stored.
 const UNREADY: &str = r#"refuse
 0 [{"op":"insert","table":"Switch","row":{"name":"s1"}}] -> no memory
 0 [{"op":"select","table":"Switch","where":[],"columns":["name"]}] -> [{"rows":[]}]"#;
@@ -263,7 +264,7 @@ fn nothing_is_stored_before_all_is_ready(rt: HostRuntime) -> Result<(), Fail> {
     attempts_over(rt.alloc(), Faults::NONE, UNREADY)
 }
 
-/// The store has no room for the first commit, and makes the second.
+/// The store has no room for the first commit, and accepts the second.
 const NO_ROOM: &str =
     r#"0 [{"op":"insert","table":"Switch","row":{"name":"s1"}}] -> exhausted [{"uuid":["uuid","00000000-0000-4000-8000-000000000002"]}] {"error":"resources exhausted"}
 0 [{"op":"insert","table":"Switch","row":{"name":"s1"}}] -> kept [{"uuid":["uuid","00000000-0000-4000-8000-000000000004"]}] 1"#;
@@ -278,7 +279,7 @@ fn a_store_without_room_keeps_nothing(rt: HostRuntime) -> Result<(), Fail> {
     attempts_over(rt.alloc(), faults, NO_ROOM)
 }
 
-/// After a failure the store is not asked any more.
+/// After a failure the store is no longer asked.
 const FAILED: &str =
     r#"0 [{"op":"insert","table":"Switch","row":{"name":"s1"}}] -> failed [{"uuid":["uuid","00000000-0000-4000-8000-000000000002"]}] {"error":"I/O error"}
 0 [{"op":"insert","table":"Switch","row":{"name":"s2"}}] -> [{"uuid":["uuid","00000000-0000-4000-8000-000000000004"]},{"error":"I/O error"}]

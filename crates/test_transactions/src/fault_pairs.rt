@@ -149,7 +149,7 @@ const WAIT: &str = r#"[{"op":"wait","timeout":-1,"where":[],"until":"==","rows":
 [{"op":"wait","table":"T","where":[]}] -> syntax error
 [{"op":"wait","table":"T","where":[],"rows":[{"counts":["map",[["a",1],["a",2]]]}]}] -> syntax error"#;
 
-/// Two faults in the row of an insert: of one value, and then of two, the one of the lesser name first.
+/// Two faults in the row of an insert: in one value, and then in two, the lesser name first.
 const NEW_ROWS: &str = r#"[{"op":"insert","table":"T","row":{"_uuid":7}}] -> constraint violation
 [{"op":"insert","table":"T","row":{"digit":["set",[10,"a"]]}}] -> syntax error
 [{"op":"insert","table":"T","row":{"counts":["map",[["a",1],["a",2],[1,1]]]}}] -> syntax error
@@ -189,7 +189,7 @@ const CHANGED_ROWS: &str =
 [{"op":"update","table":"T","where":[],"row":{"fixed":1,"digit":"a"}}] -> syntax error
 [{"op":"update","table":"T","where":[],"row":{"fixed":1,"colour":1}}] -> unknown column"#;
 
-/// Two faults in a `where`: of one condition, and then of two.
+/// Two faults in a `where`: in one condition, and then in two.
 const CONDITIONS: &str = r#"[{"op":"delete","table":"T","where":[["colour","=="]]}] -> syntax error
 [{"op":"delete","table":"T","where":[["colour",1,1]]}] -> syntax error
 [{"op":"delete","table":"T","where":[["colour","=",1]]}] -> unknown column
@@ -210,7 +210,7 @@ const CONDITIONS: &str = r#"[{"op":"delete","table":"T","where":[["colour","=="]
 [{"op":"delete","table":"T","where":[["digit","==","a"],["counts","==",["map",[["a",1],["a",2]]]]]}] -> syntax error
 [{"op":"delete","table":"T","where":[["counts","==",["map",[["a",1],["a",2]]]],["digit","==","a"]]}] -> constraint violation"#;
 
-/// Two faults in `columns`: an item that is no text goes before each unknown column.
+/// Two faults in `columns`: an item that is no text is reported before any unknown column.
 const COLUMNS: &str =
     r#"[{"op":"select","table":"T","where":[],"columns":["colour",7]}] -> syntax error
 [{"op":"select","table":"T","where":[],"columns":[7,"colour"]}] -> syntax error
@@ -220,7 +220,7 @@ const COLUMNS: &str =
 [{"op":"wait","table":"T","where":[],"columns":[7,"colour"],"until":"==","rows":[]}] -> syntax error
 [{"op":"wait","table":"T","where":[],"columns":["name","colour"],"until":"==","rows":[]}] -> unknown column"#;
 
-/// Two faults in `mutations`: of one mutation, and then of two.
+/// Two faults in `mutations`: in one mutation, and then in two.
 const MUTATIONS: &str =
     r#"[{"op":"mutate","table":"T","where":[],"mutations":[["colour","+="]]}] -> syntax error
 [{"op":"mutate","table":"T","where":[],"mutations":[["colour",1,1]]}] -> syntax error
@@ -239,8 +239,8 @@ const MUTATIONS: &str =
 [{"op":"mutate","table":"T","where":[],"mutations":[["name","+=",1],["colour","+=",1]]}] -> syntax error
 [{"op":"mutate","table":"T","where":[],"mutations":[["colour","+=",1],["name","+=",1]]}] -> unknown column"#;
 
-/// Two faults of mutations on rows: of two mutations of a row, of one mutation, of one that does not read behind another, and of
-/// two rows.
+/// Two faults of mutations on rows: in two mutations of a row, in one mutation, in one that cannot be read after another, and
+/// in two rows.
 const MUTATED_ROWS: &str =
     r#"[{"op":"insert","table":"T","row":{"digit":9,"total":2}},{"op":"mutate","table":"T","where":[],"mutations":[["total","/=",0],["total","*=",9223372036854775807]]}] -> {"uuid":["uuid","00000000-0000-4000-8000-000000000002"]} domain error
 [{"op":"insert","table":"T","row":{"digit":9,"total":2}},{"op":"mutate","table":"T","where":[],"mutations":[["total","/=",0],["digit","+=",1]]}] -> {"uuid":["uuid","00000000-0000-4000-8000-000000000002"]} domain error
@@ -256,7 +256,7 @@ const MUTATED_ROWS: &str =
 [{"op":"insert","table":"T","row":{"digit":9}},{"op":"insert","table":"T","row":{"total":9223372036854775807}},{"op":"mutate","table":"T","where":[],"mutations":[["total","+=",1],["digit","+=",1]]}] -> {"uuid":["uuid","00000000-0000-4000-8000-000000000002"]} {"uuid":["uuid","00000000-0000-4000-8000-000000000003"]} constraint violation
 [{"op":"insert","table":"T","row":{"total":9223372036854775807}},{"op":"insert","table":"T","row":{"digit":9}},{"op":"mutate","table":"T","where":[],"mutations":[["total","+=",1],["digit","+=",1]]}] -> {"uuid":["uuid","00000000-0000-4000-8000-000000000002"]} {"uuid":["uuid","00000000-0000-4000-8000-000000000003"]} range error"#;
 
-/// Two faults in the rows of a wait: of one value, of two, and of two rows.
+/// Two faults in the rows of a wait: in one value, in two, and in two rows.
 const TOLD_ROWS: &str =
     r#"[{"op":"wait","table":"T","where":[],"columns":["counts"],"until":"==","rows":[{"counts":["map",[["a",1],["a",2],[1,1]]]}]}] -> syntax error
 [{"op":"wait","table":"T","where":[],"columns":["counts"],"until":"==","rows":[{"counts":["map",[["a",1],["a",2]]],"digit":1}]}] -> constraint violation
@@ -267,7 +267,7 @@ const TOLD_ROWS: &str =
 [{"op":"wait","table":"T","where":[],"columns":["counts"],"until":"==","rows":[{"counts":["map",[["a",1],["a",2]]]},{"digit":1}]}] -> constraint violation
 [{"op":"wait","table":"T","where":[],"columns":["counts"],"until":"==","rows":[{"digit":1},{"counts":["map",[["a",1],["a",2]]]}]}] -> syntax error"#;
 
-/// Of two faults the one that is looked for first is told.
+/// Of two faults, the one that is checked first is reported.
 #[test]
 fn the_first_of_two_faults_is_told(rt: HostRuntime) -> Result<(), Fail> {
     for script in [INSERT, SELECT, UPDATE, MUTATE, DELETE, WAIT] {

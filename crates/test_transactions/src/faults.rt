@@ -11,13 +11,13 @@ const SCHEMA: &str = r#"{"name":"A","version":"1.0.0","tables":{"T":{"columns":{
 "name":{"type":{"key":{"type":"string","maxLength":3}}},
 "total":{"type":"integer"}}}}}"#;
 
-/// The operations of each line come to what it says, on no row of that table.
+/// Fails unless the operations of each line have the outcome that it lists, without rows in that table.
 pub(crate) fn are_told(alloc: Global, script: &str) -> Result<(), Fail> {
     let schema = schema_of_text(alloc, SCHEMA)?;
     run_without_rows(alloc, &schema, script)
 }
 
-/// An insert without a member or with a wrong one: `table`, `uuid`, `uuid-name` and `row`.
+/// An insert with a missing or wrong member: `table`, `uuid`, `uuid-name` and `row`.
 const INSERT: &str = r#"[{"op":"insert","row":{}}] -> syntax error
 [{"op":"insert","table":7,"row":{}}] -> syntax error
 [{"op":"insert","table":"U","row":{}}] -> unknown table
@@ -38,7 +38,7 @@ const INSERT: &str = r#"[{"op":"insert","row":{}}] -> syntax error
 [{"op":"insert","table":"T","row":{"digit":["set",[1,2]]}}] -> constraint violation
 [{"op":"insert","table":"T","row":{"digit":["set",[]]}}] -> constraint violation"#;
 
-/// The same of a select: `table`, `where` and `columns`.
+/// The same for a select: `table`, `where` and `columns`.
 const SELECT: &str = r#"[{"op":"select","where":[]}] -> syntax error
 [{"op":"select","table":7,"where":[]}] -> syntax error
 [{"op":"select","table":"U","where":[]}] -> unknown table
@@ -55,7 +55,7 @@ const SELECT: &str = r#"[{"op":"select","where":[]}] -> syntax error
 [{"op":"select","table":"T","where":[],"columns":[7]}] -> syntax error
 [{"op":"select","table":"T","where":[],"columns":["colour"]}] -> unknown column"#;
 
-/// Of an update: `table`, `where` and `row`.
+/// For an update: `table`, `where` and `row`.
 const UPDATE: &str = r#"[{"op":"update","where":[],"row":{}}] -> syntax error
 [{"op":"update","table":7,"where":[],"row":{}}] -> syntax error
 [{"op":"update","table":"U","where":[],"row":{}}] -> unknown table
@@ -80,7 +80,7 @@ const UPDATE: &str = r#"[{"op":"update","where":[],"row":{}}] -> syntax error
 [{"op":"update","table":"T","where":[],"row":{"digit":["set",[]]}}] -> constraint violation
 [{"op":"update","table":"T","where":[],"row":{"fixed":1}}] -> constraint violation"#;
 
-/// Of a mutate: `table`, `where` and `mutations`, and what comes of a mutation on a row.
+/// For a mutate: `table`, `where` and `mutations`, and the outcome of a mutation on a row.
 const MUTATE: &str = r#"[{"op":"mutate","where":[],"mutations":[]}] -> syntax error
 [{"op":"mutate","table":7,"where":[],"mutations":[]}] -> syntax error
 [{"op":"mutate","table":"U","where":[],"mutations":[]}] -> unknown table
@@ -108,7 +108,7 @@ const MUTATE: &str = r#"[{"op":"mutate","where":[],"mutations":[]}] -> syntax er
 [{"op":"insert","table":"T","row":{"digit":9,"total":2}},{"op":"mutate","table":"T","where":[],"mutations":[["total","*=",9223372036854775807]]}] -> {"uuid":["uuid","00000000-0000-4000-8000-000000000002"]} range error
 [{"op":"insert","table":"T","row":{"digit":9,"total":2}},{"op":"mutate","table":"T","where":[],"mutations":[["digit","+=",1]]}] -> {"uuid":["uuid","00000000-0000-4000-8000-000000000002"]} constraint violation"#;
 
-/// Of a delete: `table` and `where`.
+/// For a delete: `table` and `where`.
 const DELETE: &str = r#"[{"op":"delete","where":[]}] -> syntax error
 [{"op":"delete","table":7,"where":[]}] -> syntax error
 [{"op":"delete","table":"U","where":[]}] -> unknown table
@@ -125,7 +125,7 @@ const DELETE: &str = r#"[{"op":"delete","where":[]}] -> syntax error
 [{"op":"delete","table":"T","where":[["digit","==",["set",[]]]]}] -> syntax error
 [{"op":"delete","table":"T","where":[["_uuid","==",["named-uuid","b"]]]}] -> syntax error"#;
 
-/// Of a wait: `table`, `timeout`, `where`, `columns`, `until` and `rows`.
+/// For a wait: `table`, `timeout`, `where`, `columns`, `until` and `rows`.
 const WAIT: &str = r#"[{"op":"wait","where":[],"until":"==","rows":[]}] -> syntax error
 [{"op":"wait","table":7,"where":[],"until":"==","rows":[]}] -> syntax error
 [{"op":"wait","table":"U","where":[],"until":"==","rows":[]}] -> unknown table
@@ -155,7 +155,7 @@ const WAIT: &str = r#"[{"op":"wait","where":[],"until":"==","rows":[]}] -> synta
 [{"op":"wait","table":"T","where":[],"until":"==","rows":[{"digit":"a"}]}] -> syntax error
 [{"op":"wait","table":"T","where":[],"until":"==","rows":[{"counts":["map",[["a",1],["a",2]]]}]}] -> constraint violation"#;
 
-/// Of a commit and a comment, which have one member each.
+/// For a commit and a comment, which have one member each.
 const OTHERS: &str = r#"[{"op":"commit"}] -> syntax error
 [{"op":"commit","durable":1}] -> syntax error
 [{"op":"commit","durable":null}] -> syntax error

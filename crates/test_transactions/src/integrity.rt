@@ -1,6 +1,6 @@
 //! What a commit makes of the rows that the operations left, and why it fails (RFC 7047, 3.2). A script has attempts as
-//! `Attempts` tells them: where the store was asked, what is told begins with `kept`. After each of them the database tells of its
-//! references and indexes what one tells that is opened from its lines.
+//! `Attempts` shows them: if the store was asked, the outcome begins with `kept`. After each of them the database reports the
+//! same references and indexes as one that is opened from its lines.
 
 use crate::attempts::{Attempts, attempts_on};
 use std::alloc::Global;
@@ -8,14 +8,14 @@ use std::test::Fail;
 use test_basics::{Counter, NET, Scripted, agrees, follows, is_text};
 use test_support::{Looked, converses, looks};
 
-/// The attempts of a script come to what it says, on a new database of the schema of a text; and what is told after them of its
-/// references and indexes is what it is when the database is opened.
+/// Fails unless the attempts of a script have the outcomes that it lists, on a new database of this schema, and the database
+/// reports the same references and indexes after them as when it is opened.
 fn tries(alloc: Global, schema: &str, script: &str) -> Result<(), Fail> {
     agrees(alloc, attempts_on(alloc, schema)?, script)?;
     looks(alloc, schema, script)
 }
 
-/// A port goes that no other row refers to strongly, in the transaction that inserts it or in a later one.
+/// A port goes if no other row refers to it strongly, in the transaction that inserts it or in a later one.
 const UNREFERENCED: &str =
     r#"0 [{"op":"insert","table":"Port","row":{"name":"p1"}},{"op":"select","table":"Port","where":[],"columns":["name"]}] -> [{"uuid":["uuid","00000000-0000-4000-8000-000000000002"]},{"rows":[{"name":"p1"}]}]
 0 [{"op":"insert","table":"Port","uuid-name":"p","row":{"peer":["named-uuid","p"]}}] -> [{"uuid":["uuid","00000000-0000-4000-8000-000000000004"]}]
@@ -57,7 +57,7 @@ fn a_peer_goes_from_the_holders(rt: HostRuntime) -> Result<(), Fail> {
     tries(rt.alloc(), NET, PEER_ATTEMPTS)
 }
 
-/// Two ports that refer to each other stay, until one of them does so no more.
+/// Two ports that refer to each other stay until one of them no longer does.
 const PEERS: &str =
     r#"0 [{"op":"insert","table":"Port","uuid-name":"p","row":{"name":"p1","peer":["named-uuid","q"]}},{"op":"insert","table":"Port","uuid-name":"q","row":{"name":"p2","peer":["named-uuid","p"]}}] -> kept [{"uuid":["uuid","00000000-0000-4000-8000-000000000002"]},{"uuid":["uuid","00000000-0000-4000-8000-000000000003"]}] 2
 0 [{"op":"insert","table":"Switch","row":{"ports":["uuid","00000000-0000-4000-8000-000000000002"]}}] -> kept [{"uuid":["uuid","00000000-0000-4000-8000-000000000005"]}] 1
@@ -71,7 +71,7 @@ fn mutual_support_is_kept(rt: HostRuntime) -> Result<(), Fail> {
     tries(rt.alloc(), NET, PEERS)
 }
 
-/// No row is left that refers strongly to a row that is not there, be it one that would go.
+/// No row may refer strongly to a missing row, not even a row that would go itself.
 const STRONG: &str =
     r#"0 [{"op":"insert","table":"Switch","row":{"ports":["uuid","00000000-0000-4000-8000-000000000009"]}}] -> [{"uuid":["uuid","00000000-0000-4000-8000-000000000002"]},{"error":"referential integrity violation"}]
 0 [{"op":"insert","table":"Port","row":{"peer":["uuid","00000000-0000-0000-0000-000000000000"]}}] -> [{"uuid":["uuid","00000000-0000-4000-8000-000000000004"]},{"error":"referential integrity violation"}]
@@ -86,7 +86,7 @@ fn strong_reference_refused(rt: HostRuntime) -> Result<(), Fail> {
     tries(rt.alloc(), NET, STRONG)
 }
 
-/// Each switch is without the port that goes, or that is deleted, and has changed.
+/// Each switch loses the port that goes or is deleted, and has changed.
 const WEAK: &str =
     r#"0 [{"op":"insert","table":"Switch","row":{"main":["named-uuid","p"],"name":"s1","ports":["named-uuid","p"]}},{"op":"insert","table":"Switch","row":{"main":["named-uuid","p"],"name":"s2"}},{"op":"insert","table":"Port","uuid-name":"p","row":{"name":"p1"}}] -> kept [{"uuid":["uuid","00000000-0000-4000-8000-000000000002"]},{"uuid":["uuid","00000000-0000-4000-8000-000000000003"]},{"uuid":["uuid","00000000-0000-4000-8000-000000000004"]}] 3
 0 [{"op":"update","table":"Switch","where":[["name","==","s1"]],"row":{"ports":["set",[]]}}] -> kept [{"count":1}] 3
@@ -102,7 +102,8 @@ fn weak_reference_removed(rt: HostRuntime) -> Result<(), Fail> {
     tries(rt.alloc(), NET, WEAK)
 }
 
-/// A weak reference to no row changes nothing, so the row keeps its version; beside another change it is no part of it.
+/// A weak reference to a missing row changes nothing, so the row keeps its version; beside another change it is no part of
+/// it.
 const UNDONE: &str =
     r#"0 [{"op":"insert","table":"Switch","row":{"name":"s1"}}] -> kept [{"uuid":["uuid","00000000-0000-4000-8000-000000000002"]}] 1
 0 [{"op":"update","table":"Switch","where":[],"row":{"main":["uuid","00000000-0000-0000-0000-000000000000"]}}] -> [{"count":1}]
@@ -116,7 +117,7 @@ fn a_change_that_a_rule_undoes_is_none(rt: HostRuntime) -> Result<(), Fail> {
     tries(rt.alloc(), NET, UNDONE)
 }
 
-/// A name that a switch has is not given to another one.
+/// A name that one switch has can't be given to another.
 const UNIQUE: &str =
     r#"0 [{"op":"insert","table":"Switch","row":{"name":"s1"}},{"op":"insert","table":"Switch","row":{"name":"s2"}}] -> kept [{"uuid":["uuid","00000000-0000-4000-8000-000000000002"]},{"uuid":["uuid","00000000-0000-4000-8000-000000000003"]}] 2
 0 [{"op":"insert","table":"Switch","row":{"name":"s1"}}] -> [{"uuid":["uuid","00000000-0000-4000-8000-000000000005"]},{"error":"constraint violation"}]
@@ -131,7 +132,7 @@ fn index_is_unique(rt: HostRuntime) -> Result<(), Fail> {
     tries(rt.alloc(), NET, UNIQUE)
 }
 
-/// Nor is one name given to two.
+/// Nor can one name be given to two switches.
 const EQUAL: &str =
     r#"0 [{"op":"insert","table":"Switch","row":{"name":"s1"}},{"op":"insert","table":"Switch","row":{"name":"s1"}}] -> [{"uuid":["uuid","00000000-0000-4000-8000-000000000002"]},{"uuid":["uuid","00000000-0000-4000-8000-000000000003"]},{"error":"constraint violation"}]
 0 [{"op":"select","table":"Switch","where":[],"columns":["name"]}] -> [{"rows":[]}]"#;
@@ -164,7 +165,7 @@ fn a_name_is_taken_again_in_one_transaction(rt: HostRuntime) -> Result<(), Fail>
     tries(rt.alloc(), NET, TAKEN_AGAIN)
 }
 
-/// A missing row is told before two equal names, and an operation's fault before both. A row that goes hides neither.
+/// A missing row is reported before two equal names, and an operation's fault before both. A row that goes hides neither.
 const FIRST: &str =
     r#"0 [{"op":"insert","table":"Switch","row":{"ports":["uuid","00000000-0000-0000-0000-000000000000"]}},{"op":"insert","table":"Switch","row":{}}] -> [{"uuid":["uuid","00000000-0000-4000-8000-000000000002"]},{"uuid":["uuid","00000000-0000-4000-8000-000000000003"]},{"error":"referential integrity violation"}]
 0 [{"op":"insert","table":"Switch","row":{}},{"op":"insert","table":"Switch","row":{}},{"op":"insert","table":"Port","row":{"tag":4096}}] -> [{"uuid":["uuid","00000000-0000-4000-8000-000000000005"]},{"uuid":["uuid","00000000-0000-4000-8000-000000000006"]},{"error":"constraint violation"}]
@@ -182,7 +183,7 @@ const INDEXED: &str =
 "b":{"type":"string"},
 "c":{"type":{"key":"integer","min":0,"max":"unlimited"}}}}}}"#;
 
-/// Rows are alike in an index where all its columns are the same.
+/// Rows are equal in an index if all its columns are equal.
 const INDEXES: &str =
     r#"0 [{"op":"insert","table":"T","row":{"a":1,"b":"x"}},{"op":"insert","table":"T","row":{"a":1,"b":"y","c":["set",[7,8]]}},{"op":"insert","table":"T","row":{"a":2,"b":"x","c":8}}] -> kept [{"uuid":["uuid","00000000-0000-4000-8000-000000000002"]},{"uuid":["uuid","00000000-0000-4000-8000-000000000003"]},{"uuid":["uuid","00000000-0000-4000-8000-000000000004"]}] 3
 0 [{"op":"insert","table":"T","row":{"a":1,"b":"x","c":7}}] -> [{"uuid":["uuid","00000000-0000-4000-8000-000000000006"]},{"error":"constraint violation"}]
@@ -197,7 +198,7 @@ fn an_index_has_several_columns(rt: HostRuntime) -> Result<(), Fail> {
     tries(rt.alloc(), INDEXED, INDEXES)
 }
 
-/// Rows are shown once by the columns of an index and by one of them alone, also where changes of the transaction repeat what
+/// Rows are shown once by the columns of an index and by one of them alone, even if changes of the transaction repeat what
 /// another row has there.
 const SHOWN: &str =
     r#"0 [{"op":"insert","table":"T","row":{"a":1,"b":"x","c":7}},{"op":"insert","table":"T","row":{"a":1,"b":"y","c":8}},{"op":"insert","table":"T","row":{"a":2,"b":"x","c":9}}] -> kept [{"uuid":["uuid","00000000-0000-4000-8000-000000000002"]},{"uuid":["uuid","00000000-0000-4000-8000-000000000003"]},{"uuid":["uuid","00000000-0000-4000-8000-000000000004"]}] 3
@@ -212,11 +213,11 @@ fn rows_alike_in_an_index_are_shown_once(rt: HostRuntime) -> Result<(), Fail> {
     tries(rt.alloc(), INDEXED, SHOWN)
 }
 
-/// A table of one row at most.
+/// A table of at most one row.
 const ONE: &str =
     r#"{"name":"One","version":"1.0.0","tables":{"Switch":{"maxRows":1,"columns":{"name":{"type":"string"}}}}}"#;
 
-/// One more is not taken, but one in the place of the other is.
+/// A second row is refused, but one that replaces the first is accepted.
 const ONE_ROW: &str =
     r#"0 [{"op":"insert","table":"Switch","row":{"name":"s1"}},{"op":"insert","table":"Switch","row":{"name":"s2"}}] -> [{"uuid":["uuid","00000000-0000-4000-8000-000000000002"]},{"uuid":["uuid","00000000-0000-4000-8000-000000000003"]},{"error":"constraint violation"}]
 0 [{"op":"insert","table":"Switch","row":{"name":"s1"}}] -> kept [{"uuid":["uuid","00000000-0000-4000-8000-000000000005"]}] 1
@@ -228,7 +229,7 @@ fn max_rows_holds(rt: HostRuntime) -> Result<(), Fail> {
     tries(rt.alloc(), ONE, ONE_ROW)
 }
 
-/// A table of one row at most, which goes where no row refers to it.
+/// A table of at most one row, which goes if no row refers to it.
 const FEW: &str = r#"{"name":"Few","version":"1.0.0","tables":{
 "Leaf":{"maxRows":1,"indexes":[["n"]],"columns":{"n":{"type":"integer"}}},
 "Top":{"isRoot":true,"columns":{"leaf":{"type":{"key":{"type":"uuid","refTable":"Leaf"},"min":0}}}}}}"#;
@@ -288,7 +289,7 @@ fn maps_refer_weakly(rt: HostRuntime) -> Result<(), Fail> {
     tries(rt.alloc(), NODES, WEAK_MAPS)
 }
 
-/// Not even a removal of weak references leaves too few of them. The default of a watch refers to no row.
+/// Not even the removal of weak references may leave too few of them. The default of a watch refers to no row.
 const LEAST: &str =
     r#"0 [{"op":"insert","table":"Watch","row":{"some":["set",[["named-uuid","a"],["named-uuid","b"]]]}},{"op":"insert","table":"Root","row":{"first":["named-uuid","a"]}},{"op":"insert","table":"Node","uuid-name":"a","row":{"name":"a"}},{"op":"insert","table":"Node","uuid-name":"b","row":{"name":"b"}}] -> kept [{"uuid":["uuid","00000000-0000-4000-8000-000000000002"]},{"uuid":["uuid","00000000-0000-4000-8000-000000000003"]},{"uuid":["uuid","00000000-0000-4000-8000-000000000004"]},{"uuid":["uuid","00000000-0000-4000-8000-000000000005"]}] 3
 0 [{"op":"select","table":"Watch","where":[],"columns":["some"]}] -> [{"rows":[{"some":["uuid","00000000-0000-4000-8000-000000000004"]}]}]
@@ -301,7 +302,7 @@ fn a_weak_set_keeps_its_least(rt: HostRuntime) -> Result<(), Fail> {
     tries(rt.alloc(), NODES, LEAST)
 }
 
-/// Two or three nodes in a cycle keep each other, and one does not keep itself. A cycle that is broken falls.
+/// Two or three nodes in a cycle keep each other; a single node does not keep itself. A broken cycle falls.
 const CYCLES: &str =
     r#"0 [{"op":"insert","table":"Node","uuid-name":"a","row":{"name":"a","next":["named-uuid","b"]}},{"op":"insert","table":"Node","uuid-name":"b","row":{"name":"b","next":["named-uuid","a"]}}] -> kept [{"uuid":["uuid","00000000-0000-4000-8000-000000000002"]},{"uuid":["uuid","00000000-0000-4000-8000-000000000003"]}] 2
 0 [{"op":"insert","table":"Node","uuid-name":"c","row":{"name":"c","next":["named-uuid","d"]}},{"op":"insert","table":"Node","uuid-name":"d","row":{"name":"d","next":["named-uuid","e"]}},{"op":"insert","table":"Node","uuid-name":"e","row":{"name":"e","next":["named-uuid","c"]}}] -> kept [{"uuid":["uuid","00000000-0000-4000-8000-000000000005"]},{"uuid":["uuid","00000000-0000-4000-8000-000000000006"]},{"uuid":["uuid","00000000-0000-4000-8000-000000000007"]}] 3
@@ -317,7 +318,7 @@ fn cycles_of_two_and_three_stay_and_one_goes(rt: HostRuntime) -> Result<(), Fail
     tries(rt.alloc(), NODES, CYCLES)
 }
 
-/// The insert of the node behind the one of this number, which it refers to.
+/// The insert of the node after number `former`, which refers to that one.
 fn next_node(alloc: Global, former: u64) -> Result<String, Fail> {
     let number = former.saturating_add(1);
     Ok(format!(in alloc;
@@ -325,7 +326,7 @@ fn next_node(alloc: Global, former: u64) -> Result<String, Fail> {
     )?)
 }
 
-/// The inserts of so many nodes behind a first one.
+/// The inserts of `last` nodes after a first one.
 fn next_nodes(alloc: Global, last: u64) -> Result<String, Fail> {
     let mut text = String::new(alloc);
     for former in 0..last {
@@ -335,7 +336,7 @@ fn next_nodes(alloc: Global, last: u64) -> Result<String, Fail> {
     Ok(text)
 }
 
-/// An attempt that inserts so many nodes behind a first one, and a root that refers to the last of them.
+/// An attempt that inserts a first node, `last` more, and a root that refers to the last of them.
 fn chain(alloc: Global, last: u64) -> Result<String, Fail> {
     let nodes = next_nodes(alloc, last)?;
     Ok(format!(in alloc;
@@ -355,7 +356,7 @@ fn insert_chain(alloc: Global, attempts: &mut Attempts<Counter>) -> Result<(), F
     Ok(())
 }
 
-/// It falls as the script says.
+/// Fails unless the chain falls as the script says.
 fn falls(alloc: Global, attempts: &mut Attempts<Counter>) -> Result<(), Fail> {
     insert_chain(alloc, attempts)?;
     follows(alloc, attempts, FALLEN)
@@ -374,7 +375,7 @@ const HELD: [&str; 2] = [
     r#"0 [{"op":"delete","table":"Switch","where":[["name","==","s1"]]},{"op":"update","table":"Switch","where":[],"row":{"name":"s3","ports":["uuid","00000000-0000-4000-8000-000000000004"]}}]"#,
 ];
 
-/// What is told of the port, of both switches, and of the names s1 and s2; then of s3 too.
+/// What the database reports of the port, of both switches, and of the names s1 and s2; then of s3 too.
 const HELD_TOLD: [&str; 2] = [
     "Port 00000000-0000-4000-8000-000000000004 1 Switch 00000000-0000-4000-8000-000000000002 Switch 00000000-0000-4000-8000-000000000003
 Switch 00000000-0000-4000-8000-000000000002 0
@@ -391,14 +392,14 @@ Switch index 0 00000000-0000-4000-8000-000000000003
 ",
 ];
 
-/// Fails unless this is told after a step.
+/// Fails unless the database reports this after a step.
 fn tells_after(alloc: Global, looked: &mut Looked, step: &str, wanted: &str) -> Result<(), Fail> {
     looked.look(alloc, step)?;
     let told = looked.told(alloc)?;
     is_text(alloc, told.as_str(), wanted)
 }
 
-/// The same of each of the two steps.
+/// The same for each of the two steps.
 fn tells_after_both(alloc: Global, looked: &mut Looked) -> Result<(), Fail> {
     tells_after(alloc, looked, HELD[0], HELD_TOLD[0])?;
     tells_after(alloc, looked, HELD[1], HELD_TOLD[1])

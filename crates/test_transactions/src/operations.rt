@@ -14,8 +14,8 @@ use test_basics::{Counter, Scripted, agrees, net, number, switch, trees};
 use test_support::OwnsOne;
 use uuid::Uuid;
 
-/// Operations on the rows of a database Net, as those of a transaction of this age. What comes of them are their results, and then
-/// how many rows they change; or the error of the last one, or how long it waits.
+/// Operations on the rows of a database Net, as in a transaction of this age. The outcome is their results, followed by how
+/// many rows they change, the error of the last one, or how long it waits.
 #[derive(Drop)]
 struct Operations<'a> {
     schema: &'a Schema,
@@ -23,7 +23,7 @@ struct Operations<'a> {
     age: u64,
 }
 
-/// Adds a result, behind which the next operation is tried.
+/// Adds a result, after which the next operation is tried.
 fn push_result(alloc: Global, results: &mut String, made: &OpResult) -> Result<bool, Fail> {
     let text = String::from_utf8(made.to_bytes(alloc)?.into_vec())?;
     results.push_str(text.as_str())?;
@@ -31,7 +31,7 @@ fn push_result(alloc: Global, results: &mut String, made: &OpResult) -> Result<b
     Ok(true)
 }
 
-/// Adds an error, behind which none is tried.
+/// Adds an error, after which none is tried.
 fn push_error(results: &mut String, error: &str) -> Result<bool, Fail> {
     results.push_str(error)?;
     Ok(false)
@@ -43,7 +43,7 @@ fn push_wait(alloc: Global, results: &mut String, timeout: Option<u64>) -> Resul
     push_error(results, wait.as_str())
 }
 
-/// Adds what comes of an operation, and tells whether the next one is tried.
+/// Adds the outcome of an operation, and returns whether the next one is tried.
 fn push_outcome(alloc: Global, results: &mut String, outcome: OpOutcome) -> Result<bool, Fail> {
     match outcome {
         OpOutcome::Done(result) => push_result(alloc, results, &result),
@@ -53,7 +53,7 @@ fn push_outcome(alloc: Global, results: &mut String, outcome: OpOutcome) -> Resu
     }
 }
 
-/// Adds what comes of operations, and tells whether all of them are done.
+/// Adds the outcomes of operations, and returns whether all of them are done.
 fn push_outcomes<'a>(
     alloc: Global,
     results: &mut String,
@@ -79,7 +79,7 @@ fn push_changes(alloc: Global, results: &mut String, stage: Stage<'_>) -> Result
 }
 
 impl Operations<'_> {
-    /// Adds what comes of operations on the rows, and how many they change.
+    /// Adds the outcomes of operations on the rows, and how many rows they change.
     fn push_all<'a>(
         &self,
         alloc: Global,
@@ -94,7 +94,7 @@ impl Operations<'_> {
         Ok(())
     }
 
-    /// What comes of operations for which this version and these identifiers were drawn.
+    /// The outcome of operations for which this version and these identifiers were drawn.
     fn run(
         &self,
         alloc: Global,
@@ -125,7 +125,7 @@ impl Scripted for Operations<'_> {
     }
 }
 
-/// The key of a switch or a port, of a text: its table, and the number that its identifier is.
+/// The key of a switch or a port in a text: its table, and its identifier as a number.
 fn key_of(alloc: Global, text: &str) -> Result<RowKey, Fail> {
     let (table, id) = text.split_once(" ").ok_or("no identifier")?;
     Ok(RowKey::new(alloc, table, number(id)?)?)
@@ -148,7 +148,7 @@ fn rows_at(alloc: Global, keys: &str) -> Result<Rows, Fail> {
     Ok(rows)
 }
 
-/// The operations of each line come to what it says, on a switch at each of these keys.
+/// Fails unless the operations of each line have the outcome that it lists, with a switch at each of these keys.
 fn run_over(alloc: Global, keys: &str, age: u64, script: &str) -> Result<(), Fail> {
     let rows = rows_at(alloc, keys)?;
     let schema = net(alloc)?;
@@ -160,7 +160,7 @@ fn run_over(alloc: Global, keys: &str, age: u64, script: &str) -> Result<(), Fai
     agrees(alloc, operations, script)
 }
 
-/// The same on no row of a database of this schema.
+/// The same without rows, in a database of this schema.
 pub(crate) fn run_without_rows(alloc: Global, schema: &Schema, script: &str) -> Result<(), Fail> {
     let rows = Rows::new(alloc);
     let operations = Operations {
@@ -171,7 +171,7 @@ pub(crate) fn run_without_rows(alloc: Global, schema: &Schema, script: &str) -> 
     agrees(alloc, operations, script)
 }
 
-/// A name stands for its row before the insert that declares it, and in conditions.
+/// A name stands for its row before the insert that declares it, and also in conditions.
 const NAMED: &str =
     r#"[{"op":"insert","table":"Switch","row":{"name":"s1","ports":["named-uuid","p"]}},{"op":"insert","table":"Port","uuid-name":"p","row":{"name":"p1"}},{"op":"select","table":"Switch","where":[["ports","includes",["named-uuid","p"]]],"columns":["ports"]}] -> {"uuid":["uuid","00000000-0000-4000-8000-000000000002"]} {"uuid":["uuid","00000000-0000-4000-8000-000000000003"]} {"rows":[{"ports":["uuid","00000000-0000-4000-8000-000000000003"]}]} 2
 [{"op":"insert","table":"Port","uuid-name":"p","row":{}},{"op":"delete","table":"Port","where":[["_uuid","==",["named-uuid","p"]]]}] -> {"uuid":["uuid","00000000-0000-4000-8000-000000000002"]} {"count":1} 0
@@ -186,12 +186,12 @@ fn named_uuid_used_before(rt: HostRuntime) -> Result<(), Fail> {
     run_over(rt.alloc(), "", 0, NAMED)
 }
 
-/// Two switches that were committed, and a port.
+/// Two committed switches, and a port.
 const COMMITTED: &str = "Switch 9
 Port 4
 Switch 3";
 
-/// No row, one, and all of them; a row that is as it was before is no change.
+/// No row, one, and all of them; a row that is as it was before is not a change.
 const CHANGED: &str =
     r#"[{"op":"update","table":"Switch","where":[["name","==","s9"]],"row":{"load":5}}] -> {"count":0} 0
 [{"op":"update","table":"Switch","where":[["_uuid","==",["uuid","00000000-0000-0000-0000-000000000003"]]],"row":{"load":5}},{"op":"select","table":"Switch","where":[["load","==",5]],"columns":["_uuid","_version"]}] -> {"count":1} {"rows":[{"_uuid":["uuid","00000000-0000-0000-0000-000000000003"],"_version":["uuid","00000000-0000-4000-8000-000000000001"]}]} 1
@@ -214,7 +214,7 @@ fn rows_are_updated(rt: HostRuntime) -> Result<(), Fail> {
     run_over(rt.alloc(), COMMITTED, 0, CHANGED)
 }
 
-/// Arithmetic over 64 bits, rounded to zero; sets grow and shrink; the first fault of the first row is told.
+/// Arithmetic over 64 bits, rounded to zero; sets grow and shrink; the first fault of the first row is reported.
 const MUTATED: &str =
     r#"[{"op":"update","table":"Switch","where":[],"row":{"load":9223372036854775807}},{"op":"mutate","table":"Switch","where":[],"mutations":[["load","+=",1]]}] -> {"count":2} range error
 [{"op":"mutate","table":"Switch","where":[],"mutations":[["load","/=",0]]}] -> domain error
@@ -238,7 +238,7 @@ fn arithmetic_edges(rt: HostRuntime) -> Result<(), Fail> {
     run_over(rt.alloc(), COMMITTED, 0, MUTATED)
 }
 
-/// Rows go, are counted, and may come again in the same transaction.
+/// Rows are deleted, counted, and may be inserted again in the same transaction.
 const DELETED: &str =
     r#"[{"op":"delete","table":"Switch","where":[["load","==",7]]}] -> {"count":0} 0
 [{"op":"delete","table":"Switch","where":[["_uuid","==",["uuid","00000000-0000-0000-0000-000000000009"]]]},{"op":"select","table":"Switch","where":[],"columns":["_uuid"]}] -> {"count":1} {"rows":[{"_uuid":["uuid","00000000-0000-0000-0000-000000000003"]}]} 1
@@ -284,7 +284,7 @@ fn wait_is_met_or_times_out(rt: HostRuntime) -> Result<(), Fail> {
     run_over(rt.alloc(), COMMITTED, 49, WAITED)
 }
 
-/// The operations that change no row, and those that are none.
+/// Operations that change no row, and operations that do not exist.
 const OTHERS: &str =
     r#"[{"op":"commit","durable":false},{"op":"commit","durable":true},{"op":"comment","comment":""}] -> {} {} {} 0
 [{"op":"commit"}] -> syntax error
@@ -310,7 +310,7 @@ fn unknown_names(rt: HostRuntime) -> Result<(), Fail> {
     run_over(rt.alloc(), "", 0, OTHERS)
 }
 
-/// The keys of so many switches.
+/// The keys of `count` switches.
 fn keys_of(alloc: Global, count: u64) -> Result<String, Fail> {
     let mut keys = String::new(alloc);
     for number in 0..count {
@@ -326,7 +326,7 @@ fn shown_row(alloc: Global, number: u64) -> Result<String, Fail> {
     Ok(format!(in alloc; "{comma}{{\"_uuid\":[\"uuid\",\"{id}\"],\"name\":\"s1\"}}")?)
 }
 
-/// How it shows so many.
+/// How a select shows `count` switches.
 fn shown_rows(alloc: Global, count: u64) -> Result<String, Fail> {
     let mut shown = String::new(alloc);
     for number in 0..count {
@@ -335,7 +335,7 @@ fn shown_rows(alloc: Global, count: u64) -> Result<String, Fail> {
     Ok(shown)
 }
 
-/// A select that shows so many, in ascending order of their identifiers.
+/// A select that shows `count` switches, in ascending order of their identifiers.
 fn select_all(alloc: Global, count: u64) -> Result<String, Fail> {
     let shown = shown_rows(alloc, count)?;
     Ok(format!(in alloc;
@@ -343,7 +343,7 @@ fn select_all(alloc: Global, count: u64) -> Result<String, Fail> {
     )?)
 }
 
-/// A select shows each of so many rows.
+/// Fails unless a select shows each of `count` rows.
 fn shows_all(alloc: Global, count: u64) -> Result<(), Fail> {
     let keys = keys_of(alloc, count)?;
     let script = select_all(alloc, count)?;

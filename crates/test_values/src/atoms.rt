@@ -22,7 +22,7 @@ const UUIDS: Kinds = Kinds::Single(AtomKind::Uuid);
 
 const COUNTS: Kinds = Kinds::Pair(AtomKind::Text, AtomKind::Integer);
 
-/// The row "a" is the zero UUID, and there is no other.
+/// Names one row: `a`, with the zero UUID.
 struct OneName;
 
 impl Names for OneName {
@@ -89,19 +89,19 @@ const IDENTIFIERS: &str =
 "550e8400-e29b-41d4-a716-446655440000" -> syntax
 ["named-uuid","a"] -> syntax"#;
 
-/// A value as it is written as a tree.
+/// The text of a value, written as a tree.
 fn text_of_tree(alloc: Global, datum: &Datum) -> Result<String, Fail> {
     Ok(write_datum(alloc, datum)?.to_string(alloc)?)
 }
 
-/// A value as it is written at once.
+/// The text of a value, written directly.
 fn text_at_once(alloc: Global, datum: &Datum) -> Result<String, Fail> {
     let mut out = Writer::new(Vec::new(alloc));
     put_datum(&mut out, datum)?;
     Ok(String::from_utf8(out.into_inner())?)
 }
 
-/// A value as it is written both ways.
+/// The text of a value, which must be the same both ways.
 fn text_of(alloc: Global, datum: &Datum) -> Result<String, Fail> {
     let written = text_of_tree(alloc, datum)?;
     let put = text_at_once(alloc, datum)?;
@@ -112,13 +112,13 @@ fn text_of(alloc: Global, datum: &Datum) -> Result<String, Fail> {
     }
 }
 
-/// A copy of a value as it is written.
+/// The text of a copy of a value.
 fn text_of_copy(alloc: Global, datum: &Datum) -> Result<String, Fail> {
     let copy = datum.copy(alloc)?;
     text_of(alloc, &copy)
 }
 
-/// The word of a refusal.
+/// The word for a refusal.
 fn word_of(fault: AtomFault) -> &'static str {
     match fault {
         AtomFault::Syntax => "syntax",
@@ -127,7 +127,7 @@ fn word_of(fault: AtomFault) -> &'static str {
     }
 }
 
-/// What a tree of these kinds reads as, copied and written again, or the word of its refusal.
+/// Reads a tree of these kinds, copies the value and returns its text, or the word for its refusal.
 fn text_rewritten(alloc: Global, kinds: Kinds, tree: &Value) -> Result<String, Fail> {
     match read_datum(alloc, tree, kinds, &NoNames) {
         Ok(datum) => text_of_copy(alloc, &datum),
@@ -148,7 +148,7 @@ impl Scripted for Rewritten {
     }
 }
 
-/// Each text of these kinds is written as it says.
+/// Runs a script of texts of these kinds.
 fn are_rewritten(alloc: Global, kinds: Kinds, script: &str) -> Result<(), Fail> {
     agrees(alloc, Rewritten { kinds }, script)
 }
@@ -183,13 +183,13 @@ fn a_uuid_has_hyphens_and_is_written_in_lower_case(rt: HostRuntime) -> Result<()
     are_rewritten(rt.alloc(), UUIDS, IDENTIFIERS)
 }
 
-/// Identifiers that name the row, another one, no identifier, and the row and more.
+/// The row's name, another name, no identifier, and the row's name with an extra item.
 const NAMED: &str = r#"["named-uuid","a"] -> true
 ["named-uuid","b"] -> false
 ["named-uuid","a b"] -> false
 ["named-uuid","a","a"] -> false"#;
 
-/// Whether a text reads as an identifier, where one row has a name.
+/// Whether a text reads as an identifier when one row has a name.
 fn is_named(alloc: Global, text: &str) -> Result<bool, Fail> {
     let tree = Value::from_str(alloc, text)?;
     let atom = read_atom(alloc, &tree, AtomKind::Uuid, &OneName);
@@ -234,7 +234,7 @@ fn a_name_is_an_identifier(rt: HostRuntime) -> Result<(), Fail> {
     agrees(rt.alloc(), Ids, NAMES)
 }
 
-/// Values, each with its facts as `facts_of` has them.
+/// Values, each with its facts from `facts_of`.
 const SET: &str = "set -> 2 Some(2) None true";
 
 const ONE_ATOM: &str = "one -> 1 Some(1) None true";
@@ -244,19 +244,19 @@ const MAP: &str = "map -> 1 None Some(1) true";
 const DEFAULTS: &str = "nothing -> 0 None Some(0) true
 default -> 1 None Some(1) true";
 
-/// The set of two numbers.
+/// A set of two numbers.
 fn numbers(alloc: Global) -> Result<Datum, AllocError> {
     Datum::of_atoms(vec![in alloc; Atom::Integer(2), Atom::Integer(1)]?)
 }
 
-/// The map of a number to a text.
+/// A map from a number to a text.
 fn pair(alloc: Global) -> Result<Datum, Fail> {
     let text = Atom::Text(Text::from_str(alloc, "a")?);
     let pairs = vec![in alloc; (Atom::Integer(1), text)]?;
     Ok(Datum::of_pairs(alloc, pairs)?.ok_or("a clash")?)
 }
 
-/// The value of a word.
+/// The value for a word.
 fn value_of(alloc: Global, word: &str) -> Result<Datum, Fail> {
     match word {
         "set" => Ok(numbers(alloc)?),
@@ -267,12 +267,12 @@ fn value_of(alloc: Global, word: &str) -> Result<Datum, Fail> {
     }
 }
 
-/// Whether a value is equal to its copy.
+/// Whether a value equals its copy.
 fn is_copied(alloc: Global, datum: &Datum) -> Result<bool, AllocError> {
     Ok(*datum == datum.copy(alloc)?)
 }
 
-/// How many elements a value has, how many as atoms and as pairs, and whether it is equal to its copy.
+/// The numbers of a value's elements, atoms and pairs, and whether it equals its copy.
 fn facts_of(alloc: Global, datum: &Datum) -> Result<String, Fail> {
     let count = datum.count();
     let atoms = datum.atoms().map(|atoms| atoms.len());
@@ -281,7 +281,7 @@ fn facts_of(alloc: Global, datum: &Datum) -> Result<String, Fail> {
     Ok(format!(in alloc; "{count} {atoms:?} {pairs:?} {is_copied}")?)
 }
 
-/// The commands are words of values.
+/// The commands are words for values.
 #[derive(Drop)]
 struct Made;
 
@@ -297,7 +297,7 @@ fn sets_are_made_of_atoms(rt: HostRuntime) -> Result<(), Fail> {
     agrees(rt.alloc(), Made, SET)
 }
 
-/// Whether a set of numbers stands before a truth value.
+/// Whether a set of numbers sorts before a truth value.
 fn are_numbers_first(alloc: Global) -> Result<bool, AllocError> {
     Ok(numbers(alloc)? < Datum::of_atom(Atom::Boolean(true)))
 }
@@ -319,7 +319,7 @@ fn a_default_has_one_pair_or_none(rt: HostRuntime) -> Result<(), Fail> {
     agrees(rt.alloc(), Made, DEFAULTS)
 }
 
-/// Whether an atom is equal to its copy, whether it stands after a number, and how -1 stands to 0.
+/// Whether an atom equals its copy, whether it sorts after a number, and how -1 compares to 0.
 fn orders_of(alloc: Global, atom: &Atom) -> Result<String, Fail> {
     let is_copied = *atom == atom.copy(alloc)?;
     let is_last = Atom::Integer(9) < *atom;
@@ -327,7 +327,7 @@ fn orders_of(alloc: Global, atom: &Atom) -> Result<String, Fail> {
     Ok(format!(in alloc; "{is_copied} {is_last} {order:?}")?)
 }
 
-/// The same of a text.
+/// The same for a text.
 fn orders_of_text(alloc: Global) -> Result<String, Fail> {
     let text = Atom::Text(Text::from_str(alloc, "a")?);
     orders_of(alloc, &text)

@@ -14,7 +14,7 @@ const DEFAULTS: &str = r#""integer" -> 0
 {"key":"string","value":"boolean"} -> ["map",[["",false]]]
 {"key":"string","value":"boolean","min":0} -> ["map",[]]"#;
 
-/// Values at the ends of what their types allow.
+/// Values at the limits of their types.
 const FITTING: &str = r#"-1 {"key":{"type":"integer","minInteger":-1,"maxInteger":2}} -> true
 2 {"key":{"type":"integer","minInteger":-1,"maxInteger":2}} -> true
 "éé" {"key":{"type":"string","minLength":1,"maxLength":2}} -> true
@@ -23,7 +23,7 @@ const FITTING: &str = r#"-1 {"key":{"type":"integer","minInteger":-1,"maxInteger
 ["set",[1,2]] {"key":"integer","min":0,"max":2} -> true
 ["map",[["a",1],["b",0]]] {"key":"string","value":{"type":"integer","maxInteger":1},"max":"unlimited"} -> true"#;
 
-/// Values just beyond.
+/// Values just beyond the limits.
 const UNFITTING: &str = r#"-2 {"key":{"type":"integer","minInteger":-1,"maxInteger":2}} -> false
 3 {"key":{"type":"integer","minInteger":-1,"maxInteger":2}} -> false
 ["set",[]] "integer" -> false
@@ -42,18 +42,18 @@ fn of_type(alloc: Global, type_text: &str) -> Result<Schema, Fail> {
     schema_of_text(alloc, text.as_str())
 }
 
-/// That column.
+/// The column `c` of the table `T`.
 fn column(schema: &Schema) -> Result<&Column, Fail> {
     let table = schema.table("T").ok_or("no table")?;
     Ok(table.column("c").ok_or("no column")?)
 }
 
-/// A value as it is written.
+/// The text of a value.
 fn written(alloc: Global, datum: &Datum) -> Result<String, Fail> {
     Ok(write_datum(alloc, datum)?.to_string(alloc)?)
 }
 
-/// The default of that column of a schema.
+/// The default of the column `c` of a schema.
 fn default_of(alloc: Global, schema: &Schema) -> Result<String, Fail> {
     let datum = column(schema)?.default_of(alloc)?;
     written(alloc, &datum)
@@ -71,7 +71,7 @@ fn text_fits(alloc: Global, column: &Column, value: &str) -> Result<bool, Fail> 
     fits(alloc, column, &tree)
 }
 
-/// Whether the value of a text fits that column of a schema.
+/// Whether the value of a text fits the column `c` of a schema.
 fn text_fits_schema(alloc: Global, schema: &Schema, value: &str) -> Result<String, Fail> {
     let fits = text_fits(alloc, column(schema)?, value)?;
     Ok(format!(in alloc; "{fits}")?)
@@ -88,7 +88,7 @@ impl Scripted for Defaults {
     }
 }
 
-/// Whether a value fits the type behind it.
+/// Whether a value fits the type after it.
 #[derive(Drop)]
 struct Fitting;
 

@@ -9,7 +9,7 @@ use std::test::Fail;
 use test_basics::{Scripted, agrees};
 use uuid::Uuid;
 
-/// Numbers stand in their order, and one is a set of one.
+/// Numbers are compared in order, and a number is a set of one.
 const NUMBERS: &str = r#"{"load":6} ["load","<",7] -> true
 {"load":6} ["load","<",6] -> false
 {"load":6} ["load","<=",6] -> true
@@ -52,7 +52,7 @@ const SETS: &str = r#"{"tags":["set",[1,2]]} ["tags","includes",1] -> true
 {"flags":["set",[true,false]]} ["flags","==",["set",[false,true]]] -> true
 {"peers":["set",[]]} ["peers","!=",["set",[]]] -> false"#;
 
-/// A pair is in a map with its value alone.
+/// A pair is in a map only with its value.
 const MAPS: &str =
     r#"{"counts":["map",[["a",1],["b",2]]]} ["counts","includes",["map",[["a",1]]]] -> true
 {"counts":["map",[["a",1],["b",2]]]} ["counts","includes",["map",[["a",2]]]] -> false
@@ -83,7 +83,7 @@ const OTHERS: &str = r#"{"name":"a"} ["name","==","a"] -> true
 {} ["_version","!=",["uuid","00000000-0000-4000-8000-000000000001"]] -> true
 {} ["_version","includes",["uuid","00000000-0000-4000-8000-000000000001"]] -> false"#;
 
-/// A condition is refused by its shape, its column, its function and its value, in this order.
+/// A condition is refused for its shape, its column, its function or its value, in this order.
 const REFUSED: &str = r#"{} {} -> syntax
 {} [] -> syntax
 {} ["load","=="] -> syntax
@@ -110,7 +110,7 @@ const REFUSED: &str = r#"{} {} -> syntax
 {"digits":1} ["digits","==",["set",[1,2,3,4,99]]] -> false
 {"digit":1} ["digit","<",99] -> true"#;
 
-/// Puts the value that a tree gives to a column among those of a row.
+/// Adds the value that a tree gives to a column to a row's values.
 fn put(
     alloc: Global,
     table: &Table,
@@ -122,7 +122,7 @@ fn put(
     Ok(values.insert(String::from_str(alloc, name)?, datum)?)
 }
 
-/// Puts the values that the members of a tree give.
+/// Adds the values that the members of a tree give.
 fn put_all(
     alloc: Global,
     table: &Table,
@@ -142,13 +142,13 @@ fn values_of(alloc: Global, table: &Table, tree: &Value) -> Result<NamedValues, 
     Ok(values)
 }
 
-/// The same of a text.
+/// The same for a text.
 fn values_of_text(alloc: Global, table: &Table, text: &str) -> Result<NamedValues, Fail> {
     let tree = Value::from_str(alloc, text)?;
     values_of(alloc, table, &tree)
 }
 
-/// A row of these values.
+/// A row with these values.
 fn row_of(alloc: Global, table: &Table, text: &str) -> Result<Row, Fail> {
     let values = values_of_text(alloc, table, text)?;
     Ok(Row {
@@ -157,7 +157,7 @@ fn row_of(alloc: Global, table: &Table, text: &str) -> Result<Row, Fail> {
     })
 }
 
-/// Whether a row with these values meets the condition, or the word of its refusal.
+/// Whether a row with these values meets the condition, or the word for its refusal.
 fn judged(alloc: Global, table: &Table, row: &Row, tree: &Value) -> &'static str {
     let id = Uuid::from_u128(0x4000_8000_0000_0000_0001);
     let row = RowView { id: &id, row };
@@ -176,7 +176,7 @@ fn judged(alloc: Global, table: &Table, row: &Row, tree: &Value) -> &'static str
     }
 }
 
-/// The same of the text of a condition.
+/// The same for the text of a condition.
 fn judged_by_text(
     alloc: Global,
     table: &Table,
@@ -187,7 +187,7 @@ fn judged_by_text(
     Ok(judged(alloc, table, row, &tree))
 }
 
-/// The same of the text of a row.
+/// The same for the text of a row.
 fn judged_text(
     alloc: Global,
     table: &Table,
@@ -198,7 +198,7 @@ fn judged_text(
     judged_by_text(alloc, table, &row, condition)
 }
 
-/// The commands are a row and a condition behind it.
+/// The commands are a row followed by a condition.
 #[derive(Drop)]
 struct Conditions {
     schema: Schema,
@@ -213,7 +213,7 @@ impl Scripted for Conditions {
     }
 }
 
-/// The conditions hold or are refused as they say.
+/// Runs a script of conditions.
 fn are_judged(alloc: Global, script: &str) -> Result<(), Fail> {
     let schema = shapes(alloc)?;
     agrees(alloc, Conditions { schema }, script)

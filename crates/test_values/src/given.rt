@@ -13,7 +13,7 @@ use std::test::Fail;
 use test_basics::{Scripted, agrees, schema_of_text, trees};
 use uuid::Uuid;
 
-/// A table whose rows have a number up to 9, may name another row, and keep a number for good.
+/// A table whose rows have a number up to 9, may refer to another row, and have an immutable number.
 const SCHEMA: &str = r#"{"name":"A","version":"1.0.0","tables":{"T":{"columns":{
 "fixed":{"type":"integer","mutable":false},
 "n":{"type":{"key":{"type":"integer","maxInteger":9}}},
@@ -23,7 +23,7 @@ const SCHEMA: &str = r#"{"name":"A","version":"1.0.0","tables":{"T":{"columns":{
 const OPERATIONS: &str = r#"[{"op":"insert","uuid-name":"a"},{"op":"select","uuid-name":"b"},
 {"op":"insert","uuid-name":"c"},{"op":"insert","uuid-name":"a"},{"op":"insert","uuid-name":"1"}]"#;
 
-/// The first insert with a name gives it, in the whole transaction.
+/// The first insert with a name gives it, for the whole transaction.
 const NAMES: &str = r#"named a -> 1
 named b -> none
 named c -> 2
@@ -43,7 +43,7 @@ fault 4 1 -> syntax error
 fault 1 "b" -> none
 fault 2 "b" -> none"#;
 
-/// A new row has its values and the defaults of the others.
+/// A new row has the given values and the defaults of the other columns.
 const NEW_ROWS: &str = r#"insert {} -> {"fixed":0,"n":0,"p":["set",[]]}
 insert {"n":5,"fixed":7} -> {"fixed":7,"n":5,"p":["set",[]]}
 insert {"p":["named-uuid","a"]} -> {"fixed":0,"n":0,"p":["uuid","00000000-0000-0000-0000-000000000001"]}
@@ -53,7 +53,7 @@ insert {"n":"a"} -> syntax error
 insert {"q":1} -> unknown column
 insert {"_version":["uuid","00000000-0000-0000-0000-000000000001"]} -> constraint violation"#;
 
-/// A row that is there keeps what is not given, and what clients may not change.
+/// An existing row keeps what is not given, and what clients may not change.
 const CHANGED_ROWS: &str = r#"update {} -> {"fixed":0,"n":1,"p":["set",[]]}
 update {"n":5} -> {"fixed":0,"n":5,"p":["set",[]]}
 update {"n":5,"p":["named-uuid","c"]} -> {"fixed":0,"n":5,"p":["uuid","00000000-0000-0000-0000-000000000002"]}
@@ -62,7 +62,7 @@ update {"n":10} -> constraint violation
 update {"q":1} -> unknown column
 update {"_uuid":["uuid","00000000-0000-0000-0000-000000000001"]} -> constraint violation"#;
 
-/// Mutations go one after another, each value tested before the next.
+/// Mutations are applied in order, and each value is checked before the next.
 const MUTATED_ROWS: &str = r#"mutate [] -> {"fixed":0,"n":1,"p":["set",[]]}
 mutate [["n","+=",1],["n","*=",4]] -> {"fixed":0,"n":8,"p":["set",[]]}
 mutate [["n","+=",9],["n","-=",9]] -> constraint violation
@@ -74,7 +74,7 @@ mutate [["n","+="]] -> syntax error
 mutate [["q","+=",1]] -> unknown column
 mutate [["fixed","+=",1]] -> constraint violation"#;
 
-/// Rows are the same in whatever order, and however often one stands there.
+/// Neither the order of rows nor repeated rows matter.
 const WAITS: &str = r#"wait == [{"n":1},{"n":2}] [{"n":2},{"n":1},{"n":1}] -> true
 wait != [{"n":1},{"n":2}] [{"n":2},{"n":1},{"n":1}] -> false
 wait == [{"n":1}] [{"n":1},{"n":2}] -> false
@@ -99,7 +99,7 @@ struct Given {
     operations: Trees,
 }
 
-/// What the client is told of a fault.
+/// The error that the client receives for a fault.
 fn told(fault: OpFault) -> &'static str {
     match fault {
         OpFault::Refused(error) => error.text(),
@@ -128,7 +128,7 @@ fn number(alloc: Global, id: Option<Uuid>) -> Result<String, Fail> {
     }
 }
 
-/// What is wrong with a name at a place.
+/// The fault of a name at a place.
 fn fault_at(rows: &NamedRows<'_>, place: usize, name: &Value) -> &'static str {
     match name_fault(rows, place, Some(name)) {
         Some(error) => error.text(),
@@ -136,7 +136,7 @@ fn fault_at(rows: &NamedRows<'_>, place: usize, name: &Value) -> &'static str {
     }
 }
 
-/// What is wrong with the name behind a place.
+/// The fault of the name after a place.
 fn fault(alloc: Global, rows: &NamedRows<'_>, text: &str) -> Result<String, Fail> {
     let (place, name) = text.split_once(" ").ok_or("no name")?;
     let place = place.parse::<usize>()?;
@@ -144,7 +144,7 @@ fn fault(alloc: Global, rows: &NamedRows<'_>, text: &str) -> Result<String, Fail
     Ok(String::from_str(alloc, fault_at(rows, place, &name))?)
 }
 
-/// The columns of a new row of a tree.
+/// The columns of a new row from a tree.
 fn new_columns(
     alloc: Global,
     table: &Table,
@@ -155,7 +155,7 @@ fn new_columns(
     Ok(new_row(alloc, table, members, rows))
 }
 
-/// The same, as they are shown.
+/// The same, as text.
 fn inserted_tree(
     alloc: Global,
     table: &Table,
@@ -186,7 +186,7 @@ fn row_of_one(alloc: Global, table: &Table, rows: &NamedRows<'_>) -> Result<Colu
     }
 }
 
-/// Columns with the given ones in their places.
+/// Columns overwritten by the given values.
 fn columns_over(
     alloc: Global,
     table: &Table,
@@ -198,7 +198,7 @@ fn columns_over(
     Ok(given_over(alloc, &given, columns)?)
 }
 
-/// The same, as they are shown.
+/// The same, as text.
 fn updated_tree(
     alloc: Global,
     table: &Table,
@@ -211,7 +211,7 @@ fn updated_tree(
     shown(alloc, &over)
 }
 
-/// The columns of that row with the given ones in their places.
+/// The columns of the row whose number is 1, overwritten by the given values.
 fn updated(alloc: Global, table: &Table, rows: &NamedRows<'_>, text: &str) -> Result<String, Fail> {
     let columns = row_of_one(alloc, table, rows)?;
     let tree = Value::from_str(alloc, text)?;
@@ -230,7 +230,7 @@ fn columns_by(
     mutated_columns(alloc, mutations.as_slice(), columns)
 }
 
-/// The same, as they are shown.
+/// The same, as text.
 fn mutated_tree(
     alloc: Global,
     table: &Table,
@@ -243,7 +243,7 @@ fn mutated_tree(
     shown(alloc, &mutated)
 }
 
-/// What mutations make of the columns of that row.
+/// What mutations make of the columns of the row whose number is 1.
 fn mutated(alloc: Global, table: &Table, rows: &NamedRows<'_>, text: &str) -> Result<String, Fail> {
     let columns = row_of_one(alloc, table, rows)?;
     let tree = Value::from_str(alloc, text)?;
@@ -255,7 +255,7 @@ fn compared(alloc: Global) -> Result<Vec<Text>, AllocError> {
     Ok(vec![in alloc; Text::from_str(alloc, "n")?]?)
 }
 
-/// What is told of rows, by their numbers alone.
+/// The given rows, by their numbers alone.
 fn told_numbers(
     alloc: Global,
     table: &Table,
@@ -266,7 +266,7 @@ fn told_numbers(
     told_rows(alloc, table, &compared, items, rows)
 }
 
-/// Whether what is waited for has come of two arrays of rows.
+/// Whether two arrays of rows meet what is waited for.
 fn has_come(
     alloc: Global,
     table: &Table,
@@ -280,7 +280,7 @@ fn has_come(
     Ok(is_met(alloc, until, seen.as_slice(), known.as_slice())?)
 }
 
-/// The text of whether it has come, or of the fault.
+/// The text of whether it is met, or of the fault.
 fn come_text(alloc: Global, has_come: Result<bool, OpFault>) -> Result<String, Fail> {
     match has_come {
         Ok(has_come) => Ok(format!(in alloc; "{has_come}")?),
@@ -288,7 +288,7 @@ fn come_text(alloc: Global, has_come: Result<bool, OpFault>) -> Result<String, F
     }
 }
 
-/// The same of the texts of both arrays.
+/// The same for the texts of both arrays.
 fn waited_until(
     alloc: Global,
     table: &Table,
@@ -303,7 +303,7 @@ fn waited_until(
     come_text(alloc, has_come)
 }
 
-/// Whether what a word says of two arrays of rows has come.
+/// Whether two arrays of rows meet what a word says.
 fn waited(alloc: Global, table: &Table, rows: &NamedRows<'_>, text: &str) -> Result<String, Fail> {
     let (word, arrays) = text.split_once(" ").ok_or("no rows")?;
     match until_of(word) {
@@ -332,7 +332,7 @@ fn number_at(alloc: Global, rows: &NamedRows<'_>, place: &str) -> Result<String,
     number(alloc, rows.id_at(place.parse::<usize>()?))
 }
 
-/// What a command comes to.
+/// The answer to a command.
 fn answered(
     alloc: Global,
     table: &Table,
@@ -362,7 +362,7 @@ impl Scripted for Given {
     }
 }
 
-/// The commands come to what they say.
+/// Runs a script of commands.
 fn are_given(alloc: Global, script: &str) -> Result<(), Fail> {
     let schema = schema_of_text(alloc, SCHEMA)?;
     let operations = trees(alloc, OPERATIONS)?;

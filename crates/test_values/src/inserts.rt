@@ -4,7 +4,7 @@ use std::alloc::Global;
 use std::test::Fail;
 use test_basics::{Scripted, agrees};
 
-/// An operation is an insert by its `op` alone.
+/// An operation is an insert because of its `op` alone.
 const OPERATIONS: &str = r#"{"op":"insert"} -> true
 {"op":"insert","table":1} -> true
 {"op":"select"} -> false
@@ -14,7 +14,7 @@ const OPERATIONS: &str = r#"{"op":"insert"} -> true
 ["insert"] -> false
 "insert" -> false"#;
 
-/// What tells of an operation whether it is an insert.
+/// Answers whether an operation is an insert.
 #[derive(Drop)]
 struct Operations;
 

@@ -1,4 +1,4 @@
-//! Tests of what the arguments alone determine: values, schemas, conditions and mutations, and what rows refer to.
+//! Tests of what depends on arguments alone: values, schemas, conditions, mutations, and what rows refer to.
 #![tactic(auto)]
 
 #[cfg(test)]

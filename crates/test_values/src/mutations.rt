@@ -7,7 +7,7 @@ use std::alloc::Global;
 use std::test::Fail;
 use test_basics::{Scripted, agrees};
 
-/// A scalar is computed within 64 bits. A division truncates toward zero, and a remainder has the dividend's sign.
+/// A scalar is computed within 64 bits. Division truncates toward zero, and a remainder has the dividend's sign.
 const NUMBERS: &str = r#"6 ["load","+=",2] -> 8
 6 ["load","+=",["set",[2,2]]] -> 8
 -1 ["load","+=",3] -> 2
@@ -26,7 +26,7 @@ const NUMBERS: &str = r#"6 ["load","+=",2] -> 8
 -9 ["digit","-=",1] -> constraint
 9 ["digit","*=",9223372036854775807] -> range"#;
 
-/// Both ends of 64 bits.
+/// Both ends of the 64-bit range.
 const BORDERS: &str = r#"9223372036854775806 ["load","+=",1] -> 9223372036854775807
 9223372036854775807 ["load","+=",1] -> range
 -9223372036854775807 ["load","+=",-1] -> -9223372036854775808
@@ -48,7 +48,7 @@ const BORDERS: &str = r#"9223372036854775806 ["load","+=",1] -> 9223372036854775
 -9223372036854775808 ["load","%=",9223372036854775807] -> -1
 9223372036854775807 ["load","%=",-9223372036854775808] -> 9223372036854775807"#;
 
-/// Each number of a set is computed; results that fall together are refused, and nothing is divided by zero.
+/// Each number of a set is computed; results that coincide are refused, and an empty set may be divided by zero.
 const COMPUTED_SETS: &str = r#"["set",[1,2]] ["tags","+=",10] -> ["set",[11,12]]
 ["set",[1,2]] ["tags","+=",["set",[10]]] -> ["set",[11,12]]
 ["set",[1,2]] ["tags","*=",-1] -> ["set",[-2,-1]]
@@ -66,7 +66,7 @@ const COMPUTED_SETS: &str = r#"["set",[1,2]] ["tags","+=",10] -> ["set",[11,12]]
 ["set",[1,9]] ["digits","*=",9223372036854775807] -> range
 ["set",[1,2,3]] ["digits","-=",4] -> ["set",[-3,-2,-1]]"#;
 
-/// Unions and differences of sets, where they fit the column.
+/// Unions and differences of sets, if they fit the column.
 const SETS: &str = r#"["set",[1,2]] ["tags","insert",["set",[2,3]]] -> ["set",[1,2,3]]
 ["set",[]] ["tags","insert",7] -> 7
 ["set",[1,2]] ["tags","insert",["set",[]]] -> ["set",[1,2]]
@@ -85,7 +85,7 @@ const SETS: &str = r#"["set",[1,2]] ["tags","insert",["set",[2,3]]] -> ["set",[1
 true ["flags","insert",false] -> ["set",[false,true]]
 ["set",[]] ["peers","insert",["uuid","00000000-0000-4000-8000-0000000000ab"]] -> ["uuid","00000000-0000-4000-8000-0000000000ab"]"#;
 
-/// A key that is there keeps its value; equal pairs go, or the pairs with these keys.
+/// An insert keeps the value of an existing key; a delete removes equal pairs, or the pairs with these keys.
 const MAPS: &str =
     r#"["map",[["a",1]]] ["counts","insert",["map",[["a",5],["b",2]]]] -> ["map",[["a",1],["b",2]]]
 ["map",[["b",2]]] ["counts","insert",["map",[["c",3],["a",1]]]] -> ["map",[["a",1],["b",2],["c",3]]]
@@ -101,7 +101,7 @@ const MAPS: &str =
 ["map",[["a",1],["b",2]]] ["few","insert",["map",[["c",3]]]] -> constraint
 ["map",[["a",1]]] ["few","delete","a"] -> constraint"#;
 
-/// A mutation is refused by its shape, its column, whether that may change, its mutator and its value, in this order.
+/// A mutation is refused for its shape, its column, a column that is not mutable, its mutator or its value, in this order.
 const REFUSED: &str = r#"null {} -> syntax
 null ["load","+="] -> syntax
 null ["load","+=",2,2] -> syntax
@@ -136,12 +136,12 @@ null ["counts","delete",["map",[["a",1],["a",5]]]] -> clash
 null ["counts","delete",["map",["a"]]] -> syntax
 null ["counts","delete",1] -> syntax"#;
 
-/// A value as it is written.
+/// The text of a value.
 fn written(alloc: Global, datum: &Datum) -> Result<String, Fail> {
     Ok(write_datum(alloc, datum)?.to_string(alloc)?)
 }
 
-/// The word of what is wrong with a value.
+/// The word for a fault of a value.
 fn fault_of_value(fault: MutateFault) -> &'static str {
     match fault {
         MutateFault::Domain => "domain",
@@ -151,7 +151,7 @@ fn fault_of_value(fault: MutateFault) -> &'static str {
     }
 }
 
-/// What a mutation makes of a value of its column, as it is written, or the word of its fault.
+/// The text of what a mutation makes of a value of its column, or the word for its fault.
 fn changed(alloc: Global, mutation: &Mutation<'_>, before: &Datum) -> Result<String, Fail> {
     match mutation.mutate(alloc, before) {
         Ok(datum) => written(alloc, &datum),
@@ -159,7 +159,7 @@ fn changed(alloc: Global, mutation: &Mutation<'_>, before: &Datum) -> Result<Str
     }
 }
 
-/// The same of the tree of a value.
+/// The same for the tree of a value.
 fn changed_tree(
     alloc: Global,
     table: &Table,
@@ -170,7 +170,7 @@ fn changed_tree(
     changed(alloc, mutation, &before)
 }
 
-/// The same of the text of a value.
+/// The same for the text of a value.
 fn changed_text(
     alloc: Global,
     table: &Table,
@@ -181,7 +181,7 @@ fn changed_text(
     changed_tree(alloc, table, mutation, &tree)
 }
 
-/// The word of what is wrong with a mutation.
+/// The word for a fault of a mutation.
 fn fault_of_mutation(fault: MutationFault) -> &'static str {
     match fault {
         MutationFault::Syntax => "syntax",
@@ -192,7 +192,7 @@ fn fault_of_mutation(fault: MutationFault) -> &'static str {
     }
 }
 
-/// What the mutation of a tree makes of a value, or the word of its fault.
+/// The text of what the mutation of a tree makes of a value, or the word for its fault.
 fn applied(alloc: Global, table: &Table, tree: &Value, before: &str) -> Result<String, Fail> {
     match Mutation::read(alloc, table, tree, &NoNames) {
         Ok(mutation) => changed_text(alloc, table, &mutation, before),
@@ -200,7 +200,7 @@ fn applied(alloc: Global, table: &Table, tree: &Value, before: &str) -> Result<S
     }
 }
 
-/// The commands are a value and a mutation behind it.
+/// The commands are a value followed by a mutation.
 #[derive(Drop)]
 struct Mutations {
     schema: Schema,
@@ -215,7 +215,7 @@ impl Scripted for Mutations {
     }
 }
 
-/// The mutations make of their values what they say, or are refused.
+/// Runs a script of mutations.
 fn are_applied(alloc: Global, script: &str) -> Result<(), Fail> {
     let schema = shapes(alloc)?;
     agrees(alloc, Mutations { schema }, script)

@@ -9,8 +9,8 @@ use std::test::Fail;
 use test_basics::{Scripted, agrees, holds, number, schema_of_text, trees};
 use uuid::Uuid;
 
-/// Rows that refer to rows of their own table and of another: strongly in a set and as the keys of a map, weakly as the values of
-/// a map and by one identifier. What has no table to refer to refers to nothing.
+/// Rows that refer to rows of their own table and of another: strongly in a set and as the keys of a map, weakly as the
+/// values of a map and by one identifier. A column without a table to refer to refers to nothing.
 const SCHEMA: &str = r#"{"name":"A","version":"1.0.0","tables":{
 "S":{"columns":{"n":{"type":"integer"}}},
 "T":{"isRoot":true,"columns":{
@@ -24,7 +24,7 @@ const SCHEMA: &str = r#"{"name":"A","version":"1.0.0","tables":{
 const OPERATIONS: &str = r#"[{"op":"insert","uuid-name":"a"},{"op":"insert","uuid-name":"b"},
 {"op":"insert","uuid-name":"c"}]"#;
 
-/// A row refers to what its columns name, column by column, each time that it does.
+/// A row refers to what its columns name, column by column, once for each occurrence.
 const TARGETS: &str = r#"targets S {}
 targets T {}
 targets T {"plain":["named-uuid","b"]}
@@ -35,7 +35,7 @@ targets T {"by_key":["map",[[["named-uuid","b"],5],[["named-uuid","a"],6]]]} -> 
 targets T {"by_value":["map",[[5,["named-uuid","b"]],[6,["named-uuid","b"]]]]} -> weak S 2, weak S 2
 targets T {"weak":["named-uuid","a"],"many":["named-uuid","a"]} -> strong T 1, weak S 1"#;
 
-/// Each row is listed once among those that refer to another, in ascending order.
+/// The rows that refer to another are listed once each, in ascending order.
 const HOLDERS: &str = r#"strong T 1
 weak S 1
 put T 2 {"many":["set",[["named-uuid","a"],["named-uuid","c"]]]}
@@ -60,7 +60,7 @@ struct Referring {
     rows: Rows,
 }
 
-/// The columns of a new row of a tree.
+/// The columns of a new row from a tree.
 fn columns_of_tree(
     alloc: Global,
     table: &Table,
@@ -87,20 +87,20 @@ fn columns_of(
     columns_of_tree(alloc, table, names, &tree)
 }
 
-/// A table's name, and a number.
+/// The key of a text: a table's name and a number.
 fn key_of(alloc: Global, text: &str) -> Result<RowKey, Fail> {
     let (table, id) = text.split_once(" ").ok_or("no identifier")?;
     Ok(RowKey::new(alloc, table, number(id)?)?)
 }
 
-/// The same of a key.
+/// The text of a key.
 fn key_text(alloc: Global, key: &RowKey) -> Result<String, Fail> {
     let table = key.table();
     let id = key.id().as_u128();
     Ok(format!(in alloc; "{table} {id}")?)
 }
 
-/// Puts the text of a key behind others, with a comma between, and a word before it.
+/// Appends a word and the text of a key, after a comma if there are others.
 fn put_key(alloc: Global, text: &mut String, word: &str, key: &RowKey) -> Result<(), Fail> {
     if !text.is_empty() {
         text.push_str(", ")?;
@@ -110,7 +110,7 @@ fn put_key(alloc: Global, text: &mut String, word: &str, key: &RowKey) -> Result
     Ok(text.push_str(key.as_str())?)
 }
 
-/// The texts of what is referred to, with commas between.
+/// The texts of what is referred to, separated by commas.
 fn targets_text(alloc: Global, targets: &[Target]) -> Result<String, Fail> {
     let mut text = String::new(alloc);
     for target in targets {
@@ -120,7 +120,7 @@ fn targets_text(alloc: Global, targets: &[Target]) -> Result<String, Fail> {
     Ok(text)
 }
 
-/// The texts of the keys, with commas between.
+/// The texts of the keys, separated by commas.
 fn keys_text(alloc: Global, keys: &KeySet) -> Result<String, Fail> {
     let mut text = String::new(alloc);
     for key in keys.iter() {
@@ -129,7 +129,7 @@ fn keys_text(alloc: Global, keys: &KeySet) -> Result<String, Fail> {
     Ok(text)
 }
 
-/// Those that refer to the row of a key.
+/// The rows that refer to the row of a key.
 fn holders_of(alloc: Global, holders: &Holders, key: &RowKey) -> Result<String, Fail> {
     match holders.of(key) {
         Some(keys) => keys_text(alloc, keys),
@@ -137,13 +137,13 @@ fn holders_of(alloc: Global, holders: &Holders, key: &RowKey) -> Result<String, 
     }
 }
 
-/// The same of the text of a key.
+/// The same for the text of a key.
 fn holders_text(alloc: Global, holders: &Holders, text: &str) -> Result<String, Fail> {
     let key = key_of(alloc, text)?;
     holders_of(alloc, holders, &key)
 }
 
-/// What columns of a row of a table refer to.
+/// What the columns of a table's row refer to.
 fn targets_of_columns(
     alloc: Global,
     schema: &Schema,
@@ -182,7 +182,7 @@ impl Referring {
         holders_text(alloc, links.weak(), text)
     }
 
-    /// The columns of a row that is to be put.
+    /// The columns of a row to put.
     fn columns(&self, alloc: Global, table: &str, row: &str) -> Result<Columns, Fail> {
         let names = NamedRows::new(alloc, self.ids.as_slice(), &self.operations)?;
         columns_of(alloc, &self.schema, &names, table, row)
@@ -221,7 +221,7 @@ impl Scripted for Referring {
     }
 }
 
-/// The commands come to what they say.
+/// Runs a script of commands.
 fn refers(alloc: Global, script: &str) -> Result<(), Fail> {
     let schema = schema_of_text(alloc, SCHEMA)?;
     let operations = trees(alloc, OPERATIONS)?;
@@ -245,7 +245,7 @@ fn who_refers_to_a_row_is_listed_once(rt: HostRuntime) -> Result<(), Fail> {
     refers(rt.alloc(), HOLDERS)
 }
 
-/// Two rows that refer to the first, of which one is taken out.
+/// Two rows refer to the first; one of them is removed.
 const TAKEN_OUT: &str = "empty -> true
 add T 1, T 2
 add T 1, S 3
@@ -254,7 +254,7 @@ remove T 1, S 3
 remove T 2, S 3
 of T 1 -> T 2";
 
-/// Who refers to which rows, behind a script.
+/// The rows that refer to others, driven by a script.
 ///
 /// The commands are `empty`, `add KEY, HOLDER`, `remove KEY, HOLDER` and `of KEY`.
 #[derive(Drop)]
@@ -262,7 +262,7 @@ struct Holding {
     holders: Holders,
 }
 
-/// The keys of two texts with a comma between.
+/// The keys of two texts separated by a comma.
 fn keys_of(alloc: Global, text: &str) -> Result<(RowKey, RowKey), Fail> {
     let (to, from) = text.split_once(", ").ok_or("one key")?;
     let to = key_of(alloc, to)?;
@@ -309,7 +309,7 @@ fn a_holder_that_is_taken_out_is_none(rt: HostRuntime) -> Result<(), Fail> {
     agrees(rt.alloc(), Holding { holders }, TAKEN_OUT)
 }
 
-/// Two keys that are put twice, of which one is taken out.
+/// Two keys, one of which is inserted repeatedly and then removed.
 const PUT_TWICE: &str = "empty -> true
 insert T 2
 insert T 2
@@ -322,7 +322,7 @@ empty -> false
 has T 1 -> true
 has T 2 -> false";
 
-/// A set of keys, behind a script.
+/// A set of keys, driven by a script.
 ///
 /// The commands are `empty`, `insert KEY`, `remove KEY`, `has KEY` and `all`.
 #[derive(Drop)]

@@ -5,7 +5,7 @@ use std::io::ErrorKind;
 use std::test::Fail;
 use test_basics::{Scripted, SlowReader, agrees, is_text};
 
-/// A text, and the schema's own text, or why it is none.
+/// Texts, each with its schema's own text, or why it is not a schema.
 const TEXTS: &str = r#"{ "tables": {}, "name": "N" } -> {"name":"N","tables":{}}
 {"name":"N","tables":{}}{} -> the schema is no JSON
 {"name":"N","tables": -> the schema is no JSON
@@ -29,19 +29,19 @@ fn answer_text(alloc: Global, answer: &Result<Schema, SchemaFileFault>) -> Resul
     }
 }
 
-/// What a text is.
+/// The answer for a text.
 fn answer_of(alloc: Global, text: &[u8]) -> Result<String, Fail> {
     let answer = schema_of(alloc, text);
     answer_text(alloc, &answer)
 }
 
-/// What a reader of a text gives.
+/// The answer for a reader of a text.
 fn answer_from(alloc: Global, text: &[u8]) -> Result<String, Fail> {
     let answer = schema_from(alloc, text);
     answer_text(alloc, &answer)
 }
 
-/// What a text is, or what a reader of it gives.
+/// The answer for a text, or for a reader of it.
 #[derive(Drop)]
 struct Texts {
     are_read: bool,
@@ -63,7 +63,7 @@ fn a_text_is_a_schema_or_refused(rt: HostRuntime) -> Result<(), Fail> {
     agrees(rt.alloc(), Texts { are_read: true }, TEXTS)
 }
 
-/// Fails unless a text is no JSON.
+/// Fails unless a text is not JSON.
 fn is_no_json(alloc: Global, text: &[u8]) -> Result<(), Fail> {
     let answer = answer_of(alloc, text)?;
     is_text(alloc, answer.as_str(), "the schema is no JSON")
@@ -75,7 +75,7 @@ fn a_text_is_utf8_without_a_mark(rt: HostRuntime) -> Result<(), Fail> {
     is_no_json(rt.alloc(), b"\xef\xbb\xbf{\"name\":\"N\",\"tables\":{}}")
 }
 
-/// The text of the answer where a reader fails behind its first byte.
+/// The text of the answer if a reader fails after its first byte.
 fn answer_of_failure(alloc: Global, error: ErrorKind) -> Result<String, Fail> {
     let reader = SlowReader {
         rest: b"{",
@@ -87,7 +87,7 @@ fn answer_of_failure(alloc: Global, error: ErrorKind) -> Result<String, Fail> {
     answer_text(alloc, &answer)
 }
 
-/// Fails unless a read that fails by this error has this answer.
+/// Fails unless a read that fails with this error has this answer.
 fn fails_by(alloc: Global, error: ErrorKind, want: &str) -> Result<(), Fail> {
     let answer = answer_of_failure(alloc, error)?;
     is_text(alloc, answer.as_str(), want)

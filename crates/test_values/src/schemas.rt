@@ -6,11 +6,11 @@ use std::alloc::Global;
 use std::test::Fail;
 use test_basics::{Scripted, agrees, compact, holds, is_text, schema_of_text, tree};
 
-/// A schema with each limit of tables and columns. It is the compact text of its tree.
+/// A schema with each limit of tables and columns, as the compact text of its tree.
 const LIMITED: &str =
     r#"{"name":"Net","tables":{"Port":{"columns":{"name":{"type":"string"},"peer":{"type":{"key":{"refTable":"Port","type":"uuid"},"max":1,"min":0}}}},"Switch":{"columns":{"load":{"ephemeral":true,"type":"integer"},"main":{"mutable":false,"type":{"key":{"refTable":"Port","refType":"weak","type":"uuid"},"max":1,"min":0}},"name":{"mutable":false,"type":"string"}},"indexes":[["name"]],"isRoot":true,"maxRows":9}},"version":"1.0.0"}"#;
 
-/// Schemas, each with its answer. Of two faults the greater one stands before the one that is answered.
+/// Schemas, each with its answer. If there are two faults, the greater one comes before the one that is answered.
 const ANSWERS: &str = r#"{"name":"Net","tables":{},"own":null} -> accepted
 {"name":"A","tables":{"T":{"columns":{"c":{"type":{"key":{"type":"string","enum":"a"}}}}}}} -> accepted
 {"name":"A","tables":{"T":{"columns":{"c":{"type":"string"}},"indexes":[["c"],["c"]]}}} -> accepted
@@ -76,19 +76,19 @@ fn the_least_fault_is_answered_wherever_it_stands(rt: HostRuntime) -> Result<(),
     agrees(rt.alloc(), Answers, ANSWERS)
 }
 
-/// What the schema says of itself.
+/// Facts about the schema itself.
 const ITSELF: &str = r#"name -> Net
 version -> 1.0.0
 has Bridge -> false
 has Switch -> true"#;
 
-/// What it says of its tables: whether they are root, how many rows they have at most, and their indexes.
+/// Facts about its tables: whether they are root, their maximum number of rows, and their indexes.
 const TABLES: &str = r#"is_root Switch -> true
 is_root Port -> false
 max_rows Switch -> Some(9)
 indexes Switch -> name;"#;
 
-/// What it says of the columns of a table: their names in order, and which are ephemeral and which mutable.
+/// Facts about the columns of a table: their names in order, which are ephemeral and which are mutable.
 const COLUMNS: &str = r#"columns Switch -> _uuid,_version,load,main,name,
 marks Switch -> --,--,em,-m,--,"#;
 
@@ -121,7 +121,7 @@ fn marks_of_columns(alloc: Global, table: &Table) -> Result<String, Fail> {
     Ok(marks)
 }
 
-/// What a table says of the word.
+/// The answer of a table to a word.
 fn facts_of_table(alloc: Global, table: &Table, word: &str) -> Result<String, Fail> {
     match word {
         "is_root" => Ok(format!(in alloc; "{}", table.is_root())?),
@@ -133,7 +133,7 @@ fn facts_of_table(alloc: Global, table: &Table, word: &str) -> Result<String, Fa
     }
 }
 
-/// A schema, and what it says.
+/// A schema that answers commands.
 #[derive(Drop)]
 struct SchemaFacts {
     schema: Schema,
@@ -176,7 +176,7 @@ impl Scripted for SchemaFacts {
     }
 }
 
-/// What the schema says is as in the script.
+/// Runs a script over the schema `LIMITED`.
 fn are_told(alloc: Global, script: &str) -> Result<(), Fail> {
     let schema = schema_of_text(alloc, LIMITED)?;
     agrees(alloc, SchemaFacts { schema }, script)
@@ -199,7 +199,7 @@ fn a_table_tells_its_columns_in_order(rt: HostRuntime) -> Result<(), Fail> {
     are_told(rt.alloc(), COLUMNS)
 }
 
-/// Whether a column is the one of its name, where it is looked for at a place.
+/// Whether a lookup near a place finds the column of this name.
 fn is_found_near(table: &Table, name: &str, column: &Column, place: usize) -> Result<bool, Fail> {
     let found = table.column_near(place, name).ok_or("no column")?;
     Ok(
@@ -209,7 +209,7 @@ fn is_found_near(table: &Table, name: &str, column: &Column, place: usize) -> Re
     )
 }
 
-/// Whether each column is the one of its name, whatever the place that it is looked for at.
+/// Whether a lookup near each of the places finds each column.
 fn are_found_near(table: &Table, places: &[usize]) -> Result<bool, Fail> {
     for (name, column) in table.columns() {
         for place in places {
@@ -240,14 +240,15 @@ fn a_column_is_found_wherever_it_is_looked_for(rt: HostRuntime) -> Result<(), Fa
     are_columns_found(rt.alloc(), &schema)
 }
 
-/// A column of references to rows of `Port`, which keep them, of any number.
+/// A column of any number of strong references to rows of `Port`.
 fn column_of_ports(alloc: Global) -> Result<Column, Fail> {
     let refers = Reference::new(Text::from_str(alloc, "Port")?, true);
     let key = BaseType::new(AtomKind::Uuid, None, None, None, None, None, Some(refers));
     Ok(Column::new(ColumnType::new(key, None, 0, None), true, false))
 }
 
-/// The table that a column refers to, whether it does so strongly, whether it is ephemeral, and mutable, and its least number.
+/// The table that a column refers to, whether strongly, whether the column is ephemeral and mutable, and its least number of
+/// elements.
 fn parts_of_column(alloc: Global, column: &Column) -> Result<String, Fail> {
     let refers = column.key_refers().ok_or("no reference")?;
     let is_ephemeral = column.is_ephemeral();
@@ -267,13 +268,13 @@ fn a_column_is_made_of_its_parts(rt: HostRuntime) -> Result<(), Fail> {
     is_text(rt.alloc(), parts.as_str(), "Port true true false 0")
 }
 
-/// What a table says that is made of its parts. Beside its own columns it has those of each row.
+/// Facts about a table made of its parts. Besides its own columns, it has those of every row.
 const PARTS: &str = "columns -> _uuid,_version,ports,
 indexes -> ports;
 max_rows -> Some(3)
 is_root -> true";
 
-/// A table, and what it says.
+/// A table that answers commands.
 #[derive(Drop)]
 struct TableFacts {
     table: Table,
@@ -285,20 +286,20 @@ impl Scripted for TableFacts {
     }
 }
 
-/// That column, by its name.
+/// The column of ports, by its name.
 fn columns_of_ports(alloc: Global) -> Result<Vec<(String, Column)>, Fail> {
     let mut columns = Vec::new(alloc);
     columns.push((String::from_str(alloc, "ports")?, column_of_ports(alloc)?))?;
     Ok(columns)
 }
 
-/// An index of that column.
+/// An index of the column of ports.
 fn indexes_of_ports(alloc: Global) -> Result<Vec<Vec<Text>>, Fail> {
     let index = vec![in alloc; Text::from_str(alloc, "ports")?]?;
     Ok(vec![in alloc; index]?)
 }
 
-/// A table of one column and one index, with those limits.
+/// A root table of at most 3 rows, with one column and one index.
 fn table_of_ports(alloc: Global) -> Result<Table, Fail> {
     let columns = columns_of_ports(alloc)?;
     let indexes = indexes_of_ports(alloc)?;

@@ -25,7 +25,7 @@ impl BaseShape<'_> {
         ))
     }
 
-    /// The table that it refers to, if it does.
+    /// The table that it refers to, if any.
     fn reference(&self, alloc: Global) -> Result<Option<Reference>, AllocError>
         ensures { IfOk result (λ o. o ≡ reference_of (base_view self.now)) }
     {
@@ -73,7 +73,7 @@ fn optional_type(
     }
 }
 
-/// 1 where nothing is said, none where it is "unlimited".
+/// The maximum: 1 if it is not given, `None` if it is "unlimited".
 fn max_of(max: Option<Most>) -> Option<i64>
     ensures { result ≡ max_of (option_map most_view max) }
 {

@@ -12,7 +12,7 @@ use ov_schema::{Column, Table};
 use std::alloc::{AllocError, Global};
 
 impl TableShape<'_> {
-    /// The table of these members. If no table is called a root table, each is one.
+    /// The table of these members. If no table is declared a root table, each is one.
     pub(crate) fn build(&self, alloc: Global, some_root: bool) -> Result<Table, AllocError>
         ensures { IfOk result (λ t. t ≡ accepted_table some_root (table_view self.now)) }
     {
@@ -23,7 +23,7 @@ impl TableShape<'_> {
     }
 }
 
-/// Whether a table is a root table, by what it is called and by whether some table is called so.
+/// Whether a table is a root table: it is declared one, or no table is.
 fn is_root(is_called_root: bool, some_root: bool) -> bool
     ensures { result ≡ (is_called_root || not some_root) }
 {

@@ -24,7 +24,7 @@ impl TypeName {
 }
 
 impl BaseShape<'_> {
-    /// Whether a least is above its greatest, or a length is negative.
+    /// Whether a minimum is above its maximum, or a length is negative.
     pub(crate) fn is_bad_range(&self) -> bool
         ensures { result ≡ is_bad_base_range (base_view self.now) }
     {
@@ -44,8 +44,8 @@ impl BaseShape<'_> {
         }
     }
 
-    /// Whether `refType` is another word than its two, or stands without `refTable`, or `refTable` stands beside
-    /// another type than "uuid".
+    /// Whether `refType` is not one of its two words or has no `refTable`, or `refTable` is given for a type other than
+    /// "uuid".
     pub(crate) fn is_bad_reference(&self) -> bool
         ensures { result ≡ is_bad_reference (base_view self.now) }
     {
@@ -58,7 +58,7 @@ impl BaseShape<'_> {
             || (self.ref_table.is_some() && !self.of.is_uuid())
     }
 
-    /// Whether `enum` reads as no set of one atom or more of the type.
+    /// Whether `enum` does not read as a set of one or more atoms of the type.
     pub(crate) fn is_bad_enum(&self, alloc: Global) -> Result<bool, AllocError>
         ensures { IfOk result (λ b. b ≡ is_bad_enum (base_view self.now)) }
     {
@@ -81,7 +81,7 @@ impl BaseShape<'_> {
         }
     }
 
-    /// Whether it is a strong reference, as one is where nothing is said of its strength.
+    /// Whether it is a strong reference, as it is if no strength is given.
     pub fn is_strong(&self) -> bool
         ensures { result ≡ is_strong (base_view self.now) }
     {
@@ -104,7 +104,7 @@ fn is_above(least: Option<i64>, greatest: Option<i64>) -> bool
     }
 }
 
-/// Whether the number is there, and below the bound.
+/// Whether the number is given and below the bound.
 pub(crate) fn is_below(bound: i64, number: Option<i64>) -> bool
     ensures { result ≡ below bound number }
 {

@@ -28,7 +28,7 @@ pub(crate) enum ColumnFlaw {
     Name,
     Count,
     StrongWeak,
-    /// Of the keys or the values.
+    /// A flaw of the keys or the values.
     Base(BaseFlaw),
 }
 
@@ -39,7 +39,7 @@ pub(crate) enum TableFlaw {
     NoColumns,
     MaxRows,
     Index,
-    /// Of some column.
+    /// A flaw of some column.
     Column(ColumnFlaw),
 }
 
@@ -161,7 +161,7 @@ impl SchemaShape<'_> {
         false
     }
 
-    /// Whether a table is called a root table.
+    /// Whether a table is declared a root table.
     pub fn has_root(&self) -> bool
         ensures { result ≡ any_table (λ name t. t.is_root) (schema_view self.now) }
     {

@@ -7,7 +7,7 @@ ghost use Rattle.ov_schema_text.specs.ShapeViews.{texts_view, table_view};
 use crate::parse::table_shape::TableShape;
 
 impl TableShape<'_> {
-    /// Whether an index is empty, or names no column or one twice, or one that is ephemeral (RFC 7047, 3.2,
+    /// Whether an index is empty, names something that is not a column, a column twice, or an ephemeral column (RFC 7047, 3.2,
     /// `<table-schema>`).
     pub(crate) fn has_bad_index(&self) -> bool
         ensures { result ≡ list_any (is_bad_index (table_view self.now)) (table_view self.now).indexes }
@@ -26,7 +26,7 @@ impl TableShape<'_> {
         index.is_empty() || self.names_unlasting(index) || has_twice(index)
     }
 
-    /// Whether a name is that of no column, or of an ephemeral one.
+    /// Whether a name is not that of a column, or is that of an ephemeral one.
     fn names_unlasting(&self, index: &[&str]) -> bool
         ensures { result ≡ list_any (λ name. not (is_lasting (column_named (table_view self.now).columns name))) (texts_view index.now) }
     {
@@ -38,7 +38,7 @@ impl TableShape<'_> {
         false
     }
 
-    /// Whether the column of this name is there, and not ephemeral.
+    /// Whether there is a column of this name that is not ephemeral.
     fn is_lasting(&self, name: &str) -> bool
         ensures { result ≡ is_lasting (column_named (table_view self.now).columns name.now) }
     {
@@ -51,7 +51,7 @@ impl TableShape<'_> {
     }
 }
 
-/// Whether a name stands twice. Indexes are short, so the rest is looked through for each name.
+/// Whether a name occurs twice. Indexes are short, so each name is compared with all that follow.
 fn has_twice(names: &[&str]) -> bool
     ensures { result ≡ has_twice (texts_view names.now) }
 {

@@ -3,14 +3,14 @@ ghost use Rattle.ov_specs.specs.schema.Schema.{is_bad_name, is_digit, is_version
 
 use ov_atoms::is_id;
 
-/// Whether a name is no `<id>`, or begins with an underscore (RFC 7047, 3.2).
+/// Whether a name is not an `<id>`, or begins with an underscore (RFC 7047, 3.2).
 pub(crate) fn is_bad_name(name: &str) -> bool
     ensures { result ≡ is_bad_name name.now }
 {
     !is_id(name) || name.starts_with('_')
 }
 
-/// Whether a text is three numbers with dots between (RFC 7047, 3.1, `<version>`).
+/// Whether a text is three numbers separated by dots (RFC 7047, 3.1, `<version>`).
 pub(crate) fn is_version(text: &str) -> bool
     ensures { result ≡ is_version text.now }
 {

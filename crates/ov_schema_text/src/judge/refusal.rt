@@ -11,7 +11,7 @@ use ov_schema::SchemaFault;
 use std::alloc::{AllocError, Global};
 
 impl SchemaShape<'_> {
-    /// The least refusal that applies anywhere, in their order.
+    /// The first refusal, in their order, that applies anywhere.
     pub fn refusal(&self, alloc: Global) -> Result<Option<SchemaFault>, AllocError>
         ensures { IfOk result (λ o. option_map refusal_view o ≡ option_map Some (refusal_of_shape (schema_view self.now))) }
     {
@@ -70,7 +70,7 @@ impl SchemaShape<'_> {
         }
     }
 
-    /// Whether a range, a count or the most rows of a table are bad.
+    /// Whether a range, a count or a table's maximum number of rows is bad.
     fn has_bad_range(&self, alloc: Global) -> Result<bool, AllocError>
         ensures { IfOk result (λ b. b ≡ has_bad_range (schema_view self.now)) }
     {

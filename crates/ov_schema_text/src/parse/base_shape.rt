@@ -31,7 +31,7 @@ impl TypeName {
         }
     }
 
-    /// The atomic type of the name; no schema that is accepted has "real", for which it is integers.
+    /// The atomic type of the name. For "real", which no accepted schema has, it is integers.
     pub fn kind(self) -> AtomKind
         ensures { kind_view result ≡ kind_named (name_view self) }
     {
@@ -68,7 +68,7 @@ pub struct BaseShape<'a> {
 }
 
 impl<'a> BaseShape<'a> {
-    /// The base type that is only a name.
+    /// The base type that is given as a name alone.
     pub fn plain(of: TypeName) -> BaseShape<'a>
         ensures { base_view result ≡ plain_base (name_view of) }
     {
@@ -84,8 +84,8 @@ impl<'a> BaseShape<'a> {
         }
     }
 
-    /// The base type that a tree is, or none where a member is missing or of a wrong kind, or a range stands beside
-    /// another type than its own.
+    /// The base type that a tree is, or `None` if a member is missing or of a wrong kind, or a range is given for a type
+    /// other than its own.
     pub(crate) fn read(tree: &'a Value) -> Option<BaseShape<'a>>
         ensures { option_map base_view result ≡ base_shape (view tree.now) }
     {
@@ -111,7 +111,7 @@ impl<'a> BaseShape<'a> {
         if base.ranges_fit() { Some(base) } else { None }
     }
 
-    /// Whether ranges stand beside their own type alone.
+    /// Whether ranges are given only for their own type.
     fn ranges_fit(&self) -> bool
         ensures { result ≡ ranges_fit (base_view self.now) }
     {

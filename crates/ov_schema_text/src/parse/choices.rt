@@ -13,7 +13,7 @@ use ov_atoms::{AtomFault, AtomKind, Datum, Kinds, NoNames, read_datum};
 use serde_json::Value;
 use std::alloc::{AllocError, Global};
 
-/// The set of an `enum`, or none where there is no such member or it reads as no set of the type.
+/// The set of an `enum`, or `None` if there is no such member or it does not read as a set of the type.
 pub fn read_choices(
     alloc: Global,
     of: TypeName,
@@ -41,7 +41,7 @@ fn read_set(alloc: Global, kind: AtomKind, tree: &Value) -> Result<Option<Datum>
     }
 }
 
-/// Whether a set has one atom or more.
+/// Whether a set has at least one atom.
 pub(crate) fn has_atoms(set: &Datum) -> bool
     ensures { result ≡ not (is_empty (keys (set_in set.now))) }
 {

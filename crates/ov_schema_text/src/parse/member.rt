@@ -5,21 +5,21 @@ ghost use Rattle.ov_specs.specs.schema.SchemaShape.{optional, whole_number};
 
 use serde_json::{Map, Value};
 
-/// The text that stands at a name.
+/// The text at a name.
 pub(crate) fn text_at<'a>(tree: &'a Value, name: &str) -> Option<&'a str>
     ensures { option_map (λ text. text.now) result ≡ option_and_then as_str (get name.now (view tree.now)) }
 {
     tree.get(name)?.as_str()
 }
 
-/// The members of the object that stands at a name.
+/// The members of the object at a name.
 pub(crate) fn members_at<'a>(tree: &'a Value, name: &str) -> Option<&'a Map<String, Value>>
     ensures { option_map (λ members. members_view members.now.entries) result ≡ option_and_then as_object (get name.now (view tree.now)) }
 {
     tree.get(name)?.as_object()
 }
 
-/// The text that may stand at a name. The outer None: something else stands there.
+/// The text at a name, if there is one. The outer `None`: something else is there.
 pub(crate) fn optional_text<'a>(tree: &'a Value, name: &str) -> Option<Option<&'a str>>
     ensures { option_map (λ o. option_map (λ text. text.now) o) result ≡ optional as_str (get name.now (view tree.now)) }
 {
@@ -29,7 +29,7 @@ pub(crate) fn optional_text<'a>(tree: &'a Value, name: &str) -> Option<Option<&'
     }
 }
 
-/// The 64-bit number that may stand at a name. The outer None: something else stands there.
+/// The 64-bit number at a name, if there is one. The outer `None`: something else is there.
 pub(crate) fn optional_number(tree: &Value, name: &str) -> Option<Option<i64>>
     ensures { result ≡ optional whole_number (get name.now (view tree.now)) }
 {
@@ -39,7 +39,7 @@ pub(crate) fn optional_number(tree: &Value, name: &str) -> Option<Option<i64>>
     }
 }
 
-/// The truth value that may stand at a name. The outer None: something else stands there.
+/// The truth value at a name, if there is one. The outer `None`: something else is there.
 pub(crate) fn optional_bool(tree: &Value, name: &str) -> Option<Option<bool>>
     ensures { result ≡ optional as_bool (get name.now (view tree.now)) }
 {

@@ -8,8 +8,8 @@ use crate::parse::table_shape::TableShape;
 use serde_json::{Map, Value};
 use std::alloc::{AllocError, Global};
 
-/// The members of a schema, with its tables in the order of the tree (RFC 7047, 3.2, `<database-schema>`). They are of
-/// the right kinds, and not yet judged.
+/// The members of a schema, with its tables in the order of the tree (RFC 7047, 3.2, `<database-schema>`). They are of the
+/// right kinds but not yet judged.
 #[derive(Drop)]
 pub struct SchemaShape<'a> {
     pub name: &'a str,
@@ -18,7 +18,7 @@ pub struct SchemaShape<'a> {
 }
 
 impl<'a> SchemaShape<'a> {
-    /// The members of a schema, or none where one is missing or of a wrong kind. Other members are passed over.
+    /// The members of a schema, or `None` if one is missing or of a wrong kind. Other members are ignored.
     pub fn read(alloc: Global, tree: &'a Value) -> Result<Option<SchemaShape<'a>>, AllocError>
         ensures { IfOk result (λ o. option_map schema_view o ≡ schema_shape (view tree.now)) }
     {
@@ -45,7 +45,7 @@ impl<'a> SchemaShape<'a> {
     }
 }
 
-/// The tables with their names, or none where one does not read.
+/// The tables with their names, or `None` if one cannot be read.
 fn tables_of<'a>(
     alloc: Global,
     members: &'a Map<String, Value>,

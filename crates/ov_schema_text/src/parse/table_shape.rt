@@ -21,7 +21,7 @@ pub struct TableShape<'a> {
 }
 
 impl<'a> TableShape<'a> {
-    /// The table that a tree is, or none where a member is missing or of a wrong kind.
+    /// The table that a tree is, or `None` if a member is missing or of a wrong kind.
     pub(crate) fn read(alloc: Global, tree: &'a Value) -> Result<Option<TableShape<'a>>, AllocError>
         ensures { IfOk result (λ o. option_map table_view o ≡ table_shape (view tree.now)) }
     {
@@ -49,7 +49,7 @@ impl<'a> TableShape<'a> {
     }
 }
 
-/// The columns with their names, or none where one does not read.
+/// The columns with their names, or `None` if one cannot be read.
 fn columns_of<'a>(
     alloc: Global,
     members: &'a Map<String, Value>,
@@ -66,7 +66,7 @@ fn columns_of<'a>(
     Ok(Some(columns))
 }
 
-/// The indexes, none where nothing is said of them. The None: something else stands there.
+/// The indexes, empty if they are not given. `None`: something else is there.
 fn optional_indexes<'a>(
     alloc: Global,
     tree: &'a Value,
@@ -98,7 +98,7 @@ fn indexes_of<'a>(
     Ok(Some(indexes))
 }
 
-/// The texts of an array, or none where it is no array of texts.
+/// The texts of an array, or `None` if it is not an array of texts.
 fn texts_of<'a>(alloc: Global, tree: &'a Value) -> Result<Option<Vec<&'a str>>, AllocError>
     ensures { IfOk result (λ o. option_map (λ v. texts_view v.items) o ≡ list_read as_str (view tree.now)) }
 {

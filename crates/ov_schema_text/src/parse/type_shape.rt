@@ -8,7 +8,7 @@ use crate::parse::base_shape::{BaseShape, TypeName};
 use crate::parse::member::{optional_bool, optional_number};
 use serde_json::Value;
 
-/// The greatest count of a type (RFC 7047, 3.2, `<type>`, max).
+/// The maximum count of a type (RFC 7047, 3.2, `<type>`, max).
 #[derive(Clone, Copy)]
 pub enum Most {
     AtMost(i64),
@@ -37,7 +37,7 @@ pub struct TypeShape<'a> {
 }
 
 impl<'a> TypeShape<'a> {
-    /// The type that a tree is, or none where a member is missing or of a wrong kind.
+    /// The type that a tree is, or `None` if a member is missing or of a wrong kind.
     fn read(tree: &'a Value) -> Option<TypeShape<'a>>
         ensures { option_map type_view result ≡ type_shape (view tree.now) }
     {
@@ -71,7 +71,7 @@ impl<'a> TypeShape<'a> {
     }
 }
 
-/// The base type that may stand at a name. The outer None: something else stands there.
+/// The base type at a name, if there is one. The outer `None`: something else is there.
 fn optional_base<'a>(tree: &'a Value, name: &str) -> Option<Option<BaseShape<'a>>>
     ensures { option_map (λ o. option_map base_view o) result ≡ optional base_shape (get name.now (view tree.now)) }
 {
@@ -81,7 +81,7 @@ fn optional_base<'a>(tree: &'a Value, name: &str) -> Option<Option<BaseShape<'a>
     }
 }
 
-/// The greatest count that may stand at a name. The outer None: something else stands there.
+/// The maximum count at a name, if there is one. The outer `None`: something else is there.
 fn optional_most(tree: &Value, name: &str) -> Option<Option<Most>>
     ensures { option_map (λ o. option_map most_view o) result ≡ optional most (get name.now (view tree.now)) }
 {
@@ -100,7 +100,7 @@ pub struct ColumnShape<'a> {
 }
 
 impl<'a> ColumnShape<'a> {
-    /// The column that a tree is, or none where a member is missing or of a wrong kind.
+    /// The column that a tree is, or `None` if a member is missing or of a wrong kind.
     pub(crate) fn read(tree: &'a Value) -> Option<ColumnShape<'a>>
         ensures { option_map column_view result ≡ column_shape (view tree.now) }
     {

@@ -35,7 +35,7 @@ contradicts true is is_not = cc
 contradicts false is is_not = cc
 
 module _ {A : Type 0} where
-  -- where an element passes the test, there is one that does; whatever test that one passes, an element passes
+  -- if an element passes the test, there is one that does; whatever test that one passes, an element passes
   any_is : (test : A → Bool) (xs : List A) → list_any test xs ≡ true → (x : A) × (test x ≡ true) × ((other : A → Bool) → other x ≡ true → list_any other xs ≡ true)
   any_is test [] any = cc
   any_is test (x ∷ xs) any = by (test x) refl any (any_is test xs)
@@ -49,14 +49,14 @@ module _ {A : Type 0} where
           let found = later any in
           (found.0, found.1, λ other passes. or_right (other x) (list_any other xs) (found.2 other passes))
 
-  -- where each passes one test, none passes a test that what passes the first fails
+  -- if each passes one test, none passes a test that what passes the first fails
   all-none : (test other : A → Bool) → ((x : A) → test x ≡ true → other x ≡ false) → (xs : List A) → list_all test xs ≡ true → list_any other xs ≡ false
   all-none test other next [] all = refl
   all-none test other next (x ∷ xs) all =
       let parts = and_parts (test x) (list_all test xs) all in
       or_from (other x) (list_any other xs) (next x parts.0) (all-none test other next xs parts.1)
 
-  -- where none passes either of two tests, each passes a test that what fails both passes
+  -- if none passes either of two tests, each passes a test that what fails both passes
   none-all : (a b test : A → Bool) → ((x : A) → a x ≡ false → b x ≡ false → test x ≡ true) → (xs : List A) → list_any a xs ≡ false → list_any b xs ≡ false → list_all test xs ≡ true
   none-all a b test next [] none_a none_b = refl
   none-all a b test next (x ∷ xs) none_a none_b =
@@ -234,7 +234,7 @@ module _ (schema : Schema) (before : Database) (version : Uuid) (rows : Database
   abbrev left : Database
   left = pruned schema before version rows
 
-  -- pruning leaves no reference to a row that is not there, where none of them was strong
+  -- pruning leaves no reference to a row that is not there, if none of them was strong
   targets_left : ((key : LineKey) (row : Row) → get rows key ≡ Some row → list_any (is_lost rows) (row_targets schema (key, row)) ≡ false) → (key : LineKey) (row : Row) → get left key ≡ Some row
       → list_all (λ target. contains_key left target.key) (row_targets schema (key, row)) ≡ true
   targets_left none key row has =

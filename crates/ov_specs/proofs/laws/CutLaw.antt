@@ -20,7 +20,7 @@ Unclosed text = (n : ℕ) → 0 < n → n ≤ length text → is_balanced (take 
 
 -- ---- one byte more
 
--- behind a message that has begun
+-- after a message that has begun
 next_is : (most at : ℕ) (begun : List ℕ) (x : ℕ) → 0 < length begun → after_byte most at begun x ≡ after_byte_inside most (begun ++ x ∷ [])
 next_is most at [] x h = absurd (omega arith)
 next_is most at (b ∷ begun) x h = refl
@@ -51,14 +51,14 @@ run_stray most at x s h k = rw (h, k) refl
 
 -- ---- many bytes more
 
--- white space leaves the cut to what is behind it, by recursion on the white space
+-- white space leaves the cut to what follows it, by recursion on the white space
 skip : (most at : ℕ) (gap t : List ℕ) → AllByRecursion Space gap → cut_from most at [] (gap ++ t) ≡ cut_from most (at + length gap) [] t
 skip most at [] t h = let e : at ≡ at + 0 = omega arith in ap (λ n. cut_from most n [] t) e
 skip most at (x ∷ gap) t (h, hs) =
     let e : (at + 1) + length gap ≡ at + length (x ∷ gap) = omega arith in
     run_space most at x (gap ++ t) h ∙ (skip most (at + 1) gap t hs ∙ ap (λ n. cut_from most n [] t) e)
 
--- white space leaves the cut to what is behind it
+-- white space leaves the cut to what follows it
 skip_gap : (most at : ℕ) (gap t : List ℕ) → AllSpace gap → cut_from most at [] (gap ++ t) ≡ cut_from most (at + length gap) [] t
 skip_gap most at gap t h = skip most at gap t (recursion_from_All Space gap h)
 
@@ -79,7 +79,7 @@ scan most at p (x ∷ q) t some u short =
     ∙ (scan most (at + 1) (p ++ x ∷ []) q t (omega arith) (subst Unclosed (sym assoc) u) (omega (arith, ap length assoc))
     ∙ (ap (λ n. cut_from most n ((p ++ x ∷ []) ++ q) t) e ∙ ap (λ b. cut_from most (at + length (x ∷ q)) b t) assoc))
 
--- a message that has begun leaves the cut to what is behind it
+-- a message that has begun leaves the cut to what follows it
 scan_begun : (most at : ℕ) (text t : List ℕ) → IsBegun text → length text ≤ most → cut_from most at [] (text ++ t) ≡ cut_from most (at + length text) text t
 scan_begun most at [] t b short = let h : slice_get {X = ℕ} [] 0 ≡ Some 123 = b.begins in cc
 scan_begun most at (x ∷ q) t b short =
@@ -109,7 +109,7 @@ front_begins m zero h b = absurd (omega arith)
 front_begins [] (suc k) h b = b
 front_begins (x ∷ m) (suc k) h b = b
 
--- a message ends with the byte behind a message that has begun
+-- a message ends with the byte after a message that has begun
 ending : (message : List ℕ) → IsMessage message → Ending message
 ending [] m = let h : slice_get {X = ℕ} [] 0 ≡ Some 123 = m.begins in cc
 ending (x ∷ []) m =
@@ -227,9 +227,9 @@ begun_more begun x b h = record {
   ];
 }
 
--- one byte, where the program keeps the relation behind it
+-- one byte, if the program keeps the relation after it
 module _ (most : ℕ) (low : 0 < most) (x : ℕ) (s : List ℕ) (again : (at : ℕ) (begun : List ℕ) → Within most begun → Holds most at (begun ++ s) (cut_from most (at + length begun) begun s)) where
-  -- the byte behind no message
+  -- a byte after no message
   between_more : (at : ℕ) → Holds most at (x ∷ s) (cut_from most at [] (x ∷ s))
   between_more at = elim (cases_Bool (is_space x)) [
     | inl h ↦
@@ -248,7 +248,7 @@ module _ (most : ℕ) (low : 0 < most) (x : ℕ) (s : List ℕ) (again : (at : �
     ]
   ]
 
-  -- the byte behind a message that has begun
+  -- a byte after a message that has begun
   begun_on : (at : ℕ) (begun : List ℕ) → IsBegun begun → length begun ≤ most → Holds most at (begun ++ x ∷ s) (cut_from most (at + length begun) begun (x ∷ s))
   begun_on at begun b short =
       let some : 0 < length begun = begun_some begun b in

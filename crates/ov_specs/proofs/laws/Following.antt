@@ -29,7 +29,7 @@ record IsOneOf {A : Type 0} (x : A) (xs : List A) : Type 0 where
   some : (test : A → Bool) → test x ≡ true → list_any test xs ≡ true
   each : (test : A → Bool) → list_all test xs ≡ true → test x ≡ true
 
--- where some pass the test, one does
+-- if some pass the test, one does
 one_passes : {A : Type 0} (test : A → Bool) (xs : List A) → list_any test xs ≡ true → (x : A) × (test x ≡ true) × IsOneOf x xs
 one_passes test [] any = cc
 one_passes {A = A} test (x ∷ xs) any = by (test x) refl any (one_passes test xs)
@@ -52,7 +52,7 @@ one_passes {A = A} test (x ∷ xs) any = by (test x) refl any (one_passes test x
     )
     by false is any others = let found = others any in (found.0, found.1, later found.0 found.2)
 
--- where none passed a test, and only the touched ones can pass now, it is asked of them alone
+-- if none passed a test, and only the touched ones can pass now, it is asked of them alone
 any_touched : {A : Type 0} (touched was is : A → Bool) → ((x : A) → touched x ≡ false → is x ≡ was x) → (xs : List A) → list_any was xs ≡ false → list_any is xs ≡ list_any (λ x. touched x && is x) xs
 any_touched touched was is same [] none = refl
 any_touched touched was is same (x ∷ xs) none = by (touched x) refl (any_touched touched was is same xs parts.1)
@@ -64,7 +64,7 @@ any_touched touched was is same (x ∷ xs) none = by (touched x) refl (any_touch
     by true at rest = ap (λ b. is x || b) rest
     by false at rest = ap (λ b. b || list_any is xs) (same x at ∙ parts.0) ∙ rest
 
--- a target of the row passes the test where a reference of it does
+-- a target of the row passes the test if a reference of it does
 any_target : (schema : Schema) (test : RowReference → Bool) (r : LineKey × Row)
     → list_any test (row_references schema r) ≡ list_any (λ target. test (record { from = r.0; to = target })) (row_targets schema r)
 any_target schema test r = any-map test (λ target. record { from = r.0; to = target }) (row_targets schema r)
@@ -108,7 +108,7 @@ module _ (schema : Schema) (rows : Database) (key : LineKey) where
   is_support (inl root) = or_left (is_in_root_table schema key) (list_any (supports key) (references schema rows)) root
   is_support (inr one) = or_right (is_in_root_table schema key) (list_any (supports key) (references schema rows)) (is_supporter one)
 
--- a row that loses its support where one row goes was referred to strongly by it
+-- a row that loses its support if one row goes was referred to strongly by it
 pub unsupported_step : (schema : Schema) (rows : Database) (gone : LineKey) (gone_row : Row) → get rows gone ≡ Some gone_row → (key : LineKey)
     → is_supported schema rows key ≡ true → is_supported schema (remove rows gone) key ≡ false → refers_strongly schema (gone, gone_row) key ≡ true
 unsupported_step schema rows gone gone_row has key was is = by (support_is schema rows key was)
@@ -160,7 +160,7 @@ none_there : (o : Option Row) → is_some o ≡ false → o ≡ None
 none_there None h = refl
 none_there (Some row) h = cc
 
--- rows before a change and now, where no row is different but at a key that was changed
+-- rows before a change and now, if no row is different but at a key that was changed
 module _ (schema : Schema) (before now : Database) (changed : LineKey → Bool) (beside : (key : LineKey) → changed key ≡ false → get now key ≡ get before key) where
   -- a row that was there and is not has been changed
   gone_is_changed : (key : LineKey) → contains_key before key ≡ true → contains_key now key ≡ false → changed key ≡ true
@@ -283,15 +283,15 @@ module _ (schema : Schema) (before now : Database) (changed : LineKey → Bool) 
         same_entries line_cmp key_total key_exact (rows_of name now) (rows_of name before) (rows_of_sorted now) (rows_of_sorted before)
         (λ q. find-rows_of now q ∙ same_row_of q ∙ sym (find-rows_of before q))
 
-    -- so it has too many where it had too many
+    -- so it has too many if it had too many
     pub has_too_many-same : (table : Table) → has_too_many now (name, table) ≡ has_too_many before (name, table)
     has_too_many-same table = ap (λ rs. is_some_and (λ most. int_lt most (pos (length rs))) table.max_rows) rows_of-same
 
-    -- and two that are alike where it had two
+    -- and two that are alike if it had two
     pub has_duplicates-same : (table : Table) → has_duplicates now (name, table) ≡ has_duplicates before (name, table)
     has_duplicates-same table = ap (λ rs. list_any (λ index. has_two_alike index rs) table.indexes) rows_of-same
 
-  -- where no limit was broken, only a table with a key that was changed can break one
+  -- if no limit was broken, only a table with a key that was changed can break one
   pub over_limits_follows : (touched : List ℕ → Bool) → ((name : List ℕ) → touched name ≡ false → (id : Uuid) → changed (name, id) ≡ false) → is_over_limits schema before ≡ false
       → is_over_limits schema now ≡ (list_any (λ t. touched t.0 && has_too_many now t) (entries schema.tables) || list_any (λ t. touched t.0 && has_duplicates now t) (entries schema.tables))
   over_limits_follows touched untouched within =

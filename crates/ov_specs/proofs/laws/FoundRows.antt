@@ -1,4 +1,4 @@
--- The rows that an operation is about are rows of the schema, and rows stay so where some are put and others removed.
+-- The rows that an operation is about are rows of the schema, and rows stay so when some are put and others removed.
 use Rattle.std.proofs.Common.{◌≡◌, ℕ, zero, suc, List, [], ◌∷◌, filter, Bool, true, false, cond, T, Option, Some, None, refl, sym, ap, subst, ◌∙◌}
 use Rattle.std.specs.Prelude.{slice_get, option_and_then}
 use Rattle.std.specs.List.{list_all}

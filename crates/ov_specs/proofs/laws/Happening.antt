@@ -77,7 +77,7 @@ kept_leaves s n draws o w t h kept =
       watches = λ id result monitors is no. cc;
     }) h kept
 
--- so nothing is tried behind it
+-- so nothing is tried after it
 pub take-none : (s : State) (c : Choice) (n : ℕ) (message : Message) → s.outstanding ≡ []
     → ends (takes_and_settles s c n message) ≡ when (none_listed (listed 1 c.outcomes).others) (works s n c.draws (listed 1 c.outcomes).outcome (work_of s n message))
 take-none s c n message none = by (works s n c.draws own.outcome (work_of s n message)) refl

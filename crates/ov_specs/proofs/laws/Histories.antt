@@ -7,7 +7,7 @@ use Rattle.std.proofs.lemmas.Option.{same_Some}
 use Rattle.ov_specs.specs.machine.Machine.{State, Entry, Cause, Sent, Stepped, step}
 use Rattle.ov_specs.specs.machine.History.{run, then_sends, requests, taken_by, closing_cause, closed_by}
 
--- none behind it
+-- none after it
 pub option_or_none : {A : Type 0} (o : Option A) → option_or o None ≡ o
 option_or_none None = refl
 option_or_none (Some x) = refl
@@ -80,7 +80,7 @@ requests_more (x ∷ h) e n = ap (λ l. taken_by n x.event ++ l) (requests_more 
 pub closed_by_first : (s : State) (e : Entry) (h : List Entry) (n : ℕ) (t : Stepped) → step s e ≡ Some t → closed_by s (e ∷ h) n ≡ option_or (closing_cause n s e.event t.state) (closed_by t.state h n)
 closed_by_first s e h n t k = ap (option_and_then (λ (v : Stepped). option_or (closing_cause n s e.event v.state) (closed_by v.state h n))) k
 
--- by one history behind another
+-- by one history after another
 pub closed_by_append : (s : State) (h k : List Entry) (n : ℕ) (t : Stepped) → run s h ≡ Some t → closed_by s (h ++ k) n ≡ option_or (closed_by s h n) (closed_by t.state k n)
 closed_by_append s [] k n t r = ap (λ (v : State). closed_by v k n) (run_none s t r)
 closed_by_append s (e ∷ h) k n t r =

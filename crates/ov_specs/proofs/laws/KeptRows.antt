@@ -60,7 +60,7 @@ whole_kept schema rows supported = record {
   greatest = λ others some others_supported. some;
 }
 
--- what is kept of some rows is kept of all, where each supported part of all is one of those
+-- what is kept of some rows is kept of all, if each supported part of all is one of those
 kept_of_fewer : (schema : Schema) (all fewer kept : Database) → AreSome all fewer → ((rows : Database) → AreSome all rows → AreSupported schema rows → AreSome fewer rows) → IsGreatestSupported schema fewer kept
     → IsGreatestSupported schema all kept
 kept_of_fewer schema all fewer kept some each is = record {
@@ -160,7 +160,7 @@ module _ (schema : Schema) (rows : Database) where
       by false going =
           get-without_rows (unsupported schema rows) rows key ∙ ap (λ b. cond b None (get rows key)) going ∙ some key row has
 
-  -- where none goes, all have support
+  -- if none goes, all have support
   none_goes : unsupported schema rows ≡ [] → AreSupported schema rows
   none_goes none key row has = by (is_supported schema rows key) refl
     where
@@ -179,7 +179,7 @@ module _ (schema : Schema) (rows : Database) where
 
 -- ---- all turns
 
--- where none goes, none goes in any later turn
+-- if none goes, none goes in any later turn
 none_goes_later : (n : ℕ) (schema : Schema) (rows : Database) → unsupported schema rows ≡ [] → kept_after n schema rows ≡ rows
 none_goes_later zero schema rows none = refl
 none_goes_later (suc n) schema rows none =

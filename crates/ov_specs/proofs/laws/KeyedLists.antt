@@ -1,4 +1,4 @@
--- What two ascending lists of entries give by their keys alone: the same, where it is nothing at each key that is in one of them only.
+-- What two ascending lists of entries give by their keys alone: the same, if a key that is in only one of them gives nothing.
 use Rattle.std.proofs.Common.{◌≡◌, List, [], ◌∷◌, map, filter, Bool, true, false, cond, T, Option, Some, None, is_some, option_map, refl, sym, ap, ◌∙◌, Ordering}
 use Rattle.std.specs.Cmp.{IsTotalOrder}
 use Rattle.std.specs.FinMap.{IsAntisymmetric, find, is_sorted, same_map, entries, from_sorted, entries-from_sorted, get-from_sorted}
@@ -8,7 +8,7 @@ use Rattle.std.specs.Ordering.{eq_by_cmp}
 use Rattle.ov_specs.proofs.laws.Truths.{both_hold, left_holds, right_holds, equal_is}
 
 module _ {A B C : Type 0} (g : A → B) (kept : B → Bool) (f : B → Option C) where
-  -- what is left of a list, and then mapped
+  -- what is left of a list, then mapped
   pub filter_map-filter-map : (xs : List A) → filter_map f (filter kept (map g xs)) ≡ filter_map (λ x. cond (kept (g x)) (f (g x)) None) xs
   filter_map-filter-map [] = refl
   filter_map-filter-map (x ∷ xs) = by (kept (g x)) (filter_map-filter-map xs)

@@ -88,7 +88,7 @@ module _ (name : List ℕ) where
       by later true = all.1
       by later false = (all.0, later)
 
--- a name that comes behind another
+-- a name that comes after another
 is_above : (name other : List ℕ) → name_cmp name other ≡ Greater → name_cmp other name ≡ Less
 is_above name other greater = name_cmp_total.antisymm other name ∙ ap ordering_reverse greater
 
@@ -118,17 +118,17 @@ module _ (name : List ℕ) where
 
 -- ---- the names that a session asked for
 
--- names that come behind this one
+-- names that come after this one
 pub below-names : (session : ℕ) (e : List ℕ × List ℕ) (queues : Queues) → DoQueuesAscend (e ∷ queues) → IsBelow e.0 (names_of session queues)
 below-names session e queues ascend = all-names (λ other. name_cmp e.0 other ≡ Less) session queues (sorted_head name_cmp e.0 (keys_of queues) ascend)
 
--- and behind one that comes before it
+-- and after one that comes before it
 below-all : (session : ℕ) (name : List ℕ) (e : List ℕ × List ℕ) (queues : Queues) → DoQueuesAscend (e ∷ queues) → name_cmp name e.0 ≡ Less → IsBelow name (names_of session (e ∷ queues))
 below-all session name e queues ascend less =
     all-names (λ other. name_cmp name other ≡ Less) session (e ∷ queues) (less, below_later name e.0 (keys_of queues) less (sorted_head name_cmp e.0 (keys_of queues) ascend))
 
 module _ (session : ℕ) (name : List ℕ) where
-  -- the session asks for a lock more
+  -- the session asks for one more lock
   names-put : (queue : List ℕ) (queues : Queues) → DoQueuesAscend queues → stands_in session queue ≡ true → names_of session (insert_entry name_cmp queues name queue) ≡ insert_key name_cmp (names_of session queues) name
   names-put queue [] ascend stands = ap (λ b. cond b (name ∷ []) []) stands
   names-put queue (e ∷ queues) ascend stands = by (names-put queue queues (sorted_tail name_cmp e.0 (keys_of queues) ascend) stands) (name_cmp name e.0) refl
@@ -152,7 +152,7 @@ module _ (session : ℕ) (name : List ℕ) where
       by rest Equal is = ap (λ b. cond b (e.0 ∷ names) names) stands ∙ at is (stands_in session e.1)
       by rest Greater is = ap (λ ns. cond (stands_in session e.1) (e.0 ∷ ns) ns) rest ∙ later is (stands_in session e.1)
 
-  -- the session asks for the lock no more, and others do
+  -- the session no longer asks for the lock, and others do
   names-put_out : (queue : List ℕ) (queues : Queues) → DoQueuesAscend queues → stands_in session queue ≡ false
       → names_of session (insert_entry name_cmp queues name queue) ≡ remove_key (is_at (name_cmp name)) (names_of session queues)
   names-put_out queue [] ascend out = ap (λ b. cond b (name ∷ []) []) out
@@ -180,7 +180,7 @@ module _ (session : ℕ) (name : List ℕ) where
       by rest Equal is = ap (λ b. cond b (e.0 ∷ names) names) out ∙ at is (stands_in session e.1)
       by rest Greater is = ap (λ ns. cond (stands_in session e.1) (e.0 ∷ ns) ns) rest ∙ later is (stands_in session e.1)
 
-  -- nobody asks for the lock any more
+  -- nobody asks for the lock any longer
   names-out : (queues : Queues) → DoQueuesAscend queues → names_of session (remove_entry (is_at (name_cmp name)) queues) ≡ remove_key (is_at (name_cmp name)) (names_of session queues)
   names-out [] ascend = refl
   names-out (e ∷ queues) ascend = by (names-out queues (sorted_tail name_cmp e.0 (keys_of queues) ascend)) (is_at (name_cmp name) e.0) refl
@@ -250,7 +250,7 @@ module _ (session : ℕ) (name : List ℕ) where
   names-same [] queues ascend same = names-out_same queues (sym same)
   names-same (first ∷ queue) queues ascend same = names-put_same (first ∷ queue) queues ascend same
 
-  -- the session asked for a lock where it is one of these names
+  -- the session asked for a lock if it is one of these names
   pub requested-names : (queues : Queues) → DoQueuesAscend queues → has_requested session name queues ≡ list_any (is_at (name_cmp name)) (names_of session queues)
   requested-names [] ascend = refl
   requested-names (e ∷ queues) ascend = by (requested-names queues (sorted_tail name_cmp e.0 (keys_of queues) ascend)) (is_at (name_cmp name) e.0) refl
@@ -347,7 +347,7 @@ names-before : (other : ℕ) (name queue : List ℕ) (queues : Queues) → names
 names-before other name [] queues = refl
 names-before other name (session ∷ queue) queues = refl
 
--- the one that leaves asks for no lock any more, and the others for the same ones
+-- the one that leaves no longer asks for any lock, and the others for the same ones
 pub names-leave : (other session : ℕ) (queues : Queues) → names_of other (leave session queues) ≡ cond (eqb other session) [] (names_of other queues)
 names-leave other session [] = sym (same (eqb other session))
   where

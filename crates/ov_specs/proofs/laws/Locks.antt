@@ -1,4 +1,4 @@
--- What holds of the queues of locks, whatever is asked: one owner at most, nobody twice, and nobody left behind.
+-- What holds of the queues of locks, whatever is asked: one owner at most, nobody twice, and nobody stays after leaving.
 use Rattle.std.proofs.Common.{◌≡◌, ℕ, List, [], ◌∷◌, ◌++◌, map, Bool, true, false, cond, not, ◌&&◌, ◌||◌, eqb, Option, Some, None, option_map, refl, sym, ap, ◌∙◌, Ordering, Less, Equal, Greater}
 use Rattle.std.proofs.lemmas.Bool.{eq-eqb, eqb-true, or_parts, and_parts, and_from, false≢true}
 use Rattle.std.proofs.lemmas.List.Folds.{list_all-append}
@@ -33,7 +33,7 @@ owns-owner name queues session own = by (queue_of name queues) own
 pub one_owner : (name : List ℕ) (queues : Queues) (a b : ℕ) → owns queues a name ≡ true → owns queues b name ≡ true → a ≡ b
 one_owner name queues a b own also = same_Some a b (sym (owns-owner name queues a own) ∙ owns-owner name queues b also)
 
--- ---- nobody stays behind
+-- ---- nobody stays after leaving
 
 pub none_left : (session : ℕ) (name : List ℕ) (queues : Queues) → DoQueuesAscend queues → has_requested session name (leave session queues) ≡ false
 none_left session name queues ascend =
@@ -50,7 +50,7 @@ abbrev pub EachQueue : (List ℕ → Type 0) → Queues → Type 0
 EachQueue P queues = AllByRecursion (λ e. P e.1) queues
 
 module _ (P : List ℕ → Type 0) where
-  -- so it holds of that of a lock, where it holds of a queue of nobody
+  -- so it holds of that of a lock, if it holds of an empty queue
   pub queue-has : (name : List ℕ) (queues : Queues) → P [] → EachQueue P queues → P (queue_of name queues)
   queue-has name [] none all = none
   queue-has name (e ∷ queues) none all = by (queue-has name queues none all.1) (is_at (name_cmp name) e.0)
@@ -86,7 +86,7 @@ module _ (P : List ℕ → Type 0) where
   before-has name [] queues new all = all
   before-has name (session ∷ queue) queues new all = (new, all)
 
--- what holds of the queues behind a leaving session, of those that it stood in and of the others
+-- what holds of the queues after a session leaves, of those that it stood in and of the others
 pub leave-has : (P Q : List ℕ → Type 0) (session : ℕ) → ((queue : List ℕ) → P queue → Q (without session queue)) → ((queue : List ℕ) → stands_in session queue ≡ false → P queue → Q queue)
     → (queues : Queues) → EachQueue P queues → EachQueue Q (leave session queues)
 leave-has P Q session left stays [] all = tt
@@ -108,7 +108,7 @@ none_of = tt
 pub queue-distinct : (name : List ℕ) (queues : Queues) → HaveNoRepeats queues → HasNoRepeats (queue_of name queues)
 queue-distinct name queues once = queue-has HasNoRepeats name queues none_of once
 
--- who stands not in a queue is none of those who do
+-- one that does not stand in a queue is none of those who do
 none_is : (session : ℕ) (queue : List ℕ) → stands_in session queue ≡ false → AllByRecursion (λ other. eqb session other ≡ false) queue
 none_is session [] out = tt
 none_is session (other ∷ queue) out =
@@ -193,7 +193,7 @@ module _ (test : ℕ → Bool) where
       by true is = first-passes (without session queue) next (all-filter (λ other. not (eqb other session)) test queue (and_parts (test first) (list_all test queue) all).1) is
       by false is = cc
 
-  -- who is told of a session's leaving
+  -- which sessions a session's leaving notifies
   pub leaving-passes : (session : ℕ) (queues : Queues) → EachQueue (AllPass test) queues → list_all (λ (note : ℕ × Data). test note.0) (told_of_leaving session queues) ≡ true
   leaving-passes session [] all = refl
   leaving-passes session (e ∷ queues) all = by (leaving-passes session queues all.1) (next_in session e.1) refl
@@ -214,13 +214,13 @@ module _ (test : ℕ → Bool) where
     told-passes None note h = refl
     told-passes (Some other) note h = and_from (test other) true (h other refl) refl
 
-    -- who is told of a call
+    -- which session a call notifies
     pub call-passes : (call : LockCall) → list_all (λ (note : ℕ × Data). test note.0) (option_to_list (told_of_call call name session queues)) ≡ true
     call-passes Lock = refl
     call-passes Steal = told-passes (owner name queues) (stolen_note name) (λ other is. first-passes its other passes is)
     call-passes Unlock = told-passes (next_owner name session queues) (locked_note name) (λ other is. next-passes its session other passes is)
 
-    -- who stands in a queue after it, where the session passes
+    -- who stands in a queue after it, if the session passes
     pub after-passes : (call : LockCall) → test session ≡ true → EachQueue (AllPass test) (after_call call name session queues)
     after-passes Lock own =
         with-has (AllPass test) name (its ++ session ∷ []) queues all (list_all-append test its (session ∷ []) ∙ and_from (list_all test its) (test session && true) passes (and_from (test session) true own refl))
@@ -238,7 +238,7 @@ each-so one other so (e ∷ queues) all = (pass e.1 all.0, each-so one other so 
         let parts = and_parts (one n) (list_all one queue) own in
         and_from (other n) (list_all other queue) (so n parts.0) (pass queue parts.1)
 
--- who stands in a queue behind a leaving session passes another test, where the others that passed the first pass it
+-- who stands in a queue after a session leaves passes another test, if the others that passed the first pass it
 module _ (one other : ℕ → Bool) (session : ℕ) (so : (n : ℕ) → one n ≡ true → eqb n session ≡ false → other n ≡ true) where
   left-passes : (queue : List ℕ) → AllPass one queue → AllPass other (without session queue)
   left-passes [] all = refl

@@ -71,7 +71,7 @@ shape_is_not_mixed d s none name other table column named is =
         column_is_not_mixed t.columns other column (find-none name_cmp same_name-is (λ e. list_any (λ c. is_strong_weak c.1.type_of) e.1.columns) name t s.tables none found)
         (sym (get-from_entries name_cmp_total (own_columns ++ map (λ c. (c.0, accepted_column c.1)) t.columns) other) ∙ (ap (λ k. get k.columns other) (same_Some (accepted_table some_root t) table made) ∙ is))
 
--- where no test holds, the one at this place does not
+-- if no test holds, the one at this place does not
 fails_at : (n : ℕ) (ps : List (Bool × SchemaRefusal)) → first_that_holds ps ≡ None → is_some_and (λ p. p.0) (slice_get ps n) ≡ false
 fails_at n [] h = refl
 fails_at zero (p ∷ ps) h = by p.0 h

@@ -1,4 +1,4 @@
--- What a monitor is told of rows is found by the changes alone: a row that is as before is not told of.
+-- What a monitor reports of rows is found by the changes alone: a row that is as before is not reported.
 use Rattle.std.proofs.Common.{◌≡◌, ℕ, List, [], ◌∷◌, ◌++◌, filter, Bool, true, false, cond, not, T, Option, Some, None, option_and_then, refl, sym, ap, ◌∙◌}
 use Rattle.std.specs.Cmp.{eq_by_cmp_equiv}
 use Rattle.std.specs.FinMap.{get, get-entries, get-from_entries, find, is_sorted, entries, entries_sorted, from_entries}

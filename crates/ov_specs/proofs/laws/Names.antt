@@ -42,7 +42,7 @@ module _ {X : Type 0} where
   pub sorted_rest : (e : List ℕ × X) (es : List (List ℕ × X)) → T (is_sorted name_cmp (e ∷ es)) → T (is_sorted name_cmp es)
   sorted_rest e es h = right_holds _ _ h
 
-  -- what is found behind the first entry is found in the whole
+  -- what is found after the first entry is found in the whole
   find-later : (e : List ℕ × X) (es : List (List ℕ × X)) (name : List ℕ) (x : X) → T (is_sorted name_cmp (e ∷ es)) → find name_cmp name es ≡ Some x → find name_cmp name (e ∷ es) ≡ Some x
   find-later e es name x h found = by (same_name name e.0) refl
     where

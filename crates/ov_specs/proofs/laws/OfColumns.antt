@@ -17,7 +17,7 @@ use Rattle.ov_specs.proofs.laws.Lists.{all-filter}
 use Rattle.ov_specs.proofs.laws.OfKinds.{Passes, passes-then, passes-if, reads_is_of, set_is_of, map_is_of}
 use Rattle.ov_specs.proofs.laws.Truths.{or_truth}
 
--- the value, where there is one, passes the test
+-- the value, if there is one, passes the test
 abbrev PassesOk : {A E : Type 0} → (A → Bool) → Result A E → Type 0
 PassesOk test (Err fault) = Unit {0}
 PassesOk test (Ok a) = test a ≡ true

@@ -17,7 +17,7 @@ use Rattle.std.proofs.lemmas.List.{nil_from_length}
 
 -- ---- what stands in an answer that may be none
 
--- the value, where there is one, passes the test
+-- the value, if there is one, passes the test
 abbrev pub Passes : {A : Type 0} → (A → Bool) → Option A → Type 0
 Passes test None = Unit {0}
 Passes test (Some a) = test a ≡ true

@@ -40,7 +40,7 @@ use Rattle.ov_specs.proofs.laws.MadeRows.{changed_are_others, updated_are, Makes
 
 -- ---- what an operation comes to
 
--- the rows that it leaves, where it has a result, are those of the schema
+-- the rows that it leaves, if it has a result, are those of the schema
 abbrev pub SuitsOutcome : Schema → OpOutcome → Type 0
 SuitsOutcome schema (Done result rows) = Suits schema rows
 SuitsOutcome schema (Fault error) = Unit {0}
@@ -63,7 +63,7 @@ module _ (schema : Schema) where
   unless_suits None outcome h = h
   unless_suits (Some error) outcome h = tt
 
--- the database that a transaction leaves, where it completes, has rows of the schema
+-- the database that a transaction leaves, if it completes, has rows of the schema
 abbrev pub SuitsTransaction : Schema → TransactionOutcome → Type 0
 SuitsTransaction schema (Completes results database) = Suits schema database
 SuitsTransaction schema (Waits timeout) = Unit {0}

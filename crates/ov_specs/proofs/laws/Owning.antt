@@ -1,4 +1,4 @@
--- A transaction that waits does so too where its session owns more locks: each "assert" before the wait that blocks it has passed.
+-- A transaction that waits also waits if its session owns more locks: each "assert" before the wait that blocks it has passed.
 use Rattle.std.proofs.Common.{◌≡◌, ℕ, ◌+◌, List, [], ◌∷◌, Bool, true, false, cond, Option, Some, None, ◌⊎◌, inl, inr, refl, sym, ap, ◌∙◌}
 use Rattle.std.specs.Prelude.{codes}
 use Rattle.std.specs.Str.{bytes_eq}
@@ -76,7 +76,7 @@ module _ (c : OpContext) (other : Owns) (more : (name : List ℕ) → c.owns nam
           no : Completes (item (error_tree NotOwner) (nulls operations)) c.before ≡ Waits timeout → ⊥
           no e = cc
 
--- it waits as well with more locks
+-- it also waits with more locks
 pub waits_owning : (schema : Schema) (before : Database) (owns other : Owns) (draws : List Uuid) (age : ℕ) (operations : Items) (timeout : Option ℕ) → ((name : List ℕ) → owns name ≡ true → other name ≡ true)
     → transaction schema before owns draws age operations ≡ Waits timeout → transaction schema before other draws age operations ≡ Waits timeout
 waits_owning schema before owns other [] age operations timeout more h = h

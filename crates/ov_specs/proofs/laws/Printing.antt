@@ -1,4 +1,4 @@
--- The text of a row's body reads as the body, where its values are of any kinds.
+-- The text of a row's body reads as the body, if its values are of any kinds.
 use Rattle.std.proofs.Common.{rules, ◌≡◌, ℕ, suc, ◌<◌, ◌≤◌, ◌^◌, pos, negsuc, List, [], ◌∷◌, ◌++◌, map, Bool, true, true≢false, ◌&&◌, ◌-◌, int_le, int_lt, T, max, Greater, Some, option_map, option_and_then, refl, sym, ap, ap₂, ◌∙◌, subst}
 use Rattle.std.proofs.lemmas.List.{append_assoc, append-nil}
 use Rattle.std.specs.Ordering.{ordering_reverse, match_ordering}

@@ -349,7 +349,7 @@ module _ (test : Target → Bool) (strong_only : (target : Target) → target.is
       by None unmixed h = or_from (refers_to test t.key p.0) false (gone_passes_not t.key p.0 (sym (and_truth (stays rows t.key p.0)) ∙ h)) refl
       by (Some v) unmixed h = either v unmixed (and_cases (stays rows t.key p.0) (stays rows v p.1) h)
 
-  -- where the pairs of a map refer on both sides, they go only if neither side refers strongly
+  -- if the pairs of a map refer on both sides, they go only if neither side refers strongly
   pub strong_stays : has_mixed_pairs t ≡ false → (datum : Datum) → list_any test (datum_targets t (pruned_datum rows t datum)) ≡ list_any test (datum_targets t datum)
   strong_stays unmixed (Atoms s) =
       any_left test rows t (Atoms s) ∙ same-filter (refers_to test t.key) (stays rows t.key) (gone_passes_not t.key) (keys s) ∙ sym (any_target test t (Atoms s))

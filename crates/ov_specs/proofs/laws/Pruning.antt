@@ -87,7 +87,7 @@ module _ (rows : Database) (table : Table) (columns : Columns) where
   pub get-pruned_columns : (name : List ℕ) → get (pruned_columns rows (Some table) columns) name ≡ option_map (λ datum. left (name, datum)) (get columns name)
   get-pruned_columns name = get-from_entries name_cmp_total _ name ∙ find-in_anew name_cmp left same_name-is columns name
 
-  -- what is left of a row suits its table, where no value is too short
+  -- what is left of a row suits its table, if no value is too short
   pub pruned_columns_suit : SuitsTable table columns → list_any (has_too_few table) (entries (pruned_columns rows (Some table) columns)) ≡ false → SuitsTable table (pruned_columns rows (Some table) columns)
   pruned_columns_suit suits enough name =
       ap (suits_column (column_of_row table name)) (get-pruned_columns name) ∙ by (is_own_column name) (get table.columns name) (get columns name) refl refl refl (suits name)
@@ -186,7 +186,7 @@ module _ (schema : Schema) (before : Database) (version : Uuid) (rows : Database
   pub pruned_row-without : (r : LineKey × Row) → dangles schema rows r ≡ false → pruned_row schema before version rows r ≡ r.1
   pruned_row-without r none = rw none refl
 
-  -- where no row has any, all stay as they are
+  -- if no row has any, all stay as they are
   pub pruned_without : ((key : LineKey) (row : Row) → get rows key ≡ Some row → dangles schema rows (key, row) ≡ false) → pruned schema before version rows ≡ rows
   pruned_without none = same_map key_total key_exact _ rows (λ key. get-pruned key ∙ by key (get rows key) refl)
     where
@@ -194,7 +194,7 @@ module _ (schema : Schema) (before : Database) (version : Uuid) (rows : Database
       by key None is = refl
       by key (Some row) is = ap Some (pruned_row-without (key, row) (none key row is))
 
-  -- the rows are still those of the schema, where no value of them is too short
+  -- the rows are still those of the schema, if no value of them is too short
   pub pruned_suits : Suits schema before → is_uuid version ≡ true → Suits schema rows → list_any (is_short schema) (entries (pruned schema before version rows)) ≡ false → Suits schema (pruned schema before version rows)
   pruned_suits all is_version suits enough key row is = by (get rows key) refl (sym (get-pruned key) ∙ is)
     where

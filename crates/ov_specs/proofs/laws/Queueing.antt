@@ -1,4 +1,4 @@
--- The queues of locks in the states that a history leads to: they ascend, nobody stands in one twice, and who stands in one is open.
+-- The queues of locks in the states that a history leads to: they ascend, nobody stands in one twice, and all who do are open.
 use Rattle.std.proofs.Common.{◌≡◌, ℕ, List, [], ◌∷◌, ◌++◌, Bool, true, false, cond, eqb, leb, Option, Some, None, inl, inr, refl, sym, ap, subst, ◌∙◌}
 use Rattle.std.specs.Prelude.{◌&&◌, ◌||◌, ◌-◌, codes, option_map, is_some, Result, Ok, Err}
 use Rattle.std.specs.List.Sorted.{IsStrictlySortedBy}
@@ -27,7 +27,7 @@ use Rattle.ov_specs.proofs.laws.Works.{OfOutcome, when_is, try_has, work_has}
 
 -- ---- what a message asks for
 
--- a lock is asked for, or given up, only where that is not refused
+-- a lock is asked for, or given up, only if that is not refused
 abbrev pub IsAllowed : State → ℕ → Work → Type 0
 IsAllowed s n (Answers trees) = Unit {0}
 IsAllowed s n (Transact id operations) = Unit {0}

@@ -58,7 +58,7 @@ module _ (test : LineKey × Row → Bool) where
 
   -- ---- rows of a database
 
-  -- where a row passes the test, one that passes stands at some key
+  -- if a row passes the test, one that passes stands at some key
   pub any_row_is : (rows : Database) → list_any test (entries rows) ≡ true → (key : LineKey) × (row : Row) × (get rows key ≡ Some row) × (test (key, row) ≡ true)
   any_row_is rows any =
       let found : SomeFound (entries rows) = any_found (entries rows) (entries_sorted rows) any in
@@ -68,7 +68,7 @@ module _ (test : LineKey × Row → Bool) where
   pub row_is_any : (rows : Database) (key : LineKey) (row : Row) → get rows key ≡ Some row → test (key, row) ≡ true → list_any test (entries rows) ≡ true
   row_is_any rows key row has is = found_any (entries rows) key row (sym (get-entries rows key) ∙ has) is
 
-  -- where all rows pass the test, the one at a key does
+  -- if all rows pass the test, the one at a key does
   pub all_rows_are : (rows : Database) (key : LineKey) (row : Row) → list_all test (entries rows) ≡ true → get rows key ≡ Some row → test (key, row) ≡ true
   all_rows_are rows key row all has = found_passes (entries rows) key row all (sym (get-entries rows key) ∙ has)
 

@@ -28,9 +28,9 @@ use Rattle.ov_specs.specs.schema.SchemaTypes.{Table, Schema}
 use Rattle.ov_specs.specs.values.Uuid.{Uuid}
 use Rattle.ov_specs.specs.wire.Message.{has_member}
 
--- ---- the result of an operation that is not refused tells of no error
+-- ---- the result of an operation that is not refused has no error
 
--- its result tells of no error, where it has one
+-- its result, if it has one, has no error
 abbrev pub is_plain : OpOutcome → Bool
 is_plain (Done result rows) = not (has_member (codes "error") result)
 is_plain (Fault error) = true
@@ -114,7 +114,7 @@ module _ (c : OpContext) where
 
 -- ---- a transaction with an error among its results
 
--- where its results tell of an error, the database is this one
+-- if its results have an error, the database is this one
 abbrev pub LeavesIfError : Database → TransactionOutcome → Type 0
 LeavesIfError before (Completes results database) = has_error results ≡ true → database ≡ before
 LeavesIfError before (Waits timeout) = Unit {0}

@@ -1,4 +1,4 @@
--- Settling: it leaves schema, moment and serials; at most it closes sessions, and it sends to open ones alone; it takes few tries;
+-- Settling: it leaves schema, moment and serials; it may close sessions, and sends only to open ones; it takes few tries;
 -- and each transaction that is left is blocked.
 use Rattle.std.proofs.Common.{◌≡◌, ℕ, zero, suc, ◌+◌, ◌-◌, ◌*◌, ◌≤◌, List, [], ◌∷◌, ◌++◌, Bool, true, false, cond, eqb, Option, Some, inl, inr, length, map, filter, refl, sym, ap, subst, ◌∙◌, arith}
 use Rattle.std.specs.Prelude.{not, ◌||◌}
@@ -76,8 +76,8 @@ AreToOpen s sent = list_all (λ x. is_open s x.session) sent ≡ true
 abbrev pub StandOpen : State → Type 0
 StandOpen s = EachQueue (AllPass (is_open s)) s.queues
 
--- No session is opened; and where those that stood in queues were open, so are those that stand in them then, and what is sent is
--- sent to sessions that were open.
+-- No session is opened; and if those that stood in queues were open, so are those that stand in them then, and what is sent
+-- is sent to sessions that were open.
 abbrev pub IsWithin : State → State → List Sent → Type 0
 IsWithin s t sent = IsNoMore s t × (StandOpen s → StandOpen t × AreToOpen s sent)
 
@@ -99,14 +99,14 @@ pub to_open : (s : State) (n : ℕ) (trees : List Data) → is_open s n ≡ true
 to_open s n [] there = refl
 to_open s n (tree ∷ trees) there = and_from (is_open s n) (list_all (λ x. is_open s x.session) (to_session n trees)) there (to_open s n trees there)
 
--- and what is told, where those that are told are open
+-- and notifications, if the sessions that receive them are open
 pub told_open : (s : State) (notes : List (ℕ × Data)) → list_all (λ (note : ℕ × Data). is_open s note.0) notes ≡ true → AreToOpen s (told notes)
 told_open s [] all = refl
 told_open s (note ∷ notes) all =
     let parts = and_parts (is_open s note.0) (list_all (λ (n : ℕ × Data). is_open s n.0) notes) all in
     and_from (is_open s note.0) (list_all (λ x. is_open s x.session) (told notes)) parts.0 (told_open s notes parts.1)
 
--- what monitors are told, where their sessions are open
+-- what monitors report, if their sessions are open
 updates_open : (s : State) (after : Database) (sessions : List Session) → list_all (λ (n : Session). is_open s n.serial) sessions ≡ true → AreToOpen s (updates_sent s.database after sessions)
 updates_open s after [] all = refl
 updates_open s after (n ∷ sessions) all =
@@ -145,7 +145,7 @@ pub others_open : (s : State) (n m : ℕ) → eqb m n ≡ false → is_open (clo
 others_open s n m apart =
     any-filter_same (λ (k : Session). eqb k.serial m) (λ k. not (eqb k.serial n)) true (λ k is. ap (λ x. not (eqb x n)) (eqb-true k.serial m is) ∙ ap not apart) s.sessions
 
--- those that become owners are told so
+-- those that become owners are notified
 pub closed_within : (s : State) (n : ℕ) → IsWithin s (closed s n).state (closed s n).sent
 closed_within s n = (
   no_more-closed s n,
@@ -177,8 +177,8 @@ within_kept s = record {
   tries = λ t sent o outcome u h all there again. within-then s t u.state sent u.sent h (try_within t o outcome u there again);
 }
 
--- settling opens no session and leaves schema, moment and serials; and it sends to sessions that were open, where only they stood in
--- queues
+-- settling opens no session and leaves schema, moment and serials; and it sends to sessions that were open, if only such
+-- stood in queues
 pub settle_within_open : (s : State) (number : ℕ) (attempts : List Attempt) (p : Passed) → settle s number attempts ≡ Some p → IsWithin s (left_by p) (sent_by p)
 settle_within_open s number attempts p h = settle_keeps (IsWithin s) (λ o. true) (within_kept s) s number attempts p (no_more-same s s refl refl refl refl, λ stand. (stand, refl)) h
 
@@ -201,7 +201,7 @@ try_counts s o outcome t h =
       waits = λ timeout is. omega (arith, length-append s.outstanding (record o { timeout = timeout } ∷ []));
     }) h
 
--- a pass tries each once at most; where one changed the database, fewer wait behind it
+-- a pass tries each once at most; if one changed the database, fewer wait after it
 pub record PassCounts (s : State) (number : ℕ) (before : List Outstanding) (p : Passed) : Type 0 where
   pub left : waiting (left_by p) + one_if p.has_changed ≤ waiting s + length before
   pub up : number ≤ p.next
@@ -322,6 +322,6 @@ settle_within_blocks (suc most) s number attempts p h few =
 pub settle_blocks : (s : State) (number : ℕ) (attempts : List Attempt) (p : Passed) → settle s number attempts ≡ Some p → AreBlocked (left_by p)
 settle_blocks s number attempts p h = settle_within_blocks (waiting s) s number attempts p h (omega arith)
 
--- where nothing waits, nothing is tried
+-- if nothing waits, nothing is tried
 pub settle_nothing : (s : State) (number : ℕ) (attempts : List Attempt) → s.outstanding ≡ [] → settle s number attempts ≡ Some (passed s number attempts false)
 settle_nothing s number attempts none = ap (λ (os : List Outstanding). settle_within (length os) s number attempts) none

@@ -88,7 +88,7 @@ enough (suc a) (suc b) s number attempts low high = by (pass (emptied s) number 
 abbrev pub settles_again : Passed → Option Passed
 settles_again p = cond p.has_changed (option_map (passes_behind (sent_by p)) (settle (left_by p) p.next p.tried.others)) (Some p)
 
--- the rest of a pass over these, and all passes behind it
+-- the rest of a pass over these, and all passes after it
 abbrev pub settles_on : State → ℕ → List Attempt → List Outstanding → Option Passed
 settles_on s number attempts waiting = option_and_then settles_again (pass s number attempts waiting)
 
@@ -140,7 +140,7 @@ pass-tries s number attempts own o waiting t there list again =
     behind l x = option_map (passes_behind x.stepped.sent) (cond (is_kept l.outcome) (Some (passed (waits_behind x.stepped.state waiting) (number + 1) x.others true)) (pass x.stepped.state (number + 1) x.others waiting))
 
 module _ (s : State) (number : ℕ) (attempts : List Attempt) (own : Listed) (o : Outstanding) (waiting : List Outstanding) (t : Stepped) (there : is_open s o.session ≡ true) (list : listed number attempts ≡ own) (again : tries_again s o own.outcome ≡ Some t) where
-  -- one that changes nothing is followed by those behind it
+  -- one that changes nothing is followed by those after it
   pub on-tries : is_kept own.outcome ≡ false → settles_on s number attempts (o ∷ waiting) ≡ option_map (passes_behind t.sent) (settles_on t.state (number + 1) own.others waiting)
   on-tries not_kept =
       ap (option_and_then settles_again) (pass-tries s number attempts own o waiting t there list again ∙ ap (λ b. option_map (passes_behind t.sent) (cond b (Some (passed (waits_behind t.state waiting) (number + 1) own.others true)) (pass t.state (number + 1) own.others waiting))) not_kept)
@@ -155,8 +155,8 @@ module _ (s : State) (number : ℕ) (attempts : List Attempt) (own : Listed) (o 
 
 -- ---- as a loop keeps it
 
--- Settling from a state, with what was listed so far and whatever is listed of the attempts from this one on, comes to what was sent so
--- far and the rest of settling from here.
+-- Settling from a state, with what was listed so far and whatever is listed of the attempts from this one on, comes to what
+-- was sent so far and the rest of settling from here.
 abbrev pub Reaches : State → ℕ → List Attempt → State → List Sent → ℕ → List Outstanding → Type 0
 Reaches from first made s sent number waiting =
     (more : List Attempt) → AreFrom number more → settle from first (made ++ more) ≡ option_map (passes_behind sent) (settles_on s number more waiting)
@@ -166,7 +166,7 @@ pub reaches_first : (s : State) (number : ℕ) → Reaches s number [] (emptied 
 reaches_first s number more later = settle-begins s number more ∙ sym (behind-nothing (settles_on (emptied s) number more s.outstanding))
 
 module _ (from : State) (first : ℕ) (made : List Attempt) (s : State) (sent : List Sent) (number : ℕ) where
-  -- behind the last try
+  -- after the last try
   pub reaches_last : Reaches from first made s sent number [] → settle from first made ≡ Some (record { tried = record { stepped = record { state = s; sent = sent }; others = [] }; next = number; has_changed = false })
   reaches_last reaches =
       ap (settle from first) (sym (append-nil made)) ∙ (reaches [] refl

@@ -20,14 +20,14 @@ use Rattle.ov_specs.proofs.laws.Lists.{all-filter}
 use Rattle.ov_specs.proofs.laws.Tries.{left_by, IsKeptByTries, settle_keeps, takes_first, tick_first}
 use Rattle.ov_specs.proofs.laws.Works.{OfOutcome, when_is, try_has, work_has}
 
--- It holds of the rows that are committed, and of those that a failed commit would have made; and what was drawn for each transaction
--- that waits passes the test.
+-- It holds of the committed rows, and of those that a failed commit would have made; and what was drawn for each waiting
+-- transaction passes the test.
 pub record Holds (P : Schema → Database → Type 0) (are_drawn : List Uuid → Bool) (s : State) : Type 0 where
   pub committed : P s.schema s.database
   pub sealed : (database : Database) → s.sealed ≡ Some database → P s.schema database
   pub drawn : list_all (λ o. are_drawn o.draws) s.outstanding ≡ true
 
--- each transaction keeps it, at any age, where what is drawn passes the test
+-- each transaction keeps it, at any age, if what is drawn passes the test
 abbrev pub IsKept : (Schema → Database → Type 0) → (List Uuid → Bool) → Type 0
 IsKept P are_drawn =
     (schema : Schema) (before database : Database) (owns : Owns) (draws : List Uuid) (age : ℕ) (operations results : Items) → are_drawn draws ≡ true → P schema before

@@ -1,4 +1,4 @@
--- Each transaction and each step of the machine keeps whole rows whole, where the schema is accepted.
+-- Each transaction and each step of the machine keeps whole rows whole, if the schema is accepted.
 use Rattle.std.proofs.Common.{◌≡◌, ℕ, ◌+◌, List, [], ◌∷◌, true, Some, Result, Ok, Err, refl, sym, subst}
 use Rattle.serde_json.specs.Data.{Data, Items, no_items, item}
 use Rattle.ov_specs.specs.integrity.Committed.{committed, is_whole}
@@ -20,7 +20,7 @@ use Rattle.ov_specs.proofs.laws.StepKeeping.{Holds, IsKept, opening_holds, step_
 
 -- ---- transactions
 
--- the database that a transaction leaves, where it completes, is whole
+-- the database that a transaction leaves, if it completes, is whole
 abbrev pub WholeTransaction : Schema → TransactionOutcome → Type 0
 WholeTransaction schema (Completes results database) = is_whole schema database ≡ true
 WholeTransaction schema (Waits timeout) = Unit {0}
@@ -54,7 +54,7 @@ transaction_whole schema before owns (version ∷ ids) age operations accepted w
 
 -- ---- steps and runs
 
--- the rows are whole, where the schema is accepted
+-- the rows are whole, if the schema is accepted
 abbrev IsWholeUnder : Schema → Database → Type 0
 IsWholeUnder schema database = IsAccepted schema → is_whole schema database ≡ true
 

@@ -28,7 +28,7 @@ left_by p = p.tried.stepped.state
 abbrev pub sent_by : Passed → List Sent
 sent_by p = p.tried.stepped.sent
 
--- what comes behind the first try: the pass ends with a change, or goes on
+-- what comes after the first try: the pass ends with a change, or goes on
 abbrev pub GoesOn : Stepped → ℕ → Listed → List Outstanding → Passed → Type 0
 GoesOn first number own waiting rest =
     ((is_kept own.outcome ≡ true) × (passed (waits_behind first.state waiting) (number + 1) own.others true ≡ rest))
@@ -71,7 +71,7 @@ pass_first s number attempts o waiting p h = by (is_open s o.session) refl h
     by true there k = inr (first there k)
     by false away k = inl (away, k)
 
--- none waits behind
+-- none waits
 abbrev pub emptied : State → State
 emptied s = record s { outstanding = [] }
 
@@ -98,8 +98,8 @@ settle_first most s number attempts p h =
 
 -- ---- what each try keeps
 
--- What holds of a state and of all that was sent on the way to it is kept by each try of a transaction that passes the test, and by
--- setting those that wait aside and back again.
+-- What holds of a state and of all that was sent on the way to it is kept by each try of a transaction that passes the test,
+-- and by setting those that wait aside and back again.
 pub record IsKeptByTries (I : State → List Sent → Type 0) (test : Outstanding → Bool) : Type 0 where
   pub aside : (s : State) (sent : List Sent) → I s sent → I (emptied s) sent × (list_all test s.outstanding ≡ true)
   pub back : (s : State) (sent : List Sent) (waiting : List Outstanding) → I s sent → list_all test waiting ≡ true → I (waits_behind s waiting) sent
@@ -107,7 +107,7 @@ pub record IsKeptByTries (I : State → List Sent → Type 0) (test : Outstandin
       → I t.state (sent ++ t.sent)
 
 module _ (I : State → List Sent → Type 0) (test : Outstanding → Bool) (kept : IsKeptByTries I test) where
-  -- sent behind it
+  -- sent after it
   abbrev Then : List Sent → Passed → Type 0
   Then sent p = I (left_by p) (sent ++ sent_by p)
 
@@ -151,7 +151,7 @@ pub ends_some : (o : Option Tried) (t : Stepped) → ends o ≡ Some t → (x : 
 ends_some None t h = cc
 ends_some (Some x) t h = (x, refl, same_Some x.stepped t (when_is (none_listed x.others) (Some x.stepped) t h))
 
--- The work is done, and where it changed the database, those that wait are tried behind it.
+-- The work is done, and if it changed the database, those that wait are tried after it.
 pub record TakesFirst (s : State) (c : Choice) (n : ℕ) (message : Message) (t : Stepped) : Type 0 where
   pub first : Stepped
   pub work : works s n c.draws (listed 1 c.outcomes).outcome (work_of s n message) ≡ Some first

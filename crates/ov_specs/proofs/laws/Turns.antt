@@ -68,7 +68,7 @@ cause_shut n s t what there away = ap (λ b. cond (b && not (is_open t n)) (Some
 
 -- ---- one step
 
--- an attempt behind which nothing is tried
+-- an attempt after which nothing is tried
 pub ends_tries : (attempt : Option Outcome → Option Stepped) (number : ℕ) (attempts : List Attempt) → ends (tries attempt number attempts) ≡ when (none_listed (listed number attempts).others) (attempt (listed number attempts).outcome)
 ends_tries attempt number attempts = by (attempt (listed number attempts).outcome)
   where
@@ -88,7 +88,8 @@ now s e = record s { moment = e.choice.moment }
 pub stepped : (s : State) (e : Entry) (t : Stepped) (what : Event) → e.event ≡ what → step s e ≡ Some t → happens (now s e) e.choice what ≡ Some t
 stepped s e t what is h = when_is (leb s.moment e.choice.moment) (happens (now s e) e.choice what) t (sym (ap (λ v. when (leb s.moment e.choice.moment) (happens (now s e) e.choice v)) is) ∙ h)
 
--- what an entry makes of a session: whether it is open then, the serial of the next one, what was taken of it, and why it was closed
+-- what an entry makes of a session: whether it is then open, the serial of the next one, what was taken of it, and why it
+-- was closed
 pub record Turn (n : ℕ) (s : State) (e : Entry) (t : State) (open' : Bool) (next : ℕ) (taken : List Message) (cause : Option Cause) : Type 0 where
   pub open_is : is_open t n ≡ open'
   pub next_is : t.next ≡ next
@@ -146,11 +147,12 @@ module _ (n : ℕ) (s : State) (e : Entry) (t : Stepped) (h : step s e ≡ Some 
 
 -- ---- work and tries
 
--- What an entry that takes so much of a session makes of it: it goes on, or it was open and is closed, as memory was refused to it.
+-- What an entry that takes these messages of a session makes of it: it goes on, or it was open and is closed because an
+-- allocation failed.
 abbrev pub MayClose : ℕ → State → Entry → Stepped → List Message → Type 0
 MayClose n s e t taken = Turn n s e t.state (is_open s n) s.next taken None ⊎ ((is_open s n ≡ true) × Turn n s e t.state false s.next taken (Some Memory))
 
--- where no session is opened
+-- if no session is opened
 may_close : (n : ℕ) (s : State) (e : Entry) (t : Stepped) (taken : List Message) → taken_by n e.event ≡ taken → cause_in n e.event ≡ Memory → IsNoMore (now s e) t.state → MayClose n s e t taken
 may_close n s e t taken taken_is cause no_more = elim (cases_Bool (is_open t.state n)) [
   | inl there ↦
@@ -207,7 +209,7 @@ module _ (s : State) (e : Entry) (t : Stepped) (h : step s e ≡ Some t) where
   pub open_to_take : (m : ℕ) (message : Message) → e.event ≡ Take m message → is_open s m ≡ true
   open_to_take m message is = when_suits (is_open s m) (ends (takes_and_settles (now s e) e.choice m message)) t (stepped s e t (Take m message) is h)
 
-  -- the work on a message, and the tries behind it, open no session, and send to sessions that were open
+  -- the work on a message, and the tries after it, open no session, and send to sessions that were open
   pub take_within : (m : ℕ) (message : Message) → e.event ≡ Take m message → IsWithin (now s e) t.state t.sent
   take_within m message is =
       let x = takes_first (now s e) e.choice m message t (when_is (is_open s m) (ends (takes_and_settles (now s e) e.choice m message)) t (stepped s e t (Take m message) is h)) in
@@ -238,7 +240,7 @@ module _ (n : ℕ) (s : State) (e : Entry) (t : Stepped) (h : step s e ≡ Some 
       let taken : taken_by n e.event ≡ message ∷ [] = ap (taken_by n) is ∙ ap (λ b. cond b (message ∷ []) []) (eq-eqb n n refl) in
       may_close n s e t (message ∷ []) taken (ap (cause_in n) is) (take_within s e t h n message is).0
 
-  -- a message of another session is taken, and may close this one too, where a transaction of it waits
+  -- a message of another session is taken, and may close this one too, if a transaction of it waits
   pub turn_take_other : (m : ℕ) (message : Message) → m ≢ n → e.event ≡ Take m message → MayClose n s e t []
   turn_take_other m message ne is =
       let taken : taken_by n e.event ≡ [] = ap (taken_by n) is ∙ ap (λ b. cond b (message ∷ []) []) (ne_eqb m n ne) in

@@ -1,4 +1,4 @@
--- How a model stores a condition. What names no source is our own.
+-- How a model stores a condition.
 use Rattle.std.specs.Prelude.{◌≡◌, refl, get_or, List, [], ◌∷◌, ℕ}
 use Rattle.std.specs.Coded.{Coded, code_by, coded×, coded_ℕ, coded_list}
 use Rattle.ov_specs.specs.values.Value.{Datum}

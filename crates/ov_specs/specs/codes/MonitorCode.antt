@@ -1,4 +1,4 @@
--- How a model stores requests and monitors. What names no source is our own.
+-- How a model stores requests and monitors.
 use Rattle.std.specs.Prelude.{ℕ, Bool, List, Option, refl}
 use Rattle.std.specs.Coded.{Coded, code_by, coded×, coded_ℕ, coded_bool, coded_list, coded_option}
 use Rattle.serde_json.specs.Data.{Data}
@@ -6,7 +6,7 @@ use Rattle.ov_specs.specs.codes.TreeCode.{tree_code}
 use Rattle.ov_specs.specs.monitors.Monitors.{Monitor}
 use Rattle.ov_specs.specs.monitors.Requests.{MonitorSelect, MonitorRequest, MonitoredTable}
 
--- the names of columns, where there are some
+-- the names of columns, if there are any
 abbrev SomeColumns : Type 0
 SomeColumns = Option (List (List ℕ))
 

@@ -1,4 +1,4 @@
--- How a model stores a mutation. What names no source is our own.
+-- How a model stores a mutation.
 use Rattle.std.specs.Prelude.{◌≡◌, refl, get_or, ◌⊎◌, ℕ, ℤ, List, [], ◌∷◌}
 use Rattle.std.specs.Coded.{Coded, code_by, coded×, coded⊎, coded_ℕ, coded_ℤ, coded_list}
 use mathlib.Core.Logic.{inl, inr}

@@ -1,5 +1,4 @@
--- How a tree is stored in the model of a type: as a value of the toolchain's own, told apart by the shape of its first part. What
--- names no source is our own.
+-- How a tree is stored in the model of a type: as a value of the toolchain's own, distinguished by the shape of its first part.
 use Rattle.std.specs.Prelude.{◌≡◌, refl}
 use mathlib.Core.Path.{ap}
 use base.Stored.{Gv, gnil, gnum, gcons, Coded, coded_ℕ, coded_ℤ, coded_bool, coded_list, coded_float}
@@ -33,14 +32,14 @@ abbrev mutual
   members_to no_members = gnil
   members_to (member k d ms) = gcons ((coded_list coded_ℕ).code k) (gcons (tree_to d) (members_to ms))
 
--- numbers stored alike are one
+-- numbers that are stored alike are equal
 num_inj : (x y : Num) → num_code x ≡ num_code y → x ≡ y
 num_inj (unsigned m) (unsigned n) p = cc
 num_inj (negative m) (negative n) p = let q : coded_ℤ.code m ≡ coded_ℤ.code n = cc in ap negative (coded_ℤ.inj m n q)
 num_inj (float m) (float n) p = let q : coded_float.code m ≡ coded_float.code n = cc in ap float (coded_float.inj m n q)
 num_inj x y p = cc
 
--- trees stored alike are one
+-- trees that are stored alike are equal
 mutual
   pub tree_inj : (x y : Data) → tree_to x ≡ tree_to y → x ≡ y
   tree_inj null null p = refl

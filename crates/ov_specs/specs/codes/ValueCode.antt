@@ -1,4 +1,4 @@
--- How a model stores an atom, and a value. What names no source is our own.
+-- How a model stores an atom, and a value.
 use Rattle.std.specs.Prelude.{ℕ, ℤ, Bool, List, ◌⊎◌, ◌≡◌, refl}
 use Rattle.std.specs.Coded.{Coded, code_by, coded⊎, coded_ℕ, coded_ℤ, coded_bool, coded_list}
 use Rattle.std.specs.FinMap as map

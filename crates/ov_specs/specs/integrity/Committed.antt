@@ -1,5 +1,5 @@
--- What a commit makes of the rows that the operations of a transaction left, or why it fails (RFC 7047, 3.2 and 5.2; the order of the
--- rules is our own).
+-- What a commit makes of the rows that the operations of a transaction left, or why it fails (RFC 7047, 3.2 and 5.2; the
+-- order of the rules is this server's).
 use Rattle.std.specs.Prelude.{◌&&◌, ◌||◌, not, map, filter, Bool, if◌then◌else◌, Option, Some, None, Result, Ok, Err}
 use Rattle.std.specs.List.{list_all, list_any}
 use Rattle.std.specs.FinMap.{get, contains_key, keys, entries, from_entries, from_sorted}
@@ -55,7 +55,7 @@ pruned_columns rows (Some table) columns = from_entries (map (λ c. (c.0, pruned
 abbrev pub dangles : Schema → Database → LineKey × Row → Bool
 dangles schema rows r = list_any (is_dangling rows) (row_targets schema r)
 
--- The row without them, where it has some. So the transaction has changed it, or has changed it back (RFC 7047, 3.2, <base-type>).
+-- The row without them, if it has any. The transaction has then changed it, or changed it back (RFC 7047, 3.2, <base-type>).
 abbrev pub pruned_row : Schema → Database → Uuid → Database → LineKey × Row → Row
 pruned_row schema before version rows r =
     if dangles schema rows r then row_now before version r.0 (pruned_columns rows (get schema.tables r.0.0) r.1.columns) else r.1
@@ -66,14 +66,15 @@ pruned schema before version rows = from_sorted {R = line_cmp} (map (λ r. (r.0,
 
 -- ---- the commit
 
--- the rows, where no value is too short, no table has too many rows, and none has two that are alike in an index
+-- the rows, if no value is too short, no table has too many rows, and no table has two rows that are alike in an index
 abbrev pub within_limits : Schema → Database → Result Database OpError
 within_limits schema rows =
     if list_any (is_short schema) (entries rows) || is_over_limits schema rows then Err ConstraintViolation else Ok rows
 
--- What a transaction of this version on the database before makes of the rows that its operations left. A strong reference to a row
--- that is not there is a referential integrity violation. Of the rest the rows that nothing keeps go, and then the weak references to
--- rows that are not there. What then breaks a limit is a constraint violation.
+-- What a transaction of this version, on the database `before`, makes of the rows that its operations left. A strong
+-- reference to a row that is not there is a referential integrity violation. Otherwise the rows that nothing keeps are
+-- removed, and then the weak references to rows that are not there. If a limit is broken then, that is a constraint
+-- violation.
 abbrev pub committed : Schema → Database → Uuid → Database → Result Database OpError
 committed schema before version rows =
     if list_any (is_missing rows) (references schema rows) then Err ReferentialIntegrity

@@ -1,4 +1,5 @@
--- Which rows are kept: a row of a table that is no root table goes where no other row keeps it (RFC 7047, 3.2, <table-schema>, isRoot).
+-- Which rows are kept: a row of a table that is no root table goes if no other row keeps it (RFC 7047, 3.2, <table-schema>,
+-- isRoot).
 use Rattle.std.specs.Prelude.{◌≡◌, ℕ, zero, suc, ◌&&◌, ◌||◌, not, List, map, filter, Bool, true, Some}
 use Rattle.std.specs.List.{list_any}
 use Rattle.std.specs.FinMap.{get, entries, len}
@@ -32,7 +33,7 @@ AreSupported schema rows = (key : LineKey) (row : Row) → get rows key ≡ Some
 abbrev pub AreSome : Database → Database → Type 0
 AreSome all rows = (key : LineKey) (row : Row) → get rows key ≡ Some row → get all key ≡ Some row
 
--- The rows that are kept of all: each that is one of some rows that are supported. They are the greatest such set.
+-- The rows that are kept of all: each that belongs to some rows that are supported. They are the greatest such set.
 pub record IsGreatestSupported (schema : Schema) (all kept : Database) : Type 0 where
   pub some : AreSome all kept
   pub supported : AreSupported schema kept
@@ -44,11 +45,11 @@ pub record IsGreatestSupported (schema : Schema) (all kept : Database) : Type 0 
 abbrev pub unsupported : Schema → Database → List LineKey
 unsupported schema rows = map (λ r. r.0) (filter (λ r. not (is_supported schema rows r.0)) (entries rows))
 
--- the rows that are left where all without support go, so many times
+-- the rows that are left after all rows without support are removed n times
 abbrev pub kept_after : ℕ → Schema → Database → Database
 kept_after zero schema rows = rows
 kept_after (suc n) schema rows = kept_after n schema (without_rows (unsupported schema rows) rows)
 
--- The rows that are kept. Each time but the last one at least goes, so there are no more turns than rows.
+-- The rows that are kept. Each turn but the last removes at least one row, so there are no more turns than rows.
 abbrev pub kept : Schema → Database → Database
 kept schema rows = kept_after (len rows) schema rows

@@ -31,7 +31,7 @@ has_too_many rows t = is_some_and (λ most. int_lt most (pos (length (rows_of t.
 
 -- ---- twice the same
 
--- the same value, where both have one
+-- both have the same value, or neither has one
 abbrev pub is_same_value : Option Datum → Option Datum → Bool
 is_same_value (Some a) (Some b) = same_datum a b
 is_same_value None None = true
@@ -41,7 +41,7 @@ is_same_value a b = false
 abbrev pub are_alike : List (List ℕ) → LineKey × Row → LineKey × Row → Bool
 are_alike index r s = list_all (λ name. is_same_value (get r.1.columns name) (get s.1.columns name)) index
 
--- two of the rows have
+-- two of the rows have the same values in all columns of the index
 abbrev pub has_two_alike : List (List ℕ) → List (LineKey × Row) → Bool
 has_two_alike index [] = false
 has_two_alike index (r ∷ rs) = list_any (are_alike index r) rs || has_two_alike index rs

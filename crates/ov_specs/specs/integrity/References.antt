@@ -19,7 +19,7 @@ pub record RowReference : Type 0 where
 
 -- ---- what a row refers to
 
--- an identifier refers to the row that it names, where its type has a table to refer to (RFC 7047, 3.2, <base-type>, refTable)
+-- an identifier refers to the row that it names, if its type has a table to refer to (RFC 7047, 3.2, <base-type>, refTable)
 abbrev pub target_of : Option Reference → Atom → Option Target
 target_of (Some refers) (Uuid id) = Some (record { key = (refers.table, id); is_strong = refers.is_strong })
 target_of refers a = None

@@ -1,5 +1,5 @@
 -- Named locks, each with a queue of the sessions that asked for it (RFC 7047, 4.1.8). That there is one queue, and where a
--- steal puts its session, is our own: the owner is the first of the queue, whether it came by lock or by steal.
+-- steal puts its session, is this server's choice: the owner is the first of the queue, whether it came by lock or by steal.
 use Rattle.std.specs.Prelude.{◌==◌, ℕ, nat_le, List, [], ◌∷◌, ◌++◌, length, map, codes, Bool, true, not, if◌then◌else◌, Option, Some, None, is_some, option_map, unwrap_or}
 use Rattle.std.specs.BTreeMap.{is_at, insert_entry}
 use Rattle.std.specs.List.{IsDistinct, filter, list_any}
@@ -11,11 +11,11 @@ use Rattle.ov_specs.specs.schema.SchemaTypes.{name_cmp}
 use Rattle.ov_specs.specs.values.Uuid.{is_id}
 use Rattle.ov_specs.specs.wire.Frame.{note_tree}
 
--- for each lock that somebody asked for its queue of sessions, which is not empty; ascending by the bytes of the locks' names
+-- for each lock that a session asked for, its queue of sessions, which is not empty; ascending by the bytes of the locks' names
 abbrev pub Queues : Type 0
 Queues = List (List ℕ × List ℕ)
 
--- they ascend so
+-- the queues ascend by name
 abbrev pub DoQueuesAscend : Queues → Type 0
 DoQueuesAscend queues = IsStrictlySortedBy name_cmp (keys_of queues)
 
@@ -64,7 +64,7 @@ abbrev pub names_of : ℕ → Queues → List (List ℕ)
 names_of session [] = []
 names_of session (e ∷ queues) = if stands_in session e.1 then e.0 ∷ names_of session queues else names_of session queues
 
--- how many these are
+-- how many locks the session asked for
 abbrev pub requests_of : ℕ → Queues → ℕ
 requests_of session queues = length (names_of session queues)
 
@@ -74,7 +74,7 @@ lock_limit = 256
 
 -- ---- asking for a lock, and giving it up
 
--- with this queue of the lock; a lock that nobody asks for is listed no more
+-- with this queue of the lock; a lock that nobody asks for is no longer listed
 abbrev pub with_queue : List ℕ → List ℕ → Queues → Queues
 with_queue name [] queues = remove_entry (is_at (name_cmp name)) queues
 with_queue name (session ∷ queue) queues = insert_entry name_cmp queues name (session ∷ queue)
@@ -83,7 +83,7 @@ with_queue name (session ∷ queue) queues = insert_entry name_cmp queues name (
 abbrev pub lock : List ℕ → ℕ → Queues → Queues
 lock name session queues = with_queue name (queue_of name queues ++ session ∷ []) queues
 
--- steal: the session goes to the front, and the former owner stands behind it (RFC 7047, 4.1.8; the place is our own)
+-- steal: the session goes to the front, and the former owner comes next (RFC 7047, 4.1.8; the place is this server's choice)
 abbrev pub steal : List ℕ → ℕ → Queues → Queues
 steal name session queues = with_queue name (session ∷ queue_of name queues) queues
 
@@ -96,7 +96,7 @@ abbrev pub next_in : ℕ → List ℕ → Option ℕ
 next_in session [] = None
 next_in session (first ∷ queue) = if first == session then first_of (without session queue) else None
 
--- unlock: the session leaves the queue, be it as the owner or not (RFC 7047, 4.1.8)
+-- unlock: the session leaves the queue, whether it is the owner or not (RFC 7047, 4.1.8)
 abbrev pub unlock : List ℕ → ℕ → Queues → Queues
 unlock name session queues = with_queue name (without session (queue_of name queues)) queues
 
@@ -125,7 +125,7 @@ abbrev pub freed : ℕ → Queues → List (ℕ × List ℕ)
 freed session [] = []
 freed session (e ∷ queues) = freed_before (next_in session e.1) e.0 (freed session queues)
 
--- ---- what is answered and told
+-- ---- replies and notifications
 
 -- what is asked of a lock (RFC 7047, 4.1.8)
 pub data LockCall : Type 0 where
@@ -133,14 +133,14 @@ pub data LockCall : Type 0 where
   Steal : LockCall
   Unlock : LockCall
 
--- Why a lock is not given to the session, as it is told: it has asked for it already, or for as many as it may (RFC 7047, 4.1.8; the
--- texts and the limit are our own).
+-- Why a lock is not given to the session, as text: it has asked for it already, or for as many as it may (RFC 7047, 4.1.8;
+-- the texts and the limit are this server's).
 abbrev pub lock_refusal : List ℕ → ℕ → Queues → Option (List ℕ)
 lock_refusal name session queues =
     if has_requested session name queues then Some (codes "lock already requested")
     else (if nat_le lock_limit (requests_of session queues) then Some (codes "resources exhausted") else None)
 
--- why it is not given up: it was not asked for (RFC 7047, 4.1.8; the text is our own)
+-- why it is not given up: it was not asked for (RFC 7047, 4.1.8; the text is this server's)
 abbrev pub unlock_refusal : List ℕ → ℕ → Queues → Option (List ℕ)
 unlock_refusal name session queues = if has_requested session name queues then None else Some (codes "lock not held")
 
@@ -160,11 +160,11 @@ after_call Unlock name session queues = unlock name session queues
 abbrev pub lock_result : Bool → Data
 lock_result is_owner = object (member (codes "locked") (boolean is_owner) no_members)
 
--- to a session that has become the owner by another's leaving (RFC 7047, 4.1.9)
+-- to a session that has become the owner because another left (RFC 7047, 4.1.9)
 abbrev pub locked_note : List ℕ → Data
 locked_note name = note_tree (codes "locked") (item (string name) no_items)
 
--- to a session that another has stolen the lock from (RFC 7047, 4.1.10)
+-- to a session from which another has stolen the lock (RFC 7047, 4.1.10)
 abbrev pub stolen_note : List ℕ → Data
 stolen_note name = note_tree (codes "stolen") (item (string name) no_items)
 
@@ -174,13 +174,13 @@ call_result Lock name queues = lock_result (not (is_some (owner name queues)))
 call_result Steal name queues = lock_result true
 call_result Unlock name queues = object no_members
 
--- who is told of a call, and what: the former owner that the lock is stolen, or the next one that it is given on (RFC 7047, 4.1.9,
--- 4.1.10)
+-- which session a call notifies, and of what: the former owner, that the lock is stolen, or the next one, that it has the
+-- lock (RFC 7047, 4.1.9, 4.1.10)
 abbrev pub told_of_call : LockCall → List ℕ → ℕ → Queues → Option (ℕ × Data)
 told_of_call Lock name session queues = None
 told_of_call Steal name session queues = option_map (λ former. (former, stolen_note name)) (owner name queues)
 told_of_call Unlock name session queues = option_map (λ next. (next, locked_note name)) (next_owner name session queues)
 
--- who is told of a session's leaving, and what, in ascending order of the locks' names (RFC 7047, 4.1.9)
+-- which sessions a session's leaving notifies, and of what, in ascending order of the locks' names (RFC 7047, 4.1.9)
 abbrev pub told_of_leaving : ℕ → Queues → List (ℕ × Data)
 told_of_leaving session queues = map (λ f. (f.0, locked_note f.1)) (freed session queues)

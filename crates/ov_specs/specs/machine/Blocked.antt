@@ -5,11 +5,11 @@ use Rattle.ov_specs.specs.locks.Queues.{owns}
 use Rattle.ov_specs.specs.machine.Machine.{State, Outstanding}
 use Rattle.ov_specs.specs.operations.Transaction.{Waits, transaction}
 
--- Tried on the database, at the age that it has by now and with the locks that its session owns, it would wait, and with the timeout
+-- Tried on the database now, at its present age and with the locks that its session owns, it would wait, with the timeout
 -- that is kept of it.
 abbrev pub IsBlocked : State → Outstanding → Type 0
 IsBlocked s o = transaction s.schema s.database (owns s.queues o.session) o.draws (s.moment - o.arrival) o.operations ≡ Waits o.timeout
 
--- each that waits is blocked
+-- each waiting transaction is blocked
 abbrev pub AreBlocked : State → Type 0
 AreBlocked s = All (IsBlocked s) s.outstanding

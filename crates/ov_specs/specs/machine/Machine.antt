@@ -1,5 +1,4 @@
--- The machine: what one event makes of its state and what it sends, given what the outside chose (our own, over RFC 7047, 4).
--- What names no source is our own.
+-- The machine: what one event makes of its state and what it sends, given what the outside chose (RFC 7047, 4).
 use Rattle.std.specs.Prelude.{◌≡◌, ◌⊎◌, ℕ, zero, suc, ◌+◌, ◌-◌, ◌==◌, ◌&&◌, not, nat_le, min, List, [], ◌∷◌, ◌++◌, length, map, filter, Bool, true, false, if◌then◌else◌, Option, Some, None, is_some, option_map, option_and_then, option_to_list, unwrap_or, codes, Result, Ok, Err}
 use Rattle.std.specs.List.{list_any, find, filter_map, flat_map}
 use Rattle.serde_json.specs.Data.{Data, array, object, no_members, Items, no_items, item}
@@ -37,7 +36,8 @@ pub data Event : Type 0 where
   Close : (session : ℕ) (cause : Cause) → Event
   Tick : Event
 
--- what came of an attempt: the store kept its changes, refused them for memory or their size, or failed; or memory was refused
+-- what came of an attempt: the store kept its changes, refused them for lack of memory or for their size, or failed; or an
+-- allocation failed
 pub data Outcome : Type 0 where
   Committed : Outcome
   Exhausted : Outcome
@@ -49,8 +49,8 @@ pub record Attempt : Type 0 where
   pub number : ℕ
   pub outcome : Outcome
 
--- The moment in milliseconds, the identifiers drawn, and what came of the attempts that are listed: an attempt that is not
--- listed made no store call and was refused no memory.
+-- The moment in milliseconds, the identifiers drawn, and what came of the attempts that are listed. An attempt that is not
+-- listed made no store call, and no allocation failed in it.
 pub record Choice : Type 0 where
   pub moment : ℕ
   pub draws : List Uuid
@@ -68,8 +68,8 @@ pub record Session : Type 0 where
   pub serial : ℕ
   pub monitors : List Monitor  -- in order of creation
 
--- A transaction that waits: of which session, the id that it is answered under, what was drawn for it, its operations, the moment
--- of its arrival, and the timeout, if any, of the wait that blocked its last try (RFC 7047, 4.1.3, 5.2.6).
+-- A waiting transaction: its session, the id of its reply, the identifiers drawn for it, its operations, the moment of its
+-- arrival, and the timeout, if any, of the wait that blocked its last try (RFC 7047, 4.1.3, 5.2.6).
 pub record Outstanding : Type 0 where
   pub session : ℕ
   pub id : Data
@@ -89,7 +89,7 @@ pub record State : Type 0 where
   pub next : ℕ  -- the serial of the next session
   pub moment : ℕ  -- the last one
 
--- before any event: the database as it was opened, no session is open, no lock is asked for, serials begin with 1
+-- before any event: the database as it was opened, no open session, and no lock asked for; serials begin with 1
 abbrev pub opening : Schema → Database → State
 opening schema database = record { schema = schema; database = database; sealed = None; sessions = []; queues = []; outstanding = []; next = 1; moment = 0 }
 
@@ -101,7 +101,7 @@ Left s d = (d ≡ s.database) ⊎ (s.sealed ≡ Some d)
 abbrev pub is_open : State → ℕ → Bool
 is_open s session = list_any (λ n. n.serial == session) s.sessions
 
--- the state with one session more, which has the next serial
+-- the state with one more session, which has the next serial
 abbrev pub with_next_session : State → State
 with_next_session s = record s { sessions = s.sessions ++ record { serial = s.next; monitors = [] } ∷ []; next = s.next + 1 }
 
@@ -113,11 +113,11 @@ monitors_of session s = unwrap_or (option_map (λ n. n.monitors) (find (λ n. n.
 abbrev pub session_watching : ℕ → List Monitor → Session → Session
 session_watching session monitors n = record n { monitors = if n.serial == session then monitors else n.monitors }
 
--- the state where the session has these monitors
+-- the state in which the session has these monitors
 abbrev pub with_monitors : ℕ → List Monitor → State → State
 with_monitors session monitors s = record s { sessions = map (session_watching session monitors) s.sessions }
 
--- these without the ones of the session
+-- these without those of the session
 abbrev pub of_others : ℕ → List Outstanding → List Outstanding
 of_others session waiting = filter (λ o. not (o.session == session)) waiting
 
@@ -129,7 +129,7 @@ without_session session s = record s {
   outstanding = of_others session s.outstanding;
 }
 
--- Two ids are the same where their texts are (our own).
+-- Two ids are the same if their texts are.
 abbrev pub same_id : Data → Data → Bool
 same_id a b = bytes_eq (compact_text a) (compact_text b)
 
@@ -149,7 +149,7 @@ without_request session id s = record s { outstanding = filter (λ o. not (is_re
 abbrev pub waiting_of : ℕ → State → ℕ
 waiting_of session s = length (filter (λ o. o.session == session) s.outstanding)
 
--- the most of them (our own)
+-- how many transactions of a session may wait
 abbrev pub most_waiting : ℕ
 most_waiting = 64
 
@@ -157,11 +157,11 @@ most_waiting = 64
 abbrev pub last_moment : ℕ
 last_moment = 18446744073709551615
 
--- when the transaction times out, if it does and its moment comes
+-- when the transaction times out, if it has a timeout and that moment is not after the last one
 abbrev pub timeout_of : Outstanding → Option ℕ
 timeout_of o = option_and_then (λ timeout. if nat_le (o.arrival + timeout) last_moment then Some (o.arrival + timeout) else None) o.timeout
 
--- the least of these and that one, if there is one
+-- the least of this and that one, if there is one
 abbrev pub least_with : ℕ → Option ℕ → ℕ
 least_with n None = n
 least_with n (Some m) = min n m
@@ -171,7 +171,7 @@ abbrev pub least : List ℕ → Option ℕ
 least [] = None
 least (n ∷ others) = Some (least_with n (least others))
 
--- when the first of the transactions that wait times out
+-- when the first of the waiting transactions times out
 abbrev pub due : State → Option ℕ
 due s = least (filter_map timeout_of s.outstanding)
 
@@ -187,8 +187,8 @@ pub record Stepped : Type 0 where
 
 -- ---- the work on a message
 
--- what a message asks for: to be answered at once, a transaction, to cancel one that waits, a lock, or with this result that the
--- monitors of its session are these (RFC 7047, 4.1)
+-- what a message asks for: an answer at once, a transaction, to cancel one that waits, a lock, or that its session has these
+-- monitors, with this result (RFC 7047, 4.1)
 pub data Work : Type 0 where
   Answers : (trees : List Data) → Work
   Transact : (id : Data) (operations : Items) → Work
@@ -204,14 +204,14 @@ answered id result = Answers (reply_tree id result ∷ [])
 abbrev pub refused : Data → List ℕ → Work
 refused id text = Answers (failure_tree id text ∷ [])
 
--- A transaction is not tried where one of its session with this id waits, or as many of its session as may (our own).
+-- A transaction is not tried if one of its session with this id waits, or if as many of its session wait as may.
 abbrev pub transact_work : State → ℕ → Data → Items → Work
 transact_work s session id operations =
     if is_waiting s session id then refused id (codes "duplicate request id")
     else (if nat_le most_waiting (waiting_of session s) then refused id (codes "resources exhausted")
     else Transact id operations)
 
--- a transaction on the database that is named, which is the one that is served (RFC 7047, 4.1.3)
+-- a transaction on the named database, which must be the one that is served (RFC 7047, 4.1.3)
 abbrev pub transact_call_on : State → ℕ → Data → Option (List ℕ) → Items → Work
 transact_call_on s session id None operations = refused id (codes "syntax error")
 transact_call_on s session id (Some name) operations = if bytes_eq name s.schema.name then transact_work s session id operations else refused id (codes "unknown database")
@@ -221,7 +221,7 @@ abbrev pub transact_call : State → ℕ → Data → Items → Work
 transact_call s session id no_items = refused id (codes "syntax error")
 transact_call s session id (item d operations) = transact_call_on s session id (as_str d) operations
 
--- the schema of the database that is named, which is the one that is served, as it was read (RFC 7047, 4.1.2)
+-- the schema, as it was read, of the named database, which must be the one that is served (RFC 7047, 4.1.2)
 abbrev pub schema_call_on : State → Data → Option (List ℕ) → Work
 schema_call_on s id None = refused id (codes "syntax error")
 schema_call_on s id (Some name) = if bytes_eq name s.schema.name then answered id s.schema.tree else refused id (codes "unknown database")
@@ -237,7 +237,7 @@ abbrev pub unless_refused : Data → Option (List ℕ) → Work → Work
 unless_refused id None work = work
 unless_refused id (Some text) work = refused id text
 
--- what is asked of the lock that is named (RFC 7047, 4.1.8)
+-- what is asked of the named lock (RFC 7047, 4.1.8)
 abbrev pub lock_call_on : State → ℕ → Data → LockCall → Option (List ℕ) → Work
 lock_call_on s session id call None = refused id (codes "syntax error")
 lock_call_on s session id call (Some name) = unless_refused id (call_refusal call name session s.queues) (Locks call id name)
@@ -248,12 +248,12 @@ lock_call s session id call no_items = refused id (codes "syntax error")
 lock_call s session id call (item d no_items) = lock_call_on s session id call (lock_name (as_str d))
 lock_call s session id call (item d (item e items)) = refused id (codes "syntax error")
 
--- the monitors with one of this name more, and what it is told at first (RFC 7047, 4.1.5)
+-- the monitors with one more, of this name, and what it reports at first (RFC 7047, 4.1.5)
 abbrev pub monitor_work : State → Data → Data → Result (List Monitor) MonitorFault → Work
 monitor_work s id name (Ok monitors) = Watches id (initial_of s.database name monitors) monitors
 monitor_work s id name (Err fault) = refused id (monitor_fault_text fault)
 
--- a monitor of the database that is named, which is the one that is served (RFC 7047, 4.1.5)
+-- a monitor of the named database, which must be the one that is served (RFC 7047, 4.1.5)
 abbrev pub monitor_call_on : State → ℕ → Data → Option (List ℕ) → Data → Data → Work
 monitor_call_on s session id None name requests = refused id (codes "syntax error")
 monitor_call_on s session id (Some database) name requests =
@@ -276,8 +276,8 @@ monitor_cancel_call s session id no_items = refused id (codes "syntax error")
 monitor_cancel_call s session id (item name no_items) = monitor_cancel_work id (canceled (monitors_of session s) name)
 monitor_cancel_call s session id (item name (item d items)) = refused id (codes "syntax error")
 
--- what a call asks for, method by method; no other is known (RFC 7047, 4.1.1 to 4.1.3, 4.1.5, 4.1.7, 4.1.8, 4.1.11; the last is our
--- own)
+-- what a call asks for, by its method; no other method is known (RFC 7047, 4.1.1 to 4.1.3, 4.1.5, 4.1.7, 4.1.8, 4.1.11; the
+-- refusal of others is this server's)
 abbrev pub call_of : State → ℕ → Data → List ℕ → Items → Work
 call_of s session id method params =
     if bytes_eq method (codes "list_dbs") then answered id (database_names s.schema.name)
@@ -291,7 +291,7 @@ call_of s session id method params =
     else (if bytes_eq method (codes "monitor_cancel") then monitor_cancel_call s session id params
     else refused id (codes "unknown method")))))))))
 
--- the params of "cancel": the id of a transaction of the session that waits; others do nothing (RFC 7047, 4.1.4)
+-- the params of "cancel": the id of a waiting transaction of the session; others do nothing (RFC 7047, 4.1.4)
 abbrev pub cancel_note : State → ℕ → Items → Work
 cancel_note s session no_items = Answers []
 cancel_note s session (item id no_items) = if is_waiting s session id then Cancels id else Answers []
@@ -301,7 +301,8 @@ cancel_note s session (item id (item d items)) = Answers []
 abbrev pub note_of : State → ℕ → List ℕ → Items → Work
 note_of s session method params = if bytes_eq method (codes "cancel") then cancel_note s session params else Answers []
 
--- what a message of the session asks for: an answer asks for nothing, and what can't be taken is told so (JSON-RPC 1.0, 1)
+-- what a message of the session asks for: a reply asks for nothing, and what can't be taken is answered with an error
+-- (JSON-RPC 1.0, 1)
 abbrev pub work_of : State → ℕ → Message → Work
 work_of s session (Call id method params) = call_of s session id method params
 work_of s session (Note method params) = note_of s session method params
@@ -312,15 +313,15 @@ work_of s session (Bad id kind) = refused id (bad_text kind)
 abbrev pub to_session : ℕ → List Data → List Sent
 to_session session trees = map (λ tree. record { session = session; tree = tree }) trees
 
--- notifications, each to whom it is for
+-- notifications, each to its session
 abbrev pub told : List (ℕ × Data) → List Sent
 told notes = map (λ note. record { session = note.0; tree = note.1 }) notes
 
--- The session is closed, and is sent nothing. Those that become the owners of its locks are told so (RFC 7047, 4.1.9).
+-- The session is closed, and is sent nothing. Those that become the owners of its locks are notified (RFC 7047, 4.1.9).
 abbrev pub closed : State → ℕ → Stepped
 closed s session = record { state = without_session session s; sent = told (told_of_leaving session s.queues) }
 
--- These are sent, and the store is not asked: so it answers nothing.
+-- These are sent. The store is not asked, so it answers nothing.
 abbrev pub sends_at_once : State → List Sent → Option Outcome → Option Stepped
 sends_at_once s sent None = Some (record { state = s; sent = sent })
 sends_at_once s sent (Some outcome) = None
@@ -335,22 +336,23 @@ results_of id results = reply_tree id (array results) ∷ []
 abbrev pub results_to : ℕ → Data → Items → List Sent
 results_to session id results = to_session session (results_of id results)
 
--- what the monitors are told of a change of the database, session by session in order of opening, and monitor by monitor in order of
--- creation (RFC 7047, 4.1.6; the order is our own)
+-- what the monitors report of a change of the database, by session in order of opening, and by monitor in order of creation
+-- (RFC 7047, 4.1.6; the order is this server's)
 abbrev pub updates_sent : Database → Database → List Session → List Sent
 updates_sent before after sessions = flat_map (λ n. to_session n.serial (map update_note (all_updates before after n.monitors))) sessions
 
--- What comes of the store's answer: where it keeps the change, the database is the new one, and the monitors are told of it before
--- the reply; where it refuses the change for memory or its size, nothing is changed; where it fails, the database stays and is sealed.
+-- What comes of the store's answer. If it keeps the change, the database is the new one, and the updates of the monitors are
+-- sent before the reply. If it refuses the change for lack of memory or for its size, nothing is changed. If it fails, the
+-- database stays and is sealed.
 abbrev pub commits : State → ℕ → Data → Items → Database → Option Outcome → Option Stepped
 commits s session id results database (Some Committed) = Some (record { state = record s { database = database }; sent = updates_sent s.database database s.sessions ++ results_to session id results })
 commits s session id results database (Some Exhausted) = Some (record { state = s; sent = results_to session id (exhausted_results results) })
 commits s session id results database (Some Failed) = Some (record { state = record s { sealed = Some database }; sent = results_to session id (failed_results results) })
 commits s session id results database outcome = None
 
--- What comes of a transaction with these results and this database after it. Where that is the database as it was, the store is
--- not asked; a sealed database asks the store no more, and answers as where it fails; else the store is asked to keep the change
--- (RFC 7047, 4.1.3).
+-- What comes of a transaction with these results and this database after it. If that is the database as it was, the store is
+-- not asked. A sealed database no longer asks the store, and answers as if the store failed. Otherwise the store is asked to
+-- keep the change (RFC 7047, 4.1.3).
 abbrev pub completes : State → ℕ → Data → Items → Database → Option Outcome → Option Stepped
 completes s session id results database outcome =
     if same_database s.database database then sends_at_once s (results_to session id results) outcome
@@ -376,7 +378,7 @@ attempt s o (Waits timeout) outcome = sends_at_once (waits_on s o timeout) [] ou
 abbrev pub none_listed : List Attempt → Bool
 none_listed attempts = length attempts == 0
 
--- the answer, where the choice suits
+-- the answer, if the choice suits
 abbrev pub when : {A : Type 0} → Bool → Option A → Option A
 when suits answer = if suits then answer else None
 
@@ -385,7 +387,7 @@ pub record Listed : Type 0 where
   pub outcome : Option Outcome
   pub others : List Attempt
 
--- what is listed of the attempt with this number, where the attempts before it are taken off the list
+-- what is listed of the attempt with this number, once the attempts before it are off the list
 abbrev pub listed : ℕ → List Attempt → Listed
 listed number [] = record { outcome = None; others = [] }
 listed number (a ∷ attempts) = if a.number == number then record { outcome = Some a.outcome; others = attempts } else record { outcome = None; others = a ∷ attempts }
@@ -395,19 +397,19 @@ pub record Tried : Type 0 where
   pub stepped : Stepped
   pub others : List Attempt
 
--- The attempt with this number takes what is listed of it, and hands on what is listed of those after it.
+-- The attempt with this number takes what is listed of it, and passes on what is listed of those after it.
 abbrev pub tries : (Option Outcome → Option Stepped) → ℕ → List Attempt → Option Tried
 tries attempt number attempts = option_map (λ t. record { stepped = t; others = (listed number attempts).others }) (attempt (listed number attempts).outcome)
 
--- nothing more is tried: so no attempt is listed any more
+-- nothing more is tried, so no more attempts may be listed
 abbrev pub ends : Option Tried → Option Stepped
 ends None = None
 ends (Some tried) = when (none_listed tried.others) (Some tried.stepped)
 
 -- ---- settling: the transactions that wait are tried again
 
--- The transaction is tried again, at the age that it has by now, with the locks that its session owns by now. Where memory was
--- refused, its session is closed in its place.
+-- The transaction is tried again, at its present age and with the locks that its session owns now. If an allocation fails,
+-- its session is closed instead.
 abbrev pub tries_again : State → Outstanding → Option Outcome → Option Stepped
 tries_again s o (Some NoMemory) = Some (closed s o.session)
 tries_again s o outcome = attempt s o (transaction s.schema s.database (owns s.queues o.session) o.draws (s.moment - o.arrival) o.operations) outcome
@@ -420,7 +422,7 @@ is_kept (Some Exhausted) = false
 is_kept (Some Failed) = false
 is_kept (Some NoMemory) = false
 
--- What tries one after another come to, the number of the next, and whether the last one changed the database.
+-- What tries, one after another, come to; the number of the next; and whether the last one changed the database.
 pub record Passed : Type 0 where
   pub tried : Tried
   pub next : ℕ
@@ -430,7 +432,7 @@ pub record Passed : Type 0 where
 abbrev pub passed : State → ℕ → List Attempt → Bool → Passed
 passed s number attempts has_changed = record { tried = record { stepped = record { state = s; sent = [] }; others = attempts }; next = number; has_changed = has_changed }
 
--- sent first, and then what was sent on the way
+-- these are sent first, and then what was sent on the way
 abbrev pub passes_behind : List Sent → Passed → Passed
 passes_behind sent p = record p { tried = record p.tried { stepped = record p.tried.stepped { sent = sent ++ p.tried.stepped.sent } } }
 
@@ -438,12 +440,13 @@ passes_behind sent p = record p { tried = record p.tried { stepped = record p.tr
 abbrev pub still_waiting : State → List Outstanding → List Outstanding
 still_waiting s waiting = filter (λ o. is_open s o.session) waiting
 
--- these wait behind those that wait already
+-- these wait after those that wait already
 abbrev pub waits_behind : State → List Outstanding → State
 waits_behind s waiting = record s { outstanding = s.outstanding ++ still_waiting s waiting }
 
--- One pass over transactions that wait, in order of arrival: each is tried, and one that is blocked waits again. A try that
--- changes the database ends the pass, and those behind it wait on. None is tried of a session that was closed on the way.
+-- One pass over waiting transactions, in order of arrival: each is tried, and one that is blocked waits again. A try that
+-- changes the database ends the pass, and those after it go on waiting. A transaction of a session that was closed on the
+-- way is not tried.
 abbrev pub pass : State → ℕ → List Attempt → List Outstanding → Option Passed
 pass s number attempts [] = Some (passed s number attempts false)
 pass s number attempts (o ∷ waiting) =
@@ -456,15 +459,15 @@ pass s number attempts (o ∷ waiting) =
     (tries (tries_again s o) number attempts)
     else pass s number attempts waiting
 
--- Passes from the first on again, until one has come to its end without a change of the database. Each other one answers a
--- transaction, so there are at most as many of them as transactions wait.
+-- Passes, each from the first waiting transaction on, until one ends without a change of the database. Each other pass
+-- answers a transaction, so there are at most as many of those as there are waiting transactions.
 abbrev pub settle_within : ℕ → State → ℕ → List Attempt → Option Passed
 settle_within zero s number attempts = Some (passed s number attempts false)
 settle_within (suc most) s number attempts = option_and_then
     (λ p. if p.has_changed then option_map (passes_behind p.tried.stepped.sent) (settle_within most p.tried.stepped.state p.next p.tried.others) else Some p)
     (pass (record s { outstanding = [] }) number attempts s.outstanding)
 
--- all transactions that wait are tried, beginning with the attempt of this number (our own)
+-- all waiting transactions are tried, beginning with the attempt of this number
 abbrev pub settle : State → ℕ → List Attempt → Option Passed
 settle s number attempts = settle_within (length s.outstanding) s number attempts
 
@@ -486,14 +489,14 @@ draws_for (Cancels id) = 0
 draws_for (Locks call id name) = 0
 draws_for (Watches id result monitors) = 0
 
--- the queues of locks are changed: the session is answered, and another may be told of it (RFC 7047, 4.1.8)
+-- the queues of locks are changed: the session is answered, and another may be notified (RFC 7047, 4.1.8)
 abbrev pub locks : State → ℕ → LockCall → Data → List ℕ → Stepped
 locks s session call id name = record {
   state = record s { queues = after_call call name session s.queues };
   sent = to_session session (reply_tree id (call_result call name s.queues) ∷ []) ++ told (option_to_list (told_of_call call name session s.queues));
 }
 
--- the work, done with the identifiers that were drawn for it, and with the store's answer where it was asked
+-- the work, done with the identifiers that were drawn for it, and with the store's answer if it was asked
 abbrev pub does : State → ℕ → List Uuid → Option Outcome → Work → Option Stepped
 does s session draws outcome (Answers trees) = sends_at_once s (to_session session trees) outcome
 does s session draws outcome (Transact id operations) = attempt s (arrived s session id draws operations) (transaction s.schema s.database (owns s.queues session) draws 0 operations) outcome
@@ -501,8 +504,8 @@ does s session draws outcome (Cancels id) = sends_at_once (without_request sessi
 does s session draws outcome (Locks call id name) = sends_at_once (locks s session call id name).state (locks s session call id name).sent outcome
 does s session draws outcome (Watches id result monitors) = sends_at_once (with_monitors session monitors s) (to_session session (reply_tree id result ∷ [])) outcome
 
--- The work, with the identifiers that were drawn for it and what is listed of it. Where memory was refused, at most as many
--- were drawn as are wanted, and the session is closed; else just so many were drawn, and the work is done.
+-- The work, with the identifiers drawn for it and what is listed of it. If an allocation failed, at most as many were drawn
+-- as are wanted, and the session is closed; else exactly as many were drawn, and the work is done.
 abbrev pub works : State → ℕ → List Uuid → Option Outcome → Work → Option Stepped
 works s session draws (Some NoMemory) work = when (nat_le (length draws) (draws_for work)) (Some (closed s session))
 works s session draws outcome work = when (length draws == draws_for work) (does s session draws outcome work)
@@ -511,7 +514,7 @@ works s session draws outcome work = when (length draws == draws_for work) (does
 abbrev pub takes : State → Choice → ℕ → Message → Option Tried
 takes s c session message = tries (λ outcome. works s session c.draws outcome (work_of s session message)) 1 c.outcomes
 
--- After an attempt that changed the database the transactions that wait are tried: these are the attempts after it.
+-- After an attempt that changed the database, the waiting transactions are tried: these are the attempts after it.
 abbrev pub then_settles : Bool → Tried → Option Tried
 then_settles false t = Some t
 then_settles true t = option_map (λ p. (passes_behind t.stepped.sent p).tried) (settle t.stepped.state 2 t.others)
@@ -527,6 +530,6 @@ happens s c (Take session message) = when (is_open s session) (ends (takes_and_s
 happens s c (Close session cause) = when (is_without_choice c && is_open s session) (Some (closed s session))
 happens s c Tick = when (none_drawn c) (ends (option_map (λ p. p.tried) (settle s 1 c.outcomes)))
 
--- the next state and what is sent, or None where the choice does not suit; the moment is not below the last one
+-- the next state and what is sent, or None if the choice does not suit; the moment is not before the last one
 abbrev pub step : State → Entry → Option Stepped
 step s e = when (nat_le s.moment e.choice.moment) (happens (record s { moment = e.choice.moment }) e.choice e.event)

@@ -1,10 +1,9 @@
--- Which histories a list of stream events makes: the bytes that sessions bring, in whatever pieces, become entries. What names no
--- source is our own.
+-- Which histories a list of stream events makes: the bytes that sessions bring, in whatever pieces, become entries.
 use Rattle.std.specs.Prelude.{◌≡◌, ◌⊎◌, ℕ, ◌==◌, ◌++◌, max, map, List, [], ◌∷◌, Bool, true, false, if◌then◌else◌, MatchBool, Some}
 use Rattle.ov_specs.specs.wire.Message.{Message, asked}
 use Rattle.ov_specs.specs.machine.Machine.{State, Entry, Event, Open, Take, Close, Tick, InputEnded, Damaged, Memory, Stepped, step, is_open}
 
--- A session opens, bytes of a session come, its bytes end, time passes; session n is the one that was opened n-th.
+-- A session opens, bytes of a session arrive, its bytes end, time passes; session n is the n-th that was opened.
 pub data StreamEvent : Type 0 where
   Opens : StreamEvent
   Feed : (session : ℕ) (bytes : List ℕ) → StreamEvent
@@ -19,7 +18,7 @@ Streams = ℕ → List ℕ
 abbrev pub no_streams : Streams
 no_streams session = []
 
--- these bytes more of a session
+-- with these bytes more of a session
 abbrev pub with_fed : Streams → ℕ → List ℕ → Streams
 with_fed streams session bytes other = if other == session then streams other ++ bytes else streams other
 
@@ -29,8 +28,8 @@ pub record IsEntryAt (at : ℕ) (s : State) (what : Event) (entry : Entry) (t : 
   pub moment : entry.choice.moment ≡ max at s.moment
   pub step : step s entry ≡ Some t
 
--- The entries of the messages that a piece of the session's stream ends, and then of damage, if it is new. "Out of memory" may
--- close the session in place of each, and behind the last; once it is closed nothing of it follows.
+-- The entries of the messages that a piece of the session's stream completes, and then of damage, if it is new. "Out of
+-- memory" may close the session in place of each, and after the last; nothing of a closed session follows.
 abbrev pub Feeds : ℕ → State → ℕ → List Message → Bool → List Entry → State → Type 0
 Feeds at s n [] false [] new = new ≡ s
 Feeds at s n [] true [] new = ⊥

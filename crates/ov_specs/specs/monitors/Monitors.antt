@@ -1,4 +1,4 @@
--- The monitors of a session: how one comes, and how it goes (RFC 7047, 4.1.5 and 4.1.7). What names no source is our own.
+-- The monitors of a session: how one is added, and how it is canceled (RFC 7047, 4.1.5 and 4.1.7).
 use Rattle.std.specs.Prelude.{ℕ, nat_le, not, List, [], ◌∷◌, ◌++◌, length, filter, Bool, if◌then◌else◌, Option, Some, None, Result, Ok, Err}
 use Rattle.std.specs.List.{list_any}
 use Rattle.std.specs.Str.{bytes_eq}
@@ -7,7 +7,8 @@ use Rattle.ov_specs.specs.monitors.Requests.{MonitorFault, Syntax, Duplicate, Un
 use Rattle.ov_specs.specs.schema.SchemaTypes.{Schema}
 use Rattle.ov_specs.specs.wire.Frame.{frame}
 
--- a monitor: the JSON value that names it, and what it tells of which tables, in ascending order of their names (RFC 7047, 4.1.5)
+-- a monitor: the JSON value that names it, and what it reports of which tables, in ascending order of their names (RFC 7047,
+-- 4.1.5)
 pub record Monitor : Type 0 where
   pub id : Data
   pub tables : List MonitoredTable
@@ -16,19 +17,19 @@ pub record Monitor : Type 0 where
 abbrev pub max_monitors : ℕ
 max_monitors = 64
 
--- the monitor is named by this value: two are one where they are sent as the same text
+-- the monitor is named by this value: two values are the same if they are sent as the same text
 abbrev pub is_named : Data → Monitor → Bool
 is_named id m = bytes_eq (frame m.id) (frame id)
 
 -- ---- one more
 
--- the monitors with one more behind them, in order of creation, or the fault
+-- the monitors with one more after them, in order of creation, or the fault
 abbrev pub with_monitor : List Monitor → Data → Result (List MonitoredTable) MonitorFault → Result (List Monitor) MonitorFault
 with_monitor monitors id (Err fault) = Err fault
 with_monitor monitors id (Ok tables) = Ok (monitors ++ record { id = id; tables = tables } ∷ [])
 
--- A monitor of these requests, where they read: its name is new, the session has not as many as it may, and all tables and columns
--- are known.
+-- A monitor of these requests, if they read: its name is new, the session has fewer monitors than it may, and all tables and
+-- columns are known.
 abbrev pub added_of : Schema → List Monitor → Data → Option (List TableRequests) → Result (List Monitor) MonitorFault
 added_of schema monitors id None = Err Syntax
 added_of schema monitors id (Some requests) =
@@ -36,8 +37,8 @@ added_of schema monitors id (Some requests) =
     else (if nat_le max_monitors (length monitors) then Err Limit
     else with_monitor monitors id (monitored_tables schema requests))
 
--- The monitors of a session with one more, or why it is refused: that the requests don't read comes before all else (RFC 7047,
--- 4.1.5; the order is our own).
+-- The monitors of a session with one more, or why it is refused; requests that don't read are refused before all else (RFC
+-- 7047, 4.1.5; the order is this server's).
 abbrev pub added : Schema → List Monitor → Data → Data → Result (List Monitor) MonitorFault
 added schema monitors id requests = added_of schema monitors id (requests_read requests)
 

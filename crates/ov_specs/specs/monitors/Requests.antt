@@ -1,5 +1,4 @@
--- What is asked of a monitor: which columns of which tables it tells of, and at which kinds of change (RFC 7047, 4.1.5). What names
--- no source is our own.
+-- What is asked of a monitor: which columns of which tables it reports, and at which kinds of change (RFC 7047, 4.1.5).
 use Rattle.std.specs.Prelude.{ℕ, not, List, [], ◌∷◌, filter, Bool, true, if◌then◌else◌, Option, Some, None, option_map, option_and_then, unwrap_or, codes, Result, Ok, Err}
 use Rattle.std.specs.List.{flat_map, list_all, list_any}
 use Rattle.std.specs.FinMap.{get, contains_key, keys}
@@ -13,14 +12,14 @@ use Rattle.ov_specs.specs.values.Reading.{in_front, each_read, list_read}
 
 -- ---- requests
 
--- which kinds of change are told (RFC 7047, 4.1.5, <monitor-select>)
+-- which kinds of change are reported (RFC 7047, 4.1.5, <monitor-select>)
 pub record MonitorSelect : Type 0 where
   pub initial : Bool
   pub insert : Bool
   pub delete : Bool
   pub modify : Bool
 
--- one request for a table: the columns that it names, or all but `_uuid`, and when they are told (RFC 7047, 4.1.5,
+-- one request for a table: the columns that it names, or all but `_uuid`, and when they are reported (RFC 7047, 4.1.5,
 -- <monitor-request>)
 pub record MonitorRequest : Type 0 where
   pub columns : Option (List (List ℕ))
@@ -39,7 +38,7 @@ pub data MonitorFault : Type 0 where
   Unknown : MonitorFault
   Limit : MonitorFault
 
--- the text that the client is sent
+-- the text that the client receives
 abbrev pub monitor_fault_text : MonitorFault → List ℕ
 monitor_fault_text Syntax = codes "syntax error"
 monitor_fault_text UnknownTable = codes "unknown table"
@@ -50,12 +49,12 @@ monitor_fault_text Limit = codes "resources exhausted"
 
 -- ---- reading them
 
--- true where nothing is said, and else a truth value (RFC 7047, 4.1.5, <monitor-select>)
+-- true if it is absent, else a truth value (RFC 7047, 4.1.5, <monitor-select>)
 abbrev pub flag_read : Option Data → Option Bool
 flag_read None = Some true
 flag_read (Some d) = as_bool d
 
--- with the flag of this name, where it reads
+-- goes on with the flag of this name, if it reads
 abbrev pub on_flag : {A : Type 0} → List ℕ → Data → (Bool → Option A) → Option A
 on_flag name d next = option_and_then next (flag_read (find.get name d))
 
@@ -84,7 +83,8 @@ abbrev pub request_read : Data → Option MonitorRequest
 request_read d = option_and_then (λ members.
     option_and_then (λ columns. with_columns columns (select_read (find.get (codes "select") d))) (columns_read (find.get (codes "columns") d))) (as_object d)
 
--- each request of an array, or the one that stands by itself (RFC 7047, 4.1.5, <monitor-requests>; that it may is our own)
+-- each request of an array, or the one that stands by itself (RFC 7047, 4.1.5, <monitor-requests>; that it may is this
+-- server's choice)
 abbrev pub one_or_each : Option Items → Data → Option (List MonitorRequest)
 one_or_each None d = option_map (λ r. r ∷ []) (request_read d)
 one_or_each (Some items) d = each_read request_read items
@@ -93,7 +93,7 @@ one_or_each (Some items) d = each_read request_read items
 abbrev pub requested_columns : List MonitorRequest → List (List ℕ)
 requested_columns requests = flat_map (λ r. unwrap_or r.columns []) requests
 
--- the requests, where they name no column twice
+-- the requests, if they name no column twice
 abbrev pub naming_once : List MonitorRequest → Option (List MonitorRequest)
 naming_once requests = if has_twice (requested_columns requests) then None else Some requests
 
@@ -112,7 +112,7 @@ requests_read d = option_and_then each_table_read (as_object d)
 
 -- ---- what they come to
 
--- What is told of a table: at each kind of change the columns, in ascending order, or None where it is not told at all.
+-- What is reported of a table: at each kind of change the columns, in ascending order, or None if it is not reported at all.
 pub record MonitoredTable : Type 0 where
   pub table : List ℕ
   pub initial : Option (List (List ℕ))
@@ -120,12 +120,13 @@ pub record MonitoredTable : Type 0 where
   pub delete : Option (List (List ℕ))
   pub modify : Option (List (List ℕ))
 
--- the column is one of these, or any but `_uuid` (RFC 7047, 4.1.5, <monitor-request>; that `_version` is among them is our own)
+-- the column is one of these, or any but `_uuid` (RFC 7047, 4.1.5, <monitor-request>; that `_version` is among them is this
+-- server's choice)
 abbrev pub is_one_of : Option (List (List ℕ)) → List ℕ → Bool
 is_one_of None name = not (bytes_eq name (codes "_uuid"))
 is_one_of (Some names) name = list_any (bytes_eq name) names
 
--- the columns of the table that one of the requests is about, or None where there is no request
+-- the columns of the table that one of the requests is about, or None if there is no request
 abbrev pub told_columns : Table → List MonitorRequest → Option (List (List ℕ))
 told_columns table [] = None
 told_columns table (r ∷ requests) = Some (filter (λ name. list_any (λ request. is_one_of request.columns name) (r ∷ requests)) (keys table.columns))
@@ -151,7 +152,7 @@ and_table (Err fault) others = Err fault
 and_table (Ok table) (Err fault) = Err fault
 and_table (Ok table) (Ok others) = Ok (table ∷ others)
 
--- the tables in ascending order, each looked at wholly before the next one
+-- the tables in ascending order, each checked wholly before the next one
 abbrev pub monitored_tables : Schema → List TableRequests → Result (List MonitoredTable) MonitorFault
 monitored_tables schema [] = Ok []
 monitored_tables schema (t ∷ ts) = and_table (monitored_table (get schema.tables t.0) t) (monitored_tables schema ts)

@@ -1,4 +1,4 @@
--- comment: a text for a log, of which this server has none (RFC 7047, 5.2.9).
+-- comment: a text for a log, which this server does not have (RFC 7047, 5.2.9).
 use Rattle.std.specs.Prelude.{codes}
 use Rattle.serde_json.specs.Data.{Data}
 use Rattle.ov_specs.specs.operations.Errors.{SyntaxError}
@@ -6,6 +6,6 @@ use Rattle.ov_specs.specs.operations.Members.{text_at}
 use Rattle.ov_specs.specs.operations.OpOutcome.{OpOutcome, Done, empty_result, some_or_fault}
 use Rattle.ov_specs.specs.rows.Database.{Database}
 
--- "comment" is a text, whichever (RFC 7047, 5.2.9)
+-- "comment" is any text (RFC 7047, 5.2.9)
 abbrev pub comment_outcome : Database → Data → OpOutcome
 comment_outcome rows d = some_or_fault (text_at (codes "comment") d) SyntaxError (λ text. Done empty_result rows)

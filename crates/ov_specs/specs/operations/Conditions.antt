@@ -1,4 +1,4 @@
--- The conditions of a "where", and whether a row meets one (RFC 7047, 5.1, <condition>). What names no source is our own.
+-- The conditions of a "where", and whether a row meets one (RFC 7047, 5.1, <condition>).
 use Rattle.std.specs.Prelude.{pos, ℤ, int_lt, int_le, nat_eq, ◌&&◌, not, is_none, List, [], ◌∷◌, ℕ, Bool, true, false, if◌then◌else◌, Option, Some, None, option_map, option_and_then, unwrap_or, codes, Result, Ok, Err}
 use Rattle.std.specs.List.{list_all}
 use Rattle.std.specs.FinMap.{get, contains_key, keys, entries}
@@ -34,13 +34,13 @@ pub record Condition : Type 0 where
   pub function : Function
   pub value : Datum
 
--- why a tree is no condition: it is built wrong, names no column, or has a key with two values
+-- why a tree is no condition: it is malformed, names no column, or has a key with two values
 pub data ConditionFault : Type 0 where
   BadCondition : ConditionFault
   NoColumn : ConditionFault
   Clash : ConditionFault
 
--- the error of the operation (RFC 7047, 5.2; which one is our own)
+-- the error of the operation (RFC 7047, 5.2; which one is this server's choice)
 abbrev pub condition_error : ConditionFault → OpError
 condition_error BadCondition = SyntaxError
 condition_error NoColumn = UnknownColumn
@@ -48,7 +48,7 @@ condition_error Clash = ConstraintViolation
 
 -- ---- reading one
 
--- [column,word,value], not yet judged: what conditions and mutations are built like (RFC 7047, 5.1, <condition> and <mutation>)
+-- [column,word,value], not yet judged: the form of conditions and mutations (RFC 7047, 5.1, <condition> and <mutation>)
 pub record Triple : Type 0 where
   pub column : List ℕ
   pub word : List ℕ
@@ -60,7 +60,7 @@ triple None word value = None
 triple (Some column) None value = None
 triple (Some column) (Some word) value = Some (record { column = column; word = word; value = value })
 
--- three items and no more (RFC 7047, 5.1, <condition>)
+-- exactly three items (RFC 7047, 5.1, <condition>)
 abbrev pub three_items : Items → Option Triple
 three_items no_items = None
 three_items (item column no_items) = None
@@ -89,7 +89,7 @@ function_of word =
 abbrev is_one : ℤ → Bool
 is_one n = int_le (pos 1) n && int_le n (pos 1)
 
--- one atom, no more and no less (RFC 7047, 3.2, <type>)
+-- exactly one atom (RFC 7047, 3.2, <type>)
 abbrev pub is_scalar : ColumnType → Bool
 is_scalar t = is_none t.value && is_one t.min && unwrap_or (option_map is_one t.max) false
 
@@ -100,7 +100,7 @@ is_integers Booleans = false
 is_integers Texts = false
 is_integers Uuids = false
 
--- the function is allowed on the column: an order on one integer alone, the others on every type (RFC 7047, 5.1, <function>)
+-- the function is allowed on the column: an order only on one integer, the others on every type (RFC 7047, 5.1, <function>)
 abbrev pub allows_function : ColumnType → Function → Bool
 allows_function t Less = is_scalar t && is_integers t.key.kind
 allows_function t LessOrEqual = is_scalar t && is_integers t.key.kind
@@ -111,11 +111,11 @@ allows_function t NotEqual = true
 allows_function t Includes = true
 allows_function t Excludes = true
 
--- the function of the word, where it is allowed on the column (RFC 7047, 5.1, <function>)
+-- the function of the word, if it is allowed on the column (RFC 7047, 5.1, <function>)
 abbrev pub function_on : ColumnType → List ℕ → Option Function
 function_on t word = option_and_then (λ f. if allows_function t f then Some f else None) (function_of word)
 
--- the value has one atom where the column is a scalar
+-- the value has one atom if the column is a scalar
 abbrev pub has_right_count : ColumnType → Datum → Bool
 has_right_count t value = if is_scalar t then nat_eq (count value) 1 else true
 
@@ -145,8 +145,8 @@ abbrev pub condition_of : Names → Table → Option Triple → Result Condition
 condition_of names table None = Err BadCondition
 condition_of names table (Some c) = condition_on names c (get table.columns c.column)
 
--- The condition that a tree is, or the first fault: its shape, its column, the function on that column, its value (our own, over
--- RFC 7047, 5.1, <condition>).
+-- The condition that a tree is, or the first fault: its shape, its column, the function on that column, its value (this
+-- server's order, over RFC 7047, 5.1, <condition>).
 abbrev pub condition_read : Names → Table → Data → Result Condition ConditionFault
 condition_read names table d = condition_of names table (triple_read d)
 
@@ -166,7 +166,7 @@ abbrev pub number_in : Datum → Option ℤ
 number_in (Atoms atoms) = lone_integer (keys atoms)
 number_in (Pairs pairs) = None
 
--- two numbers, and they stand so (RFC 7047, 5.1, <function>)
+-- two numbers, and they pass the test (RFC 7047, 5.1, <function>)
 abbrev pub are_numbers_so : (ℤ → ℤ → Bool) → Option ℤ → Option ℤ → Bool
 are_numbers_so test None n = false
 are_numbers_so test (Some m) None = false

@@ -1,4 +1,4 @@
--- How many identifiers are drawn for a transaction (RFC 7047, 5.2.1). What names no source is our own.
+-- How many identifiers are drawn for a transaction (RFC 7047, 5.2.1).
 use Rattle.std.specs.Prelude.{ℕ, ◌+◌, Bool, if◌then◌else◌, codes}
 use Rattle.serde_json.specs.Data.{Data, Items, no_items, item}
 use Rattle.ov_specs.specs.operations.Members.{text_at}
@@ -13,6 +13,6 @@ abbrev pub insert_count : Items → ℕ
 insert_count no_items = 0
 insert_count (item d operations) = (if is_insert d then 1 else 0) + insert_count operations
 
--- how many identifiers are drawn: the version, and one for each insert, also for one that will be refused
+-- how many identifiers are drawn: the version, and one for each insert, even one that will be refused
 abbrev pub draws_wanted : Items → ℕ
 draws_wanted operations = 1 + insert_count operations

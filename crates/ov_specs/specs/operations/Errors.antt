@@ -1,4 +1,4 @@
--- Why an operation, or the commit, fails, and what the client is told (RFC 7047, 3.1 and 5.2).
+-- Why an operation, or the commit, fails, and the error that the client receives (RFC 7047, 3.1 and 5.2).
 use Rattle.std.specs.Prelude.{ℕ, List, [], ◌∷◌, codes}
 use Rattle.serde_json.specs.Data.{Data, string}
 use Rattle.ov_specs.specs.rows.Database.{object_of}
@@ -21,7 +21,7 @@ pub data OpError : Type 0 where
   ResourcesExhausted : OpError
   InputOutput : OpError
 
--- the text that the client is sent (RFC 7047, 3.1, <error>; "unknown .." and "duplicate uuid" are our own)
+-- the text that the client receives (RFC 7047, 3.1, <error>; "unknown .." and "duplicate uuid" are this server's)
 abbrev pub error_text : OpError → List ℕ
 error_text SyntaxError = codes "syntax error"
 error_text UnknownTable = codes "unknown table"

@@ -11,11 +11,12 @@ use Rattle.ov_specs.specs.values.Reading.{Reading, Reads, Unreadable, Clashing, 
 use Rattle.ov_specs.specs.values.Uuid.{Names}
 use Rattle.ov_specs.specs.values.Value.{Datum}
 
--- which columns a row may be given: a new row all but `_uuid` and `_version` (RFC 7047, 5.2.1)
+-- the columns that a new row may be given: all but `_uuid` and `_version` (RFC 7047, 5.2.1)
 abbrev pub may_be_new : List ℕ → Column → Bool
 may_be_new name column = not (is_own_column name)
 
--- a row that is there only those that are mutable too (RFC 7047, 5.2.3, and 3.2, <column-schema>)
+-- the columns that an existing row may be given: those of a new row that are also mutable (RFC 7047, 5.2.3, and 3.2,
+-- <column-schema>)
 abbrev pub may_be_changed : List ℕ → Column → Bool
 may_be_changed name column = not (is_own_column name) && column.is_mutable
 
@@ -25,26 +26,26 @@ fitting_reading column Unreadable = Err SyntaxError
 fitting_reading column Clashing = Err ConstraintViolation
 fitting_reading column (Reads datum) = if fits column.type_of datum then Ok datum else Err ConstraintViolation
 
--- The value that a column is given. In this order: the table has the column (an unknown column), the column may be given one (a
--- constraint violation), the tree reads (a syntax error; a constraint violation where one key has two values), and its value fits
--- (a constraint violation).
+-- The value that a column is given. In this order: the table has the column (else an unknown column), the column may be
+-- given one (else a constraint violation), the tree reads (else a syntax error, or a constraint violation if one key has two
+-- values), and its value fits (else a constraint violation).
 abbrev pub given_value : (List ℕ → Column → Bool) → Names → List ℕ → Option Column → Data → Result Datum OpError
 given_value may_be names name None d = Err UnknownColumn
 given_value may_be names name (Some column) d =
     if may_be name column then fitting_reading column (reads names (kinds_of column.type_of) d) else Err ConstraintViolation
 
--- one column more, and then the rest; or the fault of this one
+-- one more column, and then the rest; or the fault of this one
 abbrev pub with_column : Result Datum OpError → (Datum → Result Columns OpError) → Result Columns OpError
 with_column (Err error) next = Err error
 with_column (Ok datum) next = next datum
 
--- the columns, where there is no fault, and then the rest
+-- the columns, if there is no fault, and then the rest
 abbrev pub and_then_columns : Result Columns OpError → (Columns → Result Columns OpError) → Result Columns OpError
 and_then_columns (Err error) next = Err error
 and_then_columns (Ok columns) next = next columns
 
--- The columns given beside those there are, in ascending order of their names, as a tree has its members; or the fault of
--- the first that has one (RFC 7047, 5.1, <row>).
+-- The given columns, beside those that are there, in ascending order of their names, as a tree has its members; or the fault
+-- of the first that has one (RFC 7047, 5.1, <row>).
 abbrev pub given_values : (List ℕ → Column → Bool) → Names → Table → Members → Columns → Result Columns OpError
 given_values may_be names table no_members columns = Ok columns
 given_values may_be names table (member name d members) columns =

@@ -1,4 +1,4 @@
--- insert: a row is made of "row" and put under the identifier that was drawn for it (RFC 7047, 5.2.1).
+-- insert: makes a row of "row" and puts it under the identifier that was drawn for it (RFC 7047, 5.2.1).
 use Rattle.std.specs.Prelude.{ℕ, ◌||◌, not, List, [], ◌∷◌, if◌then◌else◌, Option, Some, None, codes, Result, Ok, Err}
 use Rattle.std.specs.FinMap.{empty, contains_key, insert, entries}
 use Rattle.serde_json.specs.Data.{Data, Members}
@@ -35,7 +35,7 @@ name_fault c place (Some d) = name_text_fault c place (as_str d)
 
 -- ---- its columns
 
--- the default of a column, where it fits (RFC 7047, 5.2.1; that a default may not fit is our own)
+-- the default of a column, if it fits (RFC 7047, 5.2.1; that a default may not fit is this server's)
 abbrev pub fitting_default : Column → Result Datum OpError
 fitting_default column = if fits column.type_of (default_of column.type_of) then Ok (default_of column.type_of) else Err ConstraintViolation
 
@@ -56,15 +56,15 @@ new_row names table members = and_then_columns (given_values may_be_new names ta
 abbrev pub insert_result : Uuid → Data
 insert_result id = object_of ((codes "uuid", atom_tree (value.Uuid id)) ∷ [])
 
--- The row under its identifier, which no row of the table may have. Each insert has one drawn, so there always is one.
+-- Puts the row under its identifier, which no row of the table may have. One is drawn for each insert, so there always is one.
 abbrev pub put_new : OpContext → Database → List ℕ → Columns → Option Uuid → OpOutcome
 put_new c rows table columns None = Fault ResourcesExhausted
 put_new c rows table columns (Some id) =
     if contains_key rows (table, id) then Fault DuplicateUuid
     else Done (insert_result id) (insert rows (table, id) (row_now c.before c.version (table, id) columns))
 
--- The insert at this place of the transaction. Its members are looked at in this order: "table"; "uuid", which can't be chosen yet;
--- "uuid-name"; "row" (RFC 7047, 5.2.1; the order is our own).
+-- The insert at this place of the transaction. Its members are checked in this order: "table"; "uuid", which can't be chosen
+-- yet; "uuid-name"; "row" (RFC 7047, 5.2.1; the order is this server's).
 abbrev pub insert_outcome : OpContext → ℕ → Database → Data → OpOutcome
 insert_outcome c place rows d = on_table c d (λ name table.
     if has_member (codes "uuid") d then Fault SyntaxError

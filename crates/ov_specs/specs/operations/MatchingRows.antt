@@ -26,8 +26,8 @@ abbrev pub and_condition : Result Condition ConditionFault → Result (List Cond
 and_condition (Err fault) others = Err (condition_error fault)
 and_condition (Ok condition) others = and_others (condition ∷ []) others
 
--- The conditions of a "where", each read wholly before the next one, or the error of the first that does not read (RFC
--- 7047, 5.2.2; the order is our own).
+-- The conditions of a "where", each read wholly before the next one, or the error of the first that does not read (RFC 7047,
+-- 5.2.2; the order is this server's).
 abbrev pub conditions_read : Names → Table → Items → Result (List Condition) OpError
 conditions_read names table no_items = Ok []
 conditions_read names table (item d ds) = and_condition (condition_read names table d) (conditions_read names table ds)

@@ -1,4 +1,4 @@
--- mutate: the mutations are applied to the rows that match (RFC 7047, 5.2.4).
+-- mutate: applies the mutations to the rows that match (RFC 7047, 5.2.4).
 use Rattle.std.specs.Prelude.{List, [], ◌∷◌, length, Option, Some, None, codes, Result, Ok, Err}
 use Rattle.std.specs.FinMap.{get, insert}
 use Rattle.serde_json.specs.Data.{Data, Items, no_items, item}
@@ -22,8 +22,8 @@ and_mutation (Err fault) others = Err (mutation_error fault)
 and_mutation (Ok mutation) (Err error) = Err error
 and_mutation (Ok mutation) (Ok others) = Ok (mutation ∷ others)
 
--- The mutations, each read wholly before the next one, or the fault of the first that has one. No row is looked at for it (RFC
--- 7047, 5.2.4; the order is our own).
+-- The mutations, each read wholly before the next one, or the fault of the first that has one. No row is looked at for this
+-- (RFC 7047, 5.2.4; the order is this server's).
 abbrev pub mutations_read : Names → Table → Items → Result (List Mutation) OpError
 mutations_read names table no_items = Ok []
 mutations_read names table (item d ds) = and_mutation (mutation_read names table d) (mutations_read names table ds)
@@ -46,7 +46,8 @@ abbrev pub mutated_value : Mutation → Option Datum → Result Datum OpError
 mutated_value m None = Err ConstraintViolation
 mutated_value m (Some datum) = mutated_or_error (mutated m.type_of m.change datum)
 
--- the mutations one after another on the columns of a row; each value is tested before the next mutation (RFC 7047, 5.2.4)
+-- applies the mutations one after another to the columns of a row; each value is tested before the next mutation (RFC 7047,
+-- 5.2.4)
 abbrev pub mutated_columns : List Mutation → Columns → Result Columns OpError
 mutated_columns [] columns = Ok columns
 mutated_columns (m ∷ mutations) columns =
@@ -58,17 +59,17 @@ and_row key (Err error) others = Err error
 and_row key (Ok columns) (Err error) = Err error
 and_row key (Ok columns) (Ok others) = Ok ((key, columns) ∷ others)
 
--- the rows one after another, or the error of the first that has one (RFC 7047, 5.2.4; the order is our own)
+-- the rows one after another, or the error of the first that has one (RFC 7047, 5.2.4; the order is this server's)
 abbrev pub mutated_rows : List Mutation → List (LineKey × Row) → Result (List (LineKey × Columns)) OpError
 mutated_rows mutations [] = Ok []
 mutated_rows mutations (r ∷ found) = and_row r.0 (mutated_columns mutations r.1.columns) (mutated_rows mutations found)
 
--- the mutations are applied to these rows (RFC 7047, 5.2.4)
+-- applies the mutations to these rows (RFC 7047, 5.2.4)
 abbrev pub mutates : OpContext → List Mutation → List (LineKey × Row) → Database → OpOutcome
 mutates c mutations found rows = ok_or_fault (mutated_rows mutations found) (λ changed. Done (count_result (length found)) (put_rows c changed rows))
 
--- Its members are looked at in this order: "table", "where", "mutations"; and then the rows, in ascending order of their
--- identifiers (RFC 7047, 5.2.4; the order is our own).
+-- Its members are checked in this order: "table", "where", "mutations"; and then the rows, in ascending order of their
+-- identifiers (RFC 7047, 5.2.4; the order is this server's).
 abbrev pub mutate_outcome : OpContext → Database → Data → OpOutcome
 mutate_outcome c rows d = on_table c d (λ name table. on_conditions c table d (λ conditions.
     some_or_fault (array_at (codes "mutations") d) SyntaxError (λ items.

@@ -1,4 +1,4 @@
--- The mutations of a "mutate", and what they make of a column (RFC 7047, 5.1, <mutation>). What names no source is our own.
+-- The mutations of a "mutate", and what they make of a column (RFC 7047, 5.1, <mutation>).
 use Rattle.std.specs.Prelude.{ℕ, ℤ, pos, ◌+ℤ◌, ◌-ℤ◌, ◌*ℤ◌, int_div, int_rem, int_le, ◌&&◌, ◌||◌, not, is_none, is_some, List, [], ◌∷◌, ◌++◌, map, filter, Bool, false, if◌then◌else◌, Option, Some, None, option_and_then, codes, Result, Ok, Err}
 use Rattle.std.specs.List.{list_any, list_all}
 use Rattle.std.specs.FinMap.{get, contains_key, keys, entries}
@@ -31,7 +31,8 @@ pub data Mutator : Type 0 where
   Inserts : Mutator
   Deletes : Mutator
 
--- What is done to a value: its numbers are computed, elements come, elements go. A set that goes from a map is one of keys (RFC 7047, 5.1, <mutator>).
+-- What is done to a value: its numbers are computed, elements are inserted, or elements are deleted. A set that is deleted
+-- from a map is a set of keys (RFC 7047, 5.1, <mutator>).
 pub data Change : Type 0 where
   Compute : (operator : Operator) (by : ℤ) → Change
   Insert : (elements : Datum) → Change
@@ -43,14 +44,14 @@ pub record Mutation : Type 0 where
   pub type_of : ColumnType
   pub change : Change
 
--- why a tree is no mutation: it is built wrong, names no column, has a key with two values, or its column is not mutable
+-- why a tree is no mutation: it is malformed, names no column, has a key with two values, or its column is not mutable
 pub data MutationFault : Type 0 where
   BadMutation : MutationFault
   NoColumn : MutationFault
   Clash : MutationFault
   NotMutable : MutationFault
 
--- the error of the operation (RFC 7047, 5.2; which one is our own)
+-- the error of the operation (RFC 7047, 5.2; which one is this server's choice)
 abbrev pub mutation_error : MutationFault → OpError
 mutation_error BadMutation = SyntaxError
 mutation_error NoColumn = UnknownColumn
@@ -71,13 +72,14 @@ mutator_of word =
     else (if bytes_eq word (codes "delete") then Some Deletes
     else None))))))
 
--- the mutator is allowed on the column: computing on integers, scalar or set, the others on sets and maps (RFC 7047, 5.1, <mutator>)
+-- the mutator is allowed on the column: computing on integers, scalar or set, the others on sets and maps (RFC 7047, 5.1,
+-- <mutator>)
 abbrev pub allows_mutator : ColumnType → Mutator → Bool
 allows_mutator t (Computes operator) = is_none t.value && is_integers t.key.kind
 allows_mutator t Inserts = not (is_scalar t)
 allows_mutator t Deletes = not (is_scalar t)
 
--- the mutator of the word, where it is allowed on the column (RFC 7047, 5.1, <mutator>)
+-- the mutator of the word, if it is allowed on the column (RFC 7047, 5.1, <mutator>)
 abbrev pub mutator_on : ColumnType → List ℕ → Option Mutator
 mutator_on t word = option_and_then (λ m. if allows_mutator t m then Some m else None) (mutator_of word)
 
@@ -87,7 +89,7 @@ change_with change reading.Unreadable = Err BadMutation
 change_with change reading.Clashing = Err Clash
 change_with change (Reads elements) = Ok (change elements)
 
--- computing with a number, where there is one (RFC 7047, 5.1, <mutation>)
+-- computing with a number, if there is one (RFC 7047, 5.1, <mutation>)
 abbrev pub compute_with : Operator → Option ℤ → Result Change MutationFault
 compute_with operator None = Err BadMutation
 compute_with operator (Some by) = Ok (Compute operator by)
@@ -98,8 +100,8 @@ integer_of reading.Unreadable = None
 integer_of reading.Clashing = None
 integer_of (Reads value) = number_in value
 
--- what goes from a column: a tree that begins with "map" is a map, and another one on a map is a set of its keys (our own, over
--- RFC 7047, 5.1, <mutation>)
+-- what is deleted from a column: on a map, a tree that begins with "map" is a map, and any other is a set of its keys (this
+-- server's rule, over RFC 7047, 5.1, <mutation>)
 abbrev pub deleted_kinds : Kinds → Data → Kinds
 deleted_kinds (Single kind) d = Single kind
 deleted_kinds (Pair key value) d = if is_some (behind (codes "map") d) then Pair key value else Single key
@@ -131,12 +133,12 @@ mutation_of names table None = Err BadMutation
 mutation_of names table (Some m) = mutation_on names m (get table.columns m.column)
 
 -- The mutation that a tree is, or the first fault: its shape, its column, whether that is mutable, the mutator on it, its
--- value (our own, over RFC 7047, 5.1, <mutation>).
+-- value (this server's order, over RFC 7047, 5.1, <mutation>).
 abbrev pub mutation_read : Names → Table → Data → Result Mutation MutationFault
 mutation_read names table d = mutation_of names table (triple_read d)
 
--- Elements of the column's kinds, or of the kind of its keys alone where they go from a map; and a number of 64 bits where the
--- column holds integers (RFC 7047, 5.1, <mutation>).
+-- Elements of the column's kinds, or only of the kind of its keys if they are deleted from a map; and a number of 64 bits if
+-- the column holds integers (RFC 7047, 5.1, <mutation>).
 abbrev pub suits_change : ColumnType → Change → Bool
 suits_change t (Compute operator by) = allows_mutator t (Computes operator) && is_in_64_bits by
 suits_change t (Insert elements) = is_of (kinds_of t) elements
@@ -154,7 +156,8 @@ pub data MutateError : Type 0 where
   Range : MutateError
   Constraint : MutateError
 
--- whole numbers without bound; a division truncates toward zero, and a remainder has the sign of the dividend (RFC 7047, 5.1, <mutator>)
+-- unbounded whole numbers; a division truncates toward zero, and a remainder has the sign of the dividend (RFC 7047, 5.1,
+-- <mutator>)
 abbrev pub computed : Operator → ℤ → ℤ → ℤ
 computed Plus by n = n +ℤ by
 computed Minus by n = n -ℤ by
@@ -162,7 +165,7 @@ computed Times by n = n *ℤ by
 computed Over by n = int_div n by
 computed Modulo by n = int_rem n by
 
--- the same of an atom; others than numbers stay
+-- the same for an atom; atoms other than numbers stay
 abbrev pub computed_atom : Operator → ℤ → Atom → Atom
 computed_atom operator by (Integer n) = Integer (computed operator by n)
 computed_atom operator by (Boolean b) = Boolean b
@@ -186,7 +189,7 @@ abbrev pub has_equal_two : List Atom → Bool
 has_equal_two [] = false
 has_equal_two (a ∷ atoms) = list_any (same_atom a) atoms || has_equal_two atoms
 
--- the value, where it fits the column (RFC 7047, 5.2.4, "constraint violation")
+-- the value, if it fits the column (RFC 7047, 5.2.4, "constraint violation")
 abbrev pub fitting : ColumnType → Datum → Result Datum MutateError
 fitting t d = if fits t d then Ok d else Err Constraint
 
@@ -196,7 +199,7 @@ of_results t results =
     if not (list_all (is_atom_of Integers) results) then Err Range
     else (if has_equal_two results then Err Constraint else fitting t (Atoms (set_of results)))
 
--- each number of a set is computed; in an empty one nothing is divided (RFC 7047, 5.1, <mutator>)
+-- each number of a set is computed; in an empty set nothing is divided (RFC 7047, 5.1, <mutator>)
 abbrev pub all_computed : ColumnType → Operator → ℤ → List Atom → Result Datum MutateError
 all_computed t operator by atoms =
     if divides_by_zero operator by && not (is_empty atoms) then Err Domain else of_results t (map (computed_atom operator by) atoms)
@@ -207,7 +210,7 @@ inserted (Atoms column) (Atoms elements) = Atoms (set_of (keys column ++ keys el
 inserted (Pairs column) (Pairs elements) = Pairs (map_of (entries column ++ entries elements))
 inserted column elements = column
 
--- the difference; from a map equal pairs go, or the pairs with these keys (RFC 7047, 5.1, <mutator>)
+-- the difference; a map loses equal pairs, or the pairs with these keys (RFC 7047, 5.1, <mutator>)
 abbrev pub deleted : Datum → Datum → Datum
 deleted (Atoms column) (Atoms elements) = Atoms (set_of (filter (λ a. not (contains_key elements a)) (keys column)))
 deleted (Pairs column) (Pairs elements) = Pairs (map_of (filter (λ p. not (has_pair elements p)) (entries column)))

@@ -7,8 +7,8 @@ use Rattle.ov_specs.specs.operations.Draws.{is_insert}
 use Rattle.ov_specs.specs.schema.Schema.{is_some_and}
 use Rattle.ov_specs.specs.values.Uuid.{Uuid, is_id, Names}
 
--- An insert whose "uuid-name" is this <id>. The tree alone declares the name, whatever comes of the insert; in another operation
--- the member is passed over (RFC 7047, 5.2.1).
+-- An insert whose "uuid-name" is this <id>. The tree alone declares the name, whatever comes of the insert; in another
+-- operation the member is ignored (RFC 7047, 5.2.1).
 abbrev pub declares : List ℕ → Data → Bool
 declares name d = is_insert d && is_id name && is_some_and (bytes_eq name) (text_at (codes "uuid-name") d)
 
@@ -31,7 +31,7 @@ inserts_before (suc place) (item d operations) = (if is_insert d then 1 else 0) 
 abbrev pub id_at : List Uuid → Items → ℕ → Option Uuid
 id_at ids operations place = slice_get ids (inserts_before place operations)
 
--- What a name stands for in the whole transaction, also before the operation that declares it: the row of the first insert
+-- What a name stands for in the whole transaction, even before the operation that declares it: the row of the first insert
 -- with this "uuid-name" (RFC 7047, 5.1, <named-uuid>).
 abbrev pub uuids_named : List Uuid → Items → Names
 uuids_named ids operations name = option_and_then (id_at ids operations) (place_declared name operations)

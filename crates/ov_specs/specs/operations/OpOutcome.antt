@@ -1,4 +1,4 @@
--- What an operation is done in, and what it comes to (RFC 7047, 4.1.3 and 5.2).
+-- The context of an operation, and what it comes to (RFC 7047, 4.1.3 and 5.2).
 use Rattle.std.specs.Prelude.{ℕ, List, Bool, Option, Some, None, codes, Result, Ok, Err}
 use Rattle.std.specs.FinMap.{get}
 use Rattle.serde_json.specs.Data.{Data, object, Items, no_members}
@@ -9,12 +9,12 @@ use Rattle.ov_specs.specs.rows.Database.{Database}
 use Rattle.ov_specs.specs.schema.SchemaTypes.{Table, Schema}
 use Rattle.ov_specs.specs.values.Uuid.{Uuid, Names}
 
--- of each lock, by its name, whether the session that asks owns it (RFC 7047, 4.1.8)
+-- for each lock, by its name, whether the asking session owns it (RFC 7047, 4.1.8)
 abbrev pub Owns : Type 0
 Owns = List ℕ → Bool
 
--- The transaction that an operation is one of: on which database, what its session owns, which identifiers were drawn for it, and
--- how old it is.
+-- The transaction that an operation is part of: its database, what its session owns, which identifiers were drawn for it,
+-- and how old it is.
 pub record OpContext : Type 0 where
   pub schema : Schema
   pub before : Database  -- as it was before the transaction
@@ -39,21 +39,21 @@ names_in c = uuids_named c.ids c.operations
 abbrev pub empty_result : Data
 empty_result = object no_members
 
--- with what was found, or else this error
+-- goes on with what was found, or else has this error
 abbrev pub some_or_fault : {A : Type 0} → Option A → OpError → (A → OpOutcome) → OpOutcome
 some_or_fault None error next = Fault error
 some_or_fault (Some a) error next = next a
 
--- with what came out, or else its error
+-- goes on with what came out, or else has its error
 abbrev pub ok_or_fault : {A : Type 0} → Result A OpError → (A → OpOutcome) → OpOutcome
 ok_or_fault (Err error) next = Fault error
 ok_or_fault (Ok a) next = next a
 
--- where there is no error
+-- the outcome, unless there is an error
 abbrev pub unless_fault : Option OpError → OpOutcome → OpOutcome
 unless_fault None outcome = outcome
 unless_fault (Some error) outcome = Fault error
 
--- The table that the operation names: "table" is a text (a syntax error), and a table of the schema (RFC 7047, 5.2).
+-- The table that the operation names: "table" is a text (else a syntax error), and a table of the schema (RFC 7047, 5.2).
 abbrev pub on_table : OpContext → Data → (List ℕ → Table → OpOutcome) → OpOutcome
 on_table c d next = some_or_fault (text_at (codes "table") d) SyntaxError (λ name. some_or_fault (get c.schema.tables name) UnknownTable (λ table. next name table))

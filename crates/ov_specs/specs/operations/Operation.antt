@@ -17,8 +17,8 @@ use Rattle.ov_specs.specs.operations.Update.{update_outcome}
 use Rattle.ov_specs.specs.operations.Wait.{wait_outcome}
 use Rattle.ov_specs.specs.rows.Database.{Database}
 
--- An operation of this name that touches no row, and steers its transaction; every other name is unknown (RFC 7047, 5.2.6 to 5.2.10;
--- the last is our own).
+-- An operation of this name that touches no row, and steers its transaction; every other name is unknown (RFC 7047, 5.2.6 to
+-- 5.2.10; the refusal of others is this server's).
 abbrev pub control_outcome : OpContext → Database → Data → List ℕ → OpOutcome
 control_outcome c rows d op =
     if bytes_eq op (codes "wait") then wait_outcome c rows d
@@ -28,8 +28,8 @@ control_outcome c rows d op =
     else (if bytes_eq op (codes "assert") then assert_outcome c rows d
     else Fault UnknownOperation))))
 
--- What the operation at this place of the transaction comes to, on the rows that those before it left. It is an object, and "op" is
--- a text (a syntax error).
+-- What the operation at this place of the transaction comes to, on the rows that those before it left. It is an object, and
+-- "op" is a text (else a syntax error).
 abbrev pub outcome_of : OpContext → ℕ → Database → Data → OpOutcome
 outcome_of c place rows d = some_or_fault (text_at (codes "op") d) SyntaxError (λ op.
     if bytes_eq op (codes "insert") then insert_outcome c place rows d

@@ -23,7 +23,7 @@ use Rattle.ov_specs.specs.values.Value.{Datum}
 abbrev pub projection : List (List ℕ) → LineKey × Row → List (List ℕ × Datum)
 projection names r = flat_map (λ name. option_to_list (option_map (λ datum. (name, datum)) (entry_value r name))) names
 
--- of rows that are equal in all chosen columns the first alone (RFC 7047, 5.2.2)
+-- of rows that are equal in all chosen columns, only the first (RFC 7047, 5.2.2)
 abbrev pub without_repeats : List (List (List ℕ × Datum)) → List (List (List ℕ × Datum))
 without_repeats [] = []
 without_repeats (row ∷ rows) = row ∷ filter (λ other. not (same_columns row other)) (without_repeats rows)
@@ -42,7 +42,7 @@ select_result rows = object_of ((codes "rows", array (items_of (map written_row 
 abbrev pub columns_named : Table → List (List ℕ) → List (List ℕ)
 columns_named table names = filter (λ name. list_any (bytes_eq name) names) (keys table.columns)
 
--- Each name is one of a column of the table; a name may stand twice (RFC 7047, 5.2.2).
+-- Each name is that of a column of the table; a name may occur twice (RFC 7047, 5.2.2).
 abbrev pub known_columns : Table → List (List ℕ) → Result (List (List ℕ)) OpError
 known_columns table names = if list_all (contains_key table.columns) names then Ok (columns_named table names) else Err UnknownColumn
 
@@ -51,15 +51,16 @@ abbrev pub listed_columns : Table → Option (List (List ℕ)) → Result (List 
 listed_columns table None = Err SyntaxError
 listed_columns table (Some names) = known_columns table names
 
--- the columns that are chosen; without "columns" all of them (RFC 7047, 5.2.2)
+-- the chosen columns; without "columns", all of them (RFC 7047, 5.2.2)
 abbrev pub selected_columns : Table → Option Data → Result (List (List ℕ)) OpError
 selected_columns table None = Ok (keys table.columns)
 selected_columns table (Some d) = listed_columns table (list_read as_str d)
 
 -- ---- the operation
 
--- Its members are looked at in this order: "table", "where", "columns". The rows are shown in ascending order of their
--- identifiers, of those that are equal in all chosen columns the first alone (RFC 7047, 5.2.2; the orders are our own).
+-- Its members are checked in this order: "table", "where", "columns". The rows are shown in ascending order of their
+-- identifiers; of those that are equal in all chosen columns, only the first (RFC 7047, 5.2.2; the orders are this
+-- server's).
 abbrev pub select_outcome : OpContext → Database → Data → OpOutcome
 select_outcome c rows d = on_table c d (λ name table. on_conditions c table d (λ conditions.
     ok_or_fault (selected_columns table (find.get (codes "columns") d)) (λ names.

@@ -1,4 +1,4 @@
--- update: the rows that match are given these values (RFC 7047, 5.2.3).
+-- update: gives these values to the rows that match (RFC 7047, 5.2.3).
 use Rattle.std.specs.Prelude.{List, map, length, codes}
 use Rattle.std.specs.FinMap.{empty}
 use Rattle.serde_json.specs.Data.{Data}
@@ -14,11 +14,11 @@ use Rattle.ov_specs.specs.rows.Lines.{LineKey}
 abbrev pub updated_row : Columns → LineKey × Row → LineKey × Columns
 updated_row given r = (r.0, given_over given r.1.columns)
 
--- each of these rows is given the values (RFC 7047, 5.2.3)
+-- gives the values to each of these rows (RFC 7047, 5.2.3)
 abbrev pub updated : OpContext → Columns → List (LineKey × Row) → Database → OpOutcome
 updated c given found rows = Done (count_result (length found)) (put_rows c (map (updated_row given) found) rows)
 
--- Its members are looked at in this order: "table", "where", "row" (RFC 7047, 5.2.3; the order is our own).
+-- Its members are checked in this order: "table", "where", "row" (RFC 7047, 5.2.3; the order is this server's).
 abbrev pub update_outcome : OpContext → Database → Data → OpOutcome
 update_outcome c rows d = on_table c d (λ name table. on_conditions c table d (λ conditions.
     some_or_fault (object_at (codes "row") d) SyntaxError (λ members.

@@ -1,4 +1,4 @@
--- wait: until the rows that match are, or are not, those that are told (RFC 7047, 5.2.6).
+-- wait: until the rows that match are, or are not, the given ones (RFC 7047, 5.2.6).
 use Rattle.std.specs.Prelude.{ℕ, ℤ, pos, negsuc, ◌&&◌, not, nat_le, List, [], ◌∷◌, map, Bool, if◌then◌else◌, Option, Some, None, option_map, option_and_then, option_to_list, unwrap_or, codes, Result, Ok, Err}
 use Rattle.std.specs.List.{filter, flat_map, list_all, list_any}
 use Rattle.std.specs.FinMap.{empty, get, insert, keys}
@@ -38,7 +38,7 @@ abbrev pub timeout_read : Option Data → Result (Option ℕ) OpError
 timeout_read None = Ok None
 timeout_read (Some d) = known_timeout (option_and_then natural (option_and_then integer_read (as_number d)))
 
--- the columns that are compared; without "columns" all but `_uuid` and `_version` (RFC 7047, 5.2.6; the default is our own)
+-- the compared columns; without "columns", all but `_uuid` and `_version` (RFC 7047, 5.2.6; the default is this server's)
 abbrev pub compared_columns : Table → Option Data → Result (List (List ℕ)) OpError
 compared_columns table None = Ok (filter (λ name. not (is_own_column name)) (keys table.columns))
 compared_columns table (Some d) = listed_columns table (list_read as_str d)
@@ -52,31 +52,31 @@ pub data Until : Type 0 where
 abbrev pub until_of : List ℕ → Option Until
 until_of word = if bytes_eq word (codes "==") then Some AreEqual else (if bytes_eq word (codes "!=") then Some AreNotEqual else None)
 
--- ---- the rows that are told
+-- ---- the given rows
 
--- what a tree stands for, by the kinds of the column alone: its constraints are not tested, its count neither
+-- what a tree stands for, by the kinds of the column alone: neither its constraints nor its count are tested
 abbrev pub unfitted : Reading Datum → Result Datum OpError
 unfitted reading.Unreadable = Err SyntaxError
 unfitted reading.Clashing = Err ConstraintViolation
 unfitted (Reads datum) = Ok datum
 
--- the value that is told of one of the compared columns; another column is a syntax error, known or not
+-- the value that is given for one of the compared columns; another column is a syntax error, known or not
 abbrev pub told_value : Names → List (List ℕ) → List ℕ → Option Column → Data → Result Datum OpError
 told_value names compared name None d = Err SyntaxError
 told_value names compared name (Some column) d =
     if list_any (bytes_eq name) compared then unfitted (reads names (kinds_of column.type_of) d) else Err SyntaxError
 
--- the values that are told, in ascending order of their names, or the fault of the first that has one
+-- the given values, in ascending order of their names, or the fault of the first that has one
 abbrev pub told_values : Names → Table → List (List ℕ) → Members → Columns → Result Columns OpError
 told_values names table compared no_members columns = Ok columns
 told_values names table compared (member name d members) columns =
     with_column (told_value names compared name (get table.columns name) d) (λ datum. told_values names table compared members (insert columns name datum))
 
--- what is told of a column, or else its default: that of `_uuid` and of `_version` is the zero UUID (RFC 7047, 5.2.1)
+-- the value given for a column, or else its default: that of `_uuid` and of `_version` is the zero UUID (RFC 7047, 5.2.1)
 abbrev pub told_or_default : Table → Columns → List ℕ → Option Datum
 told_or_default table told name = option_map (λ column. unwrap_or (get told name) (default_of column.type_of)) (get table.columns name)
 
--- a row that is told, as a row of the table is seen: the compared columns with their names
+-- a given row, as a row of the table is seen: the compared columns with their names
 abbrev pub told_projection : Table → List (List ℕ) → Columns → List (List ℕ × Datum)
 told_projection table compared told = flat_map (λ name. option_to_list (option_map (λ datum. (name, datum)) (told_or_default table told name))) compared
 
@@ -91,7 +91,7 @@ abbrev pub told_row : Names → Table → List (List ℕ) → Option Members →
 told_row names table compared None = Err SyntaxError
 told_row names table compared (Some members) = told_values names table compared members empty
 
--- the rows of "rows", each read wholly before the next one (RFC 7047, 5.2.6; the order is our own)
+-- the rows of "rows", each read wholly before the next one (RFC 7047, 5.2.6; the order is this server's)
 abbrev pub told_rows : Names → Table → List (List ℕ) → Items → Result (List (List (List ℕ × Datum))) OpError
 told_rows names table compared no_items = Ok []
 told_rows names table compared (item d ds) = and_told table compared (told_row names table compared (as_object d)) (told_rows names table compared ds)
@@ -102,27 +102,27 @@ told_rows names table compared (item d ds) = and_told table compared (told_row n
 abbrev pub are_among : List (List (List ℕ × Datum)) → List (List (List ℕ × Datum)) → Bool
 are_among others rows = list_all (λ row. list_any (same_columns row) others) rows
 
--- the same rows; order and repeats do not count (our own)
+-- the same rows; order and repeats do not count
 abbrev pub same_rows : List (List (List ℕ × Datum)) → List (List (List ℕ × Datum)) → Bool
 same_rows a b = are_among b a && are_among a b
 
--- what was waited for has come (RFC 7047, 5.2.6)
+-- the wait is met (RFC 7047, 5.2.6)
 abbrev pub is_met : Until → List (List (List ℕ × Datum)) → List (List (List ℕ × Datum)) → Bool
 is_met AreEqual seen told = same_rows seen told
 is_met AreNotEqual seen told = not (same_rows seen told)
 
--- It has not come: the transaction is blocked, and times out once it is as old as the timeout; without one it never does (RFC
--- 7047, 5.2.6).
+-- If the wait is not met, the transaction is blocked, and times out once it is as old as the timeout; without one it never
+-- does (RFC 7047, 5.2.6).
 abbrev pub unmet : ℕ → Option ℕ → OpOutcome
 unmet age None = Blocked None
 unmet age (Some timeout) = if nat_le timeout age then Fault TimedOut else Blocked (Some timeout)
 
--- the result {}, once it has come (RFC 7047, 5.2.6)
+-- the result {}, once the wait is met (RFC 7047, 5.2.6)
 abbrev pub waits : OpContext → Option ℕ → Bool → Database → OpOutcome
 waits c timeout met rows = if met then Done empty_result rows else unmet c.age timeout
 
--- Its members are looked at in this order: "table", "timeout", "where", "columns", "until", "rows" (RFC 7047, 5.2.6; the order is
--- our own).
+-- Its members are checked in this order: "table", "timeout", "where", "columns", "until", "rows" (RFC 7047, 5.2.6; the order
+-- is this server's).
 abbrev pub wait_outcome : OpContext → Database → Data → OpOutcome
 wait_outcome c rows d = on_table c d (λ name table.
     ok_or_fault (timeout_read (find.get (codes "timeout") d)) (λ timeout.

@@ -1,4 +1,4 @@
--- The database: rows by their tables and identifiers, and the lines that they are stored as. What names no source is our own.
+-- The database: rows by their tables and identifiers, and the lines that they are stored as.
 use Rattle.std.specs.Prelude.{◌≡◌, ℕ, ◌&&◌, Bool, false, List, [], ◌∷◌, map, option_map}
 use Rattle.std.specs.Cmp.Lexicographic.{pointwise}
 use Rattle.std.specs.FinMap.{FinMap, get, keys, entries}

@@ -1,4 +1,4 @@
--- What a keeper holds: the text of a schema, and lines, one for each row. What names no source is our own.
+-- What a keeper holds: the text of a schema, and lines, one for each row.
 use Rattle.std.specs.Prelude.{ℕ, List, [], ◌∷◌}
 use Rattle.std.specs.declared.cmp.Ordering.{Ordering}
 use Rattle.std.specs.Ordering.{nat_cmp, ordering_then}
@@ -32,12 +32,12 @@ abbrev pub after_change : LineChange → Lines → Lines
 after_change (Put key body) lines = insert lines key body
 after_change (Remove key) lines = remove lines key
 
--- the lines after these changes, the first of them first
+-- the lines after these changes, in order
 abbrev pub after_changes : List LineChange → Lines → Lines
 after_changes [] lines = lines
 after_changes (change ∷ changes) lines = after_changes changes (after_change change lines)
 
--- what is held, as a whole
+-- all that is held
 pub record Contents : Type 0 where
   pub schema : List ℕ  -- its compact text
   pub lines : Lines

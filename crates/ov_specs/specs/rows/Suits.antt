@@ -1,4 +1,4 @@
--- Which rows a database may have under a schema (RFC 7047, 3.2). What names no source is our own.
+-- Which rows a database may have under a schema (RFC 7047, 3.2).
 use Rattle.std.specs.Prelude.{◌≡◌, ℕ, ◌&&◌, List, Bool, true, false, if◌then◌else◌, Option, Some, None}
 use Rattle.std.specs.FinMap.{get}
 use Rattle.ov_specs.specs.rows.Database.{Columns, Row, Database}
@@ -17,14 +17,14 @@ is_value_for column datum = is_of (kinds_of column.type_of) datum && fits column
 abbrev pub column_of_row : Table → List ℕ → Option Column
 column_of_row table name = if is_own_column name then None else get table.columns name
 
--- one value where there is a column, and none where there is no column
+-- one value if there is a column, and no value if there is none
 abbrev pub suits_column : Option Column → Option Datum → Bool
 suits_column None None = true
 suits_column None (Some datum) = false
 suits_column (Some column) None = false
 suits_column (Some column) (Some datum) = is_value_for column datum
 
--- just one value for each column of the table but `_uuid` and `_version`, and no other (RFC 7047, 3.2)
+-- exactly one value for each column of the table but `_uuid` and `_version`, and no other (RFC 7047, 3.2)
 abbrev pub SuitsTable : Table → Columns → Type 0
 SuitsTable table columns = (name : List ℕ) → suits_column (column_of_row table name) (get columns name) ≡ true
 

@@ -1,4 +1,4 @@
--- Which values fit a column, and the default of a column (RFC 7047, 3.2 and 5.2.1). What names no source is our own.
+-- Which values fit a column, and the default of a column (RFC 7047, 3.2 and 5.2.1).
 use Rattle.std.specs.Prelude.{ℕ, ℤ, pos, int_lt, Bool, true, not, ◌&&◌, List, length, if◌then◌else◌, Option, Some, None}
 use Rattle.std.specs.List.{list_all}
 use Rattle.std.specs.Str.{chars}
@@ -6,7 +6,7 @@ use Rattle.std.specs.FinMap.{keys, entries, len, contains_key}
 use Rattle.ov_specs.specs.values.Value.{Atom, Integer, Boolean, Text, Uuid, Datum, Atoms, Pairs, nothing_of, one_default_of}
 use Rattle.ov_specs.specs.schema.SchemaTypes.{BaseType, ColumnType, kinds_of}
 
--- a test that holds where there is nothing to test
+-- a test that holds if there is nothing to test
 abbrev pub is_none_or : {A : Type 0} → (A → Bool) → Option A → Bool
 is_none_or test None = true
 is_none_or test (Some a) = test a
@@ -39,6 +39,6 @@ abbrev pub fits : ColumnType → Datum → Bool
 fits t (Atoms atoms) = is_between (Some t.min) t.max (pos (len atoms)) && list_all (atom_fits t.key) (keys atoms)
 fits t (Pairs pairs) = is_between (Some t.min) t.max (pos (len pairs)) && list_all (λ p. atom_fits t.key p.0 && value_fits t.value p.1) (entries pairs)
 
--- nothing where the count may be 0, else one default atom or pair (RFC 7047, 5.2.1)
+-- nothing if the count may be 0, else one default atom or pair (RFC 7047, 5.2.1)
 abbrev pub default_of : ColumnType → Datum
 default_of t = if int_lt (pos 0) t.min then one_default_of (kinds_of t) else nothing_of (kinds_of t)

@@ -1,4 +1,4 @@
--- Which schemas are accepted, and with which refusal the others are not (RFC 7047, 3.2). What names no source is our own.
+-- Which schemas are accepted, and which refusal each of the others gets (RFC 7047, 3.2).
 use Rattle.std.specs.Prelude.{◌≡◌, ℕ, ℤ, pos, int_lt, nat_le, Bool, true, false, not, ◌&&◌, ◌||◌, ◌==◌, List, [], ◌∷◌, if◌then◌else◌, Option, Some, None, is_some, is_none, codes, length, ◌++◌, map, option_map, unwrap_or, Result, Ok, Err}
 use Rattle.std.specs.FinMap.{from_entries}
 use Rattle.std.specs.List.{list_all, list_any}
@@ -11,7 +11,7 @@ use Rattle.ov_specs.specs.values.Reading.{atoms_read}
 use Rattle.ov_specs.specs.schema.SchemaShape.{TypeName, Kind, Real, BaseShape, Most, AtMost, Unlimited, TypeShape, ColumnShape, TableShape, SchemaShape, plain_base, schema_shape}
 use Rattle.ov_specs.specs.schema.SchemaTypes.{Reference, BaseType, ColumnType, Column, Table, Schema}
 
--- why a tree is no schema, in the order in which the least is answered but for a number that is no integer
+-- why a tree is no schema; the first that applies is the answer, but a number that is no integer comes before all
 pub data SchemaRefusal : Type 0 where
   BadMember : SchemaRefusal  -- a member is missing or of a wrong kind, or a range stands beside another type than its own
   BadName : SchemaRefusal
@@ -32,7 +32,7 @@ is_empty (a ∷ rest) = false
 
 -- ---- places of a schema
 
--- there is something, and it passes
+-- the value is there and passes the test
 abbrev pub is_some_and : {A : Type 0} → (A → Bool) → Option A → Bool
 is_some_and test None = false
 is_some_and test (Some a) = test a
@@ -55,7 +55,7 @@ any_base test = any_type (λ t. test t.key || is_some_and test t.value)
 
 -- ---- names and versions
 
--- no <id>, or one that begins with an underscore, as names of columns that each table has (RFC 7047, 3.2)
+-- a name that is no <id>, or begins with an underscore, as do the columns that each table has (RFC 7047, 3.2)
 abbrev pub is_bad_name : List ℕ → Bool
 is_bad_name [] = true
 is_bad_name (c ∷ cs) = (c == 95) || not (is_id (c ∷ cs))
@@ -77,16 +77,16 @@ abbrev pub before_parts : ℕ → List (List ℕ) → List (List ℕ)
 before_parts c [] = []
 before_parts c (part ∷ parts) = (c ∷ part) ∷ parts
 
--- the parts of a text between its dots, one more than it has dots
+-- the parts of a text between its dots: one more part than dots
 abbrev pub split_at_dots : List ℕ → List (List ℕ)
 split_at_dots [] = [] ∷ []
 split_at_dots (c ∷ cs) = if c == 46 then [] ∷ split_at_dots cs else before_parts c (split_at_dots cs)
 
--- three numbers with a dot between (RFC 7047, 3.1, <version>)
+-- three numbers separated by dots (RFC 7047, 3.1, <version>)
 abbrev pub is_version : List ℕ → Bool
 is_version text = let parts = split_at_dots text in (length parts == 3) && list_all is_number parts
 
--- a version that is not three numbers with dots between (RFC 7047, 3.1, <version>)
+-- a version that is not three numbers separated by dots (RFC 7047, 3.1, <version>)
 abbrev pub has_bad_version : SchemaShape → Bool
 has_bad_version s = is_some_and (λ v. not (is_version v)) s.version
 
@@ -96,13 +96,13 @@ has_no_columns = any_table (λ name t. is_empty t.columns)
 
 -- ---- ranges
 
--- a least above its greatest, where both are there
+-- both are there, and the least is above the greatest
 abbrev pub above : Option ℤ → Option ℤ → Bool
 above None greatest = false
 above (Some least) None = false
 above (Some least) (Some greatest) = int_lt greatest least
 
--- below n, where it is there
+-- it is there, and below n
 abbrev pub below : ℤ → Option ℤ → Bool
 below n o = is_some_and (λ z. int_lt z n) o
 
@@ -125,7 +125,7 @@ has_bad_range s = any_base is_bad_base_range s || any_type is_bad_count s || any
 
 -- ---- types
 
--- "real" (our own; RFC 7047, 3.2, <atomic-type> has it)
+-- "real", which this server refuses (RFC 7047, 3.2, <atomic-type> has it)
 abbrev pub is_real_type : TypeName → Bool
 is_real_type (Kind of) = false
 is_real_type Real = true
@@ -147,20 +147,20 @@ has_unknown_ref_table s = any_base (λ b. is_some_and (λ name. not (has_table s
 abbrev pub is_strength : List ℕ → Bool
 is_strength word = bytes_eq word (codes "strong") || bytes_eq word (codes "weak")
 
--- another `refType`; one without `refTable`; a `refTable` on another type than "uuid" (RFC 7047, 3.2, <base-type>)
+-- any other `refType`; a `refType` without `refTable`; a `refTable` on a type other than "uuid" (RFC 7047, 3.2, <base-type>)
 abbrev pub is_bad_reference : BaseShape → Bool
 is_bad_reference b =
     is_some_and (λ word. not (is_strength word)) b.ref_type
     || (is_some b.ref_type && is_none b.ref_table)
     || (is_some b.ref_table && not (is_uuid_type b.of))
 
--- it reads, as one atom or more
+-- it reads, as at least one atom
 abbrev pub is_set_of_one_or_more : Option (List Atom) → Bool
 is_set_of_one_or_more None = false
 is_set_of_one_or_more (Some []) = false
 is_set_of_one_or_more (Some (a ∷ atoms)) = true
 
--- it reads as a set of one atom or more of the type; no row has a name here (RFC 7047, 3.2, <base-type>, enum)
+-- it reads as a set of at least one atom of the type; no row has a name here (RFC 7047, 3.2, <base-type>, enum)
 abbrev pub reads_as_choices : TypeName → Data → Bool
 reads_as_choices (Kind of) d = is_set_of_one_or_more (atoms_read (λ name. None) of d)
 reads_as_choices Real d = false
@@ -171,22 +171,23 @@ is_bad_enum b = is_some_and (λ d. not (reads_as_choices b.of d)) b.choices
 
 -- ---- indexes
 
--- the column of this name, `_uuid` and `_version` aside
+-- the column of this name, other than `_uuid` and `_version`
 abbrev pub column_named : List (List ℕ × ColumnShape) → List ℕ → Option ColumnShape
 column_named [] name = None
 column_named (c ∷ cs) name = if bytes_eq c.0 name then Some c.1 else column_named cs name
 
--- there, and not ephemeral (RFC 7047, 3.2, <table-schema>, indexes)
+-- the column is there, and not ephemeral (RFC 7047, 3.2, <table-schema>, indexes)
 abbrev pub is_lasting : Option ColumnShape → Bool
 is_lasting None = false
 is_lasting (Some c) = not c.is_ephemeral
 
--- a name stands twice in the list
+-- a name occurs twice in the list
 abbrev pub has_twice : List (List ℕ) → Bool
 has_twice [] = false
 has_twice (name ∷ names) = list_any (λ other. bytes_eq other name) names || has_twice names
 
--- empty; a name of no column, or of an ephemeral one; a name twice (RFC 7047, 3.2, <table-schema>, indexes)
+-- an empty index, or one with a name of no column, of an ephemeral column, or a name twice (RFC 7047, 3.2, <table-schema>,
+-- indexes)
 abbrev pub is_bad_index : TableShape → List (List ℕ) → Bool
 is_bad_index t index = is_empty index || list_any (λ name. not (is_lasting (column_named t.columns name))) index || has_twice index
 
@@ -200,7 +201,7 @@ has_bad_index = any_table (λ name t. list_any (is_bad_index t) t.indexes)
 abbrev pub is_weak : BaseShape → Bool
 is_weak b = is_some b.ref_table && is_some_and (λ word. bytes_eq word (codes "weak")) b.ref_type
 
--- a strong reference, also where nothing is said of its strength (RFC 7047, 3.2, <base-type>, refType)
+-- a strong reference; one without `refType` is strong (RFC 7047, 3.2, <base-type>, refType)
 abbrev pub is_strong : BaseShape → Bool
 is_strong b = is_some b.ref_table && not (is_weak b)
 
@@ -215,7 +216,7 @@ abbrev pub first_that_holds : {A : Type 0} → List (Bool × A) → Option A
 first_that_holds [] = None
 first_that_holds (p ∷ ps) = if p.0 then Some p.1 else first_that_holds ps
 
--- the least refusal that applies anywhere, once all members are there and of the right kinds
+-- the first refusal that applies anywhere, once all members are there and of the right kinds
 abbrev pub refusal_of_shape : SchemaShape → Option SchemaRefusal
 refusal_of_shape s = first_that_holds (
     (has_bad_name s, BadName)
@@ -242,7 +243,7 @@ abbrev pub kind_named : TypeName → AtomKind
 kind_named (Kind of) = of
 kind_named Real = Integers
 
--- the reference of a base type, if it is one (RFC 7047, 3.2, <base-type>)
+-- the reference of a base type, if it has one (RFC 7047, 3.2, <base-type>)
 abbrev pub reference_of : BaseShape → Option Reference
 reference_of b = option_map (λ table. record { table = table; is_strong = is_strong b }) b.ref_table
 
@@ -250,17 +251,17 @@ reference_of b = option_map (λ table. record { table = table; is_strong = is_st
 abbrev pub accepted_base : BaseShape → BaseType
 accepted_base b = record { kind = kind_named b.of; choices = choices_of b.of b.choices; least = b.least; greatest = b.greatest; shortest = b.shortest; longest = b.longest; refers = reference_of b }
 
--- 1 where nothing is said, none where it is unlimited (RFC 7047, 3.2, <type>)
+-- 1 if `max` is absent, None if it is "unlimited" (RFC 7047, 3.2, <type>)
 abbrev pub max_of : Option Most → Option ℤ
 max_of None = Some (pos 1)
 max_of (Some (AtMost n)) = Some n
 max_of (Some Unlimited) = None
 
--- `min` is 1 where nothing is said (RFC 7047, 3.2, <type>)
+-- `min` is 1 if it is absent (RFC 7047, 3.2, <type>)
 abbrev pub accepted_type : TypeShape → ColumnType
 accepted_type t = record { key = accepted_base t.key; value = option_map accepted_base t.value; min = unwrap_or t.min (pos 1); max = max_of t.max }
 
--- a column that holds weak references is mutable whatever it says
+-- a column that holds weak references is mutable, whatever its schema says
 abbrev pub accepted_column : ColumnShape → Column
 accepted_column c = record { type_of = accepted_type c.type_of; is_ephemeral = c.is_ephemeral; is_mutable = c.is_mutable || is_weak c.type_of.key || is_some_and is_weak c.type_of.value }
 
@@ -292,16 +293,16 @@ abbrev pub refused_or : Schema → Option SchemaRefusal → Result Schema Schema
 refused_or schema None = Ok schema
 refused_or schema (Some refusal) = Err refusal
 
--- the schema of the members, or its refusal; first of all that one is missing or of a wrong kind
+-- the schema of the members, or its refusal; a member that is missing or of a wrong kind is refused first
 abbrev pub judged : Data → Option SchemaShape → Result Schema SchemaRefusal
 judged d None = Err BadMember
 judged d (Some s) = refused_or (accepted_schema d s) (refusal_of_shape s)
 
--- The schema that a tree is, or why it is none: a number that is no 64-bit integer goes before all else (RFC 7047, 3.2; the
--- refusals are our own).
+-- The schema that a tree is, or why it is none. A number that is no 64-bit integer comes before all else (RFC 7047, 3.2; the
+-- refusals are this server's).
 abbrev pub accepted : Data → Result Schema SchemaRefusal
 accepted d = if has_real d then Err RealNotSupported else judged d (schema_shape d)
 
--- the schema is what its own tree is read as
+-- the schema is what its own tree reads as
 pub record IsAccepted (schema : Schema) : Type 0 where
   pub is : accepted schema.tree ≡ Ok schema

@@ -1,4 +1,4 @@
--- The members of a schema's tree, of the right kinds and not yet judged (RFC 7047, 3.2). What names no source is our own.
+-- The members of a schema's tree, of the right kinds and not yet judged (RFC 7047, 3.2).
 use Rattle.std.specs.Prelude.{ℕ, ℤ, Bool, true, false, not, ◌&&◌, ◌||◌, List, [], ◌∷◌, if◌then◌else◌, Option, Some, None, is_some, option_map, option_and_then, unwrap_or, codes}
 use Rattle.std.specs.Str.{bytes_eq}
 use Rattle.serde_json.specs.Data.{Data, Members, no_members, member}
@@ -55,11 +55,11 @@ pub record SchemaShape : Type 0 where
 
 -- ---- members
 
--- what comes next, where this is there
+-- what comes next, if this is there
 abbrev pub where_read : {A B : Type 0} → Option A → (A → Option B) → Option B
 where_read o next = option_and_then next o
 
--- a member that may be absent, and has to read where it is there
+-- a member that may be absent, and must read if it is there
 abbrev pub optional : {A : Type 0} → (Data → Option A) → Option Data → Option (Option A)
 optional reader None = Some None
 optional reader (Some d) = option_map Some (reader d)
@@ -68,12 +68,12 @@ optional reader (Some d) = option_map Some (reader d)
 abbrev pub whole_number : Data → Option ℤ
 whole_number d = option_and_then as_i64 (as_number d)
 
--- each member with its name, where all of them read
+-- each member with its name, if all of them read
 abbrev pub each_member : {A : Type 0} → (Data → Option A) → Members → Option (List (List ℕ × A))
 each_member reader no_members = Some []
 each_member reader (member k d ms) = option_and_then (λ a. option_map (λ rest. (k, a) ∷ rest) (each_member reader ms)) (reader d)
 
--- the members of an object, where all of them read
+-- the members of an object, if all of them read
 abbrev pub named_parts : {A : Type 0} → (Data → Option A) → Data → Option (List (List ℕ × A))
 named_parts reader d = option_and_then (each_member reader) (as_object d)
 
@@ -103,13 +103,13 @@ is_text_type name = false
 abbrev pub plain_base : TypeName → BaseShape
 plain_base name = record { of = name; choices = None; least = None; greatest = None; shortest = None; longest = None; ref_table = None; ref_type = None }
 
--- a range stands beside its own type alone (RFC 7047, 3.2, <base-type>)
+-- a range stands only beside its own type (RFC 7047, 3.2, <base-type>)
 abbrev pub ranges_fit : BaseShape → Bool
 ranges_fit b =
     (is_integer_type b.of || (not (is_some b.least) && not (is_some b.greatest)))
     && (is_text_type b.of || (not (is_some b.shortest) && not (is_some b.longest)))
 
--- the base type, where its ranges stand beside their types (RFC 7047, 3.2, <base-type>)
+-- the base type, if its ranges stand beside their types (RFC 7047, 3.2, <base-type>)
 abbrev pub where_ranges_fit : BaseShape → Option BaseShape
 where_ranges_fit b = if ranges_fit b then Some b else None
 
@@ -134,7 +134,7 @@ named_or plain members d (Some word) = option_map (λ name. plain (plain_base na
 abbrev pub base_shape : Data → Option BaseShape
 base_shape d = named_or (λ b. b) base_members d (as_str d)
 
--- "unlimited", where it is a text, else a number (RFC 7047, 3.2, <type>, max)
+-- "unlimited" if it is a text, else a number (RFC 7047, 3.2, <type>, max)
 abbrev pub most_of : Option (List ℕ) → Data → Option Most
 most_of None d = option_map AtMost (whole_number d)
 most_of (Some word) d = if bytes_eq word (codes "unlimited") then Some Unlimited else None
@@ -175,8 +175,8 @@ table_shape d =
     where_read (optional (list_read (list_read as_str)) (get (codes "indexes") d)) (λ indexes.
     Some (record { columns = columns; max_rows = max_rows; is_root = unwrap_or root false; indexes = unwrap_or indexes [] })))))
 
--- The members, or none where one is missing or of a wrong kind anywhere in the tree; others are passed over (RFC 7047, 3.2,
--- <database-schema>; that `version` may be absent is our own).
+-- The members, or None if one is missing or of a wrong kind anywhere in the tree; others are ignored (RFC 7047, 3.2,
+-- <database-schema>; that `version` may be absent is this server's choice).
 abbrev pub schema_shape : Data → Option SchemaShape
 schema_shape d =
     where_read (option_and_then as_str (get (codes "name") d)) (λ name.

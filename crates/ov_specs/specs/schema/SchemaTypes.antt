@@ -1,4 +1,4 @@
--- What an accepted schema says of tables and columns (RFC 7047, 3.2). What names no source is our own.
+-- What an accepted schema says of tables and columns (RFC 7047, 3.2).
 use Rattle.std.specs.Prelude.{ℕ, ℤ, Bool, List, Option, Some, None}
 use Rattle.std.specs.declared.cmp.Ordering.{Ordering}
 use Rattle.std.specs.Ordering.{nat_cmp}
@@ -16,8 +16,8 @@ pub record Reference : Type 0 where
   pub table : List ℕ
   pub is_strong : Bool
 
--- An atomic type with its constraints; None where there is no such constraint. Ranges take their ends in, and lengths
--- are counted in characters (RFC 7047, 3.2, <base-type>).
+-- An atomic type with its constraints; None means no such constraint. Ranges include their ends, and lengths count
+-- characters (RFC 7047, 3.2, <base-type>).
 pub record BaseType : Type 0 where
   pub kind : AtomKind
   pub choices : Option AtomSet
@@ -27,7 +27,7 @@ pub record BaseType : Type 0 where
   pub longest : Option ℤ
   pub refers : Option Reference
 
--- the type of a column: a map has a type for its values, and None as the most is "unlimited" (RFC 7047, 3.2, <type>)
+-- the type of a column: a map has a type for its values, and None as `max` means "unlimited" (RFC 7047, 3.2, <type>)
 pub record ColumnType : Type 0 where
   pub key : BaseType
   pub value : Option BaseType
@@ -54,7 +54,7 @@ pub record Schema : Type 0 where
   pub tables : FinMap name_cmp Table
   pub tree : Data
 
--- the kinds of a column's keys, and of its values where it has some (RFC 7047, 3.2, <type>)
+-- the kinds of a column's keys, and of its values if it has any (RFC 7047, 3.2, <type>)
 abbrev pub kinds_with : AtomKind → Option BaseType → Kinds
 kinds_with key None = Single key
 kinds_with key (Some value) = Pair key value.kind

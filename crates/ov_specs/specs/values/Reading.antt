@@ -1,4 +1,4 @@
--- What a JSON tree stands for, as an atom and as a value (RFC 7047, 5.1). What names no source is our own.
+-- What a JSON tree stands for, as an atom and as a value (RFC 7047, 5.1).
 use Rattle.std.specs.Prelude.{ℤ, ◌&&◌, ◌||◌, not, ℕ, List, [], ◌∷◌, Bool, false, if◌then◌else◌, Option, Some, None, option_map, option_and_then, codes}
 use Rattle.std.specs.Option.{option_or}
 use Rattle.std.specs.List.{list_any}
@@ -19,7 +19,7 @@ pub data Reading (A : Type 0) : Type 0 where
 
 -- ---- parts of trees
 
--- two items and no more
+-- exactly two items
 abbrev pub two_items : Items → Option (Data × Data)
 two_items no_items = None
 two_items (item first no_items) = None
@@ -35,13 +35,13 @@ abbrev pub is_word : List ℕ → Option (List ℕ) → Bool
 is_word word None = false
 is_word word (Some text) = bytes_eq text word
 
--- what stands behind a word in an array of two, as in ["set",[..]] (RFC 7047, 5.1)
+-- the item after a word in an array of two, as in ["set",[..]] (RFC 7047, 5.1)
 abbrev pub behind : List ℕ → Data → Option Data
 behind word d = option_and_then (λ p. if is_word word (as_str p.0) then Some p.1 else None) (as_two d)
 
 -- ---- atoms
 
--- the number where it is in 64 bits (RFC 7047, 3.1, <integer>)
+-- the number, if it fits 64 bits (RFC 7047, 3.1, <integer>)
 abbrev pub in_64_bits : ℤ → Option ℤ
 in_64_bits n = if is_in_64_bits n then Some n else None
 
@@ -49,11 +49,11 @@ in_64_bits n = if is_in_64_bits n then Some n else None
 abbrev pub integer_read : Num → Option ℤ
 integer_read n = option_and_then in_64_bits (as_i64 n)
 
--- the text where it is UTF-8 without U+0000; a tree that was read of a text has all its texts in UTF-8 (RFC 7047, 3.1, <string>)
+-- the text, if it is UTF-8 without U+0000; all texts of a tree that was read from a text are UTF-8 (RFC 7047, 3.1, <string>)
 abbrev pub text_read : List ℕ → Option (List ℕ)
 text_read text = if is_text text then Some text else None
 
--- what a name stands for, where it is an <id> (RFC 7047, 5.1, <named-uuid>)
+-- what a name stands for, if it is an <id> (RFC 7047, 5.1, <named-uuid>)
 abbrev pub name_read : Names → List ℕ → Option uuid.Uuid
 name_read names name = if is_id name then names name else None
 
@@ -72,13 +72,13 @@ atom_read names Uuids d = option_map Uuid (uuid_read names d)
 
 -- ---- lists of atoms and of pairs
 
--- one more in front, where both are there
+-- one more in front, if both are there
 abbrev pub in_front : {A : Type 0} → Option A → Option (List A) → Option (List A)
 in_front None rest = None
 in_front (Some a) None = None
 in_front (Some a) (Some rest) = Some (a ∷ rest)
 
--- the two, where both are there
+-- the two, if both are there
 abbrev pub both : {A B : Type 0} → Option A → Option B → Option (A × B)
 both None b = None
 both (Some a) None = None
@@ -88,16 +88,16 @@ both (Some a) (Some b) = Some (a, b)
 abbrev pub pair_read : Names → AtomKind → AtomKind → Data → Option (Atom × Atom)
 pair_read names key value d = option_and_then (λ p. both (atom_read names key p.0) (atom_read names value p.1)) (as_two d)
 
--- each item, where all of them read
+-- each item, if all of them read
 abbrev pub each_read : {A : Type 0} → (Data → Option A) → Items → Option (List A)
 each_read reader no_items = Some []
 each_read reader (item d ds) = in_front (reader d) (each_read reader ds)
 
--- each item of an array, where all of them read
+-- each item of an array, if all of them read
 abbrev pub list_read : {A : Type 0} → (Data → Option A) → Data → Option (List A)
 list_read reader d = option_and_then (each_read reader) (as_array d)
 
--- the list behind "set", where there is one, else the tree itself as one atom (RFC 7047, 5.1, <set>)
+-- the list after "set", if there is one, else the tree itself as one atom (RFC 7047, 5.1, <set>)
 abbrev pub listed_or_one : (Data → Option Atom) → Option Data → Data → Option (List Atom)
 listed_or_one reader None d = option_map (λ a. a ∷ []) (reader d)
 listed_or_one reader (Some list) d = list_read reader list
@@ -112,11 +112,11 @@ pairs_read names key value d = option_and_then (list_read (pair_read names key v
 
 -- ---- values
 
--- one key, and two values
+-- the pairs have one key and two values
 abbrev pub differ_at_one_key : Atom × Atom → Atom × Atom → Bool
 differ_at_one_key p q = eq_by_cmp atom_cmp p.0 q.0 && not (eq_by_cmp atom_cmp p.1 q.1)
 
--- somewhere in the list one key has two values
+-- one key has two values somewhere in the list
 abbrev pub has_clash : List (Atom × Atom) → Bool
 has_clash [] = false
 has_clash (p ∷ ps) = list_any (differ_at_one_key p) ps || has_clash ps

@@ -1,8 +1,8 @@
--- Identifiers, and the names that stand for them in a transaction. What names no source is our own.
+-- Identifiers, and the names that stand for them in a transaction.
 use Rattle.std.specs.Prelude.{◌≡◌, ◌&&◌, ◌||◌, ◌==◌, ℕ, nat_lt, nat_le, List, [], ◌∷◌, length, Bool, true, false, Option, Some, None}
 use Rattle.std.specs.List.{list_all}
 
--- the sixteen bytes of an identifier, greatest first (RFC 4122, 4.1.2)
+-- the sixteen bytes of an identifier, most significant first (RFC 4122, 4.1.2)
 abbrev pub Uuid : Type 0
 Uuid = List ℕ
 
@@ -27,7 +27,8 @@ abbrev pub is_id : List ℕ → Bool
 is_id [] = false
 is_id (c ∷ cs) = begins_id c && list_all continues_id cs
 
--- the identifier of the row that a name stands for in a transaction, where an insert gives one that name (RFC 7047, 5.1, <named-uuid>)
+-- the identifier of the row that a name stands for in a transaction, if an insert gives a row that name (RFC 7047, 5.1,
+-- <named-uuid>)
 abbrev pub Names : Type 0
 Names = List ℕ → Option Uuid
 

@@ -1,4 +1,4 @@
--- Atoms and values: what a column of a row holds (RFC 7047, 5.1). What names no source is our own.
+-- Atoms and values: what a column of a row holds (RFC 7047, 5.1).
 use Rattle.std.specs.Prelude.{ℕ, ◌^◌, ◌-◌, ◌==◌, ◌&&◌, ℤ, pos, negsuc, int_le, int_lt, not, Bool, true, false, List, [], ◌∷◌, map, Option, Some, None}
 use Rattle.std.specs.List.{list_any, list_all}
 use Rattle.std.specs.declared.cmp.Ordering.{Ordering}
@@ -36,7 +36,7 @@ kind_of (Uuid bytes) = Uuids
 abbrev pub is_in_64_bits : ℤ → Bool
 is_in_64_bits n = int_le (negsuc (2 ^ 63 - 1)) n && int_lt n (pos (2 ^ 63))
 
--- a U+0000 stands in the text (RFC 7047, 3.1, <string>)
+-- the text has a U+0000 (RFC 7047, 3.1, <string>)
 abbrev pub has_nul : List ℕ → Bool
 has_nul text = list_any (λ c. c == 0) text
 
@@ -61,8 +61,8 @@ kind_rank Booleans = 1
 kind_rank Texts = 2
 kind_rank Uuids = 3
 
--- By number; false before true; texts by their bytes; identifiers by their number, which is the order of their bytes. Atoms
--- of two kinds, which no column holds, stand by their kinds.
+-- Numbers by value; false before true; texts by their bytes; identifiers by their number, which is the order of their bytes.
+-- Atoms of two kinds, which no column holds, are ordered by kind.
 abbrev pub atom_cmp : Atom → Atom → Ordering
 atom_cmp (Integer m) (Integer n) = int_cmp m n
 atom_cmp (Boolean a) (Boolean b) = bool_cmp a b
@@ -93,7 +93,7 @@ marked a = (a, tt)
 abbrev pub set_of : List Atom → AtomSet
 set_of atoms = map.from_entries (map marked atoms)
 
--- the map of these pairs; of two with one key the first stands (our own; reading refuses two unless they are equal)
+-- the map of these pairs; of two with one key the first stays (reading refuses two unless they are equal)
 abbrev pub map_of : List (Atom × Atom) → AtomMap
 map_of pairs = map.from_entries pairs
 
@@ -102,12 +102,12 @@ pub data Datum : Type 0 where
   Atoms : (atoms : AtomSet) → Datum
   Pairs : (pairs : AtomMap) → Datum
 
--- the atoms of a set, ascending; none where it is a map
+-- the atoms of a set, ascending; None if it is a map
 abbrev pub atoms_in : Datum → Option (List Atom)
 atoms_in (Atoms atoms) = Some (map.keys atoms)
 atoms_in (Pairs pairs) = None
 
--- the pairs of a map, ascending by their keys; none where it is a set
+-- the pairs of a map, ascending by their keys; None if it is a set
 abbrev pub pairs_in : Datum → Option (List (Atom × Atom))
 pairs_in (Atoms atoms) = None
 pairs_in (Pairs pairs) = Some (map.entries pairs)
@@ -131,7 +131,7 @@ is_of kinds d = false
 abbrev pub pair_cmp : Atom × Atom → Atom × Atom → Ordering
 pair_cmp p q = ordering_then (atom_cmp p.0 q.0) (atom_cmp p.1 q.1)
 
--- The order of values: element by element in ascending order, a beginning first. Sets stand before maps; no column holds both.
+-- The order of values: by their elements in ascending order, a prefix first. Sets come before maps; no column holds both.
 abbrev pub datum_cmp : Datum → Datum → Ordering
 datum_cmp (Atoms a) (Atoms b) = slice_cmp atom_cmp (map.keys a) (map.keys b)
 datum_cmp (Pairs a) (Pairs b) = slice_cmp pair_cmp (map.entries a) (map.entries b)
@@ -147,12 +147,12 @@ default_atom Booleans = Boolean false
 default_atom Texts = Text []
 default_atom Uuids = Uuid zero_uuid
 
--- the empty set or map: the default where `min` is 0 (RFC 7047, 5.2.1)
+-- the empty set or map: the default if `min` is 0 (RFC 7047, 5.2.1)
 abbrev pub nothing_of : Kinds → Datum
 nothing_of (Single kind) = Atoms (set_of [])
 nothing_of (Pair key value) = Pairs (map_of [])
 
--- one default atom, or one pair of two: the default where `min` is 1 (RFC 7047, 5.2.1)
+-- one default atom, or one pair of two: the default if `min` is 1 (RFC 7047, 5.2.1)
 abbrev pub one_default_of : Kinds → Datum
 one_default_of (Single kind) = Atoms (set_of (default_atom kind ∷ []))
 one_default_of (Pair key value) = Pairs (map_of ((default_atom key, default_atom value) ∷ []))

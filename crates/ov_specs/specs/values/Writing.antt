@@ -1,4 +1,4 @@
--- The written form of a value: the one tree that is sent and stored for it (RFC 7047, 5.1). What names no source is our own.
+-- The written form of a value: the one tree that is sent and stored for it (RFC 7047, 5.1).
 use Rattle.std.specs.Prelude.{List, [], ◌∷◌, map, codes}
 use Rattle.std.specs.FinMap.{keys, entries}
 use Rattle.serde_json.specs.Data.{Data, boolean, number, string, array, no_items, item}
@@ -11,7 +11,7 @@ use Rattle.ov_specs.specs.values.Value.{Atom, Integer, Boolean, Text, Uuid, Datu
 abbrev pub two : Data → Data → Data
 two first second = array (item first (item second no_items))
 
--- one atom; an identifier in lower case (RFC 7047, 5.1, <atom>; the case is our own)
+-- one atom; an identifier in lower case (RFC 7047, 5.1, <atom>; the case is this server's choice)
 abbrev pub atom_tree : Atom → Data
 atom_tree (Integer n) = number (of_integer n)
 atom_tree (Boolean b) = boolean b
@@ -22,7 +22,7 @@ atom_tree (Uuid bytes) = two (string (codes "uuid")) (string (hyphenated_text lo
 abbrev pub pair_tree : Atom × Atom → Data
 pair_tree p = two (atom_tree p.0) (atom_tree p.1)
 
--- ["set",[atom,..]], but a set of one as its atom (RFC 7047, 5.1, <set>; that it is the bare atom is our own)
+-- ["set",[atom,..]], but a set of one as its atom (RFC 7047, 5.1, <set>; that it is the bare atom is this server's choice)
 abbrev pub set_tree : List Atom → Data
 set_tree [] = two (string (codes "set")) (array no_items)
 set_tree (a ∷ []) = atom_tree a
@@ -32,7 +32,7 @@ set_tree (a ∷ b ∷ atoms) = two (string (codes "set")) (array (items_of (map 
 abbrev pub map_tree : List (Atom × Atom) → Data
 map_tree pairs = two (string (codes "map")) (array (items_of (map pair_tree pairs)))
 
--- the written form: atoms, and pairs by their keys, in ascending order (RFC 7047, 5.1, <value>; the order is our own)
+-- the written form: atoms, and pairs by their keys, in ascending order (RFC 7047, 5.1, <value>; the order is this server's)
 abbrev pub tree : Datum → Data
 tree (Atoms atoms) = set_tree (keys atoms)
 tree (Pairs pairs) = map_tree (entries pairs)

@@ -7,7 +7,7 @@ use Rattle.serde_json.specs.Written.{compact_text}
 abbrev pub reply_tree : Data → Data → Data
 reply_tree id result = object (member (codes "error") null (member (codes "id") id (member (codes "result") result no_members)))
 
--- the reply with an error, a plain text (JSON-RPC 1.0, 1.2; the texts are our own)
+-- the reply with an error, a plain text (JSON-RPC 1.0, 1.2; the texts are this server's)
 abbrev pub failure_tree : Data → List ℕ → Data
 failure_tree id text = object (member (codes "error") (string text) (member (codes "id") id (member (codes "result") null no_members)))
 
@@ -15,7 +15,7 @@ failure_tree id text = object (member (codes "error") (string text) (member (cod
 abbrev pub note_tree : List ℕ → Items → Data
 note_tree method params = object (member (codes "id") null (member (codes "method") (string method) (member (codes "params") (array params) no_members)))
 
--- The bytes that are sent for a tree: its compact text, members in ascending order of their names' bytes, no white space (RFC
--- 8259, 2; the order is our own).
+-- The bytes that are sent for a tree: its compact text, members in ascending order of their names' bytes, no white space
+-- (RFC 8259, 2; the order is this server's).
 abbrev pub frame : Data → List ℕ
 frame tree = compact_text tree

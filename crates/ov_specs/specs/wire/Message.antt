@@ -1,4 +1,4 @@
--- Which message a text is, and which messages a stream asks for. What names no source is our own.
+-- Which message a text is, and which messages a stream asks for.
 use Rattle.std.specs.Prelude.{ℕ, ◌&&◌, ◌||◌, not, List, [], ◌∷◌, Bool, true, false, if◌then◌else◌, Option, Some, None, is_some, option_map, option_and_then, unwrap_or, codes}
 use Rattle.std.specs.Str.{is_utf8}
 use Rattle.serde_json.specs.Data.{Data, null, boolean, number, string, array, object, Items}
@@ -7,12 +7,13 @@ use Rattle.serde_json.specs.Read.{read}
 use Rattle.ov_specs.specs.wire.Tree.{has_real}
 use Rattle.ov_specs.specs.wire.Cut.{Cut, cut}
 
--- why a request can't be taken: it isn't built as one, or it has a number that is no 64-bit integer
+-- why a request can't be taken: it is malformed, or it has a number that is no 64-bit integer
 pub data BadKind : Type 0 where
   NotARequest : BadKind
   Reals : BadKind
 
--- a request that wants an answer, a notification, an answer to a request of ours, or what is answered with an error (JSON-RPC 1.0, 1)
+-- a request that wants a reply, a notification, a reply to a request of the server, or what is answered with an error
+-- (JSON-RPC 1.0, 1)
 pub data Message : Type 0 where
   Call : (id : Data) (method : List ℕ) (params : Items) → Message
   Note : (method : List ℕ) (params : Items) → Message
@@ -28,7 +29,7 @@ not_null (string s) = Some (string s)
 not_null (array ds) = Some (array ds)
 not_null (object ms) = Some (object ms)
 
--- the id that an answer goes to: none where it is null or absent (JSON-RPC 1.0, 1.3)
+-- the id that a reply goes to; None if it is null or absent (JSON-RPC 1.0, 1.3)
 abbrev pub asker_of : Data → Option Data
 asker_of d = option_and_then not_null (get (codes "id") d)
 
@@ -44,12 +45,12 @@ has_real_id d = unwrap_or (option_map has_real (get (codes "id") d)) false
 abbrev pub is_answer : Data → Bool
 is_answer d = not (has_member (codes "method") d) && (has_member (codes "result") d || has_member (codes "error") d)
 
--- what is wrong is told to who asked; where nobody did, nothing is
+-- reports what is wrong to the one that asked; if nobody did, reports nothing
 abbrev pub bad : Option Data → BadKind → Message
 bad None kind = Answer
 bad (Some id) kind = Bad id kind
 
--- a method that is a text and params that are an array, asked for with an id or without (JSON-RPC 1.0, 1.1 and 1.3)
+-- a method that is a text and params that are an array, with or without an id (JSON-RPC 1.0, 1.1 and 1.3)
 abbrev pub request : Option (List ℕ) → Option Items → Option Data → Message
 request (Some method) (Some params) (Some id) = Call id method params
 request (Some method) (Some params) None = Note method params
@@ -60,8 +61,8 @@ request None params asker = bad asker NotARequest
 abbrev pub request_in : Data → Message
 request_in d = request (option_and_then as_str (get (codes "method") d)) (option_and_then as_array (get (codes "params") d)) (asker_of d)
 
--- The message that a tree is, or None where it is unreadable: the first case that applies decides (our own, over JSON-RPC 1.0,
--- 1).
+-- The message that a tree is, or None if it is unreadable; the first case that applies decides (this server's rule, over
+-- JSON-RPC 1.0, 1).
 abbrev pub message_of : Data → Option Message
 message_of d =
     if has_real_id d then None
@@ -69,11 +70,11 @@ message_of d =
     else (if is_answer d then Some Answer
     else Some (request_in d)))
 
--- the tree of a text, or None where it is not UTF-8 or no JSON (RFC 8259, 8.1)
+-- the tree of a text, or None if it is not UTF-8 or no JSON (RFC 8259, 8.1)
 abbrev pub tree_of : List ℕ → Option Data
 tree_of text = if is_utf8 text then read text else None
 
--- the message that a text is, or None where it is unreadable
+-- the message that a text is, or None if it is unreadable
 unfoldable pub message_in : List ℕ → Option Message
 message_in text = option_and_then message_of (tree_of text)
 
@@ -82,12 +83,12 @@ pub record Asked : Type 0 where
   pub messages : List Message
   pub damaged : Bool
 
--- one message in front, or damage where a text is unreadable
+-- one message in front, or damage if a text is unreadable
 abbrev pub with_asked : Option Message → Asked → Asked
 with_asked None asked = record { messages = []; damaged = true }
 with_asked (Some message) asked = record asked { messages = message ∷ asked.messages }
 
--- the messages of these texts up to the first that is unreadable; damage lies behind the last one
+-- the messages of these texts up to the first that is unreadable; damage lies after the last one
 abbrev pub asked_of : List (List ℕ) → Bool → Asked
 asked_of [] damaged = record { messages = []; damaged = damaged }
 asked_of (text ∷ texts) damaged = with_asked (message_in text) (asked_of texts damaged)

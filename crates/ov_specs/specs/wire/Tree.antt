@@ -1,9 +1,9 @@
--- Which JSON trees have reals. What names no source is our own.
+-- Which JSON trees have reals.
 use Rattle.std.specs.Prelude.{◌||◌, Bool, false, is_none}
 use Rattle.serde_json.specs.Data.{Num, Data, null, boolean, number, string, array, object, Items, no_items, item, Members, no_members, member}
 use Rattle.serde_json.specs.Find.{as_i64}
 
--- a number that is no integer from -2^63 to 2^63-1 (our own; RFC 7047, 3.1 has reals, which this server leaves out)
+-- a number that is no integer from -2^63 to 2^63-1 (RFC 7047, 3.1 has reals, which this server leaves out)
 abbrev pub is_real : Num → Bool
 is_real n = is_none (as_i64 n)
 

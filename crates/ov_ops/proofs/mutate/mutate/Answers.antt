@@ -46,7 +46,7 @@ returns-in_err-conditions-clause-done g c =
     let p = err_from_is_err_and c.from_residual-in_err-conditions.result c.from_residual-in_err-conditions.ensures.1 in
     rw (p.1, p.2) (stops _ _ c.in_err-conditions.field-0.0 rows (c.in_ok-name.ensures before (from_table t rows d)) (c.in_err-conditions.ensures before (from_conditions t rows d c.in_ok-name.name.now c.in_ok-name.table.now)))
 
--- behind the mutations, and behind the rows
+-- after the mutations, and after the rows
 abbrev from_mutations : OpContext → Database → List ℕ → List Condition → List Mutation → OpOutcome
 from_mutations t rows name conditions mutations = mutates t mutations (matching rows name conditions) rows
 

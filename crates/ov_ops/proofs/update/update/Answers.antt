@@ -42,7 +42,7 @@ returns-in_err-conditions-clause-done g c =
     let p = err_from_is_err_and c.from_residual-in_err-conditions.result c.from_residual-in_err-conditions.ensures.1 in
     rw (p.1, p.2) (stops _ _ c.in_err-conditions.field-0.0 rows (c.in_ok-name.ensures before (from_table t rows d)) (c.in_err-conditions.ensures before (from_conditions t rows d c.in_ok-name.name.now c.in_ok-name.table.now)))
 
--- behind the given values
+-- after the given values
 abbrev from_given : OpContext → Database → List ℕ → List Condition → Columns → OpOutcome
 from_given t rows name conditions given = updated t given (matching rows name conditions) rows
 

@@ -14,7 +14,7 @@ wrong_count s id [] other = refl
 wrong_count s id (v ∷ []) other = absurd (other refl)
 wrong_count s id (v ∷ w ∷ items) other = refl
 
--- just one
+-- exactly one
 right_count : (s : State) (id : Data) (items : List Value) (v : Value) → length items ≡ 1 → v ≡ get_or items 0 v → schema_call s id (items_view items) ≡ schema_call_on s id (as_str (view v))
 right_count s id [] v one at = absurd (omega (arith, one))
 right_count s id (x ∷ []) v one at = ap (λ (y : Value). schema_call_on s id (as_str (view y))) (sym at)

@@ -35,7 +35,7 @@ returns-in_ok-pass_where_due-clause-entered g c = λ stream fed.
       given = λ all open'. c.in_ok-pass_where_due.ensures.due;
     }
 
--- memory was refused for it
+-- an allocation for it failed
 pub returns-in_err-pass_where_due-clause-entered : goal.returns-in_err-pass_where_due-clause-entered
 returns-in_err-pass_where_due-clause-entered g c = λ stream fed.
     let refused : is_ok c.from_residual.result ≡ false = search rules in

@@ -3,7 +3,7 @@ use Rattle.std.specs.Io.KnownBytes.{append_known}
 use Rattle.ov_ends.specs.States.{source_state, sink_state}
 use Rattle.ov_session.proofs.session.serve_over.Goals as goal
 
--- a reader of which nothing was read yet
+-- a reader from which nothing has been read yet
 reader_begins : (read : List ℕ) (remaining has : Option (List ℕ)) (at_end : Bool) (faults : ℕ) → read ≡ [] → remaining ≡ has → at_end ≡ false → faults ≡ 0 → source_state read remaining at_end faults ≡ source_state [] has false 0
 reader_begins read remaining has at_end faults a b c d = rw (a, b, c, d) refl
 
