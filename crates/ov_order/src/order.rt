@@ -12,8 +12,8 @@ use std::sync::{Condvar, Mutex, MutexGuard, Wait};
 use std::thread;
 use std::time::Duration;
 
-/// How long the desk sleeps if it may not wait for a note forever.
-const NAP: Duration = Duration::from_millis(1);
+/// How many milliseconds the desk sleeps at most while it may not wait for a note without end.
+const NAP_MILLISECONDS: u64 = 1;
 
 /// An order book that the desk and all workers share. A thread that changes the book under its lock wakes those that wait
 /// for a change.
@@ -124,10 +124,11 @@ impl<L: Ledger> Order<L> {
                 return note;
             }
         }
+        let nap = Duration::from_millis(NAP_MILLISECONDS);
         let guard = self.lock(rt);
         let (mut book, _) = self
             .changed
-            .wait_timeout_while(rt, guard, NAP, |book| book.is_empty());
+            .wait_timeout_while(rt, guard, nap, |book| book.is_empty());
         book.next()
     }
 

@@ -1,6 +1,6 @@
 ghost use Rattle.std.specs.Prelude.{◌≡◌, ◌<◌, [], length, not, false, IfOk, IfErr, MatchBool, MatchOption};
 ghost use Rattle.rtrb.specs.Ring.{sent, received, SameProducer, SameConsumer};
-ghost use Rattle.ov_ends.specs.States.{source_of};
+ghost use Rattle.ov_ends.specs.States.{source_of, sink_of};
 ghost use Rattle.ov_workers.specs.Reading.{Brings};
 ghost use Rattle.ov_workers.specs.Writing as writing;
 
@@ -111,8 +111,8 @@ impl<W: Sink> Promise<WriteEnd<W>> for Writes<W> {
     ghost kept_by = { λ p end.
         SameConsumer p.ring.value end.ring
         × MatchBool end.begun
-        (writing.Writes (not end.failed) (writing.sink_of W.Sink p.writer.value)
-        (writing.sink_of W.Sink end.writer) (received end.ring))
+        (writing.Writes (not end.failed) (sink_of W.Sink p.writer.value)
+        (sink_of W.Sink end.writer) (received end.ring))
         ((received end.ring ≡ []) × (end.writer ≡ p.writer.value) × (end.failed ≡ false)) };
 }
 
@@ -137,8 +137,8 @@ where
     ensures started { IfOk result (λ h. (h.promise.writer.value ≡ writer) × (h.promise.ring.value ≡ ring)) }
     ensures refused { IfErr result (λ end. SameConsumer ring end.ring
         × MatchBool end.begun
-        (writing.Writes (not end.failed) (writing.sink_of W.Sink writer)
-        (writing.sink_of W.Sink end.writer) (received end.ring))
+        (writing.Writes (not end.failed) (sink_of W.Sink writer)
+        (sink_of W.Sink end.writer) (received end.ring))
         ((received end.ring ≡ []) × (end.writer ≡ writer) × (end.failed ≡ false))) }
 {
     let promise = Writes {
