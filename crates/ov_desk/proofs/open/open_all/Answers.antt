@@ -29,7 +29,7 @@ loop-ring-preserved g c =
     let parts = each_first _ c.loop-ring.rings.items c.pop_front.new.self.items ring c.in-Some.ensures.items was.fresh in
     record {
       opens = λ start base s.
-          subst (λ (l : List Lane). OpensAll start base c.open_session.new.core l) (sym lane.1)
+          subst (λ (l : List Lane). OpensAll start base c.open_session.new.self l) (sym lane.1)
           (opens_more base c.loop-ring.lanes.items lane.0 (was.opens start base s) g.D.Draws.draws _ session entered (record {
             serial = ap (λ k. k.serial) lane.4;
             cause = lane.5;

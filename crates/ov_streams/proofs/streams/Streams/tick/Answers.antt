@@ -1,9 +1,12 @@
-use Rattle.ov_streams.proofs.Suiting.{passed, serves_none}
 use Rattle.std.proofs.Common.{refl}
+use Rattle.std.proofs.lemmas.Result.{err_from_is_err_and}
+use Rattle.ov_streams.proofs.Suiting.{passed, serves_none}
 use Rattle.ov_streams.proofs.streams.Streams.tick.Goals as goal
 
-pub returns-in_ok-tick : goal.returns-in_ok-tick
-returns-in_ok-tick g c = rw (← c.self.view_is) (passed _ c.args.moment _ _ refl c.in_ok-tick.ensures.ticked)
-
 pub returns-in_err-tick : goal.returns-in_err-tick
-returns-in_err-tick g c = rw (← c.self.view_is, c.in_err-tick.ensures.refused.0) (serves_none _, c.in_err-tick.ensures.refused.1)
+returns-in_err-tick g c =
+    let p = err_from_is_err_and c.from_residual.result c.from_residual.ensures.1 in
+    rw (← c.self.view_is, p.1, p.2, c.in_err-tick.ensures.refused.0) (serves_none _, c.in_err-tick.ensures.refused.1)
+
+pub returns : goal.returns
+returns g c = rw (← c.self.view_is) (passed _ c.args.moment _ _ refl c.in_ok-tick.ensures.ticked)
