@@ -1,5 +1,5 @@
-//! A driver for many sessions over TCP, beside Open vSwitch's ovsdb-server: echoes of one session and of sixteen, durable
-//! inserts of sixteen, selects of one row, updates sent to thirty-two sessions, and the memory of sixty-four.
+//! A driver for many sessions over TCP, beside Open vSwitch's ovsdb-server: echoes of one session and of sixteen, echoes after a
+//! pause, durable inserts of sixteen, selects of one row, updates sent to thirty-two sessions, and the memory of sixty-four.
 //!
 //! Each reply and each update is compared with the one that is wanted, byte by byte; where an identifier is drawn, any one will
 //! do. Those that are compared take turns in one run. Plain Rust, std only; `bench/run` builds and starts it.
@@ -11,6 +11,7 @@ mod watched;
 use std::process::ExitCode;
 use std::sync::Barrier;
 use std::thread;
+use std::time::Duration;
 use systems::{Exchange, Host, Measured, Outcome, Server, System, figure_of, file_system, inserts, say, search};
 use turns::{Bench, MICROSECONDS, STEP, SYSTEMS};
 use watched::{Row, call, monitor};
@@ -21,6 +22,10 @@ const DURABLE: [System; 2] = [System::File, System::DurablePeer];
 /// How many sessions echo, and how many requests of each are under way.
 const ECHOING: [usize; 2] = [1, 16];
 const DEPTHS: [usize; 2] = [1, 32];
+
+/// The pauses before an echo of its own, and the shares of all echoes whose time is printed.
+const PAUSES: [(&str, Duration); 2] = [("0.2 ms", Duration::from_micros(200)), ("3 ms", Duration::from_millis(3))];
+const SHARES: [(&str, f64); 3] = [("p50", 0.5), ("p99", 0.99), ("p99.9", 0.999)];
 
 /// How many sessions insert, and how many are sent updates.
 const INSERTING: usize = 16;
@@ -34,6 +39,7 @@ const ROWS: usize = 10_000;
 
 /// How many requests all sessions have together in a turn.
 const ECHOES_IN_A_TURN: usize = 4_000;
+const PAUSES_IN_A_TURN: usize = 50;
 const INSERTS_IN_A_TURN: usize = 320;
 const SELECTS_IN_A_TURN: usize = 20;
 const UPDATES_IN_A_TURN: usize = 100;
@@ -165,6 +171,33 @@ impl Bench {
         self.say_rates(&format!("echo, sessions: {count}, depth {depth}"), &all).map(drop)
     }
 
+    /// The times of single echoes, each after a pause, as clients send them that have other work.
+    fn pauses(&self, name: &str, pause: Duration) -> Outcome<()> {
+        let folder = self.folder()?;
+        let hosts = self.listening(&SYSTEMS, &folder)?;
+        let mut sessions: Vec<Server> = hosts.iter().map(Host::session).collect::<Outcome<_>>()?;
+        let turn = |session: &mut Server, measured: &mut Measured| {
+            (0..PAUSES_IN_A_TURN).try_for_each(|_| {
+                let echo = next_echo(session);
+                thread::sleep(pause);
+                measured.time(|| session.ask(&echo))
+            })?;
+            // A turn takes as long as its pauses, too.
+            measured.whole += pause * PAUSES_IN_A_TURN as u32;
+            Ok(())
+        };
+        let measured = self.take_turns(&mut sessions, turn)?;
+        for (share, part) in SHARES {
+            let name = format!("echo after a pause of {name}, {share}");
+            let all: Vec<_> = hosts.iter().zip(&measured).map(|(host, one)| (host.system, one.quantile(part))).collect();
+            for (system, time) in &all {
+                say(&format!("{name}, {}", system.name()), format!("{time:>11.1} us"))?;
+            }
+            figure_of(&name, &all, "us")?;
+        }
+        Ok(())
+    }
+
     fn durable_inserts(&self) -> Outcome<()> {
         say("files on", file_system(&self.folder()?.0)?)?;
         let all = self.sessions(&DURABLE, INSERTING, 1, INSERTS_IN_A_TURN, next_insert)?;
@@ -227,6 +260,7 @@ impl Bench {
 
     fn all_figures(&self) -> Outcome<()> {
         ECHOING.into_iter().try_for_each(|count| DEPTHS.into_iter().try_for_each(|depth| self.echoes(count, depth)))?;
+        PAUSES.into_iter().try_for_each(|(name, pause)| self.pauses(name, pause))?;
         self.durable_inserts()?;
         self.selects()?;
         self.monitors()?;

@@ -531,9 +531,15 @@ impl Measured {
 
     /// The median in microseconds.
     pub fn median(&self) -> f64 {
+        self.quantile(0.5)
+    }
+
+    /// The time in microseconds that this share of all times is below.
+    pub fn quantile(&self, share: f64) -> f64 {
         let mut times = self.times.clone();
         times.sort();
-        times.get(times.len() / 2).map_or(0.0, |time| time.as_secs_f64() * 1e6)
+        let at = (times.len() as f64 * share) as usize;
+        times.get(at.min(times.len().saturating_sub(1))).map_or(0.0, |time| time.as_secs_f64() * 1e6)
     }
 
     /// Adds a turn: `count` requests, as `make` gives them, with up to `depth` under way. New ones are sent when half of them are
