@@ -16,5 +16,5 @@ pub use connections::serve_connections;
 pub use endings::{ending_of_listening, ending_of_serving};
 pub use links::serve_sessions;
 pub use place::{Place, serve_place};
-pub use stores::{serve_file, serve_memory};
+pub use stores::{serve_database, serve_file, serve_memory};
 pub use system::System;

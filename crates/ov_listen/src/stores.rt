@@ -1,5 +1,6 @@
 //! Sessions of a database in memory, or of the store in a file.
 
+ghost use Rattle.std.specs.Prelude.{IfNone, IfSome};
 ghost use Rattle.sqlite_wal.specs.Files.{image_at};
 ghost use Rattle.ov_listen.specs.Places.{EndsPlace, EndsStore};
 ghost use Rattle.ov_listen.specs.Stores.{IsNewKeeper, IsOfFiles};
@@ -74,6 +75,35 @@ where
         }
     }
     ending
+}
+
+/// Serves sessions of the database in the file at a path, as `serve_file` does; if there is no path, of a new one in memory, as
+/// `serve_memory` does.
+pub fn serve_database<'a, R, S, D, I, O>(
+    host: &HostRuntime,
+    rt: &'a R,
+    path: Option<Text>,
+    start: S,
+    text: Text,
+    schema: Schema,
+    draws: D,
+    place: Place<I, O>,
+) -> Ending
+where
+    R: System,
+    S: Start,
+    D: Draws + Drop,
+    I: Read + Drop,
+    O: Write + Drop,
+    ensures memory { IfNone path ((keeper : _) × (left : _) × IsNewKeeper ⟦<VolatileKeeper as Keeper>⟧ text keeper
+        × EndsPlace ⟦<VolatileKeeper as Keeper>⟧ ⟦<MonotonicClock<'a, R> as Clock>⟧.tells I.remaining O.contents place keeper schema draws result left) }
+    ensures file { IfSome path (λ _. (store : _) × (left : _) × IsOfFiles (image_at S.Start) text store
+        × EndsStore ⟦<Store<FileStore<FileFrom<S>>> as Keeper>⟧ ⟦<MonotonicClock<'a, R> as Clock>⟧.tells I.remaining O.contents place store schema draws result left) }
+{
+    match path {
+        None => serve_memory(rt, host.alloc(), text, schema, draws, place),
+        Some(path) => serve_file(host, rt, path.as_str(), start, text, schema, draws, place),
+    }
 }
 
 /// Serves sessions of a store, if it could be opened.

@@ -1,11 +1,12 @@
 //! From the program's arguments to the database that it serves.
 
+ghost use Rattle.std.specs.Prelude.{◌≡◌, IfNone, IfSome};
+
 use crate::database::built_in_schema;
 use crate::draws::RandomDraws;
 use ov_base::Text;
 use ov_core::Schema;
-use ov_listen::{Place, System, serve_file, serve_memory};
-use ov_requests::Draws;
+use ov_listen::{Place, serve_database};
 use ov_schema::text_of;
 use ov_schema_text::read_schema;
 use ov_words::{Ending, Settings, ending_of_schema, ending_of_words, read_words};
@@ -25,6 +26,8 @@ fn place_of<I, O>(listen: Option<Text>, sessions: Option<u64>, input: I, output:
 where
     I: Read + Drop,
     O: Write + Drop,
+    ensures streams { IfNone listen (result ≡ Place.Streams input output) }
+    ensures address { IfSome listen (λ address. result ≡ Place.Address address sessions) }
 {
     match listen {
         None => Place::Streams(input, output),
@@ -68,31 +71,7 @@ where
     let Ok(draws) = RandomDraws::seeded(rt) else {
         return Ending::Database;
     };
-    serve(host, rt, start, db, text, schema, draws, place)
-}
-
-/// Serves sessions of the database in a file or in memory.
-fn serve<R, S, D, I, O>(
-    host: &HostRuntime,
-    rt: &R,
-    start: S,
-    db: Option<Text>,
-    text: Text,
-    schema: Schema,
-    draws: D,
-    place: Place<I, O>,
-) -> Ending
-where
-    R: System,
-    S: Start,
-    D: Draws + Drop,
-    I: Read + Drop,
-    O: Write + Drop,
-{
-    match db {
-        None => serve_memory(rt, host.alloc(), text, schema, draws, place),
-        Some(path) => serve_file(host, rt, path.as_str(), start, text, schema, draws, place),
-    }
+    serve_database(host, rt, db, start, text, schema, draws, place)
 }
 
 /// What the arguments say.
