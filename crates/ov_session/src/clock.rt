@@ -51,7 +51,8 @@ impl<'a, R: SystemClock> Clock for MonotonicClock<'a, R> {
 
     fn now(&mut self) -> u64 {
         self.reading = Instant::now(self.system).ok();
-        self.last = self.last.max(milliseconds_between(self.start, self.reading));
+        let passed = milliseconds_between(self.start, self.reading);
+        self.last = self.last.max(passed);
         self.last
     }
 }

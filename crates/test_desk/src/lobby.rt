@@ -8,14 +8,14 @@ use ov_lobby::{Listen, serve_lobby};
 use ov_requests::Draws;
 use ov_workers::FreeGate;
 use std::alloc::Global;
-use std::{io, thread};
 use std::io::{Read, Write};
 use std::rt::Clock;
-use std::sync::{Mutex, Wait};
 use std::sync::atomic::{AtomicBool, AtomicU64, Ordering};
+use std::sync::{Mutex, Wait};
 use std::test::Fail;
 use std::thread::Threads;
 use std::time::Duration;
+use std::{io, thread};
 use test_basics::{Faults, is_text};
 use test_support::net_core;
 

@@ -95,7 +95,11 @@ fn an_order_answers_where_nobody_has_to_wait(rt: HostRuntime) -> Result<(), Fail
 }
 
 /// What a desk finds that waits briefly: nothing where nothing is noted, and then a note, with and without a look for it.
-fn brief_waits<R: Wait + Clock, L: Ledger>(rt: &R, alloc: Global, blank: Blank) -> Result<String, Fail>
+fn brief_waits<R: Wait + Clock, L: Ledger>(
+    rt: &R,
+    alloc: Global,
+    blank: Blank,
+) -> Result<String, Fail>
     requires name { blank.name ≡ L.name }
     requires parts { (blank.parts ≡ L.parts) × (blank.parts ≡ 1) }
 {

@@ -11,5 +11,9 @@ fn the_clock_counts_milliseconds(rt: HostRuntime) -> Result<(), Fail> {
     let first = clock.now();
     thread::sleep(&rt, Duration::from_millis(20));
     let passed = clock.now().saturating_sub(first);
-    holds(rt.alloc(), passed >= 20 && passed < 2_000, "20 milliseconds passed")
+    holds(
+        rt.alloc(),
+        passed >= 20 && passed < 2_000,
+        "20 milliseconds passed",
+    )
 }
