@@ -3,7 +3,7 @@ use Rattle.std.specs.VecDeque.{deque_len}
 use Rattle.ov_core.specs.Following.{CoreState}
 use Rattle.ov_desk.specs.Ends.{ServesAll}
 use Rattle.ov_desk.specs.Serving.{RefusesLinks}
-use Rattle.ov_listen.specs.Chain.{sink_of, source_of}
+use Rattle.ov_ends.specs.States.{source_of, sink_of}
 use Rattle.ov_listen.proofs.links.serve_sessions.Goals as goal
 
 pub returns-in-Ok : goal.returns-in-Ok
