@@ -10,6 +10,7 @@ use ov_sockets::listen;
 use ov_workers::FreeGate;
 use std::alloc::Global;
 use std::net::{Net, Shutdown, TcpListener, TcpStream};
+use std::rt::Clock as SystemClock;
 use std::sync::Wait;
 use std::test::Fail;
 use std::thread;
@@ -49,7 +50,7 @@ impl Listen<Watched<TcpStream>, Watched<TcpStream>> for Few<'_> {
 }
 
 /// Serves connections in a lobby, and returns how many entries the history then has. None if the lobby is refused.
-fn serve_few<R: Threads + Wait + Sync, K: Keeper + Drop, D: Draws + Drop>(
+fn serve_few<R: Threads + Wait + SystemClock + Sync, K: Keeper + Drop, D: Draws + Drop>(
     rt: &R,
     alloc: Global,
     desk: Desk<K, D>,
@@ -62,7 +63,7 @@ fn serve_few<R: Threads + Wait + Sync, K: Keeper + Drop, D: Draws + Drop>(
 }
 
 /// The same with the first two connections of a listener, over a new in-memory database Net.
-fn serve_two<R: Threads + Wait + Sync>(
+fn serve_two<R: Threads + Wait + SystemClock + Sync>(
     rt: &R,
     alloc: Global,
     listener: &TcpListener,
@@ -102,7 +103,7 @@ fn is_served(
 }
 
 /// The same with clients that talk while they are served.
-fn are_served<R: Threads + Wait + Sync>(
+fn are_served<R: Threads + Wait + SystemClock + Sync>(
     rt: &R,
     alloc: Global,
     listener: &TcpListener,
@@ -120,7 +121,7 @@ fn are_served<R: Threads + Wait + Sync>(
 /// The same with new clients.
 fn two_are_served<R>(rt: &R, alloc: Global, listener: &TcpListener) -> Result<(), Fail>
 where
-    R: Net<Listener = TcpListener, Stream = TcpStream> + Threads + Wait + Sync,
+    R: Net<Listener = TcpListener, Stream = TcpStream> + Threads + Wait + SystemClock + Sync,
 {
     let first = client_of(rt, listener)?;
     let second = client_of(rt, listener)?;
