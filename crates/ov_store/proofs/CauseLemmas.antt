@@ -28,7 +28,8 @@ use Rattle.sqlite_wal.specs.Reads.{tally_of_files}
 use Rattle.sqlite_wal.specs.Recovery.{Image}
 use Rattle.ov_keeper.specs.declared.fault.KeepFault.{KeepFault}
 use Rattle.ov_keeper.specs.declared.fault.KeepFault.TheVariants.{NotOurs}
-use Rattle.ov_store.specs.Causes.{IsOpenable, HasFault, Explains, IsUnopened, FailsInMemory, FailsToBegin, IsCopyRefused, IsOpenRefused, IsLookRefused, error_in_memory}
+use Rattle.ov_store.specs.Answers.{Opening, WasAnswered}
+use Rattle.ov_store.specs.Causes.{IsOpenable, HasFault, Explains, IsUnopened, FailsInMemory, FailsToBegin, IsErrorInMemory, SaysOfCopy, IsCopyRefused, error_in_memory}
 use Rattle.ov_store.specs.Refusing.{fault_of_open}
 
 abbrev pub none_met : Tally
@@ -63,19 +64,21 @@ module _ {D : Type 0} {g : disk.Ghosts D} where
   explained image files left e held zero none (inr (inr (inr (is, full)))) = subst (λ (e : Error). Explains image left (fault_of_open e)) (sym is) (inr full)
 
   -- why an opening of files that held this is refused
-  pub unopened : (image : Image) (left : Option (Leftover D g)) (e : Error) (Cause : Leftover D g → Type 0)
+  pub unopened : (path : List ℕ) (image : Image) (left : Option (Leftover D g)) (e : Error) (Cause : Leftover D g → Type 0)
       → (left ≡ None → (e ≡ SqliteFailure CannotOpen) ⊎ ((e ≡ SqliteFailure OutOfMemory) ⊎ (e ≡ SqliteFailure DatabaseBusy)))
       → ((it : Leftover D g) → Cause it → (files : Files D) × IsStart g image files × (IsCleanLeft it → FailsToOpenFiles files it e)) → IfSome left Cause
-      → IsTrue (is_open_error e) → IsUnopened g image (fault_of_open e)
-  unopened image None e Cause kind tells cause named = (
-    (e, named, refl),
+      → WasAnswered (Opening path) e → IsTrue (is_open_error e) → IsUnopened g path image (fault_of_open e)
+  unopened path image None e Cause kind tells cause answer is_named = (
+    (e, answer, is_named, refl),
     elim (kind refl) [
       | inl is ↦ inl (inr (ap fault_of_open is))
       | inr (inl is) ↦ inl (inl (ap fault_of_open is))
       | inr (inr is) ↦ inl (inr (ap fault_of_open is))
     ],
   )
-  unopened image (Some it) e Cause kind tells cause named = let told = tells it cause in ((e, named, refl), inr (it, λ clean. explained image told.0 it e told.1.0 told.1.1 told.1.2 (told.2 clean)))
+  unopened path image (Some it) e Cause kind tells cause answer is_named =
+      let start = tells it cause in
+      ((e, answer, is_named, refl), inr (it, λ clean. explained image start.0 it e start.1.0 start.1.1 start.1.2 (start.2 clean)))
 
   -- files in memory meet neither damage nor a full disk
   none_left : ((d : D) → g.tally_of d ≡ none_met) → (left : Leftover D g) → tally_left left ≡ none_met
@@ -108,17 +111,17 @@ module _ {D : Type 0} {g : disk.Ghosts D} where
   fails_to_begin image e nothing (inr (inl foreign)) = absurd (foreign.1 (inr nothing))
   fails_to_begin image e nothing (inr (inr limit)) = inr limit
 
-  -- a copy of files is refused for the same
-  of_copy : (copy : Image) (e : Error) → FailsInMemory g copy e → IsCopyRefused copy (fault_of_open e)
-  of_copy copy e (inl memory) = subst (λ (e : Error). IsCopyRefused copy (fault_of_open e)) (sym memory) tt
-  of_copy copy e (inr (inl (inl is, foreign))) = subst (λ (e : Error). IsCopyRefused copy (fault_of_open e)) (sym is) (inl foreign)
-  of_copy copy e (inr (inl (inr is, foreign))) = subst (λ (e : Error). IsCopyRefused copy (fault_of_open e)) (sym is) (inl foreign)
-  of_copy copy e (inr (inr limit)) = subst (λ (e : Error). IsCopyRefused copy (fault_of_open e)) (sym limit.0) tt
+  -- the same of a copy of files
+  of_copy : (copy : Image) (e : Error) → FailsInMemory g copy e → SaysOfCopy copy (fault_of_open e)
+  of_copy copy e (inl memory) = subst (λ (e : Error). SaysOfCopy copy (fault_of_open e)) (sym memory) tt
+  of_copy copy e (inr (inl (inl is, foreign))) = subst (λ (e : Error). SaysOfCopy copy (fault_of_open e)) (sym is) foreign
+  of_copy copy e (inr (inl (inr is, foreign))) = subst (λ (e : Error). SaysOfCopy copy (fault_of_open e)) (sym is) foreign
+  of_copy copy e (inr (inr limit)) = subst (λ (e : Error). SaysOfCopy copy (fault_of_open e)) (sym limit.0) tt
 
-  pub copy_refused : (seen : Image) (log db : List ℕ) (e : Error) → FailsInMemory g seen e → seen.log ≡ log → seen.db ≡ db → IsCopyRefused (record { log = log; db = db }) (fault_of_open e)
-  copy_refused seen log db e fails is_log is_db =
+  pub copy_refused : (seen : Image) (log db : List ℕ) (e : Error) → IsErrorInMemory seen e → FailsInMemory g seen e → seen.log ≡ log → seen.db ≡ db → IsCopyRefused (record { log = log; db = db }) (fault_of_open e)
+  copy_refused seen log db e answer fails is_log is_db =
       let image : seen ≡ record { log = log; db = db } = λ i. record { log = is_log i; db = is_db i } in
-      subst (λ (i : Image). IsCopyRefused i (fault_of_open e)) image (of_copy seen e fails)
+      subst (λ (i : Image). IsCopyRefused i (fault_of_open e)) image (inl (e, answer, refl, of_copy seen e fails))
 
 -- a copy that was opened and does not pass is foreign
 pub foreign_refused : {T : Type 0} (seen : Image) (log db : List ℕ) (s : State) → Opens s → IsLive s → AreFoundIn seen s.committed.trees → seen.log ≡ log → seen.db ≡ db
@@ -126,15 +129,13 @@ pub foreign_refused : {T : Type 0} (seen : Image) (log db : List ℕ) (s : State
 foreign_refused seen log db s opens live found is_log is_db schema is (Ok x) refused = tt
 foreign_refused seen log db s opens live found is_log is_db schema is (Err fault) refused =
     let image : seen ≡ record { log = log; db = db } = λ i. record { log = is_log i; db = is_db i } in
-    subst (IsCopyRefused (record { log = log; db = db })) (sym refused.0) (inr (record {
-      db = s.now;
-      sound = (live opens.is_open).0;
-      found = subst (λ (i : Image). AreFoundIn i s.now.trees) image (subst (λ (d : Database). AreFoundIn seen d.trees) (sym opens.clean) found);
-      some = λ none. refused.1 (is ∙ none);
-      foreign = λ has. refused.2 (subst HasOurTables (sym is) has);
-    }))
-
--- and so it is refused
-pub look_refused : {T : Type 0} (copy : Image) (r : Result T KeepFault) → IfErr r IsOpenRefused → IfErr r (IsCopyRefused copy) → IfErr r IsLookRefused
-look_refused copy (Ok x) refused cause = tt
-look_refused copy (Err fault) refused cause = (refused, (copy, cause))
+    inr (
+      refused.0,
+      record {
+        db = s.now;
+        sound = (live opens.is_open).0;
+        found = subst (λ (i : Image). AreFoundIn i s.now.trees) image (subst (λ (d : Database). AreFoundIn seen d.trees) (sym opens.clean) found);
+        some = λ none. refused.1 (is ∙ none);
+        foreign = λ has. refused.2 (subst HasOurTables (sym is) has);
+      },
+    )

@@ -15,7 +15,8 @@ use Rattle.sqlite_wal.specs.Recovery.{Image}
 use Rattle.ov_specs.specs.rows.Lines.{Contents}
 use Rattle.ov_sqlite.specs.Tables.{no_schema, HasOurTables}
 use Rattle.ov_store.specs.StoreState.{StoreState, MayFind}
-use Rattle.ov_store.specs.Finding.{new_contents, IsNewStore, IsStoreOf, HasNoTable, IsNobodyElses, IsStoredIn, IsRefused, IsFileRefused, IsMemoryRefused}
+use Rattle.ov_store.specs.Finding.{new_contents, IsNewStore, IsStoreOf, HasNoTable, IsStoredIn, IsRefused, IsPathRefused, IsFileRefused, IsMemoryRefused}
+use Rattle.ov_store.specs.Causes.{IsNobodyElses}
 
 pub no_tables : (schema : Schema) → schema ≡ no_schema → ¬ HasOurTables schema
 no_tables schema blank has = let none = (rw blank at has).meta.named in absurd cc
@@ -69,10 +70,15 @@ module _ {S : Type 0} (g : Ghosts S) where
 
 module _ {D : Type 0} {g : disk.Ghosts D} where
   -- a store that is refused over what was opened and found is refused of the file
-  pub file_refused : (image : Image) (text : List ℕ) (c : Connected (FileStore D g)) (r : Result (StoreState (FileStore D g)) KeepFault) → IsNew c → (HasCleanDisk (file_state c) → IsOpened c) → (HasCleanDisk (file_state c) → FindsIn image (file_state c))
-      → IfErr r (λ fault. (left : Connected (FileStore D g)) × IsRefused over_files text c left fault) → IsFileRefused image text r
-  file_refused image text c (Ok s) fresh opened holds refused = tt
-  file_refused image text c (Err fault) fresh opened holds refused = inr (c, refused.0, record { fresh = fresh; opened = opened; holds = holds; refused = refused.1 })
+  pub path_refused : {T : Type 0} (path : List ℕ) (image : Image) (text : List ℕ) (c : Connected (FileStore D g)) (r : Result T KeepFault) → IsNew c → (HasCleanDisk (file_state c) → IsOpened c) → (HasCleanDisk (file_state c) → FindsIn image (file_state c))
+      → IfErr r (λ fault. (left : Connected (FileStore D g)) × IsRefused over_files text c left fault) → IfErr r (IsPathRefused g path image text)
+  path_refused path image text c (Ok s) fresh opened holds refused = tt
+  path_refused path image text c (Err fault) fresh opened holds refused = inr (c, refused.0, record { fresh = fresh; opened = opened; holds = holds; refused = refused.1 })
+
+  -- and what is refused at a path is refused at some path
+  pub file_refused : (path : List ℕ) (image : Image) (text : List ℕ) (r : Result (StoreState (FileStore D g)) KeepFault) → IfErr r (IsPathRefused g path image text) → IsFileRefused image text r
+  file_refused path image text (Ok s) refused = tt
+  file_refused path image text (Err fault) refused = (path, refused)
 
   -- and one that is refused over nothing, of memory
   pub memory_refused : (text : List ℕ) (c : Connected (FileStore D g)) (r : Result (StoreState (FileStore D g)) KeepFault) → IsEmpty (file_state c)

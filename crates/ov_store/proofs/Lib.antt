@@ -1,3 +1,4 @@
+pub mod AnswerLemmas
 pub mod ResultLemmas
 pub mod FoundLemmas
 pub mod EmptyLemmas

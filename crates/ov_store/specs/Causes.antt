@@ -1,5 +1,5 @@
 -- Why files are refused at an open, by what the program answers.
-use Rattle.std.specs.Prelude.{◌≡◌, ◌≢◌, ◌⊎◌, ◌<◌, ⊤, IsTrue}
+use Rattle.std.specs.Prelude.{◌≡◌, ◌≢◌, ◌⊎◌, ◌<◌, ℕ, List, ⊤, IsTrue}
 use Rattle.sqlite.specs.declared.error.ErrorCode.TheVariants.{OutOfMemory, NotADatabase, DatabaseCorrupt, DiskFull, SystemIoFailure}
 use Rattle.sqlite.specs.declared.error.Error.{Error}
 use Rattle.sqlite.specs.declared.error.Error.TheVariants.{SqliteFailure}
@@ -12,6 +12,7 @@ use Rattle.sqlite_trees.specs.Tree.{Trees}
 use Rattle.sqlite_wal.specs.Recovery.{Image}
 use Rattle.ov_keeper.specs.declared.fault.KeepFault.{KeepFault}
 use Rattle.ov_keeper.specs.declared.fault.KeepFault.TheVariants.{Memory, Device, NotOurs}
+use Rattle.ov_store.specs.Answers.{Opening, OpeningCopy, WasAnswered}
 use Rattle.ov_store.specs.Refusing.{fault_of_open}
 use Rattle.ov_sqlite.specs.Tables.{no_schema, HasOurTables}
 
@@ -27,25 +28,36 @@ pub record IsSomebodyElses (image : Image) : Type 0 where
   pub some : db.schema ≢ no_schema
   pub foreign : ¬ HasOurTables db.schema
 
--- why a copy in memory of a file and its log is refused; `Device` is named if the copy is at a limit of SQLite
-abbrev pub IsCopyRefused : Image → KeepFault → Type 0
-IsCopyRefused copy Memory = ⊤
-IsCopyRefused copy Device = ⊤
-IsCopyRefused copy NotOurs = (¬ IsOpenable copy) ⊎ IsSomebodyElses copy
-IsCopyRefused copy _ = ⊥
-
--- the fault is that of some error of SQLite at an open
-abbrev pub IsOpenRefused : KeepFault → Type 0
-IsOpenRefused fault = (error : Error) × IsTrue (is_open_error error) × (fault ≡ fault_of_open error)
-
--- some copy was refused with this fault
-abbrev pub IsLookRefused : KeepFault → Type 0
-IsLookRefused fault = IsOpenRefused fault × ((copy : Image) × IsCopyRefused copy fault)
+-- what the files recover to is not foreign: it has no table, index or view, or it has the tables of the format
+pub record IsNobodyElses (image : Image) : Type 0 where
+  pub db : Database
+  pub sound : IsDatabase db
+  pub found : AreFoundIn image db.trees
+  pub ours : (db.schema ≡ no_schema) ⊎ HasOurTables db.schema
 
 -- a file in memory fails only if it cannot grow
 abbrev pub error_in_memory : Error → Error
 error_in_memory (SqliteFailure SystemIoFailure) = SqliteFailure OutOfMemory
 error_in_memory e = e
+
+-- SQLite refused files in memory that hold this, with this error in its name for them
+abbrev pub IsErrorInMemory : Image → Error → Type 0
+IsErrorInMemory image e = (below : Error) × WasAnswered (OpeningCopy image) below × (e ≡ error_in_memory below)
+
+-- what a refusal by SQLite of files in memory says of them; `Device` is named if they are at a limit of SQLite
+abbrev pub SaysOfCopy : Image → KeepFault → Type 0
+SaysOfCopy copy Memory = ⊤
+SaysOfCopy copy Device = ⊤
+SaysOfCopy copy NotOurs = ¬ IsOpenable copy
+SaysOfCopy copy _ = ⊥
+
+-- why a copy in memory of a file and its log is refused: SQLite did not open it, or it is foreign
+abbrev pub IsCopyRefused : Image → KeepFault → Type 0
+IsCopyRefused copy fault = ((e : Error) × IsErrorInMemory copy e × (fault ≡ fault_of_open e) × SaysOfCopy copy fault) ⊎ ((fault ≡ NotOurs) × IsSomebodyElses copy)
+
+-- the fault is that of the error with which SQLite did not open the file at a path
+abbrev pub IsOpenRefused : List ℕ → KeepFault → Type 0
+IsOpenRefused path fault = (error : Error) × WasAnswered (Opening path) error × IsTrue (is_open_error error) × (fault ≡ fault_of_open error)
 
 module _ {D : Type 0} {g : disk.Ghosts D} where
   -- a call on the files failed
@@ -64,10 +76,10 @@ module _ {D : Type 0} {g : disk.Ghosts D} where
   Explains image left _ = ⊥
 
 module _ {D : Type 0} (g : disk.Ghosts D) where
-  -- why files that held this were not opened: the system refused them, or, if their device was honest, what is left of them
-  -- explains the fault
-  abbrev pub IsUnopened : Image → KeepFault → Type 0
-  IsUnopened image fault = IsOpenRefused fault
+  -- why the file at a path was not opened, if the files held this: SQLite answered with an error. Either the system refused
+  -- them, or, if their device was honest, what is left of them explains the fault.
+  abbrev pub IsUnopened : List ℕ → Image → KeepFault → Type 0
+  IsUnopened path image fault = IsOpenRefused path fault
       × (((fault ≡ Memory) ⊎ (fault ≡ Device)) ⊎ ((left : Leftover D g) × (IsCleanLeft left → Explains image left fault)))
 
   -- files are at a limit of SQLite

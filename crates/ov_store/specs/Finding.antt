@@ -1,5 +1,5 @@
 -- What the store of a connection that was just opened holds.
-use Rattle.std.specs.Prelude.{◌≡◌, ◌≢◌, ◌↔◌, ◌⊎◌, ℕ, List, Result, Ok, Err}
+use Rattle.std.specs.Prelude.{◌≡◌, ◌≢◌, ◌↔◌, ◌⊎◌, ℕ, List, [], Result, Ok, Err}
 use Rattle.std.specs.FinMap.{empty}
 use Rattle.sqlite.specs.Store.{Ghosts}
 use Rattle.sqlite.specs.declared.error.Error.{Error}
@@ -20,7 +20,9 @@ use Rattle.ov_sqlite.specs.Format.{IsFormat, held}
 use Rattle.ov_sqlite.specs.Making.{IsNewFile}
 use Rattle.ov_sqlite.specs.Querying.{IsAsBefore}
 use Rattle.ov_store.specs.Refusing.{fault_of_open}
-use Rattle.ov_store.specs.Causes.{IsLookRefused, IsUnopened, FailsToBegin}
+use Rattle.ov_store.specs.Answers.{Making, Testing, WasAnswered}
+use Rattle.ov_store.specs.Causes.{IsErrorInMemory, IsUnopened, FailsToBegin}
+use Rattle.ov_store.specs.Looking.{IsLookRefused}
 use Rattle.ov_store.specs.StoreState.{StoreState, MayFind}
 
 -- a schema text and no lines
@@ -46,10 +48,15 @@ module _ {S : Type 0} (g : Ghosts S) where
   abbrev pub IsStoreOf : List ℕ → Connected S → StoreState S → Type 0
   IsStoreOf text c s = IsNewStore text c s ⊎ IsOldStore c s
 
+  -- a fault other than `NotOurs` is one with which the making or the testing of the tables stopped
+  abbrev pub IsToldOf : Connected S → KeepFault → Type 0
+  IsToldOf c fault = (fault ≡ NotOurs) ⊎ (((c.schema ≡ no_schema) × WasAnswered Making fault) ⊎ (HasOurTables c.schema × WasAnswered Testing fault))
+
   -- why a connection has no store, and what it still holds: what it held before, except that a device that failed while the
   -- tables were made may leave the whole new database
   pub record IsRefused (text : List ℕ) (c left : Connected S) (fault : KeepFault) : Type 0 where
     pub ours : (fault ≡ NotOurs) ↔ ((c.schema ≢ no_schema) × (¬ HasOurTables c.schema))
+    pub told : IsToldOf c fault
     pub tables : fault ≡ Format → HasOurTables c.schema
     pub format : fault ≡ Format → HasCleanDisk (state g left) → (any : List ℕ) → ¬ IsFormat any (state g c).now
     pub same : HasCleanDisk (state g left) → IsAsBefore (state g c) (state g left)
@@ -78,13 +85,6 @@ pub record IsStoredIn (image : Image) (contents : Contents) : Type 0 where
   pub format : IsFormat text db
   pub contents_are : contents ≡ held db.trees
 
--- what the files recover to is not foreign: it has no table, index or view, or it has the tables of the format
-pub record IsNobodyElses (image : Image) : Type 0 where
-  pub db : Database
-  pub sound : IsDatabase db
-  pub found : AreFoundIn image db.trees
-  pub ours : (db.schema ≡ no_schema) ⊎ HasOurTables db.schema
-
 module _ {D : Type 0} {g : disk.Ghosts D} where
   -- SQLite opened the files and found what they held, which has no store
   pub record IsFoundRefused (image : Image) (text : List ℕ) (fault : KeepFault) (found left : Connected (FileStore D g)) : Type 0 where
@@ -93,12 +93,18 @@ module _ {D : Type 0} {g : disk.Ghosts D} where
     pub holds : HasCleanDisk (file_state found) → FindsIn image (file_state found)
     pub refused : IsRefused over_files text found left fault
 
-  -- a refusal is one of three: of a copy, of the files as they were opened, or of what they held
+module _ {D : Type 0} (g : disk.Ghosts D) where
+  -- a refusal of the file at a path is one of three: by the look at it, as it was opened, or of what was found in it
+  abbrev pub IsPathRefused : List ℕ → Image → List ℕ → KeepFault → Type 0
+  IsPathRefused path image text fault = (IsLookRefused path fault ⊎ IsUnopened g path image fault) ⊎ ((found : Connected (FileStore D g)) × (left : Connected (FileStore D g)) × IsFoundRefused image text fault found left)
+
+module _ {D : Type 0} {g : disk.Ghosts D} where
+  -- the same of the file at some path
   abbrev pub IsFileRefused : Image → List ℕ → Result (StoreState (FileStore D g)) KeepFault → Type 0
   IsFileRefused image text (Ok s) = Unit {0}
-  IsFileRefused image text (Err fault) = (IsLookRefused fault ⊎ IsUnopened g image fault) ⊎ ((found : Connected (FileStore D g)) × (left : Connected (FileStore D g)) × IsFoundRefused image text fault found left)
+  IsFileRefused image text (Err fault) = (path : List ℕ) × IsPathRefused g path image text fault
 
   -- a refusal in memory is of the empty files, or of a connection that has no table
   abbrev pub IsMemoryRefused : List ℕ → Result (StoreState (FileStore D g)) KeepFault → Type 0
   IsMemoryRefused text (Ok s) = Unit {0}
-  IsMemoryRefused text (Err fault) = ((error : Error) × FailsToBegin g error × (fault ≡ fault_of_open error)) ⊎ ((found : Connected (FileStore D g)) × (left : Connected (FileStore D g)) × IsEmpty (file_state found) × IsRefused over_files text found left fault)
+  IsMemoryRefused text (Err fault) = ((error : Error) × FailsToBegin g error × IsErrorInMemory (record { log = []; db = [] }) error × (fault ≡ fault_of_open error)) ⊎ ((found : Connected (FileStore D g)) × (left : Connected (FileStore D g)) × IsEmpty (file_state found) × IsRefused over_files text found left fault)

@@ -7,8 +7,9 @@ ghost use Rattle.sqlite.specs.Start.{FindsIn};
 ghost use Rattle.sqlite.specs.State.{HasCleanDisk};
 ghost use Rattle.ov_keeper.specs.Keeping.{IsCommitFault};
 ghost use Rattle.ov_store.specs.StoreState.{MayFind};
-ghost use Rattle.ov_store.specs.Finding.{new_contents, HasNoTable, IsStoredIn, IsFileRefused, IsMemoryRefused};
-ghost use Rattle.ov_store.specs.Causes.{IsOpenRefused, IsUnopened};
+ghost use Rattle.ov_store.specs.Finding.{new_contents, HasNoTable, IsStoredIn, IsFileRefused, IsPathRefused, IsMemoryRefused};
+ghost use Rattle.ov_store.specs.Looking.{MayBeOpened};
+ghost use Rattle.ov_store.specs.Causes.{IsUnopened};
 ghost use Rattle.ov_store.specs.Refusing.{fault_of_open};
 
 use crate::look::test_file;
@@ -42,19 +43,22 @@ pub(crate) fn fault_of_open(error: &Error) -> KeepFault
 ///
 /// Returns `NotOurs` if the file holds no database, or if a read returned other bytes than an earlier one. Returns `Device`
 /// for the path `:memory:`, a path that begins with `file:`, a folder, a file that another process has open, anything else
-/// that the system refuses, and a file at a limit of SQLite. For files that were opened, the contract says so under an
-/// honest device. It does not say why the system refused a file.
-pub fn open_file<S: Start>(
+/// that the system refuses, and a file at a limit of SQLite. A fault is that of the error that SQLite answered. For files
+/// that were opened, the contract says under an honest device what explains it. It does not say why the system refused a
+/// file.
+///
+/// The file was looked at before, since an open changes it, whatever it holds.
+pub(crate) fn open_file<S: Start>(
     rt: &HostRuntime,
     path: &str,
     start: S,
 ) -> Result<Connection<FileStore<FileFrom<S>>>, KeepFault>
+    requires { MayBeOpened path.now }
     ensures new { IfOk result IsNew }
     ensures opened { IfOk result (λ c. HasCleanDisk (file_state c) → IsOpened c) }
     ensures found { IfOk result (λ c. HasCleanDisk (file_state c) → FindsIn (image_at S.Start) (file_state c)) }
     ensures sums { IfOk result (λ c. HasCleanDisk (file_state c) → IsBlankAs true (image_at S.Start) → IsTrue (view c.store).has_sums) }
-    ensures refused { IfErr result IsOpenRefused }
-    ensures cause { IfErr result (IsUnopened ⟦<FileFrom<S> as Disk>⟧ (image_at S.Start)) }
+    ensures cause { IfErr result (IsUnopened ⟦<FileFrom<S> as Disk>⟧ path.now (image_at S.Start)) }
     ensures memory { path.now ≡ codes ":memory:" → result ≡ Err KeepFault.Device }
 {
     match Connection::open_from(rt, path, true, start) {
@@ -77,6 +81,7 @@ pub fn store_in_file<S: Start>(
     ensures found { IfOk result (λ s. HasCleanDisk (file_state s.connection) → (contents : _) → MayFind over_files s.connection contents
         → (HasNoTable (image_at S.Start) × (contents ≡ new_contents schema)) ⊎ IsStoredIn (image_at S.Start) contents) }
     ensures fresh { IfOk result (λ s. s.failures ≡ 0) }
+    ensures cause { IfErr result (IsPathRefused ⟦<FileFrom<S> as Disk>⟧ path.now (image_at S.Start) schema) }
     ensures refused { IsFileRefused (image_at S.Start) schema result }
 {
     test_file(rt, path)?;

@@ -6,6 +6,7 @@
 
 mod close;
 mod commit;
+mod copies;
 mod crash;
 mod file;
 mod keep;
@@ -20,7 +21,7 @@ mod unopened;
 
 pub use close::close_in_file;
 pub use crash::reopen_after_crash;
-pub use file::{open_file, store_in_file, store_in_memory};
+pub use file::{store_in_file, store_in_memory};
 pub use memory::open_in_memory;
 pub use memory_disk::MemoryDisk;
 pub use ov_keeper::{Change, KeepFault, Line};

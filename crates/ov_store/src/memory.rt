@@ -1,10 +1,9 @@
-ghost use Rattle.std.specs.Prelude.{◌≡◌, IfOk, IfErr, IsTrue};
+ghost use Rattle.std.specs.Prelude.{◌≡◌, [], IfOk, IfErr};
 ghost use Rattle.sqlite.specs.Files.{file_state, image_of, Finds, IsOpened};
 ghost use Rattle.sqlite.specs.Held.{IsNew};
-ghost use Rattle.sqlite.specs.Opening.{is_open_error};
 ghost use Rattle.sqlite.specs.State.{HasCleanDisk};
 ghost use Rattle.sqlite.specs.Steps.{IsEmpty};
-ghost use Rattle.ov_store.specs.Causes.{error_in_memory, FailsInMemory, FailsToBegin};
+ghost use Rattle.ov_store.specs.Causes.{error_in_memory, FailsInMemory, FailsToBegin, IsErrorInMemory};
 
 use crate::memory_disk::MemoryDisk;
 use sqlite::{Connection, Error, ErrorCode, FileStore, Files, Options};
@@ -13,8 +12,7 @@ use std::alloc::Global;
 
 /// The error for refused files in memory: SQLite reports the device if one cannot grow.
 fn error_in_memory(error: Error) -> Error
-    ensures value { result ≡ error_in_memory error }
-    ensures named { IsTrue (is_open_error error) → IsTrue (is_open_error result) }
+    ensures { result ≡ error_in_memory error }
 {
     match error {
         Error::SqliteFailure(ErrorCode::SystemIoFailure) => {
@@ -33,7 +31,7 @@ pub(crate) fn open_memory_files(
     ensures new { IfOk result IsNew }
     ensures opened { IfOk result (λ c. HasCleanDisk (file_state c) → IsOpened c) }
     ensures found { IfOk result (λ c. HasCleanDisk (file_state c) → Finds files c) }
-    ensures named { IfErr result (λ e. IsTrue (is_open_error e)) }
+    ensures told { IfErr result (IsErrorInMemory (image_of ⟦<MemoryDisk as Disk>⟧ files)) }
     ensures cause { IfErr result (FailsInMemory ⟦<MemoryDisk as Disk>⟧ (image_of ⟦<MemoryDisk as Disk>⟧ files)) }
 {
     match Connection::open_files(alloc, files, Options::new(1)) {
@@ -48,6 +46,7 @@ pub fn open_in_memory(alloc: Global) -> Result<Connection<FileStore<MemoryDisk>>
     ensures new { IfOk result IsNew }
     ensures clean { IfOk result (λ c. HasCleanDisk (file_state c)) }
     ensures empty { IfOk result (λ c. IsEmpty (file_state c)) }
+    ensures told { IfErr result (IsErrorInMemory (record { log = []; db = [] })) }
     ensures cause { IfErr result (FailsToBegin ⟦<MemoryDisk as Disk>⟧) }
 {
     let files = Files {

@@ -1,4 +1,4 @@
-ghost use Rattle.std.specs.Prelude.{◌≡◌, ◌≢◌, ◌↔◌, false, IfOk, IfErr, OnOk, OnErr};
+ghost use Rattle.std.specs.Prelude.{◌≡◌, ◌≢◌, ◌⊎◌, ◌↔◌, false, IfOk, IfErr, OnOk, OnErr};
 ghost use Rattle.std.specs.FinMap.{empty};
 ghost use Rattle.sqlite.specs.State.{HasCleanDisk, Survives};
 ghost use Rattle.sqlite.specs.Held.{state};
@@ -7,6 +7,7 @@ ghost use Rattle.ov_sqlite.specs.Tables.{with_ours, HasRoom, HasOurTables};
 ghost use Rattle.ov_sqlite.specs.Format.{IsFormat};
 ghost use Rattle.ov_sqlite.specs.Making.{MayMake, IsNew, IsNewBeside};
 ghost use Rattle.ov_sqlite.specs.Querying.{IsAsBefore};
+ghost use Rattle.ov_store.specs.Answers.{Making, Testing, WasAnswered};
 ghost use Rattle.ov_store.specs.StoreState.{MayFind, LeavesTables};
 
 use crate::store::Store;
@@ -24,6 +25,7 @@ fn make_new<S: Alter>(conn: &mut Connection<S>, schema: &Text) -> Result<(), Kee
     ensures ok { HasCleanDisk (state S.Store conn.new) → MayMake (state S.Store conn.old) → OnOk result (IsNew schema.now (state S.Store conn.old) (state S.Store conn.new)) }
     ensures honest { HasCleanDisk (state S.Store conn.new) → HasCleanDisk (state S.Store conn.old) }
     ensures kinds { IfErr result IsCommitFault }
+    ensures told { IfErr result (WasAnswered Making) }
     ensures same { HasCleanDisk (state S.Store conn.new) → OnErr result (IsAsBefore (state S.Store conn.old) (state S.Store conn.new)) }
     ensures left { MayMake (state S.Store conn.old)
         → IfErr result (λ fault. Survives (state S.Store conn.old) (state S.Store conn.new) (λ trees. (fault ≡ KeepFault.Device) × IsNewBeside schema.now (state S.Store conn.old) trees)) }
@@ -52,6 +54,7 @@ impl<S: Alter + Drop> Store<S> {
         ensures beside { IfOk result (λ s. HasCleanDisk (state S.Store s.connection) → s.connection.schema ≡ with_ours connection.schema) }
         ensures others { IfOk result (λ s. HasCleanDisk (state S.Store s.connection) → LeavesTables S.Store connection s.connection) }
         ensures ours { IfErr result (λ e. (e.fault ≡ KeepFault.NotOurs) ↔ (¬ HasRoom connection.schema)) }
+        ensures told { IfErr result (λ e. (e.fault ≡ KeepFault.NotOurs) ⊎ WasAnswered Making e.fault) }
         ensures format { IfErr result (λ e. e.fault ≢ KeepFault.Format) }
         ensures same { IfErr result (λ e. HasCleanDisk (state S.Store e.connection) → IsAsBefore (state S.Store connection) (state S.Store e.connection)) }
         ensures left { IfErr result (λ e. Survives (state S.Store connection) (state S.Store e.connection) (λ trees. (e.fault ≡ KeepFault.Device) × IsNewBeside schema (state S.Store connection) trees)) }
@@ -86,6 +89,7 @@ impl<S: Alter + Drop> Store<S> {
         ensures fresh { IfOk result (λ s. s.failures ≡ 0) }
         ensures tables { IfOk result (λ s. HasOurTables connection.schema) }
         ensures ours { IfErr result (λ e. (e.fault ≡ KeepFault.NotOurs) ↔ (¬ HasOurTables connection.schema)) }
+        ensures told { IfErr result (λ e. (e.fault ≡ KeepFault.NotOurs) ⊎ (HasOurTables connection.schema × WasAnswered Testing e.fault)) }
         ensures format_tables { IfErr result (λ e. e.fault ≡ KeepFault.Format → HasOurTables connection.schema) }
         ensures format { IfErr result (λ e. HasCleanDisk (state S.Store e.connection) → e.fault ≡ KeepFault.Format → (text : _) → ¬ IsFormat text (state S.Store connection).now) }
     {

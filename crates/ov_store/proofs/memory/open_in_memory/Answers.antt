@@ -1,8 +1,10 @@
-use Rattle.std.proofs.Common.{refl, inl, length, ap}
+use Rattle.std.proofs.Common.{refl, inl, length, ap, subst}
 use Rattle.sqlite_pool.specs.Pool.{state}
 use Rattle.sqlite_trees.proofs.Doubt.{no_doubt}
 use Rattle.sqlite.specs.State.{HasCleanDisk}
 use Rattle.sqlite.specs.Files.{file_state}
+use Rattle.sqlite_wal.specs.Recovery.{Image}
+use Rattle.ov_store.specs.Causes.{IsErrorInMemory}
 use Rattle.ov_store.proofs.CauseLemmas.{fails_to_begin}
 use Rattle.ov_store.proofs.EmptyLemmas.{opens_empty}
 use Rattle.ov_store.proofs.memory.open_in_memory.Goals as goal
@@ -20,3 +22,6 @@ returns-in-Ok-clause-empty c =
 
 pub returns-in-Err-clause-cause : goal.returns-in-Err-clause-cause
 returns-in-Err-clause-cause c = fails_to_begin _ c.in-Err.error (inl (inl (ap length c.new-2.ensures.empty))) c.in-Err.ensures.cause
+
+pub returns-in-Err-clause-told : goal.returns-in-Err-clause-told
+returns-in-Err-clause-told c = subst (λ (i : Image). IsErrorInMemory i c.in-Err.error) (λ i. record { log = c.new.ensures.empty i; db = c.new-2.ensures.empty i }) c.in-Err.ensures.told

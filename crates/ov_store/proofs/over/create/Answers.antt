@@ -20,8 +20,9 @@ returns-clause-refused g c =
     let old = state g.S.Store c.args.connection in
     IfErr-weaker r _ _ (λ e h. record {
       ours = (λ is. absurd (h.0.0.0 is (room_of_blank c.args.connection.schema blank)), λ p. absurd (p.0 blank));
+      told = elim h.1.0.0 [ inl is ↦ inl is | inr made ↦ inr (inl (blank, made)) ];
       tables = λ is. absurd (h.0.1 is);
       format = λ is. absurd (h.0.1 is);
-      same = h.1.0;
+      same = h.1.0.1;
       crash = survives_as old (state g.S.Store e.connection) _ _ h.1.1 (λ clean db found. elim (h.1.1.crash clean db found) [ inl was ↦ inl was | inr made ↦ inr (made.0, blank, made.1.file) ]);
-    }) (err_pair r _ _ (err_pair r _ _ it.ours it.format) (err_pair r _ _ it.same it.left))
+    }) (err_pair r _ _ (err_pair r _ _ it.ours it.format) (err_pair r _ _ (err_pair r _ _ it.told it.same) it.left))

@@ -1,7 +1,9 @@
-use Rattle.std.proofs.Common.{◌≡◌, ap, refl, sym, subst, Err, IsTrue, false}
+use Rattle.std.proofs.Common.{◌≡◌, inr, ap, refl, sym, subst, Err, IsTrue, false}
 use Rattle.ov_sqlite.specs.Tables.{HasOurTables}
 use Rattle.ov_sqlite.specs.Changing.{IsStored}
 use Rattle.ov_sqlite.proofs.RunLemmas.{nothing_now}
+use Rattle.ov_store.specs.Answers.{Testing}
+use Rattle.ov_store.proofs.AnswerLemmas.{refusal_told}
 use Rattle.ov_store.proofs.store.Store.open.Goals as goal
 
 pub returns-in-Err-clause-format : goal.returns-in-Err-clause-format
@@ -28,3 +30,6 @@ pub invariant_of-result : goal.invariant_of-result
 invariant_of-result g c =
     let has : HasOurTables c.args.connection.schema = subst HasOurTables c.schema.ensures.value (c.is_ours.ensures.0 c.if-not-is_ours.false) in
     (c.test_format.ensures.mode, λ clean up. subst (IsStored c.in-Ok.schema) (sym ((c.test_format.ensures.same clean).now up)) (c.in-Ok.ensures.ok clean has).1)
+
+pub returns-in-Err-clause-told : goal.returns-in-Err-clause-told
+returns-in-Err-clause-told g c = inr (subst HasOurTables c.schema.ensures.value (c.is_ours.ensures.0 c.if-not-is_ours.false), refusal_told Testing c.test_format.result c.in-Err.fault c.in-Err.is)
