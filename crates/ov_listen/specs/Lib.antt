@@ -1,4 +1,6 @@
 pub mod Endings
-pub mod Chain
+pub mod Opening
+pub mod Connections
 pub mod Places
-pub mod Stores
+pub mod Files
+pub mod Databases

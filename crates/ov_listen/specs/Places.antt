@@ -1,25 +1,32 @@
 -- What comes of a keeper when sessions of its database are served.
-use Rattle.std.specs.Prelude.{◌≡◌, ℕ, List, Option, Some, None, Result, Ok, Err}
+use Rattle.std.specs.Prelude.{◌≡◌, ℕ}
+use Rattle.ov_specs.specs.rows.Lines.{Contents}
 use Rattle.ov_specs.specs.schema.SchemaTypes.{Schema}
-use Rattle.ov_keeper.specs.declared.fault.KeepFault.{KeepFault}
 use Rattle.ov_keeper.specs.declared.keeper.Keeper.{Ghosts}
+use Rattle.ov_db.specs.Committing.{MayFind}
+use Rattle.ov_core.specs.Following.{CoreState}
+use Rattle.ov_core.specs.Leaving.{LeavesItsOwn}
 use Rattle.ov_words.specs.declared.ending.Ending.{Ending}
-use Rattle.ov_words.specs.Causes.{by_keeping}
-use Rattle.ov_session.specs.Chain.{EndsOver}
+use Rattle.ov_pipes.specs.Pipes.{PipesState}
+use Rattle.ov_pipes.specs.Session.{EndsSession}
 use Rattle.ov_listen.specs.declared.place.Place.{Place}
-use Rattle.ov_listen.specs.declared.place.Place.TheVariants.{Streams, Address}
-use Rattle.ov_listen.specs.Chain.{EndsChainAt}
+use Rattle.ov_listen.specs.declared.place.Place.TheVariants.{Pipes, Address}
+use Rattle.ov_listen.specs.Connections.{EndsAddress}
+use Rattle.ov_listen.specs.Opening.{OpensCore}
 
-module _ {K D C I O : Type 0} (k : Ghosts K) (tells : C → ℕ → C → Type 0) (remaining : I → Option (List ℕ)) (contents : O → Option (List ℕ)) where
-  -- one session over the streams, or those of the connections at the address
-  abbrev pub EndsPlace : Place I O → K → Schema → D → Ending → K → Type 0
-  EndsPlace (Streams input output) keeper schema draws told left =
-      EndsOver k tells keeper schema draws (remaining input) (contents output) told left
-  EndsPlace (Address address count) keeper schema draws told left = EndsChainAt k keeper schema draws count told left
+module _ {K D C : Type 0} (tells : C → ℕ → C → Type 0) where
+  -- One session was served over the pipes; or those of the connections at the address, and nothing was read from the pipes
+  -- or written to them.
+  abbrev pub EndsPlace : Place → CoreState K D → PipesState C → Ending → CoreState K D → PipesState C → Type 0
+  EndsPlace Pipes old from told new to = EndsSession tells old from told new to
+  EndsPlace (Address address count) old from told new to =
+      EndsAddress old count told new × (to.reader ≡ from.reader) × (to.writer ≡ from.writer)
 
-  -- A store that was opened is served and given back. If it was refused, the ending is that of its fault, nothing is read or
-  -- written, and the server does not listen.
-  abbrev pub EndsStore : Place I O → Result K KeepFault → Schema → D → Ending → Option K → Type 0
-  EndsStore place (Ok keeper) schema draws told left =
-      (last : K) × (left ≡ Some last) × EndsPlace place keeper schema draws told last
-  EndsStore place (Err fault) schema draws told left = (told ≡ by_keeping fault) × (left ≡ None)
+-- A core was opened over the keeper, and its sessions came to that. A crash then leaves the lines of the core's database, and
+-- an open finds it.
+pub record ServesPlace {K D C : Type 0} (k : Ghosts K) (tells : C → ℕ → C → Type 0) (place : Place) (keeper : K) (schema : Schema) (draws : D) (from : PipesState C) (told : Ending) (core : CoreState K D) (to : PipesState C) : Type 0 where
+  pub first : CoreState K D
+  pub opens : OpensCore k keeper schema draws first
+  pub ends : EndsPlace tells place first from told core to
+  pub leaves : k.is_honest core.keeper → (held : Contents) → k.leaves core.keeper held → LeavesItsOwn core.state held
+  pub finds : k.is_honest core.keeper → MayFind (k.leaves core.keeper) core.state.schema core.state.database core.state.sealed

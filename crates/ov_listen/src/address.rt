@@ -1,43 +1,63 @@
 ghost use Rattle.std.specs.Prelude.{◌≡◌};
-ghost use Rattle.ov_listen.specs.Chain.{EndsChainAt};
+ghost use Rattle.ov_listen.specs.Connections.{EndsAddress};
 
-use crate::connections::serve_listening;
+use crate::connections::serve_so_many;
+use crate::endings::ending_of_listening;
+use crate::everyone::serve_everyone;
+use crate::place::Ended;
 use crate::system::System;
-use ov_core::{Core, Schema};
+use ov_core::Core;
+use ov_ends::Clock;
 use ov_keeper::Keeper;
 use ov_requests::Draws;
-use ov_session::Ended;
-use ov_words::ending_of_open;
+use ov_sockets::{ListenFault, chosen_line, listen};
 use std::alloc::Global;
+use std::net::{Net, TcpListener, TcpStream};
 
-/// Opens the machine over what a keeper holds under a schema, listens at an address, HOST:PORT, accepts connections, and
-/// serves a session over each, all at the same time, from the first byte of its input to its end. If the port is 0, the
-/// system chooses one, and a line on standard error reports it.
+/// Listens at an address, HOST:PORT, accepts connections, and serves a session of the machine over each, all at the same
+/// time, from the first byte of its input to its end. If the port is 0, the system chooses one, and a line on standard error
+/// reports it.
 ///
 /// If a number N is given, N connections are accepted: no session is served before all connections are there, and none is
 /// closed before all sessions have ended. The session of a client that went away earlier ends at once. If there are fewer,
 /// nothing is read or written. Without a number every client is served at once, up to 64 at a time, until a connection can't
-/// be accepted. If the machine is not opened, the server does not listen.
-pub fn serve_at<R, K, D>(
+/// be accepted.
+pub fn serve_at<R, K, D, C>(
     rt: &R,
     alloc: Global,
-    keeper: K,
-    schema: Schema,
-    draws: D,
+    core: Core<K, D>,
     address: &str,
     count: Option<usize>,
-) -> Ended<K>
+    clock: &mut C,
+) -> Ended<K, D>
 where
     R: System,
     K: Keeper + Drop,
     D: Draws + Drop,
-    ensures { EndsChainAt K.Keeper keeper schema draws count result.ending result.keeper }
+    C: Clock,
+    ensures { EndsAddress core count result.ending result.core }
 {
-    match Core::open(alloc, keeper, schema, draws) {
-        Ok(core) => serve_listening(rt, alloc, core, address, count),
-        Err(refused) => Ended {
-            ending: ending_of_open(refused.fault),
-            keeper: refused.keeper,
+    match listening(rt, alloc, address) {
+        Ok(listener) => match count {
+            Some(count) => serve_so_many(rt, alloc, core, listener, count, clock),
+            None => serve_everyone(rt, alloc, core, listener, clock),
+        },
+        Err(fault) => Ended {
+            ending: ending_of_listening(fault),
+            core,
         },
     }
+}
+
+/// Listens at an address. If the system chooses the port, one line on standard error reports it.
+fn listening<R>(rt: &R, alloc: Global, address: &str) -> Result<TcpListener, ListenFault>
+where
+    R: Net<Listener = TcpListener, Stream = TcpStream> + Eprint,
+{
+    let listener = listen(rt, address)?;
+    if let Some(line) = chosen_line(alloc, address, &listener)? {
+        // A user who has closed standard error finds the port by other means, or not at all.
+        let _ = eprintln!(rt; "{}", line.as_str());
+    }
+    Ok(listener)
 }

@@ -1,20 +1,20 @@
-//! Sessions of a database: over two streams, or at an address, where N connections are served together or every client is
-//! served. The database is opened over a keeper or in a file, and closed after the sessions.
+//! Sessions of a database: over pipes, or at an address, where N connections are served together or every client is served.
+//! The database is in memory or in a file, which is closed after the sessions.
 #![tactic(auto)]
 
 mod address;
 mod connections;
+mod database;
 mod endings;
-mod links;
-mod lobby;
+mod everyone;
+mod file;
 mod place;
-mod stores;
 mod system;
 
 pub use address::serve_at;
 pub use connections::serve_connections;
-pub use endings::{ending_of_listening, ending_of_serving};
-pub use links::serve_sessions;
-pub use place::{Place, serve_place};
-pub use stores::{serve_database, serve_file, serve_memory};
+pub use database::{DatabaseEnded, Service, serve_database, serve_memory};
+pub use endings::{closes_file, ending_of_listening, ending_of_serving};
+pub use file::{FileEnded, serve_file};
+pub use place::{Ended, Place, serve_place};
 pub use system::System;

@@ -1,51 +1,99 @@
 //! Where sessions of the database that a keeper holds are served.
 
-ghost use Rattle.ov_listen.specs.Places.{EndsPlace};
+ghost use Rattle.std.specs.Prelude.{◌≡◌, IfOk, IfErr, OnErr};
+ghost use Rattle.ov_pipes.specs.Pipes.{state_of};
+ghost use Rattle.ov_listen.specs.Opening.{RefusesCore};
+ghost use Rattle.ov_listen.specs.Places.{EndsPlace, ServesPlace};
 
 use crate::address::serve_at;
 use crate::system::System;
 use ov_base::Text;
-use ov_core::Schema;
-use ov_ends::Clock;
+use ov_core::{Core, Schema};
+use ov_db::RefusedOpen;
+use ov_ends::{Clock, Sink, Source};
 use ov_keeper::Keeper;
+use ov_pipes::{Pipes, serve_pipes};
 use ov_requests::Draws;
-use ov_session::{Ended, MonotonicClock, serve_over};
+use ov_words::Ending;
 use std::alloc::Global;
-use std::io::{Read, Write};
 
 /// Where sessions are served.
 #[derive(Drop)]
-pub enum Place<I, O> {
-    /// One session, over a reader and a writer.
-    Streams(I, O),
+pub enum Place {
+    /// One session, over the pipes.
+    Pipes,
     /// Sessions over the connections at an address, HOST:PORT: over this many, or with every client if no number is given.
     Address(Text, Option<usize>),
 }
 
-/// Serves sessions of the database that a keeper holds under a schema: one over streams, as `serve_over` does, or those at
-/// an address, as `serve_at` does.
-pub fn serve_place<'a, R, K, D, I, O>(
-    rt: &'a R,
+/// How sessions ended, and the machine that served them.
+#[derive(Drop)]
+pub struct Ended<K: Keeper, D: Draws> {
+    pub ending: Ending,
+    pub core: Core<K, D>,
+}
+
+/// Opens the machine over what a keeper holds under a schema, and serves sessions of it: one over the pipes, or those at an
+/// address, as `serve_at` does, by the clock of the pipes. If the machine is not opened, nothing is read or written, and the
+/// server does not listen.
+pub fn serve_place<R, K, D, S, W, C>(
+    rt: &R,
     alloc: Global,
     keeper: K,
     schema: Schema,
     draws: D,
-    place: Place<I, O>,
-) -> Ended<K>
+    place: Place,
+    pipes: &mut Pipes<S, W, C>,
+) -> Result<Ended<K, D>, RefusedOpen<K>>
 where
     R: System,
     K: Keeper + Drop,
     D: Draws + Drop,
-    I: Read + Drop,
-    O: Write + Drop,
-    ensures { EndsPlace K.Keeper ⟦<MonotonicClock<'a, R> as Clock>⟧.tells I.remaining O.contents place keeper schema draws result.ending result.keeper }
+    S: Source,
+    W: Sink,
+    C: Clock,
+    ensures served { IfOk result (λ ended. ServesPlace K.Keeper C.tells place keeper schema draws
+        (state_of S.Source W.Sink pipes.old) ended.ending ended.core (state_of S.Source W.Sink pipes.new)) }
+    ensures refused { IfErr result (λ refused. RefusesCore K.Keeper keeper schema refused) }
+    ensures untouched { OnErr result (pipes.new ≡ pipes.old) }
+{
+    match Core::open(alloc, keeper, schema, draws) {
+        Ok(core) => {
+            let ended = serve_core(rt, alloc, core, place, pipes);
+            ended.core.left();
+            ended.core.would_open();
+            Ok(ended)
+        }
+        Err(refused) => Err(refused),
+    }
+}
+
+/// Serves sessions of the machine at the place.
+fn serve_core<R, K, D, S, W, C>(
+    rt: &R,
+    alloc: Global,
+    core: Core<K, D>,
+    place: Place,
+    pipes: &mut Pipes<S, W, C>,
+) -> Ended<K, D>
+where
+    R: System,
+    K: Keeper + Drop,
+    D: Draws + Drop,
+    S: Source,
+    W: Sink,
+    C: Clock,
+    ensures { EndsPlace C.tells place core (state_of S.Source W.Sink pipes.old) result.ending
+        result.core (state_of S.Source W.Sink pipes.new) }
 {
     match place {
-        Place::Streams(input, output) => {
-            serve_over(rt, alloc, keeper, schema, draws, input, output)
+        Place::Pipes => {
+            let mut core = core;
+            let ending = serve_pipes(rt, alloc, &mut core, pipes);
+            Ended { ending, core }
         }
         Place::Address(address, count) => {
-            serve_at(rt, alloc, keeper, schema, draws, address.as_str(), count)
+            serve_at(rt, alloc, core, address.as_str(), count, &mut pipes.clock)
         }
     }
 }

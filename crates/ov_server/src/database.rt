@@ -1,5 +1,5 @@
-ghost use Rattle.std.specs.Prelude.{◌≡◌, Some, IfOk, codes};
-ghost use Rattle.serde_json.specs.Read.{read};
+ghost use Rattle.std.specs.Prelude.{IfOk};
+ghost use Rattle.ov_server.specs.Schemas.{IsBuiltIn};
 
 use ov_core::Schema;
 use ov_schema_text::{SchemaFileFault, schema_of};
@@ -11,8 +11,7 @@ const SCHEMA: &str =
 
 /// The schema that is served if no other is named.
 pub fn built_in_schema(alloc: Global) -> Result<Schema, SchemaFileFault>
-    ensures name { IfOk result (λ schema. schema.name ≡ codes "Net") }
-    ensures tree { IfOk result (λ schema. read SCHEMA.now ≡ Some schema.tree) }
+    ensures { IfOk result (λ schema. IsBuiltIn schema) }
 {
     schema_of(alloc, SCHEMA.as_bytes())
 }

@@ -1,82 +1,42 @@
 //! From the program's arguments to the database that it serves.
 
-ghost use Rattle.std.specs.Prelude.{◌≡◌, IfNone, IfSome};
+ghost use Rattle.std.specs.Prelude.{◌≡◌, ◌≢◌, ◌⊎◌, Err, IfOk, IfErr, IfNone, None, OnErr, map};
+ghost use Rattle.sqlite_wal.specs.Files.{image_at};
+ghost use Rattle.ov_words.specs.Words.{settings_of};
+ghost use Rattle.ov_pipes.specs.Pipes.{state_of};
+ghost use Rattle.ov_server.specs.Running.{IsAsked, RunsDatabase, place_of};
+ghost use Rattle.ov_server.specs.Schemas.{IsBuiltIn};
 
 use crate::database::built_in_schema;
 use crate::draws::RandomDraws;
 use ov_base::Text;
 use ov_core::Schema;
-use ov_listen::{Place, serve_database};
+use ov_ends::{Clock, Sink, Source};
+use ov_keeper::{Keeper, VolatileKeeper};
+use ov_listen::{DatabaseEnded, Place, Service, serve_database};
+use ov_pipes::Pipes;
 use ov_schema::text_of;
 use ov_schema_text::read_schema;
+use ov_store::Store;
 use ov_words::{Ending, Settings, ending_of_schema, ending_of_words, read_words};
-use sqlite::Start;
+use rand::rngs::StdRng;
+use sqlite::{FileFrom, FileStore, Start};
 use std::alloc::Global;
+use std::convert::AsStr;
 use std::env;
 use std::env::Env;
-use std::io::{ErrorKind, Read, Write};
+use std::io::ErrorKind;
 use std::net::{Net, TcpListener, TcpStream};
 use std::random::RandomSource;
-use std::rt::{Clock, Files};
+use std::rt::{Clock as SystemClock, Files};
 use std::sync::Wait;
 use std::thread::Threads;
 
-/// Where the arguments ask for sessions: at an address, or over the reader and the writer.
-fn place_of<I, O>(listen: Option<Text>, sessions: Option<u64>, input: I, output: O) -> Place<I, O>
-where
-    I: Read + Drop,
-    O: Write + Drop,
-    ensures streams { IfNone listen (result ≡ Place.Streams input output) }
-    ensures address { IfSome listen (λ address. result ≡ Place.Address address sessions) }
+/// The program's arguments, the first of which is its name. No contract says what they are: the kit names none.
+pub fn words_of<R: Env + AllocGlobal>(rt: &R) -> Result<Vec<String>, Ending>
+    ensures { IfErr result (λ ending. (ending ≡ Ending.Memory) ⊎ (ending ≡ Ending.Arguments)) }
 {
-    match listen {
-        None => Place::Streams(input, output),
-        Some(address) => Place::Address(address, sessions.map(|count| count as usize)),
-    }
-}
-
-/// Runs the program, and returns how it ends. Faults are looked for in the arguments, then in the schema, then in the
-/// database, and then in the address. `start` stands for what the database's file and its log hold.
-pub fn run<R, S, I, O>(host: &HostRuntime, rt: &R, start: S, input: I, output: O) -> Ending
-where
-    R: Net<Listener = TcpListener, Stream = TcpStream>
-        + Threads
-        + Wait
-        + RandomSource
-        + Clock
-        + Eprint
-        + Sync,
-    S: Start,
-    I: Read + Drop,
-    O: Write + Drop,
-{
-    let Settings {
-        schema,
-        db,
-        listen,
-        sessions,
-        is_on_streams: _,
-    } = match settings(host, host.alloc()) {
-        Ok(settings) => settings,
-        Err(ending) => return ending,
-    };
-    let place = place_of(listen, sessions, input, output);
-    let schema = match schema_of(host, host.alloc(), schema) {
-        Ok(schema) => schema,
-        Err(ending) => return ending,
-    };
-    let Ok(text) = text_of(host.alloc(), &schema) else {
-        return Ending::Memory;
-    };
-    let Ok(draws) = RandomDraws::seeded(rt) else {
-        return Ending::Database;
-    };
-    serve_database(host, rt, db, start, text, schema, draws, place)
-}
-
-/// What the arguments say.
-fn settings<R: Env + AllocGlobal>(rt: &R, alloc: Global) -> Result<Settings, Ending> {
-    let mut words = Vec::new(alloc);
+    let mut words = Vec::new(rt.alloc());
     match env::args(rt) {
         Ok(all) => {
             for word in all {
@@ -88,14 +48,24 @@ fn settings<R: Env + AllocGlobal>(rt: &R, alloc: Global) -> Result<Settings, End
         Err(error) if error.kind() == ErrorKind::OutOfMemory => return Err(Ending::Memory),
         Err(_) => return Err(Ending::Arguments),
     }
-    match read_words(alloc, words.as_slice()) {
-        Ok(settings) => Ok(settings),
-        Err(fault) => Err(ending_of_words(fault)),
+    Ok(words)
+}
+
+/// Where the arguments ask for sessions: at an address, or over the pipes.
+fn place_of(listen: Option<Text>, sessions: Option<u64>) -> Place
+    ensures { result ≡ place_of listen sessions }
+{
+    match listen {
+        None => Place::Pipes,
+        Some(address) => Place::Address(address, sessions.map(|count| count as usize)),
     }
 }
 
-/// The schema of a file, or the program's own if none is named.
-fn schema_of<R: Files>(rt: &R, alloc: Global, file: Option<Text>) -> Result<Schema, Ending> {
+/// The schema of a file, or the program's own if none is named. No contract says what a file holds.
+fn schema_of<R: Files>(rt: &R, alloc: Global, file: Option<Text>) -> Result<Schema, Ending>
+    ensures own { IfNone file (IfOk result IsBuiltIn) }
+    ensures kinds { IfErr result (λ ending. (ending ≡ Ending.Memory) ⊎ (ending ≡ Ending.Schema)) }
+{
     let schema = match file {
         Some(path) => read_schema(rt, alloc, path.as_str()),
         None => built_in_schema(alloc),
@@ -103,5 +73,81 @@ fn schema_of<R: Files>(rt: &R, alloc: Global, file: Option<Text>) -> Result<Sche
     match schema {
         Ok(schema) => Ok(schema),
         Err(fault) => Err(ending_of_schema(fault)),
+    }
+}
+
+/// What the settings ask for besides the database's file.
+fn service_of<R: RandomSource, F: Files>(
+    host: &F,
+    rt: &R,
+    alloc: Global,
+    schema: Option<Text>,
+    place: Place,
+) -> Result<Service<RandomDraws<StdRng>>, Ending>
+    ensures asked { IfOk result (λ service. IsAsked schema place service) }
+    ensures kinds { IfErr result (λ ending. (ending ≡ Ending.Memory) ⊎ ((ending ≡ Ending.Schema) ⊎ (ending ≡ Ending.Database))) }
+{
+    let schema = match schema_of(host, alloc, schema) {
+        Ok(schema) => schema,
+        Err(ending) => return Err(ending),
+    };
+    let Ok(text) = text_of(alloc, &schema) else {
+        return Err(Ending::Memory);
+    };
+    let Ok(draws) = RandomDraws::seeded(rt) else {
+        return Err(Ending::Database);
+    };
+    Ok(Service {
+        schema,
+        text,
+        draws,
+        place,
+    })
+}
+
+/// Runs the program on its arguments, the first of which is its name, and returns how its database ended; or how the program
+/// ends if none is served. Faults are looked for in the arguments, then in the schema, then in the database, and then in the
+/// address. `start` stands for what the database's file and its log hold.
+pub fn run<R, A, T, S, W, C>(
+    host: &HostRuntime,
+    rt: &R,
+    words: &[A],
+    start: T,
+    pipes: &mut Pipes<S, W, C>,
+) -> Result<DatabaseEnded<RandomDraws<StdRng>>, Ending>
+where
+    R: Net<Listener = TcpListener, Stream = TcpStream>
+        + Threads
+        + Wait
+        + RandomSource
+        + SystemClock
+        + Eprint
+        + Sync,
+    A: AsStr,
+    T: Start,
+    S: Source,
+    W: Sink,
+    C: Clock,
+    ensures served { IfOk result (λ ended. RunsDatabase ⟦<VolatileKeeper as Keeper>⟧ ⟦<Store<FileStore<FileFrom<T>>> as Keeper>⟧ C.tells
+        (image_at T.Start) (map A.text words.now) (state_of S.Source W.Sink pipes.old) ended (state_of S.Source W.Sink pipes.new)) }
+    ensures untouched { OnErr result (pipes.new ≡ pipes.old) }
+    ensures kinds { IfErr result (λ ending. (ending ≢ Ending.InputEnded) × (ending ≢ Ending.Streams)) }
+    ensures arguments { result ≡ Err Ending.Arguments → settings_of (map A.text words.now) ≡ None }
+{
+    let settings = match read_words(host.alloc(), words) {
+        Ok(settings) => settings,
+        Err(fault) => return Err(ending_of_words(fault)),
+    };
+    let Settings {
+        schema,
+        db,
+        listen,
+        sessions,
+        is_on_streams: _,
+    } = settings;
+    let place = place_of(listen, sessions);
+    match service_of(host, rt, host.alloc(), schema, place) {
+        Ok(service) => Ok(serve_database(host, rt, db, start, service, pipes)),
+        Err(ending) => Err(ending),
     }
 }

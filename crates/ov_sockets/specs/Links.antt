@@ -17,3 +17,10 @@ abbrev pub IsLinkOf : {A : Type 0} → Link (Watched (Bor TcpStream)) (Watched (
 IsLinkOf link stream =
     IsUnused link.reader × (link.reader.inner.now ≡ stream)
     × IsUnused link.writer × ((writer_inner link.writer.inner).now ≡ stream) × (writer_buffer link.writer.inner ≡ [])
+
+-- The reader is of this connection, and nothing went over the two. The writer is another handle of the connection: the kit
+-- doesn't say of which.
+abbrev pub IsNewClient : {A : Type 0} → Link (Watched TcpStream) (Watched (BufWriter TcpStream A)) → TcpStream → Type 0
+IsNewClient link stream =
+    IsUnused link.reader × (link.reader.inner ≡ stream)
+    × IsUnused link.writer × (writer_buffer link.writer.inner ≡ [])

@@ -1,4 +1,5 @@
-//! Sessions over TCP: a listener, a number of its connections, and for each the two ends that a session is served over.
+//! Connections over TCP: a listener, a number of its connections or all of its clients, and for each the two ends that a
+//! session is served over.
 //!
 //! This crate knows of no session and no protocol. What comes over a connection is the reader's, and what is sent is the
 //! writer's.
@@ -6,10 +7,12 @@
 
 mod accept;
 mod address;
+mod clients;
 mod fault;
 mod links;
 
 pub use accept::accept_all;
 pub use address::{chosen_line, listen};
+pub use clients::{ClientReader, ClientWriter, Clients};
 pub use fault::ListenFault;
 pub use links::{SocketReader, SocketWriter, links_of};

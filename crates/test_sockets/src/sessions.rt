@@ -2,7 +2,9 @@
 
 use crate::addresses::address_of;
 use ov_base::Text;
-use ov_listen::{Place, serve_at, serve_connections, serve_memory};
+use ov_ends::{Clock as MomentClock, Sink, Source};
+use ov_listen::{DatabaseEnded, Place, Service, serve_at, serve_connections, serve_memory};
+use ov_pipes::{MonotonicClock, Pipes, pipes_over};
 use ov_schema::text_of;
 use ov_sockets::{accept_all, listen};
 use ov_words::Ending;
@@ -15,7 +17,7 @@ use std::test::Fail;
 use std::thread;
 use std::thread::Threads;
 use std::time::Duration;
-use test_basics::{Counter, Faults, holds, is_text, net, net_keeper};
+use test_basics::{Counter, Faults, holds, is_text, net};
 use test_support::net_core;
 
 /// How many seconds a client waits for what it is sent.
@@ -95,7 +97,10 @@ fn served<R: Threads + Wait + Clock + Sync>(
     streams: &Vec<TcpStream>,
 ) -> Result<Ending, Fail> {
     let core = net_core(alloc, Faults::NONE)?;
-    Ok(serve_connections(rt, alloc, core, streams).ending)
+    match serve_connections(rt, alloc, core, streams, &mut MonotonicClock::new(rt)) {
+        Ok(_served) => Ok(Ending::InputEnded),
+        Err(ended) => Ok(ended.ending),
+    }
 }
 
 /// A client that waits for a while.
@@ -159,9 +164,9 @@ fn ending_at<R>(rt: &R, alloc: Global, address: &str) -> Result<Ending, Fail>
 where
     R: Net<Listener = TcpListener, Stream = TcpStream> + Threads + Wait + Clock + Eprint + Sync,
 {
-    let keeper = net_keeper(alloc, Faults::NONE)?;
-    let schema = net(alloc)?;
-    Ok(serve_at(rt, alloc, keeper, schema, Counter::new(), address, Some(1)).ending)
+    let core = net_core(alloc, Faults::NONE)?;
+    let clock = &mut MonotonicClock::new(rt);
+    Ok(serve_at(rt, alloc, core, address, Some(1), clock).ending)
 }
 
 /// Fails unless this is how it ends.
@@ -193,15 +198,27 @@ fn a_port_in_use_ends_as_streams(rt: HostRuntime) -> Result<(), Fail> {
 }
 
 /// How sessions end at this place, with a new in-memory database Net.
-fn ending_of<R, I, O>(rt: &R, alloc: Global, place: Place<I, O>) -> Result<Ending, Fail>
+fn ending_of<R, S, W, C>(
+    rt: &R,
+    alloc: Global,
+    place: Place,
+    pipes: &mut Pipes<S, W, C>,
+) -> Result<Ending, Fail>
 where
     R: Net<Listener = TcpListener, Stream = TcpStream> + Threads + Wait + Clock + Eprint + Sync,
-    I: Read + Drop,
-    O: Write + Drop,
+    S: Source,
+    W: Sink,
+    C: MomentClock,
 {
     let schema = net(alloc)?;
     let text = text_of(alloc, &schema)?;
-    Ok(serve_memory(rt, alloc, text, schema, Counter::new(), place))
+    let service = Service {
+        schema,
+        text,
+        draws: Counter::new(),
+        place,
+    };
+    Ok(DatabaseEnded::Memory(serve_memory(rt, alloc, service, pipes)).ending())
 }
 
 /// How a session over streams ended, and what it wrote.
@@ -217,7 +234,9 @@ where
     R: Net<Listener = TcpListener, Stream = TcpStream> + Threads + Wait + Clock + Eprint + Sync,
 {
     let mut output = Vec::new(alloc);
-    let ended = ending_of(rt, alloc, Place::Streams(input, &mut output));
+    let mut pipes = pipes_over(rt, alloc, input, &mut output)?;
+    let ended = ending_of(rt, alloc, Place::Pipes, &mut pipes);
+    drop(pipes);
     told_of(alloc, ended, output)
 }
 
@@ -232,6 +251,8 @@ fn a_session_is_served_over_streams(rt: HostRuntime) -> Result<(), Fail> {
 #[test]
 fn nothing_is_served_where_no_address_is(rt: HostRuntime) -> Result<(), Fail> {
     let address = Text::from_str(rt.alloc(), "127.0.0.1")?;
-    let place: Place<&[u8], Vec<u8>> = Place::Address(address, Some(1));
-    is_ending(rt.alloc(), ending_of(&rt, rt.alloc(), place)?, "Streams")
+    let place = Place::Address(address, Some(1));
+    let mut pipes = pipes_over(&rt, rt.alloc(), b"".as_slice(), Vec::new(rt.alloc()))?;
+    let ending = ending_of(&rt, rt.alloc(), place, &mut pipes)?;
+    is_ending(rt.alloc(), ending, "Streams")
 }

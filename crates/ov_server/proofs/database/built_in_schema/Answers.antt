@@ -60,9 +60,6 @@ unfolding serde_json_on_literals
 returns c =
     let parts : (s : Schema) → IsSchemaText c.as_bytes.result.now s → read SCHEMA.now ≡ Some s.tree =
     λ s h. ap read (sym c.as_bytes.ensures.value) ∙ read_by (is_utf8 c.as_bytes.result.now) (read c.as_bytes.result.now) s.tree h.tree in
-    record {
-      name = IfOk-weaker c.schema_of.result _ _ (λ s h.
-          let named : name_at s.tree ≡ Some (codes "Net") = ap (option_and_then name_at) (sym (parts s h)) in
-          same_Some s.name (codes "Net") (sym (accepted_name s.tree s h.accepted) ∙ named)) c.schema_of.ensures.schema;
-      tree = IfOk-weaker c.schema_of.result _ _ parts c.schema_of.ensures.schema;
-    }
+    IfOk-weaker c.schema_of.result _ _ (λ s h.
+    let named : name_at s.tree ≡ Some (codes "Net") = ap (option_and_then name_at) (sym (parts s h)) in
+    record { name = same_Some s.name (codes "Net") (sym (accepted_name s.tree s h.accepted) ∙ named); tree = parts s h }) c.schema_of.ensures.schema

@@ -1,0 +1,55 @@
+ghost use Rattle.std.specs.Prelude.{◌≡◌};
+ghost use Rattle.ov_listen.specs.Connections.{EndsEveryone};
+
+use crate::endings::ending_of_serving;
+use crate::place::Ended;
+use ov_core::Core;
+use ov_ends::Clock;
+use ov_keeper::Keeper;
+use ov_lanes::Desk;
+use ov_lobby::{RefusedLobby, serve_lobby};
+use ov_requests::Draws;
+use ov_sockets::Clients;
+use ov_words::Ending;
+use ov_workers::FreeGate;
+use std::alloc::Global;
+use std::net::TcpListener;
+use std::rt::Clock as SystemClock;
+use std::sync::Wait;
+use std::thread::Threads;
+
+/// Serves every client as a session of the machine, up to 64 at a time, as `serve_lobby` does, until no connection can be
+/// accepted any more.
+pub(crate) fn serve_everyone<R, K, D, C>(
+    rt: &R,
+    alloc: Global,
+    core: Core<K, D>,
+    listener: TcpListener,
+    clock: &mut C,
+) -> Ended<K, D>
+where
+    R: Threads + Wait + SystemClock + Sync,
+    K: Keeper + Drop,
+    D: Draws + Drop,
+    C: Clock,
+    ensures { EndsEveryone core result.ending result.core }
+{
+    let clients = Clients::new(alloc, listener);
+    match serve_lobby(rt, alloc, Desk::new(core), clients, &FreeGate, clock) {
+        Ok(desk) => Ended {
+            ending: Ending::Streams,
+            core: desk.into_core(),
+        },
+        Err(refused) => {
+            let RefusedLobby {
+                fault,
+                desk,
+                listener: _,
+            } = refused;
+            Ended {
+                ending: ending_of_serving(fault),
+                core: desk.into_core(),
+            }
+        }
+    }
+}

@@ -1,0 +1,109 @@
+//! Sessions of the database in a file.
+
+ghost use Rattle.std.specs.Prelude.{◌≡◌};
+ghost use Rattle.sqlite_wal.specs.Files.{image_at};
+ghost use Rattle.ov_pipes.specs.Pipes.{state_of};
+ghost use Rattle.ov_listen.specs.Files.{EndsFile, EndsStore};
+
+use crate::database::Service;
+use crate::endings::closes_file;
+use crate::place::{Ended, Place, serve_place};
+use crate::system::System;
+use ov_core::{Core, Schema};
+use ov_ends::{Clock, Sink, Source};
+use ov_keeper::{KeepFault, Keeper};
+use ov_pipes::Pipes;
+use ov_requests::Draws;
+use ov_store::{Store, close_in_file, store_in_file};
+use ov_words::{Ending, ending_of_keeping, ending_of_open};
+use sqlite::{FileFrom, FileStore, Start};
+use std::alloc::Global;
+
+/// How the sessions of the database in a file ended.
+#[derive(Drop)]
+pub struct FileEnded {
+    pub ending: Ending,
+    /// What closing the file answered; None if it was not to be closed.
+    pub closing: Option<Result<(), KeepFault>>,
+}
+
+/// Serves sessions of a store, if it could be opened, and returns how they ended and the machine that served them, if it was
+/// opened.
+fn serve_store<R, K, D, S, W, C>(
+    rt: &R,
+    alloc: Global,
+    store: Result<K, KeepFault>,
+    schema: Schema,
+    draws: D,
+    place: Place,
+    pipes: &mut Pipes<S, W, C>,
+) -> (Ending, Option<Core<K, D>>)
+where
+    R: System,
+    K: Keeper + Drop,
+    D: Draws + Drop,
+    S: Source,
+    W: Sink,
+    C: Clock,
+    ensures { EndsStore K.Keeper C.tells place schema draws store (state_of S.Source W.Sink pipes.old) result.0 result.1 (state_of S.Source W.Sink pipes.new) }
+{
+    let keeper = match store {
+        Ok(keeper) => keeper,
+        Err(fault) => return (ending_of_keeping(fault), None),
+    };
+    match serve_place(rt, alloc, keeper, schema, draws, place, pipes) {
+        Ok(ended) => {
+            let Ended { ending, core } = ended;
+            (ending, Some(core))
+        }
+        Err(refused) => (ending_of_open(refused.fault), None),
+    }
+}
+
+/// Serves sessions of the database in the file at a path, as `serve_place` does. `start` stands for what the file and its log
+/// held. If the sessions ended by their input or by their streams, or no client was served for a cause other than memory, the
+/// file is then closed: it has the whole, with no log beside it, unless the system refuses that. If the closing fails, nothing
+/// is lost: the file and its log belong together, as after a kill. If the file is refused, nothing is read or written, the
+/// server does not listen, and nothing is copied into the file.
+///
+/// The contract ties no path to a file, so that the file which is opened and closed is the one at the path is not in it.
+pub fn serve_file<R, T, D, S, W, C>(
+    host: &HostRuntime,
+    rt: &R,
+    path: &str,
+    start: T,
+    service: Service<D>,
+    pipes: &mut Pipes<S, W, C>,
+) -> FileEnded
+where
+    R: System,
+    T: Start,
+    D: Draws + Drop,
+    S: Source,
+    W: Sink,
+    C: Clock,
+    ensures { EndsFile ⟦<Store<FileStore<FileFrom<T>>> as Keeper>⟧ C.tells (image_at T.Start) service (state_of S.Source W.Sink pipes.old) result (state_of S.Source W.Sink pipes.new) }
+{
+    let Service {
+        schema,
+        text,
+        draws,
+        place,
+    } = service;
+    let store = store_in_file(host, path, text, start);
+    let (ending, core) = serve_store(rt, host.alloc(), store, schema, draws, place, pipes);
+    let Some(core) = core else {
+        return FileEnded {
+            ending,
+            closing: None,
+        };
+    };
+    if !closes_file(ending) {
+        return FileEnded {
+            ending,
+            closing: None,
+        };
+    }
+    let closing = Some(close_in_file(host, path, core.into_keeper()));
+    FileEnded { ending, closing }
+}

@@ -1,0 +1,40 @@
+-- What the program makes of its arguments.
+use Rattle.std.specs.Prelude.{◌≡◌, ℕ, List, Option, Some, None, IfNone, MatchOption}
+use Rattle.serde_json.specs.Written.{compact_text}
+use Rattle.sqlite_disk.specs.declared.Disk as disk
+use Rattle.sqlite_store.specs.declared.store.FileStore.{FileStore}
+use Rattle.sqlite_wal.specs.Recovery.{Image}
+use Rattle.ov_specs.specs.rows.Lines.{Contents}
+use Rattle.ov_keeper.specs.declared.keeper.Keeper.{Ghosts}
+use Rattle.ov_store.specs.StoreState.{StoreState}
+use Rattle.ov_words.specs.declared.settings.Settings.{Settings}
+use Rattle.ov_words.specs.Words.{settings_of}
+use Rattle.ov_pipes.specs.Pipes.{PipesState}
+use Rattle.ov_listen.specs.declared.place.Place.{Place}
+use Rattle.ov_listen.specs.declared.place.Place.TheVariants.{Pipes, Address}
+use Rattle.ov_listen.specs.declared.database.Service.{Service}
+use Rattle.ov_listen.specs.declared.database.DatabaseEnded.{DatabaseEnded}
+use Rattle.ov_listen.specs.Databases.{EndsMemory, IsInFile, IsInMemory}
+use Rattle.ov_listen.specs.Files.{EndsFile}
+use Rattle.ov_server.specs.Schemas.{IsBuiltIn}
+
+-- where sessions are served: at the address, if one is named
+abbrev pub place_of : Option (List ℕ) → Option ℕ → Place
+place_of None sessions = Pipes
+place_of (Some address) sessions = Address address sessions
+
+-- the schema is the built-in one if no file is named, the text is the schema's, and the place is this one
+pub record IsAsked {D : Type 0} (file : Option (List ℕ)) (at : Place) (service : Service D) : Type 0 where
+  pub schema : IfNone file (IsBuiltIn service.schema)
+  pub text : service.text ≡ compact_text service.schema.tree
+  pub place : service.place ≡ at
+
+-- The arguments give settings, and what they ask for was served: a database in memory if no file is named, and otherwise the
+-- one in the file.
+pub record RunsDatabase {A D C : Type 0} {g : disk.Ghosts A} (memory : Ghosts Contents) (file : Ghosts (StoreState (FileStore A g))) (tells : C → ℕ → C → Type 0) (image : Image) (words : List (List ℕ)) (from : PipesState C) (ended : DatabaseEnded D) (to : PipesState C) : Type 0 where
+  pub settings : Settings
+  pub given : settings_of words ≡ Some settings
+  pub service : Service D
+  pub asked : IsAsked settings.schema (place_of settings.listen settings.sessions) service
+  pub ends : MatchOption settings.db (IsInMemory ended (λ e. EndsMemory memory tells service from e to))
+      (λ _. IsInFile ended (λ e. EndsFile file tells image service from e to))

@@ -1,2 +1,0 @@
-pub mod Clock
-pub mod Chain

@@ -1,0 +1,73 @@
+ghost use Rattle.std.specs.Prelude.{◌≡◌, IfSome};
+ghost use Rattle.ov_sockets.specs.Links.{IsNewClient};
+
+use ov_ends::Watched;
+use ov_lanes::Link;
+use ov_lobby::Listen;
+use std::alloc::Global;
+use std::io::{BufWriter, ErrorKind};
+use std::net::{TcpListener, TcpStream};
+
+/// What reads from a connection that closes once both of its ends are dropped.
+pub type ClientReader = Watched<TcpStream>;
+
+/// What writes to it. It gathers up to 8,192 bytes, until a flush.
+pub type ClientWriter = Watched<BufWriter<TcpStream>>;
+
+/// The clients that connect to a listener, each with the two ends of its connection.
+#[derive(Drop)]
+pub struct Clients {
+    alloc: Global,
+    listener: TcpListener,
+}
+
+impl Clients {
+    /// Those who connect to this listener.
+    pub fn new(alloc: Global, listener: TcpListener) -> Clients
+        ensures { result.listener ≡ listener }
+    {
+        Clients { alloc, listener }
+    }
+}
+
+impl Listen<ClientReader, ClientWriter> for Clients {
+    /// Skips a connection that its client gave up before it was accepted, and closes one at once if the system has no room
+    /// for its ends. What is written is sent at once and not gathered (TCP_NODELAY), unless the system refuses that.
+    fn accept(&mut self) -> Option<Link<ClientReader, ClientWriter>> {
+        for stream in self.listener.incoming() {
+            match stream {
+                Ok(stream) => {
+                    if let Some(link) = client_of(self.alloc, stream) {
+                        return Some(link);
+                    }
+                }
+                Err(error) => {
+                    if !is_given_up(error.kind()) {
+                        return None;
+                    }
+                }
+            }
+        }
+        None
+    }
+}
+
+/// Whether only this one connection failed.
+fn is_given_up(kind: ErrorKind) -> bool {
+    matches!(
+        kind,
+        ErrorKind::ConnectionAborted | ErrorKind::ConnectionReset | ErrorKind::Interrupted
+    )
+}
+
+/// The two ends of a client's connection, which own it. None if the system has no room for them.
+fn client_of(alloc: Global, stream: TcpStream) -> Option<Link<ClientReader, ClientWriter>>
+    ensures { IfSome result (λ link. IsNewClient link stream) }
+{
+    let _ = stream.set_nodelay(true);
+    let output = BufWriter::new(alloc, stream.try_clone().ok()?).ok()?;
+    Some(Link {
+        reader: Watched::new(stream),
+        writer: Watched::new(output),
+    })
+}
