@@ -98,7 +98,7 @@ asks_unsealed failed attempts old new asked none sealed counts = record {
 pub asks_one : {K : Type 0} (failed : K → ℕ) (number : ℕ) (o : Option Outcome) (old new : KeptDatabase K) → AsksStore failed o old new → failed old.keeper ≤ failed new.keeper → AsksAll failed (map attempt_view (listed_by number o)) old new
 asks_one failed number None old new same counts = asks_same failed [] old new refl same
 asks_one failed number (Some outcome.NoMemory) old new same counts = asks_same failed _ old new refl same
-asks_one failed number (Some outcome.Kept) old new sealed counts = asks_unsealed failed _ old new refl refl sealed counts
+asks_one failed number (Some outcome.Committed) old new sealed counts = asks_unsealed failed _ old new refl refl sealed counts
 asks_one failed number (Some outcome.Exhausted) old new sealed counts = asks_unsealed failed _ old new refl refl sealed counts
 asks_one failed number (Some outcome.Failed) old new cause counts = record {
   unasked = λ never. absurd (false≢true (sym never));

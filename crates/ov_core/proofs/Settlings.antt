@@ -64,7 +64,7 @@ closed_state m n old new c = rw (c.same, c.queues, sessions-without n old.watche
 -- after a finished try no more transactions wait than before
 pub after_few : {K : Type 0} (n : ℕ) (o : Option Outcome) (live new : Live K) → AfterTry n o live new → many new.waiting ≤ many live.waiting
 after_few n (Some outcome.NoMemory) live new c = rw c.same (omega (arith, length-kept (λ (w : Outstanding). not (eqb w.session n)) live.waiting.outstanding))
-after_few n (Some outcome.Kept) live new is =
+after_few n (Some outcome.Committed) live new is =
     rw is (omega (arith, length-append live.waiting.outstanding (filter (λ w. has_serial w.session live.sessions.open_sessions) live.waiting.untried), length-kept (λ (w : Outstanding). has_serial w.session live.sessions.open_sessions) live.waiting.untried))
 after_few n (Some outcome.Exhausted) live new is = rw is (omega arith)
 after_few n (Some outcome.Failed) live new is = rw is (omega arith)
@@ -73,15 +73,15 @@ after_few n None live new is = rw is (omega arith)
 -- and the same are left for the pass to try, unless all are tried again
 pub after_untried : {K : Type 0} (n : ℕ) (o : Option Outcome) (live new : Live K) → machine.is_kept (listed_of o) ≡ false → AfterTry n o live new → new.waiting.untried ≡ live.waiting.untried
 after_untried {K} n (Some outcome.NoMemory) live new h c = ap (λ (l : Live K). l.waiting.untried) c.same
-after_untried n (Some outcome.Kept) live new h is = absurd (false≢true (sym h))
+after_untried n (Some outcome.Committed) live new h is = absurd (false≢true (sym h))
 after_untried {K} n (Some outcome.Exhausted) live new h is = ap (λ (l : Live K). l.waiting.untried) is
 after_untried {K} n (Some outcome.Failed) live new h is = ap (λ (l : Live K). l.waiting.untried) is
 after_untried {K} n None live new h is = ap (λ (l : Live K). l.waiting.untried) is
 
 -- and less to do
 pub after_falls : {K : Type 0} (n : ℕ) (o : Option Outcome) (live new : Live K) (left all : ℕ) → AfterTry n o live new → length live.waiting.untried + 1 ≡ left → many live.waiting + 1 ≡ all → to_do new.waiting < left + all * all
-after_falls {K} n (Some outcome.Kept) live new left all is one fewer =
-    let few = after_few n (Some outcome.Kept) live new is in
+after_falls {K} n (Some outcome.Committed) live new left all is one fewer =
+    let few = after_few n (Some outcome.Committed) live new is in
     let falls = falls_again left all (many new.waiting) (omega (arith, one)) (omega (arith, fewer, few)) in
     rw is (omega (arith, rw is at falls))
 after_falls n (Some outcome.NoMemory) live new left all c one fewer =
@@ -97,21 +97,21 @@ after_falls n None live new left all is one fewer =
 pub after_closing : {K : Type 0} (n : ℕ) (o : Option Outcome) (live new : Live K) → is_closing o ≡ true → ClosesSession n live new → AfterTry n o live new
 after_closing n None live new h c = absurd (false≢true h)
 after_closing n (Some outcome.NoMemory) live new h c = c
-after_closing n (Some outcome.Kept) live new h c = absurd (false≢true h)
+after_closing n (Some outcome.Committed) live new h c = absurd (false≢true h)
 after_closing n (Some outcome.Exhausted) live new h c = absurd (false≢true h)
 after_closing n (Some outcome.Failed) live new h c = absurd (false≢true h)
 
 pub after_kept : {K : Type 0} (n : ℕ) (o : Option Outcome) (live new : Live K) → is_kept o ≡ true → new ≡ tried_again live → AfterTry n o live new
 after_kept n None live new h is = absurd (false≢true h)
 after_kept n (Some outcome.NoMemory) live new h is = absurd (false≢true h)
-after_kept n (Some outcome.Kept) live new h is = is
+after_kept n (Some outcome.Committed) live new h is = is
 after_kept n (Some outcome.Exhausted) live new h is = absurd (false≢true h)
 after_kept n (Some outcome.Failed) live new h is = absurd (false≢true h)
 
 pub after_other : {K : Type 0} (n : ℕ) (o : Option Outcome) (live : Live K) → is_closing o ≡ false → is_kept o ≡ false → AfterTry n o live live
 after_other n None live h k = refl
 after_other n (Some outcome.NoMemory) live h k = absurd (false≢true (sym h))
-after_other n (Some outcome.Kept) live h k = absurd (false≢true (sym k))
+after_other n (Some outcome.Committed) live h k = absurd (false≢true (sym k))
 after_other n (Some outcome.Exhausted) live h k = refl
 after_other n (Some outcome.Failed) live h k = refl
 
@@ -240,18 +240,18 @@ module _ {K : Type 0} (failed : K → ℕ) (m first : ℕ) (from : Live K) (befo
         done None new more is after c asks counts = unkept None new more is refl after after refl c asks counts
         done (Some outcome.Exhausted) new more is after c asks counts = unkept (Some outcome.Exhausted) new more is refl after after refl c asks counts
         done (Some outcome.Failed) new more is after c asks counts = unkept (Some outcome.Failed) new more is refl after after refl c asks counts
-        done (Some outcome.Kept) new more is after c asks counts =
-            rw after (one_more x (Some outcome.Kept) c.sent (tried_again mid) more is
+        done (Some outcome.Committed) new more is after c asks counts =
+            rw after (one_more x (Some outcome.Committed) c.sent (tried_again mid) more is
             (again c)
             c.posts asks counts (still_all now.sessions.open_sessions) refl
-            (let fewer = after_few w.session (Some outcome.Kept) mid (tried_again mid) refl in
+            (let fewer = after_few w.session (Some outcome.Committed) mid (tried_again mid) refl in
             let few = few_again number (first + first + (length from.waiting.outstanding + length from.waiting.outstanding * length from.waiting.outstanding)) (length now.waiting.untried) (many now.waiting) x.few (many (tried_again mid).waiting) (omega (arith, one)) (omega (arith, one, fewer)) in
             omega (arith, few)))
           where
-            again : (c : IsCompleted (sessions_of now.watchers now.sessions.open_sessions) w.session w.id on now.database now.outbox.frames (Some outcome.Kept) db outbox.frames)
-                → Reaches (state_of from m) first (x.made ++ made_by number (listed_of (Some outcome.Kept))) (state_of (tried_again mid) m) (x.sent ++ c.sent) (number + 1) (tried_again mid).waiting.untried
+            again : (c : IsCompleted (sessions_of now.watchers now.sessions.open_sessions) w.session w.id on now.database now.outbox.frames (Some outcome.Committed) db outbox.frames)
+                → Reaches (state_of from m) first (x.made ++ made_by number (listed_of (Some outcome.Committed))) (state_of (tried_again mid) m) (x.sent ++ c.sent) (number + 1) (tried_again mid).waiting.untried
             again c =
-                let reached = reaches_again (state_of from m) first x.made (state_of now m) x.sent number w rest here (Some machine.Committed) (record { state = with_db (state_of now m) db; sent = c.sent }) there (completes_again (Some outcome.Kept) c refl) refl in
+                let reached = reaches_again (state_of from m) first x.made (state_of now m) x.sent number w rest here (Some machine.Committed) (record { state = with_db (state_of now m) db; sent = c.sent }) there (completes_again (Some outcome.Committed) c refl) refl in
                 rw (queues, ← still-same now.watchers now.sessions.open_sessions rest) reached
 
 -- ---- the first and the last

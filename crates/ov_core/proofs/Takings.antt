@@ -34,7 +34,7 @@ listed_alone (Some o) = refl
 not_kept : (o : Option Outcome) → is_kept o ≡ false → machine.is_kept (listed_of o) ≡ false
 not_kept None h = refl
 not_kept (Some outcome.NoMemory) h = refl
-not_kept (Some outcome.Kept) h = cc
+not_kept (Some outcome.Committed) h = cc
 not_kept (Some outcome.Exhausted) h = refl
 not_kept (Some outcome.Failed) h = refl
 
@@ -42,21 +42,21 @@ not_kept (Some outcome.Failed) h = refl
 done_where : {K : Type 0} (m n : ℕ) (w : Work) (draws : List Uuid) (old : Live K) (o : Option Outcome) (new : Live K) → is_closing o ≡ false → WorksWith m n w draws old o new → WorkIsDone m n w draws old o new
 done_where m n w draws old None new h done = done
 done_where m n w draws old (Some outcome.NoMemory) new h done = absurd (false≢true (sym h))
-done_where m n w draws old (Some outcome.Kept) new h done = done
+done_where m n w draws old (Some outcome.Committed) new h done = done
 done_where m n w draws old (Some outcome.Exhausted) new h done = done
 done_where m n w draws old (Some outcome.Failed) new h done = done
 
 closing_is : (o : Option Outcome) → is_closing o ≡ true → o ≡ Some outcome.NoMemory
 closing_is None h = absurd (false≢true h)
 closing_is (Some outcome.NoMemory) h = refl
-closing_is (Some outcome.Kept) h = absurd (false≢true h)
+closing_is (Some outcome.Committed) h = absurd (false≢true h)
 closing_is (Some outcome.Exhausted) h = absurd (false≢true h)
 closing_is (Some outcome.Failed) h = absurd (false≢true h)
 
-kept_is : (o : Option Outcome) → is_kept o ≡ true → o ≡ Some outcome.Kept
+kept_is : (o : Option Outcome) → is_kept o ≡ true → o ≡ Some outcome.Committed
 kept_is None h = absurd (false≢true h)
 kept_is (Some outcome.NoMemory) h = absurd (false≢true h)
-kept_is (Some outcome.Kept) h = refl
+kept_is (Some outcome.Committed) h = refl
 kept_is (Some outcome.Exhausted) h = absurd (false≢true h)
 kept_is (Some outcome.Failed) h = absurd (false≢true h)
 
@@ -64,7 +64,7 @@ kept_is (Some outcome.Failed) h = absurd (false≢true h)
 pub kept_waits : {K : Type 0} (m n : ℕ) (w : Work) (draws : List Uuid) (old : Live K) (o : Option Outcome) (new : Live K) → is_kept o ≡ true → WorksWith m n w draws old o new → (new.waiting.untried ≡ old.waiting.untried) × (new.waiting ≡ old.waiting)
 kept_waits m n w draws old None new h done = absurd (false≢true h)
 kept_waits m n w draws old (Some outcome.NoMemory) new h done = absurd (false≢true h)
-kept_waits m n w draws old (Some outcome.Kept) new h done = (done.untried, done.kept refl)
+kept_waits m n w draws old (Some outcome.Committed) new h done = (done.untried, done.kept refl)
 kept_waits m n w draws old (Some outcome.Exhausted) new h done = absurd (false≢true h)
 kept_waits m n w draws old (Some outcome.Failed) new h done = absurd (false≢true h)
 
@@ -137,17 +137,17 @@ module _ {K : Type 0} (failed : K → ℕ) (m n : ℕ) (message : Message) (draw
   take_settles o new before attempts open' kept listed did asks counts tries s =
       let is = kept_is o kept in
       let done = done_where m n work draws old o mid open' did in
-      let all : map attempt_view attempts ≡ map attempt_view (listed_by 1 (Some outcome.Kept)) ++ s.made = s.lists ∙ ap (λ (list : List Attempt). map attempt_view list ++ s.made) (listed ∙ ap (listed_by 1) is) in
+      let all : map attempt_view attempts ≡ map attempt_view (listed_by 1 (Some outcome.Committed)) ++ s.made = s.lists ∙ ap (λ (list : List Attempt). map attempt_view list ++ s.made) (listed ∙ ap (listed_by 1) is) in
       let waits : mid.waiting ≡ old.waiting = done.kept kept in
       let worked : works (state_of old m) n draws (Some machine.Committed) work ≡ Some (record { state = state_of mid m; sent = done.sent }) = subst (λ (v : Option Outcome). works (state_of old m) n draws (listed_of v) work ≡ Some (record { state = state_of mid m; sent = done.sent })) is done.works in
       let asked = rw is at asks in
       record {
         sent = done.sent ++ s.sent;
         happens = ap (λ (list : List machine.Attempt). machine.happens (state_of old m) (record { moment = m; draws = draws; outcomes = list }) (machine.Take n message)) all
-            ∙ take_settled (state_of old m) (record { moment = m; draws = draws; outcomes = map attempt_view (listed_by 1 (Some outcome.Kept)) ++ s.made }) n message (record { outcome = Some machine.Committed; others = s.made }) (record { state = state_of mid m; sent = done.sent })
+            ∙ take_settled (state_of old m) (record { moment = m; draws = draws; outcomes = map attempt_view (listed_by 1 (Some outcome.Committed)) ++ s.made }) n message (record { outcome = Some machine.Committed; others = s.made }) (record { state = state_of mid m; sent = done.sent })
             there refl worked (record { tried = record { stepped = record { state = state_of new m; sent = s.sent }; others = [] }; next = s.next; has_changed = false }) refl s.settles refl;
         posts = posts_then done.sent s.sent old.outbox.frames mid.outbox.frames new.outbox.frames done.posts s.posts;
-        asks = rw all (asks_then failed (map attempt_view (listed_by 1 (Some outcome.Kept))) s.made old.database mid.database new.database (asks_one failed 1 (Some outcome.Kept) old.database mid.database asked counts) s.asks);
+        asks = rw all (asks_then failed (map attempt_view (listed_by 1 (Some outcome.Committed))) s.made old.database mid.database new.database (asks_one failed 1 (Some outcome.Committed) old.database mid.database asked counts) s.asks);
         left = left_then old.sessions.open_sessions mid.sessions.open_sessions new.sessions.open_sessions (rw done.sessions (still_all old.sessions.open_sessions)) s.left;
         tries = omega (arith, tries, s.tries, ap (λ (w : WaitingList). most_tries (length w.outstanding)) waits);
         untried = s.untried;

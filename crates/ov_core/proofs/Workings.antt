@@ -51,7 +51,7 @@ module _ {K : Type 0} (ms : List machine.Session) (n : ℕ) (id : Data) (made : 
       → IsTrial ms n id (Completes made database) old waited (Done o) old waits
   at_once None h posts = record { results = made; database = database; is = refl; sent = sent; comes = λ s is. h s; posts = posts }
   at_once (Some outcome.NoMemory) h silent = (refl, silent)
-  at_once (Some outcome.Kept) h never = absurd never
+  at_once (Some outcome.Committed) h never = absurd never
   at_once (Some outcome.Exhausted) h never = absurd never
   at_once (Some outcome.Failed) h never = absurd never
 
@@ -65,7 +65,7 @@ answers ms n id (Waits timeout) results old o waited waits never posts = absurd 
 pub posts_from : (sent : List Sent) (waited between : WaitingFrames) (o : Option Outcome) (waits : WaitingFrames) → HasSameFrames waited between → PostsIfRoom sent between o waits → PostsIfRoom sent waited o waits
 posts_from sent waited between None waits same posts = λ s. posts s ∙ ap (λ (fs : List (List ℕ)). fs ++ frames_to s sent) (same s)
 posts_from sent waited between (Some outcome.NoMemory) waits same silent = λ s. silent s ∙ same s
-posts_from sent waited between (Some outcome.Kept) waits same never = absurd never
+posts_from sent waited between (Some outcome.Committed) waits same never = absurd never
 posts_from sent waited between (Some outcome.Exhausted) waits same never = absurd never
 posts_from sent waited between (Some outcome.Failed) waits same never = absurd never
 
@@ -88,7 +88,7 @@ module _ {K : Type 0} (ms : List machine.Session) (n : ℕ) (id : Data) (on : Tr
       let schema : new.schema ≡ old.schema = ap (λ (k : KeptDatabase K). k.schema) made in
       let database : new.committed ≡ applied delta old.committed = ap (λ (k : KeptDatabase K). k.committed) made in
       let sealed : new.sealed ≡ None = ap (λ (k : KeptDatabase K). k.sealed) made ∙ unsealed in
-      completed (Some outcome.Kept) (sent_after store.Kept ms n id results old delta) (λ s sessions. rw (other, unsealed, schema, database, sealed, ← sessions) refl) posts
+      completed (Some outcome.Committed) (sent_after store.Kept ms n id results old delta) (λ s sessions. rw (other, unsealed, schema, database, sealed, ← sessions) refl) posts
   stored store.Exhausted made posts =
       let schema : new.schema ≡ old.schema = ap (λ (k : KeptDatabase K). k.schema) made in
       let database : new.committed ≡ old.committed = ap (λ (k : KeptDatabase K). k.committed) made in
@@ -156,7 +156,7 @@ module _ {K : Type 0} (m n : ℕ) (id : Data) (draws : List Uuid) (operations : 
       },
     )
     trial_works None c = tried_work None refl c
-    trial_works (Some outcome.Kept) c = tried_work (Some outcome.Kept) refl c
+    trial_works (Some outcome.Committed) c = tried_work (Some outcome.Committed) refl c
     trial_works (Some outcome.Exhausted) c = tried_work (Some outcome.Exhausted) refl c
     trial_works (Some outcome.Failed) c = tried_work (Some outcome.Failed) refl c
 
@@ -172,7 +172,7 @@ module _ {K : Type 0} (m n : ℕ) (id : Data) (draws : List Uuid) (operations : 
     kept = λ h. cc;
   })
   wait_works outbox tries timeout (Some outcome.NoMemory) new queues silent is same = (omega (arith, many), rw same (record { same = refl; watching = λ other apart. refl; queues = queues; frames = silent }))
-  wait_works outbox tries timeout (Some outcome.Kept) new queues silent is never = absurd never
+  wait_works outbox tries timeout (Some outcome.Committed) new queues silent is never = absurd never
   wait_works outbox tries timeout (Some outcome.Exhausted) new queues silent is never = absurd never
   wait_works outbox tries timeout (Some outcome.Failed) new queues silent is never = absurd never
 
@@ -189,7 +189,7 @@ cancel_works m n id text old None new same (posts, queues, is) = record {
 }
 cancel_works m n id text old (Some outcome.NoMemory) new same (silent, queues, is) =
     (omega arith, record { same = is ∙ rw is refl; watching = λ other apart. ap (λ (l : Live _). monitors_at other l.watchers) is; queues = queues; frames = silent })
-cancel_works m n id text old (Some outcome.Kept) new same never = absurd never
+cancel_works m n id text old (Some outcome.Committed) new same never = absurd never
 cancel_works m n id text old (Some outcome.Exhausted) new same never = absurd never
 cancel_works m n id text old (Some outcome.Failed) new same never = absurd never
 
@@ -198,7 +198,7 @@ pub cancel_refused : {K : Type 0} (n : ℕ) (id : Data) (text : List ℕ) (sent 
     → CancelsIfRoom n id text old o (record old { outbox = outbox })
 cancel_refused n id text sent old None outbox h queues posts = cc
 cancel_refused n id text sent old (Some outcome.NoMemory) outbox h queues silent = (silent, queues, refl)
-cancel_refused n id text sent old (Some outcome.Kept) outbox h queues never = absurd never
+cancel_refused n id text sent old (Some outcome.Committed) outbox h queues never = absurd never
 cancel_refused n id text sent old (Some outcome.Exhausted) outbox h queues never = absurd never
 cancel_refused n id text sent old (Some outcome.Failed) outbox h queues never = absurd never
 
@@ -212,7 +212,7 @@ posted sent old new (Some o) h posts = cc
 unasked_by : (sent : List Sent) (old new : WaitingFrames) (o : Option Outcome) → PostsIfRoom sent old o new → (o ≡ None) ⊎ (o ≡ Some outcome.NoMemory)
 unasked_by sent old new None posts = inl refl
 unasked_by sent old new (Some outcome.NoMemory) posts = inr refl
-unasked_by sent old new (Some outcome.Kept) never = absurd never
+unasked_by sent old new (Some outcome.Committed) never = absurd never
 unasked_by sent old new (Some outcome.Exhausted) never = absurd never
 unasked_by sent old new (Some outcome.Failed) never = absurd never
 
@@ -223,7 +223,7 @@ rest_posted sent old o new waited waits posts database tries = record { database
 pub cancel_rest : {K : Type 0} (n : ℕ) (id : Data) (text : List ℕ) (old : Live K) (o : Option Outcome) (new : Live K) → CancelsIfRoom n id text old o new → HasSameRest old o new
 cancel_rest {K} n id text old None new (posts, queues, is) = record { database = ap (λ (l : Live K). l.database) is; tries = ap (λ (l : Live K). l.tries) is; unasked = inl refl }
 cancel_rest {K} n id text old (Some outcome.NoMemory) new (silent, queues, is) = record { database = ap (λ (l : Live K). l.database) is; tries = ap (λ (l : Live K). l.tries) is; unasked = inr refl }
-cancel_rest n id text old (Some outcome.Kept) new never = absurd never
+cancel_rest n id text old (Some outcome.Committed) new never = absurd never
 cancel_rest n id text old (Some outcome.Exhausted) new never = absurd never
 cancel_rest n id text old (Some outcome.Failed) new never = absurd never
 
@@ -238,14 +238,14 @@ rest_asks failed old o new rest = by rest.unasked
 pub wait_asks : {K : Type 0} (failed : K → ℕ) (w : machine.Outstanding) (timeout : Option ℕ) (old : Live K) (o : Option Outcome) (new : Live K) → WaitsIfRoom w timeout old o new → AsksStore failed o old.database new.database
 wait_asks {K} failed w timeout old None new is = ap (λ (l : Live K). l.database) is
 wait_asks {K} failed w timeout old (Some outcome.NoMemory) new is = ap (λ (l : Live K). l.database) is
-wait_asks failed w timeout old (Some outcome.Kept) new never = absurd never
+wait_asks failed w timeout old (Some outcome.Committed) new never = absurd never
 wait_asks failed w timeout old (Some outcome.Exhausted) new never = absurd never
 wait_asks failed w timeout old (Some outcome.Failed) new never = absurd never
 
 pub wait_rest : {K : Type 0} (w : machine.Outstanding) (timeout : Option ℕ) (old : Live K) (o : Option Outcome) (new : Live K) → WaitsIfRoom w timeout old o new → (new.database ≡ old.database) × (new.tries ≡ old.tries)
 wait_rest {K} w timeout old None new is = (ap (λ (l : Live K). l.database) is, ap (λ (l : Live K). l.tries) is)
 wait_rest {K} w timeout old (Some outcome.NoMemory) new is = (ap (λ (l : Live K). l.database) is, ap (λ (l : Live K). l.tries) is)
-wait_rest w timeout old (Some outcome.Kept) new never = absurd never
+wait_rest w timeout old (Some outcome.Committed) new never = absurd never
 wait_rest w timeout old (Some outcome.Exhausted) new never = absurd never
 wait_rest w timeout old (Some outcome.Failed) new never = absurd never
 
@@ -272,7 +272,7 @@ answered_works {K} m n trees old None new is queues posts = record {
 }
 answered_works {K} m n trees old (Some outcome.NoMemory) new is queues silent =
     (omega arith, record { same = is ∙ rw is refl; watching = λ other apart. ap (λ (l : Live K). monitors_at other l.watchers) is; queues = queues; frames = silent })
-answered_works m n trees old (Some outcome.Kept) new is queues never = absurd never
+answered_works m n trees old (Some outcome.Committed) new is queues never = absurd never
 answered_works m n trees old (Some outcome.Exhausted) new is queues never = absurd never
 answered_works m n trees old (Some outcome.Failed) new is queues never = absurd never
 
@@ -308,7 +308,7 @@ works_over {K} m n w draws old mid (Some outcome.NoMemory) new same (few, stays)
     frames = λ other. stays.frames other ∙ same.frames other;
   },
 )
-works_over m n w draws old mid (Some outcome.Kept) new same done = done_over m n w draws old mid (Some outcome.Kept) new same done
+works_over m n w draws old mid (Some outcome.Committed) new same done = done_over m n w draws old mid (Some outcome.Committed) new same done
 works_over m n w draws old mid (Some outcome.Exhausted) new same done = done_over m n w draws old mid (Some outcome.Exhausted) new same done
 works_over m n w draws old mid (Some outcome.Failed) new same done = done_over m n w draws old mid (Some outcome.Failed) new same done
 
@@ -358,7 +358,7 @@ watch_works {K} m n id result monitors old watchers (Some outcome.NoMemory) new 
     frames = silent;
   },
 )
-watch_works m n id result monitors old watchers (Some outcome.Kept) new watches is queues never = absurd never
+watch_works m n id result monitors old watchers (Some outcome.Committed) new watches is queues never = absurd never
 watch_works m n id result monitors old watchers (Some outcome.Exhausted) new watches is queues never = absurd never
 watch_works m n id result monitors old watchers (Some outcome.Failed) new watches is queues never = absurd never
 

@@ -28,7 +28,7 @@ use Rattle.ov_core.specs.declared.live.Live.{Live}
 abbrev pub PostsIfRoom : List Sent → WaitingFrames → Option Outcome → WaitingFrames → Type 0
 PostsIfRoom sent old None new = PostsSent sent old new
 PostsIfRoom sent old (Some outcome.NoMemory) new = HasSameFrames old new
-PostsIfRoom sent old (Some outcome.Kept) new = ⊥
+PostsIfRoom sent old (Some outcome.Committed) new = ⊥
 PostsIfRoom sent old (Some outcome.Exhausted) new = ⊥
 PostsIfRoom sent old (Some outcome.Failed) new = ⊥
 
@@ -38,7 +38,7 @@ PostsIfRoom sent old (Some outcome.Failed) new = ⊥
 -- otherwise, the seal is unchanged; if it was not asked, the database and its keeper are as before.
 abbrev pub AsksStore : {K : Type 0} → (K → ℕ) → Option Outcome → KeptDatabase K → KeptDatabase K → Type 0
 AsksStore failed (Some outcome.Failed) old new = HasFailed (failed old.keeper) (failed new.keeper)
-AsksStore failed (Some outcome.Kept) old new = new.sealed ≡ old.sealed
+AsksStore failed (Some outcome.Committed) old new = new.sealed ≡ old.sealed
 AsksStore failed (Some outcome.Exhausted) old new = new.sealed ≡ old.sealed
 AsksStore failed (Some outcome.NoMemory) old new = new ≡ old
 AsksStore failed None old new = new ≡ old
@@ -127,7 +127,7 @@ pub record HasSameRest {K : Type 0} (old : Live K) (o : Option Outcome) (new : L
 abbrev pub WaitsIfRoom : {K : Type 0} → machine.Outstanding → Option ℕ → Live K → Option Outcome → Live K → Type 0
 WaitsIfRoom o timeout old None new = new ≡ record old { waiting = record old.waiting { outstanding = old.waiting.outstanding ++ record o { timeout = timeout } ∷ [] } }
 WaitsIfRoom o timeout old (Some outcome.NoMemory) new = new ≡ old
-WaitsIfRoom o timeout old (Some outcome.Kept) new = ⊥
+WaitsIfRoom o timeout old (Some outcome.Committed) new = ⊥
 WaitsIfRoom o timeout old (Some outcome.Exhausted) new = ⊥
 WaitsIfRoom o timeout old (Some outcome.Failed) new = ⊥
 
@@ -140,6 +140,6 @@ abbrev pub CancelsIfRoom : {K : Type 0} → ℕ → Data → List ℕ → Live K
 CancelsIfRoom session id text old None new =
     PostsSent (to_session session (failure_tree id (codes "canceled") ∷ [])) old.outbox.frames new.outbox.frames × (new.outbox.queues ≡ old.outbox.queues) × (new ≡ without_text session text new.outbox old)
 CancelsIfRoom session id text old (Some outcome.NoMemory) new = HasSameFrames old.outbox.frames new.outbox.frames × (new.outbox.queues ≡ old.outbox.queues) × (new ≡ record old { outbox = new.outbox })
-CancelsIfRoom session id text old (Some outcome.Kept) new = ⊥
+CancelsIfRoom session id text old (Some outcome.Committed) new = ⊥
 CancelsIfRoom session id text old (Some outcome.Exhausted) new = ⊥
 CancelsIfRoom session id text old (Some outcome.Failed) new = ⊥

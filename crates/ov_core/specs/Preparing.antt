@@ -78,7 +78,7 @@ pub record Prepares {K : Type 0} (old : Replying) (db : KeptDatabase K) (delta :
 
 -- the outcome of this answer
 abbrev pub outcome_after : StoreAnswer → Outcome
-outcome_after store.Kept = outcome.Kept
+outcome_after store.Kept = outcome.Committed
 outcome_after store.Exhausted = outcome.Exhausted
 outcome_after store.Failed = outcome.Failed
 

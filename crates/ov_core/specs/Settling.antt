@@ -29,7 +29,7 @@ tried_again live = record live {
 -- what follows a finished try: a failed allocation closes its session, and after a kept change all are tried again
 abbrev pub AfterTry : {K : Type 0} → ℕ → Option Outcome → Live K → Live K → Type 0
 AfterTry session (Some outcome.NoMemory) old new = ClosesSession session old new
-AfterTry session (Some outcome.Kept) old new = new ≡ tried_again old
+AfterTry session (Some outcome.Committed) old new = new ≡ tried_again old
 AfterTry session (Some outcome.Exhausted) old new = new ≡ old
 AfterTry session (Some outcome.Failed) old new = new ≡ old
 AfterTry session None old new = new ≡ old

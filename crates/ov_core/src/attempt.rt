@@ -114,7 +114,7 @@ fn outcome_of(answer: StoreAnswer) -> Outcome
     ensures { result ≡ outcome_after answer }
 {
     match answer {
-        StoreAnswer::Kept => Outcome::Kept,
+        StoreAnswer::Kept => Outcome::Committed,
         StoreAnswer::Exhausted => Outcome::Exhausted,
         StoreAnswer::Failed => Outcome::Failed,
     }

@@ -131,7 +131,7 @@ impl<K: Keeper + Drop, D: Draws + Drop> Core<K, D> {
             });
         };
         let database = Db::open(alloc, keeper, schema)?;
-        database.kept();
+        database.shows_kept();
         Ok(Core {
             live: Live::new(alloc, database, sessions),
             source: draws,
@@ -328,10 +328,10 @@ impl<K: Keeper + Drop, D: Draws + Drop> Core<K, D> {
 
     /// States what a crash now leaves, an invariant of every core: the lines of the machine's database, or after a failed
     /// commit possibly those of the database that it would have made. Does nothing.
-    pub fn left(&self)
+    pub fn shows_left(&self)
         ensures { K.is_honest self.now.keeper → (held : Contents) → K.leaves self.now.keeper held → LeavesItsOwn self.now.state held }
     {
-        self.live.database.left();
+        self.live.database.shows_left();
     }
 
     /// Gives up the core, and returns its keeper.
@@ -350,19 +350,19 @@ impl<K: Keeper + Drop, D: Draws + Drop> Core<K, D> {
 
     /// States what an open after a crash now would find, an invariant of every core: the machine's database, or after a
     /// failed commit possibly the one that it would have made. Does nothing.
-    pub fn would_open(&self)
+    pub fn shows_would_open(&self)
         ensures { K.is_honest self.now.keeper → MayFind (K.leaves self.now.keeper) self.now.state.schema self.now.state.database self.now.state.sealed }
     {
-        self.live.database.left();
+        self.live.database.shows_left();
     }
 
     /// States an invariant of every core: each row of the machine's database is a row of the schema and what its line reads
     /// back as, and the rows are whole, so that a commit leaves them as they are. The same holds for the rows that a failed
     /// commit would have made. Does nothing.
-    pub fn kept(&self)
+    pub fn shows_kept(&self)
         ensures { AreKept self.now.state.schema self.now.state.database self.now.state.sealed }
     {
-        self.live.database.kept();
+        self.live.database.shows_kept();
     }
 
     fn open_at(&mut self, moment: u64) -> Result<Session, StepFault>

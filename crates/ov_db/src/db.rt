@@ -210,7 +210,7 @@ impl<K: Keeper + Drop> Db<K> {
     }
 
     /// For contracts: what a crash at this moment leaves. Does nothing.
-    pub fn left(&self)
+    pub fn shows_left(&self)
         ensures held { K.is_honest self.now.keeper → MayHold (K.leaves self.now.keeper) (compact_text self.now.schema.tree) self.now.committed self.now.sealed }
         ensures found { K.is_honest self.now.keeper → MayFind (K.leaves self.now.keeper) self.now.schema self.now.committed self.now.sealed }
     {
@@ -219,7 +219,7 @@ impl<K: Keeper + Drop> Db<K> {
 
     /// For contracts: each row is a row of the schema and is what its line reads back as, and a commit would leave the rows
     /// as they are. The same holds for the rows that a failed commit would have left. Does nothing.
-    pub fn kept(&self)
+    pub fn shows_kept(&self)
         ensures { AreKept self.now.schema self.now.committed self.now.sealed }
     {
         let _resident = &self.resident;

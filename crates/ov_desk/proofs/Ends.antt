@@ -1,50 +1,59 @@
 -- What is left of all links, once their lanes fit what became of their sessions.
-use Rattle.std.proofs.Common.{◌≡◌, ℕ, suc, ◌+◌, ◌≤◌, List, [], ◌∷◌, sym, subst, ◌∙◌, arith}
+use Rattle.std.proofs.Common.{◌≡◌, ℕ, zero, suc, ◌+◌, ◌≤◌, List, [], ◌∷◌, get_or, sym, ap, subst, ◌∙◌, Option, Some, None, arith}
+use Rattle.std.proofs.lemmas.Option.{same_Some}
 use Rattle.ov_ends.specs.States.{SourceState, SinkState}
 use Rattle.ov_core.specs.Following.{CoreState}
 use Rattle.ov_lanes.specs.Since.{Since, course_of}
-use Rattle.ov_lanes.specs.Lanes.{LaneFits, AllFit}
+use Rattle.ov_lanes.specs.Lanes.{IsAt, AreNewLanes, LaneFits, SameLane, StayAs}
+use Rattle.ov_lanes.specs.Pairs.{Threewise}
 use Rattle.ov_lanes.specs.declared.lane.Lane.{Lane}
 use Rattle.ov_lanes.specs.declared.link.Link.{Link}
+use Rattle.ov_lanes.proofs.PlaceLaws.{some_before}
 use Rattle.ov_desk.specs.declared.link.End.{End}
-use Rattle.ov_lanes.specs.Pairs.{Pairwise, Threewise}
 use Rattle.ov_desk.specs.Ending.{CourseEnds, LinkEnds}
-use Rattle.ov_desk.specs.Ends.{EndsLane, AllEnd}
+use Rattle.ov_desk.specs.Ends.{EndsLane, EndsSeat, AllEnd}
 use Rattle.ov_desk.proofs.Endings.{link_ends}
 
-module _ {K D : Type 0} {old new : CoreState K D} (since : Since old new) where
-  -- the first lane, and the others
-  first_serial : (base : ℕ) (l : Lane) (ls : List Lane) → AllFit since base (l ∷ ls) → l.session.serial ≡ base
-  first_serial base l ls fit = let e = fit.serials 0 l (omega arith) in omega (arith, e)
+-- the sessions at the places have the serials from this one on
+pub CountUp : ℕ → List (Option Lane) → Type 0
+CountUp serial ls = (i : ℕ) (l : Lane) → IsAt ls i l → l.session.serial ≡ serial + i
 
-  others_fit : (base : ℕ) (l : Lane) (ls : List Lane) → AllFit since base (l ∷ ls) → AllFit since (base + 1) ls
-  others_fit base l ls fit = record {
-    each = λ i d lt. fit.each (suc i) d (omega (arith, lt));
-    serials = λ i d lt. let e = fit.serials (suc i) d (omega (arith, lt)) in omega (arith, e);
-  }
+pub count_new : (serial : ℕ) (ls : List (Option Lane)) → AreNewLanes serial ls → CountUp serial ls
+unfolding CountUp
+count_new serial [] are i l is = absurd (none_some l is)
+  where
+    none_some : (x : Lane) → None ≡ Some x → ⊥
+    none_some x h = cc
+count_new serial (p ∷ ls) are zero l is = let same : are.0.0 ≡ l = same_Some are.0.0 l (sym are.0.1 ∙ is) in let x = are.0.2.session in omega (arith, x, ap (λ (k : Lane). k.session.serial) same)
+count_new serial (p ∷ ls) are (suc i) l is = let x = count_new (serial + 1) ls are.1 i l is in omega (arith, x)
 
-module _ {K D S W B : Type 0} {old new : CoreState K D} (source : S → SourceState) (sink : W → SinkState) (reader : B → S) (writer : B → W) (since : Since old new) where
-  one_ends : (base : ℕ) → old.state.next ≤ base → (l : Lane) (w : B) (e : End S W) (k : Link S W) → l.session.serial ≡ base → LaneFits since l → EndsLane source sink l (reader w) (writer w) e → k.reader ≡ reader w → k.writer ≡ writer w
+-- they are the same later
+pub count_stays : (serial : ℕ) (ls ms : List (Option Lane)) → StayAs SameLane ls ms → CountUp serial ls → CountUp serial ms
+unfolding CountUp
+count_stays serial ls ms s count i m is =
+    let x = some_before SameLane (get_or ls i None) (get_or ms i None) m (s.each i) is in
+    ap (λ k. k.serial) x.2.2 ∙ count i x.0 x.1
+
+module _ {K D S W : Type 0} {old new : CoreState K D} (source : S → SourceState) (sink : W → SinkState) (since : Since old new) where
+  one_ends : (base : ℕ) → old.state.next ≤ base → (l : Lane) (e : End S W) (k : Link S W) → l.session.serial ≡ base → LaneFits since l → EndsLane source sink k l e
       → LinkEnds since base e.cause (source k.reader) (source e.reader) (sink k.writer) (sink e.writer)
-  one_ends base later l w e k serial fits ends reads writes =
+  one_ends base later l e k serial fits ends =
       let comes = ends.1 (course_of since l.session.serial) fits in
       link_ends since base later e.cause (source k.reader) (source e.reader) (sink k.writer) (sink e.writer)
-      (subst (λ (n : ℕ). CourseEnds (course_of since n) e.cause (source k.reader) (source e.reader) (sink k.writer) (sink e.writer)) serial
-      (subst (λ (r : S). CourseEnds (course_of since l.session.serial) e.cause (source r) (source e.reader) (sink k.writer) (sink e.writer)) (sym reads)
-      (subst (λ (v : W). CourseEnds (course_of since l.session.serial) e.cause (source (reader w)) (source e.reader) (sink v) (sink e.writer)) (sym writes) comes)))
+      (subst (λ (n : ℕ). CourseEnds (course_of since n) e.cause (source k.reader) (source e.reader) (sink k.writer) (sink e.writer)) serial comes)
 
-  pub all_end : (base : ℕ) → old.state.next ≤ base → (ls : List Lane) (ws : List B) (es : List (End S W)) (ks : List (Link S W)) → AllFit since base ls
-      → Threewise (λ l w e. EndsLane source sink l (reader w) (writer w) e) ls ws es → Pairwise (λ k w. (k.reader ≡ reader w) × (k.writer ≡ writer w)) ks ws → AllEnd source sink since base ks es
-  all_end base later [] [] [] [] fit t p = tt
-  all_end base later [] [] [] (k ∷ ks) fit t p = absurd p
-  all_end base later [] [] (e ∷ es) ks fit t p = absurd t
-  all_end base later [] (w ∷ ws) es ks fit t p = absurd t
-  all_end base later (l ∷ ls) [] es ks fit t p = absurd t
-  all_end base later (l ∷ ls) (w ∷ ws) [] ks fit t p = absurd t
-  all_end base later (l ∷ ls) (w ∷ ws) (e ∷ es) [] fit t p = absurd p
-  all_end base later (l ∷ ls) (w ∷ ws) (e ∷ es) (k ∷ ks) fit t p =
-      let serial = first_serial since base l ls fit in (
-        t.0.0 ∙ serial,
-        one_ends base later l w e k serial (fit.each 0 l (omega arith)) t.0 p.0.0 p.0.1,
-        all_end (base + 1) (omega (arith, later)) ls ws es ks (others_fit since base l ls fit) t.1 p.1,
+  pub all_end : (base : ℕ) → old.state.next ≤ base → (ks : List (Link S W)) (ls : List (Option Lane)) (es : List (End S W)) → ((i : ℕ) (l : Lane) → IsAt ls i l → LaneFits since l) → CountUp base ls
+      → Threewise (λ k p e. EndsSeat source sink k p e) ks ls es → AllEnd source sink since base ks es
+  unfolding CountUp
+  all_end base later [] [] [] fits count t = tt
+  all_end base later [] [] (e ∷ es) fits count t = absurd t
+  all_end base later [] (p ∷ ls) es fits count t = absurd t
+  all_end base later (k ∷ ks) [] es fits count t = absurd t
+  all_end base later (k ∷ ks) (p ∷ ls) [] fits count t = absurd t
+  all_end base later (k ∷ ks) (p ∷ ls) (e ∷ es) fits count t =
+      let l = t.0.0 in let is = t.0.1 in
+      let serial : l.session.serial ≡ base = (let x = count zero l is in omega (arith, x)) in (
+        t.0.2.0 ∙ serial,
+        one_ends base later l e k serial (fits zero l is) t.0.2,
+        all_end (base + 1) (omega (arith, later)) ks ls es (λ i m there. fits (suc i) m there) (λ i m there. let x = count (suc i) m there in omega (arith, x)) t.1,
       )

@@ -1,8 +1,8 @@
-pub mod Endings
-pub mod Sides
-pub mod Closing
-pub mod Links
-pub mod Running
-pub mod Ends
-pub mod Rooms
-pub mod Serving
+mod Endings
+mod Ends
+mod Sides
+mod Pairs
+mod Seats
+mod Running
+mod Serving
+mod Halls

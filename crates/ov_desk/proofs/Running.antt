@@ -1,23 +1,260 @@
--- What the desk makes of its core and of its lanes, one part after another.
-use Rattle.std.proofs.Common.{ℕ, List}
+-- What the desk makes of its core and of its lanes, one moment after another.
+use Rattle.std.proofs.Common.{◌≡◌, ◌≢◌, inl, inr, ℕ, ◌+◌, ◌<◌, List, [], ◌∷◌, ◌++◌, length, length-append, get_or, slice_set, get_or-set_other, length-set, refl, sym, ap, subst, ◌∙◌, append_assoc, append-nil, Bool, true, false, Option, Some, None, cond, arith, rules}
+use Rattle.std.specs.Prelude.{option_to_list, MatchOption}
+use Rattle.std.proofs.lemmas.Bool.{cases_eq, cases_Bool, eq-eqb, ne_eqb, false≢true}
+use Rattle.std.proofs.lemmas.Grind.{get_or-set_at}
+use Rattle.std.proofs.lemmas.List.{get_or_default}
+use Rattle.std.proofs.lemmas.Option.{same_Some}
+use Rattle.rtrb.specs.Ring.{sent, received}
+use Rattle.ov_specs.specs.machine.Machine.{Entry, is_open}
 use Rattle.ov_core.specs.Following.{CoreState}
-use Rattle.ov_lanes.specs.Lanes.{Serves, SameLanes}
+use Rattle.ov_lanes.specs.Moments.{AreTimed, AreTimedBy, Tells}
+use Rattle.ov_lanes.specs.Lanes.{IsAt, SameLane, PutsAlone, LooksAt, StaysAs, StayAs, TakesOne, AreOver, Serves, GoesOn}
 use Rattle.ov_lanes.specs.declared.lane.Lane.{Lane}
-use Rattle.ov_lanes.specs.Since.{Since}
-use Rattle.ov_lanes.proofs.Courses.{Passes}
-use Rattle.ov_lanes.proofs.AllLanes.{same_lanes, same_along, serves_passed}
-use Rattle.ov_desk.specs.Running.{GoesOn}
+use Rattle.ov_lanes.proofs.Timing.{timed_more, tells_more}
+use Rattle.ov_lanes.proofs.PlaceLaws.{some_before, some_after}
+use Rattle.ov_desk.specs.Serving.{TakesTime, ServesLobby, RunsBy, times, AreApart, KeepsPlaces, KeepsHall, TakesNoted, IsTended}
 
-pub goes_on_none : {K D : Type 0} (a : CoreState K D) (ls : List Lane) → GoesOn a ls a ls
-goes_on_none a ls = record { serves = λ start base s. s; rings = same_lanes ls }
+-- ---- moments
 
-pub goes_on_along : {K D : Type 0} {a b c : CoreState K D} (ls ms ns : List Lane) → GoesOn a ls b ms → GoesOn b ms c ns → GoesOn a ls c ns
-goes_on_along ls ms ns x y = record { serves = λ start base s. y.serves start base (x.serves start base s); rings = same_along ls ms ns x.rings y.rings }
+module _ {K D C : Type 0} (tells : C → ℕ → C → Type 0) where
+  pub runs_none : (a : CoreState K D) (ls : List (Option Lane)) (clock : C) → RunsBy tells a ls clock a ls clock
+  runs_none a ls clock = record {
+    moments = [];
+    told = refl;
+    serves = λ start s. record { after = s; more = []; adds = sym (append-nil s.since.entries); timed = (refl, refl) };
+  }
 
--- by the clauses of a call
-pub goes_on_by : {K D : Type 0} {a b : CoreState K D} (ls ms : List Lane) → ((start : CoreState K D) (base : ℕ) → Serves start base a ls → Serves start base b ms) → SameLanes ls ms → GoesOn a ls b ms
-goes_on_by ls ms serves rings = record { serves = serves; rings = rings }
+  pub runs_more : (a b c : CoreState K D) (ls ms ns : List (Option Lane)) (clock mid last : C) (at : ℕ) → RunsBy tells a ls clock b ms mid → tells mid at last → GoesOn at b ms c ns → RunsBy tells a ls clock c ns last
+  runs_more a b c ls ms ns clock mid last at x told goes = record {
+    moments = x.moments ++ at ∷ [];
+    told = tells_more tells x.moments at clock mid last x.told told;
+    serves = λ start s.
+        let p = x.serves start s in let q = goes start p.after in
+        record {
+          after = q.after;
+          more = p.more ++ q.more;
+          adds = q.adds ∙ (ap (λ (l : List Entry). l ++ q.more) p.adds ∙ append_assoc s.since.entries p.more q.more);
+          timed = timed_more x.moments at a.state p.more q.more b.state c.state p.timed q.timed;
+        };
+  }
 
--- time passed, or not
-pub goes_on_passed : {K D : Type 0} {a b : CoreState K D} (ls : List Lane) → ((start : CoreState K D) (since : Since start a) → Passes since b) → GoesOn a ls b ls
-goes_on_passed ls passes = record { serves = λ start base s. serves_passed base ls s (λ since. passes start since); rings = same_lanes ls }
+-- ---- places that are kept
+
+-- no note, and nothing taken
+kept_none : (ls ms : List (Option Lane)) → StayAs (λ l m. SameLane l m × (received m.inbound ≡ received l.inbound)) ls ms → KeepsPlaces [] ls ms
+kept_none ls ms s = record { many = s.many; each = λ at. by (get_or ls at None) (get_or ms at None) (s.each at) }
+  where
+    by : (p q : Option Lane) → StaysAs (λ l m. SameLane l m × (received m.inbound ≡ received l.inbound)) p q → StaysAs (λ l m. SameLane l m × (length (received m.inbound) ≡ length (received l.inbound) + times l.session.serial [])) p q
+    by None q x = x
+    by (Some l) None x = x
+    by (Some l) (Some m) (same, taken) = (same, let e = ap length taken in omega (arith, e))
+
+times_append : (n : ℕ) (xs ys : List ℕ) → times n (xs ++ ys) ≡ times n xs + times n ys
+times_append n [] ys = omega arith
+times_append n (x ∷ xs) ys = let e = times_append n xs ys in omega (arith, e)
+
+abbrev Counted : List ℕ → Lane → Lane → Type 0
+Counted notes l m = SameLane l m × (length (received m.inbound) ≡ length (received l.inbound) + times l.session.serial notes)
+
+tended_same : (l m : Lane) → IsTended l m → SameLane l m × (received m.inbound ≡ received l.inbound)
+tended_same l m t = (let inbound = t.0 in let outbound = t.1 in let session = t.2 in search rules, ap received t.0)
+
+puts_taken : (l m : Lane) → PutsAlone l m → SameLane l m × (received m.inbound ≡ received l.inbound)
+puts_taken l m (outbound, inbound, session) = (search rules, ap received inbound)
+
+stays_by : (P Q : Lane → Lane → Type 0) → ((l m : Lane) → P l m → Q l m) → (ls ms : List (Option Lane)) → StayAs P ls ms → StayAs Q ls ms
+stays_by P Q by ls ms s = record { many = s.many; each = λ at. one (get_or ls at None) (get_or ms at None) (s.each at) }
+  where
+    one : (p q : Option Lane) → StaysAs P p q → StaysAs Q p q
+    one None q x = x
+    one (Some l) None x = x
+    one (Some l) (Some m) x = by l m x
+
+pub kept_tended : (ls ms : List (Option Lane)) → StayAs IsTended ls ms → KeepsPlaces [] ls ms
+kept_tended ls ms s = kept_none ls ms (stays_by IsTended (λ l m. SameLane l m × (received m.inbound ≡ received l.inbound)) tended_same ls ms s)
+
+pub kept_puts : (ls ms : List (Option Lane)) → StayAs PutsAlone ls ms → KeepsPlaces [] ls ms
+kept_puts ls ms s = kept_none ls ms (stays_by PutsAlone (λ l m. SameLane l m × (received m.inbound ≡ received l.inbound)) puts_taken ls ms s)
+
+pub looks_tended : (ls ms : List (Option Lane)) → StayAs IsTended ls ms → StayAs LooksAt ls ms
+looks_tended ls ms s = stays_by IsTended LooksAt (λ l m t. (ap received t.0, ap sent t.1, t.2, t.3, t.4, t.5)) ls ms s
+
+tended_self : (l : Lane) → IsTended l l
+tended_self l = (refl, refl, refl, refl, refl, refl)
+
+pub tended_all : (ls : List (Option Lane)) → StayAs IsTended ls ls
+tended_all ls = record { many = refl; each = λ at. one (get_or ls at None) }
+  where
+    one : (p : Option Lane) → StaysAs IsTended p p
+    one None = refl
+    one (Some l) = tended_self l
+
+pub stay_tended_set : (ls : List (Option Lane)) (i : ℕ) (place place' : Option Lane) → i < length ls → place ≡ get_or ls i place → StaysAs IsTended place place' → StayAs IsTended ls (slice_set ls i place')
+stay_tended_set ls i place place' lt read x = record {
+  many = length-set ls i place';
+  each = λ at. elim (cases_eq at i) [
+    | inl e ↦
+        subst (λ (q : Option Lane). StaysAs IsTended (get_or ls at None) q) (sym (get_or-set_at ls i at place' None e lt))
+        (subst (λ (q : Option Lane). StaysAs IsTended q place') (read ∙ (sym (get_or_default ls i None place lt) ∙ ap (λ (k : ℕ). get_or ls k None) (sym e))) x)
+    | inr ne ↦ subst (λ (q : Option Lane). StaysAs IsTended (get_or ls at None) q) (sym (get_or-set_other ls i at place' None ne)) ((tended_all ls).each at)
+  ];
+}
+
+pub tended_along : (ls ms ns : List (Option Lane)) → StayAs IsTended ls ms → StayAs IsTended ms ns → StayAs IsTended ls ns
+tended_along ls ms ns x y = record { many = y.many ∙ x.many; each = λ at. one (get_or ls at None) (get_or ms at None) (get_or ns at None) (x.each at) (y.each at) }
+  where
+    one : (p q r : Option Lane) → StaysAs IsTended p q → StaysAs IsTended q r → StaysAs IsTended p r
+    one None q r x y = subst (λ (k : Option Lane). StaysAs IsTended k r) x y
+    one (Some l) None r x y = absurd x
+    one (Some l) (Some m) None x y = absurd y
+    one (Some l) (Some m) (Some n) x y = (y.0 ∙ x.0, y.1 ∙ x.1, y.2 ∙ x.2, y.3 ∙ x.3, y.4 ∙ x.4, y.5 ∙ x.5)
+
+pub tended_same_all : (ls ms : List (Option Lane)) → StayAs IsTended ls ms → StayAs SameLane ls ms
+tended_same_all ls ms s = stays_by IsTended SameLane (λ l m t. (tended_same l m t).0) ls ms s
+
+pub kept_same : (notes : List ℕ) (ls ms : List (Option Lane)) → KeepsPlaces notes ls ms → StayAs SameLane ls ms
+kept_same notes ls ms s = stays_by (Counted notes) SameLane (λ l m c. c.0) ls ms s
+
+pub apart_stays : (ls ms : List (Option Lane)) → StayAs SameLane ls ms → AreApart ls → AreApart ms
+apart_stays ls ms s apart i j m n is_m is_n same =
+    let x = some_before SameLane (get_or ls i None) (get_or ms i None) m (s.each i) is_m in
+    let y = some_before SameLane (get_or ls j None) (get_or ms j None) n (s.each j) is_n in
+    apart i j x.0 y.0 x.1 y.1 (sym (ap (λ k. k.serial) x.2.2) ∙ (same ∙ ap (λ k. k.serial) y.2.2))
+
+counts_along : (xs ys : List ℕ) (p q r : Option Lane) → StaysAs (Counted xs) p q → StaysAs (Counted ys) q r → StaysAs (Counted (xs ++ ys)) p r
+counts_along xs ys None q r x y = subst (λ (k : Option Lane). StaysAs (Counted ys) k r) x y
+counts_along xs ys (Some l) None r x y = absurd x
+counts_along xs ys (Some l) (Some m) None x y = absurd y
+counts_along xs ys (Some l) (Some m) (Some n) (same, count) (same', count') = (
+  search rules,
+  (let e = times_append l.session.serial xs ys in let f = ap (λ k. times k.serial ys) same.2 in omega (arith, count, count', e, f)),
+)
+
+pub kept_along : (xs ys : List ℕ) (ls ms ns : List (Option Lane)) → KeepsPlaces xs ls ms → KeepsPlaces ys ms ns → KeepsPlaces (xs ++ ys) ls ns
+kept_along xs ys ls ms ns x y = record { many = y.many ∙ x.many; each = λ at. counts_along xs ys (get_or ls at None) (get_or ms at None) (get_or ns at None) (x.each at) (y.each at) }
+
+-- ---- an item for a note
+
+module _ (serial : ℕ) (ls ms : List (Option Lane)) (same : StayAs SameLane ls ms) where
+  counted_at : (at : ℕ) (p q : Option Lane) → StaysAs SameLane p q → ((l m : Lane) → p ≡ Some l → q ≡ Some m → length (received m.inbound) ≡ length (received l.inbound) + times l.session.serial (serial ∷ [])) → StaysAs (Counted (serial ∷ [])) p q
+  counted_at at None q s count = s
+  counted_at at (Some l) None s count = s
+  counted_at at (Some l) (Some m) s count = (s, count l m refl refl)
+
+  once : (l : Lane) → l.session.serial ≡ serial → times l.session.serial (serial ∷ []) ≡ 1
+  once l is = ap (λ (b : Bool). cond b 1 0 + 0) (eq-eqb serial l.session.serial (sym is))
+
+  never : (l : Lane) → l.session.serial ≢ serial → times l.session.serial (serial ∷ []) ≡ 0
+  never l ne = ap (λ (b : Bool). cond b 1 0 + 0) (ne_eqb serial l.session.serial (λ e. ne (sym e)))
+
+  taken_count : TakesOne serial ls ms → AreApart ls → (at : ℕ) (l m : Lane) → IsAt ls at l → IsAt ms at m → length (received m.inbound) ≡ length (received l.inbound) + times l.session.serial (serial ∷ [])
+  taken_count (place, t, is) apart at l m is_l is_m = elim (cases_eq at place) [
+    | inl e ↦
+        let here : l ≡ t.lane = same_Some l t.lane (sym is_l ∙ (ap (λ (k : ℕ). get_or ls k None) e ∙ t.there)) in
+        let there : m ≡ t.lane' = same_Some m t.lane' (sym is_m ∙ (ap (λ (k : ℕ). get_or ms k None) e ∙ t.there')) in
+        let n = once l (ap (λ (k : Lane). k.session.serial) here ∙ is) in
+        let long = ap length t.taken ∙ length-append (received t.lane.inbound) (t.item ∷ []) in
+        let a = ap (λ (k : Lane). length (received k.inbound)) here in
+        let b = ap (λ (k : Lane). length (received k.inbound)) there in
+        omega (arith, n, long, a, b)
+    | inr ne ↦
+        let x = some_after (λ a b. received b.inbound ≡ received a.inbound) (get_or ls at None) (get_or ms at None) l (t.others at ne) is_l in
+        let mine : x.0 ≡ m = same_Some x.0 m (sym x.1 ∙ is_m) in
+        let n = never l (λ e. ne (apart at place l t.lane is_l t.there (e ∙ sym is))) in
+        let a = ap length x.2 in let b = ap (λ (k : Lane). length (received k.inbound)) mine in
+        omega (arith, n, a, b)
+  ]
+
+  none_count : ms ≡ ls → ((at : ℕ) (l : Lane) → IsAt ls at l → l.session.serial ≢ serial) → (at : ℕ) (l m : Lane) → IsAt ls at l → IsAt ms at m → length (received m.inbound) ≡ length (received l.inbound) + times l.session.serial (serial ∷ [])
+  none_count e none at l m is_l is_m =
+      let mine : l ≡ m = same_Some l m (sym is_l ∙ (ap (λ (k : List (Option Lane)). get_or k at None) (sym e) ∙ is_m)) in
+      let n = never l (none at l is_l) in let b = ap (λ (k : Lane). length (received k.inbound)) mine in
+      omega (arith, n, b)
+
+  pub kept_noted : (b : Bool) → TakesNoted serial ls b ms → AreApart ls → KeepsPlaces (serial ∷ []) ls ms
+  kept_noted true t apart = record { many = same.many; each = λ at. counted_at at (get_or ls at None) (get_or ms at None) (same.each at) (λ l m is_l is_m. taken_count t apart at l m is_l is_m) }
+  kept_noted false (e, none) apart = record { many = same.many; each = λ at. counted_at at (get_or ls at None) (get_or ms at None) (same.each at) (λ l m is_l is_m. none_count e none at l m is_l is_m) }
+
+-- an item that was taken after nothing was seen
+pub looks_then_takes : (serial : ℕ) (ls ms ns : List (Option Lane)) → StayAs LooksAt ls ms → TakesOne serial ms ns → TakesOne serial ls ns
+looks_then_takes serial ls ms ns looks (place, t, is) =
+    let x = some_before LooksAt (get_or ls place None) (get_or ms place None) t.lane (looks.each place) t.there in (
+      place,
+      record {
+        lane = x.0;
+        lane' = t.lane';
+        there = x.1;
+        there' = t.there';
+        item = t.item;
+        taken = t.taken ∙ ap (λ l. l ++ t.item ∷ []) x.2.0;
+        others = λ at ne. beside (get_or ls at None) (get_or ms at None) (get_or ns at None) (looks.each at) (t.others at ne);
+      },
+      sym (ap (λ k. k.serial) x.2.2) ∙ is,
+    )
+  where
+    beside : (p q r : Option Lane) → StaysAs LooksAt p q → StaysAs (λ l m. received m.inbound ≡ received l.inbound) q r → StaysAs (λ l m. received m.inbound ≡ received l.inbound) p r
+    beside None q r x y = subst (λ (k : Option Lane). StaysAs (λ l m. received m.inbound ≡ received l.inbound) k r) x y
+    beside (Some l) None r x y = absurd x
+    beside (Some l) (Some m) None x y = absurd y
+    beside (Some l) (Some m) (Some n) x y = y ∙ x.0
+
+pub looks_along : (ls ms ns : List (Option Lane)) → StayAs LooksAt ls ms → StayAs LooksAt ms ns → StayAs LooksAt ls ns
+looks_along ls ms ns x y = record { many = y.many ∙ x.many; each = λ at. one (get_or ls at None) (get_or ms at None) (get_or ns at None) (x.each at) (y.each at) }
+  where
+    one : (p q r : Option Lane) → StaysAs LooksAt p q → StaysAs LooksAt q r → StaysAs LooksAt p r
+    one None q r x y = subst (λ (k : Option Lane). StaysAs LooksAt k r) x y
+    one (Some l) None r x y = absurd x
+    one (Some l) (Some m) None x y = absurd y
+    one (Some l) (Some m) (Some n) x y = (y.0 ∙ x.0, y.1 ∙ x.1, y.2 ∙ x.2, y.3 ∙ x.3, y.4 ∙ x.4, y.5 ∙ x.5)
+
+-- ---- a hall that is kept
+
+pub hall_along : {A B : Type 0} (xs ys : List ℕ) (keeps keeps' keeps'' : Bool) (accepted accepted' accepted'' : Option A) (ls ms ns : List (Option Lane)) (ws ws' ws'' : B)
+    → KeepsHall xs keeps accepted ls ws keeps' accepted' ms ws' → KeepsHall ys keeps' accepted' ms ws' keeps'' accepted'' ns ws'' → KeepsHall (xs ++ ys) keeps accepted ls ws keeps'' accepted'' ns ws''
+hall_along xs ys keeps keeps' keeps'' accepted accepted' accepted'' ls ms ns ws ws' ws'' x y k none =
+    let p = x k none in let q = y p.0 p.1 in (
+      q.0,
+      q.1,
+      q.2 ∙ p.2,
+      λ apart. let first = p.3 apart in kept_along xs ys ls ms ns first (q.3 (apart_stays ls ms (kept_same xs ls ms first) apart)),
+    )
+
+pub hall_same : {A B : Type 0} (keeps : Bool) (accepted : Option A) (ls : List (Option Lane)) (ws : B) → KeepsHall [] keeps accepted ls ws keeps accepted ls ws
+hall_same keeps accepted ls ws k none = (k, none, refl, λ apart. kept_tended ls ls (tended_all ls))
+
+pub hall_puts : {A B : Type 0} (keeps : Bool) (accepted : Option A) (ls ms : List (Option Lane)) (ws : B) → StayAs PutsAlone ls ms → KeepsHall [] keeps accepted ls ws keeps accepted ms ws
+hall_puts keeps accepted ls ms ws s k none = (k, none, refl, λ apart. kept_puts ls ms s)
+
+pub hall_tended : {A B : Type 0} (keeps keeps' : Bool) (accepted accepted' : Option A) (ls ms : List (Option Lane)) (ws ws' : B) → (keeps' ≡ keeps) × (accepted' ≡ accepted) → (keeps ≡ true → StayAs IsTended ls ms × (ws' ≡ ws)) → KeepsHall [] keeps accepted ls ws keeps' accepted' ms ws'
+hall_tended keeps keeps' accepted accepted' ls ms ws ws' same kept k none = let x = kept k in (same.0 ∙ k, same.1 ∙ none, x.1, λ apart. kept_tended ls ms x.0)
+
+pub briefly : (old new : List ℕ) (note : Option ℕ) → MatchOption note (new ≡ old) (λ n. new ≡ old ++ n ∷ []) → new ≡ old ++ option_to_list note
+briefly old new None is = is ∙ sym (append-nil old)
+briefly old new (Some n) is = is
+
+-- ---- from the first to the last
+
+pub time_of : {K D C : Type 0} (tells : C → ℕ → C → Type 0) (old mid new : CoreState K D) (clock clock' : C) (opened more entries : List Entry) (moments : List ℕ) → entries ≡ opened ++ more
+    → ((reported : ℕ) → AreTimed reported old.state opened mid.state) → Tells tells clock moments clock' → AreTimedBy moments mid.state more new.state → TakesTime tells old.state clock entries new.state clock'
+time_of tells old mid new clock clock' opened more entries moments parts opens told timed = record { opened = opened; others = more; mid = mid.state; parts = parts; opens = opens; moments = moments; told = told; timed = timed }
+
+module _ {K D C : Type 0} (tells : C → ℕ → C → Type 0) (a b : CoreState K D) (ls ms : List (Option Lane)) (clock clock' : C) (s : Serves a a ls) (none : s.since.entries ≡ []) where
+  pub serves_lobby : RunsBy tells a ls clock b ms clock' → AreOver ms → ServesLobby tells a clock b clock'
+  serves_lobby runs over =
+      let x = runs.serves a s in let t = x.after in record {
+        since = t.since;
+        closed = λ n away. elim (cases_Bool (is_open b.state n)) [
+          | inl there ↦ elim (t.have_places n there) [
+            | inl was ↦ absurd (false≢true (sym away ∙ was))
+            | inr (j, l, is, serial) ↦ absurd (false≢true (sym ((t.fits j l is).ends (over j l is).0) ∙ (ap (λ k. is_open b.state k) serial ∙ there)))
+          ]
+          | inr shut ↦ shut
+        ];
+        earlier = t.earlier;
+        time = time_of tells a a b clock clock' [] x.more t.since.entries runs.moments (x.adds ∙ ap (λ (l : List Entry). l ++ x.more) none) (λ reported. refl) runs.told x.timed;
+      }
+
+-- one note more was taken, or none
+pub noted_more : (first old new notes : List ℕ) (note : Option ℕ) → old ≡ first ++ notes → new ≡ old ++ option_to_list note → new ≡ first ++ (notes ++ option_to_list note)
+noted_more first old new notes note was is = is ∙ (ap (λ l. l ++ option_to_list note) was ∙ append_assoc first notes (option_to_list note))

@@ -1,6 +1,6 @@
 -- What a reader brought, what a writer was sent, and what became of their session, once both ends of each ring are in one place.
-use Rattle.std.proofs.Common.{◌≡◌, ◌≢◌, ℕ, List, [], ◌∷◌, ◌++◌, length, refl, sym, ap, subst, ◌∙◌, append_assoc, append-nil, arith, Bool, true, false, Option, Some, None}
-use Rattle.std.specs.Prelude.{not, unwrap_or, MatchBool, MatchOption}
+use Rattle.std.proofs.Common.{◌≡◌, ◌≢◌, ℕ, List, [], ◌∷◌, ◌++◌, length, refl, sym, ap, subst, ◌∙◌, append_assoc, append-nil, arith, Bool, true, false, Option, Some}
+use Rattle.std.specs.Prelude.{not, unwrap_or, MatchBool}
 use Rattle.std.proofs.lemmas.Bool.{false≢true}
 use mathlib.Core.List.{IsPrefix}
 use Rattle.ov_ends.specs.States.{SourceState, SinkState}
@@ -16,7 +16,6 @@ use Rattle.ov_workers.specs.Stream.{AreAskedFor}
 use Rattle.ov_workers.specs.Reading.{SuitsSource, Brings as ReaderBrings}
 use Rattle.ov_workers.specs.Writing.{Writes}
 use Rattle.ov_ends.specs.Ends.{KeepsInput, GivesWritten}
-use Rattle.ov_ends.proofs.Tellings.{input-same}
 use Rattle.ov_ends.specs.Writing.{WritesOf}
 use Rattle.ov_history.specs.declared.event.Cause.{Cause}
 use Rattle.ov_history.specs.declared.event.Cause.TheVariants.{InputEnded, ReadFault, WriteFault, Damaged, Overrun, Memory}
@@ -44,14 +43,6 @@ ends_same [] [] others last cause e = (refl, cc)
 ends_same [] (m ∷ messages) others last cause e = cc
 ends_same (a ∷ asks) [] others last cause e = cc
 ends_same (a ∷ asks) (m ∷ messages) others last cause e = let r = ends_same asks messages others last cause (cc) in (let same : asks ≡ messages = r.0 in cc, r.1)
-
-none_asked : (asks : List Message) (others : Items) → brought asks ++ others ≡ [] → asks ≡ []
-none_asked [] others e = refl
-none_asked (a ∷ asks) others e = cc
-
-never_ends : (asks : List Message) (last : ReadCause) (others : Items) → brought asks ++ Last last ∷ others ≡ [] → ⊥
-never_ends [] last others e = cc
-never_ends (a ∷ asks) last others e = cc
 
 prefix_along : {A : Type 0} (xs ys zs : List A) → IsPrefix xs ys → IsPrefix ys zs → IsPrefix xs zs
 prefix_along xs ys zs p q = (p.0 ++ q.0, sym (append_assoc xs p.0 q.0) ∙ (ap (λ t. t ++ q.0) p.1 ∙ q.1))
@@ -127,20 +118,8 @@ module _ (asks : List Message) (why : machine.Cause) (source source' : SourceSta
         input = r.input;
       }
 
-  none_side : put ≡ [] → source' ≡ source → (b : Bool) → is_of_reader why ≡ b → ReadSide asks why source source'
-  none_side none same true of = absurd (never_ends asks (took.2 of).0 ((took.2 of).1 ++ known) (end_parts of ∙ none))
-  none_side none same false not_of = record {
-    stream = [];
-    read = ap (λ (s : SourceState). s.read) same ∙ sym (append-nil source.read);
-    asks = subst (λ (l : List Message). IsPrefix l (asked []).messages) (sym (none_asked asks (took.0 ++ known) (parts ∙ none))) ((asked []).messages, refl);
-    all_asked = λ of. absurd (false≢true (sym not_of ∙ of));
-    reader = others_suit why (asked []).damaged source source' not_of;
-    input = subst (λ (k : SourceState). KeepsInput source.read source.remaining k.read k.remaining) (sym same) (input-same source.read source.remaining);
-  }
-
-  pub read_side : (end : Option ReadCause) → MatchOption end ((put ≡ []) × (source' ≡ source)) (λ cause. ReaderBrings cause source source' put) → ReadSide asks why source source'
-  read_side None (none, same) = none_side none same (is_of_reader why) refl
-  read_side (Some cause) r = brings_side cause r (is_of_reader why) refl
+  pub read_side : (cause : ReadCause) → ReaderBrings cause source source' put → ReadSide asks why source source'
+  read_side cause r = brings_side cause r (is_of_reader why) refl
 
 -- ---- the writer
 
@@ -176,8 +155,8 @@ module _ (c : Course) (known : Option Cause) (items rest put : Items) (sent take
   closed : c.closed ≡ Some (cause_view (unwrap_or known Memory))
   closed = knows_marked c.closed known (f.opens ∙ ap not f.puts.0) f.knows
 
-  pub comes_to : (source source' : SourceState) (sink sink' : SinkState) (end : Option ReadCause) (whole : Bool) → items ++ rest ≡ put → taken ++ coming ≡ sent
-      → MatchOption end ((put ≡ []) × (source' ≡ source)) (λ cause. ReaderBrings cause source source' put)
+  pub comes_to : (source source' : SourceState) (sink sink' : SinkState) (end : ReadCause) (whole : Bool) → items ++ rest ≡ put → taken ++ coming ≡ sent
+      → ReaderBrings end source source' put
       → Writes whole sink sink' taken
       → Outcome c.closed c.asks c.handed (cause_view (unwrap_or known Memory)) whole source source' sink sink'
   comes_to source source' sink sink' end whole fifo fifo' reads writes =
@@ -212,8 +191,8 @@ written_for Memory ne = refl
 
 module _ (c : Course) (known : Option Cause) (items rest put : Items) (sent taken coming : List Sent) (f : FitsCourse c known items sent true true) where
   -- by the cause that is reported
-  pub ends_for : (source source' : SourceState) (sink sink' : SinkState) (end : Option ReadCause) (failed : Bool) (told : Cause) → items ++ rest ≡ put → taken ++ coming ≡ sent
-      → MatchOption end ((put ≡ []) × (source' ≡ source)) (λ cause. ReaderBrings cause source source' put)
+  pub ends_for : (source source' : SourceState) (sink sink' : SinkState) (end : ReadCause) (failed : Bool) (told : Cause) → items ++ rest ≡ put → taken ++ coming ≡ sent
+      → ReaderBrings end source source' put
       → Writes (not failed) sink sink' taken
       → MatchBool failed (told ≡ WriteFault) (told ≡ unwrap_or known Memory)
       → CourseEnds c told source source' sink sink'
@@ -233,8 +212,3 @@ module _ (c : Course) (known : Option Cause) (items rest put : Items) (sent take
         comes_to = subst (λ (b : Bool). Outcome c.closed c.asks c.handed (cause_view (unwrap_or known Memory)) b source source' sink sink') (sym (ap is_written is ∙ written_for (unwrap_or known Memory) o.unfailed)) o;
         none_left = f.puts.1;
       }
-
--- a reader that is as before reports the same
-pub as_state : {S : Type 0} (state : S → SourceState) (end : Option ReadCause) (P : Type 0) (Q : ReadCause → Type 0) (reader reader' : S) → MatchOption end (P × (reader' ≡ reader)) Q → MatchOption end (P × (state reader' ≡ state reader)) Q
-as_state state None P Q reader reader' (p, same) = (p, ap state same)
-as_state state (Some cause) P Q reader reader' q = q

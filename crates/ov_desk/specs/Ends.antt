@@ -1,5 +1,5 @@
 -- What remains of each link, beside its lane.
-use Rattle.std.specs.Prelude.{◌≡◌, ℕ, ◌+◌, List, [], ◌∷◌}
+use Rattle.std.specs.Prelude.{◌≡◌, ℕ, ◌+◌, List, [], ◌∷◌, Option, Some}
 use Rattle.rtrb.specs.Ring.{sent, received}
 use Rattle.ov_ends.specs.States.{SourceState, SinkState}
 use Rattle.ov_core.specs.Following.{CoreState}
@@ -11,11 +11,15 @@ use Rattle.ov_lanes.specs.declared.link.Link.{Link}
 use Rattle.ov_desk.specs.declared.link.End.{End}
 use Rattle.ov_desk.specs.Ending.{CourseEnds, LinkEnds}
 
--- whatever became of the session that the lane fits, this is what it comes to
-abbrev pub EndsLane : {S W : Type 0} → (S → SourceState) → (W → SinkState) → Lane → S → W → End S W → Type 0
-EndsLane source sink l reader writer e =
+-- whatever became of the session that the lane fits, this is what the link comes to
+abbrev pub EndsLane : {S W : Type 0} → (S → SourceState) → (W → SinkState) → Link S W → Lane → End S W → Type 0
+EndsLane source sink k l e =
     (e.serial ≡ l.session.serial)
-    × ((c : Course) → FitsCourse c l.cause (received l.inbound) (sent l.outbound) l.marked l.ended → CourseEnds c e.cause (source reader) (source e.reader) (sink writer) (sink e.writer))
+    × ((c : Course) → FitsCourse c l.cause (received l.inbound) (sent l.outbound) l.marked l.ended → CourseEnds c e.cause (source k.reader) (source e.reader) (sink k.writer) (sink e.writer))
+
+-- the same of the lane at a place
+abbrev pub EndsSeat : {S W : Type 0} → (S → SourceState) → (W → SinkState) → Link S W → Option Lane → End S W → Type 0
+EndsSeat source sink k p e = (l : Lane) × (p ≡ Some l) × EndsLane source sink k l e
 
 -- Each link was served to its end, in order, with serials from this one on.
 abbrev pub AllEnd : {K D S W : Type 0} {old new : CoreState K D} → (S → SourceState) → (W → SinkState) → Since old new → ℕ → List (Link S W) → List (End S W) → Type 0
@@ -25,8 +29,3 @@ AllEnd source sink since serial (l ∷ links) [] = ⊥
 AllEnd source sink since serial (l ∷ links) (e ∷ ends) =
     (e.serial ≡ serial) × LinkEnds since serial e.cause (source l.reader) (source e.reader) (sink l.writer) (sink e.writer)
     × AllEnd source sink since (serial + 1) links ends
-
--- The links were served, and this is what the core made of it.
-pub record ServesAll {K D S W : Type 0} (source : S → SourceState) (sink : W → SinkState) (old new : CoreState K D) (links : List (Link S W)) (ends : List (End S W)) : Type 0 where
-  pub since : Since old new
-  pub all : AllEnd source sink since old.state.next links ends

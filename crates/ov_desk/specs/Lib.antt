@@ -1,6 +1,7 @@
 pub mod Outcome
 pub mod Ending
 pub mod Ends
-pub mod Running
-pub mod Room
+pub mod Seats
 pub mod Serving
+pub mod Admitting
+pub mod Opening

@@ -1,41 +1,26 @@
-ghost use Rattle.std.specs.Prelude.{◌≡◌, ◌+◌, ◌<◌, ◌≤◌, ℕ, [], true, vec_len, slice_index_or, unwrap_or, MatchBool};
+ghost use Rattle.std.specs.Prelude.{◌≡◌, ◌≤◌, List, [], true, vec_len, unwrap_or, MatchBool};
 ghost use Rattle.std.specs.VecDeque.{deque_capacity};
+ghost use Rattle.rtrb.specs.Ring.{sent, received};
 ghost use Rattle.ov_ends.specs.States.{source_of, sink_of};
-ghost use Rattle.ov_lanes.specs.declared.lane.Lane.{Lane as SpecLane};
-ghost use Rattle.ov_lanes.specs.Pairs.{Pairwise, Threewise};
-ghost use Rattle.ov_desk.specs.Ends.{EndsLane};
 ghost use Rattle.ov_history.specs.declared.event.Cause.TheVariants.{WriteFault, Memory};
-ghost use Rattle.rtrb.specs.Ring.{sent, received, IsPair};
 ghost use Rattle.ov_lanes.specs.Courses.{Course};
 ghost use Rattle.ov_lanes.specs.Fitting.{FitsCourse};
+ghost use Rattle.ov_lanes.specs.Lanes.{AreOver};
+ghost use Rattle.ov_lanes.specs.Pairs.{Threewise};
+ghost use Rattle.ov_lanes.specs.declared.link.Link.{Link as SpecLink};
 ghost use Rattle.ov_desk.specs.Ending.{CourseEnds};
+ghost use Rattle.ov_desk.specs.Ends.{EndsSeat};
+ghost use Rattle.ov_desk.specs.Seats.{AreWorkersOf, HaveLink, IsSeatOf};
 
 use crate::link::End;
-use crate::workers::Workers;
 use ov_core::Cause;
 use ov_ends::{Sink, Source};
 use ov_lanes::Lane;
-use ov_workers::{ReadEnd, WriteEnd};
+use ov_workers::{ReadLeft, Workers, WriteLeft};
 use std::collections::VecDeque;
 use std::sync::Wait;
-use std::sync::ledger::{Ledger, Share};
-use std::thread;
+use std::sync::ledger::Ledger;
 use std::thread::Threads;
-
-/// What a writer's worker hands back when told to begin. If it was told not to, this waits forever; none is told so once the
-/// desk has begun.
-fn begun<R: Wait, W>(rt: &R, end: WriteEnd<W>) -> WriteEnd<W>
-    ensures same { result ≡ end }
-    ensures begun { result.begun ≡ true }
-{
-    for _ in rt.forever() {
-        if end.begun {
-            return end;
-        }
-        thread::yield_now();
-    }
-    unreachable!()
-}
 
 /// What is reported of a session: that its writer failed, or why it was closed.
 fn told(failed: bool, known: Option<Cause>) -> Cause
@@ -49,57 +34,42 @@ fn told(failed: bool, known: Option<Cause>) -> Cause
 
 /// Joins the workers of a session whose reader's end was taken and whose end mark was put, and compares the ends of its
 /// rings.
-pub(crate) fn finish_link<R, S, W, L>(
-    rt: &R,
-    lane: Lane,
-    workers: Workers<S, W, L>,
-    all: &mut Share<L>,
-) -> End<S, W>
+fn finish_link<R, S, W, L>(rt: &R, lane: Lane, workers: Workers<S, W, L>) -> End<S, W>
 where
     R: Threads + Wait,
     S: Source + Drop,
     W: Sink + Drop,
     L: Ledger,
-    requires pairs { IsPair workers.reads.promise.ring.value lane.inbound × IsPair lane.outbound workers.writes.promise.ring.value }
+    requires workers { AreWorkersOf true lane workers }
+    requires link { (k : SpecLink S W) × HaveLink k workers }
     requires over { (lane.ended ≡ true) × (lane.marked ≡ true) }
-    ensures ends { (c : Course) → FitsCourse c lane.cause (received lane.inbound) (sent lane.outbound) lane.marked lane.ended
-        → CourseEnds c result.cause
-        (source_of S.Source workers.reads.promise.reader.value)
-        (source_of S.Source result.reader)
-        (sink_of W.Sink workers.writes.promise.writer.value)
-        (sink_of W.Sink result.writer) }
+    ensures ends { (k : SpecLink S W) → HaveLink k workers → (c : Course) → FitsCourse c lane.cause (received lane.inbound) (sent lane.outbound) lane.marked lane.ended
+        → CourseEnds c result.cause (source_of S.Source k.reader) (source_of S.Source result.reader) (sink_of W.Sink k.writer) (sink_of W.Sink result.writer) }
     ensures serial { result.serial ≡ lane.session.serial }
-    ensures parts { all.new.parts ≡ all.old.parts + workers.reads.promise.share.value.parts }
 {
     let Lane {
         session,
         inbound,
         outbound,
         cause,
-        ended: _,
-        marked: _,
-        news: _,
+        ..
     } = lane;
+    let (read, wrote) = workers.join(rt);
+    let ReadLeft { reader, inlet, .. } = read;
+    let mut inlet = inlet;
     let mut inbound = inbound;
-    let mut outbound = outbound;
-    let Workers { reads, writes } = workers;
-    let ReadEnd {
-        reader,
-        ring,
-        share,
-        cause: _,
-    } = reads.join(rt);
-    let mut ring = ring;
-    inbound.slots_beside(&mut ring);
-    all.merge(share);
-    let WriteEnd {
+    inbound.slots_beside(&mut inlet.ring);
+    let WriteLeft {
         writer,
-        ring: frames,
-        begun: _,
+        ring,
         failed,
-    } = begun(rt, writes.join(rt));
-    let mut frames = frames;
-    frames.slots_beside(&mut outbound);
+        ..
+    } = wrote;
+    let mut ring = ring;
+    let mut outbound = outbound;
+    ring.slots_beside(&mut outbound);
+    let Some(reader) = reader else { unreachable!() };
+    let Some(writer) = writer else { unreachable!() };
     End {
         serial: session.serial,
         cause: told(failed, cause),
@@ -112,9 +82,8 @@ where
 /// links, in their order, into a queue that has room for it.
 pub(crate) fn finish_all<R, S, W, L>(
     rt: &R,
-    lanes: Vec<Lane>,
-    workers: Vec<Workers<S, W, L>>,
-    all: &mut Share<L>,
+    lanes: Vec<Option<Lane>>,
+    workers: Vec<Option<Workers<S, W, L>>>,
     ends: VecDeque<End<S, W>>,
 ) -> VecDeque<End<S, W>>
 where
@@ -123,20 +92,21 @@ where
     W: Sink + Drop,
     L: Ledger,
     requires room { (ends.items ≡ []) × (vec_len lanes ≤ deque_capacity ends) }
-    requires over { (i : ℕ) (d : SpecLane) → i < vec_len lanes → ((slice_index_or lanes.items i d).ended ≡ true) × ((slice_index_or lanes.items i d).marked ≡ true) }
-    requires pairs { Pairwise (λ l w. IsPair w.reads.promise.ring.value l.inbound × IsPair l.outbound w.writes.promise.ring.value × (w.reads.promise.share.value.parts ≡ 1)) lanes.items workers.items }
-    ensures ends { Threewise (λ l w e. EndsLane (source_of S.Source) (sink_of W.Sink)
-        l w.reads.promise.reader.value w.writes.promise.writer.value e) lanes.items workers.items result.items }
-    ensures parts { all.new.parts ≡ all.old.parts + vec_len workers }
+    requires over { AreOver lanes.items }
+    requires seats { (links : List (SpecLink S W)) × Threewise IsSeatOf links lanes.items workers.items }
+    ensures { (links : List (SpecLink S W)) → Threewise IsSeatOf links lanes.items workers.items
+        → Threewise (λ k p e. EndsSeat (source_of S.Source) (sink_of W.Sink) k p e) links lanes.items result.items }
 {
     let mut lanes = lanes;
     let mut workers = workers;
     let mut ends = ends;
-    while let Some(lane) = lanes.pop() {
-        let Some(worker) = workers.pop() else {
+    while let Some(place) = lanes.pop() {
+        let Some(seat) = workers.pop() else {
             unreachable!()
         };
-        ends.push_front_reserved(finish_link(rt, lane, worker, all));
+        let Some(lane) = place else { unreachable!() };
+        let Some(worker) = seat else { unreachable!() };
+        ends.push_front_reserved(finish_link(rt, lane, worker));
     }
     ends
 }

@@ -1,15 +1,23 @@
-//! The desk: it serves up to 64 sessions around one core, each with a reader and a writer in threads of their own.
+//! The desk: it serves many sessions around one core. Each session has a reader and a writer, each in a thread of its own. The
+//! sessions are those of a number of links, or of every client that a listener gives, up to 64 at a time; then one more thread
+//! accepts connections.
 #![tactic(auto)]
 
+mod accept;
+mod admit;
+mod fault;
 mod finish;
+mod hall;
 mod link;
-mod open;
-mod room;
+mod links;
+mod listen;
+mod lobby;
+mod parts;
 mod run;
-mod serve;
 mod start;
-mod stop;
-mod workers;
 
+pub use fault::RefusedLobby;
 pub use link::{End, Served, Unserved};
-pub use serve::serve_links;
+pub use links::serve_links;
+pub use listen::Listen;
+pub use lobby::serve_lobby;

@@ -1,123 +1,197 @@
-ghost use Rattle.std.specs.Prelude.{◌≡◌, ◌<◌, ℕ, true, vec_len, slice_index_or, IfSome};
-ghost use Rattle.ov_lanes.specs.declared.lane.Lane.{Lane as SpecLane};
-ghost use Rattle.ov_desk.specs.Running.{GoesOn};
+ghost use Rattle.std.specs.Prelude.{◌≡◌, ◌++◌, ◌∷◌, [], ℕ, List, option_to_list};
+ghost use Rattle.ov_lanes.specs.Lanes.{AreOver, GoesOn, SameLane, StayAs};
+ghost use Rattle.ov_desk.specs.Seats.{AreSeats};
+ghost use Rattle.ov_desk.specs.Serving.{KeepsHall, RunsBy, TakesNoted};
 
-use ov_core::Core;
-use ov_ends::Clock;
+use crate::accept::LOBBY;
+use crate::admit::admit;
+use crate::hall::Hall;
+use ov_ends::{Clock, Sink, Source};
 use ov_keeper::Keeper;
-use ov_lanes::{Lane, is_over, settle_all, take_news, turn_at};
-use ov_order::{Bell, Order};
+use ov_lanes::{Desk, are_over, place_of};
+use ov_order::{Bell, Brought, Taken};
 use ov_requests::Draws;
+use ov_workers::{Common, Gate};
+use rtrb::Consumer;
 use std::alloc::Global;
 use std::rt::Clock as SystemClock;
 use std::sync::Wait;
 use std::sync::ledger::Ledger;
 use std::thread;
+use std::thread::{Scope, Threads};
 
-/// The place of the lane of this serial, if there is one. The serials of the lanes count up.
-fn place_of(lanes: &Vec<Lane>, serial: u64) -> Option<usize>
-    ensures { IfSome result (λ at. at < vec_len lanes.now) }
-{
-    let first = lanes.first()?.session.serial;
-    let at = serial.checked_sub(first)?;
-    if at < lanes.len() as u64 {
-        Some(at as usize)
-    } else {
-        None
-    }
-}
-
-/// Rings the bell of each writer for which something was put.
-fn ring_bells<R: Wait, K: Keeper + Drop, D: Draws + Drop>(
-    rt: &R,
-    core: &Core<K, D>,
-    lanes: &mut Vec<Lane>,
-    bells: &Vec<Bell>,
-)
-    ensures { GoesOn core.now lanes.old.items core.now lanes.new.items }
-{
-    for at in 0..lanes.len() {
-        if take_news(core, lanes, at) {
-            if let Some(bell) = bells.get(at) {
-                bell.ring(rt);
-            }
-        }
-    }
-}
-
-/// Takes an item of the ring at a place once it is seen there, and moves what waits for all sessions.
-fn turn_once_seen<R: Wait, K: Keeper + Drop, D: Draws + Drop>(
-    rt: &R,
-    core: &mut Core<K, D>,
-    alloc: Global,
-    moment: u64,
-    lanes: &mut Vec<Lane>,
-    at: usize,
-)
-    requires { at < vec_len lanes.old }
-    ensures { GoesOn core.old lanes.old.items core.new lanes.new.items }
-{
+/// Takes an item of the ring once it is seen there.
+fn pop_once_seen<R: Wait, T: Drop>(rt: &R, ring: &mut Consumer<T>) -> T {
     for _ in rt.forever() {
-        if turn_at(core, alloc, moment, lanes, at) {
-            return;
+        if let Ok(item) = ring.pop() {
+            return item;
         }
         thread::yield_now();
     }
     unreachable!()
 }
 
-/// Serves a note at the moment that the clock reports: advances time to it if a transaction is due, and takes the item.
-/// Without a note, moves what waits for all sessions.
-fn serve_note<R: Wait, K: Keeper + Drop, D: Draws + Drop>(
+/// Takes an item of the session of this serial once it is seen, as `Desk::turn` does. A session without a place has brought
+/// nothing that is still taken: then returns false, and nothing is changed.
+fn turn_once_seen<R: Wait, K: Keeper + Drop, D: Draws + Drop>(
     rt: &R,
-    core: &mut Core<K, D>,
     alloc: Global,
+    desk: &mut Desk<K, D>,
     moment: u64,
-    lanes: &mut Vec<Lane>,
-    note: Option<u64>,
-)
-    ensures { GoesOn core.old lanes.old.items core.new lanes.new.items }
+    serial: u64,
+) -> bool
+    ensures goes { GoesOn moment desk.old.core desk.old.lanes.items desk.new.core desk.new.lanes.items }
+    ensures rings { StayAs SameLane desk.old.lanes.items desk.new.lanes.items }
+    ensures taken { TakesNoted serial desk.old.lanes.items result desk.new.lanes.items }
 {
-    // If an allocation fails here, the transactions get their turn with the next note.
-    let _ = core.pass_where_due(alloc, moment);
-    let place = match note {
-        Some(serial) => place_of(lanes, serial),
-        None => None,
+    if place_of(&desk.lanes, serial).is_none() {
+        return false;
+    }
+    for _ in rt.forever() {
+        if desk.turn(alloc, moment, serial) {
+            return true;
+        }
+        thread::yield_now();
+    }
+    unreachable!()
+}
+
+/// Takes an item of the accepting worker once it is seen: a link to be served, or its end.
+fn accept_once_seen<'s, E, R, K, D, L, G, S, W>(
+    common: Common<'s, R, L, G>,
+    scope: &Scope<'s, E>,
+    bells: &'s Vec<Bell>,
+    hall: &mut Hall<K, D, S, W, L>,
+)
+where
+    R: Threads + Wait + Sync,
+    K: Keeper + Drop,
+    D: Draws + Drop,
+    L: Ledger + Send + Sync + 's,
+    G: Gate + Sync,
+    S: Source + Send + Drop + 's,
+    W: Sink + Send + Drop + 's,
+    requires seats { AreSeats hall.old.keeps hall.old.desk.lanes.items hall.old.workers.items }
+    ensures goes { (moment : ℕ) → GoesOn moment hall.old.desk.core hall.old.desk.lanes.items hall.new.desk.core hall.new.desk.lanes.items }
+    ensures seats { AreSeats hall.new.keeps hall.new.desk.lanes.items hall.new.workers.items }
+{
+    let Some(ring) = &mut hall.accepted else {
+        return;
     };
-    match place {
-        Some(at) => turn_once_seen(rt, core, alloc, moment, lanes, at),
-        None => settle_all(core, lanes),
+    match pop_once_seen(common.rt, ring) {
+        Brought::Message(link) => {
+            hall.tend(common.rt, bells);
+            // A client that is not served finds its connection closed, and gets no other answer.
+            let _ = admit(common, scope, bells, hall, link);
+        }
+        Brought::End(()) => hall.accepted = None,
     }
 }
 
-/// Serves the sessions of the lanes, one item for each note, until each reader's end was taken and the end mark was put
-/// after each session's last frame.
+/// Takes the item of a note: from the accepting worker, or from a session's reader. Returns whether all that waits was moved
+/// too.
+fn take_noted<'s, E, R, K, D, L, G, S, W>(
+    common: Common<'s, R, L, G>,
+    scope: &Scope<'s, E>,
+    bells: &'s Vec<Bell>,
+    hall: &mut Hall<K, D, S, W, L>,
+    moment: u64,
+    note: u64,
+) -> bool
+where
+    R: Threads + Wait + Sync,
+    K: Keeper + Drop,
+    D: Draws + Drop,
+    L: Ledger + Send + Sync + 's,
+    G: Gate + Sync,
+    S: Source + Send + Drop + 's,
+    W: Sink + Send + Drop + 's,
+    requires seats { AreSeats hall.old.keeps hall.old.desk.lanes.items hall.old.workers.items }
+    ensures goes { GoesOn moment hall.old.desk.core hall.old.desk.lanes.items hall.new.desk.core hall.new.desk.lanes.items }
+    ensures kept { KeepsHall (note ∷ []) hall.old.keeps hall.old.accepted hall.old.desk.lanes.items hall.old.workers hall.new.keeps hall.new.accepted hall.new.desk.lanes.items hall.new.workers }
+    ensures seats { AreSeats hall.new.keeps hall.new.desk.lanes.items hall.new.workers.items }
+{
+    if note == LOBBY && hall.accepted.is_some() {
+        accept_once_seen(common, scope, bells, hall);
+        return false;
+    }
+    turn_once_seen(common.rt, common.alloc, &mut hall.desk, moment, note)
+}
+
+/// Serves a note at the moment that the clock reports: advances time to it if a transaction is due, takes the item, and
+/// moves what waits for all sessions. Without a note no item is taken.
+fn serve_note<'s, E, R, K, D, L, G, S, W>(
+    common: Common<'s, R, L, G>,
+    scope: &Scope<'s, E>,
+    bells: &'s Vec<Bell>,
+    hall: &mut Hall<K, D, S, W, L>,
+    moment: u64,
+    note: Option<u64>,
+)
+where
+    R: Threads + Wait + Sync,
+    K: Keeper + Drop,
+    D: Draws + Drop,
+    L: Ledger + Send + Sync + 's,
+    G: Gate + Sync,
+    S: Source + Send + Drop + 's,
+    W: Sink + Send + Drop + 's,
+    requires seats { AreSeats hall.old.keeps hall.old.desk.lanes.items hall.old.workers.items }
+    ensures goes { GoesOn moment hall.old.desk.core hall.old.desk.lanes.items hall.new.desk.core hall.new.desk.lanes.items }
+    ensures kept { KeepsHall (option_to_list note) hall.old.keeps hall.old.accepted hall.old.desk.lanes.items hall.old.workers hall.new.keeps hall.new.accepted hall.new.desk.lanes.items hall.new.workers }
+    ensures seats { AreSeats hall.new.keeps hall.new.desk.lanes.items hall.new.workers.items }
+{
+    // If an allocation fails here, the transactions get their turn with the next note.
+    let _ = hall.desk.core.pass_where_due(common.alloc, moment);
+    let is_flushed = match note {
+        Some(note) => take_noted(common, scope, bells, hall, moment, note),
+        None => false,
+    };
+    if !is_flushed {
+        hall.desk.flush();
+    }
+    hall.tend(common.rt, bells);
+}
+
+/// Serves all sessions, one item for each note, until no more links come, each reader's end was taken and the end mark was put
+/// after each session's last frame. Each note is taken from the order once.
 ///
 /// While a waiting transaction may time out, the desk sleeps for a millisecond at most, and asks the clock after each sleep.
-pub(crate) fn run<R: Wait + SystemClock, K: Keeper + Drop, D: Draws + Drop, L: Ledger, C: Clock>(
-    rt: &R,
-    order: &Order<L>,
-    bells: &Vec<Bell>,
-    core: &mut Core<K, D>,
-    alloc: Global,
-    lanes: &mut Vec<Lane>,
+pub(crate) fn run<'s, E, R, K, D, L, G, S, W, C>(
+    common: Common<'s, R, L, G>,
+    scope: &Scope<'s, E>,
+    bells: &'s Vec<Bell>,
+    hall: &mut Hall<K, D, S, W, L>,
+    taken: &mut Taken,
     clock: &mut C,
 )
-    ensures goes { GoesOn core.old lanes.old.items core.new lanes.new.items }
-    ensures over { (i : ℕ) (d : SpecLane) → i < vec_len lanes.new → ((slice_index_or lanes.new.items i d).ended ≡ true) × ((slice_index_or lanes.new.items i d).marked ≡ true) }
+where
+    R: Threads + Wait + SystemClock + Sync,
+    K: Keeper + Drop,
+    D: Draws + Drop,
+    L: Ledger + Send + Sync + 's,
+    G: Gate + Sync,
+    S: Source + Send + Drop + 's,
+    W: Sink + Send + Drop + 's,
+    C: Clock,
+    requires seats { AreSeats hall.old.keeps hall.old.desk.lanes.items hall.old.workers.items }
+    ensures runs { RunsBy C.tells hall.old.desk.core hall.old.desk.lanes.items clock.old hall.new.desk.core hall.new.desk.lanes.items clock.new }
+    ensures over { AreOver hall.new.desk.lanes.items }
+    ensures kept { (notes : List ℕ) × (taken.new.serials ≡ taken.old.serials ++ notes)
+        × KeepsHall notes hall.old.keeps hall.old.accepted hall.old.desk.lanes.items hall.old.workers hall.new.keeps hall.new.accepted hall.new.desk.lanes.items hall.new.workers }
+    ensures seats { AreSeats hall.new.keeps hall.new.desk.lanes.items hall.new.workers.items }
 {
     let mut is_busy = true;
-    for _ in rt.forever() {
-        if is_over(lanes) {
+    for _ in common.rt.forever() {
+        if hall.accepted.is_none() && are_over(&hall.desk.lanes) {
             return;
         }
-        let note = match core.due() {
-            None => Some(order.wait_next(rt)),
-            Some(_) => order.wait_briefly(rt, is_busy),
+        let note = match hall.desk.core.due() {
+            None => Some(common.order.wait_next(common.rt, taken)),
+            Some(_) => common.order.wait_briefly(common.rt, taken, is_busy),
         };
         is_busy = note.is_some();
-        serve_note(rt, core, alloc, clock.now(), lanes, note);
-        ring_bells(rt, core, lanes, bells);
+        serve_note(common, scope, bells, hall, clock.now(), note);
     }
     unreachable!()
 }

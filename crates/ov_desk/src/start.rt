@@ -1,38 +1,41 @@
-ghost use Rattle.std.specs.Prelude.{◌≡◌, ◌<◌, ◌≤◌, ◌+◌, ◌^◌, [], vec_len, vec_capacity, IfOk, IfErr, IfSome, IfNone};
-ghost use Rattle.std.specs.VecDeque.{deque_len, deque_capacity};
-ghost use Rattle.rtrb.specs.Ring.{sent, received};
-ghost use Rattle.ov_lanes.specs.Pairs.{Pairwise, Each};
+ghost use Rattle.std.specs.Prelude.{◌≡◌, ◌≢◌, ◌<◌, ◌≤◌, ◌+◌, ◌^◌, ℕ, true, vec_len, IfOk, IfErr};
+ghost use Rattle.std.specs.VecDeque.{deque_len};
+ghost use Rattle.ov_desk.specs.Seats.{AreStarted, AwaitLink, IsStarted};
+ghost use Rattle.ov_lanes.specs.declared.fault.ServeFault.TheVariants as fault;
 
-use crate::room::WorkerRings;
-use crate::stop::{stop_all, unread, unwritten};
-use crate::workers::Workers;
+use crate::parts::Parts;
 use ov_ends::{Sink, Source};
-use ov_lanes::Link;
-use ov_order::{Bell, Brought, Order, Sent};
+use ov_lanes::ServeFault;
+use ov_order::{Bell, Brought, Noter, Sent, inbound_ring, outbound_ring};
 use ov_rpc::Received;
-use ov_workers::{Gate, ReadCause, ReadEnd, WriteEnd, start_reader, start_writer};
+use ov_workers::{Common, Gate, Hands, Inlet, ReadCause, Workers, start_workers};
 use rtrb::{Consumer, Producer};
-use std::alloc::Global;
 use std::collections::VecDeque;
 use std::sync::Wait;
 use std::sync::ledger::{Ledger, Share};
 use std::thread::{Scope, Threads};
 
-/// Starts both workers of a link, which then wait until it is said whether they may begin. If a thread can't be started,
-/// says that none may, and gives the link back.
-pub(crate) fn start_link<'s, E, R, L, G, S, W>(
-    rt: &'s R,
-    alloc: Global,
+/// The workers of a session in their threads, with the desk's ends of its rings. Nothing was handed to them yet.
+#[derive(Drop)]
+pub(crate) struct Started<S: Source, W: Sink, L: Ledger> {
+    /// What the reader will bring.
+    pub inbound: Consumer<Brought<Received, ReadCause>>,
+    /// What the writer will be sent.
+    pub outbound: Producer<Sent>,
+    /// The workers.
+    pub workers: Workers<S, W, L>,
+}
+
+/// Starts the workers of a session of this serial. They give back the ends of their link if it `keeps`, and drop them otherwise.
+/// Refused as `Memory` or as `Threads`; then no thread is left.
+pub(crate) fn start<'s, E, R, L, G, S, W>(
+    common: Common<'s, R, L, G>,
     scope: &Scope<'s, E>,
-    order: &'s Order<L>,
     bell: &'s Bell,
-    gate: &'s G,
+    keeps: bool,
     serial: u64,
-    link: Link<S, W>,
-    to_desk: Producer<Brought<Received, ReadCause>>,
-    to_writer: Consumer<Sent>,
     share: Share<L>,
-) -> Result<Workers<S, W, L>, Link<S, W>>
+) -> Result<Started<S, W, L>, ServeFault>
 where
     R: Threads + Wait + Sync,
     L: Ledger + Send + Sync + 's,
@@ -40,83 +43,78 @@ where
     S: Source + Send + Drop + 's,
     W: Sink + Send + Drop + 's,
     requires share { (share.parts ≡ 1) × (share.amount ≡ 0) }
-    requires fresh { (sent to_desk ≡ []) × (received to_writer ≡ []) }
-    ensures links { IfOk result (λ w. (link.reader ≡ w.reads.promise.reader.value) × (link.writer ≡ w.writes.promise.writer.value)) }
-    ensures rings { IfOk result (λ w. (w.reads.promise.ring.value ≡ to_desk) × (w.writes.promise.ring.value ≡ to_writer)) }
-    ensures share { IfOk result (λ w. w.reads.promise.share.value ≡ share) }
-    ensures refused { IfErr result (λ l. l ≡ link) }
+    ensures started { IfOk result (λ s. IsStarted keeps serial s) }
+    ensures kinds { IfErr result (λ f. f ≢ fault.TooMany) }
 {
-    let Link { reader, writer } = link;
-    let reads = match start_reader(
-        rt, alloc, scope, order, gate, serial, reader, to_desk, share,
-    ) {
-        Ok(reads) => reads,
-        Err(end) => {
-            let ReadEnd { reader, .. } = unread(rt, end);
-            return Err(Link { reader, writer });
-        }
-    };
-    match start_writer(rt, scope, order, bell, gate, serial, writer, to_writer) {
-        Ok(writes) => Ok(Workers { reads, writes }),
-        Err(end) => {
-            let WriteEnd { writer, .. } = unwritten(rt, end);
-            let ReadEnd { reader, .. } = unread(rt, reads.join(rt));
-            Err(Link { reader, writer })
-        }
+    bell.renew();
+    let (to_desk, inbound) = inbound_ring(common.alloc)?;
+    let (outbound, to_writer) = outbound_ring(common.alloc)?;
+    let hands = Hands::new(common.alloc)?;
+    let inlet = Inlet::new(to_desk, Noter::new(serial, share));
+    match start_workers(common, scope, bell, keeps, inlet, to_writer, hands) {
+        Some(workers) => Ok(Started {
+            inbound,
+            outbound,
+            workers,
+        }),
+        None => Err(ServeFault::Threads),
     }
 }
 
-/// Starts the workers of all links, which then wait until it is said whether they may begin. None if a thread can't be
-/// started: then it was said that none may, all have ended, and the links are as before.
+/// Says that no worker may begin, so that those that wait look for what they are handed, and ends these.
+pub(crate) fn dismiss_all<R, L, G, S, W>(
+    common: Common<'_, R, L, G>,
+    started: VecDeque<Started<S, W, L>>,
+)
+where
+    R: Threads + Wait,
+    L: Ledger,
+    S: Source + Drop,
+    W: Sink + Drop,
+    requires { (serial : ℕ) × AreStarted true serial started.items }
+{
+    common.order.lock(common.rt).begin(false);
+    common.order.wake();
+    let mut started = started;
+    while let Some(one) = started.pop_front() {
+        let Started { workers, .. } = one;
+        workers.dismiss(common.rt);
+    }
+}
+
+/// Starts the workers of one session for each bell, with the serials from `first` on. If that is refused, none is left.
 pub(crate) fn start_all<'s, E, R, L, G, S, W>(
-    rt: &'s R,
-    alloc: Global,
+    common: Common<'s, R, L, G>,
     scope: &Scope<'s, E>,
-    order: &'s Order<L>,
     bells: &'s Vec<Bell>,
-    gate: &'s G,
+    parts: &mut Parts<L>,
     first: u64,
-    links: &mut VecDeque<Link<S, W>>,
-    rings: VecDeque<WorkerRings>,
-    workers: Vec<Workers<S, W, L>>,
-    all: &mut Share<L>,
-) -> Option<Vec<Workers<S, W, L>>>
+) -> Result<VecDeque<Started<S, W, L>>, ServeFault>
 where
     R: Threads + Wait + Sync,
     L: Ledger + Send + Sync + 's,
     G: Gate + Sync,
     S: Source + Send + Drop + 's,
     W: Sink + Send + Drop + 's,
-    requires lens { (deque_len rings ≡ deque_len links.old) × (vec_len bells.now ≡ deque_len links.old) }
-    requires room { (workers.items ≡ []) × (deque_len links.old ≤ vec_capacity workers) }
-    requires serials { first + deque_len links.old < 2 ^ 64 }
-    requires share { (deque_len links.old < all.old.parts) × (all.old.amount ≡ 0) }
-    requires fresh { Each (λ r. (sent r.to_desk ≡ []) × (received r.to_writer ≡ [])) rings.items }
-    ensures links { IfSome result (λ v. Pairwise (λ k w. (k.reader ≡ w.reads.promise.reader.value) × (k.writer ≡ w.writes.promise.writer.value)) links.old.items v.items) }
-    ensures rings { IfSome result (λ v. Pairwise (λ r w. (w.reads.promise.ring.value ≡ r.to_desk) × (w.writes.promise.ring.value ≡ r.to_writer) × (w.reads.promise.share.value.parts ≡ 1)) rings.items v.items) }
-    ensures taken { IfSome result (λ v. (links.new.items ≡ []) × (deque_capacity links.new ≡ deque_capacity links.old) × (all.new.parts + vec_len v ≡ all.old.parts)) }
-    ensures refused { IfNone result (links.new.items ≡ links.old.items) }
+    requires serials { first + vec_len bells.now < 2 ^ 64 }
+    requires parts { vec_len bells.now ≤ parts.old.left }
+    ensures started { IfOk result (λ s. AreStarted true first s.items × (deque_len s ≡ vec_len bells.now)) }
+    ensures kinds { IfErr result (λ f. f ≢ fault.TooMany) }
 {
-    let mut rings = rings;
-    let mut workers = workers;
+    let mut started = VecDeque::with_capacity(common.alloc, bells.len())?;
     let mut serial = first;
-    while let Some(link) = links.pop_front() {
-        let (Some(ring), Some(bell)) = (rings.pop_front(), bells.get(workers.len())) else {
+    for bell in bells {
+        let Some(share) = parts.take() else {
             unreachable!()
         };
-        let WorkerRings { to_desk, to_writer } = ring;
-        let share = all.split_off(1, 0);
-        match start_link(
-            rt, alloc, scope, order, bell, gate, serial, link, to_desk, to_writer, share,
-        ) {
-            Ok(started) => workers.push_reserved(started),
-            Err(link) => {
-                links.push_front_reserved(link);
-                stop_all(rt, workers, links);
-                return None;
+        match start(common, scope, bell, true, serial, share) {
+            Ok(one) => started.push_back_reserved(one),
+            Err(fault) => {
+                dismiss_all(common, started);
+                return Err(fault);
             }
         }
         serial += 1;
     }
-    Some(workers)
+    Ok(started)
 }

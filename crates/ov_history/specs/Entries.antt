@@ -8,7 +8,7 @@ use Rattle.ov_history.specs.declared.event.Cause.TheVariants.{InputEnded, ReadFa
 use Rattle.ov_history.specs.declared.event.Event.{Event}
 use Rattle.ov_history.specs.declared.event.Event.TheVariants.{Open, Take, Close, Tick}
 use Rattle.ov_history.specs.declared.event.Outcome.{Outcome}
-use Rattle.ov_history.specs.declared.event.Outcome.TheVariants.{Kept, Exhausted, Failed, NoMemory}
+use Rattle.ov_history.specs.declared.event.Outcome.TheVariants.{Committed, Exhausted, Failed, NoMemory}
 use Rattle.ov_history.specs.declared.event.Attempt.{Attempt}
 use Rattle.ov_history.specs.declared.event.Choice.{Choice}
 use Rattle.ov_history.specs.declared.event.Entry.{Entry}
@@ -31,7 +31,7 @@ event_view Tick = machine.Tick
 
 -- an outcome
 abbrev pub outcome_view : Outcome → machine.Outcome
-outcome_view Kept = machine.Committed
+outcome_view Committed = machine.Committed
 outcome_view Exhausted = machine.Exhausted
 outcome_view Failed = machine.Failed
 outcome_view NoMemory = machine.NoMemory
@@ -57,7 +57,7 @@ listed_by number (Some o) = record { number = number; outcome = o } ∷ []
 abbrev pub is_closing : Option Outcome → Bool
 is_closing None = false
 is_closing (Some NoMemory) = true
-is_closing (Some Kept) = false
+is_closing (Some Committed) = false
 is_closing (Some Exhausted) = false
 is_closing (Some Failed) = false
 
@@ -65,7 +65,7 @@ is_closing (Some Failed) = false
 abbrev pub is_kept : Option Outcome → Bool
 is_kept None = false
 is_kept (Some NoMemory) = false
-is_kept (Some Kept) = true
+is_kept (Some Committed) = true
 is_kept (Some Exhausted) = false
 is_kept (Some Failed) = false
 

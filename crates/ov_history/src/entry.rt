@@ -67,5 +67,5 @@ pub fn is_closing(outcome: Option<Outcome>) -> bool
 pub fn is_kept(outcome: Option<Outcome>) -> bool
     ensures { result ≡ is_kept outcome }
 {
-    matches!(outcome, Some(Outcome::Kept))
+    matches!(outcome, Some(Outcome::Committed))
 }

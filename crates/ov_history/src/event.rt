@@ -39,7 +39,7 @@ pub enum Event<M> {
 #[derive(Clone, Copy, Debug, PartialEq, Eq)]
 pub enum Outcome {
     /// The store kept its changes.
-    Kept,
+    Committed,
     /// An allocation failed in the store, or the changes were too large for it: it kept none of them.
     Exhausted,
     /// The store failed.

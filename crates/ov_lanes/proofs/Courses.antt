@@ -1,6 +1,6 @@
 -- What entries, and frames that are handed out, make of a core and of its sessions.
 use Rattle.std.proofs.Common.{◌≡◌, ◌≢◌, inl, inr, ℕ, List, [], ◌∷◌, ◌++◌, refl, sym, ap, subst, ◌∙◌, append_assoc, append-nil, cond, eqb, map, Bool, true, false, Option, Some, Result, Ok, Err}
-use Rattle.std.specs.Prelude.{option_to_list, IfOk, IfErr}
+use Rattle.std.specs.Prelude.{option_to_list, max, IfOk, IfErr}
 use Rattle.std.specs.Option.{option_or}
 use Rattle.std.proofs.lemmas.Bool.{cases_eq, eq-eqb, ne_eqb}
 use Rattle.ov_specs.specs.wire.Message.{Message}
@@ -24,9 +24,11 @@ use Rattle.ov_core.specs.Stepping.{StepIs, RefusesStep, Closes, closing}
 use Rattle.ov_core.specs.Passing.{is_due, TicksIf}
 use Rattle.ov_history.proofs.Histories.{keeps_on}
 use Rattle.ov_lanes.specs.Courses.{Spares}
+use Rattle.ov_lanes.specs.Moments.{IsAtMoment, AreTimed}
 use Rattle.ov_lanes.specs.Since.{HandsOut, and_then_handed, Since, course_of, Goes}
 use Rattle.ov_lanes.specs.Moving.{ClosesOnce}
 use Rattle.ov_lanes.proofs.Own.{spares_same, spares_along, OwnHanded, OwnClosed, OwnTook}
+use Rattle.ov_lanes.proofs.Timing.{timed_one, at_moment, timed_append}
 use Rattle.ov_lanes.proofs.Silence.{away_silent, close_spares, close_of_open, known_in_order}
 
 -- the same frames were given
@@ -43,6 +45,7 @@ given_same before history given given' core same f = record {
 -- an entry was entered, since a core was the first
 pub record EnteredTo {K D : Type 0} {first a : CoreState K D} (p : Since first a) (e : Entry) (b : CoreState K D) : Type 0 where
   pub after : Since first b
+  pub adds : after.entries ≡ p.entries ++ e ∷ []
   pub sent : List Sent
   pub stepped : step a.state e ≡ Some (record { state = b.state; sent = sent })
   pub handed : (n : ℕ) → after.handed n ≡ p.handed n
@@ -75,6 +78,7 @@ module _ {K D : Type 0} {first a b : CoreState K D} (p : Since first a) where
               ∙ (append_assoc (p.handed s) (waiting_for s a.outbox) (frames_to s m.sent)
               ∙ ap (λ (l : List (List ℕ)). p.handed s ++ l) (sym (m.waits s)))));
         };
+        adds = refl;
         sent = m.sent;
         stepped = m.stepped;
         handed = λ n. refl;
@@ -103,24 +107,34 @@ module _ {K D : Type 0} {first a b : CoreState K D} (p : Since first a) where
     closes = inr (was, turn.open_is, x.closed n ∙ ap (option_or (closed_by first.state p.entries n)) turn.cause_is);
   }
 
-  abbrev goes_entered : (n : ℕ) (e : Entry) (x : EnteredTo p e b) → ((t : ℕ) → t ≢ n → MayClose t a.state e (record { state = b.state; sent = x.sent }) []) → Goes n p b
-  goes_entered n e x may = record { after = x.after; beside = λ t ne. spared e x t (may t ne) }
+  -- it is at its moment
+  pub entered_timed : (at : ℕ) (e : Entry) (x : EnteredTo p e b) → IsAtMoment at a.state.moment e.choice.moment e.event → AreTimed at a.state (e ∷ []) b.state
+  entered_timed at e x is = timed_one at a.state e (record { state = b.state; sent = x.sent }) x.stepped is
+
+  abbrev goes_entered : (at n : ℕ) (e : Entry) (x : EnteredTo p e b) → IsAtMoment at a.state.moment e.choice.moment e.event → ((t : ℕ) → t ≢ n → MayClose t a.state e (record { state = b.state; sent = x.sent }) []) → Goes at n p b
+  goes_entered at n e x is may = record { after = x.after; more = e ∷ []; adds = x.adds; timed = entered_timed at e x is; beside = λ t ne. spared e x t (may t ne) }
 
 -- ---- parts of what is done
 
-module _ {K D : Type 0} {first a : CoreState K D} (n : ℕ) (p : Since first a) where
+module _ {K D : Type 0} {first a : CoreState K D} (at n : ℕ) (p : Since first a) where
   -- nothing was done
-  abbrev pub goes_same : Goes n p a
-  goes_same = record { after = p; beside = λ t ne. spares_same (course_of p t) }
+  abbrev pub goes_same : Goes at n p a
+  goes_same = record { after = p; more = []; adds = sym (append-nil p.entries); timed = refl; beside = λ t ne. spares_same (course_of p t) }
 
   -- one part after another
-  abbrev pub goes_along : {b c : CoreState K D} (x : Goes n p b) → Goes n x.after c → Goes n p c
-  goes_along x y = record { after = y.after; beside = λ t ne. spares_along (course_of p t) (course_of x.after t) (course_of y.after t) (x.beside t ne) (y.beside t ne) }
+  abbrev pub goes_along : {b c : CoreState K D} (x : Goes at n p b) → Goes at n x.after c → Goes at n p c
+  goes_along {b} {c} x y = record {
+    after = y.after;
+    more = x.more ++ y.more;
+    adds = y.adds ∙ (ap (λ (l : List Entry). l ++ y.more) x.adds ∙ append_assoc p.entries x.more y.more);
+    timed = timed_append at a.state x.more y.more b.state c.state x.timed y.timed;
+    beside = λ t ne. spares_along (course_of p t) (course_of x.after t) (course_of y.after t) (x.beside t ne) (y.beside t ne);
+  }
 
 -- ---- frames that are handed out
 
-pub record HandsOn {K D : Type 0} {first a : CoreState K D} (n : ℕ) (p : Since first a) (frames : List (List ℕ)) (b : CoreState K D) : Type 0 where
-  pub goes : Goes n p b
+pub record HandsOn {K D : Type 0} {first a : CoreState K D} (at n : ℕ) (p : Since first a) (frames : List (List ℕ)) (b : CoreState K D) : Type 0 where
+  pub goes : Goes at n p b
   pub own : OwnHanded (course_of p n) (course_of goes.after n) frames
 
 pub hands_none : {K D : Type 0} (n : ℕ) (a : CoreState K D) → HandsOut n [] a a
@@ -186,10 +200,13 @@ module _ {K D : Type 0} {first a b : CoreState K D} (n : ℕ) (p : Since first a
     frames = λ s. p.frames s ∙ waits s;
   }
 
-  pub hands_on : HandsOn n p frames b
-  hands_on = record {
+  pub hands_on : (at : ℕ) → HandsOn at n p frames b
+  hands_on at = record {
     goes = record {
       after = handed_since;
+      more = [];
+      adds = sym (append-nil p.entries);
+      timed = same_state;
       beside = λ t ne. record {
         more = [];
         waiting = h.others t ne ∙ sym (append-nil (waiting_for t a.outbox));
@@ -210,19 +227,19 @@ module _ {K D : Type 0} {first a b : CoreState K D} (n : ℕ) (p : Since first a
 
 -- ---- a closing
 
-pub record Shuts {K D : Type 0} {first a : CoreState K D} (n : ℕ) (p : Since first a) (why : machine.Cause) (b : CoreState K D) (known known' : Option Cause) : Type 0 where
-  pub goes : Goes n p b
+pub record Shuts {K D : Type 0} {first a : CoreState K D} (at n : ℕ) (p : Since first a) (why : machine.Cause) (b : CoreState K D) (known known' : Option Cause) : Type 0 where
+  pub goes : Goes at n p b
   pub own : OwnClosed (course_of p n) (course_of goes.after n) why known known'
 
-module _ {K D : Type 0} {first a : CoreState K D} (n : ℕ) (p : Since first a) (why : machine.Cause) (known known' : Option Cause) where
-  shuts_open : (b : CoreState K D) (at : ℕ) → Closes at n why a b → (cause : Cause) → known' ≡ Some cause → cause_view cause ≡ why → Shuts n p why b known known'
-  shuts_open b at closes cause is view =
-      let e : Entry = closing at n why in
+module _ {K D : Type 0} {first a : CoreState K D} (at n : ℕ) (p : Since first a) (why : machine.Cause) (known known' : Option Cause) where
+  shuts_open : (b : CoreState K D) → Closes a.state.moment n why a b → (cause : Cause) → known' ≡ Some cause → cause_view cause ≡ why → Shuts at n p why b known known'
+  shuts_open b closes cause is view =
+      let e : Entry = closing a.state.moment n why in
       let x = since_enters p e closes.moves in
       let t : Stepped = record { state = b.state; sent = x.sent } in
       let turn = turn_close n a.state e t x.stepped why refl in
       record {
-        goes = goes_entered p n e x (λ k ne. inl (turn_close_other k a.state e t x.stepped n why (λ same. ne (sym same)) refl));
+        goes = goes_entered p at n e x (inl refl) (λ k ne. inl (turn_close_other k a.state e t x.stepped n why (λ same. ne (sym same)) refl));
         own = record {
           asks = x.asks n ∙ append-nil (requests p.entries n);
           handed = x.handed n;
@@ -232,25 +249,25 @@ module _ {K D : Type 0} {first a : CoreState K D} (n : ℕ) (p : Since first a) 
         };
       }
 
-  shuts_none : is_open a.state n ≡ false → known' ≡ known → Shuts n p why a known known'
+  shuts_none : is_open a.state n ≡ false → known' ≡ known → Shuts at n p why a known known'
   shuts_none away same = record {
-    goes = goes_same n p;
+    goes = goes_same at n p;
     own = record { asks = refl; handed = refl; waiting = refl; away = away; by = inr (away, refl, same) };
   }
 
-  pub shuts : (b : CoreState K D) → ClosesOnce n why a b known known' → Shuts n p why b known known'
-  shuts b (inl (at, closes, (cause, is, view))) = shuts_open b at closes cause is view
-  shuts b (inr (same, away, known_same)) = subst (λ (k : CoreState K D). Shuts n p why k known known') (sym same) (shuts_none away known_same)
+  pub shuts : (b : CoreState K D) → ClosesOnce n why a b known known' → Shuts at n p why b known known'
+  shuts b (inl (closes, (cause, is, view))) = shuts_open b closes cause is view
+  shuts b (inr (same, away, known_same)) = subst (λ (k : CoreState K D). Shuts at n p why k known known') (sym same) (shuts_none away known_same)
 
 -- ---- a message
 
-pub record Takes {K D : Type 0} {first a : CoreState K D} (n : ℕ) (p : Since first a) (message : Message) (b : CoreState K D) : Type 0 where
-  pub goes : Goes n p b
+pub record Takes {K D : Type 0} {first a : CoreState K D} (at n : ℕ) (p : Since first a) (message : Message) (b : CoreState K D) : Type 0 where
+  pub goes : Goes at n p b
   pub own : OwnTook (course_of p n) (course_of goes.after n) message
 
-module _ {K D : Type 0} {first a : CoreState K D} (n : ℕ) (p : Since first a) (message : Message) where
-  takes_by_message : (b : CoreState K D) (e : Entry) (m : EntersEntry a e b) → e.event ≡ Take n message → Takes n p message b
-  takes_by_message b e m is =
+module _ {K D : Type 0} {first a : CoreState K D} (at n : ℕ) (p : Since first a) (message : Message) where
+  takes_by_message : (b : CoreState K D) (e : Entry) (m : EntersEntry a e b) → e.choice.moment ≡ max at a.state.moment → e.event ≡ Take n message → Takes at n p message b
+  takes_by_message b e m when is =
       let x = since_enters p e m in
       let t : Stepped = record { state = b.state; sent = x.sent } in
       let was : is_open a.state n ≡ true = open_to_take a.state e t x.stepped n message is in
@@ -258,7 +275,7 @@ module _ {K D : Type 0} {first a : CoreState K D} (n : ℕ) (p : Since first a) 
       let asks : requests x.after.entries n ≡ requests p.entries n ++ message ∷ [] =
       x.asks n ∙ ap (λ (l : List Message). requests p.entries n ++ l) (ap (taken_by n) is ∙ ap (λ (k : Bool). cond k (message ∷ []) []) (eq-eqb n n refl)) in
       record {
-        goes = goes_entered p n e x (λ k ne. turn_take_other k a.state e t x.stepped n message (λ same. ne (sym same)) is);
+        goes = goes_entered p at n e x (at_moment at a.state.moment e.choice.moment e.event (Take n message) is when) (λ k ne. turn_take_other k a.state e t x.stepped n message (λ same. ne (sym same)) is);
         own = record {
           more = frames_to n x.sent;
           waiting = x.waiting n;
@@ -271,13 +288,13 @@ module _ {K D : Type 0} {first a : CoreState K D} (n : ℕ) (p : Since first a) 
         };
       }
 
-  takes_by_closing : (b : CoreState K D) (e : Entry) (m : EntersEntry a e b) → e.event ≡ Close n machine.Memory → Takes n p message b
-  takes_by_closing b e m is =
+  takes_by_closing : (b : CoreState K D) (e : Entry) (m : EntersEntry a e b) → e.choice.moment ≡ max at a.state.moment → e.event ≡ Close n machine.Memory → Takes at n p message b
+  takes_by_closing b e m when is =
       let x = since_enters p e m in
       let t : Stepped = record { state = b.state; sent = x.sent } in
       let turn = turn_close n a.state e t x.stepped machine.Memory is in
       record {
-        goes = goes_entered p n e x (λ k ne. inl (turn_close_other k a.state e t x.stepped n machine.Memory (λ same. ne (sym same)) is));
+        goes = goes_entered p at n e x (at_moment at a.state.moment e.choice.moment e.event (Close n machine.Memory) is (inr (refl, when))) (λ k ne. inl (turn_close_other k a.state e t x.stepped n machine.Memory (λ same. ne (sym same)) is));
         own = record {
           more = frames_to n x.sent;
           waiting = x.waiting n;
@@ -292,45 +309,54 @@ module _ {K D : Type 0} {first a : CoreState K D} (n : ℕ) (p : Since first a) 
         };
       }
 
-  takes_none : is_open a.state n ≡ false → Takes n p message a
+  takes_none : is_open a.state n ≡ false → Takes at n p message a
   takes_none away = record {
-    goes = goes_same n p;
+    goes = goes_same at n p;
     own = record { more = []; waiting = sym (append-nil (waiting_for n a.outbox)); silent = λ _. refl; handed = refl; by = inl (away, away, refl, refl) };
   }
 
-  pub takes : (draws : D → Uuid → D → Type 0) (at : ℕ) (b : CoreState K D) (r : Reply) → StepIs draws at (Take n message) a r b → Takes n p message b
-  takes draws at b (answer.Opened session) e = absurd e.tells
-  takes draws at b answer.Done e = takes_by_message b e.entry e.moves e.tells.0
-  takes draws at b answer.Closed e = elim e.tells.0 [
-    | inl is ↦ takes_by_message b e.entry e.moves is
-    | inr is ↦ takes_by_closing b e.entry e.moves is
+  pub takes : (draws : D → Uuid → D → Type 0) (b : CoreState K D) (r : Reply) → StepIs draws (max at a.state.moment) (Take n message) a r b → Takes at n p message b
+  takes draws b (answer.Opened session) e = absurd e.tells
+  takes draws b answer.Done e = takes_by_message b e.entry e.moves e.moment e.tells.0
+  takes draws b answer.Closed e = elim e.tells.0 [
+    | inl is ↦ takes_by_message b e.entry e.moves e.moment is
+    | inr is ↦ takes_by_closing b e.entry e.moves e.moment is
   ]
-  takes draws at b (answer.Refused fault.TooMany) (same, why) = absurd why
-  takes draws at b (answer.Refused fault.Memory) (same, why) = absurd why
-  takes draws at b (answer.Refused fault.NotOpen) (same, why) = subst (λ (k : CoreState K D). Takes n p message k) (sym same) (takes_none why)
+  takes draws b (answer.Refused fault.TooMany) (same, why) = absurd why
+  takes draws b (answer.Refused fault.Memory) (same, why) = absurd why
+  takes draws b (answer.Refused fault.NotOpen) (same, why) = subst (λ (k : CoreState K D). Takes at n p message k) (sym same) (takes_none why)
 
 -- ---- time
 
 -- no session was meant
-pub record Passes {K D : Type 0} {first a : CoreState K D} (p : Since first a) (b : CoreState K D) : Type 0 where
+pub record Passes {K D : Type 0} {first a : CoreState K D} (at : ℕ) (p : Since first a) (b : CoreState K D) : Type 0 where
   pub after : Since first b
+  pub more : List Entry
+  pub adds : after.entries ≡ p.entries ++ more
+  pub timed : AreTimed at a.state more b.state
   pub all : (n : ℕ) → Spares (course_of p n) (course_of after n)
 
-module _ {K D : Type 0} {first a : CoreState K D} (p : Since first a) where
-  passes_by_entry : (b : CoreState K D) (e : Entry) → EntersEntry a e b → e.event ≡ Tick → Passes p b
-  passes_by_entry b e m is =
+module _ {K D : Type 0} {first a : CoreState K D} (at : ℕ) (p : Since first a) where
+  passes_by_entry : (b : CoreState K D) (e : Entry) → EntersEntry a e b → e.choice.moment ≡ max at a.state.moment → e.event ≡ Tick → Passes at p b
+  passes_by_entry b e m when is =
       let x = since_enters p e m in
       let t : Stepped = record { state = b.state; sent = x.sent } in
-      record { after = x.after; all = λ n. spared p e x n (turn_tick n a.state e t x.stepped is) }
+      record {
+        after = x.after;
+        more = e ∷ [];
+        adds = x.adds;
+        timed = entered_timed p at e x (at_moment at a.state.moment e.choice.moment e.event Tick is when);
+        all = λ n. spared p e x n (turn_tick n a.state e t x.stepped is);
+      }
 
-  passes_none : Passes p a
-  passes_none = record { after = p; all = λ n. spares_same (course_of p n) }
+  passes_none : Passes at p a
+  passes_none = record { after = p; more = []; adds = sym (append-nil p.entries); timed = refl; all = λ n. spares_same (course_of p n) }
 
-  pub passes : (draws : D → Uuid → D → Type 0) (at : ℕ) (b : CoreState K D) (r : Result Bool StepFault) → IfOk r (λ ticks. TicksIf draws ticks at a b)
-      → IfErr r (λ fault. (b ≡ a) × (is_due at a.state ≡ true) × RefusesStep Tick a.state fault) → Passes p b
-  passes draws at b (Ok true) ticks refused = passes_by_entry b ticks.entry ticks.moves ticks.tells
-  passes draws at b (Ok false) ticks refused = subst (λ (k : CoreState K D). Passes p k) (sym ticks) passes_none
-  passes draws at b (Err fault) ticks refused = subst (λ (k : CoreState K D). Passes p k) (sym refused.0) passes_none
+  pub passes : (draws : D → Uuid → D → Type 0) (b : CoreState K D) (r : Result Bool StepFault) → IfOk r (λ ticks. TicksIf draws ticks at a b)
+      → IfErr r (λ fault. (b ≡ a) × (is_due at a.state ≡ true) × RefusesStep Tick a.state fault) → Passes at p b
+  passes draws b (Ok true) ticks refused = passes_by_entry b ticks.entry ticks.moves ticks.moment ticks.tells
+  passes draws b (Ok false) ticks refused = subst (λ (k : CoreState K D). Passes at p k) (sym ticks) passes_none
+  passes draws b (Err fault) ticks refused = subst (λ (k : CoreState K D). Passes at p k) (sym refused.0) passes_none
 
 -- ---- what calls of the core say
 
@@ -351,7 +377,7 @@ hands_dropped n a b handed none others same = record {
 
 -- it is closed once it was to be closed
 pub closed_once_away : {K D : Type 0} (n : ℕ) (why : machine.Cause) (a b : CoreState K D) (known known' : Option Cause) → ClosesOnce n why a b known known' → is_open b.state n ≡ false
-closed_once_away n why a b known known' (inl (at, closes, k)) = closes.shut
+closed_once_away n why a b known known' (inl (closes, k)) = closes.shut
 closed_once_away n why a b known known' (inr (same, away, k)) = ap (λ (r : CoreState _ _). is_open r.state n) same ∙ away
 
 -- one frame more

@@ -17,7 +17,7 @@ use Rattle.ov_history.specs.declared.event.Cause.{Cause}
 use Rattle.ov_history.specs.declared.event.Cause.TheVariants.{Memory}
 use Rattle.ov_history.specs.Entries.{cause_view}
 use Rattle.ov_lanes.specs.Courses.{Course, Spares}
-use Rattle.ov_lanes.specs.Fitting.{Items, brought, end_cause, is_by_reader, Took, framed, Puts, Knows, most_frames, FitsCourse, IsSettled}
+use Rattle.ov_lanes.specs.Fitting.{Items, brought, end_cause, is_by_reader, Took, framed, Puts, Knows, most_frames, FitsCourse, IsFlushed}
 use Rattle.ov_lanes.proofs.Own.{OwnHanded, OwnClosed, OwnTook}
 
 -- ---- whether a session is open, and why it was closed
@@ -331,19 +331,19 @@ same_cause : (x y : machine.Cause) → Some x ≡ Some y → x ≡ y
 same_cause x y h = cc
 
 module _ (c d : Course) (cause : ReadCause) (known known' : Option Cause) (before : Items) (put : List Sent) (marked ended : Bool) (o : OwnClosed c d (end_cause cause) known known') (f : FitsCourse c known before put marked ended) where
-  puts_ended : (m : Bool) → IsSettled c m → c.is_open ≡ true → Puts c m put → Puts d m put
-  puts_ended false settled was p = (p.0 ∙ ap framed (sym o.handed), λ by. elim settled [ inl is ↦ absurd (false≢true is) | inr (there, none) ↦ o.waiting ∙ none ])
-  puts_ended true settled was p = absurd (false≢true (sym p.0 ∙ was))
+  puts_ended : (m : Bool) → IsFlushed c m → c.is_open ≡ true → Puts c m put → Puts d m put
+  puts_ended false flushed was p = (p.0 ∙ ap framed (sym o.handed), λ by. elim flushed [ inl is ↦ absurd (false≢true is) | inr (there, none) ↦ o.waiting ∙ none ])
+  puts_ended true flushed was p = absurd (false≢true (sym p.0 ∙ was))
 
-  ended_open : IsSettled c marked → c.is_open ≡ true → d.closed ≡ option_or c.closed (Some (end_cause cause)) → (x : Cause) → known' ≡ Some x → cause_view x ≡ end_cause cause → FitsCourse d known' (before ++ Last cause ∷ []) put marked true
-  ended_open settled was closed x known_is view =
+  ended_open : IsFlushed c marked → c.is_open ≡ true → d.closed ≡ option_or c.closed (Some (end_cause cause)) → (x : Cause) → known' ≡ Some x → cause_view x ≡ end_cause cause → FitsCourse d known' (before ++ Last cause ∷ []) put marked true
+  ended_open flushed was closed x known_is view =
       let none : c.closed ≡ None = not_closed c f.opens was in
       let is : d.closed ≡ Some (end_cause cause) = closed ∙ ap (λ (k : Option machine.Cause). option_or k (Some (end_cause cause))) none in
       let took : before ≡ brought c.asks = subst (λ (k : Option machine.Cause). Took k c.asks before) none f.took in
       record {
         took = subst (λ (k : Option machine.Cause). Took k d.asks (before ++ Last cause ∷ [])) (sym is)
             (Last cause ∷ [], ap (λ (l : Items). l ++ Last cause ∷ []) (took ∙ ap brought (sym o.asks)), λ of. (cause, [], refl, refl));
-        puts = puts_ended marked settled was f.puts;
+        puts = puts_ended marked flushed was f.puts;
         knows = subst (λ (k : Option Cause). Knows d.closed k) (sym known_is) (is ∙ ap (λ k. Some k) (sym view));
         ends = λ _. o.away;
         opens = ap is_some is ∙ sym (ap not o.away);
@@ -365,9 +365,9 @@ module _ (c d : Course) (cause : ReadCause) (known known' : Option Cause) (befor
         overrun = on.overrun;
       }
 
-  pub fits_ended : IsSettled c marked → FitsCourse d known' (before ++ Last cause ∷ []) put marked true
-  fits_ended settled = elim o.by [
-    | inl (was, closed, (x, known_is, view)) ↦ ended_open settled was closed x known_is view
+  pub fits_ended : IsFlushed c marked → FitsCourse d known' (before ++ Last cause ∷ []) put marked true
+  fits_ended flushed = elim o.by [
+    | inl (was, closed, (x, known_is, view)) ↦ ended_open flushed was closed x known_is view
     | inr (was, closed, known_is) ↦ ended_shut was closed known_is
   ]
 

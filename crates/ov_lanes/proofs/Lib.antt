@@ -1,10 +1,16 @@
 pub mod Silence
 pub mod Own
+pub mod Timing
 pub mod Courses
 pub mod Fitting
 pub mod Moving
 pub mod Single
-pub mod AllLanes
 pub mod Unopened
+pub mod Coming
 pub mod Pairs
 pub mod Openings
+pub mod Closing
+pub mod PlaceLaws
+pub mod Turning
+pub mod Flushing
+pub mod Seating

@@ -15,87 +15,87 @@ use Rattle.ov_history.specs.declared.event.Cause.{Cause}
 use Rattle.ov_history.specs.declared.event.Cause.TheVariants.{Memory}
 use Rattle.ov_core.specs.Following.{CoreState}
 use Rattle.ov_lanes.specs.Since.{Since, course_of, Goes}
-use Rattle.ov_lanes.specs.Fitting.{Items, FitsCourse, IsSettled, framed, end_cause}
+use Rattle.ov_lanes.specs.Fitting.{Items, FitsCourse, IsFlushed, framed, end_cause}
 use Rattle.ov_lanes.specs.Moving.{ClosesOnce, MovesFrames, GivesUp, TakesItem}
 use Rattle.ov_lanes.proofs.Own.{OwnHanded}
 use Rattle.ov_lanes.proofs.Courses.{hands_on, shuts, Takes, takes, goes_same, goes_along}
 use Rattle.ov_lanes.proofs.Fitting.{fits_moved, fits_marked, fits_given_up, fits_took, fits_ended}
 
 -- what fits a session after more was done, the others not being meant
-pub record Fitting {K D : Type 0} {first a : CoreState K D} (n : ℕ) (p : Since first a) (b : CoreState K D) (known : Option Cause) (items : Items) (put : List Sent) (marked ended : Bool) : Type 0 where
-  pub goes : Goes n p b
+pub record Fitting {K D : Type 0} {first a : CoreState K D} (at n : ℕ) (p : Since first a) (b : CoreState K D) (known : Option Cause) (items : Items) (put : List Sent) (marked ended : Bool) : Type 0 where
+  pub goes : Goes at n p b
   pub fits : FitsCourse (course_of goes.after n) known items put marked ended
 
 -- and nothing more can be moved
-pub record Settling {K D : Type 0} {first a : CoreState K D} (n : ℕ) (p : Since first a) (b : CoreState K D) (known : Option Cause) (items : Items) (put : List Sent) (marked ended : Bool) : Type 0 where
-  pub goes : Goes n p b
+pub record Flushing {K D : Type 0} {first a : CoreState K D} (at n : ℕ) (p : Since first a) (b : CoreState K D) (known : Option Cause) (items : Items) (put : List Sent) (marked ended : Bool) : Type 0 where
+  pub goes : Goes at n p b
   pub fits : FitsCourse (course_of goes.after n) known items put marked ended
-  pub settled : IsSettled (course_of goes.after n) marked
+  pub flushed : IsFlushed (course_of goes.after n) marked
 
-module _ {K D : Type 0} {first a : CoreState K D} (n : ℕ) (p : Since first a) where
-  pub settles_marked : (known : Option Cause) (items : Items) (put : List Sent) (ended : Bool) → FitsCourse (course_of p n) known items put true ended → Settling n p a known items put true ended
-  settles_marked known items put ended f = record { goes = goes_same n p; fits = f; settled = inl refl }
+module _ {K D : Type 0} {first a : CoreState K D} (at n : ℕ) (p : Since first a) where
+  pub flushes_marked : (known : Option Cause) (items : Items) (put : List Sent) (ended : Bool) → FitsCourse (course_of p n) known items put true ended → Flushing at n p a known items put true ended
+  flushes_marked known items put ended f = record { goes = goes_same at n p; fits = f; flushed = inl refl }
 
-module _ {K D : Type 0} {first a b : CoreState K D} (n : ℕ) (p : Since first a) (known : Option Cause) (items : Items) (put put' : List Sent) (ended : Bool) (f : FitsCourse (course_of p n) known items put false ended) where
+module _ {K D : Type 0} {first a b : CoreState K D} (at n : ℕ) (p : Since first a) (known : Option Cause) (items : Items) (put put' : List Sent) (ended : Bool) (f : FitsCourse (course_of p n) known items put false ended) where
   -- all frames were moved
-  moved_all : MovesFrames n true a b put put' → Fitting n p b known items put' false ended
+  moved_all : MovesFrames n true a b put put' → Fitting at n p b known items put' false ended
   moved_all m =
-      let h = hands_on n p m.frames m.hands in
+      let h = hands_on n p m.frames m.hands at in
       record {
         goes = h.goes;
         fits = fits_moved (course_of p n) (course_of h.goes.after n) known items put put' ended m.frames h.own (m.puts ∙ ap (λ (l : List (List ℕ)). put ++ framed l) m.all.0) f;
       }
 
   -- and the session is open
-  pub settles_open : MovesFrames n true a b put put' → is_open b.state n ≡ true → Settling n p b known items put' false ended
-  settles_open m there = let x = moved_all m in record { goes = x.goes; fits = x.fits; settled = inr (there, m.all.1) }
+  pub flushes_open : MovesFrames n true a b put put' → is_open b.state n ≡ true → Flushing at n p b known items put' false ended
+  flushes_open m there = let x = moved_all m in record { goes = x.goes; fits = x.fits; flushed = inr (there, m.all.1) }
 
   -- or it is not, and was marked
-  pub settles_shut : MovesFrames n true a b put put' → is_open b.state n ≡ false → Settling n p b (Some (unwrap_or known Memory)) items (put' ++ End ∷ []) true ended
-  settles_shut m away =
+  pub flushes_shut : MovesFrames n true a b put put' → is_open b.state n ≡ false → Flushing at n p b (Some (unwrap_or known Memory)) items (put' ++ End ∷ []) true ended
+  flushes_shut m away =
       let x = moved_all m in
-      record { goes = x.goes; fits = fits_marked (course_of x.goes.after n) known items put' ended away m.all.1 x.fits; settled = inl refl }
+      record { goes = x.goes; fits = fits_marked (course_of x.goes.after n) known items put' ended away m.all.1 x.fits; flushed = inl refl }
 
   -- there was no room for one of them
-  pub settles_given_up : (c : CoreState K D) (known' : Option Cause) → MovesFrames n false a b put put' → GivesUp n b c known known' → Settling n p c (Some (unwrap_or known' Memory)) items (put' ++ End ∷ []) true ended
-  settles_given_up c known' m g =
+  pub flushes_given_up : (c : CoreState K D) (known' : Option Cause) → MovesFrames n false a b put put' → GivesUp n b c known known' → Flushing at n p c (Some (unwrap_or known' Memory)) items (put' ++ End ∷ []) true ended
+  flushes_given_up c known' m g =
       let last = m.all.0 in
-      let h = hands_on n p m.frames m.hands in
-      let s = shuts n h.goes.after machine.Overrun known known' g.mid g.closes in
-      let d = hands_on n s.goes.after (waiting_for n g.mid.outbox) g.drops in
-      let goes = goes_along n p (goes_along n p h.goes s.goes) d.goes in
+      let h = hands_on n p m.frames m.hands at in
+      let s = shuts at n h.goes.after machine.Overrun known known' g.mid g.closes in
+      let d = hands_on n s.goes.after (waiting_for n g.mid.outbox) g.drops at in
+      let goes = goes_along at n p (goes_along at n p h.goes s.goes) d.goes in
       record {
         goes = goes;
         fits = fits_given_up (course_of p n) (course_of h.goes.after n) (course_of s.goes.after n) (course_of d.goes.after n) known known' items put put' ended m.moved last.0
             (subst (λ (l : List (List ℕ)). OwnHanded (course_of p n) (course_of h.goes.after n) l) last.1 h.own) s.own d.own g.none_left m.puts m.all.1 f;
-        settled = inl refl;
+        flushed = inl refl;
       }
 
 -- ---- what is taken of a ring
 
-module _ {K D : Type 0} {first a b c : CoreState K D} (n : ℕ) (p : Since first a) (known : Option Cause) (items : Items) (put : List Sent) (marked ended : Bool) (s : Settling n p b known items put marked ended) where
+module _ {K D : Type 0} {first a b c : CoreState K D} (at n : ℕ) (p : Since first a) (known : Option Cause) (items : Items) (put : List Sent) (marked ended : Bool) (s : Flushing at n p b known items put marked ended) where
   -- a message
-  pub moves_message : (message : Message) → ((q : Since first b) → Takes n q message c) → Fitting n p c known (items ++ Brings message ∷ []) put marked ended
+  pub moves_message : (message : Message) → ((q : Since first b) → Takes at n q message c) → Fitting at n p c known (items ++ Brings message ∷ []) put marked ended
   moves_message message takes =
       let t = takes s.goes.after in
       record {
-        goes = goes_along n p s.goes t.goes;
+        goes = goes_along at n p s.goes t.goes;
         fits = fits_took (course_of s.goes.after n) (course_of t.goes.after n) message known items put marked ended t.own s.fits;
       }
 
   -- the reader's end
-  pub moves_end : (cause : ReadCause) (known' : Option Cause) → ClosesOnce n (end_cause cause) b c known known' → Fitting n p c known' (items ++ Last cause ∷ []) put marked true
+  pub moves_end : (cause : ReadCause) (known' : Option Cause) → ClosesOnce n (end_cause cause) b c known known' → Fitting at n p c known' (items ++ Last cause ∷ []) put marked true
   moves_end cause known' closes =
-      let t = shuts n s.goes.after (end_cause cause) known known' c closes in
+      let t = shuts at n s.goes.after (end_cause cause) known known' c closes in
       record {
-        goes = goes_along n p s.goes t.goes;
-        fits = fits_ended (course_of s.goes.after n) (course_of t.goes.after n) cause known known' items put marked ended t.own s.fits s.settled;
+        goes = goes_along at n p s.goes t.goes;
+        fits = fits_ended (course_of s.goes.after n) (course_of t.goes.after n) cause known known' items put marked ended t.own s.fits s.flushed;
       }
 
   -- an item
-  pub moves_item : (draws : D → Uuid → D → Type 0) (item : Brought Message ReadCause) (known' : Option Cause) (ended' : Bool) → TakesItem draws item n b c known known' ended ended' → Fitting n p c known' (items ++ item ∷ []) put marked ended'
-  moves_item draws (Brings message) known' ended' ((at, answer, is), same, same') =
-      subst (λ (k : Option Cause). Fitting n p c k (items ++ Brings message ∷ []) put marked ended') (sym same)
-      (subst (λ (k : Bool). Fitting n p c known (items ++ Brings message ∷ []) put marked k) (sym same') (moves_message message (λ q. takes n q message draws at c answer is)))
+  pub moves_item : (draws : D → Uuid → D → Type 0) (item : Brought Message ReadCause) (known' : Option Cause) (ended' : Bool) → TakesItem draws at item n b c known known' ended ended' → Fitting at n p c known' (items ++ item ∷ []) put marked ended'
+  moves_item draws (Brings message) known' ended' ((answer, is), same, same') =
+      subst (λ (k : Option Cause). Fitting at n p c k (items ++ Brings message ∷ []) put marked ended') (sym same)
+      (subst (λ (k : Bool). Fitting at n p c known (items ++ Brings message ∷ []) put marked k) (sym same') (moves_message message (λ q. takes at n q message draws c answer is)))
   moves_item draws (Last cause) known' ended' (closes, is) =
-      subst (λ (k : Bool). Fitting n p c known' (items ++ Last cause ∷ []) put marked k) (sym is) (moves_end cause known' closes)
+      subst (λ (k : Bool). Fitting at n p c known' (items ++ Last cause ∷ []) put marked k) (sym is) (moves_end cause known' closes)

@@ -1,11 +1,8 @@
 -- Sessions that were opened, and their lanes.
-use Rattle.std.proofs.Common.{◌≡◌, ◌≢◌, inl, inr, ℕ, ◌+◌, ◌<◌, List, [], ◌∷◌, ◌++◌, length, get_or, refl, sym, ap, subst, ◌∙◌, append-nil, eqb, Bool, true, false, Option, Some, None, arith, length-append}
+use Rattle.std.proofs.Common.{◌≡◌, ◌≢◌, inl, inr, ℕ, ◌+◌, List, [], ◌∷◌, ◌++◌, length, refl, sym, ap, subst, ◌∙◌, append-nil, eqb, Bool, true, false, Option, Some, None, arith}
 use Rattle.std.specs.Prelude.{not, ◌||◌, is_some}
 use Rattle.std.specs.Option.{option_or}
 use Rattle.std.proofs.lemmas.Bool.{cases_eq, eq-eqb, ne_eqb, false≢true}
-use Rattle.std.proofs.lemmas.List.{get_or_push}
-use Rattle.std.proofs.Math.ListN.{get_or-append}
-use Rattle.rtrb.specs.Ring.{sent, received}
 use Rattle.ov_specs.specs.wire.Message.{Message}
 use Rattle.ov_specs.specs.values.Uuid.{Uuid}
 use Rattle.ov_specs.specs.machine.Machine as machine
@@ -21,14 +18,13 @@ use Rattle.ov_core.specs.Following.{CoreState, Follows}
 use Rattle.ov_history.specs.History.{HasHistory}
 use Rattle.ov_core.specs.Stepping.{IsEntered}
 use Rattle.ov_lanes.specs.Courses.{Course, Spares}
-use Rattle.ov_lanes.specs.Since.{Since, course_of, and_then_handed}
+use Rattle.ov_lanes.specs.Since.{Since, course_of, course_before, and_then_handed}
 use Rattle.ov_lanes.specs.Fitting.{FitsCourse, Took, brought, framed, is_by_reader}
-use Rattle.ov_lanes.specs.Lanes.{LaneFits, Serves}
-use Rattle.ov_lanes.specs.declared.lane.Lane.{Lane}
-use Rattle.ov_lanes.proofs.Courses.{EnteredTo, given_same, since_enters}
-use Rattle.ov_lanes.proofs.Fitting.{fits_spared}
-use Rattle.ov_lanes.proofs.Single.{IsLane, lane_fits}
-use Rattle.ov_lanes.specs.Opening.{IsUntouched, OpensAll}
+use Rattle.ov_lanes.specs.Moments.{AreTimed}
+use Rattle.ov_lanes.proofs.Timing.{at_moment, timed_append}
+use Rattle.ov_lanes.proofs.Courses.{EnteredTo, given_same, since_enters, entered_timed}
+use Rattle.ov_lanes.proofs.Own.{spares_along}
+use Rattle.ov_lanes.specs.Opening.{IsUntouched, OpensAll, AreSessions}
 
 -- nothing has been done yet
 pub since_none : {K D : Type 0} (a : CoreState K D) → HasHistory a.state a.kept → Since a a
@@ -45,15 +41,21 @@ since_none a known = record {
   frames = λ s. append-nil (waiting_for s a.outbox);
 }
 
-pub opens_none : {K D : Type 0} (a : CoreState K D) → HasHistory a.state a.kept → OpensAll a a.state.next a []
+pub opens_none : {K D : Type 0} (a : CoreState K D) → HasHistory a.state a.kept → OpensAll a a.state.next 0 a
 unfolding since_none
 opens_none a known = record {
   since = since_none a known;
+  timed = λ reported. refl;
   untouched = λ n. (refl, refl, refl);
   next = omega arith;
   others = λ n low. refl;
-  fits = record { each = λ i d lt. absurd (omega (arith, lt)); serials = λ i d lt. absurd (omega (arith, lt)) };
+  earlier = λ n low. record { more = []; waiting = sym (append-nil (waiting_for n a.outbox)); silent = λ away. refl; handed = refl; asks = refl; closes = inl (refl, refl) };
+  there = λ n low high. absurd (omega (arith, low, high));
 }
+
+pub none_entered : {K D : Type 0} (a : CoreState K D) (known : HasHistory a.state a.kept) → (opens_none a known).since.entries ≡ []
+unfolding opens_none since_none
+none_entered a known = refl
 
 -- ---- one session more
 
@@ -81,6 +83,10 @@ module _ {K D : Type 0} {start a b : CoreState K D} (p : Since start a) (e : Ent
     closes = inl (others_same n ne, closed_same n);
   }
 
+  -- it was opened at the last moment
+  pub opened_timed : e.choice.moment ≡ a.state.moment → (reported : ℕ) → AreTimed reported a.state (e ∷ []) b.state
+  opened_timed when reported = entered_timed p reported e x (at_moment reported a.state.moment e.choice.moment e.event machine.Open is when)
+
   untouched_still : ((n : ℕ) → IsUntouched (course_of p n)) → (n : ℕ) → IsUntouched (course_of x.after n)
   untouched_still untouched n = let u = untouched n in (closed_same n ∙ u.0, asks_same n ∙ u.1, x.handed n ∙ u.2)
 
@@ -99,38 +105,37 @@ fits_new c u there = record {
   overrun = λ over. let other : None ≡ Some machine.Overrun = sym u.0 ∙ over in cc;
 }
 
-module _ {K D : Type 0} {start a b : CoreState K D} (base : ℕ) (ls : List Lane) (l : Lane) (opens : OpensAll start base a ls) where
-  pub opens_more : (draws : D → Uuid → D → Type 0) (at : ℕ) (session : Session) → IsEntered draws at machine.Open a (answer.Opened session) b → IsLane l session.serial None [] [] false false → OpensAll start base b (ls ++ l ∷ [])
-  opens_more draws at session entered lane =
+module _ {K D : Type 0} {start a b : CoreState K D} (base count : ℕ) (opens : OpensAll start base count a) where
+  pub opens_more : (draws : D → Uuid → D → Type 0) (session : Session) → IsEntered draws a.state.moment machine.Open a (answer.Opened session) b → OpensAll start base (count + 1) b × (session.serial ≡ base + count)
+  opens_more draws session entered =
       let p = opens.since in let e = entered.entry in
       let is = entered.tells.0 in
-      let x = since_enters p e entered.moves in
-      let serial : session.serial ≡ a.state.next = entered.tells.1 in
-      let place : l.session.serial ≡ base + length ls = lane.serial ∙ (serial ∙ opens.next) in
-      let untouched = untouched_still p e is x opens.untouched in
-      let there : is_open b.state session.serial ≡ true = subst (λ (k : ℕ). is_open b.state k ≡ true) (sym serial) (is_there p e is x) in
-      let last : LaneFits x.after l = lane_fits x.after session.serial None [] [] false false l lane (fits_new (course_of x.after session.serial) (untouched session.serial) there) in
-      let old : (i : ℕ) (d : Lane) → i < length ls → LaneFits x.after (get_or ls i d) = λ i d lt.
-      let k = get_or ls i d in
-      let other : k.session.serial ≢ a.state.next = λ same. omega (arith, lt, opens.fits.serials i d lt, opens.next, same) in
-      fits_spared (course_of p k.session.serial) (course_of x.after k.session.serial) k.cause (received k.inbound) (sent k.outbound) k.marked k.ended (others_spared p e is x k.session.serial other) (opens.fits.each i d lt) in
-      record {
-        since = x.after;
-        untouched = untouched;
-        next = (turn p e is x 0).next_is ∙ omega (arith, opens.next, length-append ls (l ∷ []));
-        others = λ n low. others_same p e is x n (λ same. omega (arith, low, opens.next, same)) ∙ opens.others n low;
-        fits = record {
-          each = λ i d lt. elim (cases_eq i (length ls)) [
-            | inl same ↦ subst (λ (k : Lane). LaneFits x.after k) (sym (ap (λ (j : ℕ). get_or (ls ++ l ∷ []) j d) same ∙ get_or_push ls l d (length ls) refl)) last
-            | inr ne ↦ let low : i < length ls = omega (arith, lt, length-append ls (l ∷ [])) in subst (λ (k : Lane). LaneFits x.after k) (sym (get_or-append ls (l ∷ []) d i low)) (old i d low)
+      let x = since_enters p e entered.moves in (
+        record {
+          since = x.after;
+          timed = λ reported.
+              subst (λ (l : List Entry). AreTimed reported start.state l b.state) (sym x.adds)
+              (timed_append reported start.state p.entries (e ∷ []) a.state b.state (opens.timed reported) (opened_timed p e is x entered.moment reported));
+          untouched = untouched_still p e is x opens.untouched;
+          next = (turn p e is x 0).next_is ∙ omega (arith, opens.next);
+          others = λ n low. others_same p e is x n (λ same. omega (arith, low, opens.next, same)) ∙ opens.others n low;
+          earlier = λ n low.
+              let ne : n ≢ a.state.next = λ same. omega (arith, low, opens.next, same) in
+              spares_along (course_before start n) (course_of p n) (course_of x.after n) (opens.earlier n low) (others_spared p e is x n ne);
+          there = λ n low high. elim (cases_eq n a.state.next) [
+            | inl same ↦ ap (λ (i : ℕ). is_open b.state i) same ∙ is_there p e is x
+            | inr ne ↦ others_same p e is x n ne ∙ opens.there n low (omega (arith, high, opens.next, ne))
           ];
-          serials = λ i d lt. elim (cases_eq i (length ls)) [
-            | inl same ↦ subst (λ (k : Lane). k.session.serial ≡ base + i) (sym (ap (λ (j : ℕ). get_or (ls ++ l ∷ []) j d) same ∙ get_or_push ls l d (length ls) refl)) (place ∙ ap (λ (j : ℕ). base + j) (sym same))
-            | inr ne ↦ let low : i < length ls = omega (arith, lt, length-append ls (l ∷ [])) in subst (λ (k : Lane). k.session.serial ≡ base + i) (sym (get_or-append ls (l ∷ []) d i low)) (opens.fits.serials i d low)
-          ];
-        };
-      }
+        },
+        entered.tells.1 ∙ opens.next,
+      )
 
--- they are served from here on
-pub serves_opened : {K D : Type 0} {start a : CoreState K D} (base : ℕ) (ls : List Lane) → OpensAll start base a ls → Serves start base a ls
-serves_opened base ls o = record { since = o.since; fits = o.fits }
+-- ---- sessions in order
+
+pub sessions_more : (serial : ℕ) (xs : List Session) (x : Session) → AreSessions serial xs → x.serial ≡ serial + length xs → AreSessions serial (xs ++ x ∷ [])
+sessions_more serial [] x are is = (omega (arith, is), tt)
+sessions_more serial (y ∷ xs) x are is = (are.0, sessions_more (serial + 1) xs x are.1 (omega (arith, is)))
+
+pub sessions_last : (serial : ℕ) (xs : List Session) (x : Session) → AreSessions serial (xs ++ x ∷ []) → AreSessions serial xs × (x.serial ≡ serial + length xs)
+sessions_last serial [] x are = (tt, omega (arith, are.0))
+sessions_last serial (y ∷ xs) x are = let r = sessions_last (serial + 1) xs x are.1 in ((are.0, r.0), omega (arith, r.1))

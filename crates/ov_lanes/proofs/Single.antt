@@ -5,10 +5,10 @@ use Rattle.ov_order.specs.declared.items.Sent.{Sent}
 use Rattle.ov_history.specs.declared.event.Cause.{Cause}
 use Rattle.ov_core.specs.Following.{CoreState}
 use Rattle.ov_lanes.specs.Since.{Since, course_of}
-use Rattle.ov_lanes.specs.Fitting.{Items, FitsCourse, IsSettled}
-use Rattle.ov_lanes.specs.Lanes.{LaneFits, Moves, Settles}
+use Rattle.ov_lanes.specs.Fitting.{Items, FitsCourse, IsFlushed}
+use Rattle.ov_lanes.specs.Lanes.{LaneFits, LaneFitsWith, Moves, Flushes}
 use Rattle.ov_lanes.specs.declared.lane.Lane.{Lane}
-use Rattle.ov_lanes.proofs.Moving.{Fitting, Settling}
+use Rattle.ov_lanes.proofs.Moving.{Fitting, Flushing}
 
 -- the lane has this cause, these items and flags
 pub record IsLane (l : Lane) (n : ℕ) (known : Option Cause) (items : Items) (put : List Sent) (marked ended : Bool) : Type 0 where
@@ -29,20 +29,35 @@ module _ {K D : Type 0} {first b : CoreState K D} (q : Since first b) (n : ℕ) 
       (subst (λ k. FitsCourse (course_of q n) known items put k l.ended) (sym is.is_marked)
       (subst (λ k. FitsCourse (course_of q n) known items put marked k) (sym is.is_ended) f)))))
 
-module _ {K D : Type 0} {first a b : CoreState K D} (p : Since first a) (l l' : Lane) (known : Option Cause) (items : Items) (put : List Sent) (marked ended : Bool) (is : IsLane l' l.session.serial known items put marked ended) where
-  pub moves_as : Fitting l.session.serial p b known items put marked ended → Moves p l b l'
-  moves_as x = record { goes = x.goes; fits = lane_fits x.goes.after l.session.serial known items put marked ended l' is x.fits }
+-- the same, but for what was taken
+module _ {K D : Type 0} {first b : CoreState K D} (q : Since first b) (n : ℕ) (known : Option Cause) (items : Items) (put : List Sent) (marked ended : Bool) where
+  pub fits_with : (l : Lane) → l.session.serial ≡ n → l.cause ≡ known → sent l.outbound ≡ put → l.marked ≡ marked → l.ended ≡ ended → FitsCourse (course_of q n) known items put marked ended → LaneFitsWith q items l
+  fits_with l serial cause puts is_marked is_ended f =
+      subst (λ (k : ℕ). FitsCourse (course_of q k) l.cause items (sent l.outbound) l.marked l.ended) (sym serial)
+      (subst (λ k. FitsCourse (course_of q n) k items (sent l.outbound) l.marked l.ended) (sym cause)
+      (subst (λ k. FitsCourse (course_of q n) known items k l.marked l.ended) (sym puts)
+      (subst (λ k. FitsCourse (course_of q n) known items put k l.ended) (sym is_marked)
+      (subst (λ k. FitsCourse (course_of q n) known items put marked k) (sym is_ended) f))))
 
-  pub settles_as : Settling l.session.serial p b known items put marked ended → Settles p l b l'
-  settles_as x = record {
-    moves = record { goes = x.goes; fits = lane_fits x.goes.after l.session.serial known items put marked ended l' is x.fits };
-    settled = subst (λ (m : Bool). IsSettled (course_of x.goes.after l.session.serial) m) (sym is.is_marked) x.settled;
+module _ {K D : Type 0} {first a b : CoreState K D} (at : ℕ) (p : Since first a) (l l' : Lane) (known : Option Cause) (items : Items) (put : List Sent) (marked ended : Bool) where
+  pub moves_as : IsLane l' l.session.serial known items put marked ended → Fitting at l.session.serial p b known items put marked ended → Moves at p l b l'
+  moves_as is x = record { goes = x.goes; fits = lane_fits x.goes.after l.session.serial known items put marked ended l' is x.fits }
+
+  pub flushes_as : l'.session.serial ≡ l.session.serial → l'.cause ≡ known → sent l'.outbound ≡ put → l'.marked ≡ marked → l'.ended ≡ ended → Flushing at l.session.serial p b known items put marked ended → Flushes at p items l b l'
+  flushes_as serial cause puts is_marked is_ended x = record {
+    goes = x.goes;
+    fits = fits_with x.goes.after l.session.serial known items put marked ended l' serial cause puts is_marked is_ended x.fits;
+    flushed = subst (λ (m : Bool). IsFlushed (course_of x.goes.after l.session.serial) m) (sym is_marked) x.flushed;
   }
 
--- a lane that is settled
-pub settling_of : {K D : Type 0} {first a b : CoreState K D} (p : Since first a) (l l' : Lane) → l'.session ≡ l.session → Settles p l b l' → Settling l.session.serial p b l'.cause (received l'.inbound) (sent l'.outbound) l'.marked l'.ended
-settling_of p l l' same s = record {
-  goes = s.moves.goes;
-  fits = subst (λ (k : ℕ). FitsCourse (course_of s.moves.goes.after k) l'.cause (received l'.inbound) (sent l'.outbound) l'.marked l'.ended) (ap (λ k. k.serial) same) s.moves.fits;
-  settled = s.settled;
+-- a lane that is flushed
+pub flushing_of : {K D : Type 0} {first a b : CoreState K D} (at : ℕ) (p : Since first a) (items : Items) (l l' : Lane) → l'.session ≡ l.session → Flushes at p items l b l' → Flushing at l.session.serial p b l'.cause items (sent l'.outbound) l'.marked l'.ended
+flushing_of at p items l l' same s = record {
+  goes = s.goes;
+  fits = subst (λ (k : ℕ). FitsCourse (course_of s.goes.after k) l'.cause items (sent l'.outbound) l'.marked l'.ended) (ap (λ k. k.serial) same) s.fits;
+  flushed = s.flushed;
 }
+
+-- nothing was taken of it meanwhile
+pub moves_flushed : {K D : Type 0} {first a b : CoreState K D} (at : ℕ) (p : Since first a) (l l' : Lane) → received l'.inbound ≡ received l.inbound → Flushes at p (received l.inbound) l b l' → Moves at p l b l'
+moves_flushed at p l l' same s = record { goes = s.goes; fits = subst (λ (k : Items). LaneFitsWith s.goes.after k l') (sym same) s.fits }

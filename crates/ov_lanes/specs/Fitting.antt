@@ -92,5 +92,5 @@ pub record FitsCourse (c : Course) (cause : Option Cause) (items : Items) (put :
   pub overrun : c.closed ≡ Some machine.Overrun → most_frames < length c.handed + length c.waiting
 
 -- the end mark was put, or the session is open and nothing waits for it
-abbrev pub IsSettled : Course → Bool → Type 0
-IsSettled c marked = (marked ≡ true) ⊎ ((c.is_open ≡ true) × (c.waiting ≡ []))
+abbrev pub IsFlushed : Course → Bool → Type 0
+IsFlushed c marked = (marked ≡ true) ⊎ ((c.is_open ≡ true) × (c.waiting ≡ []))

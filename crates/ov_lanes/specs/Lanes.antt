@@ -1,46 +1,197 @@
--- The lanes of a desk, and what became of their sessions.
-use Rattle.std.specs.Prelude.{◌≡◌, ℕ, ◌+◌, ◌<◌, List, length, slice_index_or}
+-- The lanes of a desk, each at a place of its own, and what became of their sessions.
+use Rattle.std.specs.Prelude.{◌≡◌, ◌≢◌, ◌⊎◌, ℕ, ◌+◌, ◌<◌, ◌≤◌, List, [], ◌∷◌, ◌++◌, length, slice_index_or, if◌then◌else◌, Bool, true, false, Option, Some, None}
 use Rattle.rtrb.specs.Ring.{sent, received, SameProducer, SameConsumer}
+use Rattle.ov_specs.specs.machine.Machine as machine
+use Rattle.ov_specs.specs.machine.Machine.{is_open}
+use Rattle.ov_specs.specs.wire.Message.{Message}
+use Rattle.ov_outbox.specs.Frames.{waiting_for}
+use Rattle.ov_order.specs.declared.items.Brought.{Brought}
+use Rattle.ov_workers.specs.declared.cause.ReadCause.{ReadCause}
 use Rattle.ov_core.specs.Following.{CoreState}
-use Rattle.ov_lanes.specs.Since.{Since, course_of, Goes}
-use Rattle.ov_lanes.specs.Fitting.{FitsCourse, IsSettled}
+use Rattle.ov_lanes.specs.Courses.{Course, Spares}
+use Rattle.ov_lanes.specs.Moments.{AreTimed}
+use Rattle.ov_lanes.specs.Since.{Since, course_of, course_before, Goes}
+use Rattle.ov_lanes.specs.Fitting.{Items, FitsCourse, IsFlushed}
 use Rattle.ov_lanes.specs.declared.lane.Lane.{Lane}
+
+-- ---- one lane
+
+-- what a lane has put fits the course of its session, with these items taken
+abbrev pub LaneFitsWith : {K D : Type 0} {first core : CoreState K D} → Since first core → Items → Lane → Type 0
+LaneFitsWith since items l = FitsCourse (course_of since l.session.serial) l.cause items (sent l.outbound) l.marked l.ended
 
 -- what a lane has taken and put fits the course of its session
 abbrev pub LaneFits : {K D : Type 0} {first core : CoreState K D} → Since first core → Lane → Type 0
-LaneFits since l = FitsCourse (course_of since l.session.serial) l.cause (received l.inbound) (sent l.outbound) l.marked l.ended
+LaneFits since l = LaneFitsWith since (received l.inbound) l
 
--- the lane was moved on, and the other sessions were not meant
-pub record Moves {K D : Type 0} {first old : CoreState K D} (since : Since first old) (l : Lane) (new : CoreState K D) (l' : Lane) : Type 0 where
-  pub goes : Goes l.session.serial since new
+-- The lane was moved on, with this moment reported, and the other sessions were not meant. What it has taken before is what
+-- its ring gave, or these items.
+pub record Moves {K D : Type 0} {first old : CoreState K D} (at : ℕ) (since : Since first old) (l : Lane) (new : CoreState K D) (l' : Lane) : Type 0 where
+  pub goes : Goes at l.session.serial since new
   pub fits : LaneFits goes.after l'
 
 -- and nothing more can be moved
-pub record Settles {K D : Type 0} {first old : CoreState K D} (since : Since first old) (l : Lane) (new : CoreState K D) (l' : Lane) : Type 0 where
-  pub moves : Moves since l new l'
-  pub settled : IsSettled (course_of moves.goes.after l.session.serial) l'.marked
+pub record Flushes {K D : Type 0} {first old : CoreState K D} (at : ℕ) (since : Since first old) (items : Items) (l : Lane) (new : CoreState K D) (l' : Lane) : Type 0 where
+  pub goes : Goes at l.session.serial since new
+  pub fits : LaneFitsWith goes.after items l'
+  pub flushed : IsFlushed (course_of goes.after l.session.serial) l'.marked
 
 -- the lane has the same rings and the same session
 abbrev pub SameLane : Lane → Lane → Type 0
 SameLane a b = SameProducer a.outbound b.outbound × SameConsumer a.inbound b.inbound × (b.session ≡ a.session)
 
--- ---- all lanes
+-- nothing was taken from the lane or put into it, and its session is the same
+abbrev pub LooksAt : Lane → Lane → Type 0
+LooksAt a b =
+    (received b.inbound ≡ received a.inbound) × (sent b.outbound ≡ sent a.outbound) × (b.session ≡ a.session)
+    × (b.cause ≡ a.cause) × (b.ended ≡ a.ended) × (b.marked ≡ a.marked)
 
--- each lane fits the course of its session, and the serials count up
-pub record AllFit {K D : Type 0} {first core : CoreState K D} (since : Since first core) (base : ℕ) (ls : List Lane) : Type 0 where
-  pub each : (i : ℕ) (d : Lane) → i < length ls → LaneFits since (slice_index_or ls i d)
-  pub serials : (i : ℕ) (d : Lane) → i < length ls → (slice_index_or ls i d).session.serial ≡ base + i
+-- the lane of a session that was opened: nothing was taken from it and nothing was put for it
+pub record IsNewLane (serial : ℕ) (lane : Lane) : Type 0 where
+  pub session : lane.session.serial ≡ serial
+  pub cause : lane.cause ≡ None
+  pub taken : received lane.inbound ≡ []
+  pub puts : sent lane.outbound ≡ []
+  pub is_marked : lane.marked ≡ false
+  pub is_ended : lane.ended ≡ false
 
--- all lanes fit what was done since the core was `first`
-pub record Serves {K D : Type 0} (first : CoreState K D) (base : ℕ) (core : CoreState K D) (ls : List Lane) : Type 0 where
-  pub since : Since first core
-  pub fits : AllFit since base ls
+-- ---- all places
 
--- the lanes have the same rings and the same sessions as before
-pub record SameLanes (ls ms : List Lane) : Type 0 where
-  pub len : length ms ≡ length ls
-  pub each : (i : ℕ) (d : Lane) → i < length ls → SameLane (slice_index_or ls i d) (slice_index_or ms i d)
+-- a session is served there, and has this lane
+abbrev pub IsAt : List (Option Lane) → ℕ → Lane → Type 0
+IsAt places at lane = slice_index_or places at None ≡ Some lane
 
--- the same lanes have ended, and the same are marked
-abbrev pub SameFlags : List Lane → List Lane → Type 0
-SameFlags ls ms = (i : ℕ) (d : Lane) → i < length ls → ((slice_index_or ms i d).ended ≡ (slice_index_or ls i d).ended) × ((slice_index_or ms i d).marked ≡ (slice_index_or ls i d).marked)
+-- the relation holds of the lanes at a place before and after; a free place stays free
+abbrev pub StaysAs : (Lane → Lane → Type 0) → Option Lane → Option Lane → Type 0
+StaysAs holds None p = p ≡ None
+StaysAs holds (Some l) None = ⊥
+StaysAs holds (Some l) (Some m) = holds l m
+
+-- and so at each place
+pub record StayAs (holds : Lane → Lane → Type 0) (ls ms : List (Option Lane)) : Type 0 where
+  pub many : length ms ≡ length ls
+  pub each : (at : ℕ) → StaysAs holds (slice_index_or ls at None) (slice_index_or ms at None)
+
+-- at each place is the lane of a session that was opened, and their serials count up from this one
+abbrev pub AreNewLanes : ℕ → List (Option Lane) → Type 0
+AreNewLanes serial [] = Unit {0}
+AreNewLanes serial (p ∷ places) = ((lane : Lane) × (p ≡ Some lane) × IsNewLane serial lane) × AreNewLanes (serial + 1) places
+
+-- no session is served
+abbrev pub AreFree : List (Option Lane) → Type 0
+AreFree places = (at : ℕ) → slice_index_or places at None ≡ None
+
+-- a session is served at each place
+abbrev pub AreTaken : List (Option Lane) → Type 0
+AreTaken places = (at : ℕ) → at < length places → (lane : Lane) × IsAt places at lane
+
+-- of each session that is served the reader's end was taken and the end mark was put
+abbrev pub AreOver : List (Option Lane) → Type 0
+AreOver places = (at : ℕ) (l : Lane) → IsAt places at l → (l.ended ≡ true) × (l.marked ≡ true)
+
+-- nothing more can be moved for the session of a lane: its end mark was put, or it is open and nothing waits for it
+abbrev pub IsFlushedLane : {K D : Type 0} → CoreState K D → Lane → Type 0
+IsFlushedLane core l = (l.marked ≡ true) ⊎ ((is_open core.state l.session.serial ≡ true) × (waiting_for l.session.serial core.outbox ≡ []))
+
+-- so it is of each session that is served
+abbrev pub AreFlushed : {K D : Type 0} → CoreState K D → List (Option Lane) → Type 0
+AreFlushed core places = (at : ℕ) (l : Lane) → IsAt places at l → IsFlushedLane core l
+
+-- a session that is not open and was not closed was handed nothing
+abbrev pub IsUntold : Course → Type 0
+IsUntold c = c.is_open ≡ false → c.closed ≡ None → c.handed ≡ []
+
+-- What was done since the core was `start`. Each session that was opened since and is open has a place, each has at most one,
+-- and what its lane has taken and put fits the course of the session. Sessions that were there before were not meant.
+pub record Serves {K D : Type 0} (start core : CoreState K D) (places : List (Option Lane)) : Type 0 where
+  pub since : Since start core
+  pub fits : (at : ℕ) (l : Lane) → IsAt places at l → LaneFits since l
+  pub apart : (at other : ℕ) (l m : Lane) → IsAt places at l → IsAt places other m → l.session.serial ≡ m.session.serial → at ≡ other
+  pub later : (at : ℕ) (l : Lane) → IsAt places at l → start.state.next ≤ l.session.serial
+  pub have_places : (n : ℕ) → is_open core.state n ≡ true → (is_open start.state n ≡ true) ⊎ ((at : ℕ) × (l : Lane) × IsAt places at l × (l.session.serial ≡ n))
+  pub untold : (n : ℕ) → IsUntold (course_of since n)
+  pub earlier : (n : ℕ) → n < start.state.next → Spares (course_before start n) (course_of since n)
+
+-- what holds after further steps, with the moment `at` reported
+pub record ServesOn {K D : Type 0} {start core : CoreState K D} {places : List (Option Lane)} (at : ℕ) (serves : Serves start core places) (core' : CoreState K D) (places' : List (Option Lane)) : Type 0 where
+  pub after : Serves start core' places'
+  pub more : List machine.Entry
+  pub adds : after.since.entries ≡ serves.since.entries ++ more
+  pub timed : AreTimed at core.state more core'.state
+
+-- Whatever was done since a core was `start`, the places fit it as before.
+abbrev pub GoesOn : {K D : Type 0} → ℕ → CoreState K D → List (Option Lane) → CoreState K D → List (Option Lane) → Type 0
+GoesOn {K} {D} at core places core' places' = (start : CoreState K D) (serves : Serves start core places) → ServesOn at serves core' places'
+
+-- ---- what a turn makes
+
+-- The oldest item of the ring at a place was taken, and no other item of any ring.
+pub record TakesAt (place : ℕ) (ls ms : List (Option Lane)) : Type 0 where
+  pub lane : Lane
+  pub lane' : Lane
+  pub there : IsAt ls place lane
+  pub there' : IsAt ms place lane'
+  pub item : Brought Message ReadCause
+  pub taken : received lane'.inbound ≡ received lane.inbound ++ item ∷ []
+  pub others : (at : ℕ) → at ≢ place → StaysAs (λ l m. received m.inbound ≡ received l.inbound) (slice_index_or ls at None) (slice_index_or ms at None)
+
+-- the same of the ring of a session
+abbrev pub TakesOne : ℕ → List (Option Lane) → List (Option Lane) → Type 0
+TakesOne serial ls ms = (place : ℕ) × (t : TakesAt place ls ms) × (t.lane.session.serial ≡ serial)
+
+-- nothing was taken from any lane or put into it
+abbrev pub LookAll : List (Option Lane) → List (Option Lane) → Type 0
+LookAll ls ms = StayAs LooksAt ls ms
+
+-- Whether an item of the session was seen. If so, it was taken, and all that waits for any session was moved; otherwise nothing
+-- is changed.
+abbrev pub Turns : {K D : Type 0} → ℕ → CoreState K D → List (Option Lane) → Bool → CoreState K D → List (Option Lane) → Type 0
+Turns serial old ls true new ms = TakesOne serial ls ms × AreFlushed new ms
+Turns serial old ls false new ms = (new ≡ old) × LookAll ls ms
+
+-- ---- for private clauses
+
+-- what fits at a place
+abbrev pub PlaceFits : {K D : Type 0} {first core : CoreState K D} → Since first core → Option Lane → Type 0
+PlaceFits since None = Unit {0}
+PlaceFits since (Some l) = LaneFits since l
+
+-- What was done at a place: nothing if it is free. Otherwise its lane was moved on.
+abbrev pub MovesPlace : {K D : Type 0} {first old : CoreState K D} → ℕ → Since first old → Option Lane → CoreState K D → Option Lane → Type 0
+MovesPlace {old = old} at since None new p = (new ≡ old) × (p ≡ None)
+MovesPlace at since (Some l) new None = ⊥
+MovesPlace at since (Some l) new (Some m) = Moves at since l new m × (m.session ≡ l.session)
+
+-- at the places below this one, nothing more can be moved
+abbrev pub AreFlushedBelow : {K D : Type 0} → ℕ → CoreState K D → List (Option Lane) → Type 0
+AreFlushedBelow n core places = (at : ℕ) (l : Lane) → at < n → IsAt places at l → IsFlushedLane core l
+
+-- an item of the ring at a place was taken
+abbrev pub TakesPlace : Option Lane → Option Lane → Type 0
+TakesPlace None p = ⊥
+TakesPlace (Some l) None = ⊥
+TakesPlace (Some l) (Some m) = (item : Brought Message ReadCause) × (received m.inbound ≡ received l.inbound ++ item ∷ [])
+
+-- nothing was taken from the lane, and what is put goes into the same ring
+abbrev pub PutsAlone : Lane → Lane → Type 0
+PutsAlone a b = SameProducer a.outbound b.outbound × (b.inbound ≡ a.inbound) × (b.session ≡ a.session)
+
+-- nothing was entered, and what waits for a session still waits or was moved, all of it
+abbrev pub IsQuiet : {K D : Type 0} → CoreState K D → CoreState K D → Type 0
+IsQuiet old new = (new.state ≡ old.state) × ((n : ℕ) → (waiting_for n new.outbox ≡ waiting_for n old.outbox) ⊎ (waiting_for n new.outbox ≡ []))
+
+-- how many of these lanes have no end mark yet: one or none
+abbrev pub unmarked_at : Option Lane → ℕ
+unmarked_at None = 0
+unmarked_at (Some l) = if l.marked then 0 else 1
+
+-- how many lanes have no end mark yet
+abbrev pub unmarked : List (Option Lane) → ℕ
+unmarked [] = 0
+unmarked (p ∷ places) = unmarked_at p + unmarked places
+
+-- Whether the session at a place was given up because its ring had no room. If so, the end mark was put; otherwise nothing was
+-- entered, and nothing more can be moved for it.
+abbrev pub GivesUpIf : {K D : Type 0} → Bool → CoreState K D → Option Lane → CoreState K D → Option Lane → Type 0
+GivesUpIf true old p new p' = unmarked_at p' < unmarked_at p
+GivesUpIf false old p new p' = IsQuiet old new × (unmarked_at p' ≤ unmarked_at p) × ((l : Lane) → p' ≡ Some l → IsFlushedLane new l)

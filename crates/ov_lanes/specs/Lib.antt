@@ -1,4 +1,5 @@
 pub mod Courses
+pub mod Moments
 pub mod Since
 pub mod Fitting
 pub mod Lanes

@@ -1,5 +1,5 @@
 -- What single moves make of a core; for private clauses.
-use Rattle.std.specs.Prelude.{◌≡◌, ◌⊎◌, ◌≤◌, ℕ, List, [], ◌∷◌, ◌++◌, length, Bool, true, false, Option, Some, MatchBool}
+use Rattle.std.specs.Prelude.{◌≡◌, ◌⊎◌, ◌≤◌, ℕ, max, List, [], ◌∷◌, ◌++◌, length, Bool, true, false, Option, Some, MatchBool}
 use Rattle.ov_specs.specs.machine.Machine as machine
 use Rattle.ov_specs.specs.machine.Machine.{is_open}
 use Rattle.ov_outbox.specs.Frames.{waiting_for}
@@ -22,7 +22,7 @@ use Rattle.ov_lanes.specs.declared.lane.Lane.{Lane}
 -- The session was closed for the cause, which is then known; or it was not open, and nothing was done.
 abbrev pub ClosesOnce : {K D : Type 0} → ℕ → machine.Cause → CoreState K D → CoreState K D → Option Cause → Option Cause → Type 0
 ClosesOnce n why old new known known' =
-    ((at : ℕ) × Closes at n why old new × ((cause : Cause) × (known' ≡ Some cause) × (cause_view cause ≡ why)))
+    (Closes old.state.moment n why old new × ((cause : Cause) × (known' ≡ Some cause) × (cause_view cause ≡ why)))
     ⊎ ((new ≡ old) × (is_open old.state n ≡ false) × (known' ≡ known))
 
 -- one frame more than these was handed out
@@ -48,8 +48,8 @@ pub record GivesUp {K D : Type 0} (n : ℕ) (old new : CoreState K D) (known kno
 abbrev pub SameInbound : Lane → Lane → Type 0
 SameInbound a b = SameProducer a.outbound b.outbound × (b.inbound ≡ a.inbound) × (b.session ≡ a.session) × (b.ended ≡ a.ended)
 
--- what taking an item makes of a session: a message is entered, an end closes it
-abbrev pub TakesItem : {K D : Type 0} → (D → Uuid → D → Type 0) → Brought Message ReadCause → ℕ → CoreState K D → CoreState K D → Option Cause → Option Cause → Bool → Bool → Type 0
-TakesItem draws (Brings message) n old new known known' ended ended' =
-    ((at : ℕ) × (answer : Stepped) × StepIs draws at (machine.Take n message) old answer new) × (known' ≡ known) × (ended' ≡ ended)
-TakesItem draws (Last cause) n old new known known' ended ended' = ClosesOnce n (end_cause cause) old new known known' × (ended' ≡ true)
+-- what taking an item with a moment reported makes of a session: a message is entered, an end closes it
+abbrev pub TakesItem : {K D : Type 0} → (D → Uuid → D → Type 0) → ℕ → Brought Message ReadCause → ℕ → CoreState K D → CoreState K D → Option Cause → Option Cause → Bool → Bool → Type 0
+TakesItem draws at (Brings message) n old new known known' ended ended' =
+    ((answer : Stepped) × StepIs draws (max at old.state.moment) (machine.Take n message) old answer new) × (known' ≡ known) × (ended' ≡ ended)
+TakesItem draws at (Last cause) n old new known known' ended ended' = ClosesOnce n (end_cause cause) old new known known' × (ended' ≡ true)

@@ -1,15 +1,15 @@
 -- What opening sessions makes of a core, for their lanes.
-use Rattle.std.specs.Prelude.{◌≡◌, ◌⊎◌, ℕ, ◌+◌, ◌<◌, ◌≤◌, List, [], length, slice_index_or, Bool, Some, None, true, false}
+use Rattle.std.specs.Prelude.{◌≡◌, ◌⊎◌, ℕ, ◌+◌, ◌<◌, ◌≤◌, List, [], ◌∷◌, Bool, Some, None, true, false}
 use Rattle.ov_specs.specs.machine.Machine as machine
 use Rattle.ov_specs.specs.machine.Machine.{is_open}
 use Rattle.ov_specs.specs.machine.History.{requests}
 use Rattle.ov_outbox.specs.Frames.{waiting_for}
 use Rattle.ov_core.specs.Following.{CoreState}
 use Rattle.ov_core.specs.Stepping.{Closes}
-use Rattle.ov_lanes.specs.Courses.{Course}
-use Rattle.ov_lanes.specs.Since.{Since, HandsOut, course_of}
-use Rattle.ov_lanes.specs.Lanes.{AllFit}
-use Rattle.ov_lanes.specs.declared.lane.Lane.{Lane}
+use Rattle.ov_lanes.specs.Courses.{Course, Spares}
+use Rattle.ov_lanes.specs.Since.{Since, HandsOut, course_of, course_before}
+use Rattle.ov_lanes.specs.Moments.{AreTimed}
+use Rattle.ov_sessions.specs.declared.session.Session.{Session}
 
 -- the session was opened, and nothing else was done to it
 abbrev pub IsUntouched : Course → Type 0
@@ -19,18 +19,26 @@ IsUntouched c = (c.closed ≡ None) × (c.asks ≡ []) × (c.handed ≡ [])
 abbrev pub IsLeftAlone : Bool → Course → Type 0
 IsLeftAlone was_open c = (c.is_open ≡ was_open) × (c.closed ≡ None) × (c.handed ≡ [])
 
--- Since the core was `start`, sessions were opened and nothing else was done, and they have these lanes.
-pub record OpensAll {K D : Type 0} (start : CoreState K D) (base : ℕ) (core : CoreState K D) (ls : List Lane) : Type 0 where
+-- the sessions have the serials from this one on, in order
+abbrev pub AreSessions : ℕ → List Session → Type 0
+AreSessions serial [] = Unit {0}
+AreSessions serial (session ∷ sessions) = (session.serial ≡ serial) × AreSessions (serial + 1) sessions
+
+-- Since the core was `start`, this many sessions were opened and nothing else was done. They are open, and they have the serials
+-- from this one on.
+pub record OpensAll {K D : Type 0} (start : CoreState K D) (base count : ℕ) (core : CoreState K D) : Type 0 where
   pub since : Since start core
+  pub timed : (reported : ℕ) → AreTimed reported start.state since.entries core.state
   pub untouched : (n : ℕ) → IsUntouched (course_of since n)
-  pub next : core.state.next ≡ base + length ls
+  pub next : core.state.next ≡ base + count
   pub others : (n : ℕ) → n < base → is_open core.state n ≡ is_open start.state n
-  pub fits : AllFit since base ls
+  pub earlier : (n : ℕ) → n < base → Spares (course_before start n) (course_of since n)
+  pub there : (n : ℕ) → base ≤ n → n < base + count → is_open core.state n ≡ true
 
 -- The session was closed as out of memory, and what waited for it was dropped; or it was not open, and nothing was done.
 abbrev pub DropsSession : {K D : Type 0} → ℕ → CoreState K D → CoreState K D → Type 0
 DropsSession {K} {D} n old new =
-    ((at : ℕ) × (mid : CoreState K D) × Closes at n machine.Memory old mid × HandsOut n (waiting_for n mid.outbox) mid new)
+    ((mid : CoreState K D) × Closes old.state.moment n machine.Memory old mid × HandsOut n (waiting_for n mid.outbox) mid new)
     ⊎ ((new ≡ old) × (is_open old.state n ≡ false))
 
 -- it was closed as out of memory
@@ -41,15 +49,14 @@ IsGivenUp c = (c.is_open ≡ false) × (c.closed ≡ Some machine.Memory)
 abbrev pub IsIdle : Course → Type 0
 IsIdle c = ((c.is_open ≡ true) × (c.closed ≡ None)) ⊎ IsGivenUp c
 
--- Since the core was `start`, this many sessions were opened, and no message was taken from any session. All but the first
--- ones, which have these lanes, were closed again. Earlier sessions were left alone.
-pub record ClosesDown {K D : Type 0} (start : CoreState K D) (base total : ℕ) (core : CoreState K D) (ls : List Lane) : Type 0 where
+-- Since the core was `start`, `total` sessions were opened, and no message was taken from any session. All but the first `left`
+-- were closed again. Earlier sessions were left alone.
+pub record ClosesDown {K D : Type 0} (start : CoreState K D) (base total left : ℕ) (core : CoreState K D) : Type 0 where
   pub since : Since start core
   pub next : core.state.next ≡ base + total
   pub untaken : (n : ℕ) → requests since.entries n ≡ []
-  pub serials : (i : ℕ) (d : Lane) → i < length ls → (slice_index_or ls i d).session.serial ≡ base + i
-  pub idle : (n : ℕ) → base ≤ n → n < base + length ls → IsIdle (course_of since n)
-  pub given_up : (n : ℕ) → base + length ls ≤ n → n < base + total → IsGivenUp (course_of since n)
+  pub idle : (n : ℕ) → base ≤ n → n < base + left → IsIdle (course_of since n)
+  pub given_up : (n : ℕ) → base + left ≤ n → n < base + total → IsGivenUp (course_of since n)
   pub others : (n : ℕ) → n < base → IsLeftAlone (is_open start.state n) (course_of since n)
 
 -- More was done: no message was taken from any session, each session that was opened was closed again, as out of memory, and

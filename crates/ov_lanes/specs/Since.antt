@@ -1,5 +1,5 @@
 -- What a desk has made of a core since it began.
-use Rattle.std.specs.Prelude.{◌≡◌, ◌≢◌, ℕ, List, ◌++◌, Some}
+use Rattle.std.specs.Prelude.{◌≡◌, ◌≢◌, ℕ, List, [], ◌++◌, Some, None}
 use Rattle.ov_specs.specs.machine.Machine as machine
 use Rattle.ov_specs.specs.machine.Machine.{State, Sent, is_open}
 use Rattle.ov_specs.specs.machine.History.{run, frames_to, requests, closed_by}
@@ -7,6 +7,7 @@ use Rattle.ov_outbox.specs.Frames.{waiting_for}
 use Rattle.ov_core.specs.Following.{CoreState, Follows, and_all_handed}
 use Rattle.ov_history.specs.History.{KeepsNewest, HasHistory}
 use Rattle.ov_lanes.specs.Courses.{Course, Spares}
+use Rattle.ov_lanes.specs.Moments.{AreTimed}
 
 -- these frames were handed out of the session, and nothing else was done
 pub record HandsOut {K D : Type 0} (n : ℕ) (frames : List (List ℕ)) (old new : CoreState K D) : Type 0 where
@@ -43,7 +44,20 @@ course_of {first = first} {core = core} since session = record {
   waiting = waiting_for session core.outbox;
 }
 
--- More was done, and no session but one was meant.
-pub record Goes {K D : Type 0} {first old : CoreState K D} (n : ℕ) (since : Since first old) (new : CoreState K D) : Type 0 where
+-- the course of a session of which nothing is done yet
+abbrev pub course_before : {K D : Type 0} → CoreState K D → ℕ → Course
+course_before core session = record {
+  is_open = is_open core.state session;
+  closed = None;
+  asks = [];
+  handed = [];
+  waiting = waiting_for session core.outbox;
+}
+
+-- More was done with this moment reported, and no session but one was meant.
+pub record Goes {K D : Type 0} {first old : CoreState K D} (at n : ℕ) (since : Since first old) (new : CoreState K D) : Type 0 where
   pub after : Since first new
+  pub more : List machine.Entry
+  pub adds : after.entries ≡ since.entries ++ more
+  pub timed : AreTimed at old.state more new.state
   pub beside : (other : ℕ) → other ≢ n → Spares (course_of since other) (course_of after other)

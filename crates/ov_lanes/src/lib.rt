@@ -2,20 +2,19 @@
 //! them. Also what is served: a desk, and the two ends of a session. This crate starts no thread and never waits.
 #![tactic(auto)]
 
-mod all;
 mod desk;
 mod fault;
 mod lane;
+mod lanes;
 mod link;
 mod moves;
 mod open;
 mod places;
 
-pub use all::{is_over, settle_all, take_news, turn_at};
 pub use desk::Desk;
 pub use fault::ServeFault;
 pub use lane::Lane;
+pub use lanes::{are_over, free_place, place_of};
 pub use link::Link;
-pub use moves::{settle, turn_lane};
-pub use open::drop_session;
+pub use open::{open_sessions, shows_nothing_opened};
 pub use places::has_places;

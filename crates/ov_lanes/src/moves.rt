@@ -1,4 +1,4 @@
-ghost use Rattle.std.specs.Prelude.{◌≡◌, ◌<◌, ◌≤◌, ◌++◌, [], ◌∷◌, true, false, length, max, Some, unwrap_or, MatchBool};
+ghost use Rattle.std.specs.Prelude.{◌≡◌, ◌<◌, ◌≤◌, ◌++◌, ℕ, [], ◌∷◌, true, false, length, max, Some, unwrap_or, MatchBool};
 ghost use Rattle.rtrb.specs.Ring.{sent, received, SameProducer};
 ghost use Rattle.ov_order.specs.declared.items.Brought.{Brought as SpecBrought};
 ghost use Rattle.ov_order.specs.declared.items.Sent.TheVariants.{End};
@@ -9,8 +9,8 @@ ghost use Rattle.ov_history.specs.Entries.{cause_view};
 ghost use Rattle.ov_core.specs.Following.{CoreState};
 ghost use Rattle.ov_history.specs.declared.event.Cause.TheVariants.{Memory};
 ghost use Rattle.ov_lanes.specs.Since.{Since};
-ghost use Rattle.ov_lanes.specs.Fitting.{end_cause};
-ghost use Rattle.ov_lanes.specs.Lanes.{LaneFits, Moves, Settles, SameLane};
+ghost use Rattle.ov_lanes.specs.Fitting.{Items, end_cause};
+ghost use Rattle.ov_lanes.specs.Lanes.{LaneFits, LaneFitsWith, Moves, Flushes, SameLane, LooksAt, GivesUpIf};
 ghost use Rattle.ov_lanes.specs.Moving.{ClosesOnce, MovesFrames, GivesUp, TakesItem, SameInbound};
 ghost use Rattle.ov_core.specs.Stepping.{StepIs};
 ghost use Rattle.ov_history.specs.declared.event.Stepped.{Stepped as SpecStepped};
@@ -84,22 +84,27 @@ fn mark(lane: &mut Lane)
 }
 
 /// Puts what waits for the session into its ring, and after the last frame of a closed session the end mark. If there is no
-/// room for a frame, closes the session as `Overrun`, if it is open, and drops what waits for it.
-pub fn settle<K: Keeper + Drop, D: Draws + Drop>(core: &mut Core<K, D>, lane: &mut Lane)
-    ensures settles { (first : CoreState K D) (since : Since first core.old) → LaneFits since lane.old → Settles since lane.old core.new lane.new }
+/// room for a frame, closes the session as `Overrun`, if it is open, drops what waits for it, and returns true.
+pub(crate) fn flush<K: Keeper + Drop, D: Draws + Drop>(
+    core: &mut Core<K, D>,
+    lane: &mut Lane,
+) -> bool
+    ensures flushes { (at : ℕ) (first : CoreState K D) (since : Since first core.old) (items : Items) → LaneFitsWith since items lane.old → Flushes at since items lane.old core.new lane.new }
+    ensures gives_up { GivesUpIf result core.old (Some lane.old) core.new (Some lane.new) }
     ensures inbound { SameInbound lane.old lane.new }
 {
     if lane.marked {
-        return;
+        return false;
     }
     if !move_frames(core, lane) {
         give_up(core, lane);
         mark(lane);
-        return;
+        return true;
     }
     if !core.is_open(lane.session) {
         mark(lane);
     }
+    false
 }
 
 /// Why a session is closed when its reader's end is taken.
@@ -150,7 +155,7 @@ fn take_item<K: Keeper + Drop, D: Draws + Drop>(
     lane: &mut Lane,
     item: Brought<Received, ReadCause>,
 )
-    ensures takes { TakesItem D.draws item lane.old.session.serial core.old core.new lane.old.cause lane.new.cause lane.old.ended lane.new.ended }
+    ensures takes { TakesItem D.draws moment item lane.old.session.serial core.old core.new lane.old.cause lane.new.cause lane.old.ended lane.new.ended }
     ensures rings { (lane.new.outbound ≡ lane.old.outbound) × (lane.new.inbound ≡ lane.old.inbound) }
     ensures same { (lane.new.session ≡ lane.old.session) × (lane.new.marked ≡ lane.old.marked) }
 {
@@ -163,20 +168,22 @@ fn take_item<K: Keeper + Drop, D: Draws + Drop>(
 /// Takes one item from the ring: enters a message at the moment in milliseconds, or at the last one if that is later; an end
 /// closes the session. What comes after a closing is dropped. Returns false if no item was seen. What already waits for the
 /// session is moved first; what the item adds is not.
-pub fn turn_lane<K: Keeper + Drop, D: Draws + Drop>(
+pub(crate) fn take<K: Keeper + Drop, D: Draws + Drop>(
     core: &mut Core<K, D>,
     alloc: Global,
     moment: u64,
     lane: &mut Lane,
 ) -> bool
-    ensures moves { (first : CoreState K D) (since : Since first core.old) → LaneFits since lane.old → Moves since lane.old core.new lane.new }
+    ensures moves { (first : CoreState K D) (since : Since first core.old) → LaneFits since lane.old → Moves moment since lane.old core.new lane.new }
     ensures rings { SameLane lane.old lane.new }
-    ensures taken { MatchBool result ((item : SpecBrought Message SpecReadCause) × (received lane.new.inbound ≡ received lane.old.inbound ++ item ∷ [])) (received lane.new.inbound ≡ received lane.old.inbound) }
+    ensures taken { MatchBool result
+        ((item : SpecBrought Message SpecReadCause) × (received lane.new.inbound ≡ received lane.old.inbound ++ item ∷ []))
+        ((core.new ≡ core.old) × LooksAt lane.old lane.new) }
 {
-    settle(core, lane);
     let Ok(item) = lane.inbound.pop() else {
         return false;
     };
+    flush(core, lane);
     take_item(core, alloc, moment, lane, item);
     true
 }

@@ -11,9 +11,7 @@ use Rattle.ov_lanes.specs.declared.link.Link.{Link}
 use Rattle.ov_lanes.specs.declared.fault.ServeFault.{ServeFault}
 use Rattle.ov_lanes.specs.Pairs.{Pairwise}
 use Rattle.ov_desk.specs.declared.link.End.{End}
-use Rattle.ov_desk.specs.Ends.{ServesAll}
-use Rattle.ov_desk.specs.Serving.{RefusesLinks}
-use Rattle.ov_lobby.specs.Serving.{ServesLobby}
+use Rattle.ov_desk.specs.Serving.{RefusesLinks, ServesAll, ServesLobby}
 use Rattle.ov_sockets.specs.declared.fault.ListenFault.{ListenFault}
 use Rattle.ov_sockets.specs.Links.{IsLinkOf}
 use Rattle.ov_words.specs.declared.ending.Ending.{Ending}
@@ -35,39 +33,42 @@ socket_source w = source_state w.trace.bytes None w.ended w.failures
 abbrev pub socket_sink : SocketWriter → SinkState
 socket_sink w = sink_state w.trace.bytes None w.flushed w.failures
 
-module _ {K D : Type 0} where
+module _ {K D C : Type 0} where
+  -- So many connections were not served, the clock told nothing, and the ending is that of the fault: the links could not be
+  -- allocated, and the core is as it was; or they were refused, and nothing was read from them or written to them.
+  abbrev pub RefusesConnections : CoreState K D → C → ℕ → Ending → CoreState K D → C → Type 0
+  RefusesConnections old clock count told new clock' =
+      (clock' ≡ clock) × (((told ≡ ending.Memory) × (new ≡ old))
+      ⊎ ((fault : ServeFault) × (told ≡ by_serving fault) × RefusesLinks count old fault new))
+
+  -- There was no listener or no connection, and nothing was done.
+  abbrev pub FailsToListen : CoreState K D → C → Ending → CoreState K D → C → Type 0
+  FailsToListen old clock told new clock' = (fault : ListenFault) × (told ≡ by_listening fault) × (new ≡ old) × (clock' ≡ clock)
+
+module _ {K D C : Type 0} (tells : C → ℕ → C → Type 0) where
   -- Each of these connections was served, by a link that was unused before, and this is what remains of the links.
-  pub record ServesConnections (old : CoreState K D) (streams : List TcpStream) (new : CoreState K D) (ends : List (End SocketReader SocketWriter)) : Type 0 where
+  pub record ServesConnections (old : CoreState K D) (clock : C) (streams : List TcpStream) (new : CoreState K D) (clock' : C) (ends : List (End SocketReader SocketWriter)) : Type 0 where
     pub links : List (Link SocketReader SocketWriter)
     pub own : Pairwise IsLinkOf links streams
-    pub served : ServesAll socket_source socket_sink old new links ends
-
-  -- So many connections were not served, and the ending is that of the fault: the links could not be allocated, and the core
-  -- is as it was; or they were refused, and nothing was read from them or written to them.
-  abbrev pub RefusesConnections : CoreState K D → ℕ → Ending → CoreState K D → Type 0
-  RefusesConnections old count told new =
-      ((told ≡ ending.Memory) × (new ≡ old))
-      ⊎ ((fault : ServeFault) × (told ≡ by_serving fault) × RefusesLinks count old fault new)
+    pub served : ServesAll socket_source socket_sink tells old clock new clock' links ends
 
   -- This many connections were served to their ends, which is the end of the input; or they were not served; or there were
-  -- fewer, the ending is that of the fault, and the core is as it was.
-  abbrev pub EndsSoMany : CoreState K D → ℕ → Ending → CoreState K D → Type 0
-  EndsSoMany old count told new =
+  -- fewer.
+  abbrev pub EndsSoMany : CoreState K D → C → ℕ → Ending → CoreState K D → C → Type 0
+  EndsSoMany old clock count told new clock' =
       ((told ≡ ending.InputEnded) × ((streams : List TcpStream) × (ends : List (End SocketReader SocketWriter))
-      × (length streams ≡ count) × ServesConnections old streams new ends))
-      ⊎ (RefusesConnections old count told new
-      ⊎ ((fault : ListenFault) × (told ≡ by_listening fault) × (new ≡ old)))
+      × (length streams ≡ count) × ServesConnections old clock streams new clock' ends))
+      ⊎ (RefusesConnections old clock count told new clock' ⊎ FailsToListen old clock told new clock')
 
   -- Every client was served, until no connection could be accepted; or the lobby was refused, no client was accepted, the
   -- ending is that of the fault, and the core is as it was.
-  abbrev pub EndsEveryone : CoreState K D → Ending → CoreState K D → Type 0
-  EndsEveryone old told new =
-      ((told ≡ ending.Streams) × ServesLobby old new)
-      ⊎ ((fault : ServeFault) × (told ≡ by_serving fault) × (new ≡ old))
+  abbrev pub EndsEveryone : CoreState K D → C → Ending → CoreState K D → C → Type 0
+  EndsEveryone old clock told new clock' =
+      ((told ≡ ending.Streams) × ServesLobby tells old clock new clock')
+      ⊎ ((fault : ServeFault) × (told ≡ by_serving fault) × (new ≡ old) × (clock' ≡ clock))
 
-  -- This many connections were served if a number is given, and otherwise every client; or the server could not listen, the
-  -- ending is that of the fault, and the core is as it was.
-  abbrev pub EndsAddress : CoreState K D → Option ℕ → Ending → CoreState K D → Type 0
-  EndsAddress old count told new =
-      MatchOption count (EndsEveryone old told new) (λ n. EndsSoMany old n told new)
-      ⊎ ((fault : ListenFault) × (told ≡ by_listening fault) × (new ≡ old))
+  -- This many connections were served if a number is given, and otherwise every client; or the server could not listen.
+  abbrev pub EndsAddress : CoreState K D → C → Option ℕ → Ending → CoreState K D → C → Type 0
+  EndsAddress old clock count told new clock' =
+      MatchOption count (EndsEveryone old clock told new clock') (λ n. EndsSoMany old clock n told new clock')
+      ⊎ FailsToListen old clock told new clock'

@@ -20,7 +20,7 @@ module _ {K D C : Type 0} (tells : C → ℕ → C → Type 0) where
   abbrev pub EndsPlace : Place → CoreState K D → PipesState C → Ending → CoreState K D → PipesState C → Type 0
   EndsPlace Pipes old from told new to = EndsSession tells old from told new to
   EndsPlace (Address address count) old from told new to =
-      EndsAddress old count told new × (to.reader ≡ from.reader) × (to.writer ≡ from.writer)
+      EndsAddress tells old from.clock count told new to.clock × (to.reader ≡ from.reader) × (to.writer ≡ from.writer)
 
 -- A core was opened over the keeper, and its sessions came to that. A crash then leaves the lines of the core's database, and
 -- an open finds it.

@@ -35,7 +35,7 @@ where
     K: Keeper + Drop,
     D: Draws + Drop,
     C: Clock,
-    ensures { EndsAddress core count result.ending result.core }
+    ensures { EndsAddress C.tells core clock.old count result.ending result.core clock.new }
 {
     match listening(rt, alloc, address) {
         Ok(listener) => match count {

@@ -34,8 +34,8 @@ where
     K: Keeper + Drop,
     D: Draws + Drop,
     C: Clock,
-    ensures served { IfOk result (λ served. ServesConnections core streams.entry.now.items served.desk.core served.ends.items) }
-    ensures refused { IfErr result (λ ended. RefusesConnections core (vec_len streams.entry.now) ended.ending ended.core) }
+    ensures served { IfOk result (λ served. ServesConnections C.tells core clock.old streams.entry.now.items served.desk.core clock.new served.ends.items) }
+    ensures refused { IfErr result (λ ended. RefusesConnections core clock.old (vec_len streams.entry.now) ended.ending ended.core clock.new) }
 {
     let links = match links_of(alloc, streams) {
         Ok(links) => links,
@@ -46,7 +46,7 @@ where
             });
         }
     };
-    match serve_links(rt, alloc, Desk::new(core), links, &FreeGate, clock) {
+    match serve_links(rt, alloc, Desk::new(alloc, core), links, &FreeGate, clock) {
         Ok(served) => Ok(served),
         Err(unserved) => {
             let Unserved {
@@ -88,7 +88,7 @@ where
     K: Keeper + Drop,
     D: Draws + Drop,
     C: Clock,
-    ensures { EndsSoMany core count result.ending result.core }
+    ensures { EndsSoMany C.tells core clock.old count result.ending result.core clock.new }
 {
     let streams = match connected(alloc, listener, count) {
         Ok(streams) => streams,

@@ -4,10 +4,10 @@ ghost use Rattle.ov_listen.specs.Connections.{EndsEveryone};
 use crate::endings::ending_of_serving;
 use crate::place::Ended;
 use ov_core::Core;
+use ov_desk::{RefusedLobby, serve_lobby};
 use ov_ends::Clock;
 use ov_keeper::Keeper;
 use ov_lanes::Desk;
-use ov_lobby::{RefusedLobby, serve_lobby};
 use ov_requests::Draws;
 use ov_sockets::Clients;
 use ov_words::Ending;
@@ -32,10 +32,10 @@ where
     K: Keeper + Drop,
     D: Draws + Drop,
     C: Clock,
-    ensures { EndsEveryone core result.ending result.core }
+    ensures { EndsEveryone C.tells core clock.old result.ending result.core clock.new }
 {
     let clients = Clients::new(alloc, listener);
-    match serve_lobby(rt, alloc, Desk::new(core), clients, &FreeGate, clock) {
+    match serve_lobby(rt, alloc, Desk::new(alloc, core), clients, &FreeGate, clock) {
         Ok(desk) => Ended {
             ending: Ending::Streams,
             core: desk.into_core(),

@@ -60,8 +60,8 @@ where
     match Core::open(alloc, keeper, schema, draws) {
         Ok(core) => {
             let ended = serve_core(rt, alloc, core, place, pipes);
-            ended.core.left();
-            ended.core.would_open();
+            ended.core.shows_left();
+            ended.core.shows_would_open();
             Ok(ended)
         }
         Err(refused) => Err(refused),

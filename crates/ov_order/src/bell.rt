@@ -1,3 +1,4 @@
+use std::sync::atomic::{AtomicBool, Ordering};
 use std::sync::{Condvar, Mutex, Wait};
 use std::thread;
 
@@ -11,18 +12,23 @@ pub(crate) const LOOKS: u32 = 256;
 ///
 /// No contract can say what another thread finds under the lock. So no call here says whether the bell was rung: the waiting
 /// thread looks into its ring again, and finds something there or waits once more.
+///
+/// Beside the bell is a flag by which the writer's thread says that it is about to end. The flag is only a hint, for the same
+/// reason: a thread that joins the writer's because of it may wait a little.
 #[derive(Drop)]
 pub struct Bell {
     rung: Mutex<bool>,
     changed: Condvar,
+    is_over: AtomicBool,
 }
 
 impl Bell {
-    /// A bell that was not rung yet.
+    /// A bell that was not rung yet, and whose writer's thread has not said that it is about to end.
     pub fn new() -> Bell {
         Bell {
             rung: Mutex::new(false),
             changed: Condvar::new(),
+            is_over: AtomicBool::new(false),
         }
     }
 
@@ -62,5 +68,21 @@ impl Bell {
         let guard = self.rung.lock(rt);
         let mut rung = self.changed.wait_while(rt, guard, |rung| !*rung);
         *rung = false;
+    }
+
+    /// Says that the writer's thread is about to end.
+    pub fn say_over(&self) {
+        self.is_over.store(true, Ordering::SeqCst);
+    }
+
+    /// Whether the writer's thread has said that it is about to end, since the bell was made or renewed. Only a hint.
+    pub fn is_over(&self) -> bool {
+        self.is_over.load(Ordering::SeqCst)
+    }
+
+    /// Unsets what the writer's thread said. Call it after that thread was joined, and before the bell is used for the next
+    /// session at the same place.
+    pub fn renew(&self) {
+        self.is_over.store(false, Ordering::SeqCst);
     }
 }

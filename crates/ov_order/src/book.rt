@@ -1,6 +1,8 @@
-ghost use Rattle.std.specs.Prelude.{◌≡◌, ◌+◌, ◌<◌, ◌↔◌, [], None, IsTrue, IfOk, IfNone, IfSome, MatchBool};
+ghost use Rattle.std.specs.Prelude.{◌≡◌, ◌+◌, ◌<◌, ◌↔◌, [], None, IsTrue, ◌∷◌, ◌++◌, IfOk, IfNone, IfSome, MatchBool, MatchOption};
 ghost use Rattle.ov_order.specs.OrderBook.{noted, HasRoom, Notes, Takes, Says};
 
+use crate::noter::Noter;
+use crate::taken::Taken;
 use std::alloc::{AllocError, Global};
 use std::collections::VecDeque;
 use std::marker::Model;
@@ -52,30 +54,32 @@ impl<L: Ledger> OrderBook<L> {
         })
     }
 
-    /// Notes a serial, after all that wait. Refused if 4,160 notes wait or 2^64-1 serials were noted.
-    pub fn note(&mut self, share: &mut Share<L>, serial: u64) -> bool
-        requires { 0 < share.old.parts }
+    /// Notes the noter's serial, after all that wait. Refused if 4,160 notes wait or 2^64-1 serials were noted.
+    pub fn note(&mut self, noter: &mut Noter<L>) -> bool
         ensures room { IsTrue result ↔ HasRoom self.old }
-        ensures book { MatchBool result (Notes serial self.old self.new) (self.new ≡ self.old) }
-        ensures amount { MatchBool result (share.new.amount ≡ share.old.amount + 1) (share.new.amount ≡ share.old.amount) }
-        ensures parts { share.new.parts ≡ share.old.parts }
+        ensures book { MatchBool result (Notes noter.old.serial self.old self.new) (self.new ≡ self.old) }
+        ensures amount { MatchBool result (noter.new.share.amount ≡ noter.old.share.amount + 1) (noter.new.share.amount ≡ noter.old.share.amount) }
+        ensures noter { (noter.new.serial ≡ noter.old.serial) × (noter.new.share.parts ≡ noter.old.share.parts) }
     {
         if self.waiting.len() >= NOTE_LIMIT || self.noted == u64::MAX {
             return false;
         }
-        self.waiting.push_back_reserved(serial);
+        self.waiting.push_back_reserved(noter.serial);
         self.noted += 1;
-        self.ledger.add(share, 1);
+        self.ledger.add(&mut noter.share, 1);
         true
     }
 
-    /// Takes the oldest note.
-    pub fn next(&mut self) -> Option<u64>
+    /// Takes the oldest note, and adds it to the serials taken.
+    pub fn next(&mut self, taken: &mut Taken) -> Option<u64>
         ensures some { IfSome result (λ serial. Takes serial self.old self.new) }
         ensures none { IfNone result ((self.old.waiting ≡ []) × (self.new ≡ self.old)) }
+        ensures taken { MatchOption result (taken.new.serials ≡ taken.old.serials)
+            (λ serial. taken.new.serials ≡ taken.old.serials ++ serial ∷ []) }
     {
         let serial = self.waiting.pop_front()?;
         self.taken += 1;
+        taken.add(&[serial]);
         Some(serial)
     }
 

@@ -9,11 +9,15 @@
 mod bell;
 mod book;
 mod items;
+mod noter;
 mod order;
 mod rings;
+mod taken;
 
 pub use bell::Bell;
 pub use book::OrderBook;
 pub use items::{Brought, Sent};
+pub use noter::Noter;
 pub use order::Order;
 pub use rings::{inbound_ring, outbound_ring};
+pub use taken::Taken;

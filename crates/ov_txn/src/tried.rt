@@ -43,7 +43,7 @@ fn perform_on<K: Keeper + Drop, O: Owns>(
     ensures suits { IfOk result (SuitsPerformed db.now.schema) }
     ensures whole { IfOk result (WholePerformed db.now.schema db.now.committed) }
 {
-    db.kept();
+    db.shows_kept();
     let schema = db.schema();
     schema.accepted();
     perform(

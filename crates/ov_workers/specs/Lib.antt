@@ -2,3 +2,5 @@ pub mod Stream
 pub mod Reading
 pub mod Writing
 pub mod Bringing
+pub mod Inlet
+pub mod Handing

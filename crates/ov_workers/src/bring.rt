@@ -1,63 +1,46 @@
-ghost use Rattle.std.specs.Prelude.{◌≡◌, ◌+◌, ◌<◌, ◌++◌, ◌∷◌, [], ℕ, List, length};
-ghost use Rattle.rtrb.specs.Ring.{sent, SameProducer};
+ghost use Rattle.std.specs.Prelude.{◌≡◌, ◌++◌, ◌∷◌, [], ℕ, List};
+ghost use Rattle.rtrb.specs.Ring.{sent};
+ghost use Rattle.ov_workers.specs.Inlet.{SameInlet};
 ghost use Rattle.ov_workers.specs.Bringing.{BringsTexts, IsBrought, BroughtSoFar, cause_of_fault};
 
 use crate::cause::ReadCause;
+use crate::common::Common;
 use crate::gate::{Gate, Point};
+use crate::inlet::Inlet;
 use ov_base::Bytes;
 use ov_cut::{CutFault, Cutter, Fed};
-use ov_order::{Brought, Order};
+use ov_order::Brought;
 use ov_rpc::{Received, RpcFault};
-use rtrb::Producer;
-use std::alloc::Global;
 use std::sync::Wait;
-use std::sync::ledger::{Ledger, Share};
+use std::sync::ledger::Ledger;
 
 /// Brings the desk an item, after passing the gate.
 pub(crate) fn bring<R: Wait, L: Ledger, G: Gate>(
-    rt: &R,
-    order: &Order<L>,
-    gate: &G,
-    serial: u64,
-    ring: &mut Producer<Brought<Received, ReadCause>>,
-    share: &mut Share<L>,
+    common: Common<'_, R, L, G>,
+    inlet: &mut Inlet<L>,
     item: Brought<Received, ReadCause>,
 )
-    requires parts { 0 < share.old.parts }
-    requires counted { share.old.amount ≡ length (sent ring.old) }
-    ensures ring { SameProducer ring.old ring.new }
-    ensures sent { sent ring.new ≡ sent ring.old ++ item ∷ [] }
-    ensures counted { share.new.amount ≡ length (sent ring.new) }
-    ensures parts { share.new.parts ≡ share.old.parts }
+    ensures inlet { SameInlet inlet.old inlet.new }
+    ensures sent { sent inlet.new.ring ≡ sent inlet.old.ring ++ item ∷ [] }
 {
-    gate.pass(serial, Point::BeforePush);
-    order.bring(rt, ring, share, serial, item);
+    common.gate.pass(inlet.noter.serial, Point::BeforePush);
+    common
+        .order
+        .bring(common.rt, &mut inlet.ring, &mut inlet.noter, item);
 }
 
 /// Brings the messages in these texts, up to the first that can't be brought. Returns why, if there is one.
 fn bring_texts<R: Wait, L: Ledger, G: Gate>(
-    rt: &R,
-    alloc: Global,
-    order: &Order<L>,
-    gate: &G,
-    serial: u64,
-    ring: &mut Producer<Brought<Received, ReadCause>>,
-    share: &mut Share<L>,
+    common: Common<'_, R, L, G>,
+    inlet: &mut Inlet<L>,
     texts: Vec<Bytes>,
 ) -> Option<ReadCause>
-    requires parts { 0 < share.old.parts }
-    requires counted { share.old.amount ≡ length (sent ring.old) }
-    ensures ring { SameProducer ring.old ring.new }
-    ensures brought { BringsTexts texts.items result (sent ring.old) (sent ring.new) }
-    ensures counted { share.new.amount ≡ length (sent ring.new) }
-    ensures parts { share.new.parts ≡ share.old.parts }
+    ensures inlet { SameInlet inlet.old inlet.new }
+    ensures brought { BringsTexts texts.items result (sent inlet.old.ring) (sent inlet.new.ring) }
 {
     for text in texts {
-        match Received::read(alloc, text) {
-            Ok(received) => {
-                let item = Brought::Message(received);
-                bring(rt, order, gate, serial, ring, share, item);
-            }
+        match Received::read(common.alloc, text) {
+            Ok(received) => bring(common, inlet, Brought::Message(received)),
             Err(RpcFault::Unreadable) => return Some(ReadCause::Damaged),
             Err(RpcFault::Memory) => return Some(ReadCause::Memory),
         }
@@ -67,25 +50,16 @@ fn bring_texts<R: Wait, L: Ledger, G: Gate>(
 
 /// Brings the messages that a piece of the stream ends. Returns why the stream has ended, if it has.
 pub(crate) fn bring_piece<R: Wait, L: Ledger, G: Gate>(
-    rt: &R,
-    alloc: Global,
-    order: &Order<L>,
-    gate: &G,
-    serial: u64,
-    ring: &mut Producer<Brought<Received, ReadCause>>,
-    share: &mut Share<L>,
+    common: Common<'_, R, L, G>,
+    inlet: &mut Inlet<L>,
     cutter: &mut Cutter,
     piece: &[u8],
 ) -> Option<ReadCause>
-    requires parts { 0 < share.old.parts }
-    requires counted { share.old.amount ≡ length (sent ring.old) }
-    ensures ring { SameProducer ring.old ring.new }
-    ensures brought { (stream : List ℕ) → IsBrought stream cutter.old (sent ring.old) → BroughtSoFar result (stream ++ piece.now) cutter.new (sent ring.new) }
-    ensures counted { share.new.amount ≡ length (sent ring.new) }
-    ensures parts { share.new.parts ≡ share.old.parts }
+    ensures inlet { SameInlet inlet.old inlet.new }
+    ensures brought { (stream : List ℕ) → IsBrought stream cutter.old (sent inlet.old.ring) → BroughtSoFar result (stream ++ piece.now) cutter.new (sent inlet.new.ring) }
 {
-    let Fed { messages, fault } = cutter.feed(alloc, piece);
-    if let Some(cause) = bring_texts(rt, alloc, order, gate, serial, ring, share, messages) {
+    let Fed { messages, fault } = cutter.feed(common.alloc, piece);
+    if let Some(cause) = bring_texts(common, inlet, messages) {
         return Some(cause);
     }
     match fault {

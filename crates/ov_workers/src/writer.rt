@@ -1,4 +1,4 @@
-ghost use Rattle.std.specs.Prelude.{◌≡◌, ◌++◌, ◌∷◌, [], ℕ, List, map, true, false, not, is_some, MatchBool, MatchOption};
+ghost use Rattle.std.specs.Prelude.{◌≡◌, ◌++◌, ◌∷◌, [], ℕ, List, map, not, is_some, MatchOption};
 ghost use Rattle.rtrb.specs.Ring.{received, SameConsumer};
 ghost use Rattle.ov_ends.specs.States.{sink_of};
 ghost use Rattle.ov_ends.specs.Ends.{GivesWritten};
@@ -6,56 +6,48 @@ ghost use Rattle.ov_ends.specs.Writing.{CountsFailures};
 ghost use Rattle.ov_order.specs.declared.items.Sent.TheVariants.{Frame, End};
 ghost use Rattle.ov_workers.specs.Writing.{Writes};
 
+use crate::common::Common;
 use crate::gate::{Gate, Point};
 use ov_ends::{Sink, write_frame};
-use ov_order::{Bell, Order, Sent};
+use ov_order::{Bell, Sent};
 use rtrb::Consumer;
 use std::sync::Wait;
 use std::sync::ledger::Ledger;
 
-/// What a writer's worker hands back.
+/// What a writer's worker returns.
 #[derive(Drop)]
 pub struct WriteEnd<W> {
     /// The writer, after its last write.
     pub writer: W,
     /// The worker's end of the ring, from which it took the end mark last.
     pub ring: Consumer<Sent>,
-    /// Whether it was allowed to begin. If not, it took nothing from the ring and wrote nothing.
-    pub begun: bool,
     /// Whether a write or a flush failed, once; after that it dropped what it took.
     pub failed: bool,
 }
 
-/// Waits until it is said whether the workers may begin. If they may, it takes what is in its ring and writes each frame
-/// whole, with nothing between two frames, until it takes the end mark; then it flushes. When the ring is empty before that,
-/// it flushes what it wrote and waits for its bell. Once the writer has failed it is not used again, and the frames that are
-/// taken are dropped. If the workers may not begin, it takes nothing and writes nothing.
+/// Takes what is in its ring and writes each frame whole, with nothing between two frames, until it takes the end mark; then
+/// it flushes. When the ring is empty before that, it flushes what it wrote and waits for its bell. Once the writer has
+/// failed it is not used again, and the frames that are taken are dropped. The serial is for the gate alone.
 ///
 /// It waits forever if no end mark comes, or if the bell is not rung after it.
 pub fn write_worker<R: Wait, L: Ledger, G: Gate, W: Sink>(
-    rt: &R,
-    order: &Order<L>,
+    common: Common<'_, R, L, G>,
     bell: &Bell,
-    gate: &G,
     serial: u64,
     writer: W,
     ring: Consumer<Sent>,
 ) -> WriteEnd<W>
     requires { received ring ≡ [] }
     ensures ring { SameConsumer ring result.ring }
-    ensures wrote { MatchBool result.begun
-        (Writes (not result.failed) (sink_of W.Sink writer)
-        (sink_of W.Sink result.writer) (received result.ring))
-        ((received result.ring ≡ []) × (result.writer ≡ writer) × (result.failed ≡ false)) }
+    ensures wrote { Writes (not result.failed) (sink_of W.Sink writer)
+        (sink_of W.Sink result.writer) (received result.ring) }
 {
     let mut writer = writer;
     let mut ring = ring;
-    let begun = order.wait_begin(rt);
-    let failed = begun && !write_all(rt, bell, gate, serial, &mut writer, &mut ring);
+    let failed = !write_all(common.rt, bell, common.gate, serial, &mut writer, &mut ring);
     WriteEnd {
         writer,
         ring,
-        begun,
         failed,
     }
 }

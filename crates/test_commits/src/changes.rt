@@ -27,7 +27,7 @@ fn finished<K: Keeper + Drop>(
     ensures suits { IfOk result (SuitsChanges db.now.schema) }
     ensures whole { IfOk result (λ delta. is_whole db.now.schema (applied delta db.now.committed) ≡ true) }
 {
-    db.kept();
+    db.shows_kept();
     db.schema().accepted();
     match finish(alloc, db.schema(), version, db.links(), db.indexes(), stage) {
         Finished::Changed(delta) => Ok(delta),
@@ -44,7 +44,7 @@ pub fn put_line<K: Keeper + Drop>(
 ) -> Result<StoreAnswer, Fail> {
     has_sixteen_bytes(&line.id);
     has_sixteen_bytes(&line.version);
-    db.kept();
+    db.shows_kept();
     let row = row_of(alloc, db.schema(), line)?;
     let columns = row.columns.copy(alloc)?;
     let key = RowKey::new(alloc, line.table.as_str(), line.id)?;
@@ -62,7 +62,7 @@ pub fn remove_row<K: Keeper + Drop>(
     id: Uuid,
 ) -> Result<StoreAnswer, Fail> {
     has_sixteen_bytes(&id);
-    db.kept();
+    db.shows_kept();
     let key = RowKey::new(alloc, table, id)?;
     let mut stage = Stage::new(alloc, db.rows());
     stage.remove(key)?;
@@ -77,7 +77,7 @@ pub fn commit_nothing<K: Keeper + Drop>(
 ) -> Result<StoreAnswer, Fail> {
     let version = Uuid::nil();
     has_sixteen_bytes(&version);
-    db.kept();
+    db.shows_kept();
     let stage = Stage::new(alloc, db.rows());
     let delta = finished(alloc, db, version, stage)?;
     Ok(db.commit(alloc, delta))

@@ -240,7 +240,7 @@ fn counted_at_new_desk<R: Threads + Wait + Clock + Sync>(
 ) -> Result<String, Fail> {
     let core = net_core(alloc, Faults::NONE)?;
     let links = links_of(alloc, gate, clients)?;
-    counted_after(rt, alloc, Desk::new(core), links, gate)
+    counted_after(rt, alloc, Desk::new(alloc, core), links, gate)
 }
 
 /// What a client that counts the rows is written, after these were served at a new desk.

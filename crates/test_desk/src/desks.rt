@@ -109,7 +109,7 @@ fn converse_behind<R: Threads + Wait + SystemClock + Sync>(
     gate: &HoldingGate<'_, R>,
 ) -> Result<String, Fail> {
     let core = net_core(alloc, Faults::NONE)?;
-    converse_at(rt, alloc, Desk::new(core), clients, gate)
+    converse_at(rt, alloc, Desk::new(alloc, core), clients, gate)
 }
 
 /// The outcome of clients at a new desk whose workers are held up as `holds` says.

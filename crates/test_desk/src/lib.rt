@@ -23,4 +23,6 @@ mod readers;
 #[cfg(test)]
 mod threads;
 #[cfg(test)]
+mod turns;
+#[cfg(test)]
 mod writers;

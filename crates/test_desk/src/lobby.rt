@@ -1,10 +1,10 @@
 //! A lobby and its clients, which come when their listener gives them, with what each of them was written.
 
 use crate::desks::RisingClock;
+use ov_desk::{Listen, serve_lobby};
 use ov_ends::Watched;
 use ov_keeper::Keeper;
 use ov_lanes::{Desk, Link};
-use ov_lobby::{Listen, serve_lobby};
 use ov_requests::Draws;
 use ov_workers::FreeGate;
 use std::alloc::Global;
@@ -25,11 +25,13 @@ const CLIENTS: usize = 70;
 /// How many turns of a millisecond a wait for another client lasts at most.
 const TURNS: u32 = 10_000;
 
-/// What is seen of a client: what it was written, how often that was handed on, and how many of its two ends are closed.
+/// What is seen of a client: what it was written, how often that was flushed, whether it was read from, and how many of its two
+/// ends are closed.
 #[derive(Drop)]
 struct Seen {
     text: Mutex<Vec<u8>>,
     told: AtomicU64,
+    is_read: AtomicBool,
     closed: AtomicU64,
 }
 
@@ -51,6 +53,7 @@ impl<'r, R: Wait + Clock> Board<'r, R> {
             clients.push(Seen {
                 text: Mutex::new(Vec::new(alloc)),
                 told: AtomicU64::new(0),
+                is_read: AtomicBool::new(false),
                 closed: AtomicU64::new(0),
             })?;
         }
@@ -69,8 +72,8 @@ impl<'r, R: Wait + Clock> Board<'r, R> {
         }
     }
 
-    /// Whether `CLIENT told`, `CLIENT closed` or `listener closed` has come true. A client is told once something was handed
-    /// on to it, and closed once both its ends are closed.
+    /// Whether `CLIENT told`, `CLIENT closed` or `listener closed` has come true. A client is told once what it was written was
+    /// flushed, and closed once both its ends are closed.
     fn is_so(&self, fact: &str) -> bool {
         if fact == "listener closed" {
             return self.is_deaf.load(Ordering::SeqCst);
@@ -97,21 +100,23 @@ impl<'r, R: Wait + Clock> Board<'r, R> {
         self.is_late.store(true, Ordering::SeqCst);
     }
 
-    /// The line of a client: how many of its ends are closed, and what it was written.
+    /// The line of a client: how many of its ends are closed, whether it was read from, and what it was written.
     fn line(&self, alloc: Global, client: usize) -> Result<String, Fail> {
         let Some(seen) = self.clients.get(client) else {
             return Err("no such client")?;
         };
         let closed = seen.closed.load(Ordering::SeqCst);
+        let is_read = seen.is_read.load(Ordering::SeqCst);
         let text = seen.text.lock(self.rt);
-        line_of(alloc, closed, text.as_slice())
+        line_of(alloc, closed, is_read, text.as_slice())
     }
 }
 
-/// A line with how many ends of a client are closed, and what it was written.
-fn line_of(alloc: Global, closed: u64, text: &[u8]) -> Result<String, Fail> {
+/// A line with how many ends of a client are closed, whether it was read from, and what it was written.
+fn line_of(alloc: Global, closed: u64, is_read: bool, text: &[u8]) -> Result<String, Fail> {
     let text = std::str::from_utf8(text)?;
-    Ok(format!(in alloc; "{closed} {text}\n")?)
+    let word = if is_read { "read" } else { "unread" };
+    Ok(format!(in alloc; "{closed} {word} {text}\n")?)
 }
 
 /// A client's reader, which follows a script: a line is sent at once, and a line `after FACT` before it says what to wait for
@@ -144,6 +149,9 @@ impl<'s, R: Wait + Clock> LobbyReader<'_, '_, 's, R> {
 
 impl<R: Wait + Clock> Read for LobbyReader<'_, '_, '_, R> {
     fn read(&mut self, buf: &mut [u8]) -> io::Result<usize> {
+        if let Some(seen) = self.board.clients.get(self.client) {
+            seen.is_read.store(true, Ordering::SeqCst);
+        }
         if self.line.is_empty() {
             self.go_on();
         }
@@ -283,7 +291,7 @@ fn converse_on<R: Threads + Wait + Clock + Sync>(
     board: &Board<'_, R>,
     clients: &[Coming<'_>],
 ) -> Result<String, Fail> {
-    let desk = Desk::new(net_core(alloc, Faults::NONE)?);
+    let desk = Desk::new(alloc, net_core(alloc, Faults::NONE)?);
     let listener = LobbyListener {
         board,
         client: 0,
@@ -327,7 +335,7 @@ after listener closed
 {"id":1,"method":"echo","params":[2]}"#;
 
 const LAST_SERVED: &str = r#"4
-2 {"error":null,"id":0,"result":["Net"]}{"error":null,"id":1,"result":[2]}
+2 read {"error":null,"id":0,"result":["Net"]}{"error":null,"id":1,"result":[2]}
 "#;
 
 #[test]
@@ -346,8 +354,8 @@ const DAMAGED: &str = r#"after 0 told
 after 9 told"#;
 
 const BOTH_SERVED: &str = r#"7
-2 {"error":null,"id":0,"result":["Net"]}{"error":null,"id":1,"result":[2]}
-2 {"error":null,"id":0,"result":["Net"]}
+2 read {"error":null,"id":0,"result":["Net"]}{"error":null,"id":1,"result":[2]}
+2 read {"error":null,"id":0,"result":["Net"]}
 "#;
 
 #[test]
@@ -357,13 +365,17 @@ fn a_client_goes_on_beside_one_that_is_damaged(rt: HostRuntime) -> Result<(), Fa
 }
 
 /// What is written to a client that asks for the list.
-const LISTED: &str = "2 {\"error\":null,\"id\":0,\"result\":[\"Net\"]}\n";
+const LISTED: &str = "2 read {\"error\":null,\"id\":0,\"result\":[\"Net\"]}\n";
 
 /// The outcome of `count` clients that ask for the list, one of which may be turned away.
 fn listed(alloc: Global, entries: u64, count: usize, away: Option<usize>) -> Result<String, Fail> {
     let mut told = format!(in alloc; "{entries}\n")?;
     for client in 0..count {
-        told.push_str(if away == Some(client) { "2 \n" } else { LISTED })?;
+        told.push_str(if away == Some(client) {
+            "2 unread \n"
+        } else {
+            LISTED
+        })?;
     }
     Ok(told)
 }
@@ -438,5 +450,29 @@ fn one_too_many(alloc: Global) -> Result<Vec<(&'static str, &'static str)>, Fail
 #[test]
 fn the_sixty_fifth_is_turned_away(rt: HostRuntime) -> Result<(), Fail> {
     let clients = one_too_many(rt.alloc())?;
+    are_listed(&rt, rt.alloc(), clients.as_slice(), 195, Some(64))
+}
+
+/// Holds its place until the last client has been served, which came once the first had gone.
+const STAYING: &str = r#"{"id":0,"method":"list_dbs","params":[]}
+after 65 told
+"#;
+
+/// One client that holds its place until another has been turned away, 63 that stay, the one that is turned away, and one that
+/// comes once the first has gone.
+fn one_leaves(alloc: Global) -> Result<Vec<(&'static str, &'static str)>, Fail> {
+    let mut clients = Vec::new(alloc);
+    clients.push(("", HOLDING))?;
+    for _ in 0..63 {
+        clients.push(("", STAYING))?;
+    }
+    clients.push(("", LIST))?;
+    clients.push(("0 closed", LIST))?;
+    Ok(clients)
+}
+
+#[test]
+fn the_place_of_one_that_left_serves_another(rt: HostRuntime) -> Result<(), Fail> {
+    let clients = one_leaves(rt.alloc())?;
     are_listed(&rt, rt.alloc(), clients.as_slice(), 195, Some(64))
 }

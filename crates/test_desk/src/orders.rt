@@ -3,13 +3,13 @@ ghost use Rattle.rtrb.specs.Ring.{sent, SameProducer};
 ghost use Rattle.ov_order.specs.declared.items.Brought.TheVariants.{Message, End};
 
 use ov_base::Bytes;
-use ov_order::{Brought, Order, OrderBook, Sent, inbound_ring, outbound_ring};
+use ov_order::{Brought, Noter, Order, OrderBook, Sent, Taken, inbound_ring, outbound_ring};
 use rtrb::{PopError, Producer};
 use std::alloc::Global;
 use std::marker::Brand;
 use std::rt::Clock;
 use std::sync::Wait;
-use std::sync::ledger::{Blank, Ledger, Share};
+use std::sync::ledger::{Blank, Ledger};
 use std::test::Fail;
 use std::thread;
 use std::thread::Threads;
@@ -31,21 +31,29 @@ fn book_answers<L: Ledger>(alloc: Global, blank: Blank) -> Result<String, Fail>
     requires name { blank.name ≡ L.name }
     requires parts { (blank.parts ≡ L.parts) × (blank.parts ≡ 2) }
 {
-    let (ledger, mut first) = blank.open::<L>();
-    let mut second = first.split_off(1, 0);
+    let (ledger, mut share) = blank.open::<L>();
+    let mut second = Noter::new(9, share.split_off(1, 0));
+    let mut first = Noter::new(7, share);
+    let mut serials = Taken::new();
     let mut book = OrderBook::new(alloc, ledger)?;
     let unsaid = book.begun();
     book.begin(true);
     let said = book.begun();
     let notes = [
-        book.note(&mut first, 7),
-        book.note(&mut second, 9),
-        book.note(&mut first, 7),
+        book.note(&mut first),
+        book.note(&mut second),
+        book.note(&mut first),
     ];
-    let (third, fourth) = (book.next(), book.next());
-    first.merge(second);
-    let noted = book.noted(&mut first);
-    let taken = [third, fourth, book.next(), book.next()];
+    let (third, fourth) = (book.next(&mut serials), book.next(&mut serials));
+    let mut all = first.into_share();
+    all.merge(second.into_share());
+    let noted = book.noted(&mut all);
+    let taken = [
+        third,
+        fourth,
+        book.next(&mut serials),
+        book.next(&mut serials),
+    ];
     answers_of(alloc, [unsaid, said], notes, taken, noted)
 }
 
@@ -74,17 +82,21 @@ fn order_answers<R: Wait, L: Ledger>(rt: &R, alloc: Global, blank: Blank) -> Res
     requires name { blank.name ≡ L.name }
     requires parts { (blank.parts ≡ L.parts) × (blank.parts ≡ 1) }
 {
-    let (ledger, mut share) = blank.open::<L>();
+    let (ledger, share) = blank.open::<L>();
     let (mut reader, _desk) = inbound_ring::<u64, u8>(alloc)?;
     let order = Order::new(alloc, ledger)?;
+    let mut taken = Taken::new();
     order.lock(rt).begin(false);
     order.wake();
     let go = order.wait_begin(rt);
-    order.bring(rt, &mut reader, &mut share, 5, Brought::Message(1));
-    let is_noted = order.lock(rt).note(&mut share, 6);
-    let serial = order.wait_next(rt);
-    let next = order.lock(rt).next();
-    let noted = order.lock(rt).noted(&mut share);
+    let mut fifth = Noter::new(5, share);
+    order.bring(rt, &mut reader, &mut fifth, Brought::Message(1));
+    let mut sixth = Noter::new(6, fifth.into_share());
+    let is_noted = order.lock(rt).note(&mut sixth);
+    let serial = order.wait_next(rt, &mut taken);
+    let next = order.lock(rt).next(&mut taken);
+    let mut all = sixth.into_share();
+    let noted = order.lock(rt).noted(&mut all);
     told_of(alloc, (go, is_noted), (serial, next), noted)
 }
 
@@ -103,14 +115,17 @@ fn brief_waits<R: Wait + Clock, L: Ledger>(
     requires name { blank.name ≡ L.name }
     requires parts { (blank.parts ≡ L.parts) × (blank.parts ≡ 1) }
 {
-    let (ledger, mut share) = blank.open::<L>();
+    let (ledger, share) = blank.open::<L>();
     let order = Order::new(alloc, ledger)?;
-    let none = order.wait_briefly(rt, true);
-    let _ = order.lock(rt).note(&mut share, 5);
-    let _ = order.lock(rt).note(&mut share, 6);
-    let looked = order.wait_briefly(rt, true);
-    let slept = order.wait_briefly(rt, false);
-    let again = order.wait_briefly(rt, false);
+    let mut taken = Taken::new();
+    let none = order.wait_briefly(rt, &mut taken, true);
+    let mut fifth = Noter::new(5, share);
+    let _ = order.lock(rt).note(&mut fifth);
+    let mut sixth = Noter::new(6, fifth.into_share());
+    let _ = order.lock(rt).note(&mut sixth);
+    let looked = order.wait_briefly(rt, &mut taken, true);
+    let slept = order.wait_briefly(rt, &mut taken, false);
+    let again = order.wait_briefly(rt, &mut taken, false);
     Ok(format!(in alloc; "{none:?} {looked:?} {slept:?} {again:?}")?)
 }
 
@@ -193,11 +208,11 @@ fn a_frame_and_the_end_are_sent(rt: HostRuntime) -> Result<(), Fail> {
     is_text(rt.alloc(), told.as_str(), "1023 true true")
 }
 
-/// What a worker hands back: its end of the ring, and its share.
+/// What a worker returns: its end of the ring, and who notes its items.
 #[derive(Drop)]
 struct Worked<L: Ledger> {
     ring: Producer<Brought<u64, u8>>,
-    share: Share<L>,
+    noter: Noter<L>,
 }
 
 /// A worker that brings two messages and the end, once it may begin.
@@ -205,30 +220,31 @@ fn work<R: Wait, L: Ledger>(
     rt: &R,
     order: &Order<L>,
     ring: Producer<Brought<u64, u8>>,
-    share: Share<L>,
+    noter: Noter<L>,
 ) -> Worked<L>
-    requires { (share.parts ≡ 1) × (share.amount ≡ 0) × (sent ring ≡ []) }
-    ensures share { (result.share.parts ≡ 1) × (result.share.amount ≡ 3) }
+    requires { (noter.share.parts ≡ 1) × (noter.share.amount ≡ 0) × (sent ring ≡ []) }
+    ensures share { (result.noter.share.parts ≡ 1) × (result.noter.share.amount ≡ 3) }
     ensures sent { sent result.ring ≡ Message 1 ∷ Message 2 ∷ End 0 ∷ [] }
     ensures ring { SameProducer ring result.ring }
 {
     let mut ring = ring;
-    let mut share = share;
+    let mut noter = noter;
     let _may_begin = order.wait_begin(rt);
-    order.bring(rt, &mut ring, &mut share, 7, Brought::Message(1));
-    order.bring(rt, &mut ring, &mut share, 7, Brought::Message(2));
-    order.bring(rt, &mut ring, &mut share, 7, Brought::End(0));
-    Worked { ring, share }
+    order.bring(rt, &mut ring, &mut noter, Brought::Message(1));
+    order.bring(rt, &mut ring, &mut noter, Brought::Message(2));
+    order.bring(rt, &mut ring, &mut noter, Brought::End(0));
+    Worked { ring, noter }
 }
 
 /// Lets the worker begin, and returns the serials that the desk takes.
 fn take<R: Wait, L: Ledger>(rt: &R, order: &Order<L>) -> (u64, u64, u64) {
     order.lock(rt).begin(true);
     order.wake();
+    let mut taken = Taken::new();
     (
-        order.wait_next(rt),
-        order.wait_next(rt),
-        order.wait_next(rt),
+        order.wait_next(rt, &mut taken),
+        order.wait_next(rt, &mut taken),
+        order.wait_next(rt, &mut taken),
     )
 }
 
@@ -246,13 +262,14 @@ fn across_threads<R: Threads + Wait + Sync, L: Ledger + Send + Sync>(
     let (ring, _desk) = inbound_ring::<u64, u8>(alloc)?;
     let order = Order::new(alloc, ledger)?;
     let shared = &order;
+    let noter = Noter::new(7, share);
     let worker = move || -> Worked<L>
-        requires { (share.parts ≡ 1) × (share.amount ≡ 0) × (sent ring ≡ []) }
-        ensures { (result.share.parts ≡ 1) × (result.share.amount ≡ 3) }
-    { work(rt, shared, ring, share) };
+        requires { (noter.share.parts ≡ 1) × (noter.share.amount ≡ 0) × (sent ring ≡ []) }
+        ensures { (result.noter.share.parts ≡ 1) × (result.noter.share.amount ≡ 3) }
+    { work(rt, shared, ring, noter) };
     let (worked, taken) = thread::join(rt, worker, move || take(rt, shared));
-    let Worked { ring: _, share } = worked;
-    let mut all = share;
+    let Worked { ring: _, noter } = worked;
+    let mut all = noter.into_share();
     let noted = order.lock(rt).noted(&mut all);
     Ok((taken, noted))
 }

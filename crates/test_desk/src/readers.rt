@@ -1,18 +1,20 @@
-ghost use Rattle.std.specs.Prelude.{◌≡◌};
+ghost use Rattle.std.specs.Prelude.{◌≡◌, []};
+ghost use Rattle.rtrb.specs.Ring.{sent};
 
 use crate::gates::CountingGate;
 use ov_ends::Watched;
-use ov_order::{Brought, Order, inbound_ring};
+use ov_order::{Brought, Noter, Order, Taken, inbound_ring};
 use ov_rpc::Received;
-use ov_workers::{Point, ReadCause, read_worker};
+use ov_workers::{Common, HandRing, Inlet, Point, ReadCause, ReadEnd, read_worker, start_reader};
 use rtrb::Consumer;
 use std::alloc::Global;
-use std::io;
 use std::io::{ErrorKind, Read};
 use std::marker::Brand;
 use std::sync::Wait;
 use std::sync::ledger::{Blank, Ledger};
 use std::test::Fail;
+use std::thread::{Scope, Threads};
+use std::{io, thread};
 use test_basics::is_text;
 
 /// Two messages, with white space before the second.
@@ -98,7 +100,7 @@ fn told_of(
     noted: u64,
     first: Option<u64>,
     passed: u64,
-    cause: Option<ReadCause>,
+    cause: ReadCause,
 ) -> Result<Vec<u8>, Fail> {
     let mut lines = lines_of(alloc, ring)?;
     let told = format!(in alloc; "{noted} {first:?} {passed} {cause:?}")?;
@@ -106,13 +108,12 @@ fn told_of(
     Ok(lines)
 }
 
-/// What a worker brings from a reader if it may begin, or may not, then how many notes it made, the first of them, how often
-/// it passed the gate, and its cause.
+/// What a worker brings from a reader, then how many notes it made, the first of them, how often it passed the gate, and its
+/// cause.
 fn read_by<R: Wait, L: Ledger>(
     rt: &R,
     alloc: Global,
     blank: Blank,
-    go: bool,
     reader: PieceReader<'_>,
 ) -> Result<Vec<u8>, Fail>
     requires name { blank.name ≡ L.name }
@@ -122,31 +123,24 @@ fn read_by<R: Wait, L: Ledger>(
     let (ring, desk) = inbound_ring(alloc)?;
     let order = Order::new(alloc, ledger)?;
     let gate = CountingGate::new(Point::BeforePush);
-    order.lock(rt).begin(go);
-    let end = read_worker(
+    let common = Common {
         rt,
         alloc,
-        &order,
-        &gate,
-        7,
-        Watched::new(reader),
-        ring,
-        share,
-    );
-    let mut share = end.share;
+        order: &order,
+        gate: &gate,
+    };
+    let inlet = Inlet::new(ring, Noter::new(7, share));
+    let ReadEnd { inlet, cause, .. } = read_worker(common, Watched::new(reader), inlet);
+    let Inlet { noter, .. } = inlet;
+    let mut share = noter.into_share();
     let noted = order.lock(rt).noted(&mut share);
-    let first = order.lock(rt).next();
-    told_of(alloc, desk, noted, first, gate.passed(), end.cause)
+    let first = order.lock(rt).next(&mut Taken::new());
+    told_of(alloc, desk, noted, first, gate.passed(), cause)
 }
 
 /// The same with a ledger of its own.
-fn read<R: Wait>(
-    rt: &R,
-    alloc: Global,
-    go: bool,
-    reader: PieceReader<'_>,
-) -> Result<Vec<u8>, Fail> {
-    read_by::<R, Brand>(rt, alloc, Blank::new(1), go, reader)
+fn read<R: Wait>(rt: &R, alloc: Global, reader: PieceReader<'_>) -> Result<Vec<u8>, Fail> {
+    read_by::<R, Brand>(rt, alloc, Blank::new(1), reader)
 }
 
 /// Fails unless these bytes are this text.
@@ -158,41 +152,40 @@ pub(crate) fn are_text(alloc: Global, bytes: &[u8], wanted: &str) -> Result<(), 
 fn brings<R: Wait>(
     rt: &R,
     alloc: Global,
-    go: bool,
     reader: PieceReader<'_>,
     wanted: &str,
 ) -> Result<(), Fail> {
-    let lines = read(rt, alloc, go, reader)?;
+    let lines = read(rt, alloc, reader)?;
     are_text(alloc, lines.as_slice(), wanted)
 }
 
 const TWO_MESSAGES: &str = r#"{"id":0,"method":"echo","params":[]}
 {"id":1,"method":"echo","params":["}"]}
 InputEnded
-3 Some(7) 3 Some(InputEnded)"#;
+3 Some(7) 3 InputEnded"#;
 
 #[test]
 fn messages_and_the_end_are_brought(rt: HostRuntime) -> Result<(), Fail> {
     for most in [1, 7, 4_096] {
-        brings(&rt, rt.alloc(), true, reader_of(STREAM, most), TWO_MESSAGES)?;
+        brings(&rt, rt.alloc(), reader_of(STREAM, most), TWO_MESSAGES)?;
     }
     Ok(())
 }
 
-const ONE_AND_DAMAGE: &str = "{\"result\":0}\nDamaged\n2 Some(7) 2 Some(Damaged)";
+const ONE_AND_DAMAGE: &str = "{\"result\":0}\nDamaged\n2 Some(7) 2 Damaged";
 
 /// A stray letter ends a stream, and so does a text that can't be read.
 #[test]
 fn damage_ends_a_stream(rt: HostRuntime) -> Result<(), Fail> {
     let stray = reader_of(b"{\"result\":0} x {\"result\":1}", 9);
-    brings(&rt, rt.alloc(), true, stray, ONE_AND_DAMAGE)?;
+    brings(&rt, rt.alloc(), stray, ONE_AND_DAMAGE)?;
     let unreadable = reader_of(b"{\"result\":0} {x} {\"result\":1}", 9);
-    brings(&rt, rt.alloc(), true, unreadable, ONE_AND_DAMAGE)
+    brings(&rt, rt.alloc(), unreadable, ONE_AND_DAMAGE)
 }
 
 const ONE_AND_FAULT: &str = r#"{"id":0,"method":"echo","params":[]}
 ReadFault
-2 Some(7) 2 Some(ReadFault)"#;
+2 Some(7) 2 ReadFault"#;
 
 #[test]
 fn the_second_read_fails(rt: HostRuntime) -> Result<(), Fail> {
@@ -201,11 +194,85 @@ fn the_second_read_fails(rt: HostRuntime) -> Result<(), Fail> {
         most: 40,
         calls: 1,
     };
-    brings(&rt, rt.alloc(), true, reader, ONE_AND_FAULT)
+    brings(&rt, rt.alloc(), reader, ONE_AND_FAULT)
+}
+
+/// Starts the thread of a worker, says that no worker may begin, and dismisses it. Returns false if no thread can be started.
+fn dismiss_in<'s, E, R: Threads + Wait + Sync, L: Ledger + Send + Sync + 's>(
+    common: Common<'s, R, L, CountingGate>,
+    scope: &Scope<'s, E>,
+    hand: HandRing<Watched<PieceReader<'static>>>,
+    inlet: Inlet<L>,
+) -> bool
+    requires { sent inlet.ring ≡ [] }
+{
+    let Some(reading) = start_reader(common, scope, true, hand, inlet) else {
+        return false;
+    };
+    common.order.lock(common.rt).begin(false);
+    common.order.wake();
+    reading.dismiss(common.rt);
+    true
+}
+
+/// The same, in a scope of its own.
+fn dismiss<'a, R: Threads + Wait + Sync, L: Ledger + Send + Sync>(
+    common: Common<'a, R, L, CountingGate>,
+    hand: HandRing<Watched<PieceReader<'static>>>,
+    inlet: Inlet<L>,
+) -> bool
+    requires { sent inlet.ring ≡ [] }
+{
+    thread::scope(
+        thread::scope_env(),
+        common.rt,
+        move |scope| -> bool
+            requires { sent inlet.ring ≡ [] }
+        { dismiss_in(common, scope, hand, inlet) },
+    )
+}
+
+/// Whether a worker was dismissed, what it brought, its first note, and how often it passed the gate.
+fn dismissed<R: Threads + Wait + Sync, L: Ledger + Send + Sync>(
+    rt: &R,
+    alloc: Global,
+    blank: Blank,
+) -> Result<Vec<u8>, Fail>
+    requires name { blank.name ≡ L.name }
+    requires parts { (blank.parts ≡ L.parts) × (blank.parts ≡ 1) }
+{
+    let (ledger, share) = blank.open::<L>();
+    let (ring, desk) = inbound_ring(alloc)?;
+    let hand = HandRing::new(alloc)?;
+    let order = Order::new(alloc, ledger)?;
+    let gate = CountingGate::new(Point::BeforePush);
+    let common = Common {
+        rt,
+        alloc,
+        order: &order,
+        gate: &gate,
+    };
+    let is_dismissed = dismiss(common, hand, Inlet::new(ring, Noter::new(7, share)));
+    let first = order.lock(rt).next(&mut Taken::new());
+    dismissed_text(alloc, is_dismissed, desk, first, gate.passed())
+}
+
+/// The same as a text.
+fn dismissed_text(
+    alloc: Global,
+    is_dismissed: bool,
+    ring: Consumer<Brought<Received, ReadCause>>,
+    first: Option<u64>,
+    passed: u64,
+) -> Result<Vec<u8>, Fail> {
+    let mut lines = lines_of(alloc, ring)?;
+    let told = format!(in alloc; "{is_dismissed} {first:?} {passed}")?;
+    lines.extend_from_slice(told.as_bytes())?;
+    Ok(lines)
 }
 
 #[test]
 fn a_reader_that_may_not_begin_brings_nothing(rt: HostRuntime) -> Result<(), Fail> {
-    let reader = reader_of(STREAM, 7);
-    brings(&rt, rt.alloc(), false, reader, "0 None 0 None")
+    let lines = dismissed::<HostRuntime, Brand>(&rt, rt.alloc(), Blank::new(1))?;
+    are_text(rt.alloc(), lines.as_slice(), "true None 0")
 }

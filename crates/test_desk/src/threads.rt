@@ -1,19 +1,18 @@
-ghost use Rattle.std.specs.Prelude.{◌≡◌, ◌<◌, []};
+ghost use Rattle.std.specs.Prelude.{◌≡◌, []};
 ghost use Rattle.rtrb.specs.Ring.{sent, received};
 
 use crate::gates::CountingGate;
 use crate::readers::{PieceReader, STREAM, reader_of};
 use ov_base::Bytes;
 use ov_ends::Watched;
-use ov_order::{Bell, Brought, Order, Sent, inbound_ring, outbound_ring};
-use ov_rpc::Received;
-use ov_workers::{FreeGate, Point, ReadCause, start_reader, start_writer};
+use ov_order::{Bell, Noter, Order, Sent, Taken, inbound_ring, outbound_ring};
+use ov_workers::{Common, Hands, Inlet, Point, ReadCause, ReadLeft, WriteLeft, start_workers};
 use rtrb::{Consumer, Producer};
 use std::alloc::Global;
 use std::io::Write;
 use std::marker::Brand;
 use std::sync::Wait;
-use std::sync::ledger::{Blank, Ledger, Share};
+use std::sync::ledger::{Blank, Ledger};
 use std::test::Fail;
 use std::thread::{Scope, Threads};
 use std::{io, thread};
@@ -39,13 +38,18 @@ impl<R: Wait> Write for RingingWriter<'_, R> {
     }
 }
 
-/// What the two workers of a session are given.
+/// The reader of the session.
+type SessionReader = Watched<PieceReader<'static>>;
+
+/// The writer of the session.
+type SessionWriter<'a, R> = Watched<RingingWriter<'a, R>>;
+
+/// What the two workers of a session get.
 #[derive(Drop)]
 struct Ends<'a, R: Wait, L: Ledger> {
-    reader: Watched<PieceReader<'static>>,
-    to_desk: Producer<Brought<Received, ReadCause>>,
-    share: Share<L>,
-    writer: Watched<RingingWriter<'a, R>>,
+    reader: SessionReader,
+    inlet: Inlet<L>,
+    writer: SessionWriter<'a, R>,
     to_writer: Consumer<Sent>,
 }
 
@@ -64,79 +68,76 @@ fn send<R: Wait>(rt: &R, alloc: Global, bell: &Bell, flushed: &Bell, out: Produc
     bell.ring(rt);
 }
 
-/// Does what a desk does for a session: sends three frames and joins the workers. Returns the reader's cause and what was
-/// written.
+/// Does what a desk does for a session: hands the workers the two ends of its link, sends three frames and joins the workers.
+/// Returns the reader's cause and what was written.
 fn serve_in<'s, E, R: Threads + Wait + Sync, L: Ledger + Send + Sync + 's>(
-    rt: &'s R,
-    alloc: Global,
+    common: Common<'s, R, L, CountingGate>,
     scope: &Scope<'s, E>,
-    order: &'s Order<L>,
     bell: &'s Bell,
     flushed: &'s Bell,
-    gate: &'s CountingGate,
     ends: Ends<'s, R, L>,
     out: Producer<Sent>,
-) -> Result<(Option<ReadCause>, Vec<u8>), Fail>
-    requires reader { (0 < ends.share.parts) × (sent ends.to_desk ≡ []) × (ends.share.amount ≡ 0) }
+) -> Result<(ReadCause, Vec<u8>), Fail>
+    requires reader { sent ends.inlet.ring ≡ [] }
     requires writer { received ends.to_writer ≡ [] }
 {
+    let hands = Hands::new(common.alloc)?;
     let Ends {
         reader,
-        to_desk,
-        share,
+        inlet,
         writer,
         to_writer,
     } = ends;
-    let Ok(reads) = start_reader(
-        rt, alloc, scope, order, &FreeGate, 7, reader, to_desk, share,
-    ) else {
-        return Err("no thread for the reader")?;
+    let Some(workers) = start_workers(common, scope, bell, true, inlet, to_writer, hands) else {
+        return Err("no threads for the workers")?;
     };
-    let Ok(writes) = start_writer(rt, scope, order, bell, gate, 7, writer, to_writer) else {
-        return Err("no thread for the writer")?;
+    let mut workers = workers;
+    workers.hand(reader, writer);
+    common.order.lock(common.rt).begin(true);
+    common.order.wake();
+    send(common.rt, common.alloc, bell, flushed, out);
+    let (read, wrote) = workers.join(common.rt);
+    let ReadLeft { cause, .. } = read;
+    let WriteLeft { writer, .. } = wrote;
+    let Some(writer) = writer else {
+        return Err("a writer that is not kept")?;
     };
-    order.lock(rt).begin(true);
-    order.wake();
-    send(rt, alloc, bell, flushed, out);
-    let read = reads.join(rt);
-    let written = writes.join(rt);
-    Ok((read.cause, written.writer.into_inner().taken))
+    Ok((cause, writer.into_inner().taken))
 }
 
 /// The same, in a scope of its own.
 fn in_scope<'a, R: Threads + Wait + Sync, L: Ledger + Send + Sync>(
-    rt: &'a R,
-    alloc: Global,
-    order: &'a Order<L>,
+    common: Common<'a, R, L, CountingGate>,
     bell: &'a Bell,
     flushed: &'a Bell,
-    gate: &'a CountingGate,
     ends: Ends<'a, R, L>,
     out: Producer<Sent>,
-) -> Result<(Option<ReadCause>, Vec<u8>), Fail>
-    requires reader { (0 < ends.share.parts) × (sent ends.to_desk ≡ []) × (ends.share.amount ≡ 0) }
+) -> Result<(ReadCause, Vec<u8>), Fail>
+    requires reader { sent ends.inlet.ring ≡ [] }
     requires writer { received ends.to_writer ≡ [] }
 {
     thread::scope(
         thread::scope_env(),
-        rt,
-        move |scope| -> Result<(Option<ReadCause>, Vec<u8>), Fail>
-            requires reader { (0 < ends.share.parts) × (sent ends.to_desk ≡ []) × (ends.share.amount ≡ 0) }
+        common.rt,
+        move |scope| -> Result<(ReadCause, Vec<u8>), Fail>
+            requires reader { sent ends.inlet.ring ≡ [] }
             requires writer { received ends.to_writer ≡ [] }
-        { serve_in(rt, alloc, scope, order, bell, flushed, gate, ends, out) },
+        { serve_in(common, scope, bell, flushed, ends, out) },
     )
 }
 
-/// The reader's cause and what was written, then the first serial that was noted, and how often the writer passed the gate.
+/// The reader's cause and what was written, then the first serial that was noted, how often the writer passed the gate, and
+/// whether its thread has said that it is over.
 fn told_of(
     alloc: Global,
-    served: Result<(Option<ReadCause>, Vec<u8>), Fail>,
+    served: Result<(ReadCause, Vec<u8>), Fail>,
     first: Option<u64>,
     passed: u64,
+    is_over: bool,
 ) -> Result<String, Fail> {
     let (cause, written) = served?;
     let written = String::from_utf8(written)?;
-    Ok(format!(in alloc; "{cause:?} {written} {first:?} {passed}")?)
+    Ok(format!(in alloc; "{cause:?} {written} {first:?} {passed} {is_over}")?)
 }
 
 /// The same for a session with a ledger and an order of its own.
@@ -160,21 +161,26 @@ fn serve<R: Threads + Wait + Sync, L: Ledger + Send + Sync>(
     };
     let ends = Ends {
         reader: Watched::new(reader_of(STREAM, 7)),
-        to_desk,
-        share,
+        inlet: Inlet::new(to_desk, Noter::new(7, share)),
         writer: Watched::new(writer),
         to_writer,
     };
     let gate = CountingGate::new(Point::BeforeWrite);
     let bell = Bell::new();
-    let served = in_scope(rt, alloc, &order, &bell, &flushed, &gate, ends, out);
-    let first = order.lock(rt).next();
-    told_of(alloc, served, first, gate.passed())
+    let common = Common {
+        rt,
+        alloc,
+        order: &order,
+        gate: &gate,
+    };
+    let served = in_scope(common, &bell, &flushed, ends, out);
+    let first = order.lock(rt).next(&mut Taken::new());
+    told_of(alloc, served, first, gate.passed(), bell.is_over())
 }
 
 #[test]
 fn both_workers_of_a_session_run_in_threads(rt: HostRuntime) -> Result<(), Fail> {
     let told = serve::<HostRuntime, Brand>(&rt, rt.alloc(), Blank::new(1))?;
-    let wanted = "Some(InputEnded) [1][2][3] Some(7) 3";
+    let wanted = "InputEnded [1][2][3] Some(7) 3 true";
     is_text(rt.alloc(), told.as_str(), wanted)
 }

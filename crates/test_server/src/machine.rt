@@ -191,7 +191,7 @@ fn over_a_switch(alloc: Global) -> Result<NetCore, Fail> {
 /// The number of failures that it has counted.
 fn failures_over_a_switch(alloc: Global) -> Result<u64, Fail> {
     let core = over_a_switch(alloc)?;
-    core.kept();
+    core.shows_kept();
     Ok(core.failures())
 }
 

@@ -237,7 +237,7 @@ got 1 -> {"error":"duplicate request id","id":1,"result":null}
 insert 2 1 s9
 got 2 -> {"error":null,"id":1,"result":[{"uuid":["uuid","00000000-0000-4000-8000-000000000003"]}]}
 got 1 -> {"error":null,"id":1,"result":[{}]}
-outcomes -> 1 Kept;
+outcomes -> 1 Committed;
 insert 2 2 s8
 got 1"#;
 
@@ -287,7 +287,7 @@ got 1
 insert 2 1 s9
 got 2 -> {"error":null,"id":1,"result":[{"uuid":["uuid","00000000-0000-4000-8000-000000000005"]}]}
 got 1 -> {"error":null,"id":2,"result":[{},{"uuid":["uuid","00000000-0000-4000-8000-000000000003"]}]}{"error":null,"id":1,"result":[{}]}
-outcomes -> 1 Kept;3 Kept;"#;
+outcomes -> 1 Committed;3 Committed;"#;
 
 #[test]
 fn settling_starts_again(rt: HostRuntime) -> Result<(), Fail> {
@@ -387,7 +387,7 @@ wait 1 2 s10 50
 insert 2 1 s9
 got 2 -> {"error":null,"id":1,"result":[{"uuid":["uuid","00000000-0000-4000-8000-000000000005"]}]}
 got 1 -> {"error":null,"id":1,"result":[{},{"uuid":["uuid","00000000-0000-4000-8000-000000000002"]},{"error":"I/O error"}]}
-outcomes -> 1 Kept;2 Failed;
+outcomes -> 1 Committed;2 Failed;
 insert 2 2 s10
 got 2 -> {"error":null,"id":2,"result":[{"uuid":["uuid","00000000-0000-4000-8000-000000000007"]},{"error":"I/O error"}]}
 got 1

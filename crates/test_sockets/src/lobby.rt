@@ -1,20 +1,22 @@
-//! A lobby for two clients over the loopback interface.
+//! A lobby over the loopback interface: for two clients at a time, and for many that come one after another.
 
 use crate::sessions::{client_of, meets_end, talk};
+use ov_desk::{Listen, serve_lobby};
 use ov_ends::{Clock, Watched};
 use ov_keeper::Keeper;
 use ov_lanes::{Desk, Link};
-use ov_lobby::{Listen, serve_lobby};
 use ov_requests::Draws;
 use ov_sockets::listen;
 use ov_workers::FreeGate;
 use std::alloc::Global;
+use std::fs::{Files, read_dir};
 use std::net::{Net, Shutdown, TcpListener, TcpStream};
 use std::rt::Clock as SystemClock;
 use std::sync::Wait;
 use std::test::Fail;
 use std::thread;
 use std::thread::Threads;
+use std::time::Duration;
 use test_basics::{Faults, is_text};
 use test_support::net_core;
 
@@ -62,14 +64,15 @@ fn serve_few<R: Threads + Wait + SystemClock + Sync, K: Keeper + Drop, D: Draws 
     }
 }
 
-/// The same with the first two connections of a listener, over a new in-memory database Net.
-fn serve_two<R: Threads + Wait + SystemClock + Sync>(
+/// The same with the first connections of a listener, over a new in-memory database Net.
+fn serve_first<R: Threads + Wait + SystemClock + Sync>(
     rt: &R,
     alloc: Global,
     listener: &TcpListener,
+    left: usize,
 ) -> Result<Option<usize>, Fail> {
-    let desk = Desk::new(net_core(alloc, Faults::NONE)?);
-    Ok(serve_few(rt, alloc, desk, Few { listener, left: 2 }))
+    let desk = Desk::new(alloc, net_core(alloc, Faults::NONE)?);
+    Ok(serve_few(rt, alloc, desk, Few { listener, left }))
 }
 
 /// After the first client was answered, the second sends a request and a stray bracket. It does not end, but its connection
@@ -112,7 +115,7 @@ fn are_served<R: Threads + Wait + SystemClock + Sync>(
 ) -> Result<(), Fail> {
     let (entries, talked) = thread::join(
         rt,
-        move || serve_two(rt, alloc, listener),
+        move || serve_first(rt, alloc, listener, 2),
         move || talk_and_end(alloc, first, second),
     );
     is_served(alloc, entries, talked)
@@ -132,4 +135,138 @@ where
 fn one_is_closed_for_damage_while_another_stays(rt: HostRuntime) -> Result<(), Fail> {
     let listener = listen(&rt, "127.0.0.1:0")?;
     two_are_served(&rt, rt.alloc(), &listener)
+}
+
+/// How many connections come one after another.
+const MANY: usize = 300;
+
+/// How many have come when it is first looked at what the process has.
+const EARLY: usize = 20;
+
+/// How many more threads or descriptors there may be: those of the connection before may be there for a moment.
+const SLACK: usize = 8;
+
+/// The number of names in a folder.
+fn count_names<R: Files + Alloc + Clone + Drop>(rt: &R, path: &str) -> Option<usize> {
+    let mut count: usize = 0;
+    for entry in read_dir(rt, path).ok()? {
+        let _entry = entry.ok()?;
+        count = count.saturating_add(1);
+    }
+    Some(count)
+}
+
+/// How many threads and descriptors the process has.
+#[derive(Clone, Copy, Drop)]
+struct Held {
+    threads: usize,
+    descriptors: usize,
+}
+
+impl Held {
+    /// What it has now.
+    fn now<R: Files + Alloc + Clone + Drop>(rt: &R) -> Option<Held> {
+        Some(Held {
+            threads: count_names(rt, "/proc/self/task")?,
+            descriptors: count_names(rt, "/proc/self/fd")?,
+        })
+    }
+}
+
+/// By how much a number has grown, apart from a few.
+fn growth(before: usize, after: usize) -> usize {
+    after.saturating_sub(before.saturating_add(SLACK))
+}
+
+/// How many seconds a client waits for its echo.
+const PATIENCE: u64 = 20;
+
+/// An echo.
+const ECHO: &str = r#"1 sends {"id":1,"method":"echo","params":["x"]}
+1 reads {"error":null,"id":1,"result":["x"]}"#;
+
+/// Connects, and has an echo answered. Returns what the process has before the connection ends.
+fn visit<R>(rt: &R, alloc: Global, listener: &TcpListener) -> Option<Held>
+where
+    R: Net<Listener = TcpListener, Stream = TcpStream> + Files + Alloc + Clone + Drop,
+{
+    let client = TcpStream::connect(rt, listener.local_addr().ok()?).ok()?;
+    client
+        .set_read_timeout(Some(Duration::from_secs(PATIENCE)))
+        .ok()?;
+    talk(alloc, &client, &client, ECHO)?;
+    Held::now(rt)
+}
+
+/// What many clients found that came one after another.
+#[derive(Drop)]
+struct Visits {
+    answered: usize,
+    early: Option<Held>,
+    late: Option<Held>,
+}
+
+/// Has many clients come. All come, however they are answered, since serving waits for them.
+fn visit_often<R>(rt: &R, alloc: Global, listener: &TcpListener) -> Visits
+where
+    R: Net<Listener = TcpListener, Stream = TcpStream> + Files + Alloc + Clone + Drop,
+{
+    let mut visits = Visits {
+        answered: 0,
+        early: None,
+        late: None,
+    };
+    for number in 1..MANY + 1 {
+        visits.late = visit(rt, alloc, listener);
+        if visits.late.is_some() {
+            visits.answered = visits.answered.saturating_add(1);
+        }
+        if number == EARLY {
+            visits.early = visits.late;
+        }
+    }
+    visits
+}
+
+/// Fails unless each client was opened, answered and closed, and the process has no more threads and descriptors than before.
+fn nothing_grows(
+    alloc: Global,
+    entries: Result<Option<usize>, Fail>,
+    visits: Visits,
+) -> Result<(), Fail> {
+    let entries = entries?;
+    let (Some(early), Some(late)) = (visits.early, visits.late) else {
+        return Err("no look at the process")?;
+    };
+    let threads = growth(early.threads, late.threads);
+    let descriptors = growth(early.descriptors, late.descriptors);
+    let told = format!(in alloc; "{entries:?} {} {threads} {descriptors}", visits.answered)?;
+    is_text(alloc, told.as_str(), "Some(900) 300 0 0")
+}
+
+/// The same with clients that come while a lobby serves a listener.
+fn many_are_served<R>(rt: &R, alloc: Global, listener: &TcpListener) -> Result<(), Fail>
+where
+    R: Net<Listener = TcpListener, Stream = TcpStream>
+        + Threads
+        + Wait
+        + SystemClock
+        + Files
+        + Alloc
+        + Clone
+        + Drop
+        + Sync,
+{
+    let (entries, visits) = thread::join(
+        rt,
+        move || serve_first(rt, alloc, listener, MANY),
+        move || visit_often(rt, alloc, listener),
+    );
+    nothing_grows(alloc, entries, visits)
+}
+
+#[test]
+fn many_come_one_after_another(rt: HostRuntime) -> Result<(), Fail> {
+    let listener = listen(&rt, "127.0.0.1:0")?;
+    many_are_served(&rt, rt.alloc(), &listener)
 }

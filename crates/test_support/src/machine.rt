@@ -124,7 +124,7 @@ impl Machine {
 
     /// The moments of the history.
     fn moments(&self, alloc: Global) -> Result<String, Fail> {
-        self.core.left();
+        self.core.shows_left();
         let mut text = String::new(alloc);
         for entry in self.core.history() {
             push_number(alloc, &mut text, entry.choice.moment)?;

@@ -1,46 +1,87 @@
-use Rattle.std.proofs.Common.{rules, ◌≡◌, ◌<◌, ◌++◌, [], ◌∷◌, true, List, length, vec_len, refl, sym, ap, subst, ◌∙◌, append_assoc, append-nil}
+use Rattle.std.proofs.Common.{rules, ◌≡◌, ◌++◌, [], ◌∷◌, None, length, refl, sym, ap, subst, ◌∙◌, append_assoc, append-nil}
 use Rattle.ov_ends.specs.States.{source_of, sink_of}
-use Rattle.ov_lanes.specs.declared.lane.Lane.{Lane}
-use Rattle.ov_desk.specs.Ends.{EndsLane}
-use Rattle.ov_desk.specs.declared.link.End.{End}
-use Rattle.ov_desk.specs.declared.workers.Workers.{Workers}
-use Rattle.ov_lanes.proofs.Pairs.{pairs_popped, none_beside, popped_at, popped_rest, threes_none, threes_more}
+use Rattle.ov_lanes.specs.Pairs.{Threewise}
+use Rattle.ov_lanes.proofs.Pairs.{popped_at, popped_rest}
+use Rattle.ov_lanes.proofs.PlaceLaws.{at_below}
+use Rattle.ov_desk.specs.Ends.{EndsSeat}
+use Rattle.ov_desk.specs.Seats.{IsSeatOf}
+use Rattle.ov_desk.proofs.Pairs.{threes_none_left}
+use Rattle.ov_desk.proofs.Seats.{last_seated, last_seat, seat_parts, seat_not_none, seat_works}
 use Rattle.ov_desk.proofs.finish.finish_all.Goals as goal
 
-pub loop-lane-init : goal.loop-lane-init
-loop-lane-init g c =
-    ([], [], sym (append-nil c.args.lanes.items), sym (append-nil c.args.workers.items), threes_none (λ (l : Lane) (w : Workers g.row.S.Denot g.row.W.Denot g.row.L.Denot) (e : End g.row.S.Denot g.row.W.Denot). EndsLane (source_of g.S.Source) (sink_of g.W.Sink) l w.reads.promise.reader.value w.writes.promise.writer.value e) c.args.ends.items c.requires.room.0, c.requires.over, c.requires.pairs, search rules, refl)
+pub loop-place-init : goal.loop-place-init
+loop-place-init g c = record {
+  left = c.requires.seats;
+  done = λ links seats. (links, [], [], sym (append-nil links), sym (append-nil c.args.lanes.items), seats, subst (λ l. Threewise (λ k p e. EndsSeat (source_of g.S.Source) (sink_of g.W.Sink) k p e) [] [] l) (sym c.requires.room.0) tt);
+  over = c.requires.over;
+  room = search rules;
+}
 
 pub unreachable-requires : goal.unreachable-requires
 unreachable-requires g c =
-    none_beside _ c.loop-lane.lanes.items c.pop.new.self.items c.loop-lane.workers.items c.in-Some.lane c.in-Some.ensures.items (search rules) c.loop-lane.invariant.6
+    let left = c.loop-place.invariant.left in
+    last_seated left.0 c.loop-place.lanes.items c.pop.new.self.items c.loop-place.workers.items c.in-Some.place c.in-Some.ensures.items left.1 (search rules)
 
-pub finish_link-requires-clause-pairs : goal.finish_link-requires-clause-pairs
-finish_link-requires-clause-pairs g c =
-    let pair = (pairs_popped _ c.loop-lane.lanes.items c.pop.new.self.items c.loop-lane.workers.items c.pop-in-Some.new.self.items c.in-Some.lane c.in-Some-pop.worker c.in-Some.ensures.items c.in-Some-pop.ensures.items c.loop-lane.invariant.6).1 in
-    (pair.0, pair.1)
+pub unreachable-requires-in_default-place : goal.unreachable-requires-in_default-place
+unreachable-requires-in_default-place g c =
+    let left = c.loop-place.invariant.left in
+    let x = last_seat left.0 c.loop-place.lanes.items c.pop.new.self.items c.loop-place.workers.items c.in-Some.place c.in-Some.ensures.items left.1 c.pop-in-Some.new.self.items c.in-Some-pop.seat c.in-Some-pop.ensures.items in
+    seat_not_none x.1 c.in-Some.place c.in-Some-pop.seat x.4 c.in_default-place.is
+
+pub unreachable-requires-in_default-seat : goal.unreachable-requires-in_default-seat
+unreachable-requires-in_default-seat g c =
+    let left = c.loop-place.invariant.left in
+    let x = last_seat left.0 c.loop-place.lanes.items c.pop.new.self.items c.loop-place.workers.items c.in-Some.place c.in-Some.ensures.items left.1 c.pop-in-Some.new.self.items c.in-Some-pop.seat c.in-Some-pop.ensures.items in
+    seat_works x.1 c.in-Some.place c.in-Some-pop.seat x.4 c.in_default-seat.is
+
+pub finish_link-requires-clause-workers : goal.finish_link-requires-clause-workers
+finish_link-requires-clause-workers g c =
+    let left = c.loop-place.invariant.left in
+    let x = last_seat left.0 c.loop-place.lanes.items c.pop.new.self.items c.loop-place.workers.items c.in-Some.place c.in-Some.ensures.items left.1 c.pop-in-Some.new.self.items c.in-Some-pop.seat c.in-Some-pop.ensures.items in
+    (seat_parts x.1 c.in-Some.place c.in-Some-pop.seat c.in-Some-place.lane c.in-Some-seat.worker c.in-Some-place.is c.in-Some-seat.is x.4).0
+
+pub finish_link-requires-clause-link : goal.finish_link-requires-clause-link
+finish_link-requires-clause-link g c =
+    let left = c.loop-place.invariant.left in
+    let x = last_seat left.0 c.loop-place.lanes.items c.pop.new.self.items c.loop-place.workers.items c.in-Some.place c.in-Some.ensures.items left.1 c.pop-in-Some.new.self.items c.in-Some-pop.seat c.in-Some-pop.ensures.items in
+    (x.1, (seat_parts x.1 c.in-Some.place c.in-Some-pop.seat c.in-Some-place.lane c.in-Some-seat.worker c.in-Some-place.is c.in-Some-seat.is x.4).1)
 
 pub finish_link-requires-clause-over : goal.finish_link-requires-clause-over
 finish_link-requires-clause-over g c =
-    let old = c.loop-lane.lanes.items in let new = c.pop.new.self.items in let x = c.in-Some.lane in
-    let lt : length new < vec_len c.loop-lane.lanes = search rules in
-    let P : Lane → Type 0 = λ l. (l.ended ≡ true) × (l.marked ≡ true) in
-    subst P (popped_at old new x x (length new) c.in-Some.ensures.items refl) (c.loop-lane.invariant.5 (length new) x lt)
+    c.loop-place.invariant.over (length c.pop.new.self.items) c.in-Some-place.lane
+    (popped_at c.loop-place.lanes.items c.pop.new.self.items c.in-Some.place None (length c.pop.new.self.items) c.in-Some.ensures.items refl ∙ c.in-Some-place.is)
 
-pub loop-lane-preserved : goal.loop-lane-preserved
-loop-lane-preserved g c =
-    let was = c.loop-lane.invariant in
-    let old = c.loop-lane.lanes.items in let new = c.pop.new.self.items in let x = c.in-Some.lane in
-    let olds = c.loop-lane.workers.items in let news = c.pop-in-Some.new.self.items in let y = c.in-Some-pop.worker in
-    let e = c.finish_link.result in
-    let P : Lane → Type 0 = λ l. (l.ended ≡ true) × (l.marked ≡ true) in (
-      x ∷ was.0,
-      y ∷ was.1,
-      was.2 ∙ (ap (λ (l : List Lane). l ++ was.0) c.in-Some.ensures.items ∙ append_assoc new (x ∷ []) was.0),
-      was.3 ∙ (ap (λ l. l ++ was.1) c.in-Some-pop.ensures.items ∙ append_assoc news (y ∷ []) was.1),
-      threes_more _ was.0 was.1 c.loop-lane.ends.items c.push_front_reserved.new.self.items x y e c.push_front_reserved.ensures.items (c.finish_link.ensures.serial, c.finish_link.ensures.ends) was.4,
-      (λ i d lt. let low : i < length new = search rules in let up : i < vec_len c.loop-lane.lanes = search rules in subst P (popped_rest old new x d i c.in-Some.ensures.items low) (was.5 i d up)),
-      (pairs_popped _ old new olds news x y c.in-Some.ensures.items c.in-Some-pop.ensures.items was.6).0,
-      search rules,
-      (let one = (pairs_popped _ old new olds news x y c.in-Some.ensures.items c.in-Some-pop.ensures.items was.6).1.2 in search rules),
-    )
+pub loop-place-preserved : goal.loop-place-preserved
+loop-place-preserved g c =
+    let was = c.loop-place.invariant in
+    let ls = c.loop-place.lanes.items in let ls' = c.pop.new.self.items in let ws = c.loop-place.workers.items in let ws' = c.pop-in-Some.new.self.items in
+    let p = c.in-Some.place in let v = c.in-Some-pop.seat in let lane = c.in-Some-place.lane in let worker = c.in-Some-seat.worker in
+    let x = last_seat was.left.0 ls ls' ws p c.in-Some.ensures.items was.left.1 ws' v c.in-Some-pop.ensures.items in
+    record {
+      left = (x.0, x.3);
+      done = λ links seats.
+          let d = was.done links seats in
+          let y = last_seat d.0 ls ls' ws p c.in-Some.ensures.items d.5 ws' v c.in-Some-pop.ensures.items in
+          let parts = seat_parts y.1 p v lane worker c.in-Some-place.is c.in-Some-seat.is y.4 in (
+            y.0,
+            y.1 ∷ d.1,
+            p ∷ d.2,
+            d.3 ∙ (ap (λ l. l ++ d.1) y.2 ∙ append_assoc y.0 (y.1 ∷ []) d.1),
+            d.4 ∙ (ap (λ l. l ++ d.2) c.in-Some.ensures.items ∙ append_assoc ls' (p ∷ []) d.2),
+            y.3,
+            subst (λ l. Threewise (λ k q e. EndsSeat (source_of g.S.Source) (sink_of g.W.Sink) k q e) (y.1 ∷ d.1) (p ∷ d.2) l) (sym c.push_front_reserved.ensures.items)
+                ((lane, c.in-Some-place.is, (c.finish_link.ensures.serial, c.finish_link.ensures.ends y.1 parts.1)), d.6),
+          );
+      over = λ at l is. was.over at l (popped_rest ls ls' p None at c.in-Some.ensures.items (at_below ls' at l is) ∙ is);
+      room = search rules;
+    }
+
+pub returns : goal.returns
+returns g c links seats =
+    let d = c.loop-place.invariant.done links seats in
+    let none : c.loop-place.lanes.items ≡ [] = search rules in
+    let left = threes_none_left IsSeatOf d.0 c.loop-place.lanes.items c.loop-place.workers.items none d.5 in
+    let same : links ≡ d.1 = d.3 ∙ ap (λ l. l ++ d.1) left.0 in
+    let places : c.args.lanes.items ≡ d.2 = d.4 ∙ ap (λ l. l ++ d.2) none in
+    subst (λ k. Threewise (λ k p e. EndsSeat (source_of g.S.Source) (sink_of g.W.Sink) k p e) k c.args.lanes.items c.loop-place.ends.items) (sym same)
+    (subst (λ l. Threewise (λ k p e. EndsSeat (source_of g.S.Source) (sink_of g.W.Sink) k p e) d.1 l c.loop-place.ends.items) (sym places) d.6)

@@ -1,17 +1,49 @@
+use Rattle.std.proofs.Common.{[], sym, ap, subst, append-nil}
+use Rattle.std.specs.Prelude.{option_to_list}
+use Rattle.ov_lanes.specs.Lanes.{GoesOn}
 use Rattle.ov_lanes.proofs.Courses.{passes}
-use Rattle.ov_desk.proofs.Running.{goes_on_along, goes_on_by, goes_on_passed}
+use Rattle.ov_lanes.proofs.PlaceLaws.{goes_none, goes_along, goes_passed}
+use Rattle.ov_desk.specs.Serving.{KeepsHall}
+use Rattle.ov_desk.proofs.Running.{hall_along, hall_same, hall_puts, hall_tended}
+use Rattle.ov_desk.proofs.run.serve_note.Goals.{in-Some, in-None, then-not-is_flushed, else-not-is_flushed}
 use Rattle.ov_desk.proofs.run.serve_note.Goals as goal
 
-pub returns-in-Some-place : goal.returns-in-Some-place
-returns-in-Some-place g c =
-    let ls = c.args.lanes.now.items in
-    goes_on_along ls ls c.turn_once_seen.new.lanes.items
-    (goes_on_passed ls (λ start since. passes since g.D.Draws.draws c.args.moment c.pass_where_due.new.self c.pass_where_due.result c.pass_where_due.ensures.passes c.pass_where_due.ensures.refused))
-    c.turn_once_seen.ensures
+pub returns-clause-goes : goal.returns-clause-goes
+returns-clause-goes g c =
+    let m = c.args.moment in let ls = c.args.hall.now.desk.lanes.items in let core = c.pass_where_due.new.self in
+    let a = c.match-note.hall in let b = c.if-not-is_flushed.hall in let d = c.tend.new.self in
+    let passed : GoesOn m c.args.hall.now.desk.core ls core ls = goes_passed m ls (λ start since. passes m since g.D.Draws.draws core c.pass_where_due.result c.pass_where_due.ensures.passes c.pass_where_due.ensures.refused) in
+    let taken : GoesOn m core ls a.desk.core a.desk.lanes.items = elim c.match-note.branch [
+      | in-Some w ↦ subst (λ h. GoesOn m core ls h.desk.core h.desk.lanes.items) (sym w.hall-is) w.take_noted-is_flushed.ensures.goes
+      | in-None w ↦ subst (λ h. GoesOn m core ls h.desk.core h.desk.lanes.items) (sym w.hall-is) (goes_none m core ls)
+    ] in
+    let flushed : GoesOn m a.desk.core a.desk.lanes.items b.desk.core b.desk.lanes.items = elim c.if-not-is_flushed.branch [
+      | then-not-is_flushed w ↦ subst (λ h. GoesOn m a.desk.core a.desk.lanes.items h.desk.core h.desk.lanes.items) (sym w.hall-is) (w.flush.ensures.goes m)
+      | else-not-is_flushed w ↦ subst (λ h. GoesOn m a.desk.core a.desk.lanes.items h.desk.core h.desk.lanes.items) (sym w.hall-is) (goes_none m a.desk.core a.desk.lanes.items)
+    ] in
+    goes_along m ls ls d.desk.lanes.items passed
+    (goes_along m ls a.desk.lanes.items d.desk.lanes.items taken (goes_along m a.desk.lanes.items b.desk.lanes.items d.desk.lanes.items flushed (c.tend.ensures.goes m)))
 
-pub returns-in-None-place : goal.returns-in-None-place
-returns-in-None-place g c =
-    let ls = c.args.lanes.now.items in
-    goes_on_along ls ls c.settle_all.new.lanes.items
-    (goes_on_passed ls (λ start since. passes since g.D.Draws.draws c.args.moment c.pass_where_due.new.self c.pass_where_due.result c.pass_where_due.ensures.passes c.pass_where_due.ensures.refused))
-    (goes_on_by ls c.settle_all.new.lanes.items c.settle_all.ensures.serves c.settle_all.ensures.rings)
+pub returns-clause-kept : goal.returns-clause-kept
+returns-clause-kept g c =
+    let o = c.args.hall.now in let a = c.match-note.hall in let b = c.if-not-is_flushed.hall in let d = c.tend.new.self in
+    let note = option_to_list c.args.note in
+    let taken : KeepsHall note o.keeps o.accepted o.desk.lanes.items o.workers a.keeps a.accepted a.desk.lanes.items a.workers = elim c.match-note.branch [
+      | in-Some w ↦
+          subst (λ h. KeepsHall note o.keeps o.accepted o.desk.lanes.items o.workers h.keeps h.accepted h.desk.lanes.items h.workers) (sym w.hall-is)
+          (subst (λ n. KeepsHall n o.keeps o.accepted o.desk.lanes.items o.workers w.take_noted-is_flushed.new.hall.keeps w.take_noted-is_flushed.new.hall.accepted w.take_noted-is_flushed.new.hall.desk.lanes.items w.take_noted-is_flushed.new.hall.workers) (ap option_to_list (sym w.in-Some.is)) w.take_noted-is_flushed.ensures.kept)
+      | in-None w ↦
+          subst (λ h. KeepsHall note o.keeps o.accepted o.desk.lanes.items o.workers h.keeps h.accepted h.desk.lanes.items h.workers) (sym w.hall-is)
+          (subst (λ n. KeepsHall n o.keeps o.accepted o.desk.lanes.items o.workers o.keeps o.accepted o.desk.lanes.items o.workers) (ap option_to_list (sym w.in-None.is)) (hall_same o.keeps o.accepted o.desk.lanes.items o.workers))
+    ] in
+    let flushed : KeepsHall [] a.keeps a.accepted a.desk.lanes.items a.workers b.keeps b.accepted b.desk.lanes.items b.workers = elim c.if-not-is_flushed.branch [
+      | then-not-is_flushed w ↦
+          subst (λ h. KeepsHall [] a.keeps a.accepted a.desk.lanes.items a.workers h.keeps h.accepted h.desk.lanes.items h.workers) (sym w.hall-is)
+          (hall_puts a.keeps a.accepted a.desk.lanes.items w.flush.new.self.lanes.items a.workers w.flush.ensures.rings)
+      | else-not-is_flushed w ↦
+          subst (λ h. KeepsHall [] a.keeps a.accepted a.desk.lanes.items a.workers h.keeps h.accepted h.desk.lanes.items h.workers) (sym w.hall-is) (hall_same a.keeps a.accepted a.desk.lanes.items a.workers)
+    ] in
+    let tended = hall_tended b.keeps d.keeps b.accepted d.accepted b.desk.lanes.items d.desk.lanes.items b.workers d.workers c.tend.ensures.same c.tend.ensures.kept in
+    let both = hall_along [] [] a.keeps b.keeps d.keeps a.accepted b.accepted d.accepted a.desk.lanes.items b.desk.lanes.items d.desk.lanes.items a.workers b.workers d.workers flushed tended in
+    subst (λ n. KeepsHall n o.keeps o.accepted o.desk.lanes.items o.workers d.keeps d.accepted d.desk.lanes.items d.workers) (append-nil note)
+    (hall_along note [] o.keeps a.keeps d.keeps o.accepted a.accepted d.accepted o.desk.lanes.items a.desk.lanes.items d.desk.lanes.items o.workers a.workers d.workers taken both)

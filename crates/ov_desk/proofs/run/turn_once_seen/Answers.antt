@@ -1,13 +1,33 @@
-use Rattle.ov_desk.proofs.Running.{goes_on_none, goes_on_along, goes_on_by}
+use Rattle.ov_lanes.proofs.PlaceLaws.{goes_none, goes_along}
+use Rattle.ov_lanes.proofs.Turning.{stay_same, stay_along_same, look_self}
+use Rattle.ov_desk.proofs.Running.{looks_then_takes, looks_along}
 use Rattle.ov_desk.proofs.run.turn_once_seen.Goals as goal
 
+pub returns-then-is_none-clause-goes : goal.returns-then-is_none-clause-goes
+returns-then-is_none-clause-goes g c = goes_none c.args.moment c.args.desk.now.core c.args.desk.now.lanes.items
+
+pub returns-then-is_none-clause-rings : goal.returns-then-is_none-clause-rings
+returns-then-is_none-clause-rings g c = stay_same c.args.desk.now.lanes.items
+
 pub loop-init : goal.loop-init
-loop-init g c = goes_on_none c.args.core.now c.args.lanes.now.items
+loop-init g c = record {
+  goes = goes_none c.args.moment c.args.desk.now.core c.args.desk.now.lanes.items;
+  rings = stay_same c.args.desk.now.lanes.items;
+  looks = look_self c.args.desk.now.lanes.items;
+}
+
+pub returns-then-turn-clause-goes : goal.returns-then-turn-clause-goes
+returns-then-turn-clause-goes g c = goes_along c.args.moment c.args.desk.now.lanes.items c.loop.desk.lanes.items c.turn.new.self.lanes.items c.loop.invariant.goes c.turn.ensures.goes
+
+pub returns-then-turn-clause-rings : goal.returns-then-turn-clause-rings
+returns-then-turn-clause-rings g c = stay_along_same c.args.desk.now.lanes.items c.loop.desk.lanes.items c.turn.new.self.lanes.items c.loop.invariant.rings c.turn.ensures.rings
+
+pub returns-then-turn-clause-taken : goal.returns-then-turn-clause-taken
+returns-then-turn-clause-taken g c = looks_then_takes c.args.serial c.args.desk.now.lanes.items c.loop.desk.lanes.items c.turn.new.self.lanes.items c.loop.invariant.looks c.if-turn.ensures.turns.0
 
 pub loop-preserved : goal.loop-preserved
-loop-preserved g c =
-    goes_on_along c.args.lanes.now.items c.loop.lanes.items c.turn_at.new.lanes.items c.loop.invariant (goes_on_by c.loop.lanes.items c.turn_at.new.lanes.items c.turn_at.ensures.serves c.turn_at.ensures.rings)
-
-pub returns-then-turn_at : goal.returns-then-turn_at
-returns-then-turn_at g c =
-    goes_on_along c.args.lanes.now.items c.loop.lanes.items c.turn_at.new.lanes.items c.loop.invariant (goes_on_by c.loop.lanes.items c.turn_at.new.lanes.items c.turn_at.ensures.serves c.turn_at.ensures.rings)
+loop-preserved g c = record {
+  goes = goes_along c.args.moment c.args.desk.now.lanes.items c.loop.desk.lanes.items c.turn.new.self.lanes.items c.loop.invariant.goes c.turn.ensures.goes;
+  rings = stay_along_same c.args.desk.now.lanes.items c.loop.desk.lanes.items c.turn.new.self.lanes.items c.loop.invariant.rings c.turn.ensures.rings;
+  looks = looks_along c.args.desk.now.lanes.items c.loop.desk.lanes.items c.turn.new.self.lanes.items c.loop.invariant.looks c.if-turn.ensures.turns.1;
+}

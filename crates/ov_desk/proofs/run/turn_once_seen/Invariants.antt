@@ -1,5 +1,9 @@
-use Rattle.ov_desk.specs.Running.{GoesOn}
+use Rattle.ov_lanes.specs.Lanes.{GoesOn, SameLane, LooksAt, StayAs}
 use Rattle.ov_desk.proofs.run.turn_once_seen.Given as goal
 
 abbrev pub invariant-loop : goal.invariant-loop
-invariant-loop g l = GoesOn l.initial.core l.initial.lanes.items l.core l.lanes.items
+invariant-loop g l = record {
+  goes : GoesOn l.moment l.initial.desk.core l.initial.desk.lanes.items l.desk.core l.desk.lanes.items;
+  rings : StayAs SameLane l.initial.desk.lanes.items l.desk.lanes.items;
+  looks : StayAs LooksAt l.initial.desk.lanes.items l.desk.lanes.items;
+}

@@ -2,21 +2,16 @@ use Rattle.std.proofs.Common.{◌≡◌, ℕ, length, vec_len, sym, subst, inr, 
 use Rattle.std.specs.VecDeque.{deque_len}
 use Rattle.ov_core.specs.Following.{CoreState}
 use Rattle.ov_lanes.proofs.Pairs.{pairs_length}
-use Rattle.ov_desk.specs.Ends.{ServesAll}
 use Rattle.ov_desk.specs.Serving.{RefusesLinks}
 use Rattle.ov_sockets.specs.Links.{IsLinkOf}
-use Rattle.ov_listen.specs.Connections.{socket_source, socket_sink}
 use Rattle.ov_listen.proofs.connections.serve_connections.Goals as goal
 
 pub returns-in-Ok-serve_links-clause-served : goal.returns-in-Ok-serve_links-clause-served
-returns-in-Ok-serve_links-clause-served g c =
-    let links = c.in-Ok.links.items in
-    let served = c.in-Ok-serve_links.served in
-    record {
-      links = links;
-      own = c.in-Ok.ensures.links;
-      served = subst (λ (first : CoreState g.row.K.Denot g.row.D.Denot). ServesAll socket_source socket_sink first served.desk.core links served.ends.items) c.new.ensures c.in-Ok-serve_links.ensures.served;
-    }
+returns-in-Ok-serve_links-clause-served g c = record {
+  links = c.in-Ok.links.items;
+  own = c.in-Ok.ensures.links;
+  served = rw (sym c.new.ensures.core) c.in-Ok-serve_links.ensures.served;
+}
 
 pub returns-in-Err-serve_links-clause-refused : goal.returns-in-Err-serve_links-clause-refused
 returns-in-Err-serve_links-clause-refused g c =
@@ -27,6 +22,6 @@ returns-in-Err-serve_links-clause-refused g c =
     let count : length links.items ≡ length streams.items = pairs_length IsLinkOf links.items streams.items c.in-Ok.ensures.links in
     let many : deque_len links ≡ vec_len streams = first_of (omega arith, search rules) in
     let counted = subst (λ (n : ℕ). RefusesLinks n c.new.result.core fault left) many c.in-Err-serve_links.ensures.refused.0 in
-    let from = subst (λ (first : CoreState g.row.K.Denot g.row.D.Denot). RefusesLinks (vec_len streams) first fault left) c.new.ensures counted in
+    let from = subst (λ (first : CoreState g.row.K.Denot g.row.D.Denot). RefusesLinks (vec_len streams) first fault left) c.new.ensures.core counted in
     let refused = subst (λ (last : CoreState g.row.K.Denot g.row.D.Denot). RefusesLinks (vec_len streams) c.args.core fault last) (sym c.into_core.ensures) from in
-    inr (fault, c.ending_of_serving.ensures, refused)
+    (c.in-Err-serve_links.ensures.untouched, inr (fault, c.ending_of_serving.ensures, refused))

@@ -7,19 +7,15 @@ use Rattle.ov_workers.proofs.bring.bring_texts.Goals as goal
 
 pub loop-text-init : goal.loop-text-init
 loop-text-init g c = record {
-  ring = search rules;
-  brought = front_none c.args.texts.items (into_iter_items c.into_iter-text-iterator.result) (sent c.args.ring.now) c.into_iter-text-iterator.ensures.into_iter_gives.0;
-  counted = c.requires.counted;
-  parts = search rules;
+  inlet = search rules;
+  brought = front_none c.args.texts.items (into_iter_items c.into_iter-text-iterator.result) (sent c.args.inlet.now.ring) c.into_iter-text-iterator.ensures.into_iter_gives.0;
 }
 
 pub loop-text-preserved : goal.loop-text-preserved
 loop-text-preserved g c = record {
-  ring = search rules;
-  brought = front_more c.args.texts.items (into_iter_items c.loop-text.text-iterator) (into_iter_items c.next.new.self) c.in-Some.text c.in-Ok.received (sent c.args.ring.now) (sent c.loop-text.ring) (sent c.bring.new.ring)
+  inlet = search rules;
+  brought = front_more c.args.texts.items (into_iter_items c.loop-text.text-iterator) (into_iter_items c.next.new.self) c.in-Some.text c.in-Ok.received (sent c.args.inlet.now.ring) (sent c.loop-text.inlet.ring) (sent c.bring.new.inlet.ring)
       c.loop-text.invariant.brought c.in-Some.ensures.steps.0 c.in-Ok.ensures.message c.bring.ensures.sent;
-  counted = c.bring.ensures.counted;
-  parts = search rules;
 }
 
 pub returns-in-Err-Unreadable-clause-brought : goal.returns-in-Err-Unreadable-clause-brought

@@ -6,10 +6,8 @@ use Rattle.ov_workers.proofs.reader.read_messages.Goals as goal
 
 pub loop-init : goal.loop-init
 loop-init g c = record {
-  ring = search rules;
-  read = read_none (source_of g.S.Source c.args.reader.now) c.new-cutter.result (sent c.args.ring.now) c.new-cutter.ensures c.requires.fresh.0;
-  counted = search rules;
-  parts = search rules;
+  inlet = search rules;
+  read = read_none (source_of g.S.Source c.args.reader.now) c.new-cutter.result (sent c.args.inlet.now.ring) c.new-cutter.ensures c.requires.fresh;
 }
 
 pub returns-in-Some-eq0-clause-brought : goal.returns-in-Some-eq0-clause-brought
@@ -19,7 +17,7 @@ returns-in-Some-eq0-clause-brought g c =
     let new : SourceState = source_of g.S.Source c.read.new.self in
     let none : c.in-Some-eq0.field-0 ≡ 0 = first_of (omega arith, search rules, cc) in
     let wide : length c.read.new.piece ≡ 4096 = search rules in
-    then_ended old mid new c.loop.cutter (sent c.loop.ring) c.loop.invariant.read c.read.ensures.input c.read.new.piece c.in-Some-eq0.field-0 (length c.read.new.piece) none wide
+    then_ended old mid new c.loop.cutter (sent c.loop.inlet.ring) c.loop.invariant.read c.read.ensures.input c.read.new.piece c.in-Some-eq0.field-0 (length c.read.new.piece) none wide
     c.in-Some-eq0.ensures.trace c.in-Some-eq0.ensures.good c.in-Some-eq0.ensures.end c.in-Some-eq0.ensures.all
 
 pub returns-in-None-read-clause-brought : goal.returns-in-None-read-clause-brought
@@ -27,7 +25,7 @@ returns-in-None-read-clause-brought g c =
     let old : SourceState = source_of g.S.Source c.args.reader.now in
     let mid : SourceState = source_of g.S.Source c.loop.reader in
     let new : SourceState = source_of g.S.Source c.read.new.self in
-    then_failed old mid new c.loop.cutter (sent c.loop.ring) c.loop.invariant.read c.read.ensures.input c.in-None-read.ensures.none.0 c.in-None-read.ensures.none.2
+    then_failed old mid new c.loop.cutter (sent c.loop.inlet.ring) c.loop.invariant.read c.read.ensures.input c.in-None-read.ensures.none.0 c.in-None-read.ensures.none.2
 
 pub returns-in-Some-bring_piece-clause-brought : goal.returns-in-Some-bring_piece-clause-brought
 returns-in-Some-bring_piece-clause-brought g c =
@@ -36,8 +34,8 @@ returns-in-Some-bring_piece-clause-brought g c =
     let new : SourceState = source_of g.S.Source c.read.new.self in
     let so_far = c.loop.invariant.read in
     let piece = take c.in-Some-read.n c.read.new.piece in
-    then_over old mid new c.loop.cutter (sent c.loop.ring) so_far c.read.ensures.input piece c.in-Some-read.ensures.trace c.in-Some-read.ensures.good
-    c.bring_piece.new.cutter (sent c.bring_piece.new.ring) c.in-Some-bring_piece.cause (c.in-Some-bring_piece.ensures.brought so_far.stream so_far.brought)
+    then_over old mid new c.loop.cutter (sent c.loop.inlet.ring) so_far c.read.ensures.input piece c.in-Some-read.ensures.trace c.in-Some-read.ensures.good
+    c.bring_piece.new.cutter (sent c.bring_piece.new.inlet.ring) c.in-Some-bring_piece.cause (c.in-Some-bring_piece.ensures.brought so_far.stream so_far.brought)
 
 pub loop-preserved : goal.loop-preserved
 loop-preserved g c =
@@ -47,9 +45,7 @@ loop-preserved g c =
     let so_far = c.loop.invariant.read in
     let piece = take c.in-Some-read.n c.read.new.piece in
     record {
-      ring = search rules;
-      read = then_read old mid new c.loop.cutter (sent c.loop.ring) so_far c.read.ensures.input piece c.in-Some-read.ensures.trace c.in-Some-read.ensures.good
-          c.bring_piece.new.cutter (sent c.bring_piece.new.ring) (c.in_default.ensures.brought so_far.stream so_far.brought);
-      counted = c.bring_piece.ensures.counted;
-      parts = search rules;
+      inlet = search rules;
+      read = then_read old mid new c.loop.cutter (sent c.loop.inlet.ring) so_far c.read.ensures.input piece c.in-Some-read.ensures.trace c.in-Some-read.ensures.good
+          c.bring_piece.new.cutter (sent c.bring_piece.new.inlet.ring) (c.in_default.ensures.brought so_far.stream so_far.brought);
     }

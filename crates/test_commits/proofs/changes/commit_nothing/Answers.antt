@@ -6,4 +6,4 @@ use Rattle.test_commits.proofs.changes.commit_nothing.Goals as goal
 
 pub finished-requires-clause-suits : goal.finished-requires-clause-suits
 finished-requires-clause-suits g c =
-    subst (λ (rows : Database). Suits c.args.db.now.schema rows) (sym (ap (λ (s : Stage). s.now) c.new-stage.ensures ∙ c.rows.ensures)) c.kept.ensures.committed_kept.suits
+    subst (λ (rows : Database). Suits c.args.db.now.schema rows) (sym (ap (λ (s : Stage). s.now) c.new-stage.ensures ∙ c.rows.ensures)) c.shows_kept.ensures.committed_kept.suits

@@ -17,7 +17,7 @@ returns-in-Changed-clause-suits g c =
     let is = subst (λ (schema : Schema). committed schema c.args.stage.before c.args.version c.args.stage.now ≡ Ok (applied c.in-Changed.delta c.args.stage.before)) c.schema-2.ensures c.in-Changed.ensures.0 in
     finished_suits db.schema db.committed c.args.version c.args.stage.now c.in-Changed.delta
     (subst (λ (before : Database). committed db.schema before c.args.version c.args.stage.now ≡ Ok (applied c.in-Changed.delta before)) c.requires.before is)
-    c.kept.ensures.committed_kept.suits c.requires.version c.requires.suits
+    c.shows_kept.ensures.committed_kept.suits c.requires.version c.requires.suits
 
 pub returns-in-Changed-clause-whole : goal.returns-in-Changed-clause-whole
 returns-in-Changed-clause-whole g c =

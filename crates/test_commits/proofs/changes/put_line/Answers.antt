@@ -28,4 +28,4 @@ finished-requires-clause-suits g c =
     put ∙ ap (λ (s : Stage). insert s.now c.in_ok-key.key (row_now s.before entry.1.0 c.in_ok-key.key row.columns)) at_first
     ∙ ap (λ (k : LineKey). insert c.args.db.now.committed k (row_now c.args.db.now.committed entry.1.0 k row.columns)) key in
     subst (λ (rows : Database). Suits schema rows) (sym over)
-    (put_suits schema c.args.db.now.committed entry.0 entry.1 row c.kept.ensures.committed_kept.suits c.has_sixteen_bytes.ensures c.has_sixteen_bytes-2.ensures stored)
+    (put_suits schema c.args.db.now.committed entry.0 entry.1 row c.shows_kept.ensures.committed_kept.suits c.has_sixteen_bytes.ensures c.has_sixteen_bytes-2.ensures stored)

@@ -12,4 +12,4 @@ finished-requires-clause-suits g c =
     let before = c.args.db.now.committed in
     let at_first = ap (λ (s : Stage). s.now) c.new-stage.ensures ∙ c.rows.ensures in
     let is = ap (λ (s : Stage). s.now) c.in_ok-remove.ensures.ok ∙ ap (λ (rows : Database). remove rows c.in_ok-key.key) at_first in
-    subst (λ (rows : Database). Suits schema rows) (sym is) (one_row_less schema before c.in_ok-key.key c.kept.ensures.committed_kept.suits)
+    subst (λ (rows : Database). Suits schema rows) (sym is) (one_row_less schema before c.in_ok-key.key c.shows_kept.ensures.committed_kept.suits)

@@ -3,4 +3,4 @@ use Rattle.ov_order.proofs.order.Order.wait_note.Given as goal
 
 -- Until the note is in, the share is as it was.
 abbrev pub invariant-loop : goal.invariant-loop
-invariant-loop g l = (l.share.amount ≡ l.initial.share.amount) × (l.share.parts ≡ l.initial.share.parts)
+invariant-loop g l = (l.noter.share.amount ≡ l.initial.noter.share.amount) × (l.noter.serial ≡ l.initial.noter.serial) × (l.noter.share.parts ≡ l.initial.noter.share.parts)

@@ -1,7 +1,0 @@
-use Rattle.ov_core.specs.States.{state_of}
-use Rattle.ov_core.proofs.Workings.{its_own}
-use Rattle.ov_core.proofs.machine.Core.left.Goals as goal
-
-pub returns : goal.returns
-returns g c =
-    rw (← c.self.view_is) (λ honest held found. its_own (state_of c.self.inside.live c.self.inside.moment) held (c.left.ensures.held honest held found))

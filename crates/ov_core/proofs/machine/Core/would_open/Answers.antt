@@ -1,4 +1,0 @@
-use Rattle.ov_core.proofs.machine.Core.would_open.Goals as goal
-
-pub returns : goal.returns
-returns g c = rw (← c.self.view_is) c.left.ensures.found

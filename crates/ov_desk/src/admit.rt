@@ -1,0 +1,124 @@
+ghost use Rattle.std.specs.Prelude.{◌≡◌, ◌<◌, ℕ, None, vec_len, slice_index_or};
+ghost use Rattle.ov_lanes.specs.Lanes.{GoesOn};
+ghost use Rattle.ov_desk.specs.Admitting.{Admits};
+ghost use Rattle.ov_desk.specs.Seats.{AreSeats, IsStarted};
+
+use crate::hall::Hall;
+use crate::start::{Started, start};
+use ov_core::StepFault;
+use ov_ends::{Sink, Source};
+use ov_keeper::Keeper;
+use ov_lanes::{Lane, Link, ServeFault, free_place};
+use ov_order::Bell;
+use ov_requests::Draws;
+use ov_workers::{Common, Gate};
+use std::sync::Wait;
+use std::sync::ledger::Ledger;
+use std::thread::{Scope, Threads};
+
+/// What became of a link that was to be served.
+#[derive(Drop)]
+pub(crate) enum Admitted {
+    /// Its session is open, and has a place.
+    Opened,
+    /// All places are taken.
+    Full,
+    /// There is a free place, and something else was refused.
+    Refused(AdmitFault),
+}
+
+/// Why a link is not served although a place is free.
+#[derive(Drop)]
+pub(crate) enum AdmitFault {
+    /// There are fewer bells than places.
+    Bell,
+    /// No part of the ledger is left.
+    Part,
+    /// No serial is left.
+    Serial,
+    /// The workers could not be started.
+    Workers(ServeFault),
+    /// The machine refused the session.
+    Machine(StepFault),
+}
+
+/// Opens a session and gives it a free place, with workers that were started for its serial, and hands them the link. If the
+/// machine refuses the session, ends the workers and closes both ends of the link.
+fn admit_at<R, K, D, L, S, W>(
+    rt: &R,
+    hall: &mut Hall<K, D, S, W, L>,
+    at: usize,
+    started: Started<S, W, L>,
+    link: Link<S, W>,
+) -> Admitted
+where
+    R: Threads + Wait,
+    K: Keeper + Drop,
+    D: Draws + Drop,
+    L: Ledger,
+    S: Source + Drop,
+    W: Sink + Drop,
+    requires seats { AreSeats hall.old.keeps hall.old.desk.lanes.items hall.old.workers.items }
+    requires place { (at < vec_len hall.old.desk.lanes) × (slice_index_or hall.old.desk.lanes.items at None ≡ None) }
+    requires started { IsStarted hall.old.keeps hall.old.desk.core.state.next started }
+    ensures goes { (moment : ℕ) → GoesOn moment hall.old.desk.core hall.old.desk.lanes.items hall.new.desk.core hall.new.desk.lanes.items }
+    ensures answer { (bells parts : ℕ) → Admits bells parts hall.old.desk.core hall.old.desk.lanes.items result hall.new.desk.core hall.new.desk.lanes.items }
+    ensures seats { AreSeats hall.new.keeps hall.new.desk.lanes.items hall.new.workers.items }
+{
+    let Started {
+        inbound,
+        outbound,
+        workers,
+    } = started;
+    let session = match hall.desk.core.open_session() {
+        Ok(session) => session,
+        Err(fault) => {
+            workers.dismiss(rt);
+            return Admitted::Refused(AdmitFault::Machine(fault));
+        }
+    };
+    let mut workers = workers;
+    workers.hand(link.reader, link.writer);
+    hall.seat(at, Lane::new(session, inbound, outbound), workers);
+    Admitted::Opened
+}
+
+/// Serves the link as a session, at a free place. Closes both of its ends if there is none, or if a part of the ledger, a
+/// ring, a thread or the session is refused.
+pub(crate) fn admit<'s, E, R, K, D, L, G, S, W>(
+    common: Common<'s, R, L, G>,
+    scope: &Scope<'s, E>,
+    bells: &'s Vec<Bell>,
+    hall: &mut Hall<K, D, S, W, L>,
+    link: Link<S, W>,
+) -> Admitted
+where
+    R: Threads + Wait + Sync,
+    K: Keeper + Drop,
+    D: Draws + Drop,
+    L: Ledger + Send + Sync + 's,
+    G: Gate + Sync,
+    S: Source + Send + Drop + 's,
+    W: Sink + Send + Drop + 's,
+    requires seats { AreSeats hall.old.keeps hall.old.desk.lanes.items hall.old.workers.items }
+    ensures goes { (moment : ℕ) → GoesOn moment hall.old.desk.core hall.old.desk.lanes.items hall.new.desk.core hall.new.desk.lanes.items }
+    ensures answer { Admits (vec_len bells.now) hall.old.parts.left hall.old.desk.core hall.old.desk.lanes.items result hall.new.desk.core hall.new.desk.lanes.items }
+    ensures seats { AreSeats hall.new.keeps hall.new.desk.lanes.items hall.new.workers.items }
+{
+    let Some(at) = free_place(&hall.desk.lanes) else {
+        return Admitted::Full;
+    };
+    let Some(bell) = bells.get(at) else {
+        return Admitted::Refused(AdmitFault::Bell);
+    };
+    let Some(share) = hall.parts.take() else {
+        return Admitted::Refused(AdmitFault::Part);
+    };
+    let Some(serial) = hall.desk.core.next_serial() else {
+        return Admitted::Refused(AdmitFault::Serial);
+    };
+    match start(common, scope, bell, hall.keeps, serial, share) {
+        Ok(started) => admit_at(common.rt, hall, at, started, link),
+        Err(fault) => Admitted::Refused(AdmitFault::Workers(fault)),
+    }
+}

@@ -1,0 +1,148 @@
+ghost use Rattle.std.specs.Prelude.{◌≡◌, ◌<◌, ℕ, None, Some, true, slice_index_or, slice_set, vec_len};
+ghost use Rattle.ov_lanes.specs.Lanes.{GoesOn, StayAs, StaysAs};
+ghost use Rattle.ov_lanes.specs.declared.lane.Lane.{Lane as SpecLane};
+ghost use Rattle.ov_lanes.specs.declared.link.Link.{Link as SpecLink};
+ghost use Rattle.ov_desk.specs.Seats.{AreSeats, AreWorkersOf, HaveLink};
+ghost use Rattle.ov_desk.specs.Serving.{IsTended};
+
+use crate::accept::Accepted;
+use crate::parts::Parts;
+use ov_ends::{Sink, Source};
+use ov_keeper::Keeper;
+use ov_lanes::{Desk, Lane};
+use ov_order::Bell;
+use ov_requests::Draws;
+use ov_workers::Workers;
+use rtrb::Consumer;
+use std::sync::Wait;
+use std::sync::ledger::Ledger;
+use std::thread::Threads;
+
+/// The desk, and the workers of the sessions that are served, by their places.
+#[derive(Drop)]
+pub(crate) struct Hall<K: Keeper, D: Draws, S: Source, W: Sink, L: Ledger> {
+    /// The machine and the lanes.
+    pub desk: Desk<K, D>,
+    /// The workers; None where no session is served.
+    pub workers: Vec<Option<Workers<S, W, L>>>,
+    /// What the accepting worker brings; None if no more links come.
+    pub accepted: Option<Consumer<Accepted<S, W>>>,
+    /// The parts for further workers that note.
+    pub parts: Parts<L>,
+    /// Whether each session keeps its place, and its workers the ends of their link, until all sessions are over.
+    pub keeps: bool,
+}
+
+/// Takes what is in a place out of it.
+fn take_out<T: Drop>(places: &mut Vec<Option<T>>, at: usize) -> Option<T>
+    requires { at < vec_len places.old }
+    ensures { (result ≡ slice_index_or places.old.items at None) × (places.new.items ≡ slice_set places.old.items at None) }
+{
+    places[at].take()
+}
+
+/// Rings the writer's bell if something was put for it. Returns whether its session has left: its reader's end was taken, its
+/// end mark was put, and both workers are about to end.
+fn tend_lane<R: Wait>(rt: &R, bell: &Bell, lane: &mut Lane) -> bool
+    ensures tended { IsTended lane.old lane.new }
+    ensures over { result ≡ true → (lane.new.ended ≡ true) × (lane.new.marked ≡ true) }
+{
+    if lane.news {
+        lane.news = false;
+        bell.ring(rt);
+    }
+    lane.ended && lane.marked && bell.is_over()
+}
+
+/// The same for the session at a place; false if there is none.
+fn tend_place<R: Wait>(rt: &R, bell: &Bell, place: &mut Option<Lane>) -> bool
+    ensures tended { StaysAs IsTended place.old place.new }
+    ensures over { result ≡ true → (lane : SpecLane) × (place.new ≡ Some lane) × (lane.ended ≡ true) × (lane.marked ≡ true) }
+{
+    match place {
+        Some(lane) => tend_lane(rt, bell, lane),
+        None => false,
+    }
+}
+
+/// The same for the place of this number.
+fn tend_lane_at<R: Wait>(rt: &R, bell: &Bell, lanes: &mut Vec<Option<Lane>>, at: usize) -> bool
+    requires { at < vec_len lanes.old }
+    ensures tended { StayAs IsTended lanes.old.items lanes.new.items }
+    ensures over { result ≡ true → (lane : SpecLane) × (slice_index_or lanes.new.items at None ≡ Some lane) × (lane.ended ≡ true) × (lane.marked ≡ true) }
+{
+    let place = &mut lanes[at];
+    tend_place(rt, bell, place)
+}
+
+impl<K, D, S, W, L> Hall<K, D, S, W, L>
+where
+    K: Keeper + Drop,
+    D: Draws + Drop,
+    S: Source + Drop,
+    W: Sink + Drop,
+    L: Ledger,
+{
+    /// Gives a session a free place.
+    pub fn seat(&mut self, at: usize, lane: Lane, workers: Workers<S, W, L>)
+        requires seats { AreSeats self.old.keeps self.old.desk.lanes.items self.old.workers.items }
+        requires place { at < vec_len self.old.desk.lanes }
+        requires workers { AreWorkersOf self.old.keeps lane workers }
+        requires link { (k : SpecLink S W) × HaveLink k workers }
+        ensures lanes { self.new.desk.lanes.items ≡ slice_set self.old.desk.lanes.items at (Some lane) }
+        ensures same { (self.new.desk.core ≡ self.old.desk.core) × (self.new.keeps ≡ self.old.keeps) }
+        ensures seats { AreSeats self.new.keeps self.new.desk.lanes.items self.new.workers.items }
+    {
+        self.desk.lanes[at] = Some(lane);
+        self.workers[at] = Some(workers);
+    }
+
+    /// Frees the place of a session that has left, and joins its workers.
+    fn leave<R: Threads + Wait>(&mut self, rt: &R, at: usize)
+        requires seats { AreSeats self.old.keeps self.old.desk.lanes.items self.old.workers.items }
+        requires left { (at < vec_len self.old.desk.lanes) × ((lane : SpecLane) × (slice_index_or self.old.desk.lanes.items at None ≡ Some lane) × (lane.ended ≡ true)) }
+        ensures many { vec_len self.new.desk.lanes ≡ vec_len self.old.desk.lanes }
+        ensures goes { (moment : ℕ) → GoesOn moment self.old.desk.core self.old.desk.lanes.items self.new.desk.core self.new.desk.lanes.items }
+        ensures same { (self.new.keeps ≡ self.old.keeps) × (self.new.accepted ≡ self.old.accepted) }
+        ensures seats { AreSeats self.new.keeps self.new.desk.lanes.items self.new.workers.items }
+    {
+        let _lane = take_out(&mut self.desk.lanes, at);
+        if let Some(workers) = take_out(&mut self.workers, at) {
+            let _left = workers.join(rt);
+        }
+    }
+
+    /// Rings the bell of the writer at a place if something was put for it. Unless the places are kept, frees the place if its
+    /// session has left.
+    fn tend_at<R: Threads + Wait>(&mut self, rt: &R, bells: &Vec<Bell>, at: usize)
+        requires seats { AreSeats self.old.keeps self.old.desk.lanes.items self.old.workers.items }
+        requires place { at < vec_len self.old.desk.lanes }
+        ensures many { vec_len self.new.desk.lanes ≡ vec_len self.old.desk.lanes }
+        ensures goes { (moment : ℕ) → GoesOn moment self.old.desk.core self.old.desk.lanes.items self.new.desk.core self.new.desk.lanes.items }
+        ensures same { (self.new.keeps ≡ self.old.keeps) × (self.new.accepted ≡ self.old.accepted) }
+        ensures kept { self.old.keeps ≡ true → StayAs IsTended self.old.desk.lanes.items self.new.desk.lanes.items × (self.new.workers ≡ self.old.workers) }
+        ensures seats { AreSeats self.new.keeps self.new.desk.lanes.items self.new.workers.items }
+    {
+        let Some(bell) = bells.get(at) else {
+            return;
+        };
+        let has_left = tend_lane_at(rt, bell, &mut self.desk.lanes, at);
+        if has_left && !self.keeps {
+            self.leave(rt, at);
+        }
+    }
+
+    /// Rings the bells of all writers for which something was put. Unless the places are kept, frees those whose sessions have
+    /// left.
+    pub fn tend<R: Threads + Wait>(&mut self, rt: &R, bells: &Vec<Bell>)
+        requires seats { AreSeats self.old.keeps self.old.desk.lanes.items self.old.workers.items }
+        ensures goes { (moment : ℕ) → GoesOn moment self.old.desk.core self.old.desk.lanes.items self.new.desk.core self.new.desk.lanes.items }
+        ensures same { (self.new.keeps ≡ self.old.keeps) × (self.new.accepted ≡ self.old.accepted) }
+        ensures kept { self.old.keeps ≡ true → StayAs IsTended self.old.desk.lanes.items self.new.desk.lanes.items × (self.new.workers ≡ self.old.workers) }
+        ensures seats { AreSeats self.new.keeps self.new.desk.lanes.items self.new.workers.items }
+    {
+        for at in 0..self.desk.lanes.len() {
+            self.tend_at(rt, bells, at);
+        }
+    }
+}

@@ -1,0 +1,407 @@
+ghost use Rattle.std.specs.Prelude.{◌≡◌, ◌≤◌, ◌-◌, ◌^◌, ℕ, [], true, vec_len, vec_capacity, IfOk, IfErr, OnErr};
+ghost use Rattle.ov_core.specs.Following.{CoreState};
+ghost use Rattle.std.specs.VecDeque.{deque_len};
+ghost use Rattle.ov_ends.specs.States.{source_of, sink_of};
+ghost use Rattle.ov_lanes.specs.Lanes.{AreNewLanes};
+ghost use Rattle.ov_lanes.specs.Opening.{AreSessions};
+ghost use Rattle.ov_lanes.specs.Pairs.{Threewise};
+ghost use Rattle.ov_lanes.specs.Places.{has_places};
+ghost use Rattle.ov_desk.specs.Opening.{HasRoom, IsOpened};
+ghost use Rattle.ov_desk.specs.Seats.{AreStarted, IsSeatOf};
+ghost use Rattle.ov_desk.specs.Serving.{RefusesLinks, ServesAll};
+
+use crate::finish::finish_all;
+use crate::hall::Hall;
+use crate::link::{End, Served, Unserved};
+use crate::parts::Parts;
+use crate::run::run;
+use crate::start::{Started, dismiss_all, start_all};
+use ov_core::{Core, Session};
+use ov_ends::{Clock, Sink, Source};
+use ov_keeper::Keeper;
+use ov_lanes::{Desk, Lane, Link, ServeFault, has_places, open_sessions, shows_nothing_opened};
+use ov_order::{Bell, Order, Taken};
+use ov_requests::Draws;
+use ov_workers::{Common, Gate, Workers};
+use std::alloc::{AllocError, Global};
+use std::collections::VecDeque;
+use std::marker::Brand;
+use std::rt::Clock as SystemClock;
+use std::sync::Wait;
+use std::sync::ledger::{Blank, Book, Ledger};
+use std::thread;
+use std::thread::{Scope, Threads};
+
+/// How many parts the ledger of notes has. Each worker that notes takes one, and one is left.
+pub(crate) const SHARES: u64 = u64::MAX;
+
+/// Room for the sessions of a number of links, and for what remains of them.
+#[derive(Drop)]
+pub(crate) struct Room<S: Source, W: Sink, L: Ledger> {
+    /// For a lane of each.
+    pub lanes: Vec<Option<Lane>>,
+    /// For the workers of each.
+    pub workers: Vec<Option<Workers<S, W, L>>>,
+    /// For what remains of each.
+    pub ends: VecDeque<End<S, W>>,
+}
+
+/// Takes this room.
+fn room_for<S: Source + Drop, W: Sink + Drop, L: Ledger>(
+    alloc: Global,
+    count: usize,
+) -> Result<Room<S, W, L>, AllocError>
+    ensures { IfOk result (λ room. HasRoom count room) }
+{
+    Ok(Room {
+        lanes: Vec::with_capacity(alloc, count)?,
+        workers: Vec::with_capacity(alloc, count)?,
+        ends: VecDeque::with_capacity(alloc, count)?,
+    })
+}
+
+/// Sessions that were opened and the workers that were started for them, with room for the rest.
+#[derive(Drop)]
+pub(crate) struct Opened<S: Source, W: Sink, L: Ledger> {
+    /// The workers, to which nothing was handed yet.
+    pub started: VecDeque<Started<S, W, L>>,
+    /// The sessions, in the same order.
+    pub sessions: VecDeque<Session>,
+    /// Room for the rest.
+    pub room: Room<S, W, L>,
+    /// The parts for further workers that note.
+    pub parts: Parts<L>,
+}
+
+/// Starts the workers of one session for each bell, and opens the sessions. If that is refused, no worker is left, and the
+/// sessions that were opened are closed again.
+fn open_all<'s, E, R, K, D, L, G, S, W>(
+    common: Common<'s, R, L, G>,
+    scope: &Scope<'s, E>,
+    bells: &'s Vec<Bell>,
+    core: &mut Core<K, D>,
+    parts: Parts<L>,
+) -> Result<Opened<S, W, L>, ServeFault>
+where
+    R: Threads + Wait + Sync,
+    K: Keeper + Drop,
+    D: Draws + Drop,
+    L: Ledger + Send + Sync + 's,
+    G: Gate + Sync,
+    S: Source + Send + Drop + 's,
+    W: Sink + Send + Drop + 's,
+    requires places { has_places (vec_len bells.now) core.old.state ≡ true }
+    requires parts { vec_len bells.now ≤ parts.left }
+    ensures opened { IfOk result (λ o. IsOpened (vec_len bells.now) core.old core.new o) }
+    ensures refused { IfErr result (λ fault. RefusesLinks (vec_len bells.now) core.old fault core.new) }
+{
+    shows_nothing_opened(core);
+    let room = room_for(common.alloc, bells.len())?;
+    let first = core.next_serial().unwrap_or(0);
+    let mut parts = parts;
+    let started = start_all(common, scope, bells, &mut parts, first)?;
+    let Some(sessions) = open_sessions(core, common.alloc, bells.len()) else {
+        dismiss_all(common, started);
+        return Err(ServeFault::Memory);
+    };
+    Ok(Opened {
+        started,
+        sessions,
+        room,
+        parts,
+    })
+}
+
+/// Hands each link to the workers that were started for its session, in order. Puts the lanes and the workers into lists that
+/// have room for them.
+fn seat_all<S, W, L>(
+    started: VecDeque<Started<S, W, L>>,
+    sessions: VecDeque<Session>,
+    links: VecDeque<Link<S, W>>,
+    lanes: &mut Vec<Option<Lane>>,
+    workers: &mut Vec<Option<Workers<S, W, L>>>,
+)
+where
+    S: Source + Drop,
+    W: Sink + Drop,
+    L: Ledger,
+    requires many { (deque_len started ≡ deque_len links) × (deque_len sessions ≡ deque_len links) }
+    requires started { (first : ℕ) × AreStarted true first started.items }
+    requires lanes { (lanes.old.items ≡ []) × (deque_len links ≤ vec_capacity lanes.old) }
+    requires workers { (workers.old.items ≡ []) × (deque_len links ≤ vec_capacity workers.old) }
+    ensures { (first : ℕ) → AreStarted true first started.items → AreSessions first sessions.items
+        → AreNewLanes first lanes.new.items × Threewise IsSeatOf links.items lanes.new.items workers.new.items }
+{
+    let mut started = started;
+    let mut sessions = sessions;
+    let mut links = links;
+    while let Some(link) = links.pop_front() {
+        let (Some(one), Some(session)) = (started.pop_front(), sessions.pop_front()) else {
+            unreachable!()
+        };
+        let Started {
+            inbound,
+            outbound,
+            workers: mut pair,
+        } = one;
+        pair.hand(link.reader, link.writer);
+        lanes.push_reserved(Some(Lane::new(session, inbound, outbound)));
+        workers.push_reserved(Some(pair));
+    }
+}
+
+/// Hands the links to the workers, lets these begin, serves the sessions to the end, and joins the workers.
+fn serve_opened<'s, E, R, K, D, L, G, S, W, C>(
+    common: Common<'s, R, L, G>,
+    scope: &Scope<'s, E>,
+    bells: &'s Vec<Bell>,
+    core: Core<K, D>,
+    opened: Opened<S, W, L>,
+    links: VecDeque<Link<S, W>>,
+    clock: &mut C,
+) -> Served<K, D, S, W>
+where
+    R: Threads + Wait + SystemClock + Sync,
+    K: Keeper + Drop,
+    D: Draws + Drop,
+    L: Ledger + Send + Sync + 's,
+    G: Gate + Sync,
+    S: Source + Send + Drop + 's,
+    W: Sink + Send + Drop + 's,
+    C: Clock,
+    requires { (old : CoreState K D) × IsOpened (deque_len links) old core opened }
+    ensures { (old : CoreState K D) → IsOpened (deque_len links) old core opened
+        → ServesAll (source_of S.Source) (sink_of W.Sink) C.tells old clock.old result.desk.core clock.new links.items result.ends.items }
+{
+    let Opened {
+        started,
+        sessions,
+        room,
+        parts,
+    } = opened;
+    let Room {
+        mut lanes,
+        mut workers,
+        ends,
+    } = room;
+    seat_all(started, sessions, links, &mut lanes, &mut workers);
+    common.order.lock(common.rt).begin(true);
+    common.order.wake();
+    let mut hall = Hall {
+        desk: Desk { core, lanes },
+        workers,
+        accepted: None,
+        parts,
+        keeps: true,
+    };
+    run(common, scope, bells, &mut hall, &mut Taken::new(), clock);
+    let Hall { desk, workers, .. } = hall;
+    let Desk { core, lanes } = desk;
+    let ends = finish_all(common.rt, lanes, workers, ends);
+    let desk = Desk::new(common.alloc, core);
+    Served { desk, ends }
+}
+
+/// Starts the workers, opens the sessions, and serves them. If that is refused, the links are as before.
+fn serve_scoped<'s, E, R, K, D, L, G, S, W, C>(
+    common: Common<'s, R, L, G>,
+    scope: &Scope<'s, E>,
+    bells: &'s Vec<Bell>,
+    core: Core<K, D>,
+    links: VecDeque<Link<S, W>>,
+    parts: Parts<L>,
+    clock: &mut C,
+) -> Result<Served<K, D, S, W>, Unserved<K, D, S, W>>
+where
+    R: Threads + Wait + SystemClock + Sync,
+    K: Keeper + Drop,
+    D: Draws + Drop,
+    L: Ledger + Send + Sync + 's,
+    G: Gate + Sync,
+    S: Source + Send + Drop + 's,
+    W: Sink + Send + Drop + 's,
+    C: Clock,
+    requires bells { vec_len bells.now ≡ deque_len links }
+    requires places { has_places (deque_len links) core.state ≡ true }
+    requires parts { deque_len links ≤ parts.left }
+    ensures served { IfOk result (λ s. ServesAll (source_of S.Source) (sink_of W.Sink) C.tells core clock.old s.desk.core clock.new links.items s.ends.items) }
+    ensures refused { IfErr result (λ r. RefusesLinks (deque_len links) core r.fault r.desk.core × (r.links.items ≡ links.items)) }
+    ensures untouched { OnErr result (clock.new ≡ clock.old) }
+{
+    let mut core = core;
+    match open_all(common, scope, bells, &mut core, parts) {
+        Ok(opened) => Ok(serve_opened(common, scope, bells, core, opened, links, clock)),
+        Err(fault) => Err(Unserved {
+            fault,
+            desk: Desk::new(common.alloc, core),
+            links,
+        }),
+    }
+}
+
+/// The same, in a scope of threads. The scope gives the clock back, so that its contract can name it.
+fn in_scope<'a, R, K, D, L, G, S, W, C>(
+    common: Common<'a, R, L, G>,
+    bells: &'a Vec<Bell>,
+    core: Core<K, D>,
+    links: VecDeque<Link<S, W>>,
+    parts: Parts<L>,
+    clock: &mut C,
+) -> Result<Served<K, D, S, W>, Unserved<K, D, S, W>>
+where
+    R: Threads + Wait + SystemClock + Sync,
+    K: Keeper + Drop,
+    D: Draws + Drop,
+    L: Ledger + Send + Sync,
+    G: Gate + Sync,
+    S: Source + Send + Drop,
+    W: Sink + Send + Drop,
+    C: Clock,
+    requires bells { vec_len bells.now ≡ deque_len links }
+    requires places { has_places (deque_len links) core.state ≡ true }
+    requires parts { deque_len links ≤ parts.left }
+    ensures served { IfOk result (λ s. ServesAll (source_of S.Source) (sink_of W.Sink) C.tells core clock.old s.desk.core clock.new links.items s.ends.items) }
+    ensures refused { IfErr result (λ r. RefusesLinks (deque_len links) core r.fault r.desk.core × (r.links.items ≡ links.items)) }
+    ensures untouched { OnErr result (clock.new ≡ clock.old) }
+{
+    let (served, _clock) = thread::scope(
+        thread::scope_env(),
+        common.rt,
+        move |scope| -> (Result<Served<K, D, S, W>, Unserved<K, D, S, W>>, &mut C)
+            requires bells { vec_len bells.now ≡ deque_len links }
+            requires places { has_places (deque_len links) core.state ≡ true }
+            requires parts { deque_len links ≤ parts.left }
+            ensures served { IfOk result.0 (λ s. ServesAll (source_of S.Source) (sink_of W.Sink) C.tells core clock.entry.now s.desk.core result.1.now links.items s.ends.items) }
+            ensures refused { IfErr result.0 (λ r. RefusesLinks (deque_len links) core r.fault r.desk.core × (r.links.items ≡ links.items)) }
+            ensures untouched { OnErr result.0 (result.1.now ≡ clock.entry.now) }
+            ensures same_clock { result.1.ghost_name ≡ clock.entry.ghost_name }
+        {
+            let served = serve_scoped(common, scope, bells, core, links, parts, clock);
+            (served, clock)
+        },
+    );
+    served
+}
+
+/// A bell for each of this many writers.
+pub(crate) fn all_bells(alloc: Global, count: usize) -> Result<Vec<Bell>, AllocError>
+    ensures { IfOk result (λ bells. vec_len bells ≡ count) }
+{
+    let mut bells = Vec::with_capacity(alloc, count)?;
+    while bells.len() < count {
+        bells.push_reserved(Bell::new());
+    }
+    Ok(bells)
+}
+
+/// The order of notes, and the writers' bells.
+fn take_room<L: Ledger>(
+    alloc: Global,
+    book: Book<L>,
+    count: usize,
+) -> Result<(Order<L>, Vec<Bell>), AllocError>
+    requires { book.total ≡ 0 }
+    ensures { IfOk result (λ r. vec_len r.1 ≡ count) }
+{
+    let order = Order::new(alloc, book)?;
+    let bells = all_bells(alloc, count)?;
+    Ok((order, bells))
+}
+
+/// Serves the links with the ledger that a type stands for.
+fn serve_as<R, K, D, L, G, S, W, C>(
+    rt: &R,
+    alloc: Global,
+    blank: Blank,
+    gate: &G,
+    core: Core<K, D>,
+    links: VecDeque<Link<S, W>>,
+    clock: &mut C,
+) -> Result<Served<K, D, S, W>, Unserved<K, D, S, W>>
+where
+    R: Threads + Wait + SystemClock + Sync,
+    K: Keeper + Drop,
+    D: Draws + Drop,
+    L: Ledger + Send + Sync,
+    G: Gate + Sync,
+    S: Source + Send + Drop,
+    W: Sink + Send + Drop,
+    C: Clock,
+    requires name { blank.name ≡ L.name }
+    requires parts { (blank.parts ≡ L.parts) × (blank.parts ≡ 2 ^ 64 - 1) }
+    requires places { has_places (deque_len links) core.state ≡ true }
+    ensures served { IfOk result (λ s. ServesAll (source_of S.Source) (sink_of W.Sink) C.tells core clock.old s.desk.core clock.new links.items s.ends.items) }
+    ensures refused { IfErr result (λ r. RefusesLinks (deque_len links) core r.fault r.desk.core × (r.links.items ≡ links.items)) }
+    ensures untouched { OnErr result (clock.new ≡ clock.old) }
+{
+    let (book, all) = blank.open::<L>();
+    let Ok((order, bells)) = take_room(alloc, book, links.len()) else {
+        shows_nothing_opened(&core);
+        return Err(Unserved {
+            fault: ServeFault::Memory,
+            desk: Desk::new(alloc, core),
+            links,
+        });
+    };
+    let common = Common {
+        rt,
+        alloc,
+        order: &order,
+        gate,
+    };
+    in_scope(
+        common,
+        &bells,
+        core,
+        links,
+        Parts::of(all, SHARES - 1),
+        clock,
+    )
+}
+
+/// Serves each link as a session, all at the same time, to its end (RFC 7047, 4). The sessions get the next serials, in the
+/// order of the links. A session ends when its reader's input ends, a read fails or its stream is damaged, when more than
+/// 1,024 frames wait for its writer, or when an allocation for its request fails. A failed writer is reported at the end:
+/// its session goes on, and what is sent to it is dropped.
+///
+/// Each reader and each writer works in a thread of its own, and the machine in this one: a request's place in the history
+/// is the moment when the desk takes it. Up to 64 messages of a session wait for the desk; then its reader waits. The clock
+/// gives the desk the moment of what it takes, in milliseconds. A transaction whose `wait` times out is answered then, even
+/// if nobody sends anything: while one may time out, the desk sleeps for a millisecond at most.
+///
+/// A session that is closed before its input ends still takes what its reader brings, and drops it: the call returns once
+/// each input has ended.
+///
+/// Refused as `TooMany` if the machine has too few places or serials left, as `Memory` or as `Threads`. Then nothing is read
+/// or written, and desk and links come back: the links as they were, and the machine too, unless `Memory` came once sessions
+/// were opened. These were closed again, as out of memory.
+pub fn serve_links<R, K, D, G, S, W, C>(
+    rt: &R,
+    alloc: Global,
+    desk: Desk<K, D>,
+    links: VecDeque<Link<S, W>>,
+    gate: &G,
+    clock: &mut C,
+) -> Result<Served<K, D, S, W>, Unserved<K, D, S, W>>
+where
+    R: Threads + Wait + SystemClock + Sync,
+    K: Keeper + Drop,
+    D: Draws + Drop,
+    G: Gate + Sync,
+    S: Source + Send + Drop,
+    W: Sink + Send + Drop,
+    C: Clock,
+    ensures served { IfOk result (λ s. ServesAll (source_of S.Source) (sink_of W.Sink) C.tells desk.core clock.old s.desk.core clock.new links.items s.ends.items) }
+    ensures refused { IfErr result (λ r. RefusesLinks (deque_len links) desk.core r.fault r.desk.core × (r.links.items ≡ links.items)) }
+    ensures untouched { OnErr result (clock.new ≡ clock.old) }
+{
+    let core = desk.into_core();
+    if !has_places(&core, links.len()) {
+        return Err(Unserved {
+            fault: ServeFault::TooMany,
+            desk: Desk::new(alloc, core),
+            links,
+        });
+    }
+    serve_as::<R, K, D, Brand, G, S, W, C>(rt, alloc, Blank::new(SHARES), gate, core, links, clock)
+}

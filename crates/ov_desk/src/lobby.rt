@@ -1,0 +1,331 @@
+ghost use Rattle.std.specs.Prelude.{◌≡◌, ◌⊎◌, ◌-◌, ◌^◌, [], IfOk, IfErr, OnErr};
+ghost use Rattle.ov_lanes.specs.declared.fault.ServeFault.TheVariants as serve_fault;
+ghost use Rattle.ov_lanes.specs.Lanes.{AreFree, Serves};
+ghost use Rattle.ov_desk.specs.Opening.{AreEmpty};
+ghost use Rattle.ov_desk.specs.Seats.{AreSeats};
+ghost use Rattle.ov_desk.specs.Serving.{ServesLobby};
+
+use crate::accept::{Accepted, LOBBY, accept_worker};
+use crate::fault::RefusedLobby;
+use crate::hall::Hall;
+use crate::links::{SHARES, all_bells};
+use crate::listen::Listen;
+use crate::parts::Parts;
+use crate::run::run;
+use ov_core::Core;
+use ov_ends::{Clock, Sink, Source};
+use ov_keeper::Keeper;
+use ov_lanes::{Desk, Lane, ServeFault};
+use ov_order::{Bell, Noter, Order, Taken, inbound_ring};
+use ov_requests::Draws;
+use ov_workers::{Common, Gate, HandRing, Workers};
+use rtrb::{Consumer, Producer};
+use std::alloc::{AllocError, Global};
+use std::marker::Brand;
+use std::rt::Clock as SystemClock;
+use std::sync::Wait;
+use std::sync::ledger::{Blank, Book, Ledger};
+use std::thread;
+use std::thread::{Scope, Threads};
+
+/// How many sessions are served at a time.
+const PLACES: usize = 64;
+
+/// A list of this many places, in which there is nothing.
+fn empty_places<T: Drop>(alloc: Global) -> Result<Vec<Option<T>>, AllocError>
+    ensures { IfOk result (λ places. AreEmpty 64 places.items) }
+{
+    let mut places = Vec::with_capacity(alloc, PLACES)?;
+    while places.len() < PLACES {
+        places.push_reserved(None);
+    }
+    Ok(places)
+}
+
+/// What serving a listener needs besides the order of notes, the bells and the threads.
+#[derive(Drop)]
+struct Room<S: Source, W: Sink, L: Ledger, T> {
+    /// The places.
+    lanes: Vec<Option<Lane>>,
+    /// The workers at them.
+    workers: Vec<Option<Workers<S, W, L>>>,
+    /// Where the accepting worker brings what it accepts.
+    ring: Producer<Accepted<S, W>>,
+    /// What it brings.
+    accepted: Consumer<Accepted<S, W>>,
+    /// Where it is handed the listener.
+    hand: HandRing<T>,
+}
+
+/// Takes this room.
+fn take_room<S: Source + Drop, W: Sink + Drop, L: Ledger, T: Drop>(
+    alloc: Global,
+) -> Result<Room<S, W, L, T>, AllocError>
+    ensures { IfOk result (λ room. AreEmpty 64 room.lanes.items × AreEmpty 64 room.workers.items) }
+{
+    let lanes = empty_places(alloc)?;
+    let workers = empty_places(alloc)?;
+    let (ring, accepted) = inbound_ring(alloc)?;
+    let hand = HandRing::new(alloc)?;
+    Ok(Room {
+        lanes,
+        workers,
+        ring,
+        accepted,
+        hand,
+    })
+}
+
+/// The listener, and what the accepting worker needs to bring its connections.
+#[derive(Drop)]
+struct Door<S, W, L: Ledger, T> {
+    /// The listener.
+    listener: T,
+    /// Where the worker is handed it.
+    hand: HandRing<T>,
+    /// Where it brings what it accepts.
+    ring: Producer<Accepted<S, W>>,
+    /// Who notes it.
+    noter: Noter<L>,
+    ghost lobby: { noter.serial ≡ 0 },
+}
+
+/// No session is served yet.
+fn shows_none_served<K: Keeper + Drop, D: Draws + Drop>(desk: &Desk<K, D>)
+    requires { AreFree desk.now.lanes.items }
+    ensures { (serves : Serves desk.now.core desk.now.core desk.now.lanes.items) × (serves.since.entries ≡ []) }
+{
+    let _ = desk.core.history();
+}
+
+/// Starts the accepting worker, and serves the connections it accepts with the desk in this thread.
+fn serve_scoped<'s, E, R, K, D, L, G, S, W, T, C>(
+    common: Common<'s, R, L, G>,
+    scope: &Scope<'s, E>,
+    bells: &'s Vec<Bell>,
+    hall: Hall<K, D, S, W, L>,
+    door: Door<S, W, L, T>,
+    clock: &mut C,
+) -> Result<Desk<K, D>, RefusedLobby<K, D, T>>
+where
+    R: Threads + Wait + SystemClock + Sync,
+    K: Keeper + Drop,
+    D: Draws + Drop,
+    L: Ledger + Send + Sync + 's,
+    G: Gate + Sync,
+    S: Source + Send + Drop + 's,
+    W: Sink + Send + Drop + 's,
+    T: Listen<S, W> + Send + Drop + 's,
+    C: Clock,
+    requires free { AreFree hall.desk.lanes.items }
+    requires seats { AreSeats hall.keeps hall.desk.lanes.items hall.workers.items }
+    ensures served { IfOk result (λ desk. ServesLobby C.tells hall.desk.core clock.old desk.core clock.new) }
+    ensures refused { IfErr result (λ r. (r.desk.core ≡ hall.desk.core) × (r.listener ≡ door.listener)) }
+    ensures fault { IfErr result (λ r. r.fault ≡ serve_fault.Threads) }
+    ensures untouched { OnErr result (clock.new ≡ clock.old) }
+{
+    let Door {
+        listener,
+        hand,
+        ring,
+        noter,
+    } = door;
+    let mut hall = hall;
+    let HandRing {
+        mut to_worker,
+        from_desk,
+    } = hand;
+    shows_none_served(&hall.desk);
+    let job = move || accept_worker(common, from_desk, ring, noter);
+    let Ok(accepting) = scope.spawn(job) else {
+        let Hall { desk, .. } = hall;
+        return Err(RefusedLobby {
+            fault: ServeFault::Threads,
+            desk,
+            listener,
+        });
+    };
+    to_worker.push_reserved(Some(listener));
+    common.order.lock(common.rt).begin(true);
+    common.order.wake();
+    run(common, scope, bells, &mut hall, &mut Taken::new(), clock);
+    accepting.join(common.rt);
+    let Hall { desk, .. } = hall;
+    Ok(desk)
+}
+
+/// The same, in a scope of threads. The scope gives the clock back, so that its contract can name it.
+fn in_scope<'a, R, K, D, L, G, S, W, T, C>(
+    common: Common<'a, R, L, G>,
+    bells: &'a Vec<Bell>,
+    hall: Hall<K, D, S, W, L>,
+    door: Door<S, W, L, T>,
+    clock: &mut C,
+) -> Result<Desk<K, D>, RefusedLobby<K, D, T>>
+where
+    R: Threads + Wait + SystemClock + Sync,
+    K: Keeper + Drop,
+    D: Draws + Drop,
+    L: Ledger + Send + Sync,
+    G: Gate + Sync,
+    S: Source + Send + Drop,
+    W: Sink + Send + Drop,
+    T: Listen<S, W> + Send + Drop,
+    C: Clock,
+    requires free { AreFree hall.desk.lanes.items }
+    requires seats { AreSeats hall.keeps hall.desk.lanes.items hall.workers.items }
+    ensures served { IfOk result (λ desk. ServesLobby C.tells hall.desk.core clock.old desk.core clock.new) }
+    ensures refused { IfErr result (λ r. (r.desk.core ≡ hall.desk.core) × (r.listener ≡ door.listener)) }
+    ensures fault { IfErr result (λ r. r.fault ≡ serve_fault.Threads) }
+    ensures untouched { OnErr result (clock.new ≡ clock.old) }
+{
+    let (served, _clock) = thread::scope(
+        thread::scope_env(),
+        common.rt,
+        move |scope| -> (Result<Desk<K, D>, RefusedLobby<K, D, T>>, &mut C)
+            requires free { AreFree hall.desk.lanes.items }
+            requires seats { AreSeats hall.keeps hall.desk.lanes.items hall.workers.items }
+            ensures served { IfOk result.0 (λ desk. ServesLobby C.tells hall.desk.core clock.entry.now desk.core result.1.now) }
+            ensures refused { IfErr result.0 (λ r. (r.desk.core ≡ hall.desk.core) × (r.listener ≡ door.listener)) }
+            ensures fault { IfErr result.0 (λ r. r.fault ≡ serve_fault.Threads) }
+            ensures untouched { OnErr result.0 (result.1.now ≡ clock.entry.now) }
+            ensures same_clock { result.1.ghost_name ≡ clock.entry.ghost_name }
+        {
+            let served = serve_scoped(common, scope, bells, hall, door, clock);
+            (served, clock)
+        },
+    );
+    served
+}
+
+/// The order of notes, the writers' bells, and the room for the rest.
+fn take_all<S: Source + Drop, W: Sink + Drop, L: Ledger, T: Drop>(
+    alloc: Global,
+    book: Book<L>,
+) -> Result<(Order<L>, Vec<Bell>, Room<S, W, L, T>), AllocError>
+    requires { book.total ≡ 0 }
+    ensures { IfOk result (λ r. AreEmpty 64 r.2.lanes.items × AreEmpty 64 r.2.workers.items) }
+{
+    let order = Order::new(alloc, book)?;
+    let bells = all_bells(alloc, PLACES)?;
+    let room = take_room(alloc)?;
+    Ok((order, bells, room))
+}
+
+/// Serves the listener with the ledger that a type stands for.
+fn serve_as<R, K, D, L, G, S, W, T, C>(
+    rt: &R,
+    alloc: Global,
+    blank: Blank,
+    gate: &G,
+    core: Core<K, D>,
+    listener: T,
+    clock: &mut C,
+) -> Result<Desk<K, D>, RefusedLobby<K, D, T>>
+where
+    R: Threads + Wait + SystemClock + Sync,
+    K: Keeper + Drop,
+    D: Draws + Drop,
+    L: Ledger + Send + Sync,
+    G: Gate + Sync,
+    S: Source + Send + Drop,
+    W: Sink + Send + Drop,
+    T: Listen<S, W> + Send + Drop,
+    C: Clock,
+    requires name { blank.name ≡ L.name }
+    requires parts { (blank.parts ≡ L.parts) × (blank.parts ≡ 2 ^ 64 - 1) }
+    ensures served { IfOk result (λ desk. ServesLobby C.tells core clock.old desk.core clock.new) }
+    ensures refused { IfErr result (λ r. (r.desk.core ≡ core) × (r.listener ≡ listener)) }
+    ensures fault { IfErr result (λ r. (r.fault ≡ serve_fault.Memory) ⊎ (r.fault ≡ serve_fault.Threads)) }
+    ensures untouched { OnErr result (clock.new ≡ clock.old) }
+{
+    let (book, all) = blank.open::<L>();
+    let Ok((order, bells, room)) = take_all(alloc, book) else {
+        return Err(RefusedLobby {
+            fault: ServeFault::Memory,
+            desk: Desk::new(alloc, core),
+            listener,
+        });
+    };
+    let Room {
+        lanes,
+        workers,
+        ring,
+        accepted,
+        hand,
+    } = room;
+    let mut all = all;
+    let noter = Noter::new(LOBBY, all.split_off(1, 0));
+    let hall = Hall {
+        desk: Desk { core, lanes },
+        workers,
+        accepted: Some(accepted),
+        parts: Parts::of(all, SHARES - 2),
+        keeps: false,
+    };
+    let door = Door {
+        listener,
+        hand,
+        ring,
+        noter,
+    };
+    let common = Common {
+        rt,
+        alloc,
+        order: &order,
+        gate,
+    };
+    in_scope(common, &bells, hall, door, clock)
+}
+
+/// Serves every connection that the listener accepts as a session, up to 64 at a time, until the listener gives no more and
+/// all sessions are over (RFC 7047, 4). Then the desk comes back.
+///
+/// A session ends as in `serve_links`: when its reader's input ends, a read fails or its stream is damaged, when more than
+/// 1,024 frames wait for its writer, or when an allocation for its request fails. Other sessions are not delayed. Once a
+/// session's reader has ended, and its writer has written what was sent to it, both are dropped, which closes the
+/// connection, and the place is free for another. A session that is closed before its input ends keeps its place until the
+/// input ends.
+///
+/// A connection is dropped at once, with nothing read from it or written to it, if there is no place for it, the machine
+/// refuses it, an allocation fails or a thread can't be started. Up to 64 connections wait for the desk; then the listener
+/// isn't asked for another. Once it gives no more it is dropped, though sessions may still be served: the system should
+/// refuse clients that connect afterwards.
+///
+/// Each reader and each writer works in a thread of its own, the listener in one more, and the machine in this one. The
+/// clock gives the desk the moment of what it takes, in milliseconds. While a waiting transaction may time out, the desk
+/// sleeps for a millisecond at most.
+///
+/// Refused as `Memory` or as `Threads`, before anything is accepted. Then the desk and the listener come back as they were.
+pub fn serve_lobby<R, K, D, G, S, W, T, C>(
+    rt: &R,
+    alloc: Global,
+    desk: Desk<K, D>,
+    listener: T,
+    gate: &G,
+    clock: &mut C,
+) -> Result<Desk<K, D>, RefusedLobby<K, D, T>>
+where
+    R: Threads + Wait + SystemClock + Sync,
+    K: Keeper + Drop,
+    D: Draws + Drop,
+    G: Gate + Sync,
+    S: Source + Send + Drop,
+    W: Sink + Send + Drop,
+    T: Listen<S, W> + Send + Drop,
+    C: Clock,
+    ensures served { IfOk result (λ d. ServesLobby C.tells desk.core clock.old d.core clock.new) }
+    ensures refused { IfErr result (λ r. (r.desk.core ≡ desk.core) × (r.listener ≡ listener)) }
+    ensures fault { IfErr result (λ r. (r.fault ≡ serve_fault.Memory) ⊎ (r.fault ≡ serve_fault.Threads)) }
+    ensures untouched { OnErr result (clock.new ≡ clock.old) }
+{
+    serve_as::<R, K, D, Brand, G, S, W, T, C>(
+        rt,
+        alloc,
+        Blank::new(SHARES),
+        gate,
+        desk.into_core(),
+        listener,
+        clock,
+    )
+}

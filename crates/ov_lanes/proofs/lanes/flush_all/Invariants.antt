@@ -1,0 +1,10 @@
+use Rattle.std.proofs.Common.{ℕ}
+use Rattle.ov_lanes.specs.Lanes.{GoesOn, PutsAlone, StayAs, unmarked}
+use Rattle.ov_lanes.proofs.lanes.flush_all.Given as goal
+
+abbrev pub invariant-loop : goal.invariant-loop
+invariant-loop g l =
+    ((moment : ℕ) → GoesOn moment l.initial.core l.initial.lanes.items l.core l.lanes.items) × StayAs PutsAlone l.initial.lanes.items l.lanes.items
+
+abbrev pub decreases-loop : goal.decreases-loop
+decreases-loop g l = unmarked l.lanes.items

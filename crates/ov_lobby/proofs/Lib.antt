@@ -1,3 +1,0 @@
-pub mod Coming
-pub mod Served
-pub mod Admitting

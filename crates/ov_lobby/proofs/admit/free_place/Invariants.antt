@@ -1,8 +1,0 @@
-use Rattle.std.proofs.Common.{ℕ, ◌<◌}
-use Rattle.ov_lanes.specs.declared.lane.Lane.{Lane}
-use Rattle.ov_lobby.specs.Places.{IsAt}
-use Rattle.ov_lobby.proofs.admit.free_place.Given as goal
-
--- The places before are taken.
-abbrev pub invariant-loop-at : goal.invariant-loop-at
-invariant-loop-at l = (i : ℕ) → i < l.at → (lane : Lane) × IsAt l.places.items i lane

@@ -1,5 +1,0 @@
-use Rattle.ov_lobby.specs.Places.{GoesOn}
-use Rattle.ov_lobby.proofs.places.settle_each.Given as goal
-
-abbrev pub invariant-loop-at : goal.invariant-loop-at
-invariant-loop-at g l = GoesOn l.initial.core l.initial.places.items l.core l.places.items

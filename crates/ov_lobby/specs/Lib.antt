@@ -1,4 +1,0 @@
-pub mod Rings
-pub mod Places
-pub mod Admitting
-pub mod Serving

@@ -1,0 +1,8 @@
+use denote.Param.Send.{sendable}
+use Rattle.ov_workers.proofs.Crossing.{WriteDone-send}
+use Rattle.ov_workers.proofs.writing.start_writer.Goals as goal
+
+pub spawn_with-requires-send-T : goal.spawn_with-requires-send-T
+spawn_with-requires-send-T g c = λ κs h.
+    let w = c.type_bounds.send-W in
+    search (sendable, WriteDone-send) depth 10

@@ -1,0 +1,212 @@
+//! A desk that takes one item at a time: from which ring, and what it then puts into the rings of all sessions.
+
+use ov_base::Bytes;
+use ov_core::Session;
+use ov_lanes::{Desk, Lane};
+use ov_order::{Brought, Sent, inbound_ring, outbound_ring};
+use ov_rpc::Received;
+use ov_workers::ReadCause;
+use rtrb::{Consumer, Producer};
+use std::alloc::Global;
+use std::test::Fail;
+use test_basics::{Counter, Faults, NetKeeper, Scripted, agrees};
+use test_support::net_core;
+
+/// The workers' ends of a session's rings.
+#[derive(Drop)]
+struct Side {
+    to_desk: Producer<Brought<Received, ReadCause>>,
+    to_writer: Consumer<Sent>,
+}
+
+/// The two sides of a session's new rings: the desk's and the workers'.
+fn sides_of(alloc: Global, session: Session) -> Result<(Lane, Side), Fail> {
+    let (to_desk, inbound) = inbound_ring(alloc)?;
+    let (outbound, to_writer) = outbound_ring(alloc)?;
+    let lane = Lane::new(session, inbound, outbound);
+    Ok((lane, Side { to_desk, to_writer }))
+}
+
+/// The side of the session of a serial, which counts from 1.
+fn side_of<'a>(sides: &'a mut Vec<Side>, serial: &str) -> Option<&'a mut Side> {
+    let at = serial.parse::<usize>().ok()?.checked_sub(1)?;
+    sides.get_mut(at)
+}
+
+/// Puts a message into a ring to the desk.
+fn bring(alloc: Global, side: &mut Side, text: &str) -> Result<(), Fail> {
+    let received = Received::read(alloc, Bytes::from_slice(alloc, text.as_bytes())?)?;
+    let Ok(()) = side.to_desk.push(Brought::Message(received)) else {
+        return Err("a full ring")?;
+    };
+    Ok(())
+}
+
+/// What was taken out of a ring to a writer: the number of frames, the last of them, and `end` after the end mark. Empty if
+/// nothing was there.
+fn taken_text(alloc: Global, frames: u64, last: Vec<u8>, ended: bool) -> Result<String, Fail> {
+    if frames == 0 && !ended {
+        return Ok(String::new(alloc));
+    }
+    let last = String::from_utf8(last)?;
+    let mark = if ended { " end" } else { "" };
+    Ok(format!(in alloc; "{frames} {last}{mark}")?)
+}
+
+/// Takes all out of a ring to a writer.
+fn take_all(alloc: Global, side: &mut Side) -> Result<String, Fail> {
+    let mut frames: u64 = 0;
+    let mut last = Vec::new(alloc);
+    let mut ended = false;
+    for _ in 0..1_025 {
+        match side.to_writer.pop() {
+            Ok(Sent::Frame(frame)) => {
+                frames = frames.saturating_add(1);
+                last = frame.into_vec();
+            }
+            Ok(Sent::End) => ended = true,
+            Err(_) => break,
+        }
+    }
+    taken_text(alloc, frames, last, ended)
+}
+
+/// A desk, and the workers' sides of the sessions that it serves.
+#[derive(Drop)]
+struct Bench {
+    desk: Desk<NetKeeper, Counter>,
+    sides: Vec<Side>,
+}
+
+/// Opens a session, gives it a place, and returns its serial.
+fn open(alloc: Global, bench: &mut Bench) -> Result<u64, Fail> {
+    let session = bench.desk.core.open_session()?;
+    let (lane, side) = sides_of(alloc, session)?;
+    bench.desk.lanes.push(Some(lane))?;
+    bench.sides.push(side)?;
+    Ok(session.serial)
+}
+
+/// A turn of the desk for the session of a serial.
+fn turn(alloc: Global, bench: &mut Bench, serial: &str) -> Result<bool, Fail> {
+    let serial = serial.parse::<u64>()?;
+    Ok(bench.desk.turn(alloc, 0, serial))
+}
+
+/// Brings an echo and has it taken, `count` times. Returns how many turns took one.
+fn fill(alloc: Global, bench: &mut Bench, serial: &str, count: &str) -> Result<u64, Fail> {
+    let mut turns: u64 = 0;
+    for _ in 0..count.parse::<u64>()? {
+        let side = side_of(&mut bench.sides, serial).ok_or("no session")?;
+        bring(alloc, side, "{\"id\":9,\"method\":\"echo\",\"params\":[]}")?;
+        if turn(alloc, bench, serial)? {
+            turns = turns.saturating_add(1);
+        }
+    }
+    Ok(turns)
+}
+
+/// Why the session of a serial was closed.
+fn cause_text(alloc: Global, bench: &Bench, serial: &str) -> Result<String, Fail> {
+    let at = serial.parse::<usize>()?.saturating_sub(1);
+    match bench.desk.lanes.get(at) {
+        Some(Some(lane)) => Ok(format!(in alloc; "{:?}", lane.cause)?),
+        _ => Err("no session")?,
+    }
+}
+
+/// The answer to a command that names a session. `text` is what follows.
+fn answer_of(
+    alloc: Global,
+    bench: &mut Bench,
+    command: &str,
+    serial: &str,
+    text: &str,
+) -> Result<String, Fail> {
+    match command {
+        "turns" => Ok(format!(in alloc; "{}", turn(alloc, bench, serial)?)?),
+        "fills" => Ok(format!(in alloc; "{}", fill(alloc, bench, serial, text)?)?),
+        "cause" => cause_text(alloc, bench, serial),
+        _ => {
+            let side = side_of(&mut bench.sides, serial).ok_or("no session")?;
+            side_answer(alloc, side, command, text)
+        }
+    }
+}
+
+/// The answer to a command that its workers' side alone answers.
+fn side_answer(alloc: Global, side: &mut Side, command: &str, text: &str) -> Result<String, Fail> {
+    match command {
+        "brings" => bring(alloc, side, text)?,
+        "takes" => return take_all(alloc, side),
+        _ => return Err("no command")?,
+    }
+    Ok(String::new(alloc))
+}
+
+impl Scripted for Bench {
+    /// The commands: `opens` a session; `brings SERIAL MESSAGE` to the desk; `turns SERIAL`, whether the desk took an item;
+    /// `fills SERIAL COUNT`, brings so many echoes and takes them, one after another; `takes SERIAL`, what is in the ring to
+    /// the writer; `cause SERIAL`, why the session was closed.
+    fn answer(&mut self, alloc: Global, command: &str) -> Result<String, Fail> {
+        let Some((word, rest)) = command.split_once(" ") else {
+            return Ok(format!(in alloc; "{}", open(alloc, self)?)?);
+        };
+        let (serial, text) = rest.split_once(" ").unwrap_or((rest, ""));
+        answer_of(alloc, self, word, serial, text)
+    }
+}
+
+/// Fails unless a new desk answers this script.
+fn answers(alloc: Global, script: &str) -> Result<(), Fail> {
+    let desk = Desk::new(alloc, net_core(alloc, Faults::NONE)?);
+    let sides = Vec::new(alloc);
+    agrees(alloc, Bench { desk, sides }, script)
+}
+
+/// Both sessions have a message, and the second gets a turn first. No session has the serial 3.
+const ONE_RING_ALONE: &str = r#"opens -> 1
+opens -> 2
+turns 1 -> false
+brings 1 {"id":1,"method":"echo","params":["a"]}
+brings 2 {"id":2,"method":"echo","params":["b"]}
+turns 3 -> false
+turns 2 -> true
+takes 1
+takes 2 -> 1 {"error":null,"id":2,"result":["b"]}
+turns 2 -> false
+takes 1
+takes 2
+turns 1 -> true
+takes 1 -> 1 {"error":null,"id":1,"result":["a"]}
+takes 2
+turns 1 -> false"#;
+
+#[test]
+fn a_turn_takes_from_one_ring_alone(rt: HostRuntime) -> Result<(), Fail> {
+    answers(rt.alloc(), ONE_RING_ALONE)
+}
+
+/// The second session owns the lock, and its ring has no room for the reply to its last echo. The first session, whose ring is
+/// looked at before, waits for the lock.
+const OVERRUN: &str = r#"opens -> 1
+opens -> 2
+brings 2 {"id":1,"method":"lock","params":["L"]}
+turns 2 -> true
+brings 1 {"id":1,"method":"lock","params":["L"]}
+turns 1 -> true
+takes 1 -> 1 {"error":null,"id":1,"result":{"locked":false}}
+fills 2 1023 -> 1023
+takes 1
+cause 2 -> None
+brings 2 {"id":2,"method":"echo","params":[]}
+turns 2 -> true
+takes 1 -> 1 {"id":null,"method":"locked","params":["L"]}
+takes 2 -> 1024 {"error":null,"id":9,"result":[]} end
+cause 1 -> None
+cause 2 -> Some(Overrun)"#;
+
+#[test]
+fn a_lock_is_given_on_in_the_turn_of_an_overrun(rt: HostRuntime) -> Result<(), Fail> {
+    answers(rt.alloc(), OVERRUN)
+}
