@@ -146,8 +146,8 @@ fn side_answer(alloc: Global, side: &mut Side, command: &str, text: &str) -> Res
 
 impl Scripted for Bench {
     /// The commands: `opens` a session; `brings SERIAL MESSAGE` to the desk; `turns SERIAL`, whether the desk took an item;
-    /// `fills SERIAL COUNT`, brings so many echoes and takes them, one after another; `takes SERIAL`, what is in the ring to
-    /// the writer; `cause SERIAL`, why the session was closed.
+    /// `fills SERIAL COUNT`, brings an echo and has it taken, COUNT times; `takes SERIAL`, what is in the ring to the writer;
+    /// `cause SERIAL`, why the session was closed.
     fn answer(&mut self, alloc: Global, command: &str) -> Result<String, Fail> {
         let Some((word, rest)) = command.split_once(" ") else {
             return Ok(format!(in alloc; "{}", open(alloc, self)?)?);
