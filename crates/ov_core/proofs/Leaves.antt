@@ -2,7 +2,7 @@
 use Rattle.std.proofs.Common.{◌≡◌, ℕ, List, [], ◌∷◌, Bool, true, false, cond, eqb, Option, Some, None, refl, sym, ap, ◌∙◌, map}
 use Rattle.std.specs.Prelude.{not}
 use Rattle.std.proofs.lemmas.Option.{same_Some}
-use Rattle.ov_specs.specs.locks.Queues.{Queues, first_of, without, next_in, freed_before, freed, locked_note, told_of_leaving}
+use Rattle.ov_specs.specs.locks.Queues.{Queues, first_of, without, next_in, freed_before, freed, locked_notification, told_of_leaving}
 use Rattle.ov_specs.specs.machine.Machine.{told}
 use Rattle.ov_specs.specs.machine.History.{frames_to}
 
@@ -30,6 +30,6 @@ leaving_silent session [] = refl
 leaving_silent session (e ∷ queues) = by (next_in session e.1) refl (leaving_silent session queues)
   where
     by : (next : Option ℕ) → next_in session e.1 ≡ next → frames_to session (told (told_of_leaving session queues)) ≡ []
-        → frames_to session (told (map (λ f. (f.0, locked_note f.1)) (freed_before next e.0 (freed session queues)))) ≡ []
+        → frames_to session (told (map (λ f. (f.0, locked_notification f.1)) (freed_before next e.0 (freed session queues)))) ≡ []
     by None is rest = rest
     by (Some next) is rest = rw (next_is_other session next e.1 is) rest

@@ -9,3 +9,4 @@ pub mod Asking
 pub mod Counting
 pub mod Settlings
 pub mod Takings
+pub mod FewWaiting

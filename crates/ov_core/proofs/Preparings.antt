@@ -6,7 +6,7 @@ use Rattle.ov_db.specs.Changing.{Delta, applied}
 use Rattle.ov_db.specs.KeptDatabase.{KeptDatabase}
 use Rattle.ov_outbox.specs.Frames.{posted}
 use Rattle.ov_specs.specs.machine.Machine.{Sent, to_session, updates_sent}
-use Rattle.ov_specs.specs.monitors.Updates.{update_note}
+use Rattle.ov_specs.specs.monitors.Updates.{update_notification}
 use Rattle.ov_specs.specs.rows.Database.{Database}
 use Rattle.ov_sessions.specs.declared.session.Session.{Session}
 use Rattle.ov_txn.specs.declared.ready.Replies.{Replies}
@@ -38,20 +38,20 @@ pub prepares_refused : (xs ys : List (ℕ × List ℕ)) (a b : Replying) → Pre
 prepares_refused xs ys a b one = record { prepared = tt; waits = one.waits; places = one.places; same = one.same }
 
 -- an update of one session, and then the others
-pub update_then : (s : ℕ) (p : Items) (rest all : List Items) (a b c : Replying) (ok : Bool) → all ≡ p ∷ rest → PreparesMore (to_session s (update_note p ∷ [])) a true b → PreparesMore (to_session s (map update_note rest)) b ok c
-    → PreparesMore (to_session s (map update_note all)) a ok c
+pub update_then : (s : ℕ) (p : Items) (rest all : List Items) (a b c : Replying) (ok : Bool) → all ≡ p ∷ rest → PreparesMore (to_session s (update_notification p ∷ [])) a true b → PreparesMore (to_session s (map update_notification rest)) b ok c
+    → PreparesMore (to_session s (map update_notification all)) a ok c
 update_then s p rest all a b c ok is one two =
-    subst (λ (xs : List Items). PreparesMore (to_session s (map update_note xs)) a ok c) (sym is) (prepares_then (map posted (to_session s (update_note p ∷ []))) (map posted (to_session s (map update_note rest))) a b c ok one two)
+    subst (λ (xs : List Items). PreparesMore (to_session s (map update_notification xs)) a ok c) (sym is) (prepares_then (map posted (to_session s (update_notification p ∷ []))) (map posted (to_session s (map update_notification rest))) a b c ok one two)
 
-pub update_refused : (s : ℕ) (p : Items) (rest all : List Items) (a b : Replying) → all ≡ p ∷ rest → PreparesMore (to_session s (update_note p ∷ [])) a false b → PreparesMore (to_session s (map update_note all)) a false b
+pub update_refused : (s : ℕ) (p : Items) (rest all : List Items) (a b : Replying) → all ≡ p ∷ rest → PreparesMore (to_session s (update_notification p ∷ [])) a false b → PreparesMore (to_session s (map update_notification all)) a false b
 update_refused s p rest all a b is one =
-    subst (λ (xs : List Items). PreparesMore (to_session s (map update_note xs)) a false b) (sym is) (prepares_refused (map posted (to_session s (update_note p ∷ []))) (map posted (to_session s (map update_note rest))) a b one)
+    subst (λ (xs : List Items). PreparesMore (to_session s (map update_notification xs)) a false b) (sym is) (prepares_refused (map posted (to_session s (update_notification p ∷ []))) (map posted (to_session s (map update_notification rest))) a b one)
 
-pub no_updates : (s : ℕ) (all : List Items) (a : Replying) → all ≡ [] → PreparesMore (to_session s (map update_note all)) a true a
-no_updates s all a is = subst (λ (xs : List Items). PreparesMore (to_session s (map update_note xs)) a true a) (sym is) (prepares_nothing a)
+pub no_updates : (s : ℕ) (all : List Items) (a : Replying) → all ≡ [] → PreparesMore (to_session s (map update_notification all)) a true a
+no_updates s all a is = subst (λ (xs : List Items). PreparesMore (to_session s (map update_notification xs)) a true a) (sym is) (prepares_nothing a)
 
-pub updates_as : (s : ℕ) (all others : List Items) (a b : Replying) (ok : Bool) → all ≡ others → PreparesMore (to_session s (map update_note all)) a ok b → PreparesMore (to_session s (map update_note others)) a ok b
-updates_as s all others a b ok is h = subst (λ (xs : List Items). PreparesMore (to_session s (map update_note xs)) a ok b) is h
+pub updates_as : (s : ℕ) (all others : List Items) (a b : Replying) (ok : Bool) → all ≡ others → PreparesMore (to_session s (map update_notification all)) a ok b → PreparesMore (to_session s (map update_notification others)) a ok b
+updates_as s all others a b ok is h = subst (λ (xs : List Items). PreparesMore (to_session s (map update_notification xs)) a ok b) is h
 
 -- the updates of one session, and then the others
 pub session_then : (before after : Database) (w v : Watching) (n : ℕ) (rest all : List ℕ) (a b c : Replying) (ok : Bool) → all ≡ n ∷ rest → v ≡ w → PreparesMore (updates_to_one before after v n) a true b → PreparesMore (updates_to before after w rest) b ok c

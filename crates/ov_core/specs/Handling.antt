@@ -1,9 +1,10 @@
 -- The results of the work on a message and of a try of a transaction: those of the machine.
-use Rattle.std.specs.Prelude.{◌≡◌, ◌⊎◌, ◌==◌, ℕ, ◌≤◌, List, [], ◌∷◌, ◌++◌, length, filter, not, codes, true, false, is_some, Option, Some, None, option_map}
+use Rattle.std.specs.Prelude.{◌≡◌, ◌⊎◌, ◌==◌, ℕ, ◌<◌, ◌≤◌, List, [], ◌∷◌, ◌++◌, length, filter, not, codes, true, false, is_some, Option, Some, None, option_map}
 use Rattle.serde_json.specs.Data.{Data, Items}
 use Rattle.ov_specs.specs.wire.Frame.{failure_tree}
+use Rattle.ov_specs.specs.wire.Message.{Message}
 use Rattle.ov_specs.specs.machine.Machine as machine
-use Rattle.ov_specs.specs.machine.Machine.{State, Session, Sent, Work, works, draws_for, completes, to_session}
+use Rattle.ov_specs.specs.machine.Machine.{State, Session, Sent, Work, Transact, work_of, works, draws_for, completes, to_session}
 use Rattle.ov_specs.specs.operations.Transaction.{TransactionOutcome, Completes, Waits}
 use Rattle.ov_specs.specs.rows.Database.{Database}
 use Rattle.ov_specs.specs.values.Uuid.{Uuid}
@@ -11,7 +12,7 @@ use Rattle.ov_db.specs.KeptDatabase.{KeptDatabase}
 use Rattle.ov_keeper.specs.Keeping.{HasFailed}
 use Rattle.ov_outbox.specs.Frames.{WaitingFrames, PostsSent, HasSameFrames}
 use Rattle.ov_outbox.specs.Outbox.{Outbox}
-use Rattle.ov_requests.specs.Waiting.{has_text}
+use Rattle.ov_requests.specs.Waiting.{many, most_outstanding, has_text}
 use Rattle.ov_watch.specs.Watching.{monitors_at}
 use Rattle.ov_history.specs.Entries.{outcome_view, is_kept, is_of_store, is_failure, some_outcome}
 use Rattle.ov_core.specs.States.{state_of}
@@ -84,6 +85,11 @@ outcome_in (Done o) = o
 outcome_in (Blocked timeout) = None
 
 -- ---- the work on a message
+
+-- if the message asks for a transaction, there is room for it to wait
+abbrev pub HasRoomToWait : {K : Type 0} → ℕ → ℕ → Message → Live K → Type 0
+HasRoomToWait moment session message live =
+    (id : Data) (operations : Items) → work_of (state_of live moment) session message ≡ Transact id operations → many live.waiting < most_outstanding
 
 -- Nothing is changed but the count of attempts and what this session watches, and the same frames wait.
 pub record Stays {K : Type 0} (session : ℕ) (old new : Live K) : Type 0 where

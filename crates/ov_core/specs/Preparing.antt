@@ -9,7 +9,7 @@ use Rattle.ov_db.specs.declared.answer.StoreAnswer.TheVariants as store
 use Rattle.ov_outbox.specs.Frames.{WaitingFrames, PostsFrame, PostsSent, HasSameFrames, places_for, count_of, posted}
 use Rattle.ov_specs.specs.wire.Frame.{frame, reply_tree}
 use Rattle.ov_specs.specs.machine.Machine.{Sent, to_session, updates_sent}
-use Rattle.ov_specs.specs.monitors.Updates.{all_updates, update_note}
+use Rattle.ov_specs.specs.monitors.Updates.{all_updates, update_notification}
 use Rattle.ov_specs.specs.rows.Database.{Database}
 use Rattle.ov_watch.specs.Watching.{Watching, monitors_at}
 use Rattle.ov_specs.specs.operations.Transaction.{and_item}
@@ -46,7 +46,7 @@ PreparesMore sent old ready new = PreparesFrames (map posted sent) old ready new
 
 -- the updates that the monitors of one session receive, and those of several, by their serials
 abbrev pub updates_to_one : Database → Database → Watching → ℕ → List Sent
-updates_to_one before after watching serial = to_session serial (map update_note (all_updates before after (monitors_at serial watching)))
+updates_to_one before after watching serial = to_session serial (map update_notification (all_updates before after (monitors_at serial watching)))
 
 abbrev pub updates_to : Database → Database → Watching → List ℕ → List Sent
 updates_to before after watching serials = flat_map (updates_to_one before after watching) serials

@@ -6,8 +6,9 @@ ghost use Rattle.ov_specs.specs.values.Uuid.{is_uuid};
 ghost use Rattle.ov_specs.specs.wire.Frame.{frame, failure_tree};
 ghost use Rattle.ov_requests.specs.Asked.{IsWork, IsWithoutDraws};
 ghost use Rattle.ov_requests.specs.Drawing.{DrawsFrom};
+ghost use Rattle.ov_requests.specs.Waiting.{many, most_outstanding};
 ghost use Rattle.ov_sessions.specs.Sessions.{has_serial};
-ghost use Rattle.ov_core.specs.Handling.{AsksStore, Works, WorksWith, HasSameRest, WaitsIfRoom, CancelsIfRoom};
+ghost use Rattle.ov_core.specs.Handling.{AsksStore, HasRoomToWait, Works, WorksWith, HasSameRest, WaitsIfRoom, CancelsIfRoom};
 ghost use Rattle.ov_core.specs.Settling.{ComesTo};
 ghost use Rattle.ov_core.specs.States.{state_of};
 
@@ -74,6 +75,7 @@ impl<K: Keeper + Drop> Live<K> {
         requires open { spec.is_open (state_of self.old moment) session ≡ true }
         requires none { attempts.old.items ≡ [] }
         requires room { length self.old.waiting.outstanding < vec_capacity attempts.old }
+        requires waits { HasRoomToWait moment session (message_view message) self.old }
         ensures comes_to { ComesTo K.failed moment (spec.Take session (message_view message)) self.old result.items attempts.new.items self.new }
         ensures drawn { DrawsFrom D.draws source.old result.items source.new }
         ensures uuids { list_all is_uuid result.items ≡ true }
@@ -102,6 +104,7 @@ impl<K: Keeper + Drop> Live<K> {
         source: &mut D,
     ) -> Handled
         requires open { spec.is_open (state_of self.old moment) session ≡ true }
+        requires waits { HasRoomToWait moment session (message_view message) self.old }
         ensures works { Works moment session (spec.work_of (state_of self.old moment) session (message_view message)) self.old result self.new }
         ensures asks { AsksStore K.failed result.outcome self.old.database self.new.database }
         ensures counts { K.failed self.old.database.keeper ≤ K.failed self.new.database.keeper }
@@ -150,6 +153,7 @@ impl<K: Keeper + Drop> Live<K> {
         operations: Trees,
         source: &mut D,
     ) -> Handled
+        requires { many self.old.waiting < most_outstanding }
         ensures works { Works moment session (spec.Transact id operations) self.old result self.new }
         ensures asks { AsksStore K.failed result.outcome self.old.database self.new.database }
         ensures counts { K.failed self.old.database.keeper ≤ K.failed self.new.database.keeper }
@@ -186,8 +190,8 @@ impl<K: Keeper + Drop> Live<K> {
         }
     }
 
-    /// Makes a transaction that is blocked on arrival wait after the others; `NoMemory` if it or a copy of its identifiers
-    /// cannot be allocated.
+    /// Makes a transaction that is blocked on arrival wait after the others; `NoMemory` if the text of its id or a copy of its
+    /// identifiers cannot be allocated.
     fn wait(
         &mut self,
         alloc: Global,
@@ -197,6 +201,7 @@ impl<K: Keeper + Drop> Live<K> {
         txn: Txn,
         timeout: Option<u64>,
     ) -> Handled
+        requires { many self.old.waiting < most_outstanding }
         ensures waits { WaitsIfRoom (spec.arrived (state_of self.old moment) session id txn.draws txn.operations) timeout self.old result.outcome self.new }
         ensures draws { result.draws.items ≡ txn.draws }
     {
@@ -206,12 +211,10 @@ impl<K: Keeper + Drop> Live<K> {
         let Ok(waits) = Outstanding::new(alloc, session, id, txn, moment, timeout) else {
             return out_of_memory(draws);
         };
-        match self.waiting.push(waits) {
-            Ok(()) => Handled {
-                draws,
-                outcome: None,
-            },
-            Err(_) => out_of_memory(draws),
+        self.waiting.push(waits);
+        Handled {
+            draws,
+            outcome: None,
         }
     }
 

@@ -27,15 +27,15 @@ pub(crate) struct Live<K: Keeper> {
 }
 
 impl<K: Keeper + Drop> Live<K> {
-    /// Nothing waits, no lock is requested, there are no monitors, and no attempt has been made.
-    pub fn new(alloc: Global, database: Db<K>, sessions: Sessions) -> Live<K>
-        ensures { result ≡ record { database = database; sessions = sessions; watchers = []; waiting = record { untried = []; outstanding = [] }; outbox = record { frames = []; queues = [] }; tries = 0 } }
+    /// No frame waits, no lock is requested, there are no monitors, and no attempt has been made.
+    pub fn new(alloc: Global, database: Db<K>, sessions: Sessions, waiting: Waiting) -> Live<K>
+        ensures { result ≡ record { database = database; sessions = sessions; watchers = []; waiting = waiting; outbox = record { frames = []; queues = [] }; tries = 0 } }
     {
         Live {
             database,
             sessions,
             watchers: Watchers::new(alloc),
-            waiting: Waiting::new(alloc),
+            waiting,
             outbox: Outbox::new(alloc),
             tries: Tries::new(),
         }

@@ -25,7 +25,7 @@ use ov_history::{
     Cause, Entry, Event, History, StepFault, Stepped, entry_with_choice, entry_without_choice,
 };
 use ov_keeper::{KeepFault, Keeper};
-use ov_requests::Draws;
+use ov_requests::{Draws, Waiting};
 use ov_rpc::Received;
 use ov_schema::Schema;
 use ov_sessions::{Session, Sessions};
@@ -94,7 +94,7 @@ impl<K: Keeper + Drop, D: Draws + Drop> Core<K, D> {
     /// Refused as `SchemaDiffers` if the keeper holds another text than the schema's (RFC 7047, 3.2), as `BadBody` if one of
     /// its lines is not a row of the schema, and with the fault of the keeper's load. A failed allocation is the keeper's
     /// fault `Memory`. What the keeper holds is not changed, and a refusal gives the keeper back. Space for the 4,096 entries
-    /// of the history and for the serials of 64 sessions is allocated here.
+    /// of the history, the serials of 64 sessions and 4,096 waiting transactions is allocated here.
     pub fn open(
         alloc: Global,
         keeper: K,
@@ -130,10 +130,16 @@ impl<K: Keeper + Drop, D: Draws + Drop> Core<K, D> {
                 keeper,
             });
         };
+        let Ok(waiting) = Waiting::new(alloc) else {
+            return Err(RefusedOpen {
+                fault: OpenFault::Keeping(KeepFault::Memory),
+                keeper,
+            });
+        };
         let database = Db::open(alloc, keeper, schema)?;
         database.shows_kept();
         Ok(Core {
-            live: Live::new(alloc, database, sessions),
+            live: Live::new(alloc, database, sessions, waiting),
             source: draws,
             moment: 0,
             history,
@@ -437,6 +443,7 @@ impl<K: Keeper + Drop, D: Draws + Drop> Core<K, D> {
             self.close_open(moment, session, Cause::Memory);
             return Stepped::Closed;
         };
+        self.live.sessions.are_few();
         let (message, text) = received.into_parts();
         let draws = self.live.take(
             alloc,

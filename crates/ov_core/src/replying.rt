@@ -1,7 +1,7 @@
 ghost use Rattle.std.specs.Prelude.{◌≡◌, [], ◌∷◌};
 ghost use Rattle.ov_db.specs.Changing.{applied};
 ghost use Rattle.ov_specs.specs.machine.Machine.{updates_sent, to_session};
-ghost use Rattle.ov_specs.specs.monitors.Updates.{update_note};
+ghost use Rattle.ov_specs.specs.monitors.Updates.{update_notification};
 ghost use Rattle.ov_core.specs.Preparing.{PreparesFrames, PreparesMore, updates_to_one};
 ghost use Rattle.ov_core.specs.States.{sessions_of};
 
@@ -10,7 +10,7 @@ use ov_base::{Bytes, Tree, Trees};
 use ov_db::{Db, Delta};
 use ov_keeper::Keeper;
 use ov_outbox::{FrameQueues, Prepared};
-use ov_rpc::note;
+use ov_rpc::notification;
 use ov_sessions::Sessions;
 use ov_txn::{Ready, Replies};
 use ov_watch::Watchers;
@@ -77,9 +77,9 @@ impl<'a> Replying<'a> {
 
     /// Prepares one update with these params for a session; false if an allocation fails.
     fn prepare_update(&mut self, session: u64, params: Trees) -> bool
-        ensures { PreparesMore (to_session session (update_note params ∷ [])) self.old result self.new }
+        ensures { PreparesMore (to_session session (update_notification params ∷ [])) self.old result self.new }
     {
-        let Ok(frame) = note(self.alloc, "update", params) else {
+        let Ok(frame) = notification(self.alloc, "update", params) else {
             return false;
         };
         self.prepare(session, frame)

@@ -6,7 +6,7 @@ use Rattle.std.proofs.lemmas.List.{nil_from_length}
 use Rattle.serde_json.specs.Data.{Data, number, unsigned, string, array, object, no_members, member, Items, no_items, item}
 use Rattle.serde_json.proofs.OnLiterals.{serde_json_on_literals}
 use Rattle.ov_specs.specs.integrity.Committed.{committed}
-use Rattle.ov_specs.specs.locks.Queues.{Queues, Lock, is_lock_name, owner, has_requested, names_of, requests_of, lock, steal, unlock, next_owner, leave, freed, lock_result, locked_note, stolen_note}
+use Rattle.ov_specs.specs.locks.Queues.{Queues, Lock, is_lock_name, owner, has_requested, names_of, requests_of, lock, steal, unlock, next_owner, leave, freed, lock_result, locked_notification, stolen_notification}
 use Rattle.ov_specs.specs.machine.History.{run, out}
 use Rattle.ov_specs.specs.machine.Machine.{State, Entry, Open, Take, Close, InputEnded, NoMemory, Stepped, Locks, refused, work_of, step}
 use Rattle.ov_specs.specs.operations.Errors.{NotOwner, error_tree}
@@ -109,11 +109,11 @@ waiter_leaves = refl
 
 -- ---- what is sent
 
-pub locked_text : frame (locked_note (codes "L")) ≡ codes "{\"id\":null,\"method\":\"locked\",\"params\":[\"L\"]}"
+pub locked_text : frame (locked_notification (codes "L")) ≡ codes "{\"id\":null,\"method\":\"locked\",\"params\":[\"L\"]}"
 unfolding serde_json_on_literals
 locked_text = refl
 
-pub stolen_text : frame (stolen_note (codes "L")) ≡ codes "{\"id\":null,\"method\":\"stolen\",\"params\":[\"L\"]}"
+pub stolen_text : frame (stolen_notification (codes "L")) ≡ codes "{\"id\":null,\"method\":\"stolen\",\"params\":[\"L\"]}"
 unfolding serde_json_on_literals
 stolen_text = refl
 
@@ -193,7 +193,7 @@ waiter_gives_up = refl
 pub owner_gives_up : step (with_queues two) (at 0 (Take 1 (call (codes "unlock") 4 (codes "L"))))
     ≡ Some (record {
       state = with_queues ((codes "L", 2 ∷ []) ∷ []);
-      sent = record { session = 1; tree = reply_tree (id 4) (object no_members) } ∷ record { session = 2; tree = locked_note (codes "L") } ∷ [];
+      sent = record { session = 1; tree = reply_tree (id 4) (object no_members) } ∷ record { session = 2; tree = locked_notification (codes "L") } ∷ [];
     })
 owner_gives_up = refl
 
@@ -204,7 +204,7 @@ nothing_to_give_up = refl
 pub both_are_given_on : step (with_queues both) (at 0 (Close 1 InputEnded))
     ≡ Some (record {
       state = record (with_queues ((codes "A", 2 ∷ []) ∷ (codes "B", 2 ∷ []) ∷ [])) { sessions = record { serial = 2; monitors = [] } ∷ record { serial = 3; monitors = [] } ∷ [] };
-      sent = record { session = 2; tree = locked_note (codes "A") } ∷ record { session = 2; tree = locked_note (codes "B") } ∷ [];
+      sent = record { session = 2; tree = locked_notification (codes "A") } ∷ record { session = 2; tree = locked_notification (codes "B") } ∷ [];
     })
 both_are_given_on = refl
 
@@ -212,7 +212,7 @@ both_are_given_on = refl
 pub given_on_without_memory : step (with_queues two) (record { event = Take 1 (call (codes "lock") 1 (codes "B")); choice = record { moment = 0; draws = []; outcomes = record { number = 1; outcome = NoMemory } ∷ [] } })
     ≡ Some (record {
       state = record (with_queues ((codes "L", 2 ∷ []) ∷ [])) { sessions = record { serial = 2; monitors = [] } ∷ record { serial = 3; monitors = [] } ∷ [] };
-      sent = record { session = 2; tree = locked_note (codes "L") } ∷ [];
+      sent = record { session = 2; tree = locked_notification (codes "L") } ∷ [];
     })
 given_on_without_memory = refl
 

@@ -5,8 +5,8 @@ use Rattle.serde_json.proofs.OnLiterals.{serde_json_on_literals}
 use Rattle.std.specs.FinMap.{empty}
 use Rattle.ov_specs.specs.schema.SchemaTypes.{Schema}
 use Rattle.serde_json.specs.Data.{null, number, unsigned, string, object, no_members, item, no_items}
-use Rattle.ov_specs.specs.wire.Message.{Message, Call, Note}
-use Rattle.ov_specs.specs.wire.Frame.{frame, note_tree}
+use Rattle.ov_specs.specs.wire.Message.{Message, Call, Notification}
+use Rattle.ov_specs.specs.wire.Frame.{frame, notification_tree}
 use Rattle.ov_specs.specs.machine.Machine.{State, Event, Open, Take, Close, Tick, InputEnded, Memory, NoMemory, Committed, Entry, step, opening}
 use Rattle.ov_specs.specs.machine.History.{run, out, requests, closed_by}
 
@@ -52,7 +52,7 @@ tick_sets_the_moment = refl
 pub moments_do_not_go_back : step (record net { moment = 50 }) (at 49 Tick) ≡ None
 moments_do_not_go_back = refl
 
-pub notifications_are_not_answered : step with_session (at 0 (Take 1 (Note (codes "m") no_items))) ≡ Some (record { state = with_session; sent = [] })
+pub notifications_are_not_answered : step with_session (at 0 (Take 1 (Notification (codes "m") no_items))) ≡ Some (record { state = with_session; sent = [] })
 notifications_are_not_answered = refl
 
 pub nothing_is_taken_of_a_closed_session : step net (at 0 (Take 1 list_dbs)) ≡ None
@@ -122,6 +122,6 @@ no_cause_before_opening = refl
 
 -- ---- a notification's bytes
 
-pub notification_bytes : frame (note_tree (codes "locked") (item (string (codes "L")) no_items)) ≡ codes "{\"id\":null,\"method\":\"locked\",\"params\":[\"L\"]}"
+pub notification_bytes : frame (notification_tree (codes "locked") (item (string (codes "L")) no_items)) ≡ codes "{\"id\":null,\"method\":\"locked\",\"params\":[\"L\"]}"
 unfolding digits serde_json_on_literals
 notification_bytes = refl

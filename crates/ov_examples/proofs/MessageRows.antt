@@ -3,7 +3,7 @@ use Rattle.std.proofs.Common.{◌≡◌, ◌∷◌, [], codes, Some, None, true,
 use Rattle.std.specs.Str.{is_utf8, chars}
 use Rattle.serde_json.proofs.OnLiterals.{serde_json_on_literals}
 use Rattle.serde_json.specs.Data.{number, unsigned, string, object, no_members, item, no_items}
-use Rattle.ov_specs.specs.wire.Message.{message_in, Call, Note, Answer, Bad, NotARequest, Reals, asked}
+use Rattle.ov_specs.specs.wire.Message.{message_in, Call, Notification, Answer, Bad, NotARequest, Reals, asked}
 use Rattle.ov_specs.specs.wire.Cut.{cut}
 
 -- ---- calls, notifications and answers
@@ -12,9 +12,9 @@ pub echo_keeps_quotes : message_in (codes "{\"id\":\"x\",\"method\":\"echo\",\"p
 unfolding message_in is_utf8 chars serde_json_on_literals
 echo_keeps_quotes = refl
 
-pub note_with_null_id : message_in (codes "{\"id\":null,\"method\":\"m\",\"params\":[]}") ≡ Some (Note (codes "m") no_items)
+pub notification_with_null_id : message_in (codes "{\"id\":null,\"method\":\"m\",\"params\":[]}") ≡ Some (Notification (codes "m") no_items)
 unfolding message_in is_utf8 chars serde_json_on_literals
-note_with_null_id = refl
+notification_with_null_id = refl
 
 -- a result beside a method is ignored
 pub result_beside_method : message_in (codes "{\"id\":1,\"method\":\"m\",\"params\":[],\"result\":1}") ≡ Some (Call (number (unsigned 1)) (codes "m") no_items)
@@ -69,7 +69,7 @@ unfolding asked cut message_in is_utf8 chars serde_json_on_literals
 asks_and_is_damaged = refl
 
 -- an answer, and a request that is built wrong, are messages like others
-pub all_kinds_are_asked : asked (codes "{\"id\":0,\"result\":1}{\"id\":1}{\"method\":\"m\",\"params\":[]}") ≡ record { messages = Answer ∷ Bad (number (unsigned 1)) NotARequest ∷ Note (codes "m") no_items ∷ []; damaged = false }
+pub all_kinds_are_asked : asked (codes "{\"id\":0,\"result\":1}{\"id\":1}{\"method\":\"m\",\"params\":[]}") ≡ record { messages = Answer ∷ Bad (number (unsigned 1)) NotARequest ∷ Notification (codes "m") no_items ∷ []; damaged = false }
 unfolding asked cut message_in is_utf8 chars serde_json_on_literals
 all_kinds_are_asked = refl
 

@@ -8,7 +8,7 @@ use Rattle.serde_json.proofs.OnLiterals.{serde_json_on_literals}
 use Rattle.uuid.specs.Text.{by_index}
 use Rattle.ov_specs.specs.monitors.Monitors.{Monitor, added, canceled}
 use Rattle.ov_specs.specs.monitors.Requests.{MonitorFault, Syntax, UnknownTable, UnknownColumn, Duplicate, Unknown}
-use Rattle.ov_specs.specs.monitors.Updates.{initial, updates, update_params, update_note}
+use Rattle.ov_specs.specs.monitors.Updates.{initial, updates, update_params, update_notification}
 use Rattle.ov_specs.specs.rows.Database.{Columns, Row, Database}
 use Rattle.ov_specs.specs.rows.Lines.{LineKey, line_cmp}
 use Rattle.ov_specs.specs.schema.SchemaTypes.{name_cmp}
@@ -160,7 +160,7 @@ insert_is_told =
     (rw (column_of 0 (codes "s1") (codes "name")) (rw (entries-one (Text (codes "s1"))) refl)))))
 
 -- as it is sent
-pub insert_is_sent : option_map (λ told. update_note (update_params on_name told)) (updates empty (alone (switch 9 0 (codes "s1"))) on_name)
+pub insert_is_sent : option_map (λ told. update_notification (update_params on_name told)) (updates empty (alone (switch 9 0 (codes "s1"))) on_name)
     ≡ read (codes "{\"id\":null,\"method\":\"update\",\"params\":[\"m\",{\"Switch\":{\"00000000-0000-0000-0000-000000000007\":{\"new\":{\"name\":\"s1\"}}}}]}")
 unfolding serde_json_on_literals by_index
 insert_is_sent =

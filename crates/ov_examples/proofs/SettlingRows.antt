@@ -19,7 +19,7 @@ use Rattle.ov_specs.proofs.laws.Committing.{enough_committed}
 use Rattle.ov_specs.proofs.laws.LineKeys.{key_total, key_exact, tied_same}
 use Rattle.ov_examples.proofs.ConditionRows.{len-one}
 use Rattle.ov_specs.specs.wire.Frame.{reply_tree, failure_tree}
-use Rattle.ov_specs.specs.wire.Message.{Message, Call, Note}
+use Rattle.ov_specs.specs.wire.Message.{Message, Call, Notification}
 use Rattle.ov_examples.proofs.NetRows.{net, numbered, owns_none, table_is, on_switch, entries-tables}
 use Rattle.ov_examples.proofs.TwoSwitches.{one, rows, row, key, columns_1, len-none, entries-one, entries-none, entries-columns_1, entries-put, entries-rows, entries-deleted, entries-empty}
 
@@ -70,12 +70,12 @@ pub ids_are_a_sessions_own : work_of (with_waiting (waits 1 0 None wait ∷ []))
 unfolding digits serde_json_on_literals
 ids_are_a_sessions_own = refl
 
-pub waiting_one_is_canceled : step (with_waiting (waits 1 0 None wait ∷ waits 2 0 None wait ∷ [])) (at 0 (Take 1 (Note (codes "cancel") (item (id 1) no_items))))
+pub waiting_one_is_canceled : step (with_waiting (waits 1 0 None wait ∷ waits 2 0 None wait ∷ [])) (at 0 (Take 1 (Notification (codes "cancel") (item (id 1) no_items))))
     ≡ answers (with_waiting (waits 2 0 None wait ∷ [])) (failure_tree (id 1) (codes "canceled"))
 unfolding digits serde_json_on_literals
 waiting_one_is_canceled = refl
 
-pub nothing_to_cancel : step (with_waiting (waits 1 0 None wait ∷ [])) (at 0 (Take 2 (Note (codes "cancel") (item (id 1) no_items)))) ≡ Some (record { state = with_waiting (waits 1 0 None wait ∷ []); sent = [] })
+pub nothing_to_cancel : step (with_waiting (waits 1 0 None wait ∷ [])) (at 0 (Take 2 (Notification (codes "cancel") (item (id 1) no_items)))) ≡ Some (record { state = with_waiting (waits 1 0 None wait ∷ []); sent = [] })
 unfolding digits serde_json_on_literals
 nothing_to_cancel = refl
 

@@ -7,7 +7,7 @@ use Rattle.serde_json.proofs.OnLiterals.{serde_json_on_literals}
 use Rattle.uuid.specs.Text.{by_index}
 use Rattle.ov_specs.specs.machine.Machine.{State, Entry, Take, Close, InputEnded, Committed, Exhausted, Failed, Outcome, Stepped, Work, Watches, opening, refused, work_of, step}
 use Rattle.ov_specs.specs.monitors.Monitors.{Monitor, added}
-use Rattle.ov_specs.specs.monitors.Updates.{updates, update_note}
+use Rattle.ov_specs.specs.monitors.Updates.{updates, update_notification}
 use Rattle.ov_specs.specs.operations.Insert.{insert_result}
 use Rattle.ov_specs.specs.operations.Transaction.{exhausted_results, failed_results}
 use Rattle.ov_specs.specs.rows.Database.{same_database}
@@ -149,7 +149,7 @@ inserts outcome = record {
 
 -- the params of an update
 abbrev update : Data → Data
-update name = update_note (item name (item its_name no_items))
+update name = update_notification (item name (item its_name no_items))
 
 abbrev reply : Data
 reply = reply_tree (id 2) (array (item (insert_result (numbered 2)) no_items))

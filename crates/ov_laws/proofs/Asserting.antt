@@ -15,7 +15,7 @@ use Rattle.ov_specs.specs.values.Uuid.{Uuid}
 use Rattle.ov_specs.proofs.laws.Locks.{owns-owner}
 use Rattle.ov_specs.proofs.laws.Works.{when_is}
 use Rattle.ov_laws.specs.Asserting.{item_at, Asserts}
-use Rattle.ov_laws.proofs.Replies.{last_results, last-append, same_results, notes_tell_no_results}
+use Rattle.ov_laws.proofs.Replies.{last_results, last-append, same_results, notifications_tell_no_results}
 
 -- ---- a transaction
 
@@ -158,7 +158,7 @@ module _ (s : State) (o : Outstanding) (place : ℕ) (before : List Sent) (resul
 
   -- a session that is closed is sent no reply
   closing : (t : Stepped) → closed s o.session ≡ t → Ends t → ⊥
-  closing t is ends = silent t (ap (λ (v : Stepped). last_results v.sent) (sym is) ∙ notes_tell_no_results (freed o.session s.queues)) ends
+  closing t is ends = silent t (ap (λ (v : Stepped). last_results v.sent) (sym is) ∙ notifications_tell_no_results (freed o.session s.queues)) ends
 
   module _ (age : ℕ) (d : Data) (name : List ℕ) (at : item_at place o.operations ≡ Some d) (is : Asserts name d) (passes : Passes place results) where
     owned : Replies place (transaction s.schema s.database (owns s.queues o.session) o.draws age o.operations) results → owner name s.queues ≡ Some o.session

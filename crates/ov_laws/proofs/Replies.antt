@@ -5,7 +5,7 @@ use Rattle.std.proofs.lemmas.Option.{same_Some}
 use Rattle.serde_json.specs.Data.{Data, Items}
 use Rattle.serde_json.specs.Find.{as_array}
 use Rattle.serde_json.specs.Find as find
-use Rattle.ov_specs.specs.locks.Queues.{locked_note}
+use Rattle.ov_specs.specs.locks.Queues.{locked_notification}
 use Rattle.ov_specs.specs.machine.Machine.{Sent, told, results_to}
 
 -- the results of the last tree that is sent, if it is a reply with results
@@ -27,7 +27,7 @@ pub same_results : (sent other : List Sent) (n m : ℕ) (i j : Data) (a b : Item
 same_results sent other n m i j a b h = same_Some a b (sym (last-append sent n i a) ∙ (ap last_results h ∙ last-append other m j b))
 
 -- those that become owners of locks are sent no results
-pub notes_tell_no_results : (freed : List (ℕ × List ℕ)) → last_results (told (map (λ f. (f.0, locked_note f.1)) freed)) ≡ None
-notes_tell_no_results [] = refl
-notes_tell_no_results (f ∷ []) = refl
-notes_tell_no_results (f ∷ g ∷ freed) = notes_tell_no_results (g ∷ freed)
+pub notifications_tell_no_results : (freed : List (ℕ × List ℕ)) → last_results (told (map (λ f. (f.0, locked_notification f.1)) freed)) ≡ None
+notifications_tell_no_results [] = refl
+notifications_tell_no_results (f ∷ []) = refl
+notifications_tell_no_results (f ∷ g ∷ freed) = notifications_tell_no_results (g ∷ freed)

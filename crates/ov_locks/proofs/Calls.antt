@@ -5,7 +5,7 @@ use Rattle.std.specs.BTreeMap.{insert_entry}
 use Rattle.std.specs.List.Sorted.{IsStrictlySortedBy}
 use Rattle.std.specs.Map.{keys_of, lookup, set_value}
 use Rattle.std.specs.Prelude.{unwrap_or}
-use Rattle.ov_specs.specs.locks.Queues.{first_of, owner, with_queue, without, lock, steal, unlock, next_in, next_owner, locked_note}
+use Rattle.ov_specs.specs.locks.Queues.{first_of, owner, with_queue, without, lock, steal, unlock, next_in, next_owner, locked_notification}
 use Rattle.ov_specs.specs.schema.SchemaTypes.{name_cmp}
 use Rattle.ov_specs.specs.wire.Frame.{frame}
 use Rattle.ov_locks.specs.Freeing.{told}
@@ -46,19 +46,19 @@ module _ (name : List ℕ) (session : ℕ) (es : Entries) where
     pub same-queues : (new : Queue) → new ≡ q → queues_of (set_value (text_is name) es new) ≡ queues_of es
     same-queues new is = ap queues_of (ap (set_value (text_is name) es) is ∙ set_value_same (text_is name) es q (sym found))
 
-    pub waits-told : AllAreTold es → (new : Queue) → new ≡ (q.0, q.1 ++ (session, frame (locked_note name)) ∷ []) → AllAreTold (set_value (text_is name) es new)
+    pub waits-told : AllAreTold es → (new : Queue) → new ≡ (q.0, q.1 ++ (session, frame (locked_notification name)) ∷ []) → AllAreTold (set_value (text_is name) es new)
     waits-told all new is = told-set name new es all (subst (λ (p : Queue). AreToldOf name p.1) (sym is) (told-back name q.1 session (told-found name q es all found)))
 
-    pub waits-locks : IsStrictlySortedBy text_order (keys_of es) → (new : Queue) → new ≡ (q.0, q.1 ++ (session, frame (locked_note name)) ∷ [])
+    pub waits-locks : IsStrictlySortedBy text_order (keys_of es) → (new : Queue) → new ≡ (q.0, q.1 ++ (session, frame (locked_notification name)) ∷ [])
         → queues_of (set_value (text_is name) es new) ≡ lock name session (queues_of es)
     waits-locks ascend new is =
-        set-queues name new q es ascend found ∙ ap (insert_entry name_cmp (queues_of es) name) (ap sessions_of is ∙ ap (λ ss. q.0 ∷ ss) (waiting-back q.1 session (frame (locked_note name))))
+        set-queues name new q es ascend found ∙ ap (insert_entry name_cmp (queues_of es) name) (ap sessions_of is ∙ ap (λ ss. q.0 ∷ ss) (waiting-back q.1 session (frame (locked_notification name))))
         ∙ sym (ap (λ queue. with_queue name (queue ++ session ∷ []) (queues_of es)) (queue-found name es (Some q) found))
 
-    pub stolen-told : AllAreTold es → (new : Queue) → new ≡ (session, (q.0, frame (locked_note name)) ∷ q.1) → AllAreTold (set_value (text_is name) es new)
+    pub stolen-told : AllAreTold es → (new : Queue) → new ≡ (session, (q.0, frame (locked_notification name)) ∷ q.1) → AllAreTold (set_value (text_is name) es new)
     stolen-told all new is = told-set name new es all (subst (λ (p : Queue). AreToldOf name p.1) (sym is) (refl, told-found name q es all found))
 
-    pub steals-steals : IsStrictlySortedBy text_order (keys_of es) → (new : Queue) → new ≡ (session, (q.0, frame (locked_note name)) ∷ q.1)
+    pub steals-steals : IsStrictlySortedBy text_order (keys_of es) → (new : Queue) → new ≡ (session, (q.0, frame (locked_notification name)) ∷ q.1)
         → queues_of (set_value (text_is name) es new) ≡ steal name session (queues_of es)
     steals-steals ascend new is =
         set-queues name new q es ascend found ∙ ap (insert_entry name_cmp (queues_of es) name) (ap sessions_of is)

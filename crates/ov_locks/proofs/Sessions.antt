@@ -1,7 +1,7 @@
 -- A queue with the frames of its waiters, and its sessions.
 use Rattle.std.proofs.Common.{◌≡◌, ℕ, List, [], ◌∷◌, ◌++◌, map, Bool, true, false, cond, not, eqb, Option, Some, None, refl, sym, ap, subst, ◌∙◌}
 use Rattle.std.specs.Prelude.{is_none, option_to_list, IfNone}
-use Rattle.ov_specs.specs.locks.Queues.{without, first_of, next_in, locked_note}
+use Rattle.ov_specs.specs.locks.Queues.{without, first_of, next_in, locked_notification}
 use Rattle.ov_specs.specs.wire.Frame.{frame}
 use Rattle.ov_locks.specs.Freeing.{told}
 use Rattle.ov_locks.specs.Queued.{Waiters, Queue, sessions_of, without_waiter, owner_after, AreToldOf}
@@ -22,7 +22,7 @@ pub waiting-back : (waiters : Waiters) (session : ℕ) (text : List ℕ) → wai
 waiting-back [] session text = refl
 waiting-back (waiter ∷ waiters) session text = ap (λ ss. waiter.0 ∷ ss) (waiting-back waiters session text)
 
-pub told-back : (name : List ℕ) (waiters : Waiters) (session : ℕ) → AreToldOf name waiters → AreToldOf name (waiters ++ (session, frame (locked_note name)) ∷ [])
+pub told-back : (name : List ℕ) (waiters : Waiters) (session : ℕ) → AreToldOf name waiters → AreToldOf name (waiters ++ (session, frame (locked_notification name)) ∷ [])
 told-back name [] session are = (refl, tt)
 told-back name (waiter ∷ waiters) session are = (are.0, told-back name waiters session are.1)
 

@@ -1,15 +1,15 @@
 -- The notifications about the locks that a session leaves, lock by lock.
 use Rattle.std.specs.Prelude.{ℕ, List, [], ◌∷◌, map, Option, option_map}
-use Rattle.ov_specs.specs.locks.Queues.{Queues, unlock, next_owner, freed_before, locked_note}
+use Rattle.ov_specs.specs.locks.Queues.{Queues, unlock, next_owner, freed_before, locked_notification}
 use Rattle.ov_specs.specs.wire.Frame.{frame}
 
 -- the session that has become the owner of the lock, with the frame that notifies it
 abbrev pub told : List ℕ → Option ℕ → Option (ℕ × List ℕ)
-told name session = option_map (λ s. (s, frame (locked_note name))) session
+told name session = option_map (λ s. (s, frame (locked_notification name))) session
 
 -- new owners, each with the name of its lock, and with the frame that notifies it
 abbrev pub told_all : List (ℕ × List ℕ) → List (ℕ × List ℕ)
-told_all freed = map (λ p. (p.0, frame (locked_note p.1))) freed
+told_all freed = map (λ p. (p.0, frame (locked_notification p.1))) freed
 
 -- the session unlocks the locks of these names, one by one
 abbrev pub unlock_all : ℕ → List (List ℕ) → Queues → Queues

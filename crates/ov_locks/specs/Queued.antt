@@ -2,7 +2,7 @@
 use Rattle.std.specs.Prelude.{◌≡◌, ◌==◌, ℕ, List, ◌∷◌, map, not, Option, Some, None, String, string_bytes}
 use Rattle.std.specs.List.{AllByRecursion, filter}
 use Rattle.std.specs.declared.alloc.Global.{Global}
-use Rattle.ov_specs.specs.locks.Queues.{Queues, locked_note}
+use Rattle.ov_specs.specs.locks.Queues.{Queues, locked_notification}
 use Rattle.ov_specs.specs.wire.Frame.{frame}
 
 -- the waiters, each with the frame that will notify it
@@ -28,7 +28,7 @@ owner_after former (Some waiter) = waiter.0
 
 -- each waiter will be notified that it has the lock of this name
 abbrev pub AreToldOf : List ℕ → Waiters → Type 0
-AreToldOf name waiters = AllByRecursion (λ waiter. waiter.1 ≡ frame (locked_note name)) waiters
+AreToldOf name waiters = AllByRecursion (λ waiter. waiter.1 ≡ frame (locked_notification name)) waiters
 
 -- the queues by the bytes of the locks' names
 abbrev pub queues_of : List (String Global × Queue) → Queues

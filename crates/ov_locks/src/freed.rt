@@ -40,11 +40,8 @@ impl Freed {
         ensures ok { OnOk result (self.new ≡ (self.old.0, self.old.1 + 1)) }
         ensures err { OnErr result (self.new ≡ self.old) }
     {
-        let Some(places) = self.places.checked_add(1) else {
-            return Err(AllocError);
-        };
-        self.pairs.reserve(places)?;
-        self.places = places;
+        self.pairs.reserve(self.places + 1)?;
+        self.places += 1;
         Ok(())
     }
 

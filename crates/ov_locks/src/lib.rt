@@ -5,7 +5,7 @@ mod call;
 mod fault;
 mod freed;
 mod held;
-mod notes;
+mod notifications;
 mod queue;
 mod queues;
 mod table;

@@ -1,9 +1,9 @@
 ghost use Rattle.std.specs.Prelude.{◌≡◌, ◌++◌, ◌∷◌, [], IfOk, IfNone, OnOk, OnErr, option_to_list};
-ghost use Rattle.ov_specs.specs.locks.Queues.{locked_note, stolen_note};
+ghost use Rattle.ov_specs.specs.locks.Queues.{locked_notification, stolen_notification};
 ghost use Rattle.ov_specs.specs.wire.Frame.{frame};
 ghost use Rattle.ov_locks.specs.Queued.{without_waiter, owner_after};
 
-use crate::notes::{locked, stolen};
+use crate::notifications::{locked, stolen};
 use ov_base::Bytes;
 use std::alloc::{AllocError, Global};
 use std::collections::VecDeque;
@@ -45,7 +45,7 @@ impl Queue {
 
     /// Appends the session to the waiters for the lock of this name.
     pub fn wait(&mut self, alloc: Global, session: u64, name: &str) -> Result<(), AllocError>
-        ensures ok { OnOk result (self.new ≡ (self.old.0, self.old.1 ++ (session, frame (locked_note name.now)) ∷ [])) }
+        ensures ok { OnOk result (self.new ≡ (self.old.0, self.old.1 ++ (session, frame (locked_notification name.now)) ∷ [])) }
         ensures err { OnErr result (self.new ≡ self.old) }
     {
         let frame = locked(alloc, name)?;
@@ -61,8 +61,8 @@ impl Queue {
         session: u64,
         name: &str,
     ) -> Result<(u64, Bytes), AllocError>
-        ensures told { IfOk result (λ p. p ≡ (self.old.0, frame (stolen_note name.now))) }
-        ensures ok { OnOk result (self.new ≡ (session, (self.old.0, frame (locked_note name.now)) ∷ self.old.1)) }
+        ensures told { IfOk result (λ p. p ≡ (self.old.0, frame (stolen_notification name.now))) }
+        ensures ok { OnOk result (self.new ≡ (session, (self.old.0, frame (locked_notification name.now)) ∷ self.old.1)) }
         ensures err { OnErr result (self.new ≡ self.old) }
     {
         let told = stolen(alloc, name)?;

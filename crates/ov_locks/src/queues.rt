@@ -1,5 +1,5 @@
 ghost use Rattle.std.specs.Prelude.{◌≡◌, ℕ, List, [], not, is_some, option_map, if◌then◌else◌, IfOk, OnOk, OnErr};
-ghost use Rattle.ov_specs.specs.locks.Queues.{owner, next_in, next_owner, lock, steal, unlock, with_queue, without, stolen_note};
+ghost use Rattle.ov_specs.specs.locks.Queues.{owner, next_in, next_owner, lock, steal, unlock, with_queue, without, stolen_notification};
 ghost use Rattle.ov_specs.specs.wire.Frame.{frame};
 ghost use Rattle.ov_locks.specs.Freeing.{told};
 ghost use Rattle.ov_locks.specs.Queued.{sessions_of, AreToldOf};
@@ -73,7 +73,7 @@ impl Queues {
         session: u64,
         name: &str,
     ) -> Result<Option<(u64, Bytes)>, AllocError>
-        ensures told { IfOk result (λ told. told ≡ option_map (λ s. (s, frame (stolen_note name.now))) (owner name.now self.old)) }
+        ensures told { IfOk result (λ told. told ≡ option_map (λ s. (s, frame (stolen_notification name.now))) (owner name.now self.old)) }
         ensures ok { OnOk result (self.new ≡ steal name.now session self.old) }
         ensures err { OnErr result (self.new ≡ self.old) }
     {

@@ -3,7 +3,7 @@ ghost use Rattle.std.specs.BTreeMap.{is_at};
 ghost use Rattle.std.specs.BTreeSet.{insert_key};
 ghost use Rattle.std.specs.List.{list_any};
 ghost use Rattle.std.specs.Set.{remove_key};
-ghost use Rattle.ov_specs.specs.locks.Queues.{owner, has_requested, lock, steal, unlock, next_owner, leave, freed, stolen_note, requests_of, DoQueuesAscend};
+ghost use Rattle.ov_specs.specs.locks.Queues.{owner, has_requested, lock, steal, unlock, next_owner, leave, freed, stolen_notification, requests_of, DoQueuesAscend};
 ghost use Rattle.ov_specs.specs.schema.SchemaTypes.{name_cmp};
 ghost use Rattle.ov_specs.specs.wire.Frame.{frame};
 ghost use Rattle.ov_locks.specs.Freeing.{told, told_all, unlock_all, freed_all};
@@ -106,7 +106,7 @@ impl LockTable {
         name: &str,
     ) -> Result<Option<(u64, Bytes)>, LockFault>
         ensures refused { RefusesFor (request_refusal name.now session self.old.0) result }
-        ensures told { IfOk result (λ told. told ≡ option_map (λ s. (s, frame (stolen_note name.now))) (owner name.now self.old.0)) }
+        ensures told { IfOk result (λ told. told ≡ option_map (λ s. (s, frame (stolen_notification name.now))) (owner name.now self.old.0)) }
         ensures ok { OnOk result (self.new ≡ (steal name.now session self.old.0, self.old.1)) }
         ensures err { OnErr result (self.new ≡ self.old) }
     {

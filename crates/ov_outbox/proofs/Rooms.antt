@@ -3,7 +3,7 @@ use Rattle.std.proofs.Common.{◌≡◌, ℕ, ◌+◌, ◌-◌, ◌≤◌, ◌<�
 use Rattle.std.specs.Prelude.{is_some, option_to_list, IfSome, Result, Ok, Err}
 use Rattle.std.proofs.lemmas.Bool.{eqb-true, eq-eqb}
 use Rattle.std.proofs.lemmas.List.Sums.{sum_by-cons}
-use Rattle.ov_specs.specs.locks.Queues.{Queues, DoQueuesAscend, queue_of, has_requested, Unlock, owner, owns, lock, steal, unlock, next_owner, leave, freed, locked_note, told_of_leaving}
+use Rattle.ov_specs.specs.locks.Queues.{Queues, DoQueuesAscend, queue_of, has_requested, Unlock, owner, owns, lock, steal, unlock, next_owner, leave, freed, locked_notification, told_of_leaving}
 use Rattle.ov_specs.specs.machine.Machine.{told}
 use Rattle.ov_specs.specs.schema.Schema.{is_some_and}
 use Rattle.ov_specs.specs.wire.Frame.{frame, reply_tree}
@@ -33,8 +33,8 @@ given_up-room s queues old new room none given other = by (eqb other s) refl
         omega arith
 
 -- how many of at most one frame are for the session
-count_of_note : (other s : ℕ) (f : List ℕ) → count_of other ((s, f) ∷ []) ≡ cond (eqb s other) 1 0
-count_of_note other s f = let p : ℕ × List ℕ = (s, f) in sum_by-cons (λ (q : ℕ × List ℕ). cond {A = ℕ} (eqb q.0 other) 1 0) p [] ∙ omega arith
+count_of_notification : (other s : ℕ) (f : List ℕ) → count_of other ((s, f) ∷ []) ≡ cond (eqb s other) 1 0
+count_of_notification other s f = let p : ℕ × List ℕ = (s, f) in sum_by-cons (λ (q : ℕ × List ℕ). cond {A = ℕ} (eqb q.0 other) 1 0) p [] ∙ omega arith
 
 module _ (name : List ℕ) (s : ℕ) (queues : Queues) (ascend : DoQueuesAscend queues) (first : WaitingFrames) (room : HasRoom first queues) where
   -- ---- lock
@@ -70,7 +70,7 @@ module _ (name : List ℕ) (s : ℕ) (queues : Queues) (ascend : DoQueuesAscend 
           → places_for other end + count_of other (option_to_list (option_map (λ o. (o, f)) o)) ≡ places_for other sent → waits_of other after ≤ places_for other end
       by None all two last = omega (arith, room other, keeps other, two other, takes other)
       by (Some o) all two last =
-          let one = count_of_note other o f in
+          let one = count_of_notification other o f in
           let same : cond {A = ℕ} (eqb other o) 1 0 ≡ cond (eqb o other) 1 0 = ap (λ b. cond {A = ℕ} b 1 0) (turned other o) in
           omega (arith, room other, keeps other, two other, takes other)
 
@@ -94,11 +94,11 @@ module _ (name : List ℕ) (s : ℕ) (queues : Queues) (ascend : DoQueuesAscend 
             let same = reply_taken next in
             omega arith
 
-    module _ (note : Option (ℕ × List ℕ)) (is : note ≡ freeing.told name (next_owner name s queues)) (end : WaitingFrames) (tells : TakesPlaces (option_to_list note) sent end)
+    module _ (notification : Option (ℕ × List ℕ)) (is : notification ≡ freeing.told name (next_owner name s queues)) (end : WaitingFrames) (tells : TakesPlaces (option_to_list notification) sent end)
         (after : Queues) (after_is : after ≡ unlock name s queues) where
       count_is : (other : ℕ) (o : Option ℕ) → count_of other (option_to_list (freeing.told name o)) ≡ one_for other o
       count_is other None = refl
-      count_is other (Some next) = count_of_note other next (frame (locked_note name))
+      count_is other (Some next) = count_of_notification other next (frame (locked_notification name))
 
       pub unlock-room : HasRoom end after
       unlock-room other =
@@ -135,22 +135,22 @@ module _ (name : List ℕ) (s : ℕ) (queues : Queues) (ascend : DoQueuesAscend 
 -- ---- what is sent by unlock
 
 -- a reply, and then the notification
-pub replies : (s : ℕ) (f : List ℕ) (notes : List (ℕ × List ℕ)) (first kept sent end : WaitingFrames) → HasSameFrames first kept → PostsFrame s f kept sent → PostsAll notes sent end → PostsAll ((s, f) ∷ notes) first end
-replies s f notes first kept sent end same added all other =
-    all other ∙ ap (λ fs. fs ++ frames_for other notes) (added other ∙ ap (λ fs. fs ++ cond (eqb other s) (f ∷ []) []) (same other))
-    ∙ append_assoc (waiting_for other first) _ (frames_for other notes) ∙ ap (λ fs. waiting_for other first ++ fs) (sym (frames_for-first other s f notes))
+pub replies : (s : ℕ) (f : List ℕ) (notifications : List (ℕ × List ℕ)) (first kept sent end : WaitingFrames) → HasSameFrames first kept → PostsFrame s f kept sent → PostsAll notifications sent end → PostsAll ((s, f) ∷ notifications) first end
+replies s f notifications first kept sent end same added all other =
+    all other ∙ ap (λ fs. fs ++ frames_for other notifications) (added other ∙ ap (λ fs. fs ++ cond (eqb other s) (f ∷ []) []) (same other))
+    ∙ append_assoc (waiting_for other first) _ (frames_for other notifications) ∙ ap (λ fs. waiting_for other first ++ fs) (sym (frames_for-first other s f notifications))
 
 unlock-posted : (s : ℕ) (id : Data) (name : List ℕ) (o : Option ℕ) → (s, frame (reply_tree id (object no_members))) ∷ option_to_list (freeing.told name o)
-    ≡ map posted (record { session = s; tree = reply_tree id (object no_members) } ∷ told (option_to_list (option_map (λ next. (next, locked_note name)) o)))
+    ≡ map posted (record { session = s; tree = reply_tree id (object no_members) } ∷ told (option_to_list (option_map (λ next. (next, locked_notification name)) o)))
 unlock-posted s id name None = refl
 unlock-posted s id name (Some next) = refl
 
-pub unlock-sends : (s : ℕ) (id : Data) (name : List ℕ) (queues : Queues) (reply : List ℕ) (note : Option (ℕ × List ℕ)) (first kept sent end : WaitingFrames)
-    → reply ≡ frame (reply_tree id (object no_members)) → note ≡ freeing.told name (next_owner name s queues)
-    → HasSameFrames first kept → PostsFrame s reply kept sent → PostsAll (option_to_list note) sent end → PostsSent (sent_of_call Unlock s id name queues) first end
-unlock-sends s id name queues reply note first kept sent end reply_is note_is same added all =
-    posts_sent ((s, reply) ∷ option_to_list note) first end (replies s reply (option_to_list note) first kept sent end same added all) (sent_of_call Unlock s id name queues)
-    ((λ i. (s, reply_is i) ∷ option_to_list (note_is i)) ∙ unlock-posted s id name (next_owner name s queues))
+pub unlock-sends : (s : ℕ) (id : Data) (name : List ℕ) (queues : Queues) (reply : List ℕ) (notification : Option (ℕ × List ℕ)) (first kept sent end : WaitingFrames)
+    → reply ≡ frame (reply_tree id (object no_members)) → notification ≡ freeing.told name (next_owner name s queues)
+    → HasSameFrames first kept → PostsFrame s reply kept sent → PostsAll (option_to_list notification) sent end → PostsSent (sent_of_call Unlock s id name queues) first end
+unlock-sends s id name queues reply notification first kept sent end reply_is notification_is same added all =
+    posts_sent ((s, reply) ∷ option_to_list notification) first end (replies s reply (option_to_list notification) first kept sent end same added all) (sent_of_call Unlock s id name queues)
+    ((λ i. (s, reply_is i) ∷ option_to_list (notification_is i)) ∙ unlock-posted s id name (next_owner name s queues))
 
 -- what the answer of a table says
 pub unlocks : (b : Bool) (next to : Option (ℕ × List ℕ)) (result : Result (Option (ℕ × List ℕ)) LockFault) → result ≡ Ok next → result ≡ cond b (Ok to) (Err NotHeld) → (b ≡ true) × (next ≡ to)
@@ -162,11 +162,11 @@ unlocks false next to result was is = absurd cc
 count_of-told : (other : ℕ) (freed : List (ℕ × List ℕ)) → count_of other (freeing.told_all freed) ≡ count_of other freed
 count_of-told other [] = refl
 count_of-told other (p ∷ freed) =
-    sum_by-cons _ (p.0, frame (locked_note p.1)) (freeing.told_all freed) ∙ ap (λ n. cond (eqb p.0 other) 1 0 + n) (count_of-told other freed) ∙ sym (sum_by-cons _ p freed)
+    sum_by-cons _ (p.0, frame (locked_notification p.1)) (freeing.told_all freed) ∙ ap (λ n. cond (eqb p.0 other) 1 0 + n) (count_of-told other freed) ∙ sym (sum_by-cons _ p freed)
 
-told_all-posted : (freed : List (ℕ × List ℕ)) → freeing.told_all freed ≡ map posted (told (map (λ f. (f.0, locked_note f.1)) freed))
+told_all-posted : (freed : List (ℕ × List ℕ)) → freeing.told_all freed ≡ map posted (told (map (λ f. (f.0, locked_notification f.1)) freed))
 told_all-posted [] = refl
-told_all-posted (p ∷ freed) = ap (λ ps. (p.0, frame (locked_note p.1)) ∷ ps) (told_all-posted freed)
+told_all-posted (p ∷ freed) = ap (λ ps. (p.0, frame (locked_notification p.1)) ∷ ps) (told_all-posted freed)
 
 module _ (s : ℕ) (queues : Queues) (first : WaitingFrames) (room : HasRoom first queues) where
   pub freed-places : HavePlaces (freeing.told_all (freed s queues)) first

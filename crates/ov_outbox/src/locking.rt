@@ -163,12 +163,12 @@ fn tell_freed(frames: &mut FrameQueues, locks: &mut LockTable)
 }
 
 /// Sends the frame, if there is one, in a place that is kept for it. Allocates nothing.
-fn tell(frames: &mut FrameQueues, note: Option<(u64, Bytes)>)
-    requires { IfSome note (λ p. 0 < places_for p.0 frames.old) }
-    ensures posts { PostsAll (option_to_list note) frames.old frames.new }
-    ensures places { TakesPlaces (option_to_list note) frames.old frames.new }
+fn tell(frames: &mut FrameQueues, notification: Option<(u64, Bytes)>)
+    requires { IfSome notification (λ p. 0 < places_for p.0 frames.old) }
+    ensures posts { PostsAll (option_to_list notification) frames.old frames.new }
+    ensures places { TakesPlaces (option_to_list notification) frames.old frames.new }
 {
-    if let Some((session, frame)) = note {
+    if let Some((session, frame)) = notification {
         frames.push_kept(session, frame);
     }
 }

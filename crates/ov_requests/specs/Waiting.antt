@@ -17,10 +17,10 @@ many w = length w.untried + length w.outstanding
 abbrev pub most_outstanding : ℕ
 most_outstanding = 4096
 
--- the room of the two queues: each of them takes all that wait
+-- the room of the two queues: each of them takes as many as may wait
 pub record HasRoom (untried outstanding room_untried room_outstanding : ℕ) : Type 0 where
-  pub first : untried + outstanding ≤ room_untried
-  pub second : untried + outstanding ≤ room_outstanding
+  pub first : most_outstanding ≤ room_untried
+  pub second : most_outstanding ≤ room_outstanding
   pub few : untried + outstanding ≤ most_outstanding
 
 -- a transaction of the session with an id of this text

@@ -4,7 +4,7 @@ ghost use Rattle.serde_json.specs.View.{view};
 ghost use Rattle.ov_locks.specs.Calls.{lock_call_view};
 ghost use Rattle.ov_specs.specs.wire.Frame.{frame, failure_tree, reply_tree};
 ghost use Rattle.ov_specs.specs.wire.Method.{database_names, bad_text};
-ghost use Rattle.ov_specs.specs.machine.Machine.{State, work_of, call_of, note_of, cancel_note, transact_call, transact_work, schema_call, schema_call_on, lock_call, monitor_call, monitor_cancel_call};
+ghost use Rattle.ov_specs.specs.machine.Machine.{State, work_of, call_of, notification_of, cancel_notification, transact_call, transact_work, schema_call, schema_call_on, lock_call, monitor_call, monitor_cancel_call};
 ghost use Rattle.ov_rpc.specs.Message.{message_view, bad_kind_view};
 ghost use Rattle.ov_requests.specs.Asked.{IsWork};
 ghost use Rattle.ov_requests.specs.declared.answer.Work.TheVariants.{Answer};
@@ -261,7 +261,7 @@ fn call_work(
 
 /// What the only param of "cancel" asks for: to cancel the session's waiting transaction with this id, if there is one.
 fn cancel_work(alloc: Global, waiting: &Waiting, session: u64, id: Tree) -> Result<Work, AllocError>
-    ensures { IfOk result (λ w. (s : State) → s.outstanding ≡ waiting.now.outstanding → IsWork s session (cancel_note s session (item id no_items)) w) }
+    ensures { IfOk result (λ w. (s : State) → s.outstanding ≡ waiting.now.outstanding → IsWork s session (cancel_notification s session (item id no_items)) w) }
 {
     let text = id.to_bytes(alloc)?;
     if waiting.has_text(session, text.as_slice()) {
@@ -278,7 +278,7 @@ fn cancel_params(
     session: u64,
     params: Trees,
 ) -> Result<Work, AllocError>
-    ensures { IfOk result (λ w. (s : State) → s.outstanding ≡ waiting.now.outstanding → IsWork s session (cancel_note s session params) w) }
+    ensures { IfOk result (λ w. (s : State) → s.outstanding ≡ waiting.now.outstanding → IsWork s session (cancel_notification s session params) w) }
 {
     match only_tree(params) {
         Some(id) => cancel_work(alloc, waiting, session, id),
@@ -287,14 +287,14 @@ fn cancel_params(
 }
 
 /// What a notification asks for: only to cancel (RFC 7047, 4.1.4). If no transaction waits, this allocates nothing.
-fn note_work(
+fn notification_work(
     alloc: Global,
     waiting: &Waiting,
     session: u64,
     method: &str,
     params: Trees,
 ) -> Result<Work, AllocError>
-    ensures { IfOk result (λ w. (s : State) → s.outstanding ≡ waiting.now.outstanding → IsWork s session (note_of s session method.now params) w) }
+    ensures { IfOk result (λ w. (s : State) → s.outstanding ≡ waiting.now.outstanding → IsWork s session (notification_of s session method.now params) w) }
 {
     if waiting.len() == 0 {
         return Ok(Work::Answer(None));
@@ -320,8 +320,8 @@ pub fn work_of(
         Message::Call { id, method, params } => {
             call_work(alloc, schema, waiting, session, id, method.as_str(), params)
         }
-        Message::Note { method, params } => {
-            note_work(alloc, waiting, session, method.as_str(), params)
+        Message::Notification { method, params } => {
+            notification_work(alloc, waiting, session, method.as_str(), params)
         }
         Message::Bad { id, kind } => refused_work(alloc, id, bad_kind_text(kind)),
         Message::Answer => Ok(Work::Answer(None)),

@@ -1,4 +1,4 @@
-ghost use Rattle.std.specs.Prelude.{◌≡◌, length, true, IfOk, OnErr};
+ghost use Rattle.std.specs.Prelude.{◌≡◌, ◌<◌, ◌^◌, length, true, IfOk, OnErr};
 ghost use Rattle.std.specs.List.{list_all};
 ghost use Rattle.serde_json.specs.View.{items_view};
 ghost use Rattle.ov_specs.specs.operations.Draws.{insert_count, draws_wanted};
@@ -23,7 +23,8 @@ pub trait Draws {
 }
 
 fn count_inserts(operations: &[Value]) -> usize
-    ensures { result ≡ insert_count (items_view operations.now) }
+    ensures count { result ≡ insert_count (items_view operations.now) }
+    ensures few { result < 2 ^ 63 }
 {
     let mut count: usize = 0;
     for operation in operations {
@@ -45,9 +46,7 @@ pub(crate) fn draws_for<D: Draws>(
     ensures drawn { IfOk result (λ draws. DrawsFrom D.draws source.old draws.items source.new) }
     ensures err { OnErr result (source.new ≡ source.old) }
 {
-    let Some(wanted) = count_inserts(operations.as_slice()).checked_add(1) else {
-        return Err(AllocError);
-    };
+    let wanted = count_inserts(operations.as_slice()) + 1;
     let mut draws = Vec::with_capacity(alloc, wanted)?;
     for _made in 0..wanted {
         draws.push_reserved(source.draw());

@@ -1,4 +1,4 @@
-ghost use Rattle.std.specs.Prelude.{◌≡◌, ◌++◌, ◌+◌, ◌^◌, ◌<◌, ◌≤◌, ◌==◌, not, List, [], ◌∷◌, filter, length, MatchBool, MatchOption, OnOk, OnErr};
+ghost use Rattle.std.specs.Prelude.{◌≡◌, ◌++◌, ◌+◌, ◌<◌, ◌≤◌, ◌==◌, not, List, [], ◌∷◌, filter, length, IfOk, MatchBool, MatchOption};
 ghost use Rattle.std.specs.List.{list_any, filter_map};
 ghost use Rattle.std.specs.VecDeque.{deque_len, deque_capacity};
 ghost use Rattle.ov_specs.specs.machine.Machine as machine;
@@ -17,7 +17,7 @@ use std::mem;
 const MOST_OUTSTANDING: usize = 4096;
 
 /// The waiting transactions, in order of arrival. While they are settled, those that the pass has not tried yet stand before
-/// the others, in a queue of their own. Each queue has room for all, so that settling allocates nothing for them.
+/// the others, in a queue of their own. Each queue has room for as many as may wait, so nothing is allocated for them later.
 #[derive(Drop)]
 pub struct Waiting {
     untried: VecDeque<Outstanding>,
@@ -40,14 +40,14 @@ impl Model for Waiting {
 }
 
 impl Waiting {
-    /// No transaction waits.
-    pub fn new(alloc: Global) -> Waiting
-        ensures { result ≡ record { untried = []; outstanding = [] } }
+    /// No transaction waits. Allocates the room for all that may wait.
+    pub fn new(alloc: Global) -> Result<Waiting, AllocError>
+        ensures { IfOk result (λ w. w ≡ record { untried = []; outstanding = [] }) }
     {
-        Waiting {
-            untried: VecDeque::new(alloc),
-            outstanding: VecDeque::new(alloc),
-        }
+        Ok(Waiting {
+            untried: VecDeque::with_capacity(alloc, MOST_OUTSTANDING)?,
+            outstanding: VecDeque::with_capacity(alloc, MOST_OUTSTANDING)?,
+        })
     }
 
     /// How many transactions wait.
@@ -83,19 +83,12 @@ impl Waiting {
         due_among(newer, due)
     }
 
-    /// Appends a transaction. It is refused if 4,096 wait or are still to be tried, or if an allocation fails; then nothing
-    /// changes.
-    pub fn push(&mut self, outstanding: Outstanding) -> Result<(), AllocError>
-        ensures ok { OnOk result (self.new ≡ record self.old { outstanding = self.old.outstanding ++ outstanding ∷ [] }) }
-        ensures err { OnErr result (self.new ≡ self.old) }
+    /// Appends a transaction. Allocates nothing.
+    pub fn push(&mut self, outstanding: Outstanding)
+        requires { many self.old < most_outstanding }
+        ensures { self.new ≡ record self.old { outstanding = self.old.outstanding ++ outstanding ∷ [] } }
     {
-        let count = self.untried.len() + self.outstanding.len();
-        if count >= MOST_OUTSTANDING {
-            return Err(AllocError);
-        }
-        reserve(&mut self.untried, &mut self.outstanding)?;
         self.outstanding.push_back_reserved(outstanding);
-        Ok(())
     }
 
     /// Removes the session's transaction whose id has this text.
@@ -224,23 +217,6 @@ fn keep_open(these: &mut VecDeque<Outstanding>, sessions: &Sessions)
     ensures capacity { deque_capacity these.new ≡ deque_capacity these.old }
 {
     these.retain(|o| sessions.is_open(o.session()));
-}
-
-/// Reserves room for one more in each of the queues, so that each can take all.
-fn reserve(
-    one: &mut VecDeque<Outstanding>,
-    other: &mut VecDeque<Outstanding>,
-) -> Result<(), AllocError>
-    requires { deque_len one.old + deque_len other.old < 2 ^ 32 }
-    ensures one { one.new.items ≡ one.old.items }
-    ensures other { other.new.items ≡ other.old.items }
-    ensures grows { deque_capacity one.old ≤ deque_capacity one.new }
-    ensures grows_other { deque_capacity other.old ≤ deque_capacity other.new }
-    ensures room { OnOk result (deque_len one.old + deque_len other.old + 1 ≤ deque_capacity one.new) }
-    ensures room_other { OnOk result (deque_len one.old + deque_len other.old + 1 ≤ deque_capacity other.new) }
-{
-    one.reserve(other.len() + 1)?;
-    other.reserve(one.len() + 1)
 }
 
 /// Appends all of these to the others, which have room for them.

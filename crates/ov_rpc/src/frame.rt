@@ -1,7 +1,7 @@
 ghost use Rattle.std.specs.Prelude.{◌≡◌, IfOk, codes};
 ghost use Rattle.serde_json.specs.Data.{null, string, array, object, member, no_members};
 ghost use Rattle.serde_json.specs.View.{view};
-ghost use Rattle.ov_specs.specs.wire.Frame.{frame, reply_tree, failure_tree, note_tree};
+ghost use Rattle.ov_specs.specs.wire.Frame.{frame, reply_tree, failure_tree, notification_tree};
 
 use ov_base::{Bytes, Tree, Trees};
 use ov_results::ArrayText;
@@ -50,14 +50,14 @@ fn failure_value(alloc: Global, id: Value, text: &str) -> Result<Value, AllocErr
 }
 
 /// A notification, which has no id and gets no reply (JSON-RPC 1.0, 1.3).
-pub fn note(alloc: Global, method: &str, params: Trees) -> Result<Bytes, AllocError>
-    ensures { IfOk result (λ b. b ≡ frame (note_tree method.now params)) }
+pub fn notification(alloc: Global, method: &str, params: Trees) -> Result<Bytes, AllocError>
+    ensures { IfOk result (λ b. b ≡ frame (notification_tree method.now params)) }
 {
-    let value = note_value(alloc, method, params.into_tree().into_value())?;
+    let value = notification_value(alloc, method, params.into_tree().into_value())?;
     Tree::new(value).to_bytes(alloc)
 }
 
-fn note_value(alloc: Global, method: &str, params: Value) -> Result<Value, AllocError>
+fn notification_value(alloc: Global, method: &str, params: Value) -> Result<Value, AllocError>
     ensures { IfOk result (λ v. view v ≡ object (member (codes "id") null (member (codes "method") (string method.now) (member (codes "params") (view params) no_members)))) }
 {
     json!(in alloc; {"id": null, "method": method, "params": params})

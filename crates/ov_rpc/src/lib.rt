@@ -10,6 +10,6 @@ mod request;
 
 pub use append::append_item;
 pub use fault::RpcFault;
-pub use frame::{failure, note, reply, reply_with};
+pub use frame::{failure, notification, reply, reply_with};
 pub use message::{BadKind, Message};
 pub use received::{MessageText, Received};

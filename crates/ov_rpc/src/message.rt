@@ -27,7 +27,7 @@ pub enum Message {
         params: Trees,
     },
     /// A notification: its id is null or absent (JSON-RPC 1.0, 1.3).
-    Note {
+    Notification {
         method: Text,
         params: Trees,
     },

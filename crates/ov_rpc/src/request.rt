@@ -106,7 +106,7 @@ fn request(method: Option<Text>, params: Option<Trees>, asker: Option<Tree>) -> 
     };
     match asker {
         Some(id) => Message::Call { id, method, params },
-        None => Message::Note { method, params },
+        None => Message::Notification { method, params },
     }
 }
 

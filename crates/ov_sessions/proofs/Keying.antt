@@ -1,6 +1,6 @@
 -- The open sessions in the order of their serials, by the entries of the map of keys.
-use Rattle.std.proofs.Common.{◌≡◌, ◌≢◌, ℕ, ◌+◌, leb, ◌<◌, List, [], ◌∷◌, ◌++◌, map, refl, sym, ap, ◌∙◌, cond, eqb, Bool, true, false, Some, None, inl, inr, arith}
-use Rattle.std.specs.Prelude.{is_some, not, ◌||◌, ◌&&◌, filter}
+use Rattle.std.proofs.Common.{◌≡◌, ◌≢◌, ℕ, ◌+◌, leb, ◌<◌, List, [], ◌∷◌, ◌++◌, length, set, map, refl, sym, ap, ◌∙◌, cond, eqb, Bool, true, false, Option, Some, None, inl, inr, arith}
+use Rattle.std.specs.Prelude.{is_some, not, ◌||◌, ◌&&◌, filter, count_by}
 use Rattle.std.specs.List.{list_any, AllByRecursion}
 use Rattle.std.specs.Map.{lookup, keys_of, remove_entry}
 use Rattle.std.specs.BTreeMap.{is_at, insert_entry}
@@ -8,10 +8,11 @@ use Rattle.std.specs.Ordering.{nat_cmp, is_eq}
 use Rattle.std.specs.declared.cmp.Ordering.TheVariants.{Less, Equal, Greater}
 use Rattle.std.specs.Cmp.{nat_cmp_is}
 use Rattle.std.proofs.lemmas.Bool.{eqb-true, eq-eqb, ne_eqb, cases_order, false≢true, leb-false}
+use Rattle.std.proofs.lemmas.List.{get_or-set_same, get_or-set_other, get_or_past}
+use Rattle.std.proofs.lemmas.List.Sums.{sum_by-set}
 use Rattle.std.proofs.lemmas.Option.{same_Some}
-use Rattle.slab.specs.Slab.{Slab, Updates, get}
 use Rattle.ov_sessions.specs.declared.session.Session.{Session}
-use Rattle.ov_sessions.specs.Sessions.{most_sessions, beyond_serials, has_serial, has_no_room, session_at, without_serial, IsLeft}
+use Rattle.ov_sessions.specs.Sessions.{most_sessions, beyond_serials, has_serial, has_no_room, session_at, without_serial, IsLeft, serial_at, UpdatesKey}
 
 abbrev Keys : Type 0
 Keys = List (ℕ × ℕ)
@@ -92,17 +93,36 @@ all_left P test (e ∷ es) all = by (test e.0) (all_left P test es all.1)
 
 -- ---- keys
 
--- none of the sessions has a key that is vacant
-pub vacant_is_free : (serials : Slab ℕ) (key : ℕ) (es : Keys) → get serials key ≡ None → AllByRecursion (λ e. get serials e.1 ≡ Some e.0) es → AllByRecursion (λ (n : Session). n.key ≢ key) (map session_at es)
-vacant_is_free serials key [] vacant held = held
-vacant_is_free serials key (e ∷ es) vacant held = (λ same. let f : Some e.0 ≡ None = sym held.0 ∙ (ap (get serials) same ∙ vacant) in cc, vacant_is_free serials key es vacant held.1)
+-- a place is written
+pub key_set : (serials : List (Option ℕ)) (key : ℕ) (serial : Option ℕ) → key < length serials → UpdatesKey serials (set serials key serial) key serial
+key_set serials key serial within = record {
+  changed = get_or-set_same serials key serial None within;
+  others = λ other apart. get_or-set_other serials key other serial None apart;
+}
 
--- a serial was put at a vacant key
-pub held_more : (old new : Slab ℕ) (serial key : ℕ) (es : Keys) → get old key ≡ None → Updates old new key (Some serial) → AllByRecursion (λ e. get old e.1 ≡ Some e.0) es
-    → AllByRecursion (λ e. get new e.1 ≡ Some e.0) (es ++ (serial, key) ∷ [])
+-- a place is taken
+pub taken_more : (serials : List (Option ℕ)) (key serial : ℕ) → key < length serials → serial_at serials key ≡ None → count_by is_some (set serials key (Some serial)) ≡ count_by is_some serials + 1
+taken_more serials key serial within free = omega (arith, rw free at (sum_by-set (λ (o : Option ℕ). cond (is_some o) 1 0) serials key (Some serial) None within))
+
+-- a place is given up
+pub taken_less : (serials : List (Option ℕ)) (key serial : ℕ) → key < length serials → serial_at serials key ≡ Some serial → count_by is_some (set serials key None) + 1 ≡ count_by is_some serials
+taken_less serials key serial within held = omega (arith, rw held at (sum_by-set (λ (o : Option ℕ). cond (is_some o) 1 0) serials key None None within))
+
+-- a key that a session has is one of the places
+pub key_within : (serials : List (Option ℕ)) (key serial : ℕ) → serial_at serials key ≡ Some serial → key < length serials
+key_within serials key serial held = grind (arith, get_or_past)
+
+-- none of the sessions has a key that is free
+pub key_is_free : (serials : List (Option ℕ)) (key : ℕ) (es : Keys) → serial_at serials key ≡ None → AllByRecursion (λ e. serial_at serials e.1 ≡ Some e.0) es → AllByRecursion (λ (n : Session). n.key ≢ key) (map session_at es)
+key_is_free serials key [] vacant held = held
+key_is_free serials key (e ∷ es) vacant held = (λ same. let f : Some e.0 ≡ None = sym held.0 ∙ (ap (serial_at serials) same ∙ vacant) in cc, key_is_free serials key es vacant held.1)
+
+-- a serial was put at a free key
+pub held_more : (old new : List (Option ℕ)) (serial key : ℕ) (es : Keys) → serial_at old key ≡ None → UpdatesKey old new key (Some serial) → AllByRecursion (λ e. serial_at old e.1 ≡ Some e.0) es
+    → AllByRecursion (λ e. serial_at new e.1 ≡ Some e.0) (es ++ (serial, key) ∷ [])
 held_more old new serial key [] vacant updates held = (updates.changed, held)
 held_more old new serial key (e ∷ es) vacant updates held =
-    (updates.others e.1 (λ same. let f : Some e.0 ≡ None = sym held.0 ∙ (ap (get old) same ∙ vacant) in cc) ∙ held.0, held_more old new serial key es vacant updates held.1)
+    (updates.others e.1 (λ same. let f : Some e.0 ≡ None = sym held.0 ∙ (ap (serial_at old) same ∙ vacant) in cc) ∙ held.0, held_more old new serial key es vacant updates held.1)
 
 -- each serial is below the one after the next
 pub below_more : (next key : ℕ) (es : Keys) → AllByRecursion (λ e. e.0 < next) es → AllByRecursion (λ e. e.0 < next + 1) (es ++ (next, key) ∷ [])
@@ -110,31 +130,31 @@ below_more next key [] below = (omega arith, below)
 below_more next key (e ∷ es) below = let here = below.0 in (omega arith, below_more next key es below.1)
 
 -- the serial at a key was taken out, which no session has any longer
-pub held_less : (old new : Slab ℕ) (serial key : ℕ) (es : Keys) → get old key ≡ Some serial → Updates old new key None → lookup (is_at (nat_cmp serial)) es ≡ None → AllByRecursion (λ e. get old e.1 ≡ Some e.0) es
-    → AllByRecursion (λ e. get new e.1 ≡ Some e.0) es
+pub held_less : (old new : List (Option ℕ)) (serial key : ℕ) (es : Keys) → serial_at old key ≡ Some serial → UpdatesKey old new key None → lookup (is_at (nat_cmp serial)) es ≡ None → AllByRecursion (λ e. serial_at old e.1 ≡ Some e.0) es
+    → AllByRecursion (λ e. serial_at new e.1 ≡ Some e.0) es
 held_less old new serial key [] was updates none held = held
 held_less old new serial key (e ∷ es) was updates none held = by (is_at (nat_cmp serial) e.0) (same_serial serial e.0) none (λ k. held_less old new serial key es was updates k held.1)
   where
     other : false ≡ eqb e.0 serial → e.1 ≢ key
     other h same =
-        let is : e.0 ≡ serial = same_Some _ _ (sym held.0 ∙ (ap (get old) same ∙ was)) in
+        let is : e.0 ≡ serial = same_Some _ _ (sym held.0 ∙ (ap (serial_at old) same ∙ was)) in
         false≢true (h ∙ eq-eqb e.0 serial is)
 
-    by : (b : Bool) → b ≡ eqb e.0 serial → cond b (Some e.1) (lookup (is_at (nat_cmp serial)) es) ≡ None → (lookup (is_at (nat_cmp serial)) es ≡ None → AllByRecursion (λ e. get new e.1 ≡ Some e.0) es)
-        → AllByRecursion (λ e. get new e.1 ≡ Some e.0) (e ∷ es)
+    by : (b : Bool) → b ≡ eqb e.0 serial → cond b (Some e.1) (lookup (is_at (nat_cmp serial)) es) ≡ None → (lookup (is_at (nat_cmp serial)) es ≡ None → AllByRecursion (λ e. serial_at new e.1 ≡ Some e.0) es)
+        → AllByRecursion (λ e. serial_at new e.1 ≡ Some e.0) (e ∷ es)
     by true h k rest = cc
     by false h k rest = (updates.others e.1 (other h) ∙ held.0, rest k)
 
--- the slab has the serial at the key that the map has for it
-pub held_at : (serials : Slab ℕ) (n key : ℕ) (es : Keys) → lookup (is_at (nat_cmp n)) es ≡ Some key → AllByRecursion (λ e. get serials e.1 ≡ Some e.0) es → get serials key ≡ Some n
+-- the places have the serial at the key that the map has for it
+pub held_at : (serials : List (Option ℕ)) (n key : ℕ) (es : Keys) → lookup (is_at (nat_cmp n)) es ≡ Some key → AllByRecursion (λ e. serial_at serials e.1 ≡ Some e.0) es → serial_at serials key ≡ Some n
 held_at serials n key [] found held = cc
 held_at serials n key (e ∷ es) found held = by (is_at (nat_cmp n) e.0) (same_serial n e.0) found (λ k. held_at serials n key es k held.1)
   where
-    by : (b : Bool) → b ≡ eqb e.0 n → cond b (Some e.1) (lookup (is_at (nat_cmp n)) es) ≡ Some key → (lookup (is_at (nat_cmp n)) es ≡ Some key → get serials key ≡ Some n) → get serials key ≡ Some n
+    by : (b : Bool) → b ≡ eqb e.0 n → cond b (Some e.1) (lookup (is_at (nat_cmp n)) es) ≡ Some key → (lookup (is_at (nat_cmp n)) es ≡ Some key → serial_at serials key ≡ Some n) → serial_at serials key ≡ Some n
     by true h k rest =
         let at : e.1 ≡ key = same_Some _ _ k in
         let is : e.0 ≡ n = eqb-true e.0 n (sym h) in
-        ap (get serials) (sym at) ∙ (held.0 ∙ ap (λ (m : ℕ). Some m) is)
+        ap (serial_at serials) (sym at) ∙ (held.0 ∙ ap (λ (m : ℕ). Some m) is)
     by false h k rest = rest k
 
 -- ---- room

@@ -1,8 +1,7 @@
 -- The open sessions: their serials and their keys.
-use Rattle.std.specs.Prelude.{◌≡◌, ◌≢◌, ℕ, ◌+◌, ◌-◌, ◌^◌, ◌<◌, ◌≤◌, ◌==◌, ◌||◌, nat_le, not, List, [], ◌∷◌, ◌++◌, filter, length, Bool, false, Option, Some, None, if◌then◌else◌, refl}
+use Rattle.std.specs.Prelude.{◌≡◌, ◌≢◌, ℕ, ◌+◌, ◌-◌, ◌^◌, ◌<◌, ◌==◌, ◌||◌, nat_le, not, List, [], ◌∷◌, ◌++◌, filter, length, count_by, slice_index_or, is_some, Bool, false, Option, Some, None, if◌then◌else◌, refl}
 use Rattle.std.specs.List.{All, AllByRecursion, list_any}
 use Rattle.std.specs.Coded.{Coded, code_by, coded×, coded_ℕ, coded_list}
-use Rattle.slab.specs.Slab.{Slab, get, slab_len}
 use Rattle.ov_sessions.specs.declared.session.Session.{Session}
 
 -- how many sessions may be open
@@ -56,12 +55,21 @@ pub record OpensSession (old : OpenSessions) (session : Session) (new : OpenSess
 abbrev pub session_at : ℕ × ℕ → Session
 session_at entry = record { key = entry.1; serial = entry.0 }
 
--- The slab has the serial of each open session at its key, and no other. Each serial is below the next.
-pub record AreTied (serials : Slab ℕ) (keys : List (ℕ × ℕ)) (next : ℕ) : Type 0 where
-  pub room : serials.capacity ≡ most_sessions
-  pub few : length keys ≤ most_sessions
-  pub many : slab_len serials ≡ length keys
-  pub held : AllByRecursion (λ e. get serials e.1 ≡ Some e.0) keys
+-- the serial of the session that has a key, if one has it
+abbrev pub serial_at : List (Option ℕ) → ℕ → Option ℕ
+serial_at serials key = slice_index_or serials key None
+
+-- only what is at this key is another
+pub record UpdatesKey (old new : List (Option ℕ)) (key : ℕ) (serial : Option ℕ) : Type 0 where
+  pub changed : serial_at new key ≡ serial
+  pub others : (other : ℕ) → other ≢ key → serial_at new other ≡ serial_at old other
+
+-- There are as many places as sessions may be open. Each open session has its serial at its key, and all other places are
+-- free. Each serial is below the next.
+pub record AreTied (serials : List (Option ℕ)) (keys : List (ℕ × ℕ)) (next : ℕ) : Type 0 where
+  pub room : length serials ≡ most_sessions
+  pub many : count_by is_some serials ≡ length keys
+  pub held : AllByRecursion (λ e. serial_at serials e.1 ≡ Some e.0) keys
   pub below : AllByRecursion (λ e. e.0 < next) keys
 
 -- how a model stores the open sessions, given how it stores a session

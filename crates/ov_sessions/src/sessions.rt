@@ -1,9 +1,8 @@
-ghost use Rattle.std.specs.Prelude.{◌≡◌, ◌-◌, ℕ, [], map, length, false, IfOk, OnErr};
+ghost use Rattle.std.specs.Prelude.{◌≡◌, ◌<◌, ◌-◌, ◌≤◌, ℕ, [], map, length, count_by, is_some, None, false, IfOk, OnErr, MatchOption};
 ghost use Rattle.std.specs.Map.Iter.{ShowsInOrder, deref};
-ghost use Rattle.ov_sessions.specs.Sessions.{OpensSession, most_sessions, has_serial, has_no_room, serial_left, without_serial};
+ghost use Rattle.ov_sessions.specs.Sessions.{OpensSession, most_sessions, has_serial, has_no_room, serial_left, without_serial, serial_at};
 
 use crate::session::Session;
-use slab::Slab;
 use std::alloc::{AllocError, Global};
 use std::collections::BTreeMap;
 use std::collections::btree_map::Keys;
@@ -16,8 +15,8 @@ const MOST_SESSIONS: usize = 64;
 /// serial are in order of opening.
 #[derive(Drop)]
 pub struct Sessions {
-    /// The serial of each open session, at its key.
-    serials: Slab<u64>,
+    /// The serial of each open session, at its key, and `None` at each of the 64 keys that no session has.
+    serials: Vec<Option<u64>>,
     /// The key of each open session, by its serial.
     keys: BTreeMap<u64, usize>,
     /// The serial of the next session.
@@ -35,7 +34,7 @@ impl Model for Sessions {
 
     ghost view = { λ s. record { open_sessions = map session_at s.keys.entries; next = s.next } };
 
-    ghost invariant = { λ s. AreTied s.serials s.keys.entries s.next };
+    ghost invariant = { λ s. AreTied s.serials.items s.keys.entries s.next };
 }
 
 impl Sessions {
@@ -43,11 +42,8 @@ impl Sessions {
     pub fn new(alloc: Global) -> Result<Sessions, AllocError>
         ensures { IfOk result (λ s. s ≡ record { open_sessions = []; next = 1 }) }
     {
-        let serials = Slab::with_capacity(alloc, MOST_SESSIONS)?;
-        // Keys are below the capacity, so it must not exceed what was asked for.
-        if serials.capacity() != MOST_SESSIONS {
-            return Err(AllocError);
-        }
+        let mut serials = Vec::new(alloc);
+        serials.resize(MOST_SESSIONS, None)?;
         Ok(Sessions {
             serials,
             keys: BTreeMap::new(alloc),
@@ -60,6 +56,13 @@ impl Sessions {
         ensures { result ≡ most_sessions - length self.now.open_sessions }
     {
         MOST_SESSIONS - self.keys.len()
+    }
+
+    /// States for contracts that no more sessions are open than may be. It is compiled away.
+    pub fn are_few(&self)
+        ensures { length self.now.open_sessions ≤ most_sessions }
+    {
+        let _ = &self.keys;
     }
 
     /// The next serial; `None` if none is left.
@@ -103,9 +106,11 @@ impl Sessions {
         ensures refused { OnErr result (self.new ≡ self.old) }
     {
         let serial = self.next;
-        let key = self.serials.vacant_key();
+        let Some(key) = free_key(self.serials.as_slice()) else {
+            unreachable!();
+        };
         self.keys.insert(serial, key)?;
-        let key = self.serials.insert_reserved(serial);
+        self.serials[key] = Some(serial);
         self.next = serial + 1;
         Ok(Session { key, serial })
     }
@@ -115,7 +120,21 @@ impl Sessions {
         ensures { self.new ≡ record self.old { open_sessions = without_serial serial self.old.open_sessions } }
     {
         if let Some(key) = self.keys.remove(&serial) {
-            let _ = self.serials.try_remove(key);
+            self.serials[key] = None;
         }
     }
+}
+
+/// The first key that no session has, or `None` if each has a session.
+fn free_key(serials: &[Option<u64>]) -> Option<usize>
+    ensures { MatchOption result
+        (count_by is_some serials.now ≡ length serials.now)
+        (λ key. (key < length serials.now) × (serial_at serials.now key ≡ None)) }
+{
+    for (key, serial) in serials.iter().enumerate() {
+        if serial.is_none() {
+            return Some(key);
+        }
+    }
+    None
 }

@@ -1,6 +1,6 @@
 use ov_base::{Bytes, Tree, has_real};
 use ov_results::{ArrayText, OpResult};
-use ov_rpc::{append_item, failure, note, reply, reply_with};
+use ov_rpc::{append_item, failure, notification, reply, reply_with};
 use serde_json::Value;
 use std::alloc::Global;
 use std::test::Fail;
@@ -11,8 +11,8 @@ use uuid::Uuid;
 const FRAMES: &str =
     r#"reply [7,{"z":-1,"a":true}] ["OVN_Northbound"] -> {"error":null,"id":[7,{"a":true,"z":-1}],"result":["OVN_Northbound"]}
 failure "x" unknown method -> {"error":"unknown method","id":"x","result":null}
-note echo [] -> {"id":null,"method":"echo","params":[]}
-note locked ["L"] -> {"id":null,"method":"locked","params":["L"]}
+notification echo [] -> {"id":null,"method":"echo","params":[]}
+notification locked ["L"] -> {"id":null,"method":"locked","params":["L"]}
 results 1 [] -> {"error":null,"id":1,"result":[]}
 results "x" [{"uuid":["uuid","u"]}] -> {"error":null,"id":"x","result":[{"uuid":["uuid","u"]}]}
 results [null] [{},null,"]}"] -> {"error":null,"id":[null],"result":[{},null,"]}"]}
@@ -35,8 +35,8 @@ fn failure_of(alloc: Global, id: &str, error: &str) -> Result<String, Fail> {
     text_of(failure(alloc, tree(alloc, id)?, error)?)
 }
 
-fn note_of(alloc: Global, method: &str, params: &str) -> Result<String, Fail> {
-    text_of(note(alloc, method, trees(alloc, params)?)?)
+fn notification_of(alloc: Global, method: &str, params: &str) -> Result<String, Fail> {
+    text_of(notification(alloc, method, trees(alloc, params)?)?)
 }
 
 /// A reply with one more item after its results.
@@ -110,7 +110,7 @@ fn reply_of_rows(alloc: Global, id: &str, rows: &str) -> Result<String, Fail> {
     reply_of_array(alloc, id, &results)
 }
 
-/// The commands are `reply ID RESULT`, `results ID RESULTS`, `rows ID ROWS`, `failure ID ERROR`, `note METHOD PARAMS` and
+/// The commands are `reply ID RESULT`, `results ID RESULTS`, `rows ID ROWS`, `failure ID ERROR`, `notification METHOD PARAMS` and
 /// `append RESULTS ITEM`.
 #[derive(Drop)]
 struct Frames;
@@ -123,7 +123,7 @@ fn frame_of(alloc: Global, kind: &str, first: &str, second: &str) -> Result<Stri
         "rows" => reply_of_rows(alloc, first, second),
         "failure" => failure_of(alloc, first, second),
         "append" => appended(alloc, first, second),
-        _ => note_of(alloc, first, second),
+        _ => notification_of(alloc, first, second),
     }
 }
 

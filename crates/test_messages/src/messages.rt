@@ -15,7 +15,7 @@ true -> call true m []
 false -> call false m []
 [1, "b"] -> call [1,"b"] m []
 {"b": 2, "a": [null]} -> call {"a":[null],"b":2} m []
-null -> note m []"#;
+null -> notification m []"#;
 
 /// A number in an id is an integer of 64 bits.
 const NUMBERS_OF_IDS: &str = r#"1.5 -> unreadable
@@ -29,7 +29,7 @@ const NUMBERS_OF_IDS: &str = r#"1.5 -> unreadable
 
 /// An escaped quote; no id; an escaped name and a pair of surrogates; the greatest number; a result beside a method.
 const MEMBERS: &str = r#"{"id":0,"method":"echo","params":["a\"b}"]} -> call 0 echo ["a\"b}"]
-{"method":"m","params":[1]} -> note m [1]
+{"method":"m","params":[1]} -> notification m [1]
 {"\u0069d":1,"method":"\ud83d\ude00","params":[]} -> call 1 😀 []
 {"id":1,"method":"m","params":[9223372036854775807]} -> call 1 m [9223372036854775807]
 {"id":1,"method":"m","params":[],"result":1} -> call 1 m []"#;
@@ -37,7 +37,7 @@ const MEMBERS: &str = r#"{"id":0,"method":"echo","params":["a\"b}"]} -> call 0 e
 /// Of several members with the same name, the last counts.
 const REPEATED: &str =
     r#"{"id":1.5,"method":7,"params":{},"id":2,"method":"m","params":[]} -> call 2 m []
-{"id":2,"method":"m","params":[],"id":null} -> note m []"#;
+{"id":2,"method":"m","params":[],"id":null} -> notification m []"#;
 
 /// A malformed request is reported to the client that asked. A method that is not a text is still a method, so a result
 /// beside it makes no answer. In the last six, nobody asked.
@@ -86,7 +86,7 @@ const NO_JSON: &str = r#" -> unreadable
 {"id":1,"method":"m","params":["\ud800"]} -> unreadable
 {"id":1,"method":"m","params":["\udc00\ud800"]} -> unreadable"#;
 
-/// The message of a text in words: `call ID METHOD PARAMS`, `note METHOD PARAMS`, `answer`, `bad ID KIND` or `unreadable`.
+/// The message of a text in words: `call ID METHOD PARAMS`, `notification METHOD PARAMS`, `answer`, `bad ID KIND` or `unreadable`.
 fn words(alloc: Global, text: &[u8]) -> Result<String, Fail> {
     match Message::read(alloc, text) {
         Ok(message) => words_of(alloc, &message),
@@ -98,7 +98,7 @@ fn words(alloc: Global, text: &[u8]) -> Result<String, Fail> {
 fn words_of(alloc: Global, message: &Message) -> Result<String, Fail> {
     match message {
         Message::Call { id, method, params } => words_of_call(alloc, id, method, params),
-        Message::Note { method, params } => words_of_note(alloc, method, params),
+        Message::Notification { method, params } => words_of_notification(alloc, method, params),
         Message::Answer => Ok(String::from_str(alloc, "answer")?),
         Message::Bad { id, kind } => words_of_bad(alloc, id, kind),
     }
@@ -110,9 +110,9 @@ fn words_of_call(alloc: Global, id: &Tree, method: &Text, params: &Trees) -> Res
     Ok(format!(in alloc; "call {id} {request}")?)
 }
 
-fn words_of_note(alloc: Global, method: &Text, params: &Trees) -> Result<String, Fail> {
+fn words_of_notification(alloc: Global, method: &Text, params: &Trees) -> Result<String, Fail> {
     let request = request(alloc, method, params)?;
-    Ok(format!(in alloc; "note {request}")?)
+    Ok(format!(in alloc; "notification {request}")?)
 }
 
 fn words_of_bad(alloc: Global, id: &Tree, kind: &BadKind) -> Result<String, Fail> {

@@ -331,6 +331,39 @@ fn sixty_four_wait_at_most(rt: HostRuntime) -> Result<(), Fail> {
     waits_over(rt.alloc(), Faults::NONE, script.as_str())
 }
 
+/// Adds a session with 64 transactions that wait.
+fn push_waiter(alloc: Global, script: &mut String, serial: u64) -> Result<(), Fail> {
+    let commands = format!(in alloc; "open -> {serial}\nwaits {serial} 1 65\ngot {serial}\n")?;
+    script.push_str(commands.as_str())?;
+    Ok(())
+}
+
+/// As many transactions wait as may: 64 of each of 64 sessions. Once what they wait for is inserted, each is answered. What
+/// session 64 is sent, its insert first, follows.
+fn all_that_may(alloc: Global) -> Result<String, Fail> {
+    let mut script = String::new(alloc);
+    for serial in 1..65 {
+        push_waiter(alloc, &mut script, serial)?;
+    }
+    let replies = replies(alloc)?;
+    let rest = format!(in alloc;
+        r#"cancel 64 1
+got 64 -> {{"error":"canceled","id":1,"result":null}}
+got 1
+insert 64 65 s9
+got 1 -> {{"error":null,"id":1,"result":[{{}}]}}{replies}
+got 64 -> {{"error":null,"id":65,"result":[{{"uuid":["uuid","00000000-0000-4000-8000-000000001002"]}}]}}{replies}"#
+    )?;
+    script.push_str(rest.as_str())?;
+    Ok(script)
+}
+
+#[test]
+fn all_that_may_wait_are_answered(rt: HostRuntime) -> Result<(), Fail> {
+    let script = all_that_may(rt.alloc())?;
+    waits_over(rt.alloc(), Faults::NONE, script.as_str())
+}
+
 /// What a closed session asked for is dropped. Canceling an id that does not wait, or that waits for another session, does
 /// nothing.
 const DROPPED: &str = r#"open -> 1

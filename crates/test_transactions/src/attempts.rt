@@ -180,7 +180,7 @@ fn attempts_with<D: Draws + Drop>(
 }
 
 /// The same with counted draws.
-fn attempts_over(alloc: Global, faults: Faults, script: &str) -> Result<(), Fail> {
+pub(crate) fn attempts_over(alloc: Global, faults: Faults, script: &str) -> Result<(), Fail> {
     attempts_with(alloc, Counter::new(), faults, script)
 }
 

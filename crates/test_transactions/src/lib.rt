@@ -12,3 +12,5 @@ mod faults;
 mod integrity;
 #[cfg(test)]
 mod operations;
+#[cfg(test)]
+mod sizes;

@@ -4,7 +4,7 @@ use Rattle.std.specs.Prelude.{option_map, option_and_then, codes}
 use Rattle.std.specs.Str.{bytes_eq}
 use Rattle.std.proofs.lemmas.List.{append-nil}
 use Rattle.serde_json.specs.Data.{Data, Items, no_items, item}
-use Rattle.ov_specs.specs.machine.Machine.{State, Choice, Take, Tick, Outcome, Attempt, Outstanding, Sent, Stepped, Tried, Passed, Listed, listed, none_listed, when, ends, is_kept, is_open, passes_behind, settle, works, then_settles, takes_and_settles, happens, Work, Answers, Transact, work_of, transact_work, note_of, cancel_note}
+use Rattle.ov_specs.specs.machine.Machine.{State, Choice, Take, Tick, Outcome, Attempt, Outstanding, Sent, Stepped, Tried, Passed, Listed, listed, none_listed, when, ends, is_kept, is_open, passes_behind, settle, works, then_settles, takes_and_settles, happens, Work, Answers, Transact, work_of, transact_work, notification_of, cancel_notification}
 use Rattle.ov_specs.specs.values.Uuid.{Uuid}
 use Rattle.ov_specs.specs.wire.Message.{Message}
 use Rattle.ov_specs.proofs.laws.Settling.{settle_nothing}
@@ -53,13 +53,13 @@ pub transact_work-none : (s : State) (n : ℕ) (id : Data) (operations : Items) 
 transact_work-none s n id operations none = ap (λ (os : List Outstanding). transact_work (record s { outstanding = os }) n id operations) none
 
 -- and a notification asks for nothing
-cancel_note-none : (s : State) (n : ℕ) (params : Items) → s.outstanding ≡ [] → cancel_note s n params ≡ Answers []
-cancel_note-none s n no_items none = refl
-cancel_note-none s n (item id no_items) none = ap (λ (os : List Outstanding). cancel_note (record s { outstanding = os }) n (item id no_items)) none
-cancel_note-none s n (item id (item d items)) none = refl
+cancel_notification-none : (s : State) (n : ℕ) (params : Items) → s.outstanding ≡ [] → cancel_notification s n params ≡ Answers []
+cancel_notification-none s n no_items none = refl
+cancel_notification-none s n (item id no_items) none = ap (λ (os : List Outstanding). cancel_notification (record s { outstanding = os }) n (item id no_items)) none
+cancel_notification-none s n (item id (item d items)) none = refl
 
-pub note_of-none : (s : State) (n : ℕ) (method : List ℕ) (params : Items) → s.outstanding ≡ [] → note_of s n method params ≡ Answers []
-note_of-none s n method params none = ap (λ w. cond (bytes_eq method (codes "cancel")) w (Answers [])) (cancel_note-none s n params none) ∙ same (bytes_eq method (codes "cancel"))
+pub notification_of-none : (s : State) (n : ℕ) (method : List ℕ) (params : Items) → s.outstanding ≡ [] → notification_of s n method params ≡ Answers []
+notification_of-none s n method params none = ap (λ w. cond (bytes_eq method (codes "cancel")) w (Answers [])) (cancel_notification-none s n params none) ∙ same (bytes_eq method (codes "cancel"))
   where
     same : (b : Bool) → cond b (Answers []) (Answers []) ≡ Answers []
     same true = refl

@@ -10,7 +10,7 @@ use Rattle.std.specs.Map.{lookup, remove_entry}
 use Rattle.std.specs.Ordering.{match_ordering}
 use Rattle.std.specs.Prelude.{unwrap_or, option_to_list}
 use Rattle.serde_json.specs.Data.{Data}
-use Rattle.ov_specs.specs.locks.Queues.{Queues, LockCall, Lock, Steal, Unlock, HasNoRepeats, queue_of, first_of, owner, owns, stands_in, has_requested, names_of, with_queue, lock, steal, without, next_in, unlock, next_owner, queue_before, leave, freed_before, freed, after_call, told_of_call, told_of_leaving, locked_note, stolen_note}
+use Rattle.ov_specs.specs.locks.Queues.{Queues, LockCall, Lock, Steal, Unlock, HasNoRepeats, queue_of, first_of, owner, owns, stands_in, has_requested, names_of, with_queue, lock, steal, without, next_in, unlock, next_owner, queue_before, leave, freed_before, freed, after_call, told_of_call, told_of_leaving, locked_notification, stolen_notification}
 use Rattle.ov_specs.specs.schema.Schema.{is_some_and}
 use Rattle.ov_specs.specs.schema.SchemaTypes.{name_cmp}
 use Rattle.ov_specs.proofs.laws.Lists.{all-filter}
@@ -194,14 +194,14 @@ module _ (test : ℕ → Bool) where
       by false is = cc
 
   -- which sessions a session's leaving notifies
-  pub leaving-passes : (session : ℕ) (queues : Queues) → EachQueue (AllPass test) queues → list_all (λ (note : ℕ × Data). test note.0) (told_of_leaving session queues) ≡ true
+  pub leaving-passes : (session : ℕ) (queues : Queues) → EachQueue (AllPass test) queues → list_all (λ (notification : ℕ × Data). test notification.0) (told_of_leaving session queues) ≡ true
   leaving-passes session [] all = refl
   leaving-passes session (e ∷ queues) all = by (leaving-passes session queues all.1) (next_in session e.1) refl
     where
-      by : list_all (λ (note : ℕ × Data). test note.0) (told_of_leaving session queues) ≡ true → (next : Option ℕ) → next_in session e.1 ≡ next
-          → list_all (λ (note : ℕ × Data). test note.0) (map (λ f. (f.0, locked_note f.1)) (freed_before next e.0 (freed session queues))) ≡ true
+      by : list_all (λ (notification : ℕ × Data). test notification.0) (told_of_leaving session queues) ≡ true → (next : Option ℕ) → next_in session e.1 ≡ next
+          → list_all (λ (notification : ℕ × Data). test notification.0) (map (λ f. (f.0, locked_notification f.1)) (freed_before next e.0 (freed session queues))) ≡ true
       by later None is = later
-      by later (Some next) is = and_from (test next) (list_all (λ (note : ℕ × Data). test note.0) (told_of_leaving session queues)) (next-passes e.1 session next all.0 is) later
+      by later (Some next) is = and_from (test next) (list_all (λ (notification : ℕ × Data). test notification.0) (told_of_leaving session queues)) (next-passes e.1 session next all.0 is) later
 
   module _ (session : ℕ) (name : List ℕ) (queues : Queues) (all : EachQueue (AllPass test) queues) where
     abbrev its : List ℕ
@@ -210,15 +210,15 @@ module _ (test : ℕ → Bool) where
     passes : AllPass test its
     passes = queue-has (AllPass test) name queues refl all
 
-    told-passes : (o : Option ℕ) (note : Data) → ((other : ℕ) → o ≡ Some other → test other ≡ true) → list_all (λ (note : ℕ × Data). test note.0) (option_to_list (option_map (λ other. (other, note)) o)) ≡ true
-    told-passes None note h = refl
-    told-passes (Some other) note h = and_from (test other) true (h other refl) refl
+    told-passes : (o : Option ℕ) (notification : Data) → ((other : ℕ) → o ≡ Some other → test other ≡ true) → list_all (λ (notification : ℕ × Data). test notification.0) (option_to_list (option_map (λ other. (other, notification)) o)) ≡ true
+    told-passes None notification h = refl
+    told-passes (Some other) notification h = and_from (test other) true (h other refl) refl
 
     -- which session a call notifies
-    pub call-passes : (call : LockCall) → list_all (λ (note : ℕ × Data). test note.0) (option_to_list (told_of_call call name session queues)) ≡ true
+    pub call-passes : (call : LockCall) → list_all (λ (notification : ℕ × Data). test notification.0) (option_to_list (told_of_call call name session queues)) ≡ true
     call-passes Lock = refl
-    call-passes Steal = told-passes (owner name queues) (stolen_note name) (λ other is. first-passes its other passes is)
-    call-passes Unlock = told-passes (next_owner name session queues) (locked_note name) (λ other is. next-passes its session other passes is)
+    call-passes Steal = told-passes (owner name queues) (stolen_notification name) (λ other is. first-passes its other passes is)
+    call-passes Unlock = told-passes (next_owner name session queues) (locked_notification name) (λ other is. next-passes its session other passes is)
 
     -- who stands in a queue after it, if the session passes
     pub after-passes : (call : LockCall) → test session ≡ true → EachQueue (AllPass test) (after_call call name session queues)

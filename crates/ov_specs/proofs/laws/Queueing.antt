@@ -9,14 +9,14 @@ use Rattle.serde_json.specs.Data.{Data, Items, no_items, item}
 use Rattle.serde_json.specs.Find.{as_str, as_object}
 use Rattle.ov_specs.specs.locks.Queues.{Queues, DoQueuesAscend, LockCall, Lock, Steal, Unlock, HasNoRepeats, queue_of, without, leave, lock_name, owns, has_requested, requests_of, lock_limit, lock_refusal, call_refusal, after_call}
 use Rattle.ov_specs.specs.machine.History.{run}
-use Rattle.ov_specs.specs.machine.Machine.{State, Entry, Event, Open, Take, Close, Tick, Choice, Outcome, Attempt, Outstanding, Listed, listed, Stepped, Passed, Work, Answers, Transact, Cancels, Locks, Watches, work_of, cancel_note, transact_call, transact_call_on, schema_call, schema_call_on, lock_call, lock_call_on, monitors_of, monitor_work, monitor_call, monitor_call_on, monitor_cancel_work, monitor_cancel_call, unless_refused, is_open, is_waiting, waiting_of, most_waiting, arrived, works, tries_again, closed, happens, takes_and_settles, settle, step, ends, is_without_choice, none_drawn, with_next_session, opening}
+use Rattle.ov_specs.specs.machine.Machine.{State, Entry, Event, Open, Take, Close, Tick, Choice, Outcome, Attempt, Outstanding, Listed, listed, Stepped, Passed, Work, Answers, Transact, Cancels, Locks, Watches, work_of, cancel_notification, transact_call, transact_call_on, schema_call, schema_call_on, lock_call, lock_call_on, monitors_of, monitor_work, monitor_call, monitor_call_on, monitor_cancel_work, monitor_cancel_call, unless_refused, is_open, is_waiting, waiting_of, most_waiting, arrived, works, tries_again, closed, happens, takes_and_settles, settle, step, ends, is_without_choice, none_drawn, with_next_session, opening}
 use Rattle.ov_specs.specs.monitors.Monitors.{Monitor, added, canceled}
 use Rattle.ov_specs.specs.monitors.Requests.{MonitorFault}
 use Rattle.ov_specs.specs.operations.Transaction.{TransactionOutcome, transaction}
 use Rattle.ov_specs.specs.rows.Database.{Database}
 use Rattle.ov_specs.specs.schema.SchemaTypes.{Schema}
 use Rattle.ov_specs.specs.values.Uuid.{Uuid}
-use Rattle.ov_specs.specs.wire.Message.{Message, Call, Note, Answer, Bad}
+use Rattle.ov_specs.specs.wire.Message.{Message, Call, Notification, Answer, Bad}
 use Rattle.ov_specs.proofs.laws.Histories.{run_parts}
 use Rattle.ov_specs.proofs.laws.LockQueues.{with_queue-ascends, leave-ascends}
 use Rattle.ov_specs.proofs.laws.Locks.{HaveNoRepeats, queue-distinct, requested-passes, each-so, lock-once, steal-once, unlock-once, leave-once}
@@ -94,7 +94,7 @@ module _ (s : State) (n : ℕ) where
       watch (Err fault) = tt
   monitor_cancel_allowed id (item name (item d items)) = tt
 
-  cancel_allowed : (params : Items) → IsAllowed s n (cancel_note s n params)
+  cancel_allowed : (params : Items) → IsAllowed s n (cancel_notification s n params)
   cancel_allowed no_items = tt
   cancel_allowed (item id no_items) = either (is_waiting s n id) _ _ tt tt
   cancel_allowed (item id (item d items)) = tt
@@ -110,7 +110,7 @@ module _ (s : State) (n : ℕ) where
       (either (bytes_eq method (codes "unlock")) _ _ (lock_allowed id Unlock params)
       (either (bytes_eq method (codes "monitor")) _ _ (monitor_allowed id params)
       (either (bytes_eq method (codes "monitor_cancel")) _ _ (monitor_cancel_allowed id params) tt))))))))
-  work_allowed (Note method params) = either (bytes_eq method (codes "cancel")) _ _ (cancel_allowed params) tt
+  work_allowed (Notification method params) = either (bytes_eq method (codes "cancel")) _ _ (cancel_allowed params) tt
   work_allowed Answer = tt
   work_allowed (Bad id kind) = tt
 

@@ -14,7 +14,7 @@ use Rattle.serde_json.specs.Data.{Data, Items}
 use Rattle.ov_specs.specs.locks.Queues.{owns, leave, told_of_leaving}
 use Rattle.ov_specs.specs.machine.Machine.{State, Session, Outcome, Attempt, Outstanding, Sent, Stepped, Passed, listed, tries_again, is_kept, is_open, passed, passes_behind, still_waiting, waits_behind, waits_on, pass, settle_within, settle, to_session, results_of, results_to, updates_sent, told, of_others, closed}
 use Rattle.ov_specs.specs.machine.Blocked.{IsBlocked, AreBlocked}
-use Rattle.ov_specs.specs.monitors.Updates.{all_updates, update_note}
+use Rattle.ov_specs.specs.monitors.Updates.{all_updates, update_notification}
 use Rattle.ov_specs.specs.rows.Database.{Database}
 use Rattle.ov_specs.specs.operations.Transaction.{TransactionOutcome, transaction, failed_results}
 use Rattle.ov_specs.proofs.laws.Locks.{EachQueue, AllPass, leaving-passes, leave-passes, owner-stays}
@@ -100,18 +100,18 @@ to_open s n [] there = refl
 to_open s n (tree ∷ trees) there = and_from (is_open s n) (list_all (λ x. is_open s x.session) (to_session n trees)) there (to_open s n trees there)
 
 -- and notifications, if the sessions that receive them are open
-pub told_open : (s : State) (notes : List (ℕ × Data)) → list_all (λ (note : ℕ × Data). is_open s note.0) notes ≡ true → AreToOpen s (told notes)
+pub told_open : (s : State) (notifications : List (ℕ × Data)) → list_all (λ (notification : ℕ × Data). is_open s notification.0) notifications ≡ true → AreToOpen s (told notifications)
 told_open s [] all = refl
-told_open s (note ∷ notes) all =
-    let parts = and_parts (is_open s note.0) (list_all (λ (n : ℕ × Data). is_open s n.0) notes) all in
-    and_from (is_open s note.0) (list_all (λ x. is_open s x.session) (told notes)) parts.0 (told_open s notes parts.1)
+told_open s (notification ∷ notifications) all =
+    let parts = and_parts (is_open s notification.0) (list_all (λ (n : ℕ × Data). is_open s n.0) notifications) all in
+    and_from (is_open s notification.0) (list_all (λ x. is_open s x.session) (told notifications)) parts.0 (told_open s notifications parts.1)
 
 -- what monitors report, if their sessions are open
 updates_open : (s : State) (after : Database) (sessions : List Session) → list_all (λ (n : Session). is_open s n.serial) sessions ≡ true → AreToOpen s (updates_sent s.database after sessions)
 updates_open s after [] all = refl
 updates_open s after (n ∷ sessions) all =
     let parts = and_parts (is_open s n.serial) (list_all (λ (x : Session). is_open s x.serial) sessions) all in
-    let its : List Data = map update_note (all_updates s.database after n.monitors) in
+    let its : List Data = map update_notification (all_updates s.database after n.monitors) in
     list_all-append (λ x. is_open s x.session) (to_session n.serial its) (updates_sent s.database after sessions)
     ∙ and_from (list_all (λ x. is_open s x.session) (to_session n.serial its)) (list_all (λ x. is_open s x.session) (updates_sent s.database after sessions))
     (to_open s n.serial its parts.0) (updates_open s after sessions parts.1)

@@ -172,16 +172,16 @@ locks_within s m there call id name = (
   no_more-same s (locks s m call id name).state refl refl refl refl,
   λ stand. (
     after-passes (is_open s) m name s.queues stand call there,
-    list_all-append (λ x. is_open s x.session) (to_session m (reply ∷ [])) (told notes)
-        ∙ and_from (list_all (λ x. is_open s x.session) (to_session m (reply ∷ []))) (list_all (λ x. is_open s x.session) (told notes)) (to_open s m (reply ∷ []) there) (told_open s notes (call-passes (is_open s) m name s.queues stand call)),
+    list_all-append (λ x. is_open s x.session) (to_session m (reply ∷ [])) (told notifications)
+        ∙ and_from (list_all (λ x. is_open s x.session) (to_session m (reply ∷ []))) (list_all (λ x. is_open s x.session) (told notifications)) (to_open s m (reply ∷ []) there) (told_open s notifications (call-passes (is_open s) m name s.queues stand call)),
   ),
 )
   where
     reply : Data
     reply = reply_tree id (call_result call name s.queues)
 
-    notes : List (ℕ × Data)
-    notes = option_to_list (told_of_call call name m s.queues)
+    notifications : List (ℕ × Data)
+    notifications = option_to_list (told_of_call call name m s.queues)
 
 -- and has other monitors
 watching_within : (s : State) (m : ℕ) → is_open s m ≡ true → (id result : Data) (monitors : List Monitor) → IsWithin s (watching s m id result monitors).state (watching s m id result monitors).sent

@@ -9,7 +9,7 @@ use Rattle.serde_json.specs.Data.{Data, boolean, string, object, no_members, mem
 use Rattle.ov_specs.specs.schema.Schema.{is_some_and}
 use Rattle.ov_specs.specs.schema.SchemaTypes.{name_cmp}
 use Rattle.ov_specs.specs.values.Uuid.{is_id}
-use Rattle.ov_specs.specs.wire.Frame.{note_tree}
+use Rattle.ov_specs.specs.wire.Frame.{notification_tree}
 
 -- for each lock that a session asked for, its queue of sessions, which is not empty; ascending by the bytes of the locks' names
 abbrev pub Queues : Type 0
@@ -161,12 +161,12 @@ abbrev pub lock_result : Bool → Data
 lock_result is_owner = object (member (codes "locked") (boolean is_owner) no_members)
 
 -- to a session that has become the owner because another left (RFC 7047, 4.1.9)
-abbrev pub locked_note : List ℕ → Data
-locked_note name = note_tree (codes "locked") (item (string name) no_items)
+abbrev pub locked_notification : List ℕ → Data
+locked_notification name = notification_tree (codes "locked") (item (string name) no_items)
 
 -- to a session from which another has stolen the lock (RFC 7047, 4.1.10)
-abbrev pub stolen_note : List ℕ → Data
-stolen_note name = note_tree (codes "stolen") (item (string name) no_items)
+abbrev pub stolen_notification : List ℕ → Data
+stolen_notification name = notification_tree (codes "stolen") (item (string name) no_items)
 
 -- the result of a call (RFC 7047, 4.1.8)
 abbrev pub call_result : LockCall → List ℕ → Queues → Data
@@ -178,9 +178,9 @@ call_result Unlock name queues = object no_members
 -- lock (RFC 7047, 4.1.9, 4.1.10)
 abbrev pub told_of_call : LockCall → List ℕ → ℕ → Queues → Option (ℕ × Data)
 told_of_call Lock name session queues = None
-told_of_call Steal name session queues = option_map (λ former. (former, stolen_note name)) (owner name queues)
-told_of_call Unlock name session queues = option_map (λ next. (next, locked_note name)) (next_owner name session queues)
+told_of_call Steal name session queues = option_map (λ former. (former, stolen_notification name)) (owner name queues)
+told_of_call Unlock name session queues = option_map (λ next. (next, locked_notification name)) (next_owner name session queues)
 
 -- which sessions a session's leaving notifies, and of what, in ascending order of the locks' names (RFC 7047, 4.1.9)
 abbrev pub told_of_leaving : ℕ → Queues → List (ℕ × Data)
-told_of_leaving session queues = map (λ f. (f.0, locked_note f.1)) (freed session queues)
+told_of_leaving session queues = map (λ f. (f.0, locked_notification f.1)) (freed session queues)

@@ -7,9 +7,9 @@ use Rattle.serde_json.specs.Written.{compact_text}
 use Rattle.ov_specs.specs.locks.Queues.{Queues, LockCall, Lock, Steal, Unlock, lock_name, owns, leave, call_refusal, after_call, call_result, told_of_call, told_of_leaving}
 use Rattle.ov_specs.specs.monitors.Monitors.{Monitor, added, canceled}
 use Rattle.ov_specs.specs.monitors.Requests.{MonitorFault, monitor_fault_text}
-use Rattle.ov_specs.specs.monitors.Updates.{initial_of, all_updates, update_note}
+use Rattle.ov_specs.specs.monitors.Updates.{initial_of, all_updates, update_notification}
 use Rattle.ov_specs.specs.rows.Database.{Database, same_database}
-use Rattle.ov_specs.specs.wire.Message.{Message, Call, Note, Answer, Bad}
+use Rattle.ov_specs.specs.wire.Message.{Message, Call, Notification, Answer, Bad}
 use Rattle.ov_specs.specs.wire.Frame.{reply_tree, failure_tree}
 use Rattle.ov_specs.specs.wire.Method.{database_names, bad_text}
 use Rattle.std.specs.Str.{bytes_eq}
@@ -292,20 +292,20 @@ call_of s session id method params =
     else refused id (codes "unknown method")))))))))
 
 -- the params of "cancel": the id of a waiting transaction of the session; others do nothing (RFC 7047, 4.1.4)
-abbrev pub cancel_note : State → ℕ → Items → Work
-cancel_note s session no_items = Answers []
-cancel_note s session (item id no_items) = if is_waiting s session id then Cancels id else Answers []
-cancel_note s session (item id (item d items)) = Answers []
+abbrev pub cancel_notification : State → ℕ → Items → Work
+cancel_notification s session no_items = Answers []
+cancel_notification s session (item id no_items) = if is_waiting s session id then Cancels id else Answers []
+cancel_notification s session (item id (item d items)) = Answers []
 
 -- what a notification asks for: nothing but to cancel (RFC 7047, 4.1.4)
-abbrev pub note_of : State → ℕ → List ℕ → Items → Work
-note_of s session method params = if bytes_eq method (codes "cancel") then cancel_note s session params else Answers []
+abbrev pub notification_of : State → ℕ → List ℕ → Items → Work
+notification_of s session method params = if bytes_eq method (codes "cancel") then cancel_notification s session params else Answers []
 
 -- what a message of the session asks for: a reply asks for nothing, and what can't be taken is answered with an error
 -- (JSON-RPC 1.0, 1)
 abbrev pub work_of : State → ℕ → Message → Work
 work_of s session (Call id method params) = call_of s session id method params
-work_of s session (Note method params) = note_of s session method params
+work_of s session (Notification method params) = notification_of s session method params
 work_of s session Answer = Answers []
 work_of s session (Bad id kind) = refused id (bad_text kind)
 
@@ -315,7 +315,7 @@ to_session session trees = map (λ tree. record { session = session; tree = tree
 
 -- notifications, each to its session
 abbrev pub told : List (ℕ × Data) → List Sent
-told notes = map (λ note. record { session = note.0; tree = note.1 }) notes
+told notifications = map (λ notification. record { session = notification.0; tree = notification.1 }) notifications
 
 -- The session is closed, and is sent nothing. Those that become the owners of its locks are notified (RFC 7047, 4.1.9).
 abbrev pub closed : State → ℕ → Stepped
@@ -339,7 +339,7 @@ results_to session id results = to_session session (results_of id results)
 -- what the monitors report of a change of the database, by session in order of opening, and by monitor in order of creation
 -- (RFC 7047, 4.1.6; the order is this server's)
 abbrev pub updates_sent : Database → Database → List Session → List Sent
-updates_sent before after sessions = flat_map (λ n. to_session n.serial (map update_note (all_updates before after n.monitors))) sessions
+updates_sent before after sessions = flat_map (λ n. to_session n.serial (map update_notification (all_updates before after n.monitors))) sessions
 
 -- What comes of the store's answer. If it keeps the change, the database is the new one, and the updates of the monitors are
 -- sent before the reply. If it refuses the change for lack of memory or for its size, nothing is changed. If it fails, the

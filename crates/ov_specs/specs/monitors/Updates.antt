@@ -12,7 +12,7 @@ use Rattle.ov_specs.specs.operations.Conditions.{entry_value}
 use Rattle.ov_specs.specs.operations.Select.{projection, written_row}
 use Rattle.ov_specs.specs.rows.Database.{Row, Database, object_of}
 use Rattle.ov_specs.specs.rows.Lines.{LineKey, line_cmp}
-use Rattle.ov_specs.specs.wire.Frame.{note_tree}
+use Rattle.ov_specs.specs.wire.Frame.{notification_tree}
 
 -- ---- a row
 
@@ -111,5 +111,5 @@ abbrev pub all_updates : Database → Database → List Monitor → List Items
 all_updates before after monitors = filter_map (λ m. option_map (update_params m) (updates before after m)) monitors
 
 -- the notification of a change (RFC 7047, 4.1.6)
-abbrev pub update_note : Items → Data
-update_note params = note_tree (codes "update") params
+abbrev pub update_notification : Items → Data
+update_notification params = notification_tree (codes "update") params

@@ -16,7 +16,7 @@ pub data BadKind : Type 0 where
 -- (JSON-RPC 1.0, 1)
 pub data Message : Type 0 where
   Call : (id : Data) (method : List ℕ) (params : Items) → Message
-  Note : (method : List ℕ) (params : Items) → Message
+  Notification : (method : List ℕ) (params : Items) → Message
   Answer : Message
   Bad : (id : Data) (kind : BadKind) → Message
 
@@ -53,7 +53,7 @@ bad (Some id) kind = Bad id kind
 -- a method that is a text and params that are an array, with or without an id (JSON-RPC 1.0, 1.1 and 1.3)
 abbrev pub request : Option (List ℕ) → Option Items → Option Data → Message
 request (Some method) (Some params) (Some id) = Call id method params
-request (Some method) (Some params) None = Note method params
+request (Some method) (Some params) None = Notification method params
 request (Some method) None asker = bad asker NotARequest
 request None params asker = bad asker NotARequest
 

@@ -16,6 +16,11 @@ at_once-requires g c = record {
   undrawn = without_draws c.in-Ok.work c.in_default-work.not-Transact;
 }
 
+pub transact-requires : goal.transact-requires
+transact-requires g c =
+    let s = state_of c.args.self.now c.args.moment in
+    c.requires.waits c.in-Transact.id c.in-Transact.operations ((rw c.in-Transact.is at c.in-Ok.ensures) s (sym c.schema-schema.ensures) refl)
+
 pub returns-in-Transact-clause-works : goal.returns-in-Transact-clause-works
 returns-in-Transact-clause-works g c =
     let s = state_of c.args.self.now c.args.moment in

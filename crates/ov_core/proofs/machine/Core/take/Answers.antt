@@ -1,9 +1,32 @@
-use Rattle.std.proofs.Common.{◌≤◌, ◌∙◌, true, false, rules, sym}
-use Rattle.ov_specs.specs.machine.Machine.{Take}
+use Rattle.std.proofs.Common.{◌≡◌, ◌≤◌, ◌∙◌, length, true, false, rules, ap, sym, arith}
+use Rattle.std.proofs.lemmas.List.{length-map}
+use Rattle.ov_rpc.specs.Message.{message_view}
+use Rattle.ov_specs.specs.machine.Machine.{Take, is_open}
+use Rattle.ov_core.specs.States.{state_of, sessions_of}
+use Rattle.ov_core.proofs.FewWaiting.{history_few, has_room}
 use Rattle.ov_core.proofs.Steps.{took, has_entered, entered_as}
 use Rattle.ov_core.proofs.Watching.{any-serial}
 use Rattle.ov_core.proofs.machine.Core.take.Goals as goal
 use Rattle.ov_core.proofs.machine.Core.take.Goals.{then-is_open, else-is_open}
+
+pub take-draws-requires : goal.take-draws-requires
+take-draws-requires g c =
+    let live = c.self.inside.live in
+    let kept = c.self.invariant.0 in
+    let there : is_open (state_of live c.args.moment) c.args.session.serial ≡ true = search rules in
+    let few = history_few kept.schema kept.database kept.history _ kept.legal in
+    let all : length (sessions_of live.watchers live.sessions.open_sessions) ≡ length live.sessions.open_sessions = simp length-map in
+    record {
+      untried = c.self.invariant.1;
+      «open» = there;
+      none = search rules;
+      room = search rules;
+      waits = λ id operations is. omega (
+        arith,
+        has_room (state_of live c.args.moment) c.args.session.serial (message_view c.into_parts-message.result.0) id operations (record { of_each = few.of_each; are_open = few.are_open }) (omega (arith, all, c.are_few.ensures)) there is,
+        ap length c.self.invariant.1,
+      );
+    }
 
 pub returns : goal.returns
 returns g c =

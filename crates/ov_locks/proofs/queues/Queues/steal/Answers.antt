@@ -1,6 +1,6 @@
 use Rattle.std.proofs.Common.{Some, None, subst, sym, ap, ◌∙◌, option_map, String, Global}
 use Rattle.std.specs.BTreeMap.{BTreeMap, insert_entry}
-use Rattle.ov_specs.specs.locks.Queues.{Queues, owner, steal, stolen_note}
+use Rattle.ov_specs.specs.locks.Queues.{Queues, owner, steal, stolen_notification}
 use Rattle.ov_specs.specs.wire.Frame.{frame}
 use Rattle.ov_locks.specs.Queued.{Queue, queues_of, AllAreTold}
 use Rattle.ov_locks.proofs.Given.{on_err}
@@ -34,7 +34,7 @@ pub returns-in_ok-told-in-Some-clause-told : goal.returns-in_ok-told-in-Some-cla
 returns-in_ok-told-in-Some-clause-told c =
     let name = c.args.name.now in
     ap (λ p. Some p) c.in_ok-told-in-Some.ensures.told
-    ∙ ap (option_map (λ s. (s, frame (stolen_note name))))
+    ∙ ap (option_map (λ s. (s, frame (stolen_notification name))))
     (sym (owner-found name c.self.inside.of.entries (Some c.in-Some.queue.now) c.in-Some.ensures.value) ∙ ap (λ (qs : Queues). owner name qs) c.self.view_is)
 
 pub returns-in_ok-told-in-Some-clause-ok : goal.returns-in_ok-told-in-Some-clause-ok
@@ -46,7 +46,7 @@ returns-in_ok-told-in-Some-clause-ok c =
 pub returns-in_ok-insert-in-None-clause-told : goal.returns-in_ok-insert-in-None-clause-told
 returns-in_ok-insert-in-None-clause-told c =
     let name = c.args.name.now in
-    ap (option_map (λ s. (s, frame (stolen_note name))))
+    ap (option_map (λ s. (s, frame (stolen_notification name))))
     (sym (owner-found name c.self.inside.of.entries None c.in-None.ensures.value) ∙ ap (λ (qs : Queues). owner name qs) c.self.view_is)
 
 pub returns-in_ok-insert-in-None-clause-ok : goal.returns-in_ok-insert-in-None-clause-ok

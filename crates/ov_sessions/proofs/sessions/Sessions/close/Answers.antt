@@ -1,31 +1,35 @@
-use Rattle.std.proofs.Common.{◌≡◌, ◌<◌, List, map, sym, ap, ◌∙◌, Some, None, arith}
+use Rattle.std.proofs.Common.{◌≡◌, ◌<◌, List, map, set, sym, ap, ◌∙◌, Some, None, arith}
+use Rattle.std.proofs.lemmas.List.{length-set}
 use Rattle.std.specs.Map.{lookup}
 use Rattle.std.specs.BTreeMap.{is_at}
 use Rattle.std.specs.Ordering.{nat_cmp}
-use Rattle.slab.specs.Slab.{get}
 use Rattle.ov_sessions.specs.declared.session.Session.{Session}
-use Rattle.ov_sessions.proofs.Keying.{left_out, none_left_out, all_left, held_less, held_at}
-use Rattle.ov_sessions.specs.Sessions.{session_at}
+use Rattle.ov_sessions.proofs.Keying.{left_out, none_left_out, all_left, held_less, held_at, key_set, key_within, taken_less}
+use Rattle.ov_sessions.specs.Sessions.{session_at, serial_at}
 use Rattle.ov_sessions.proofs.sessions.Sessions.close.Goals as goal
+
+pub index_mut-requires : goal.index_mut-requires
+index_mut-requires c =
+    let found : lookup (is_at (nat_cmp c.args.serial)) c.self.inside.keys.entries ≡ Some c.in-Some.key = sym c.remove.ensures.value ∙ c.in-Some.is in
+    omega (arith, key_within c.self.inside.serials.items c.in-Some.key c.args.serial (held_at c.self.inside.serials.items c.args.serial c.in-Some.key c.self.inside.keys.entries found c.self.invariant.held))
 
 pub invariant_of-self : goal.invariant_of-self
 invariant_of-self c =
     let tied = c.self.invariant in
-    let serials = c.self.inside.serials in
+    let serials = c.self.inside.serials.items in
     let keys = c.self.inside.keys.entries in
-    let found : lookup (is_at (nat_cmp c.args.serial)) keys ≡ Some c.in-Some.key = sym c.remove.ensures.value ∙ c.in-Some.is in
-    let at = held_at serials c.args.serial c.in-Some.key keys found tied.held in
+    let key = c.in-Some.key in
+    let found : lookup (is_at (nat_cmp c.args.serial)) keys ≡ Some key = sym c.remove.ensures.value ∙ c.in-Some.is in
+    let at = held_at serials c.args.serial key keys found tied.held in
+    let within = key_within serials key c.args.serial at in
     let none = c.remove.ensures.updates.1 in
-    let taken : c.try_remove.result ≡ Some c.args.serial = c.try_remove.ensures.value ∙ at in
-    let fewer = rw taken at c.try_remove.ensures.len in
     let less = rw c.in-Some.is at c.remove.ensures.len in
-    let held = all_left (λ e. get serials e.1 ≡ Some e.0) (is_at (nat_cmp c.args.serial)) keys tied.held in
+    let held = all_left (λ e. serial_at serials e.1 ≡ Some e.0) (is_at (nat_cmp c.args.serial)) keys tied.held in
     let below = all_left (λ e. e.0 < c.self.inside.next) (is_at (nat_cmp c.args.serial)) keys tied.below in
     record {
-      room = c.try_remove.ensures.capacity ∙ tied.room;
-      few = omega arith;
-      many = omega arith;
-      held = held_less serials c.try_remove.new.self c.args.serial c.in-Some.key c.remove.new.self.entries at c.try_remove.ensures.updates none (rw (← c.remove.ensures.entries) at held);
+      room = length-set serials key None ∙ tied.room;
+      many = omega (arith, taken_less serials key c.args.serial within at, tied.many, less);
+      held = held_less serials (set serials key None) c.args.serial key c.remove.new.self.entries at (key_set serials key None within) none (rw (← c.remove.ensures.entries) at held);
       below = rw (← c.remove.ensures.entries) at below;
     }
 
