@@ -1,17 +1,20 @@
 -- Lists of lines, as the map that they make.
-use Rattle.std.proofs.Common.{◌≡◌, ℕ, List, [], ◌∷◌, ◌++◌, map, filter, Bool, true, false, not, cond, Some, None, refl, sym, ap, ◌∙◌, ◌+◌, ◌<◌, length, take, get_or, add-one}
+use Rattle.std.proofs.Common.{◌≡◌, ℕ, List, [], ◌∷◌, ◌++◌, map, reverse, filter, Bool, true, false, not, cond, Some, None, refl, sym, ap, ◌∙◌, ◌+◌, ◌<◌, length, take, get_or, add-one}
 use Rattle.std.specs.Ordering.{eq_by_cmp}
 use Rattle.std.specs.Cmp.{eq_by_cmp_equiv}
 use Rattle.std.specs.FinMap.{empty, find, get, insert, remove, from_entries, entries, get-entries, get-from_entries, get-insert, get-remove, same_map, from_entries_push}
 use Rattle.std.specs.Map.{lookup}
-use Rattle.std.proofs.lemmas.List.{map-append}
+use Rattle.std.proofs.lemmas.List.{map-append, reverse-append}
+use Rattle.std.proofs.lemmas.List.Sums.{sum_by-append}
 use Rattle.std.proofs.lemmas.Map.Entries.{lookup-filter-keys}
 use Rattle.std.proofs.Math.Seq.{take-suc}
 use Rattle.ov_specs.specs.rows.Lines.{LineKey, LineBody, LineChange, Lines, line_cmp, after_change, after_changes}
+use Rattle.ov_keeper.specs.declared.line.Change.{Change}
 use Rattle.ov_keeper.specs.declared.line.Line.{Line}
 use Rattle.ov_keeper.specs.Keeping.{changed}
+use Rattle.ov_keeper.specs.LineMap.{is_put, room_for}
 use Rattle.ov_keeper.specs.ListKeeper.{contents_after, lines_of}
-use Rattle.ov_keeper.specs.Views.{line_entry}
+use Rattle.ov_keeper.specs.Views.{change_view, changes_view, line_entry}
 use Rattle.ov_specs.proofs.laws.LineKeys.{key_exact, key_total, tied_same, same_tied}
 use Rattle.ov_specs.proofs.laws.Truths.{cond-not}
 
@@ -81,3 +84,31 @@ after_changes-take f xs i x m h e =
     ∙ ap (λ ys. after_changes ys m) (map-append f (take i xs) (get_or xs i x ∷ []))
     ∙ after_changes-append (map f (take i xs)) (f (get_or xs i x) ∷ []) m
     ∙ ap (λ y. after_change (f y) (after_changes (map f (take i xs)) m)) (sym e))
+
+-- the last of the reversed changes is made first
+pub after_changes-reverse : (xs : List Change) (x : Change) (all : List Change) (m : Lines) → all ≡ xs ++ x ∷ [] → after_changes (changes_view (reverse all)) m ≡ after_changes (changes_view (reverse xs)) (after_change (change_view x) m)
+after_changes-reverse xs x all m is = ap (λ ys. after_changes (changes_view (reverse ys)) m) is ∙ ap (λ ys. after_changes (changes_view ys) m) (reverse-append xs (x ∷ []))
+
+pub room_for-push : (xs : List Change) (x : Change) (all : List Change) → all ≡ xs ++ x ∷ [] → room_for all ≡ room_for xs + room_for (x ∷ [])
+room_for-push xs x all is = ap room_for is ∙ sum_by-append (λ change. cond (is_put change) 1 0) xs (x ∷ [])
+
+-- ---- entries in any order, by what is found in them
+
+pub get-lookup : (entries : List (LineKey × LineBody)) (q : LineKey) → get (from_entries {R = line_cmp} entries) q ≡ lookup (eq_by_cmp line_cmp q) entries
+get-lookup entries q = get-from_entries key_total entries q ∙ find_lookup entries q
+
+-- entries in which the same is found
+pub from_entries-same : (old new : List (LineKey × LineBody)) → ((q : LineKey) → lookup (eq_by_cmp line_cmp q) new ≡ lookup (eq_by_cmp line_cmp q) old) → from_entries {R = line_cmp} new ≡ from_entries old
+from_entries-same old new same = same_map key_total key_exact _ _ (λ q. get-lookup new q ∙ same q ∙ sym (get-lookup old q))
+
+-- entries in which a body is found at one key, and the same as before at each other
+pub from_entries-put : (old new : List (LineKey × LineBody)) (k : LineKey) (v : LineBody) → ((q : LineKey) → lookup (eq_by_cmp line_cmp q) new ≡ cond (eq_by_cmp line_cmp k q) (Some v) (lookup (eq_by_cmp line_cmp q) old)) → from_entries {R = line_cmp} new ≡ insert (from_entries old) k v
+from_entries-put old new k v found = same_map key_total key_exact _ _ (λ q.
+    get-lookup new q ∙ found q ∙ ap (λ b. cond b (Some v) (lookup (eq_by_cmp line_cmp q) old)) ((eq_by_cmp_equiv key_total).symm k q)
+    ∙ sym (get-insert key_total (from_entries old) k v q ∙ ap (cond (eq_by_cmp line_cmp q k) (Some v)) (get-lookup old q)))
+
+-- entries in which nothing is found at one key, and the same as before at each other
+pub from_entries-taken : (old new : List (LineKey × LineBody)) (k : LineKey) → ((q : LineKey) → lookup (eq_by_cmp line_cmp q) new ≡ cond (eq_by_cmp line_cmp k q) None (lookup (eq_by_cmp line_cmp q) old)) → from_entries {R = line_cmp} new ≡ remove (from_entries old) k
+from_entries-taken old new k found = same_map key_total key_exact _ _ (λ q.
+    get-lookup new q ∙ found q ∙ ap (λ b. cond b None (lookup (eq_by_cmp line_cmp q) old)) ((eq_by_cmp_equiv key_total).symm k q)
+    ∙ sym (get-remove key_total (from_entries old) k q ∙ ap (cond (eq_by_cmp line_cmp q k) None) (get-lookup old q)))

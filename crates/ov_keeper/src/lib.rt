@@ -5,7 +5,8 @@
 mod fault;
 mod keeper;
 mod line;
-mod line_trace;
+mod line_key;
+mod line_map;
 mod list;
 mod volatile;
 

@@ -60,3 +60,14 @@ impl Change {
         }
     }
 }
+
+/// A copy of each change, in order.
+pub(crate) fn copy_all(alloc: Global, changes: &[Change]) -> Result<Vec<Change>, AllocError>
+    ensures { IfOk result (λ copies. copies.items ≡ changes.now) }
+{
+    let mut copies = Vec::new(alloc);
+    for change in changes {
+        copies.push(change.copy(alloc)?)?;
+    }
+    Ok(copies)
+}

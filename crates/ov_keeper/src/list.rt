@@ -6,7 +6,7 @@ ghost use Rattle.ov_keeper.specs.Views.{change_view, changes_view};
 
 use crate::fault::KeepFault;
 use crate::keeper::{Keeper, Loaded};
-use crate::line::{Change, Line};
+use crate::line::{Change, Line, copy_all};
 use ov_base::Text;
 use std::alloc::{AllocError, Global};
 use uuid::Uuid;
@@ -85,16 +85,6 @@ impl Keeper for ListKeeper {
             Err(_) => Err(KeepFault::Memory),
         }
     }
-}
-
-fn copy_all(alloc: Global, changes: &[Change]) -> Result<Vec<Change>, AllocError>
-    ensures { IfOk result (λ copies. copies.items ≡ changes.now) }
-{
-    let mut copies = Vec::new(alloc);
-    for change in changes {
-        copies.push(change.copy(alloc)?)?;
-    }
-    Ok(copies)
 }
 
 /// The lines that the changes make, starting from none.

@@ -1,40 +1,47 @@
-ghost use Rattle.std.specs.Prelude.{◌≡◌, ◌↔◌};
+ghost use Rattle.std.specs.Prelude.{◌≡◌, ◌↔◌, IfOk, OnOk, OnErr};
 ghost use Rattle.std.specs.FinMap.{empty};
-ghost use Rattle.ov_specs.specs.rows.Lines.{Contents};
+ghost use Rattle.ov_specs.specs.rows.Lines.{Contents, after_changes};
+ghost use Rattle.ov_keeper.specs.Keeping.{loaded_contents};
+ghost use Rattle.ov_keeper.specs.LineMap.{lines_held};
+ghost use Rattle.ov_keeper.specs.Views.{changes_view};
 
 use crate::fault::KeepFault;
 use crate::keeper::{Keeper, Loaded};
 use crate::line::Change;
-use crate::line_trace::LineTrace;
+use crate::line_map::LineMap;
 use ov_base::Text;
-use std::alloc::Global;
+use std::alloc::{AllocError, Global};
 use std::marker::Model;
 
-/// A keeper in memory that stores no lines: only contracts know what it holds. So a commit takes no time and allocates nothing.
+/// A keeper in memory, for a database that is gone when the program ends. It holds each line once, in a hash map.
 ///
-/// It is for a database that is gone when the program ends, and whose rows are in memory already. Until the first commit, a
-/// load returns the schema's text and no lines. Afterwards there are lines that a load cannot return, so it is refused with
-/// `Memory`.
-#[derive(Drop)]
+/// Each refusal is `Memory`, and a refused call changes nothing that it holds. A load takes time proportional to the lines, and a
+/// commit to its changes, except where the map is rehashed, mostly for twice the room. It takes 9 * 2^28 lines at most.
 pub struct VolatileKeeper {
     schema: Text,
-    is_new: bool,
-    told: LineTrace,
+    // None before the first commit, which brings an allocator.
+    lines: Option<LineMap>,
 }
 
 impl Model for VolatileKeeper {
-    ghost use Rattle.std.specs.Prelude.{◌≡◌, true};
-    ghost use Rattle.std.specs.FinMap.{empty};
-    ghost use Rattle.ov_specs.specs.rows.Lines as lines;
+    ghost use Rattle.ov_specs.specs.rows.Lines.{Contents};
     ghost use Rattle.ov_keeper.specs.LineCode.{contents_code};
+    ghost use Rattle.ov_keeper.specs.LineMap.{lines_held};
 
-    ghost Value = { lines.Contents };
+    ghost Value = { Contents };
 
     ghost coded = { contents_code };
 
-    ghost view = { λ k. record { schema = k.schema; lines = k.told.lines } };
+    ghost view = { λ k. record { schema = k.schema; lines = lines_held k.lines } };
+}
 
-    ghost invariant = { λ k. k.is_new ≡ true → k.told.lines ≡ empty };
+impl Drop for VolatileKeeper {
+    // An explicit drop, so that crates above need not prove the drop of its lines again.
+    fn drop(self) {
+        let VolatileKeeper { schema, lines } = self;
+        drop(schema);
+        drop(lines);
+    }
 }
 
 impl VolatileKeeper {
@@ -44,16 +51,29 @@ impl VolatileKeeper {
     {
         VolatileKeeper {
             schema,
-            is_new: true,
-            told: LineTrace::new(),
+            lines: None,
         }
+    }
+
+    /// What it holds.
+    fn contents(&self, alloc: Global) -> Result<Loaded, AllocError>
+        ensures { IfOk result (λ loaded. loaded_contents loaded ≡ self.now) }
+    {
+        let lines = match &self.lines {
+            Some(lines) => lines.copies(alloc)?,
+            None => Vec::new(alloc),
+        };
+        Ok(Loaded {
+            schema: Text::from_str(alloc, self.schema.as_str())?,
+            lines,
+        })
     }
 }
 
 impl Keeper for VolatileKeeper {
-    ghost use Rattle.std.specs.Prelude.{◌≡◌, IfOk, IfErr, IsOk};
+    ghost use Rattle.std.specs.Prelude.{◌≡◌, IfOk, IfErr, OnOk, OnErr};
     ghost use Rattle.ov_keeper.specs.declared.fault.KeepFault.TheVariants.{Memory};
-    ghost use Rattle.ov_keeper.specs.Keeping.{LeavesChanged, loaded_contents};
+    ghost use Rattle.ov_keeper.specs.Keeping.{changed, loaded_contents};
     ghost use Rattle.ov_keeper.specs.Views.{changes_view};
     ghost use Rattle.ov_keeper.specs.ListKeeper.{some_contents};
     ghost use Rattle.ov_keeper.specs.VolatileKeeper.{finds};
@@ -75,24 +95,40 @@ impl Keeper for VolatileKeeper {
         ensures memory { IfErr result (λ fault. fault ≡ Memory) }
         ensures same { self.new ≡ self.old }
     {
-        if !self.is_new {
-            return Err(KeepFault::Memory);
-        }
-        match Text::from_str(alloc, self.schema.as_str()) {
-            Ok(schema) => Ok(Loaded {
-                schema,
-                lines: Vec::new(alloc),
-            }),
+        match self.contents(alloc) {
+            Ok(loaded) => Ok(loaded),
             Err(_) => Err(KeepFault::Memory),
         }
     }
 
-    fn commit(&mut self, _alloc: Global, changes: &[Change]) -> Result<(), KeepFault>
-        ensures ok { IsOk result }
-        ensures changed { LeavesChanged (changes_view changes.now) (finds self.old) (finds self.new) }
+    fn commit(&mut self, alloc: Global, changes: &[Change]) -> Result<(), KeepFault>
+        ensures made { OnOk result (self.new ≡ changed (changes_view changes.now) self.old) }
+        ensures memory { IfErr result (λ fault. fault ≡ Memory) }
+        ensures same { OnErr result (self.new ≡ self.old) }
     {
-        self.is_new = false;
-        self.told.add(changes);
-        Ok(())
+        match commit_lines(alloc, &mut self.lines, changes) {
+            Ok(()) => Ok(()),
+            Err(_) => Err(KeepFault::Memory),
+        }
+    }
+}
+
+/// Makes all changes, in order, or none.
+fn commit_lines(
+    alloc: Global,
+    lines: &mut Option<LineMap>,
+    changes: &[Change],
+) -> Result<(), AllocError>
+    ensures ok { OnOk result (lines_held lines.new ≡ after_changes (changes_view changes.now) (lines_held lines.old)) }
+    ensures err { OnErr result (lines_held lines.new ≡ lines_held lines.old) }
+{
+    match lines {
+        Some(map) => map.commit(alloc, changes),
+        None => {
+            let mut map = LineMap::new(alloc);
+            map.commit(alloc, changes)?;
+            *lines = Some(map);
+            Ok(())
+        }
     }
 }

@@ -120,6 +120,21 @@ lines -> Switch 1 0 two;";
 }
 
 #[test]
+fn lines_of_long_table_names_are_put_and_removed(rt: HostRuntime) -> Result<(), Fail> {
+    let script = "put Logical_Switch_Port_Group_Address 1 0 one
+put Logical_Switch_Port_Group_Address 2 0 two
+commit -> made
+remove Logical_Switch_Port_Group_Address 1
+commit -> made
+lines -> Logical_Switch_Port_Group_Address 2 0 two;
+remove Logical_Switch_Port_Group_Address 2
+commit -> made
+failures -> 0
+lines";
+    kept_in_memory(rt.alloc(), Faults::NONE, script)
+}
+
+#[test]
 fn changes_that_are_too_large_are_not_made(rt: HostRuntime) -> Result<(), Fail> {
     let script = "put Switch 1 0 one
 commit -> too large to be stored
