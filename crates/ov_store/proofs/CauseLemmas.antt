@@ -1,14 +1,12 @@
 -- Why files are refused at an open.
-use Rattle.std.proofs.Common.{◌≡◌, ◌≢◌, ◌⊎◌, inl, inr, ℕ, ◌∙◌, sym, ap, ap₂, subst, refl, arith, Result, Ok, Err, IfErr, List}
+use Rattle.std.proofs.Common.{◌≡◌, ◌≢◌, inl, inr, ℕ, ◌∙◌, sym, ap, ap₂, subst, refl, arith, Result, Ok, Err, IfErr, List}
 use Rattle.std.proofs.lemmas.Bool.{cond_both, eqb-false}
-use Rattle.std.specs.Prelude.{IsTrue, ◌==◌, IfSome, Option, Some, None}
+use Rattle.std.specs.Prelude.{◌==◌}
 use Rattle.sqlite.specs.declared.error.Error.{Error}
-use Rattle.sqlite.specs.declared.error.Error.TheVariants.{SqliteFailure}
-use Rattle.sqlite.specs.declared.error.ErrorCode.TheVariants.{OutOfMemory, CannotOpen, DatabaseBusy}
 use Rattle.sqlite.specs.declared.file.Leftover.{Leftover}
 use Rattle.sqlite.specs.declared.file.Leftover.TheVariants as rest
 use Rattle.sqlite.specs.Files.{image_of, faults_of, faults_left, tally_left, IsCleanLeft, IsFullLeft, FailsToOpenFiles, IsNothing, AreFoundIn}
-use Rattle.sqlite.specs.Opening.{FailsAs, is_open_error}
+use Rattle.sqlite.specs.Opening.{FailsAs}
 use Rattle.sqlite.specs.State.{State, Opens, IsLive, store_error}
 use Rattle.sqlite.specs.Effect.{Database}
 use Rattle.sqlite.specs.Schema.{Schema}
@@ -28,8 +26,8 @@ use Rattle.sqlite_wal.specs.Reads.{tally_of_files}
 use Rattle.sqlite_wal.specs.Recovery.{Image}
 use Rattle.ov_keeper.specs.declared.fault.KeepFault.{KeepFault}
 use Rattle.ov_keeper.specs.declared.fault.KeepFault.TheVariants.{NotOurs}
-use Rattle.ov_store.specs.Answers.{Opening, WasAnswered}
-use Rattle.ov_store.specs.Causes.{IsOpenable, HasFault, Explains, IsUnopened, FailsInMemory, FailsToBegin, IsErrorInMemory, SaysOfCopy, IsCopyRefused, error_in_memory}
+use Rattle.ov_store.specs.Answers.{Connecting, WasAnswered}
+use Rattle.ov_store.specs.Causes.{IsOpenable, HasFault, Explains, FailsToConnect, IsUnopened, FailsInMemory, FailsToBegin, IsErrorInMemory, SaysOfCopy, IsCopyRefused, error_in_memory}
 use Rattle.ov_store.specs.Refusing.{fault_of_open}
 
 abbrev pub none_met : Tally
@@ -62,23 +60,6 @@ module _ {D : Type 0} {g : disk.Ghosts D} where
   explained image files left e held zero none (inr (inr (inl (is, more)))) =
       subst (λ (e : Error). Explains image left (fault_of_open e)) (sym is) (of_kind image left (tally_of_files g (files.log, files.db)) none (some_fault left (faults_of g files) zero more))
   explained image files left e held zero none (inr (inr (inr (is, full)))) = subst (λ (e : Error). Explains image left (fault_of_open e)) (sym is) (inr full)
-
-  -- why an opening of files that held this is refused
-  pub unopened : (path : List ℕ) (image : Image) (left : Option (Leftover D g)) (e : Error) (Cause : Leftover D g → Type 0)
-      → (left ≡ None → (e ≡ SqliteFailure CannotOpen) ⊎ ((e ≡ SqliteFailure OutOfMemory) ⊎ (e ≡ SqliteFailure DatabaseBusy)))
-      → ((it : Leftover D g) → Cause it → (files : Files D) × IsStart g image files × (IsCleanLeft it → FailsToOpenFiles files it e)) → IfSome left Cause
-      → WasAnswered (Opening path) e → IsTrue (is_open_error e) → IsUnopened g path image (fault_of_open e)
-  unopened path image None e Cause kind tells cause answer is_named = (
-    (e, answer, is_named, refl),
-    elim (kind refl) [
-      | inl is ↦ inl (inr (ap fault_of_open is))
-      | inr (inl is) ↦ inl (inl (ap fault_of_open is))
-      | inr (inr is) ↦ inl (inr (ap fault_of_open is))
-    ],
-  )
-  unopened path image (Some it) e Cause kind tells cause answer is_named =
-      let start = tells it cause in
-      ((e, answer, is_named, refl), inr (it, λ clean. explained image start.0 it e start.1.0 start.1.1 start.1.2 (start.2 clean)))
 
   -- files in memory meet neither damage nor a full disk
   none_left : ((d : D) → g.tally_of d ≡ none_met) → (left : Leftover D g) → tally_left left ≡ none_met
@@ -122,6 +103,18 @@ module _ {D : Type 0} {g : disk.Ghosts D} where
   copy_refused seen log db e answer fails is_log is_db =
       let image : seen ≡ record { log = log; db = db } = λ i. record { log = is_log i; db = is_db i } in
       subst (λ (i : Image). IsCopyRefused i (fault_of_open e)) image (inl (e, answer, refl, of_copy seen e fails))
+
+module _ {D : Type 0} (g : disk.Ghosts D) where
+  -- why an opening of files that held this is refused
+  pub unopened : {T : Type 0} (path : List ℕ) (image : Image) (files : Files D) (r : Result T KeepFault) → IfErr r (FailsToConnect g files) → IsStart g image files → IfErr r (IsUnopened g path image)
+  unopened path image files (Ok x) fails start = tt
+  unopened path image files (Err fault) fails start = inr (
+    (fails.error, subst (λ (i : Image). WasAnswered (Connecting i) fails.error) start.0 fails.answer, fails.named, fails.is),
+    (
+      fails.left,
+      λ clean. subst (Explains image fails.left) (sym fails.is) (explained image files fails.left fails.error start.0 start.1 start.2 (fails.cause clean)),
+    ),
+  )
 
 -- a copy that was opened and does not pass is foreign
 pub foreign_refused : {T : Type 0} (seen : Image) (log db : List ℕ) (s : State) → Opens s → IsLive s → AreFoundIn seen s.committed.trees → seen.log ≡ log → seen.db ≡ db

@@ -18,8 +18,12 @@ pub data Call : Type 0 where
   Bytes : (path : List ℕ) → Call
   -- for memory
   Room : Call
-  -- for a connection to the file at a path
+  -- for the file at a path and its log, to write in
   Opening : (path : List ℕ) → Call
+  -- for a random number
+  Random : Call
+  -- for a connection to files that hold this
+  Connecting : (image : Image) → Call
   -- for a connection to files in memory that hold this
   OpeningCopy : (image : Image) → Call
   -- for the two tables in a database that has none

@@ -1,19 +1,23 @@
 -- Why files are refused at an open, by what the program answers.
-use Rattle.std.specs.Prelude.{◌≡◌, ◌≢◌, ◌⊎◌, ◌<◌, ℕ, List, ⊤, IsTrue}
+use Rattle.std.specs.Prelude.{◌≡◌, ◌≢◌, ◌⊎◌, ◌<◌, ℕ, List, ⊤, IsTrue, codes, eqb}
+use Rattle.std.specs.List.{starts_with}
+use Rattle.std.specs.declared.io.Error.{Error as IoError}
+use Rattle.sqlite_std_file.specs.declared.pair.OpenError.{OpenError}
 use Rattle.sqlite.specs.declared.error.ErrorCode.TheVariants.{OutOfMemory, NotADatabase, DatabaseCorrupt, DiskFull, SystemIoFailure}
 use Rattle.sqlite.specs.declared.error.Error.{Error}
 use Rattle.sqlite.specs.declared.error.Error.TheVariants.{SqliteFailure}
 use Rattle.sqlite.specs.declared.file.Leftover.{Leftover}
 use Rattle.sqlite.specs.Effect.{Database, IsDatabase}
-use Rattle.sqlite.specs.Files.{HoldsDatabase, IsNothing, AreFoundIn, IsCleanLeft, IsFullLeft, faults_left, tally_left}
+use Rattle.sqlite.specs.Files.{HoldsDatabase, IsNothing, AreFoundIn, image_of, FailsToOpenFiles, IsCleanLeft, IsFullLeft, faults_left, tally_left}
 use Rattle.sqlite.specs.Opening.{is_open_error}
 use Rattle.sqlite_disk.specs.declared.Disk as disk
+use Rattle.sqlite_disk.specs.declared.Files.{Files}
 use Rattle.sqlite_trees.specs.Tree.{Trees}
 use Rattle.sqlite_wal.specs.Recovery.{Image}
 use Rattle.ov_keeper.specs.declared.fault.KeepFault.{KeepFault}
 use Rattle.ov_keeper.specs.declared.fault.KeepFault.TheVariants.{Memory, Device, NotOurs}
-use Rattle.ov_store.specs.Answers.{Opening, OpeningCopy, WasAnswered}
-use Rattle.ov_store.specs.Refusing.{fault_of_open}
+use Rattle.ov_store.specs.Answers.{Opening, Random, Connecting, OpeningCopy, WasAnswered}
+use Rattle.ov_store.specs.Refusing.{fault_of_open, IsPathFault}
 use Rattle.ov_sqlite.specs.Tables.{no_schema, HasOurTables}
 
 -- the files hold a database, or none has been made yet
@@ -55,9 +59,21 @@ SaysOfCopy copy _ = ⊥
 abbrev pub IsCopyRefused : Image → KeepFault → Type 0
 IsCopyRefused copy fault = ((e : Error) × IsErrorInMemory copy e × (fault ≡ fault_of_open e) × SaysOfCopy copy fault) ⊎ ((fault ≡ NotOurs) × IsSomebodyElses copy)
 
--- the fault is that of the error with which SQLite did not open the file at a path
-abbrev pub IsOpenRefused : List ℕ → KeepFault → Type 0
-IsOpenRefused path fault = (error : Error) × WasAnswered (Opening path) error × IsTrue (is_open_error error) × (fault ≡ fault_of_open error)
+-- a path that SQLite takes for something else than the name of a file: for a database in memory, or a URI
+abbrev pub IsReserved : List ℕ → Type 0
+IsReserved path = (path ≡ codes ":memory:") ⊎ IsTrue (starts_with eqb path (codes "file:"))
+
+-- the system gave no random number
+abbrev pub IsDrawRefused : KeepFault → Type 0
+IsDrawRefused fault = (e : IoError) × WasAnswered Random e × (fault ≡ Device)
+
+-- the path is reserved, or the system did not open the file at it and its log
+abbrev pub IsPairRefused : List ℕ → KeepFault → Type 0
+IsPairRefused path fault = (IsReserved path × (fault ≡ Device)) ⊎ ((e : OpenError) × WasAnswered (Opening path) e × IsPathFault e fault)
+
+-- the fault is that of the error with which SQLite did not open files that held this
+abbrev pub IsOpenRefused : Image → KeepFault → Type 0
+IsOpenRefused image fault = (error : Error) × WasAnswered (Connecting image) error × IsTrue (is_open_error error) × (fault ≡ fault_of_open error)
 
 module _ {D : Type 0} {g : disk.Ghosts D} where
   -- a call on the files failed
@@ -76,11 +92,21 @@ module _ {D : Type 0} {g : disk.Ghosts D} where
   Explains image left _ = ⊥
 
 module _ {D : Type 0} (g : disk.Ghosts D) where
-  -- why the file at a path was not opened, if the files held this: SQLite answered with an error. Either the system refused
-  -- them, or, if their device was honest, what is left of them explains the fault.
+  -- SQLite did not open files: it answered with this error, whose fault it is, and if their device was honest, what is left of
+  -- them explains it
+  pub record FailsToConnect (files : Files D) (fault : KeepFault) : Type 0 where
+    pub error : Error
+    pub answer : WasAnswered (Connecting (image_of g files)) error
+    pub named : IsTrue (is_open_error error)
+    pub is : fault ≡ fault_of_open error
+    pub left : Leftover D g
+    pub cause : IsCleanLeft left → FailsToOpenFiles files left error
+
+  -- why the file at a path was not opened, if the files held this: the system refused them, or a random number for the log,
+  -- or SQLite answered with an error, and what is left of them explains the fault, if their device was honest
   abbrev pub IsUnopened : List ℕ → Image → KeepFault → Type 0
-  IsUnopened path image fault = IsOpenRefused path fault
-      × (((fault ≡ Memory) ⊎ (fault ≡ Device)) ⊎ ((left : Leftover D g) × (IsCleanLeft left → Explains image left fault)))
+  IsUnopened path image fault = (IsDrawRefused fault ⊎ IsPairRefused path fault)
+      ⊎ (IsOpenRefused image fault × ((left : Leftover D g) × (IsCleanLeft left → Explains image left fault)))
 
   -- files are at a limit of SQLite
   abbrev pub MeetsLimit : Error → Type 0

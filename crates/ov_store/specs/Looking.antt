@@ -7,15 +7,11 @@ use Rattle.std.specs.declared.io.Error.{Error}
 use Rattle.std.specs.declared.io.ErrorKind.TheVariants as kind
 use Rattle.sqlite_wal.specs.Recovery.{Image}
 use Rattle.ov_keeper.specs.declared.fault.KeepFault.{KeepFault}
-use Rattle.ov_keeper.specs.declared.fault.KeepFault.TheVariants.{Memory, Device}
 use Rattle.ov_sqlite.specs.HasText.{HasText}
 use Rattle.ov_sqlite.specs.Tables.{create_meta, create_line}
 use Rattle.ov_store.specs.Answers.{RealPath, Stat, Page, Bytes, Room, WasAnswered}
+use Rattle.ov_store.specs.Refusing.{IsSystemFault}
 use Rattle.ov_store.specs.Causes.{IsCopyRefused, IsNobodyElses}
-
--- the fault for an error of the system
-abbrev pub IsSystemFault : Error → KeepFault → Type 0
-IsSystemFault e fault = ((fault ≡ Memory) × (error_kind e ≡ kind.OutOfMemory)) ⊎ ((fault ≡ Device) × (error_kind e ≢ kind.OutOfMemory))
 
 -- the path of the log beside a file
 abbrev pub log_of : List ℕ → List ℕ

@@ -75,7 +75,7 @@ fn read_copies(rt: &HostRuntime, db: &str, log: &str, log_size: u64) -> io::Resu
 }
 
 /// The size of a regular file. Anything else is refused, since it may have no end.
-fn size_of(rt: &HostRuntime, path: &str) -> io::Result<u64>
+pub(crate) fn size_of(rt: &HostRuntime, path: &str) -> io::Result<u64>
     ensures size { IfOk result (HasSize path.now) }
     ensures failed { IfErr result (HasNoSize path.now) }
 {

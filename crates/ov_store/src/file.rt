@@ -1,6 +1,6 @@
 ghost use Rattle.std.specs.Prelude.{◌≡◌, ◌⊎◌, codes, true, IfOk, IfErr, IsTrue, Err};
 ghost use Rattle.sqlite_wal.specs.Files.{image_at};
-ghost use Rattle.sqlite.specs.Files.{file_state, over_files, IsOpened, IsBlankAs};
+ghost use Rattle.sqlite.specs.Files.{file_state, image_of, over_files, Finds, IsOpened, IsBlankAs};
 ghost use Rattle.sqlite_store.specs.FileStore.{view};
 ghost use Rattle.sqlite.specs.Held.{IsNew};
 ghost use Rattle.sqlite.specs.Start.{FindsIn};
@@ -9,17 +9,19 @@ ghost use Rattle.ov_keeper.specs.Keeping.{IsCommitFault};
 ghost use Rattle.ov_store.specs.StoreState.{MayFind};
 ghost use Rattle.ov_store.specs.Finding.{new_contents, HasNoTable, IsStoredIn, IsFileRefused, IsPathRefused, IsMemoryRefused};
 ghost use Rattle.ov_store.specs.Looking.{MayBeOpened};
-ghost use Rattle.ov_store.specs.Causes.{IsUnopened};
+ghost use Rattle.ov_store.specs.Causes.{FailsToConnect, IsUnopened};
 ghost use Rattle.ov_store.specs.Refusing.{fault_of_open};
 
 use crate::look::test_file;
 use crate::memory::open_in_memory;
 use crate::memory_disk::MemoryDisk;
+use crate::options::options_for;
 use crate::over::store_over_files;
+use crate::pair::open_pair;
 use crate::store::Store;
 use ov_base::Text;
 use ov_keeper::{KeepFault, Keeper};
-use sqlite::{Connection, Error, ErrorCode, FileFrom, FileStore, Start};
+use sqlite::{Connection, Error, ErrorCode, FileFrom, FileStore, Files, Options, Start};
 use sqlite_disk::Disk;
 use std::alloc::Global;
 
@@ -37,15 +39,38 @@ pub(crate) fn fault_of_open(error: &Error) -> KeepFault
     }
 }
 
+/// Opens a connection to a file and its log. Each page of a new file ends in a checksum of its bytes, as SQLite's cksumvfs
+/// writes it.
+///
+/// It is a function of its own for the same reason as `store_over_files`.
+fn connect<D: Disk + Drop>(
+    alloc: Global,
+    files: Files<D>,
+    options: Options,
+) -> Result<Connection<FileStore<D>>, KeepFault>
+    requires log { IsTrue (D.Disk.is_usable files.log) }
+    requires db { IsTrue (D.Disk.is_usable files.db) }
+    ensures new { IfOk result IsNew }
+    ensures opened { IfOk result (λ c. HasCleanDisk (file_state c) → IsOpened c) }
+    ensures found { IfOk result (λ c. HasCleanDisk (file_state c) → Finds files c) }
+    ensures sums { IfOk result (λ c. HasCleanDisk (file_state c) → IsBlankAs true (image_of D.Disk files) → IsTrue (view c.store).has_sums) }
+    ensures cause { IfErr result (FailsToConnect D.Disk files) }
+{
+    match Connection::open_files_with(alloc, files, options, true) {
+        Ok(connection) => Ok(connection),
+        Err((error, _)) => Err(fault_of_open(&error)),
+    }
+}
+
 /// Opens a connection to the file at a path, and creates the file if there is none. Its log is beside it. `start` stands for
-/// what the two held, as in the kit's `open_from`. Each page of a new file ends in a checksum of its bytes, as SQLite's
-/// cksumvfs writes it. A file with checksums is `NotOurs` if one is wrong.
+/// what the two held, as in the kit's `open_from`. Each page of a new file ends in a checksum of its bytes. A file with
+/// checksums is `NotOurs` if one is wrong.
 ///
 /// Returns `NotOurs` if the file holds no database, or if a read returned other bytes than an earlier one. Returns `Device`
 /// for the path `:memory:`, a path that begins with `file:`, a folder, a file that another process has open, anything else
-/// that the system refuses, and a file at a limit of SQLite. A fault is that of the error that SQLite answered. For files
-/// that were opened, the contract says under an honest device what explains it. It does not say why the system refused a
-/// file.
+/// that the system refuses, and a file at a limit of SQLite. A fault is that of the error that the system or SQLite answered.
+/// For files that were opened, the contract says under an honest device what explains it. It does not say why the system
+/// refused a file.
 ///
 /// The file was looked at before, since an open changes it, whatever it holds.
 pub(crate) fn open_file<S: Start>(
@@ -61,10 +86,9 @@ pub(crate) fn open_file<S: Start>(
     ensures cause { IfErr result (IsUnopened ⟦<FileFrom<S> as Disk>⟧ path.now (image_at S.Start)) }
     ensures memory { path.now ≡ codes ":memory:" → result ≡ Err KeepFault.Device }
 {
-    match Connection::open_from(rt, path, true, start) {
-        Ok(connection) => Ok(connection),
-        Err((error, _)) => Err(fault_of_open(&error)),
-    }
+    let options = options_for(rt, path)?;
+    let files = open_pair(rt, path, start)?;
+    connect(rt.alloc(), files, options)
 }
 
 /// Opens the store of the file at a path: `store_over` on the connection of `open_file`. Makes a new store only if the files

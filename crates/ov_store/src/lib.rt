@@ -15,7 +15,9 @@ mod look;
 mod memory;
 mod memory_disk;
 mod open;
+mod options;
 mod over;
+mod pair;
 mod store;
 mod unopened;
 

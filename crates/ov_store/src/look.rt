@@ -2,7 +2,8 @@
 
 ghost use Rattle.std.specs.Prelude.{◌≡◌, ◌≢◌, ◌⊎◌, IfErr, IfOk, OnOk};
 ghost use Rattle.ov_store.specs.Causes.{IsCopyRefused, IsNobodyElses};
-ghost use Rattle.ov_store.specs.Looking.{IsLookRefused, IsRefusedAt, IsSystemFault, MayBeOpened, MayBeOpenedAt};
+ghost use Rattle.ov_store.specs.Looking.{IsLookRefused, IsRefusedAt, MayBeOpened, MayBeOpenedAt};
+ghost use Rattle.ov_store.specs.Refusing.{IsSystemFault};
 ghost use Rattle.ov_sqlite.specs.Tables.{no_schema, HasOurTables};
 
 use crate::copies::{Copies, is_absent, read_to_test};
@@ -40,7 +41,7 @@ pub(crate) fn test_file(rt: &HostRuntime, path: &str) -> Result<(), KeepFault>
 }
 
 /// The fault for an error of the system.
-fn fault_of_system(error: &io::Error) -> KeepFault
+pub(crate) fn fault_of_system(error: &io::Error) -> KeepFault
     ensures { IsSystemFault error.now result }
 {
     if error.kind() == ErrorKind::OutOfMemory {

@@ -1,9 +1,10 @@
-use Rattle.std.proofs.Common.{ℕ, ◌+◌, Bool, cond, List, min, ap₂}
+use Rattle.std.proofs.Common.{ℕ, ◌+◌, Bool, true, cond, List, min, ap₂, subst, sym}
+use Rattle.std.proofs.lemmas.Result.{IfOk-weaker}
 use Rattle.sqlite_disk.specs.Events.{Event, replay}
 use Rattle.sqlite_wal.specs.Files.{image_at}
 use Rattle.sqlite_wal.specs.Recovery.{Image}
-use Rattle.ov_store.specs.Answers.{Opening}
-use Rattle.ov_store.proofs.AnswerLemmas.{paired_told}
+use Rattle.sqlite.specs.Files.{file_state, IsBlankAs}
+use Rattle.sqlite.specs.Start.{FindsIn}
 use Rattle.ov_store.proofs.CauseLemmas.{unopened}
 use Rattle.ov_store.proofs.file.open_file.Goals as goal
 
@@ -19,16 +20,28 @@ faults log db is_log history = (replay (cond is_log log db) history).faults
 abbrev caught : List ℕ → List ℕ → Bool → List Event → ℕ
 caught log db is_log history = (replay (cond is_log log db) history).caught
 
+pub returns-clause-found : goal.returns-clause-found
+returns-clause-found g c =
+    let start = g.S.Start in
+    let (log, db) = c.in_ok-files.ensures.fresh in
+    let same = ap₂ image (ap₂ (seen start.log start.db) log.0 log.1) (ap₂ (seen start.log start.db) db.0 db.1) in
+    IfOk-weaker c.connect.result _ _ (λ connection finds clean.
+    let found = finds clean in
+    subst (λ i. FindsIn i (file_state connection)) same (record { holds = found.holds; reads = found.reads })) c.connect.ensures.found
+
+pub returns-clause-sums : goal.returns-clause-sums
+returns-clause-sums g c =
+    let start = g.S.Start in
+    let (log, db) = c.in_ok-files.ensures.fresh in
+    let same = ap₂ image (ap₂ (seen start.log start.db) log.0 log.1) (ap₂ (seen start.log start.db) db.0 db.1) in
+    IfOk-weaker c.connect.result _ _ (λ connection sums clean blank. sums clean (subst (IsBlankAs true) (sym same) blank)) c.connect.ensures.sums
+
 pub returns-clause-cause : goal.returns-clause-cause
 returns-clause-cause g c =
     let start = g.S.Start in
-    let it = c.in-Err.ensures in
-    rw c.fault_of_open.ensures (unopened c.args.path.now (image_at start) c.in-Err.field-0-1 c.in-Err.error _ it.unopened (λ left cause. (
-      cause.0,
-      (
-        ap₂ image (ap₂ (seen start.log start.db) cause.1.0 cause.1.1) (ap₂ (seen start.log start.db) cause.2.0 cause.2.1),
-        ap₂ (λ (a b : ℕ). a + b) (ap₂ (faults start.log start.db) cause.1.0 cause.1.1) (ap₂ (faults start.log start.db) cause.2.0 cause.2.1),
-        ap₂ (λ (a b : ℕ). min (a + b) 18446744073709551615) (ap₂ (caught start.log start.db) cause.1.0 cause.1.1) (ap₂ (caught start.log start.db) cause.2.0 cause.2.1),
-      ),
-      λ clean. (cause.3 clean).0,
-    )) it.cause (paired_told (Opening c.args.path.now) c.open_from.result c.in-Err.error c.in-Err.field-0-1 c.in-Err.is) it.named)
+    let (log, db) = c.in_ok-files.ensures.fresh in
+    unopened _ c.args.path.now (image_at start) c.in_ok-files.files c.connect.result c.connect.ensures.cause (
+      ap₂ image (ap₂ (seen start.log start.db) log.0 log.1) (ap₂ (seen start.log start.db) db.0 db.1),
+      ap₂ (λ (a b : ℕ). a + b) (ap₂ (faults start.log start.db) log.0 log.1) (ap₂ (faults start.log start.db) db.0 db.1),
+      ap₂ (λ (a b : ℕ). min (a + b) 18446744073709551615) (ap₂ (caught start.log start.db) log.0 log.1) (ap₂ (caught start.log start.db) db.0 db.1),
+    )
