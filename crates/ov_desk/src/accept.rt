@@ -15,32 +15,6 @@ pub(crate) const LOBBY: u64 = 0;
 /// What the accepting worker brings the desk: the links of connections, and last that there are no more.
 pub(crate) type Accepted<S, W> = Brought<Link<S, W>, ()>;
 
-/// Brings the desk what the listener gives, until it gives no more.
-fn accept_all<R, L, G, S, W, T>(
-    common: Common<'_, R, L, G>,
-    listener: &mut T,
-    ring: &mut Producer<Accepted<S, W>>,
-    noter: &mut Noter<L>,
-)
-where
-    R: Wait,
-    L: Ledger,
-    S: Drop,
-    W: Drop,
-    T: Listen<S, W>,
-    ensures { noter.new.serial ≡ noter.old.serial }
-{
-    for _ in common.rt.forever() {
-        let Some(link) = listener.accept() else {
-            return;
-        };
-        common
-            .order
-            .bring(common.rt, ring, noter, Brought::Message(link));
-    }
-    unreachable!()
-}
-
 /// Waits until it is said whether the workers may begin, and for the listener that it is handed. Brings the desk what the
 /// listener gives until that gives no more, and last that there is nothing more. It waits while 64 connections wait for the
 /// desk.
@@ -70,7 +44,14 @@ where
     let mut listener = listener;
     let mut ring = ring;
     let mut noter = noter;
-    accept_all(common, &mut listener, &mut ring, &mut noter);
+    for _ in common.rt.forever() {
+        let Some(link) = listener.accept() else {
+            break;
+        };
+        common
+            .order
+            .bring(common.rt, &mut ring, &mut noter, Brought::Message(link));
+    }
     drop(listener);
     common
         .order

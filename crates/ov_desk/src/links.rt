@@ -28,7 +28,7 @@ use std::collections::VecDeque;
 use std::marker::Brand;
 use std::rt::Clock as SystemClock;
 use std::sync::Wait;
-use std::sync::ledger::{Blank, Book, Ledger};
+use std::sync::ledger::{Blank, Ledger};
 use std::thread;
 use std::thread::{Scope, Threads};
 
@@ -202,44 +202,8 @@ where
     Served { desk, ends }
 }
 
-/// Starts the workers, opens the sessions, and serves them. If that is refused, the links are as before.
-fn serve_scoped<'s, E, R, K, D, L, G, S, W, C>(
-    common: Common<'s, R, L, G>,
-    scope: &Scope<'s, E>,
-    bells: &'s Vec<Bell>,
-    core: Core<K, D>,
-    links: VecDeque<Link<S, W>>,
-    parts: Parts<L>,
-    clock: &mut C,
-) -> Result<Served<K, D, S, W>, Unserved<K, D, S, W>>
-where
-    R: Threads + Wait + SystemClock + Sync,
-    K: Keeper + Drop,
-    D: Draws + Drop,
-    L: Ledger + Send + Sync + 's,
-    G: Gate + Sync,
-    S: Source + Send + Drop + 's,
-    W: Sink + Send + Drop + 's,
-    C: Clock,
-    requires bells { vec_len bells.now ≡ deque_len links }
-    requires places { has_places (deque_len links) core.state ≡ true }
-    requires parts { deque_len links ≤ parts.left }
-    ensures served { IfOk result (λ s. ServesAll (source_of S.Source) (sink_of W.Sink) C.tells core clock.old s.desk.core clock.new links.items s.ends.items) }
-    ensures refused { IfErr result (λ r. RefusesLinks (deque_len links) core r.fault r.desk.core × (r.links.items ≡ links.items)) }
-    ensures untouched { OnErr result (clock.new ≡ clock.old) }
-{
-    let mut core = core;
-    match open_all(common, scope, bells, &mut core, parts) {
-        Ok(opened) => Ok(serve_opened(common, scope, bells, core, opened, links, clock)),
-        Err(fault) => Err(Unserved {
-            fault,
-            desk: Desk::new(common.alloc, core),
-            links,
-        }),
-    }
-}
-
-/// The same, in a scope of threads. The scope gives the clock back, so that its contract can name it.
+/// Starts the workers, opens the sessions, and serves them, in a scope of threads. If that is refused, the links are as before.
+/// The scope gives the clock back, so that its contract can name it.
 fn in_scope<'a, R, K, D, L, G, S, W, C>(
     common: Common<'a, R, L, G>,
     bells: &'a Vec<Bell>,
@@ -276,8 +240,17 @@ where
             ensures untouched { OnErr result.0 (result.1.now ≡ clock.entry.now) }
             ensures same_clock { result.1.ghost_name ≡ clock.entry.ghost_name }
         {
-            let served = serve_scoped(common, scope, bells, core, links, parts, clock);
-            (served, clock)
+            let mut core = core;
+            match open_all(common, scope, bells, &mut core, parts) {
+                Ok(opened) => {
+                    let served = serve_opened(common, scope, bells, core, opened, links, clock);
+                    (Ok(served), clock)
+                }
+                Err(fault) => {
+                    let desk = Desk::new(common.alloc, core);
+                    (Err(Unserved { fault, desk, links }), clock)
+                }
+            }
         },
     );
     served
@@ -292,20 +265,6 @@ pub(crate) fn all_bells(alloc: Global, count: usize) -> Result<Vec<Bell>, AllocE
         bells.push_reserved(Bell::new());
     }
     Ok(bells)
-}
-
-/// The order of notes, and the writers' bells.
-fn take_room<L: Ledger>(
-    alloc: Global,
-    book: Book<L>,
-    count: usize,
-) -> Result<(Order<L>, Vec<Bell>), AllocError>
-    requires { book.total ≡ 0 }
-    ensures { IfOk result (λ r. vec_len r.1 ≡ count) }
-{
-    let order = Order::new(alloc, book)?;
-    let bells = all_bells(alloc, count)?;
-    Ok((order, bells))
 }
 
 /// Serves the links with the ledger that a type stands for.
@@ -335,11 +294,12 @@ where
     ensures untouched { OnErr result (clock.new ≡ clock.old) }
 {
     let (book, all) = blank.open::<L>();
-    let Ok((order, bells)) = take_room(alloc, book, links.len()) else {
+    let (Ok(order), Ok(bells)) = (Order::new(alloc, book), all_bells(alloc, links.len())) else {
         shows_nothing_opened(&core);
+        let desk = Desk::new(alloc, core);
         return Err(Unserved {
             fault: ServeFault::Memory,
-            desk: Desk::new(alloc, core),
+            desk,
             links,
         });
     };

@@ -42,9 +42,13 @@ fn empty_places<T: Drop>(alloc: Global) -> Result<Vec<Option<T>>, AllocError>
     Ok(places)
 }
 
-/// What serving a listener needs besides the order of notes, the bells and the threads.
+/// What serving a listener needs besides the threads.
 #[derive(Drop)]
 struct Room<S: Source, W: Sink, L: Ledger, T> {
+    /// The order of notes.
+    order: Order<L>,
+    /// The writers' bells.
+    bells: Vec<Bell>,
     /// The places.
     lanes: Vec<Option<Lane>>,
     /// The workers at them.
@@ -60,14 +64,20 @@ struct Room<S: Source, W: Sink, L: Ledger, T> {
 /// Takes this room.
 fn take_room<S: Source + Drop, W: Sink + Drop, L: Ledger, T: Drop>(
     alloc: Global,
+    book: Book<L>,
 ) -> Result<Room<S, W, L, T>, AllocError>
+    requires { book.total ≡ 0 }
     ensures { IfOk result (λ room. AreEmpty 64 room.lanes.items × AreEmpty 64 room.workers.items) }
 {
+    let order = Order::new(alloc, book)?;
+    let bells = all_bells(alloc, PLACES)?;
     let lanes = empty_places(alloc)?;
     let workers = empty_places(alloc)?;
     let (ring, accepted) = inbound_ring(alloc)?;
     let hand = HandRing::new(alloc)?;
     Ok(Room {
+        order,
+        bells,
         lanes,
         workers,
         ring,
@@ -198,20 +208,6 @@ where
     served
 }
 
-/// The order of notes, the writers' bells, and the room for the rest.
-fn take_all<S: Source + Drop, W: Sink + Drop, L: Ledger, T: Drop>(
-    alloc: Global,
-    book: Book<L>,
-) -> Result<(Order<L>, Vec<Bell>, Room<S, W, L, T>), AllocError>
-    requires { book.total ≡ 0 }
-    ensures { IfOk result (λ r. AreEmpty 64 r.2.lanes.items × AreEmpty 64 r.2.workers.items) }
-{
-    let order = Order::new(alloc, book)?;
-    let bells = all_bells(alloc, PLACES)?;
-    let room = take_room(alloc)?;
-    Ok((order, bells, room))
-}
-
 /// Serves the listener with the ledger that a type stands for.
 fn serve_as<R, K, D, L, G, S, W, T, C>(
     rt: &R,
@@ -240,7 +236,7 @@ where
     ensures untouched { OnErr result (clock.new ≡ clock.old) }
 {
     let (book, all) = blank.open::<L>();
-    let Ok((order, bells, room)) = take_all(alloc, book) else {
+    let Ok(room) = take_room(alloc, book) else {
         return Err(RefusedLobby {
             fault: ServeFault::Memory,
             desk: Desk::new(alloc, core),
@@ -248,6 +244,8 @@ where
         });
     };
     let Room {
+        order,
+        bells,
         lanes,
         workers,
         ring,

@@ -145,7 +145,7 @@ pub fn free_place(lanes: &Vec<Option<Lane>>) -> Option<usize>
 
 /// Whether of each session that is served the reader's end was taken, and the end mark was put after its last frame.
 pub fn are_over(lanes: &Vec<Option<Lane>>) -> bool
-    ensures { result ≡ true → AreOver lanes.now.items }
+    ensures { MatchBool result (AreOver lanes.now.items) (AreOver lanes.now.items → ⊥) }
 {
     for place in lanes {
         if let Some(lane) = place {

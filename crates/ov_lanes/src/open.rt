@@ -18,16 +18,10 @@ fn drop_session<K: Keeper + Drop, D: Draws + Drop>(core: &mut Core<K, D>, sessio
     }
 }
 
-/// Nothing has been opened yet.
-fn shows_none_opened<K: Keeper + Drop, D: Draws + Drop>(core: &Core<K, D>)
-    ensures { OpensAll core.now core.now.state.next 0 core.now }
-{
-    let _ = core.history();
-}
-
-/// Nothing has been opened yet, and nothing has to be closed again.
+/// States that nothing has been opened yet, and that nothing has to be closed again. Does nothing.
 pub fn shows_nothing_opened<K: Keeper + Drop, D: Draws + Drop>(core: &Core<K, D>)
-    ensures { ClosesAgain core.now core.now }
+    ensures opened { OpensAll core.now core.now.state.next 0 core.now }
+    ensures closed { ClosesAgain core.now core.now }
 {
     let _ = core.history();
 }
@@ -56,7 +50,7 @@ pub fn open_sessions<K: Keeper + Drop, D: Draws + Drop>(
     ensures serials { IfSome result (λ sessions. AreSessions core.old.state.next sessions.items × (deque_len sessions ≡ count)) }
     ensures refused { IfNone result (ClosesAgain core.old core.new) }
 {
-    shows_none_opened(core);
+    shows_nothing_opened(core);
     let Ok(mut sessions) = VecDeque::with_capacity(alloc, count) else {
         close_sessions(core, VecDeque::new(alloc));
         return None;

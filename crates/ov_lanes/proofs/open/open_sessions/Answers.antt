@@ -10,7 +10,7 @@ pub returns-in_default-clause-refused : goal.returns-in_default-clause-refused
 returns-in_default-clause-refused g c =
     let start = c.args.core.now in
     c.close_sessions.ensures start (subst (λ (l : List Session). AreSessions start.state.next l) (sym c.new.ensures.items) tt)
-    (subst (λ (n : ℕ). OpensAll start start.state.next n start) (sym c.new.ensures.len) c.shows_none_opened.ensures)
+    (subst (λ (n : ℕ). OpensAll start start.state.next n start) (sym c.new.ensures.len) c.shows_nothing_opened.ensures.opened)
 
 pub loop-core-preserved : goal.loop-core-preserved
 loop-core-preserved g c =
