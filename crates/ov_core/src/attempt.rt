@@ -54,6 +54,7 @@ pub(crate) fn try_once<K: Keeper + Drop>(
     ensures queues { outbox.new.queues ≡ outbox.old.queues }
     ensures asks { AsksStore K.failed (outcome_in result) db.old db.new }
     ensures counts { K.failed db.old.keeper ≤ K.failed db.new.keeper }
+    ensures honest { K.is_honest db.new.keeper → K.is_honest db.old.keeper }
     ensures counted { tries.new ≡ tries.old + 1 }
 {
     let (queues, locks) = mem::replace(outbox, Outbox::new(alloc)).into_parts();

@@ -77,6 +77,7 @@ impl<K: Keeper + Drop> Live<K> {
         requires room { length self.old.waiting.outstanding < vec_capacity attempts.old }
         requires waits { HasRoomToWait moment session (message_view message) self.old }
         ensures comes_to { ComesTo K.failed moment (spec.Take session (message_view message)) self.old result.items attempts.new.items self.new }
+        ensures honest { K.is_honest self.new.database.keeper → K.is_honest self.old.database.keeper }
         ensures drawn { DrawsFrom D.draws source.old result.items source.new }
         ensures uuids { list_all is_uuid result.items ≡ true }
     {
@@ -108,6 +109,7 @@ impl<K: Keeper + Drop> Live<K> {
         ensures works { Works moment session (spec.work_of (state_of self.old moment) session (message_view message)) self.old result self.new }
         ensures asks { AsksStore K.failed result.outcome self.old.database self.new.database }
         ensures counts { K.failed self.old.database.keeper ≤ K.failed self.new.database.keeper }
+        ensures honest { K.is_honest self.new.database.keeper → K.is_honest self.old.database.keeper }
         ensures drawn { DrawsFrom D.draws source.old result.draws.items source.new }
         ensures uuids { list_all is_uuid result.draws.items ≡ true }
         ensures tries { self.new.tries ≤ self.old.tries + 1 }
@@ -157,6 +159,7 @@ impl<K: Keeper + Drop> Live<K> {
         ensures works { Works moment session (spec.Transact id operations) self.old result self.new }
         ensures asks { AsksStore K.failed result.outcome self.old.database self.new.database }
         ensures counts { K.failed self.old.database.keeper ≤ K.failed self.new.database.keeper }
+        ensures honest { K.is_honest self.new.database.keeper → K.is_honest self.old.database.keeper }
         ensures drawn { DrawsFrom D.draws source.old result.draws.items source.new }
         ensures uuids { list_all is_uuid result.draws.items ≡ true }
         ensures tries { self.new.tries ≤ self.old.tries + 1 }
@@ -203,6 +206,7 @@ impl<K: Keeper + Drop> Live<K> {
     ) -> Handled
         requires { many self.old.waiting < most_outstanding }
         ensures waits { WaitsIfRoom (spec.arrived (state_of self.old moment) session id txn.draws txn.operations) timeout self.old result.outcome self.new }
+        ensures database { self.new.database ≡ self.old.database }
         ensures draws { result.draws.items ≡ txn.draws }
     {
         let Ok(draws) = Vec::from_slice(alloc, txn.draws()) else {

@@ -72,7 +72,8 @@ impl<K: Keeper + Drop> Live<K> {
         requires untried { self.old.waiting.untried ≡ [] }
         requires none { attempts.old.items ≡ [] }
         requires room { length self.old.waiting.outstanding ≤ vec_capacity attempts.old }
-        ensures { ComesTo K.failed moment Tick self.old [] attempts.new.items self.new }
+        ensures comes_to { ComesTo K.failed moment Tick self.old [] attempts.new.items self.new }
+        ensures honest { K.is_honest self.new.database.keeper → K.is_honest self.old.database.keeper }
     {
         self.settle(alloc, moment, 1, attempts);
     }

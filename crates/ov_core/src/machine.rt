@@ -161,7 +161,8 @@ impl<K: Keeper + Drop, D: Draws + Drop> Core<K, D> {
     /// wait. If an allocation for a `Take` fails, its session is closed. A refused step changes nothing. The history has room
     /// for the entry, and keeps the message's text as received.
     pub fn step(&mut self, alloc: Global, moment: u64, event: Event<Received>) -> Stepped
-        ensures { StepIs D.draws (max moment self.old.state.moment) (event_view event) self.old result self.new }
+        ensures steps { StepIs D.draws (max moment self.old.state.moment) (event_view event) self.old result self.new }
+        ensures honest { K.is_honest self.new.keeper → K.is_honest self.old.keeper }
     {
         let moment = moment.max(self.moment);
         match event {
@@ -189,6 +190,7 @@ impl<K: Keeper + Drop, D: Draws + Drop> Core<K, D> {
     pub fn open_session(&mut self) -> Result<Session, StepFault>
         ensures opened { IfOk result (λ session. IsEntered D.draws self.old.state.moment SpecOpen self.old (Opened session) self.new) }
         ensures refused { IfErr result (λ fault. (self.new ≡ self.old) × RefusesStep SpecOpen self.old.state fault) }
+        ensures honest { K.is_honest self.new.keeper → K.is_honest self.old.keeper }
     {
         let moment = self.moment;
         self.open_at(moment)
@@ -199,6 +201,7 @@ impl<K: Keeper + Drop, D: Draws + Drop> Core<K, D> {
     pub fn tick(&mut self, alloc: Global, moment: u64) -> Result<(), StepFault>
         ensures ticked { OnOk result (IsEntered D.draws (max moment self.old.state.moment) SpecTick self.old Done self.new) }
         ensures refused { IfErr result (λ fault. (self.new ≡ self.old) × RefusesStep SpecTick self.old.state fault) }
+        ensures honest { K.is_honest self.new.keeper → K.is_honest self.old.keeper }
     {
         let at = moment.max(self.moment);
         self.tick_at(alloc, at)
@@ -210,6 +213,7 @@ impl<K: Keeper + Drop, D: Draws + Drop> Core<K, D> {
         ensures passes { IfOk result (λ ticks. TicksIf D.draws ticks moment self.old self.new) }
         ensures due { IfOk result (λ ticks. ticks ≡ is_due moment self.old.state) }
         ensures refused { IfErr result (λ fault. (self.new ≡ self.old) × (is_due moment self.old.state ≡ true) × RefusesStep SpecTick self.old.state fault) }
+        ensures honest { K.is_honest self.new.keeper → K.is_honest self.old.keeper }
     {
         match self.due() {
             Some(due) if due <= moment => {
@@ -224,9 +228,10 @@ impl<K: Keeper + Drop, D: Draws + Drop> Core<K, D> {
     /// the next owners of these locks are notified. Returns false, and changes nothing, if the session is not open. The
     /// frames that wait for it still wait. Allocates nothing.
     pub fn close(&mut self, session: Session, cause: Cause) -> bool
-        ensures { MatchBool result
+        ensures closes { MatchBool result
             (Closes self.old.state.moment session.serial (cause_view cause) self.old self.new)
             ((self.new ≡ self.old) × (is_open self.old.state session.serial ≡ false)) }
+        ensures honest { K.is_honest self.new.keeper → K.is_honest self.old.keeper }
     {
         let moment = self.moment;
         self.close_at(moment, session, cause)
@@ -333,9 +338,12 @@ impl<K: Keeper + Drop, D: Draws + Drop> Core<K, D> {
     }
 
     /// States what a crash now leaves, an invariant of every core: the lines of the machine's database, or after a failed
-    /// commit possibly those of the database that it would have made. Does nothing.
+    /// commit possibly those of the database that it would have made. If the keeper is honest, an open finds some such lines.
+    /// Does nothing.
     pub fn shows_left(&self)
-        ensures { K.is_honest self.now.keeper → (held : Contents) → K.leaves self.now.keeper held → LeavesItsOwn self.now.state held }
+        ensures own { K.is_honest self.now.keeper → (held : Contents) → K.leaves self.now.keeper held → LeavesItsOwn self.now.state held }
+        // An open finds something.
+        ensures some { K.is_honest self.now.keeper → ∥ ((held : Contents) × K.leaves self.now.keeper held) ∥₁ }
     {
         self.live.database.shows_left();
     }
@@ -375,6 +383,7 @@ impl<K: Keeper + Drop, D: Draws + Drop> Core<K, D> {
         requires { self.old.state.moment ≤ moment }
         ensures opened { IfOk result (λ session. IsEntered D.draws moment SpecOpen self.old (Opened session) self.new) }
         ensures refused { IfErr result (λ fault. (self.new ≡ self.old) × RefusesStep SpecOpen self.old.state fault) }
+        ensures honest { K.is_honest self.new.keeper → K.is_honest self.old.keeper }
     {
         if self.live.sessions.is_full() {
             return Err(StepFault::TooMany);
@@ -392,6 +401,7 @@ impl<K: Keeper + Drop, D: Draws + Drop> Core<K, D> {
         requires { self.old.state.moment ≤ moment }
         ensures ticked { OnOk result (IsEntered D.draws moment SpecTick self.old Done self.new) }
         ensures refused { IfErr result (λ fault. (self.new ≡ self.old) × RefusesStep SpecTick self.old.state fault) }
+        ensures honest { K.is_honest self.new.keeper → K.is_honest self.old.keeper }
     {
         let Ok(mut attempts) = Vec::with_capacity(alloc, self.live.waiting.len()) else {
             return Err(StepFault::Memory);
@@ -410,9 +420,10 @@ impl<K: Keeper + Drop, D: Draws + Drop> Core<K, D> {
 
     fn close_at(&mut self, moment: u64, session: Session, cause: Cause) -> bool
         requires { self.old.state.moment ≤ moment }
-        ensures { MatchBool result
+        ensures closes { MatchBool result
             (Closes moment session.serial (cause_view cause) self.old self.new)
             ((self.new ≡ self.old) × (is_open self.old.state session.serial ≡ false)) }
+        ensures honest { K.is_honest self.new.keeper → K.is_honest self.old.keeper }
     {
         if !self.is_open(session) {
             return false;
@@ -424,7 +435,8 @@ impl<K: Keeper + Drop, D: Draws + Drop> Core<K, D> {
     fn close_open(&mut self, moment: u64, session: Session, cause: Cause)
         requires moment { self.old.state.moment ≤ moment }
         requires open { is_open self.old.state session.serial ≡ true }
-        ensures { Closes moment session.serial (cause_view cause) self.old self.new }
+        ensures closes { Closes moment session.serial (cause_view cause) self.old self.new }
+        ensures honest { K.is_honest self.new.keeper → K.is_honest self.old.keeper }
     {
         self.history.push(entry_without_choice(self.alloc, moment, Event::Close(session, cause)));
         self.live.close(session.serial);
@@ -434,7 +446,8 @@ impl<K: Keeper + Drop, D: Draws + Drop> Core<K, D> {
     /// Takes a message. If the list of its attempts cannot be allocated, closes its session instead.
     fn take(&mut self, alloc: Global, moment: u64, session: Session, received: Received) -> Stepped
         requires { self.old.state.moment ≤ moment }
-        ensures { StepIs D.draws moment (SpecTake session.serial received) self.old result self.new }
+        ensures steps { StepIs D.draws moment (SpecTake session.serial received) self.old result self.new }
+        ensures honest { K.is_honest self.new.keeper → K.is_honest self.old.keeper }
     {
         if !self.is_open(session) {
             return Stepped::Refused(StepFault::NotOpen);

@@ -28,7 +28,8 @@ impl<K: Keeper + Drop> Live<K> {
         requires untried { self.old.waiting.untried ≡ [] }
         requires room { vec_len attempts.old + length self.old.waiting.outstanding ≤ vec_capacity attempts.old }
         requires first { first ≤ 2 }
-        ensures { Settles K.failed moment first self.old attempts.old.items self.new attempts.new.items }
+        ensures settles { Settles K.failed moment first self.old attempts.old.items self.new attempts.new.items }
+        ensures honest { K.is_honest self.new.database.keeper → K.is_honest self.old.database.keeper }
     {
         self.waiting.begin();
         let mut number = first;
@@ -53,6 +54,7 @@ impl<K: Keeper + Drop> Live<K> {
             → IsSettling K.failed moment first from before self.new attempts.new.items result }
         ensures room { vec_len attempts.new + many self.new.waiting ≤ vec_capacity attempts.new }
         ensures falls { to_do self.new.waiting < to_do self.old.waiting }
+        ensures honest { K.is_honest self.new.database.keeper → K.is_honest self.old.database.keeper }
     {
         let Some(next) = self.waiting.next() else {
             return number;
@@ -90,7 +92,8 @@ impl<K: Keeper + Drop> Live<K> {
 
     /// Does what follows a finished try.
     fn after_try(&mut self, session: u64, outcome: Option<Outcome>)
-        ensures { AfterTry session outcome self.old self.new }
+        ensures after { AfterTry session outcome self.old self.new }
+        ensures database { self.new.database ≡ self.old.database }
     {
         if is_closing(outcome) {
             self.close(session);
@@ -114,6 +117,7 @@ fn try_again<K: Keeper + Drop>(
     ensures queues { outbox.new.queues ≡ outbox.old.queues }
     ensures asks { AsksStore K.failed (outcome_in result) database.old database.new }
     ensures counts { K.failed database.old.keeper ≤ K.failed database.new.keeper }
+    ensures honest { K.is_honest database.new.keeper → K.is_honest database.old.keeper }
     ensures counted { tries.new ≡ tries.old + 1 }
 {
     let asked = Asked {

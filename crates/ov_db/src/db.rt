@@ -213,6 +213,8 @@ impl<K: Keeper + Drop> Db<K> {
     pub fn shows_left(&self)
         ensures held { K.is_honest self.now.keeper → MayHold (K.leaves self.now.keeper) (compact_text self.now.schema.tree) self.now.committed self.now.sealed }
         ensures found { K.is_honest self.now.keeper → MayFind (K.leaves self.now.keeper) self.now.schema self.now.committed self.now.sealed }
+        // An open finds something.
+        ensures some { K.is_honest self.now.keeper → ∥ ((held : Contents) × K.leaves self.now.keeper held) ∥₁ }
     {
         let _keeper = &self.keeper;
     }

@@ -64,6 +64,7 @@ where
     ensures goes { (moment : ℕ) → GoesOn moment hall.old.desk.core hall.old.desk.lanes.items hall.new.desk.core hall.new.desk.lanes.items }
     ensures answer { (bells parts : ℕ) → Admits bells parts hall.old.desk.core hall.old.desk.lanes.items result hall.new.desk.core hall.new.desk.lanes.items }
     ensures seats { AreSeats hall.new.keeps hall.new.desk.lanes.items hall.new.workers.items }
+    ensures honest { K.is_honest hall.new.desk.core.keeper → K.is_honest hall.old.desk.core.keeper }
 {
     let Started {
         inbound,
@@ -104,6 +105,7 @@ where
     ensures goes { (moment : ℕ) → GoesOn moment hall.old.desk.core hall.old.desk.lanes.items hall.new.desk.core hall.new.desk.lanes.items }
     ensures answer { Admits (vec_len bells.now) hall.old.parts.left hall.old.desk.core hall.old.desk.lanes.items result hall.new.desk.core hall.new.desk.lanes.items }
     ensures seats { AreSeats hall.new.keeps hall.new.desk.lanes.items hall.new.workers.items }
+    ensures honest { K.is_honest hall.new.desk.core.keeper → K.is_honest hall.old.desk.core.keeper }
 {
     let Some(at) = free_place(&hall.desk.lanes) else {
         return Admitted::Full;

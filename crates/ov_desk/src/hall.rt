@@ -105,6 +105,7 @@ where
         ensures goes { (moment : ℕ) → GoesOn moment self.old.desk.core self.old.desk.lanes.items self.new.desk.core self.new.desk.lanes.items }
         ensures same { (self.new.keeps ≡ self.old.keeps) × (self.new.accepted ≡ self.old.accepted) }
         ensures seats { AreSeats self.new.keeps self.new.desk.lanes.items self.new.workers.items }
+        ensures core { self.new.desk.core ≡ self.old.desk.core }
     {
         let _lane = take_out(&mut self.desk.lanes, at);
         if let Some(workers) = take_out(&mut self.workers, at) {
@@ -122,6 +123,7 @@ where
         ensures same { (self.new.keeps ≡ self.old.keeps) × (self.new.accepted ≡ self.old.accepted) }
         ensures kept { self.old.keeps ≡ true → StayAs IsTended self.old.desk.lanes.items self.new.desk.lanes.items × (self.new.workers ≡ self.old.workers) }
         ensures seats { AreSeats self.new.keeps self.new.desk.lanes.items self.new.workers.items }
+        ensures core { self.new.desk.core ≡ self.old.desk.core }
     {
         let Some(bell) = bells.get(at) else {
             return;
@@ -140,6 +142,7 @@ where
         ensures same { (self.new.keeps ≡ self.old.keeps) × (self.new.accepted ≡ self.old.accepted) }
         ensures kept { self.old.keeps ≡ true → StayAs IsTended self.old.desk.lanes.items self.new.desk.lanes.items × (self.new.workers ≡ self.old.workers) }
         ensures seats { AreSeats self.new.keeps self.new.desk.lanes.items self.new.workers.items }
+        ensures core { self.new.desk.core ≡ self.old.desk.core }
     {
         for at in 0..self.desk.lanes.len() {
             self.tend_at(rt, bells, at);

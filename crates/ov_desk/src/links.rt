@@ -94,6 +94,7 @@ where
     requires parts { vec_len bells.now ≤ parts.left }
     ensures opened { IfOk result (λ o. IsOpened (vec_len bells.now) core.old core.new o) }
     ensures refused { IfErr result (λ fault. RefusesLinks (vec_len bells.now) core.old fault core.new) }
+    ensures honest { K.is_honest core.new.keeper → K.is_honest core.old.keeper }
 {
     shows_nothing_opened(core);
     let room = room_for(common.alloc, bells.len())?;
@@ -170,8 +171,9 @@ where
     W: Sink + Send + Drop + 's,
     C: Clock,
     requires { (old : CoreState K D) × IsOpened (deque_len links) old core opened }
-    ensures { (old : CoreState K D) → IsOpened (deque_len links) old core opened
+    ensures served { (old : CoreState K D) → IsOpened (deque_len links) old core opened
         → ServesAll (source_of S.Source) (sink_of W.Sink) C.tells old clock.old result.desk.core clock.new links.items result.ends.items }
+    ensures honest { K.is_honest result.desk.core.keeper → K.is_honest core.keeper }
 {
     let Opened {
         started,
@@ -227,6 +229,8 @@ where
     ensures served { IfOk result (λ s. ServesAll (source_of S.Source) (sink_of W.Sink) C.tells core clock.old s.desk.core clock.new links.items s.ends.items) }
     ensures refused { IfErr result (λ r. RefusesLinks (deque_len links) core r.fault r.desk.core × (r.links.items ≡ links.items)) }
     ensures untouched { OnErr result (clock.new ≡ clock.old) }
+    ensures honest { IfOk result (λ s. K.is_honest s.desk.core.keeper → K.is_honest core.keeper) }
+    ensures honest_refused { IfErr result (λ r. K.is_honest r.desk.core.keeper → K.is_honest core.keeper) }
 {
     let (served, _clock) = thread::scope(
         thread::scope_env(),
@@ -239,6 +243,8 @@ where
             ensures refused { IfErr result.0 (λ r. RefusesLinks (deque_len links) core r.fault r.desk.core × (r.links.items ≡ links.items)) }
             ensures untouched { OnErr result.0 (result.1.now ≡ clock.entry.now) }
             ensures same_clock { result.1.ghost_name ≡ clock.entry.ghost_name }
+            ensures honest { IfOk result.0 (λ s. K.is_honest s.desk.core.keeper → K.is_honest core.keeper) }
+            ensures honest_refused { IfErr result.0 (λ r. K.is_honest r.desk.core.keeper → K.is_honest core.keeper) }
         {
             let mut core = core;
             match open_all(common, scope, bells, &mut core, parts) {
@@ -292,6 +298,8 @@ where
     ensures served { IfOk result (λ s. ServesAll (source_of S.Source) (sink_of W.Sink) C.tells core clock.old s.desk.core clock.new links.items s.ends.items) }
     ensures refused { IfErr result (λ r. RefusesLinks (deque_len links) core r.fault r.desk.core × (r.links.items ≡ links.items)) }
     ensures untouched { OnErr result (clock.new ≡ clock.old) }
+    ensures honest { IfOk result (λ s. K.is_honest s.desk.core.keeper → K.is_honest core.keeper) }
+    ensures honest_refused { IfErr result (λ r. K.is_honest r.desk.core.keeper → K.is_honest core.keeper) }
 {
     let (book, all) = blank.open::<L>();
     let (Ok(order), Ok(bells)) = (Order::new(alloc, book), all_bells(alloc, links.len())) else {
@@ -354,6 +362,8 @@ where
     ensures served { IfOk result (λ s. ServesAll (source_of S.Source) (sink_of W.Sink) C.tells desk.core clock.old s.desk.core clock.new links.items s.ends.items) }
     ensures refused { IfErr result (λ r. RefusesLinks (deque_len links) desk.core r.fault r.desk.core × (r.links.items ≡ links.items)) }
     ensures untouched { OnErr result (clock.new ≡ clock.old) }
+    ensures honest { IfOk result (λ s. K.is_honest s.desk.core.keeper → K.is_honest desk.core.keeper) }
+    ensures honest_refused { IfErr result (λ r. K.is_honest r.desk.core.keeper → K.is_honest desk.core.keeper) }
 {
     let core = desk.into_core();
     if !has_places(&core, links.len()) {

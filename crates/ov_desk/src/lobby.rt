@@ -133,6 +133,7 @@ where
     ensures refused { IfErr result (λ r. (r.desk.core ≡ hall.desk.core) × (r.listener ≡ door.listener)) }
     ensures fault { IfErr result (λ r. r.fault ≡ serve_fault.Threads) }
     ensures untouched { OnErr result (clock.new ≡ clock.old) }
+    ensures honest { IfOk result (λ d. K.is_honest d.core.keeper → K.is_honest hall.desk.core.keeper) }
 {
     let Door {
         listener,
@@ -188,6 +189,7 @@ where
     ensures refused { IfErr result (λ r. (r.desk.core ≡ hall.desk.core) × (r.listener ≡ door.listener)) }
     ensures fault { IfErr result (λ r. r.fault ≡ serve_fault.Threads) }
     ensures untouched { OnErr result (clock.new ≡ clock.old) }
+    ensures honest { IfOk result (λ d. K.is_honest d.core.keeper → K.is_honest hall.desk.core.keeper) }
 {
     let (served, _clock) = thread::scope(
         thread::scope_env(),
@@ -200,6 +202,7 @@ where
             ensures fault { IfErr result.0 (λ r. r.fault ≡ serve_fault.Threads) }
             ensures untouched { OnErr result.0 (result.1.now ≡ clock.entry.now) }
             ensures same_clock { result.1.ghost_name ≡ clock.entry.ghost_name }
+            ensures honest { IfOk result.0 (λ d. K.is_honest d.core.keeper → K.is_honest hall.desk.core.keeper) }
         {
             let served = serve_scoped(common, scope, bells, hall, door, clock);
             (served, clock)
@@ -234,6 +237,7 @@ where
     ensures refused { IfErr result (λ r. (r.desk.core ≡ core) × (r.listener ≡ listener)) }
     ensures fault { IfErr result (λ r. (r.fault ≡ serve_fault.Memory) ⊎ (r.fault ≡ serve_fault.Threads)) }
     ensures untouched { OnErr result (clock.new ≡ clock.old) }
+    ensures honest { IfOk result (λ d. K.is_honest d.core.keeper → K.is_honest core.keeper) }
 {
     let (book, all) = blank.open::<L>();
     let Ok(room) = take_room(alloc, book) else {
@@ -316,6 +320,7 @@ where
     ensures refused { IfErr result (λ r. (r.desk.core ≡ desk.core) × (r.listener ≡ listener)) }
     ensures fault { IfErr result (λ r. (r.fault ≡ serve_fault.Memory) ⊎ (r.fault ≡ serve_fault.Threads)) }
     ensures untouched { OnErr result (clock.new ≡ clock.old) }
+    ensures honest { IfOk result (λ d. K.is_honest d.core.keeper → K.is_honest desk.core.keeper) }
 {
     serve_as::<R, K, D, Brand, G, S, W, T, C>(
         rt,

@@ -43,6 +43,7 @@ fn turn_once_seen<R: Wait, K: Keeper + Drop, D: Draws + Drop>(
     ensures goes { GoesOn moment desk.old.core desk.old.lanes.items desk.new.core desk.new.lanes.items }
     ensures rings { StayAs SameLane desk.old.lanes.items desk.new.lanes.items }
     ensures taken { TakesNoted serial desk.old.lanes.items result desk.new.lanes.items }
+    ensures honest { K.is_honest desk.new.core.keeper → K.is_honest desk.old.core.keeper }
 {
     if place_of(&desk.lanes, serial).is_none() {
         return false;
@@ -74,6 +75,7 @@ where
     requires seats { AreSeats hall.old.keeps hall.old.desk.lanes.items hall.old.workers.items }
     ensures goes { (moment : ℕ) → GoesOn moment hall.old.desk.core hall.old.desk.lanes.items hall.new.desk.core hall.new.desk.lanes.items }
     ensures seats { AreSeats hall.new.keeps hall.new.desk.lanes.items hall.new.workers.items }
+    ensures honest { K.is_honest hall.new.desk.core.keeper → K.is_honest hall.old.desk.core.keeper }
 {
     let Some(ring) = &mut hall.accepted else {
         return;
@@ -110,6 +112,7 @@ where
     ensures goes { GoesOn moment hall.old.desk.core hall.old.desk.lanes.items hall.new.desk.core hall.new.desk.lanes.items }
     ensures kept { KeepsHall (note ∷ []) hall.old.keeps hall.old.accepted hall.old.desk.lanes.items hall.old.workers hall.new.keeps hall.new.accepted hall.new.desk.lanes.items hall.new.workers }
     ensures seats { AreSeats hall.new.keeps hall.new.desk.lanes.items hall.new.workers.items }
+    ensures honest { K.is_honest hall.new.desk.core.keeper → K.is_honest hall.old.desk.core.keeper }
 {
     if note == LOBBY && hall.accepted.is_some() {
         accept_once_seen(common, scope, bells, hall);
@@ -140,6 +143,7 @@ where
     ensures goes { GoesOn moment hall.old.desk.core hall.old.desk.lanes.items hall.new.desk.core hall.new.desk.lanes.items }
     ensures kept { KeepsHall (option_to_list note) hall.old.keeps hall.old.accepted hall.old.desk.lanes.items hall.old.workers hall.new.keeps hall.new.accepted hall.new.desk.lanes.items hall.new.workers }
     ensures seats { AreSeats hall.new.keeps hall.new.desk.lanes.items hall.new.workers.items }
+    ensures honest { K.is_honest hall.new.desk.core.keeper → K.is_honest hall.old.desk.core.keeper }
 {
     // If an allocation fails here, the transactions get their turn with the next note.
     let _ = hall.desk.core.pass_where_due(common.alloc, moment);
@@ -180,6 +184,7 @@ where
     ensures kept { (notes : List ℕ) × (taken.new.serials ≡ taken.old.serials ++ notes)
         × KeepsHall notes hall.old.keeps hall.old.accepted hall.old.desk.lanes.items hall.old.workers hall.new.keeps hall.new.accepted hall.new.desk.lanes.items hall.new.workers }
     ensures seats { AreSeats hall.new.keeps hall.new.desk.lanes.items hall.new.workers.items }
+    ensures honest { K.is_honest hall.new.desk.core.keeper → K.is_honest hall.old.desk.core.keeper }
 {
     let mut is_busy = true;
     for _ in common.rt.forever() {

@@ -96,7 +96,7 @@ no_other_table : get tables (codes "Swich") ≡ None
 unfolding tables
 no_other_table = get-from_entries name_cmp_total ((codes "Switch", switch) ∷ []) (codes "Swich")
 
-entries-tables : entries tables ≡ (codes "Switch", switch) ∷ []
+pub entries-tables : entries tables ≡ (codes "Switch", switch) ∷ []
 unfolding tables
 entries-tables = entries-from_entries name_cmp_total name_cmp-IsAntisymmetric ((codes "Switch", switch) ∷ []) tt
 
@@ -128,7 +128,7 @@ insert_members row = object (member (codes "op") (string (codes "insert")) (memb
 abbrev pub insert_s1 : Data
 insert_s1 = insert_members (object (member (codes "load") (number (unsigned 4)) (member (codes "name") (string (codes "s1")) no_members)))
 
-abbrev insert_s2 : Data
+abbrev pub insert_s2 : Data
 insert_s2 = insert_members (object (member (codes "load") (number (unsigned 4)) (member (codes "name") (string (codes "s2")) no_members)))
 
 abbrev pub s1_columns : Columns
@@ -202,7 +202,7 @@ insert_is_answered = refl
 
 -- ---- the select
 
-abbrev select_of : List ℕ → Data
+abbrev pub select_of : List ℕ → Data
 select_of table = object (member (codes "op") (string (codes "select")) (member (codes "table") (string table) (member (codes "where") (array no_items) no_members)))
 
 abbrev uuid_tree : uuid.Uuid → Data

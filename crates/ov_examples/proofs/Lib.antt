@@ -19,3 +19,5 @@ mod IntegrityRows
 mod LockRows
 mod MonitorRows
 mod UpdateRows
+mod DatabaseRows
+mod MemoryRows

@@ -21,7 +21,7 @@ use Rattle.ov_examples.proofs.InsertRows.{net0, switch_table, name_column, entri
 -- ---- states with monitors
 
 -- of this name: the names of switches, at each kind of change
-abbrev on_name : Data → Monitor
+abbrev pub on_name : Data → Monitor
 on_name id = record {
   id = id;
   tables = record { table = codes "Switch"; initial = Some (codes "name" ∷ []); insert = Some (codes "name" ∷ []); delete = Some (codes "name" ∷ []); modify = Some (codes "name" ∷ []) } ∷ [];
@@ -31,10 +31,10 @@ on_name id = record {
 abbrev watched : List Monitor → List Monitor → State
 watched first second = record (opening net0 empty) { sessions = record { serial = 1; monitors = first } ∷ record { serial = 2; monitors = second } ∷ []; next = 3 }
 
-abbrev id : ℕ → Data
+abbrev pub id : ℕ → Data
 id n = number (unsigned n)
 
-abbrev m : Data
+abbrev pub m : Data
 m = string (codes "m")
 
 -- at moment 0, with nothing drawn
@@ -47,10 +47,10 @@ answers s tree = Some (record { state = s; sent = record { session = 1; tree = t
 
 -- ---- a monitor comes
 
-abbrev requests : Data
+abbrev pub requests : Data
 requests = object (member (codes "Switch") (array (item (object (member (codes "columns") (array (item (string (codes "name")) no_items)) no_members)) no_items)) no_members)
 
-abbrev monitor : List ℕ → ℕ → Data → Data → Message
+abbrev pub monitor : List ℕ → ℕ → Data → Data → Message
 monitor database n name asked = Call (id n) (codes "monitor") (item (string database) (item name (item asked no_items)))
 
 asked_for : added net0 [] m requests ≡ Ok (on_name m ∷ [])
@@ -138,7 +138,7 @@ told name =
     rw entries-nothing (rw entries-with_s1 (rw entries-of_one (rw (get-empty line_cmp the_key, get-insert key_total empty the_key s1 the_key)
     (rw name-given (rw (entries-one (Text (codes "s1"))) refl)))))
 
-differ : same_database empty with_s1 ≡ false
+pub differ : same_database empty with_s1 ≡ false
 differ = rw (entries-nothing, entries-with_s1) refl
 
 abbrev inserts : Outcome → Entry

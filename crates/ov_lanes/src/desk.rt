@@ -51,6 +51,7 @@ impl<K: Keeper + Drop, D: Draws + Drop> Desk<K, D> {
         ensures goes { GoesOn moment self.old.core self.old.lanes.items self.new.core self.new.lanes.items }
         ensures rings { StayAs SameLane self.old.lanes.items self.new.lanes.items }
         ensures turns { Turns serial self.old.core self.old.lanes.items result self.new.core self.new.lanes.items }
+        ensures honest { K.is_honest self.new.core.keeper → K.is_honest self.old.core.keeper }
     {
         let Some(at) = place_of(&self.lanes, serial) else {
             return false;
@@ -68,6 +69,7 @@ impl<K: Keeper + Drop, D: Draws + Drop> Desk<K, D> {
         ensures goes { (moment : ℕ) → GoesOn moment self.old.core self.old.lanes.items self.new.core self.new.lanes.items }
         ensures rings { StayAs PutsAlone self.old.lanes.items self.new.lanes.items }
         ensures flushed { AreFlushed self.new.core self.new.lanes.items }
+        ensures honest { K.is_honest self.new.core.keeper → K.is_honest self.old.core.keeper }
     {
         flush_all(&mut self.core, &mut self.lanes);
     }

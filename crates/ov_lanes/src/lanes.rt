@@ -19,6 +19,7 @@ fn flush_place<K: Keeper + Drop, D: Draws + Drop>(
     ensures moves { (at : ℕ) (first : CoreState K D) (since : Since first core.old) → PlaceFits since place.old → MovesPlace at since place.old core.new place.new }
     ensures gives_up { GivesUpIf result core.old place.old core.new place.new }
     ensures rings { StaysAs PutsAlone place.old place.new }
+    ensures honest { K.is_honest core.new.keeper → K.is_honest core.old.keeper }
 {
     match place {
         Some(lane) => flush(core, lane),
@@ -37,6 +38,7 @@ fn flush_at<K: Keeper + Drop, D: Draws + Drop>(
     ensures rings { StayAs PutsAlone lanes.old.items lanes.new.items }
     ensures fewer { MatchBool result (unmarked lanes.new.items < unmarked lanes.old.items) (unmarked lanes.new.items ≤ unmarked lanes.old.items) }
     ensures flushed { result ≡ false → AreFlushedBelow at core.old lanes.old.items → AreFlushedBelow (at + 1) core.new lanes.new.items }
+    ensures honest { K.is_honest core.new.keeper → K.is_honest core.old.keeper }
 {
     let place = &mut lanes[at];
     flush_place(core, place)
@@ -51,6 +53,7 @@ fn flush_each<K: Keeper + Drop, D: Draws + Drop>(
     ensures rings { StayAs PutsAlone lanes.old.items lanes.new.items }
     ensures fewer { result ≡ true → unmarked lanes.new.items < unmarked lanes.old.items }
     ensures flushed { result ≡ false → AreFlushed core.new lanes.new.items }
+    ensures honest { K.is_honest core.new.keeper → K.is_honest core.old.keeper }
 {
     let mut any = false;
     for at in 0..lanes.len() {
@@ -73,6 +76,7 @@ pub(crate) fn flush_all<K: Keeper + Drop, D: Draws + Drop>(
     ensures goes { (moment : ℕ) → GoesOn moment core.old lanes.old.items core.new lanes.new.items }
     ensures rings { StayAs PutsAlone lanes.old.items lanes.new.items }
     ensures flushed { AreFlushed core.new lanes.new.items }
+    ensures honest { K.is_honest core.new.keeper → K.is_honest core.old.keeper }
 {
     loop {
         if !flush_each(core, lanes) {
@@ -91,6 +95,7 @@ fn take_place<K: Keeper + Drop, D: Draws + Drop>(
     ensures moves { (first : CoreState K D) (since : Since first core.old) → PlaceFits since place.old → MovesPlace moment since place.old core.new place.new }
     ensures rings { StaysAs SameLane place.old place.new }
     ensures taken { MatchBool result (TakesPlace place.old place.new) ((core.new ≡ core.old) × StaysAs LooksAt place.old place.new) }
+    ensures honest { K.is_honest core.new.keeper → K.is_honest core.old.keeper }
 {
     match place {
         Some(lane) => take(core, alloc, moment, lane),
@@ -110,6 +115,7 @@ pub(crate) fn take_at<K: Keeper + Drop, D: Draws + Drop>(
     ensures goes { GoesOn moment core.old lanes.old.items core.new lanes.new.items }
     ensures rings { StayAs SameLane lanes.old.items lanes.new.items }
     ensures taken { MatchBool result (TakesAt at lanes.old.items lanes.new.items) ((core.new ≡ core.old) × LookAll lanes.old.items lanes.new.items) }
+    ensures honest { K.is_honest core.new.keeper → K.is_honest core.old.keeper }
 {
     let place = &mut lanes[at];
     take_place(core, alloc, moment, place)

@@ -32,6 +32,7 @@ fn move_frames<K: Keeper + Drop, D: Draws + Drop>(core: &mut Core<K, D>, lane: &
     ensures inbound { SameInbound lane.old lane.new }
     ensures cause { lane.new.cause ≡ lane.old.cause }
     ensures unmarked { lane.new.marked ≡ false }
+    ensures honest { K.is_honest core.new.keeper → K.is_honest core.old.keeper }
 {
     loop {
         let has_room = lane.outbound.slots() >= 2;
@@ -52,6 +53,7 @@ fn close<K: Keeper + Drop, D: Draws + Drop>(core: &mut Core<K, D>, lane: &mut La
     ensures inbound { SameInbound lane.old lane.new }
     ensures outbound { lane.new.outbound ≡ lane.old.outbound }
     ensures marked { lane.new.marked ≡ lane.old.marked }
+    ensures honest { K.is_honest core.new.keeper → K.is_honest core.old.keeper }
 {
     if core.close(lane.session, cause) {
         lane.cause = Some(cause);
@@ -64,6 +66,7 @@ fn give_up<K: Keeper + Drop, D: Draws + Drop>(core: &mut Core<K, D>, lane: &mut 
     ensures inbound { SameInbound lane.old lane.new }
     ensures outbound { lane.new.outbound ≡ lane.old.outbound }
     ensures marked { lane.new.marked ≡ lane.old.marked }
+    ensures honest { K.is_honest core.new.keeper → K.is_honest core.old.keeper }
 {
     close(core, lane, Cause::Overrun);
     core.discard(lane.session);
@@ -92,6 +95,7 @@ pub(crate) fn flush<K: Keeper + Drop, D: Draws + Drop>(
     ensures flushes { (at : ℕ) (first : CoreState K D) (since : Since first core.old) (items : Items) → LaneFitsWith since items lane.old → Flushes at since items lane.old core.new lane.new }
     ensures gives_up { GivesUpIf result core.old (Some lane.old) core.new (Some lane.new) }
     ensures inbound { SameInbound lane.old lane.new }
+    ensures honest { K.is_honest core.new.keeper → K.is_honest core.old.keeper }
 {
     if lane.marked {
         return false;
@@ -127,7 +131,8 @@ fn take_message<K: Keeper + Drop, D: Draws + Drop>(
     session: Session,
     message: Received,
 )
-    ensures { (answer : SpecStepped) × StepIs D.draws (max moment core.old.state.moment) (machine.Take session.serial message) core.old answer core.new }
+    ensures takes { (answer : SpecStepped) × StepIs D.draws (max moment core.old.state.moment) (machine.Take session.serial message) core.old answer core.new }
+    ensures honest { K.is_honest core.new.keeper → K.is_honest core.old.keeper }
 {
     let _ = core.step(alloc, moment, Event::Take(session, message));
 }
@@ -142,6 +147,7 @@ fn take_end<K: Keeper + Drop, D: Draws + Drop>(
     ensures ended { lane.new.ended ≡ true }
     ensures rings { (lane.new.outbound ≡ lane.old.outbound) × (lane.new.inbound ≡ lane.old.inbound) }
     ensures same { (lane.new.session ≡ lane.old.session) × (lane.new.marked ≡ lane.old.marked) }
+    ensures honest { K.is_honest core.new.keeper → K.is_honest core.old.keeper }
 {
     lane.ended = true;
     close(core, lane, cause_of(cause));
@@ -158,6 +164,7 @@ fn take_item<K: Keeper + Drop, D: Draws + Drop>(
     ensures takes { TakesItem D.draws moment item lane.old.session.serial core.old core.new lane.old.cause lane.new.cause lane.old.ended lane.new.ended }
     ensures rings { (lane.new.outbound ≡ lane.old.outbound) × (lane.new.inbound ≡ lane.old.inbound) }
     ensures same { (lane.new.session ≡ lane.old.session) × (lane.new.marked ≡ lane.old.marked) }
+    ensures honest { K.is_honest core.new.keeper → K.is_honest core.old.keeper }
 {
     match item {
         Brought::Message(message) => take_message(core, alloc, moment, lane.session, message),
@@ -179,6 +186,7 @@ pub(crate) fn take<K: Keeper + Drop, D: Draws + Drop>(
     ensures taken { MatchBool result
         ((item : SpecBrought Message SpecReadCause) × (received lane.new.inbound ≡ received lane.old.inbound ++ item ∷ []))
         ((core.new ≡ core.old) × LooksAt lane.old lane.new) }
+    ensures honest { K.is_honest core.new.keeper → K.is_honest core.old.keeper }
 {
     let Ok(item) = lane.inbound.pop() else {
         return false;

@@ -11,7 +11,8 @@ use std::collections::VecDeque;
 
 /// Closes a session as out of memory, and drops what waits for it. Does nothing if it is not open. Allocates nothing.
 fn drop_session<K: Keeper + Drop, D: Draws + Drop>(core: &mut Core<K, D>, session: Session)
-    ensures { DropsSession session.serial core.old core.new }
+    ensures drops { DropsSession session.serial core.old core.new }
+    ensures honest { K.is_honest core.new.keeper → K.is_honest core.old.keeper }
 {
     if core.close(session, Cause::Memory) {
         core.discard(session);
@@ -31,7 +32,8 @@ fn close_sessions<K: Keeper + Drop, D: Draws + Drop>(
     core: &mut Core<K, D>,
     sessions: VecDeque<Session>,
 )
-    ensures { (start : CoreState K D) → AreSessions start.state.next sessions.items → OpensAll start start.state.next (deque_len sessions) core.old → ClosesAgain start core.new }
+    ensures closes { (start : CoreState K D) → AreSessions start.state.next sessions.items → OpensAll start start.state.next (deque_len sessions) core.old → ClosesAgain start core.new }
+    ensures honest { K.is_honest core.new.keeper → K.is_honest core.old.keeper }
 {
     let mut sessions = sessions;
     while let Some(session) = sessions.pop_back() {
@@ -49,6 +51,7 @@ pub fn open_sessions<K: Keeper + Drop, D: Draws + Drop>(
     ensures opened { IfSome result (λ sessions. OpensAll core.old core.old.state.next count core.new) }
     ensures serials { IfSome result (λ sessions. AreSessions core.old.state.next sessions.items × (deque_len sessions ≡ count)) }
     ensures refused { IfNone result (ClosesAgain core.old core.new) }
+    ensures honest { K.is_honest core.new.keeper → K.is_honest core.old.keeper }
 {
     shows_nothing_opened(core);
     let Ok(mut sessions) = VecDeque::with_capacity(alloc, count) else {

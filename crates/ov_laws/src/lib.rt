@@ -2,14 +2,14 @@
 #![tactic(auto)]
 
 ghost use Rattle.std.specs.List.{list_all};
-ghost use Rattle.std.specs.Prelude.{◌≡◌, ◌≢◌, ◌⊎◌, ◌↔◌, ◌++◌, ◌+◌, ◌-◌, ◌*◌, ◌<◌, ◌≤◌, ℕ, List, [], Option, Some, None, is_some, not, true, false, length, Ok};
+ghost use Rattle.std.specs.Prelude.{◌≡◌, ◌≢◌, ◌⊎◌, ◌↔◌, ◌++◌, ◌+◌, ◌-◌, ◌*◌, ◌<◌, ◌≤◌, ℕ, List, [], ◌∷◌, Option, Some, None, is_some, not, true, false, length, Ok};
 ghost use Rattle.serde_json.specs.Data.{Data, Items};
 ghost use Rattle.ov_specs.specs.wire.Cut.{Cut, cut, cut_from, IsCut, continue_cut, with_messages, max_message};
 ghost use Rattle.ov_specs.specs.wire.Message.{asked};
 ghost use Rattle.ov_specs.specs.locks.Queues.{Queues, DoQueuesAscend, HasNoRepeats, queue_of, owner, owns, has_requested};
-ghost use Rattle.ov_specs.specs.machine.Machine.{State, is_open, Entry, Sent, Stepped, Outcome, Committed, NoMemory, Attempt, Outstanding, Passed, Transact, step, works, tries_again, is_kept, settle, results_to, updates_sent, opening};
+ghost use Rattle.ov_specs.specs.machine.Machine.{State, Left, is_open, Entry, Sent, Stepped, Outcome, Committed, NoMemory, Attempt, Outstanding, Passed, Transact, step, works, tries_again, is_kept, settle, results_to, updates_sent, opening};
 ghost use Rattle.ov_specs.specs.operations.OpOutcome.{empty_result};
-ghost use Rattle.ov_specs.specs.operations.Transaction.{has_error};
+ghost use Rattle.ov_specs.specs.operations.Transaction.{Completes, transaction, has_error};
 ghost use Rattle.ov_specs.specs.machine.Blocked.{AreBlocked};
 ghost use Rattle.ov_specs.specs.machine.Suiting.{SuitsState, IsWholeState, draws_uuids};
 ghost use Rattle.ov_specs.specs.integrity.Committed.{committed, is_whole};
@@ -17,11 +17,13 @@ ghost use Rattle.ov_specs.specs.integrity.Kept.{IsGreatestSupported, kept};
 ghost use Rattle.ov_specs.specs.rows.Suits.{Suits};
 ghost use Rattle.ov_specs.specs.schema.Schema.{accepted, IsAccepted};
 ghost use Rattle.ov_specs.specs.schema.SchemaTypes.{Schema};
-ghost use Rattle.ov_specs.specs.rows.Database.{Database};
+ghost use Rattle.ov_specs.specs.rows.Database.{Database, same_database};
 ghost use Rattle.ov_specs.specs.machine.History.{run, requests, closed_by};
 ghost use Rattle.ov_specs.specs.machine.Streams.{StreamEvent, Streams, ExpandsTimed};
 ghost use Rattle.ov_specs.specs.values.Uuid.{Uuid, is_uuid};
 ghost use Rattle.ov_laws.specs.Asserting.{item_at, Asserts};
+ghost use Rattle.ov_laws.specs.Databases.{databases, kept_by, commits_in, at_moment_of};
+ghost use Rattle.ov_laws.specs.Making.{TakesTransaction, Makes, RepliesTo, takes_another};
 ghost use Rattle.ov_laws.specs.Requests.{AreAskedFor};
 
 /// The relation and the program give the same cuts of every stream.
@@ -160,4 +162,62 @@ pub fn what_is_committed_is_whole()
         → Suits schema before → is_uuid version ≡ true → Suits schema rows → committed schema before version rows ≡ Ok database → Suits schema database }
     ensures stays { (schema : Schema) (before rows : Database) (version : Uuid)
         → Suits schema rows → is_whole schema rows ≡ true → committed schema before version rows ≡ Ok rows }
+{}
+
+/// The databases of a history are the one before it, and the one after each commit that the store keeps. So one follows for
+/// each attempt that is listed as kept.
+pub fn each_commit_adds_a_database()
+    ensures { (before : State) (history : List Entry) (after : Stepped) → run before history ≡ Some after
+        → length (kept_by before history) ≡ length (commits_in history) }
+{}
+
+/// The last database of a history is the state's.
+pub fn the_last_database_is_the_states()
+    ensures { (before : State) (history : List Entry) (after : Stepped) → run before history ≡ Some after
+        → (earlier : List Database) × (databases before history ≡ earlier ++ after.state.database ∷ []) }
+{}
+
+/// From an opening, each database but the first is made of the one before it by one transaction, which the history takes, which
+/// completes without an error among its results, and which changes something (RFC 7047, 4.1.3).
+pub fn each_database_is_made_by_one_transaction()
+    ensures { (schema : Schema) (database : Database) (history : List Entry) (after : Stepped) (earlier later : List Database) (one next : Database)
+        → run (opening schema database) history ≡ Some after → databases (opening schema database) history ≡ earlier ++ one ∷ next ∷ later
+        → Makes schema (TakesTransaction (opening schema database) history) one next }
+{}
+
+/// In the same way the database that a failed commit would have made is made of the last one.
+pub fn a_failed_commit_would_have_made_the_next_database()
+    ensures { (schema : Schema) (database : Database) (history : List Entry) (after : Stepped) (failed : Database)
+        → run (opening schema database) history ≡ Some after → after.state.sealed ≡ Some failed
+        → Makes schema (TakesTransaction (opening schema database) history) after.state.database failed }
+{}
+
+/// Crashes leave the databases of a history in their order. Those of a front are the first of the history's. After each front a
+/// crash leaves the last of the front's, or the one that a failed commit would have made; and after that no other is kept.
+pub fn crashes_leave_the_databases_in_order()
+    ensures front { (before : State) (front back : List Entry) (mid : Stepped) → run before front ≡ Some mid
+        → databases before (front ++ back) ≡ databases before front ++ kept_by mid.state back }
+    ensures left { (before : State) (front : List Entry) (mid : Stepped) (database : Database) → run before front ≡ Some mid → Left mid.state database
+        → ((earlier : List Database) × (databases before front ≡ earlier ++ database ∷ [])) ⊎ (mid.state.sealed ≡ Some database) }
+    ensures sealed { (mid : State) (back : List Entry) (after : Stepped) (failed : Database) → run mid back ≡ Some after → mid.sealed ≡ Some failed
+        → (after.state.sealed ≡ Some failed) × (kept_by mid back ≡ []) }
+{}
+
+/// A reply without an error whose transaction changes the database is sent only by the attempt whose change is kept, when the
+/// transaction arrives and at each later try. So each reply without an error tells of databases of its entry: its transaction,
+/// which the history takes, was tried on one of them, and left it as it was or made the next one of it. Other replies are those
+/// to a message that asks for no transaction.
+pub fn a_change_is_kept_before_its_reply()
+    ensures arrived { (s : State) (session : ℕ) (draws : List Uuid) (outcome : Option Outcome) (id : Data) (operations own results : Items) (database : Database) (before : List Sent) (stepped : Stepped)
+        → works s session draws outcome (Transact id operations) ≡ Some stepped → stepped.sent ≡ before ++ results_to session id results → has_error results ≡ false
+        → transaction s.schema s.database (owns s.queues session) draws 0 operations ≡ Completes own database → same_database s.database database ≡ false
+        → (outcome ≡ Some Committed) × (stepped.state.database ≡ database) }
+    ensures later { (s : State) (waiting : Outstanding) (outcome : Option Outcome) (own results : Items) (database : Database) (before : List Sent) (stepped : Stepped)
+        → tries_again s waiting outcome ≡ Some stepped → stepped.sent ≡ before ++ results_to waiting.session waiting.id results → has_error results ≡ false
+        → transaction s.schema s.database (owns s.queues waiting.session) waiting.draws (s.moment - waiting.arrival) waiting.operations ≡ Completes own database → same_database s.database database ≡ false
+        → (outcome ≡ Some Committed) × (stepped.state.database ≡ database) }
+    ensures entry { (schema : Schema) (database : Database) (history : List Entry) (before after : Stepped) (entry : Entry) (session : ℕ) (id : Data) (results : Items) (front back : List Sent)
+        → run (opening schema database) history ≡ Some before → step before.state entry ≡ Some after → takes_another (at_moment_of entry before.state) entry.event ≡ false
+        → after.sent ≡ front ++ (results_to session id results ++ back) → has_error results ≡ false
+        → RepliesTo schema (TakesTransaction (opening schema database) (history ++ entry ∷ [])) (databases before.state (entry ∷ [])) session id results }
 {}

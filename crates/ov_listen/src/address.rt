@@ -35,7 +35,8 @@ where
     K: Keeper + Drop,
     D: Draws + Drop,
     C: Clock,
-    ensures { EndsAddress C.tells core clock.old count result.ending result.core clock.new }
+    ensures ends { EndsAddress C.tells core clock.old count result.ending result.core clock.new }
+    ensures honest { K.is_honest result.core.keeper → K.is_honest core.keeper }
 {
     match listening(rt, alloc, address) {
         Ok(listener) => match count {

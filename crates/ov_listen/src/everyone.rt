@@ -32,7 +32,8 @@ where
     K: Keeper + Drop,
     D: Draws + Drop,
     C: Clock,
-    ensures { EndsEveryone C.tells core clock.old result.ending result.core clock.new }
+    ensures ends { EndsEveryone C.tells core clock.old result.ending result.core clock.new }
+    ensures honest { K.is_honest result.core.keeper → K.is_honest core.keeper }
 {
     let clients = Clients::new(alloc, listener);
     match serve_lobby(rt, alloc, Desk::new(alloc, core), clients, &FreeGate, clock) {

@@ -83,8 +83,9 @@ where
     S: Source,
     W: Sink,
     C: Clock,
-    ensures { EndsPlace C.tells place core (state_of S.Source W.Sink pipes.old) result.ending
+    ensures ends { EndsPlace C.tells place core (state_of S.Source W.Sink pipes.old) result.ending
         result.core (state_of S.Source W.Sink pipes.new) }
+    ensures honest { K.is_honest result.core.keeper → K.is_honest core.keeper }
 {
     match place {
         Place::Pipes => {

@@ -38,9 +38,7 @@ impl Queue {
     pub fn push(&mut self, frame: Bytes) -> bool
         ensures { self.new ≡ (if result then (self.old.0 ++ frame ∷ [], self.old.1) else self.old) }
     {
-        let Some(wanted) = self.places.checked_add(1) else {
-            return false;
-        };
+        let wanted = self.places + 1;
         if self.frames.reserve(wanted).is_err() {
             return false;
         }
@@ -52,9 +50,7 @@ impl Queue {
     pub fn keep_place(&mut self) -> bool
         ensures { self.new ≡ (if result then (self.old.0, self.old.1 + 1) else self.old) }
     {
-        let Some(places) = self.places.checked_add(1) else {
-            return false;
-        };
+        let places = self.places + 1;
         if self.frames.reserve(places).is_err() {
             return false;
         }

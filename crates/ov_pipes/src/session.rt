@@ -23,6 +23,7 @@ pub fn serve_pipes<R: Wait, K: Keeper + Drop, D: Draws + Drop, S: Source, W: Sin
     ensures session { EndsSession C.tells core.old (state_of S.Source W.Sink pipes.old) result
         core.new (state_of S.Source W.Sink pipes.new) }
     ensures kind { (result ≢ Ending.Arguments) × (result ≢ Ending.Schema) }
+    ensures honest { K.is_honest core.new.keeper → K.is_honest core.old.keeper }
 {
     match serve_one(
         rt,

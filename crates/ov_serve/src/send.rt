@@ -17,6 +17,7 @@ pub(crate) fn write_waiting<K: Keeper + Drop, D: Draws + Drop, W: Sink>(
     ensures sends { Sends session.serial result core.old core.new (W.bytes_written writer.old) (W.bytes_written writer.new) }
     ensures given { GivesWritten (W.bytes_written writer.old) (W.contents writer.old) (W.bytes_written writer.new) (W.contents writer.new) }
     ensures state { core.new.state ≡ core.old.state }
+    ensures keeper { core.new.keeper ≡ core.old.keeper }
     ensures flushed { result ≡ true → W.is_flushed writer.new ≡ true }
     ensures faults { CountsFailures result (W.faults writer.old) (W.faults writer.new) }
 {

@@ -50,6 +50,7 @@ pub fn serve_one<R: Wait, K: Keeper + Drop, D: Draws + Drop, S: Source, W: Sink,
     ensures given { IfOk result (λ cause. GivesWritten (W.bytes_written writer.old) (W.contents writer.old) (W.bytes_written writer.new) (W.contents writer.new)) }
     ensures refused { IfErr result (λ fault. (core.new ≡ core.old) × RefusesStep SpecOpen core.old.state fault) }
     ensures untouched { IfErr result (λ fault. (reader.new ≡ reader.old) × (writer.new ≡ writer.old) × (clock.new ≡ clock.old)) }
+    ensures honest { K.is_honest core.new.keeper → K.is_honest core.old.keeper }
 {
     let session = core.open_session()?;
     let mut cutter = Cutter::new(alloc);
@@ -75,6 +76,7 @@ fn serve_session<R: Wait, K: Keeper + Drop, D: Draws + Drop, S: Source, W: Sink,
     ensures input { KeepsInput (S.bytes_read reader.old) (S.remaining reader.old) (S.bytes_read reader.new) (S.remaining reader.new) }
     ensures all { result ≡ Cause.InputEnded → IsAtEnd (S.remaining reader.new) }
     ensures given { GivesWritten (W.bytes_written writer.old) (W.contents writer.old) (W.bytes_written writer.new) (W.contents writer.new) }
+    ensures honest { K.is_honest core.new.keeper → K.is_honest core.old.keeper }
 {
     let mut piece = [0u8; PIECE_BYTES];
     for _ in rt.forever() {
@@ -118,6 +120,7 @@ fn serve_piece<K: Keeper + Drop, D: Draws + Drop, C: Clock>(
     ensures short { length piece.now ≤ most_piece_bytes }
     ensures entered { (stream : List ℕ) → IsFed stream cutter.old
         → ServesPiece C.tells session.serial stream piece.now core.old clock.old (is_ok result) core.new clock.new cutter.new }
+    ensures honest { K.is_honest core.new.keeper → K.is_honest core.old.keeper }
 {
     let at = clock.now();
     feed_session(core, alloc, at, session, cutter, piece);

@@ -1,5 +1,5 @@
 -- What a query returns, and that it keeps the commit.
-use Rattle.std.proofs.Common.{◌≡◌, ◌⊎◌, inl, inr, ℕ, List, [], ◌∷◌, map, codes, refl, sym, ap, subst, ◌∙◌, Option, Some, None, IsTrue, true}
+use Rattle.std.proofs.Common.{◌≡◌, ◌⊎◌, inl, inr, ℕ, List, [], ◌∷◌, map, codes, refl, sym, ap, subst, ◌∙◌, Option, Some, None, Result, Ok, Err, IfOk, IfErr, IsTrue, true}
 use Rattle.std.specs.List.{flat_map}
 use Rattle.std.specs.List.Sorted.{IsPermutation}
 use Rattle.std.proofs.lemmas.List.Sorted.{IsPermutation-map}
@@ -8,7 +8,7 @@ use Rattle.sqlite.specs.declared.error.Error.{Error}
 use Rattle.sqlite.specs.Order.{Row}
 use Rattle.sqlite.specs.Query.{IsAnswer, output, Output}
 use Rattle.sqlite.specs.Program.{overlay}
-use Rattle.sqlite.specs.State.{State, Shown, IsRolledBack, KeepsCommit, ShowsRows, FailsToQuery, FailsToShow, IsNotRun, IsTooLate}
+use Rattle.sqlite.specs.State.{State, Shown, IsRolledBack, IsUnchanged, KeepsCommit, ShowsRows, FailsToQuery, FailsToShow, IsNotRun, IsTooLate}
 use Rattle.sqlite_resolve.specs.declared.compiled.Compiled.{Compiled}
 use Rattle.sqlite_schema.specs.declared.command.Returning.{Returning}
 use Rattle.sqlite.proofs.Callers.{IsPlain, command_of, reads_as}
@@ -108,3 +108,20 @@ rolled_as_before old begun mid new opens settled kept back = record {
   was_open = λ up. opens (kept.was_open (back.was_open up));
   now = λ up. (back.undone up).0 ∙ kept.committed (back.was_open up) ∙ settled (kept.was_open (back.was_open up));
 }
+
+-- a text that was compiled, or was not, leaves a settled connection as it was
+unchanged_as_before : (a b : State) → IsUnchanged a b → IsAsBefore a b
+unchanged_as_before a b same = record { was_open = λ _. same.0.was_open; now = λ _. same.0.now_is }
+
+not_run_as_before : (a b : State) (sql : List ℕ) (params : Row) (e : Error) → IsNotRun a b sql params e → (IsTrue a.is_open → a.now ≡ a.committed) → IsAsBefore a b
+unfolding IsNotRun
+not_run_as_before a b sql params e (inl refused) settled = unchanged_as_before a b refused.1
+not_run_as_before a b sql params e (inr fails) settled = record {
+  was_open = fails.3.was_open;
+  now = λ up. (fails.3.undone up).0 ∙ sym (settled (fails.3.was_open up));
+}
+
+pub prepared_as_before : {T : Type 0} (P : T → Type 0) (a b : State) (sql : List ℕ) (r : Result T Error) → IfOk r (λ s. P s × IsUnchanged a b) → IfErr r (λ e. (params : Row) → IsNotRun a b sql params e)
+    → (IsTrue a.is_open → a.now ≡ a.committed) → IsAsBefore a b
+prepared_as_before P a b sql (Ok s) ok err settled = unchanged_as_before a b ok.1
+prepared_as_before P a b sql (Err e) ok err settled = not_run_as_before a b sql [] e (err []) settled

@@ -7,7 +7,7 @@ ghost use Rattle.ov_keeper.specs.Keeping.{IsCommitFault};
 ghost use Rattle.ov_sqlite.specs.WriteError.{IsBefore};
 ghost use Rattle.ov_sqlite.specs.Changing.{MayBeStored};
 
-use crate::write::{WriteError, is_up};
+use crate::write::{WriteError, probe};
 use ov_keeper::KeepFault;
 use sqlite::{Alter, Connection, Error, ErrorCode};
 
@@ -32,7 +32,8 @@ pub(crate) fn fault_of(error: &Error) -> KeepFault
     refusal(error).unwrap_or(KeepFault::Device)
 }
 
-/// Why a write stopped. On a device that failed, the commit may have gone through; a call that succeeds shows that it did not.
+/// Why a write stopped. On a device that failed, the commit may have gone through; a call that succeeds shows that it did not. That
+/// call takes no memory once the lines were read.
 pub fn fault_at<S: Alter>(conn: &mut Connection<S>, failure: &WriteError) -> KeepFault
     requires { conn.old.in_transaction ≡ false }
     ensures mode { conn.new.in_transaction ≡ false }
@@ -46,7 +47,7 @@ pub fn fault_at<S: Alter>(conn: &mut Connection<S>, failure: &WriteError) -> Kee
         WriteError::Before(error) => return fault_of(error),
         WriteError::AtCommit(error) => error,
     };
-    if is_up(conn) {
+    if probe(conn).is_ok() {
         fault_of(error)
     } else {
         KeepFault::Device

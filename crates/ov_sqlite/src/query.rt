@@ -10,6 +10,7 @@ ghost use Rattle.ov_sqlite.specs.Tables.{HasOurTables};
 ghost use Rattle.ov_sqlite.specs.Querying.{IsAsBefore};
 ghost use Rattle.ov_sqlite.specs.Reading.{line_selected, meta_selected};
 
+use crate::write::probe;
 use sqlite::{Alter, Connection, Error, Row};
 
 /// The rows that a query returns. It runs in a transaction that is rolled back, so nothing is committed.
@@ -42,7 +43,10 @@ pub fn line_rows<S: Alter>(conn: &mut Connection<S>) -> Result<Vec<Row>, Error>
     ensures same { HasCleanDisk (state S.Store conn.new) → IsAsBefore (state S.Store conn.old) (state S.Store conn.new) }
     ensures survives { Survives (state S.Store conn.old) (state S.Store conn.new) (λ _. ⊥) }
 {
-    query(conn, "SELECT rowid,tbl,id,ver,body FROM line")
+    let rows = query(conn, "SELECT rowid,tbl,id,ver,body FROM line")?;
+    // It is asked again after a commit that failed, and then takes no memory.
+    probe(conn)?;
+    Ok(rows)
 }
 
 /// The rows of `meta`.

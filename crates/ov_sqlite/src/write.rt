@@ -6,6 +6,7 @@ ghost use Rattle.ov_specs.specs.rows.Lines.{after_change, after_changes};
 ghost use Rattle.ov_keeper.specs.Views.{change_view, changes_view, line_entry};
 ghost use Rattle.ov_sqlite.specs.WriteError.{IsBefore};
 ghost use Rattle.ov_sqlite.specs.Changing.{MayBeStored, Makes, AddsLine, after_update, Stores, IsCommitImage};
+ghost use Rattle.ov_sqlite.specs.Querying.{IsAsBefore};
 
 use ov_keeper::{Change, Line};
 use sqlite::types::ValueRef;
@@ -161,20 +162,22 @@ pub fn write_all<S: Alter>(conn: &mut Connection<S>, changes: &[Change]) -> Resu
     }
 }
 
-/// Whether the connection is open, found by a call that does nothing else.
-pub(crate) fn is_up<S: Alter>(conn: &mut Connection<S>) -> bool
+/// Asks whether the connection is open, by a call that does nothing else. If it was asked before, this takes no memory: the
+/// connection keeps the statement.
+pub(crate) fn probe<S: Alter>(conn: &mut Connection<S>) -> Result<(), Error>
     requires { conn.old.in_transaction ≡ false }
     ensures mode { conn.new.in_transaction ≡ false }
-    ensures up { HasCleanDisk (state S.Store conn.new) → IsTrue result → IsUnchanged (state S.Store conn.old) (state S.Store conn.new) }
+    ensures up { HasCleanDisk (state S.Store conn.new) → OnOk result (IsUnchanged (state S.Store conn.old) (state S.Store conn.new)) }
+    ensures same { HasCleanDisk (state S.Store conn.new) → IsAsBefore (state S.Store conn.old) (state S.Store conn.new) }
     ensures kept { HasCleanDisk (state S.Store conn.new) → (text : _) → MayBeStored text (state S.Store conn.old) → MayBeStored text (state S.Store conn.new) }
     ensures unmoved { HasCleanDisk (state S.Store conn.new) → KeepsCommit (state S.Store conn.old) (state S.Store conn.new) }
     ensures survives { Survives (state S.Store conn.old) (state S.Store conn.new) (λ _. ⊥) }
 {
     if !conn.is_autocommit() {
-        return false;
+        return Err(Error::InvalidQuery);
     }
     match conn.prepare("") {
-        Ok(_) => true,
-        Err(_) => false,
+        Ok(_) => Ok(()),
+        Err(error) => Err(error),
     }
 }

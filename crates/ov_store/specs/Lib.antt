@@ -6,3 +6,4 @@ pub mod Causes
 pub mod Looking
 pub mod Finding
 pub mod Whole
+pub mod Once

@@ -14,6 +14,7 @@ mod load;
 mod look;
 mod memory;
 mod memory_disk;
+pub mod once;
 mod open;
 mod options;
 mod over;

@@ -23,7 +23,8 @@ pub fn feed_session<K: Keeper + Drop, D: Draws + Drop>(
     piece: &[u8],
 )
     requires { is_open core.old.state session.serial ≡ true }
-    ensures { (stream : List ℕ) → IsFed stream cutter.old → EntersPiece moment session.serial stream piece.now core.old core.new cutter.new }
+    ensures enters { (stream : List ℕ) → IsFed stream cutter.old → EntersPiece moment session.serial stream piece.now core.old core.new cutter.new }
+    ensures honest { K.is_honest core.new.keeper → K.is_honest core.old.keeper }
 {
     let Fed { messages, fault } = cutter.feed(alloc, piece);
     enter_all(core, alloc, moment, session, messages);
@@ -55,7 +56,8 @@ fn enter_all<K: Keeper + Drop, D: Draws + Drop>(
     texts: Vec<Bytes>,
 )
     requires { is_open core.old.state session.serial ≡ true }
-    ensures { EntersTexts moment session.serial texts.items core.old core.new }
+    ensures enters { EntersTexts moment session.serial texts.items core.old core.new }
+    ensures honest { K.is_honest core.new.keeper → K.is_honest core.old.keeper }
 {
     for text in texts {
         enter_one(core, alloc, moment, session, text);
@@ -74,7 +76,8 @@ fn enter_one<K: Keeper + Drop, D: Draws + Drop>(
     text: Bytes,
 )
     requires { is_open core.old.state session.serial ≡ true }
-    ensures { EntersText moment session.serial text core.old core.new }
+    ensures enters { EntersText moment session.serial text core.old core.new }
+    ensures honest { K.is_honest core.new.keeper → K.is_honest core.old.keeper }
 {
     match Received::read(alloc, text) {
         Ok(received) => {
@@ -98,7 +101,8 @@ fn close_at<K: Keeper + Drop, D: Draws + Drop>(
     cause: Cause,
 )
     requires { is_open core.old.state session.serial ≡ true }
-    ensures { ClosesByEntry moment session.serial (cause_view cause) core.old core.new }
+    ensures closes { ClosesByEntry moment session.serial (cause_view cause) core.old core.new }
+    ensures honest { K.is_honest core.new.keeper → K.is_honest core.old.keeper }
 {
     let _ = core.step(alloc, moment, Event::Close(session, cause));
 }

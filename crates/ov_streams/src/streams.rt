@@ -70,6 +70,7 @@ impl<K: Keeper + Drop, D: Draws + Drop> Streams<K, D> {
         ensures whole { IfNone result.refused (result.served ≡ length events.items) }
         // An event follows those that were served, and its step from where they led is refused for this fault.
         ensures refused { IfSome result.refused (λ fault. IsSomeAnd (slice_get events.items result.served) (λ event. RefusesEvent event self.new.core.state fault)) }
+        ensures honest { K.is_honest self.new.core.keeper → K.is_honest self.old.core.keeper }
     {
         let mut served = 0;
         for event in &events {
@@ -110,9 +111,10 @@ impl<K: Keeper + Drop, D: Draws + Drop> Streams<K, D> {
 
     /// Serves one event.
     fn serve(&mut self, alloc: Global, event: &StreamEvent) -> Result<(), StepFault>
-        ensures { MatchResult result
+        ensures serves { MatchResult result
             (λ _. RunsEvents (stream_event_view event.now ∷ []) self.old self.new)
             (λ fault. RunsEvents [] self.old self.new × RefusesEvent event.now self.new.core.state fault) }
+        ensures honest { K.is_honest self.new.core.keeper → K.is_honest self.old.core.keeper }
     {
         match event {
             StreamEvent::Open => self.open(alloc),
@@ -136,9 +138,10 @@ impl<K: Keeper + Drop, D: Draws + Drop> Streams<K, D> {
 
     /// Opens a session, whose cutter is made first.
     fn open(&mut self, alloc: Global) -> Result<(), StepFault>
-        ensures { MatchResult result
+        ensures serves { MatchResult result
             (λ _. RunsEvents (stream_event_view StreamEvent.Open ∷ []) self.old self.new)
             (λ fault. RunsEvents [] self.old self.new × RefusesStep SpecOpen self.new.core.state fault) }
+        ensures honest { K.is_honest self.new.core.keeper → K.is_honest self.old.core.keeper }
     {
         let Some(serial) = self.core.next_serial() else {
             return Err(StepFault::TooMany);
@@ -155,9 +158,10 @@ impl<K: Keeper + Drop, D: Draws + Drop> Streams<K, D> {
 
     /// Lets time pass.
     fn tick(&mut self, alloc: Global, moment: u64) -> Result<(), StepFault>
-        ensures { MatchResult result
+        ensures serves { MatchResult result
             (λ _. RunsEvents (stream_event_view (StreamEvent.Tick moment) ∷ []) self.old self.new)
             (λ fault. RunsEvents [] self.old self.new × RefusesStep SpecTick self.new.core.state fault) }
+        ensures honest { K.is_honest self.new.core.keeper → K.is_honest self.old.core.keeper }
     {
         self.core.tick(alloc, moment)?;
         Ok(())
@@ -165,7 +169,8 @@ impl<K: Keeper + Drop, D: Draws + Drop> Streams<K, D> {
 
     /// Closes the session, whose bytes ended, if it is open.
     fn finish(&mut self, session: u64)
-        ensures { RunsEvents (stream_event_view (StreamEvent.Finish session) ∷ []) self.old self.new }
+        ensures serves { RunsEvents (stream_event_view (StreamEvent.Finish session) ∷ []) self.old self.new }
+        ensures honest { K.is_honest self.new.core.keeper → K.is_honest self.old.core.keeper }
     {
         let session = session_of(session);
         if self.core.is_open(session) {
@@ -175,7 +180,8 @@ impl<K: Keeper + Drop, D: Draws + Drop> Streams<K, D> {
 
     /// Feeds the session, if it is open.
     fn feed(&mut self, alloc: Global, session: u64, bytes: &[u8])
-        ensures { RunsEvents (stream_event_view (StreamEvent.Feed session bytes.now) ∷ []) self.old self.new }
+        ensures serves { RunsEvents (stream_event_view (StreamEvent.Feed session bytes.now) ∷ []) self.old self.new }
+        ensures honest { K.is_honest self.new.core.keeper → K.is_honest self.old.core.keeper }
     {
         let owner = session_of(session);
         if !self.core.is_open(owner) {
@@ -189,7 +195,8 @@ impl<K: Keeper + Drop, D: Draws + Drop> Streams<K, D> {
 
     /// Drops the cutter of the session, if it is closed.
     fn forget(&mut self, session: u64)
-        ensures { RunsEvents [] self.old self.new }
+        ensures serves { RunsEvents [] self.old self.new }
+        ensures core { self.new.core ≡ self.old.core }
     {
         if !self.core.is_open(session_of(session)) {
             self.cutters.remove(&session);
@@ -198,7 +205,8 @@ impl<K: Keeper + Drop, D: Draws + Drop> Streams<K, D> {
 
     /// Drops the cutters of all closed sessions: a step of one session may close others, for which nothing comes afterwards.
     fn forget_closed(&mut self)
-        ensures { RunsEvents [] self.old self.new }
+        ensures serves { RunsEvents [] self.old self.new }
+        ensures core { self.new.core ≡ self.old.core }
     {
         let core = &self.core;
         self.cutters

@@ -76,6 +76,7 @@ pub fn attempt<K: Keeper + Drop, O: Owns, R: Ready<K>>(
     ensures tried { IsTried R.readies (transaction db.old.schema db.old.committed (O.owned owns.now) txn.now.draws age txn.now.operations) db.old ready.old result db.new ready.new }
     ensures cause { HasCause K.failed result db.old db.new }
     ensures counts { K.failed db.old.keeper ≤ K.failed db.new.keeper }
+    ensures honest { K.is_honest db.new.keeper → K.is_honest db.old.keeper }
     ensures counted { tries.new ≡ tries.old + 1 }
 {
     tries.add();
@@ -127,6 +128,7 @@ fn store<K: Keeper + Drop, R: Ready<K>>(
     ensures asked { IsAsked R.readies results delta db.old ready.old result db.new ready.new }
     ensures cause { HasCause K.failed result db.old db.new }
     ensures counts { K.failed db.old.keeper ≤ K.failed db.new.keeper }
+    ensures honest { K.is_honest db.new.keeper → K.is_honest db.old.keeper }
 {
     let Ok(replies) = Replies::new(alloc, results) else {
         return Tried::NoMemory;

@@ -9,7 +9,7 @@ use crate::gate::{Gate, Point};
 use crate::inlet::Inlet;
 use ov_base::Bytes;
 use ov_cut::{CutFault, Cutter, Fed};
-use ov_order::{Bell, Brought};
+use ov_order::Brought;
 use ov_rpc::{Received, RpcFault};
 use std::sync::Wait;
 use std::sync::ledger::Ledger;
@@ -48,11 +48,9 @@ fn bring_texts<R: Wait, L: Ledger, G: Gate>(
     None
 }
 
-/// Brings the messages that a piece of the stream ends. Returns why the stream has ended, if it has. Rings the writer's bell if
-/// there were any: the replies will come soon, and the writer's thread wakes beside the desk's.
+/// Brings the messages that a piece of the stream ends. Returns why the stream has ended, if it has.
 pub(crate) fn bring_piece<R: Wait, L: Ledger, G: Gate>(
     common: Common<'_, R, L, G>,
-    bell: &Bell,
     inlet: &mut Inlet<L>,
     cutter: &mut Cutter,
     piece: &[u8],
@@ -61,12 +59,8 @@ pub(crate) fn bring_piece<R: Wait, L: Ledger, G: Gate>(
     ensures brought { (stream : List ℕ) → IsBrought stream cutter.old (sent inlet.old.ring) → BroughtSoFar result (stream ++ piece.now) cutter.new (sent inlet.new.ring) }
 {
     let Fed { messages, fault } = cutter.feed(common.alloc, piece);
-    let is_any = !messages.is_empty();
     if let Some(cause) = bring_texts(common, inlet, messages) {
         return Some(cause);
-    }
-    if is_any {
-        bell.ring(common.rt);
     }
     match fault {
         Some(fault) => Some(cause_of(fault)),

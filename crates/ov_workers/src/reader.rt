@@ -12,7 +12,7 @@ use crate::gate::Gate;
 use crate::inlet::Inlet;
 use ov_cut::Cutter;
 use ov_ends::Source;
-use ov_order::{Bell, Brought};
+use ov_order::Brought;
 use std::sync::Wait;
 use std::sync::ledger::Ledger;
 
@@ -37,7 +37,6 @@ pub struct ReadEnd<S, L: Ledger> {
 /// It waits while its ring or the order of notes is full, forever if nobody takes anything out.
 pub fn read_worker<R: Wait, L: Ledger, G: Gate, S: Source>(
     common: Common<'_, R, L, G>,
-    bell: &Bell,
     reader: S,
     inlet: Inlet<L>,
 ) -> ReadEnd<S, L>
@@ -48,7 +47,7 @@ pub fn read_worker<R: Wait, L: Ledger, G: Gate, S: Source>(
 {
     let mut reader = reader;
     let mut inlet = inlet;
-    let cause = read_messages(common, bell, &mut inlet, &mut reader);
+    let cause = read_messages(common, &mut inlet, &mut reader);
     bring(common, &mut inlet, Brought::End(cause));
     ReadEnd {
         reader,
@@ -60,7 +59,6 @@ pub fn read_worker<R: Wait, L: Ledger, G: Gate, S: Source>(
 /// Brings the messages of what the reader gives, until the stream ends, and returns why it did.
 fn read_messages<R: Wait, L: Ledger, G: Gate, S: Source>(
     common: Common<'_, R, L, G>,
-    bell: &Bell,
     inlet: &mut Inlet<L>,
     reader: &mut S,
 ) -> ReadCause
@@ -76,7 +74,7 @@ fn read_messages<R: Wait, L: Ledger, G: Gate, S: Source>(
             Some(0) => return ReadCause::InputEnded,
             Some(n) => {
                 let read = &piece[..n];
-                if let Some(cause) = bring_piece(common, bell, inlet, &mut cutter, read) {
+                if let Some(cause) = bring_piece(common, inlet, &mut cutter, read) {
                     return cause;
                 }
             }

@@ -10,7 +10,6 @@ use crate::hand::{HandRing, keep_or_drop, take_handed};
 use crate::inlet::Inlet;
 use crate::reader::{ReadEnd, read_worker};
 use ov_ends::Source;
-use ov_order::Bell;
 use rtrb::{Consumer, Producer};
 use std::snapshot::Snapshot;
 use std::sync::Wait;
@@ -72,7 +71,6 @@ impl<S, L: Ledger> Reads<S, L> {
 /// Reads the reader to its end, and then keeps or drops it.
 fn read_link<R: Wait, L: Ledger, G: Gate, S: Source + Drop>(
     common: Common<'_, R, L, G>,
-    bell: &Bell,
     keeps: bool,
     reader: S,
     inlet: Inlet<L>,
@@ -84,7 +82,7 @@ fn read_link<R: Wait, L: Ledger, G: Gate, S: Source + Drop>(
         reader,
         inlet,
         cause,
-    } = read_worker(common, bell, reader, inlet);
+    } = read_worker(common, reader, inlet);
     let last = Snapshot::of(&reader);
     let reader = keep_or_drop(keeps, reader);
     ReadLeft {
@@ -99,7 +97,6 @@ fn read_link<R: Wait, L: Ledger, G: Gate, S: Source + Drop>(
 /// nothing if there is none.
 fn read_handed<R: Wait, L: Ledger, G: Gate, S: Source + Drop>(
     common: Common<'_, R, L, G>,
-    bell: &Bell,
     keeps: bool,
     hand: Consumer<Option<S>>,
     inlet: Inlet<L>,
@@ -111,7 +108,7 @@ fn read_handed<R: Wait, L: Ledger, G: Gate, S: Source + Drop>(
     let _may_begin = common.order.wait_begin(common.rt);
     let mut hand = hand;
     let left = match take_handed(common.rt, &mut hand) {
-        Some(reader) => Some(read_link(common, bell, keeps, reader, inlet)),
+        Some(reader) => Some(read_link(common, keeps, reader, inlet)),
         None => None,
     };
     ReadDone { hand, left }
@@ -138,7 +135,6 @@ pub struct Reading<S: Source, L: Ledger> {
 pub fn start_reader<'s, E, R, L, G, S>(
     common: Common<'s, R, L, G>,
     scope: &Scope<'s, E>,
-    bell: &'s Bell,
     keeps: bool,
     hand: HandRing<S>,
     inlet: Inlet<L>,
@@ -157,7 +153,7 @@ where
         from_desk,
     } = hand;
     let promise = Reads::of(keeps, &from_desk, &inlet);
-    let job = move || read_handed(common, bell, keeps, from_desk, inlet);
+    let job = move || read_handed(common, keeps, from_desk, inlet);
     match scope.spawn_with(promise, job) {
         Ok(handle) => Some(Reading {
             handle,

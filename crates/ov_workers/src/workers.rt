@@ -61,7 +61,7 @@ where
         say_no_begin(common);
         return None;
     };
-    match start_reader(common, scope, bell, keeps, reader, inlet) {
+    match start_reader(common, scope, keeps, reader, inlet) {
         Some(reading) => Some(Workers { reading, writing }),
         None => {
             say_no_begin(common);

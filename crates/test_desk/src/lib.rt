@@ -7,6 +7,8 @@ mod clients;
 #[cfg(test)]
 mod conversations;
 #[cfg(test)]
+mod crashes;
+#[cfg(test)]
 mod crowds;
 #[cfg(test)]
 mod desks;

@@ -3,7 +3,7 @@ ghost use Rattle.rtrb.specs.Ring.{sent};
 
 use crate::gates::CountingGate;
 use ov_ends::Watched;
-use ov_order::{Bell, Brought, Noter, Order, Taken, inbound_ring};
+use ov_order::{Brought, Noter, Order, Taken, inbound_ring};
 use ov_rpc::Received;
 use ov_workers::{Common, HandRing, Inlet, Point, ReadCause, ReadEnd, read_worker, start_reader};
 use rtrb::Consumer;
@@ -130,12 +130,7 @@ fn read_by<R: Wait, L: Ledger>(
         gate: &gate,
     };
     let inlet = Inlet::new(ring, Noter::new(7, share));
-    let ReadEnd { inlet, cause, .. } = read_worker(
-        common,
-        &Bell::new(),
-        Watched::new(reader),
-        inlet,
-    );
+    let ReadEnd { inlet, cause, .. } = read_worker(common, Watched::new(reader), inlet);
     let Inlet { noter, .. } = inlet;
     let mut share = noter.into_share();
     let noted = order.lock(rt).noted(&mut share);
@@ -206,13 +201,12 @@ fn the_second_read_fails(rt: HostRuntime) -> Result<(), Fail> {
 fn dismiss_in<'s, E, R: Threads + Wait + Sync, L: Ledger + Send + Sync + 's>(
     common: Common<'s, R, L, CountingGate>,
     scope: &Scope<'s, E>,
-    bell: &'s Bell,
     hand: HandRing<Watched<PieceReader<'static>>>,
     inlet: Inlet<L>,
 ) -> bool
     requires { sent inlet.ring ≡ [] }
 {
-    let Some(reading) = start_reader(common, scope, bell, true, hand, inlet) else {
+    let Some(reading) = start_reader(common, scope, true, hand, inlet) else {
         return false;
     };
     common.order.lock(common.rt).begin(false);
@@ -224,7 +218,6 @@ fn dismiss_in<'s, E, R: Threads + Wait + Sync, L: Ledger + Send + Sync + 's>(
 /// The same, in a scope of its own.
 fn dismiss<'a, R: Threads + Wait + Sync, L: Ledger + Send + Sync>(
     common: Common<'a, R, L, CountingGate>,
-    bell: &'a Bell,
     hand: HandRing<Watched<PieceReader<'static>>>,
     inlet: Inlet<L>,
 ) -> bool
@@ -235,7 +228,7 @@ fn dismiss<'a, R: Threads + Wait + Sync, L: Ledger + Send + Sync>(
         common.rt,
         move |scope| -> bool
             requires { sent inlet.ring ≡ [] }
-        { dismiss_in(common, scope, bell, hand, inlet) },
+        { dismiss_in(common, scope, hand, inlet) },
     )
 }
 
@@ -259,8 +252,7 @@ fn dismissed<R: Threads + Wait + Sync, L: Ledger + Send + Sync>(
         order: &order,
         gate: &gate,
     };
-    let bell = Bell::new();
-    let is_dismissed = dismiss(common, &bell, hand, Inlet::new(ring, Noter::new(7, share)));
+    let is_dismissed = dismiss(common, hand, Inlet::new(ring, Noter::new(7, share)));
     let first = order.lock(rt).next(&mut Taken::new());
     dismissed_text(alloc, is_dismissed, desk, first, gate.passed())
 }

@@ -3,13 +3,23 @@
 #![tactic(auto)]
 
 #[cfg(test)]
+mod crashes;
+#[cfg(test)]
+mod cut_off;
+#[cfg(test)]
+mod failing;
+#[cfg(test)]
 mod lock_rows;
 #[cfg(test)]
 mod machine;
 #[cfg(test)]
+mod many_frames;
+#[cfg(test)]
 mod monitor_rows;
 #[cfg(test)]
 mod serve;
+#[cfg(test)]
+mod stops;
 #[cfg(test)]
 mod streams;
 #[cfg(test)]

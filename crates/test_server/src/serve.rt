@@ -15,7 +15,7 @@ const REQUEST: &[u8] = b"{\"id\":0,\"method\":\"list_dbs\",\"params\":[]}";
 const REPLY: &str = r#"{"error":null,"id":0,"result":["Net"]}"#;
 
 /// No limit.
-const ALL: usize = 1_000_000;
+pub(crate) const ALL: usize = 1_000_000;
 
 #[derive(Drop)]
 struct StillClock;
@@ -31,7 +31,7 @@ impl Clock for StillClock {
 }
 
 /// A reader of these bytes without a limit.
-fn reader_of(rest: &[u8]) -> SlowReader<'_> {
+pub(crate) fn reader_of(rest: &[u8]) -> SlowReader<'_> {
     SlowReader {
         rest,
         most: ALL,
@@ -41,7 +41,7 @@ fn reader_of(rest: &[u8]) -> SlowReader<'_> {
 }
 
 /// A writer without a limit.
-fn writer_of(alloc: Global) -> SlowWriter {
+pub(crate) fn writer_of(alloc: Global) -> SlowWriter {
     SlowWriter {
         taken: Vec::new(alloc),
         most: ALL,
@@ -115,7 +115,7 @@ fn told<H: Wait>(
 }
 
 /// Fails unless this is the outcome of a session.
-fn tells<H: Wait>(
+pub(crate) fn tells<H: Wait>(
     rt: &H,
     alloc: Global,
     reader: SlowReader<'_>,

@@ -10,6 +10,8 @@ mod files;
 #[cfg(test)]
 mod keepers;
 #[cfg(test)]
+mod once;
+#[cfg(test)]
 mod opens;
 #[cfg(test)]
 mod refusals;

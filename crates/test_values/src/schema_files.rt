@@ -1,6 +1,7 @@
 use ov_schema::{Schema, text_of};
-use ov_schema_text::{SchemaFileFault, schema_from, schema_of};
+use ov_schema_text::{SchemaFileFault, read_schema, schema_from, schema_of};
 use std::alloc::Global;
+use std::fs;
 use std::io::ErrorKind;
 use std::test::Fail;
 use test_basics::{Scripted, SlowReader, agrees, is_text};
@@ -98,4 +99,32 @@ fn a_read_that_fails_gives_no_schema(rt: HostRuntime) -> Result<(), Fail> {
     let want = "the file of the schema can't be read";
     fails_by(rt.alloc(), ErrorKind::Other, want)?;
     fails_by(rt.alloc(), ErrorKind::OutOfMemory, "out of memory")
+}
+
+/// A folder of these tests, below the one that they run in.
+const FOLDER: &str = "test_values_files";
+
+/// Fails unless the file at a path has this answer.
+fn is_answered(rt: &HostRuntime, path: &str, want: &str) -> Result<(), Fail> {
+    let answer = read_schema(rt, rt.alloc(), path);
+    let told = answer_text(rt.alloc(), &answer)?;
+    is_text(rt.alloc(), told.as_str(), want)
+}
+
+#[test]
+fn a_file_is_a_schema_or_refused(rt: HostRuntime) -> Result<(), Fail> {
+    let _ = fs::remove_dir_all(&rt, FOLDER);
+    fs::create_dir(&rt, FOLDER)?;
+    let text = "{ \"tables\": {}, \"name\": \"N\" }\n";
+    fs::write(&rt, "test_values_files/n.ovsschema", text.as_bytes())?;
+    is_answered(
+        &rt,
+        "test_values_files/n.ovsschema",
+        "{\"name\":\"N\",\"tables\":{}}",
+    )?;
+    let absent = "the file of the schema can't be read";
+    is_answered(&rt, "test_values_files/none", absent)?;
+    is_answered(&rt, FOLDER, absent)?;
+    let _ = fs::remove_dir_all(&rt, FOLDER);
+    Ok(())
 }

@@ -41,8 +41,8 @@ finish_all-ends-requires-clause-room g c =
     let places : length ms ≡ vec_len c.run.new.hall.desk.lanes = search rules in
     (o.room.ends.0, subst (λ (n : ℕ). n ≤ deque_capacity c.args.opened.room.ends) (sym (sym places ∙ (stay.many ∙ many))) o.room.ends.1)
 
-pub returns : goal.returns
-returns g c old o =
+pub returns-clause-served : goal.returns-clause-served
+returns-clause-served g c old o =
     let t = c.seat_all.ensures old.state.next o.started o.sessions in
     let ls = c.seat_all.new.lanes.items in let ms = c.run.new.hall.desk.lanes.items in let core = c.run.new.hall.desk.core in
     let long : length c.args.links.items ≡ deque_len c.args.links = search rules in
@@ -61,3 +61,6 @@ returns g c old o =
       time = time_of g.C.Clock.tells old c.args.core core c.args.clock.now c.run.new.clock opens.since.entries x.more after.since.entries runs.moments
           (x.adds ∙ ap (λ l. l ++ x.more) (ap (λ r. r.entries) s.is)) opens.timed runs.told x.timed;
     })
+
+pub returns-clause-honest : goal.returns-clause-honest
+returns-clause-honest g c honest = c.run.ensures.honest (subst (λ core. g.K.Keeper.is_honest core.keeper) c.new-desk.ensures.core honest)

@@ -1,3 +1,4 @@
+use Rattle.std.proofs.Common.{subst}
 use Rattle.ov_lanes.proofs.PlaceLaws.{goes_none, goes_along}
 use Rattle.ov_desk.proofs.run.accept_once_seen.Goals as goal
 
@@ -10,3 +11,6 @@ returns-in-Message-clause-goes g c moment =
 
 pub returns-in-End-clause-goes : goal.returns-in-End-clause-goes
 returns-in-End-clause-goes g c moment = goes_none moment c.args.hall.now.desk.core c.args.hall.now.desk.lanes.items
+
+pub returns-in-Message-clause-honest : goal.returns-in-Message-clause-honest
+returns-in-Message-clause-honest g c honest = subst (λ core. g.K.Keeper.is_honest core.keeper) c.tend.ensures.core (c.admit.ensures.honest honest)

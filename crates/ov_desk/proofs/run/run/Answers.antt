@@ -10,6 +10,7 @@ loop-init g c =
     record {
       runs = runs_none g.C.Clock.tells c.args.hall.now.desk.core ls c.args.clock.now;
       kept = ([], sym (append-nil c.args.taken.now.serials), λ keeps none. (keeps, none, refl, λ apart. kept_tended ls ls (tended_all ls)));
+      honest = λ honest. honest;
       seats = c.requires.seats;
     }
 
@@ -31,5 +32,6 @@ loop-preserved g c =
         ],
         hall_along was.kept.0 note a.keeps b.keeps h.keeps a.accepted b.accepted h.accepted a.desk.lanes.items b.desk.lanes.items h.desk.lanes.items a.workers b.workers h.workers was.kept.2 c.serve_note.ensures.kept,
       );
+      honest = λ honest. was.honest (c.serve_note.ensures.honest honest);
       seats = c.serve_note.ensures.seats;
     }

@@ -8,5 +8,6 @@ invariant-loop g l = record {
   runs : RunsBy g.C.Clock.tells l.initial.hall.desk.core l.initial.hall.desk.lanes.items l.initial.clock l.hall.desk.core l.hall.desk.lanes.items l.clock;
   kept : (notes : List ℕ) × (l.taken.serials ≡ l.initial.taken.serials ++ notes)
       × KeepsHall notes l.initial.hall.keeps l.initial.hall.accepted l.initial.hall.desk.lanes.items l.initial.hall.workers l.hall.keeps l.hall.accepted l.hall.desk.lanes.items l.hall.workers;
+  honest : g.K.Keeper.is_honest l.hall.desk.core.keeper → g.K.Keeper.is_honest l.initial.hall.desk.core.keeper;
   seats : AreSeats l.hall.keeps l.hall.desk.lanes.items l.hall.workers.items;
 }

@@ -47,3 +47,17 @@ returns-clause-kept g c =
     let both = hall_along [] [] a.keeps b.keeps d.keeps a.accepted b.accepted d.accepted a.desk.lanes.items b.desk.lanes.items d.desk.lanes.items a.workers b.workers d.workers flushed tended in
     subst (λ n. KeepsHall n o.keeps o.accepted o.desk.lanes.items o.workers d.keeps d.accepted d.desk.lanes.items d.workers) (append-nil note)
     (hall_along note [] o.keeps a.keeps d.keeps o.accepted a.accepted d.accepted o.desk.lanes.items a.desk.lanes.items d.desk.lanes.items o.workers a.workers d.workers taken both)
+
+pub returns-clause-honest : goal.returns-clause-honest
+returns-clause-honest g c honest =
+    let b = c.if-not-is_flushed.hall in
+    let tended : g.K.Keeper.is_honest b.desk.core.keeper = subst (λ core. g.K.Keeper.is_honest core.keeper) c.tend.ensures.core honest in
+    let flushed : g.K.Keeper.is_honest c.match-note.hall.desk.core.keeper = elim c.if-not-is_flushed.branch [
+      | then-not-is_flushed w ↦ w.flush.ensures.honest (subst (λ h. g.K.Keeper.is_honest h.desk.core.keeper) w.hall-is tended)
+      | else-not-is_flushed w ↦ subst (λ h. g.K.Keeper.is_honest h.desk.core.keeper) w.hall-is tended
+    ] in
+    let taken : g.K.Keeper.is_honest c.pass_where_due.new.self.keeper = elim c.match-note.branch [
+      | in-Some w ↦ w.take_noted-is_flushed.ensures.honest (subst (λ h. g.K.Keeper.is_honest h.desk.core.keeper) w.hall-is flushed)
+      | in-None w ↦ subst (λ h. g.K.Keeper.is_honest h.desk.core.keeper) w.hall-is flushed
+    ] in
+    c.pass_where_due.ensures.honest taken

@@ -13,6 +13,7 @@ pub loop-init : goal.loop-init
 loop-init g c = record {
   goes = goes_none c.args.moment c.args.desk.now.core c.args.desk.now.lanes.items;
   rings = stay_same c.args.desk.now.lanes.items;
+  honest = λ honest. honest;
   looks = look_self c.args.desk.now.lanes.items;
 }
 
@@ -29,5 +30,6 @@ pub loop-preserved : goal.loop-preserved
 loop-preserved g c = record {
   goes = goes_along c.args.moment c.args.desk.now.lanes.items c.loop.desk.lanes.items c.turn.new.self.lanes.items c.loop.invariant.goes c.turn.ensures.goes;
   rings = stay_along_same c.args.desk.now.lanes.items c.loop.desk.lanes.items c.turn.new.self.lanes.items c.loop.invariant.rings c.turn.ensures.rings;
+  honest = λ honest. c.loop.invariant.honest (c.turn.ensures.honest honest);
   looks = looks_along c.args.desk.now.lanes.items c.loop.desk.lanes.items c.turn.new.self.lanes.items c.loop.invariant.looks c.if-turn.ensures.turns.1;
 }

@@ -11,6 +11,7 @@ loop-at-init g c = record {
   goes = λ moment. goes_none moment c.args.core.now c.args.lanes.now.items;
   rings = stay_puts c.args.lanes.now.items;
   fewer = omega arith;
+  honest = λ honest. honest;
   flushed = λ quiet j l low is. absurd (omega (arith, low));
 }
 
@@ -25,6 +26,7 @@ loop-at-preserved g c =
         | then-flush_at w ↦ inl (w.if-flush_at.true, w.any-is)
         | else-flush_at w ↦ inr (w.if-flush_at.false, w.any-is)
       ]);
+      honest = λ honest. was.honest (now.honest honest);
       flushed = λ quiet. elim c.if-flush_at.branch [
         | then-flush_at w ↦ absurd (false≢true (sym quiet ∙ w.any-is))
         | else-flush_at w ↦ now.flushed w.if-flush_at.false (was.flushed (sym w.any-is ∙ quiet))

@@ -8,5 +8,6 @@ invariant-loop-at g l = record {
   goes : (moment : ℕ) → GoesOn moment l.initial.core l.initial.lanes.items l.core l.lanes.items;
   rings : StayAs PutsAlone l.initial.lanes.items l.lanes.items;
   fewer : MatchBool l.any (unmarked l.lanes.items < unmarked l.initial.lanes.items) (unmarked l.lanes.items ≤ unmarked l.initial.lanes.items);
+  honest : g.K.Keeper.is_honest l.core.keeper → g.K.Keeper.is_honest l.initial.core.keeper;
   flushed : l.any ≡ false → AreFlushedBelow l.at l.core l.lanes.items;
 }

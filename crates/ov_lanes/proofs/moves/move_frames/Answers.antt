@@ -1,4 +1,4 @@
-use Rattle.std.proofs.Common.{rules, ◌++◌, [], ◌∷◌, length, refl, sym, ap, ◌∙◌, arith, append-nil}
+use Rattle.std.proofs.Common.{rules, ◌++◌, [], ◌∷◌, length, refl, sym, ap, subst, ◌∙◌, arith, append-nil}
 use Rattle.rtrb.specs.Ring.{sent}
 use Rattle.ov_lanes.proofs.Courses.{hands_none, hands_more}
 use Rattle.ov_lanes.proofs.Fitting.{framed-more}
@@ -6,7 +6,7 @@ use Rattle.ov_lanes.proofs.moves.move_frames.Goals as goal
 
 pub loop-frame-init : goal.loop-frame-init
 loop-frame-init g c =
-    ([], hands_none c.args.lane.now.session.serial c.args.core.now, sym (append-nil (sent c.args.lane.now.outbound)), search rules, refl, refl, refl, refl, c.requires)
+    ([], hands_none c.args.lane.now.session.serial c.args.core.now, sym (append-nil (sent c.args.lane.now.outbound)), search rules, refl, refl, refl, refl, c.requires, λ honest. honest)
 
 pub returns-then-not-has_room-clause-moves : goal.returns-then-not-has_room-clause-moves
 returns-then-not-has_room-clause-moves g c =
@@ -33,4 +33,5 @@ loop-frame-preserved g c =
       was.6,
       was.7,
       was.8,
+      λ honest. was.9 (subst (λ core. g.K.Keeper.is_honest core.keeper) c.in-Some.ensures.same honest),
     )

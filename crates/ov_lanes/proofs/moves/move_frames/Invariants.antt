@@ -11,6 +11,7 @@ invariant-loop-frame g l =
     × (sent l.lane.outbound ≡ sent l.initial.lane.outbound ++ framed moved)
     × SameProducer l.initial.lane.outbound l.lane.outbound × (l.lane.inbound ≡ l.initial.lane.inbound)
     × (l.lane.session ≡ l.initial.lane.session) × (l.lane.cause ≡ l.initial.lane.cause) × (l.lane.ended ≡ l.initial.lane.ended) × (l.lane.marked ≡ false)
+    × (g.K.Keeper.is_honest l.core.keeper → g.K.Keeper.is_honest l.initial.core.keeper)
 
 abbrev pub decreases-loop-frame : goal.decreases-loop-frame
 decreases-loop-frame g l = length (waiting_for l.lane.session.serial l.core.outbox)

@@ -9,7 +9,7 @@ use Rattle.ov_lanes.proofs.open.open_sessions.Goals as goal
 pub returns-in_default-clause-refused : goal.returns-in_default-clause-refused
 returns-in_default-clause-refused g c =
     let start = c.args.core.now in
-    c.close_sessions.ensures start (subst (λ (l : List Session). AreSessions start.state.next l) (sym c.new.ensures.items) tt)
+    c.close_sessions.ensures.closes start (subst (λ (l : List Session). AreSessions start.state.next l) (sym c.new.ensures.items) tt)
     (subst (λ (n : ℕ). OpensAll start start.state.next n start) (sym c.new.ensures.len) c.shows_nothing_opened.ensures.opened)
 
 pub loop-core-preserved : goal.loop-core-preserved
@@ -23,12 +23,13 @@ loop-core-preserved g c =
       serials = subst (λ (l : List Session). AreSessions start.state.next l) (sym c.push_back_reserved.ensures.items) (sessions_more start.state.next c.loop-core.sessions.items session was.serials (omega (arith, more.1, long)));
       room = search rules;
       few = search rules;
+      honest = λ honest. was.honest (c.open_session.ensures.honest honest);
     }
 
 pub returns-in-Err-clause-refused : goal.returns-in-Err-clause-refused
 returns-in-Err-clause-refused g c =
     let was = c.loop-core.invariant in let start = c.args.core.now in
-    c.close_sessions-in-Err.ensures start was.serials
+    c.close_sessions-in-Err.ensures.closes start was.serials
     (subst (λ (k : CoreState g.row.K.Denot g.row.D.Denot). OpensAll start start.state.next (deque_len c.loop-core.sessions) k) (sym c.in-Err.ensures.refused.0) was.opens)
 
 pub returns-clause-opened : goal.returns-clause-opened

@@ -9,6 +9,7 @@ invariant-loop-core g l = record {
   serials : AreSessions l.initial.core.state.next l.sessions.items;
   room : l.count ≤ deque_capacity l.sessions;
   few : deque_len l.sessions ≤ l.count;
+  honest : g.K.Keeper.is_honest l.core.keeper → g.K.Keeper.is_honest l.initial.core.keeper;
 }
 
 abbrev pub decreases-loop-core : goal.decreases-loop-core

@@ -7,7 +7,7 @@ use Rattle.ov_serve.proofs.send.write_waiting.Goals as goal
 
 pub loop-frame-init : goal.loop-frame-init
 loop-frame-init g c =
-    ([], goes_nowhere c.args.session.serial c.args.core.now, sym (append-nil (g.W.Sink.bytes_written c.args.writer.now)), refl, refl, given-same (g.W.Sink.bytes_written c.args.writer.now) (g.W.Sink.contents c.args.writer.now))
+    ([], goes_nowhere c.args.session.serial c.args.core.now, sym (append-nil (g.W.Sink.bytes_written c.args.writer.now)), refl, refl, given-same (g.W.Sink.bytes_written c.args.writer.now) (g.W.Sink.contents c.args.writer.now), refl)
 
 pub returns-then-not-write_frame-clause-sends :
     goal.returns-then-not-write_frame-clause-sends
@@ -29,6 +29,7 @@ loop-frame-preserved g c =
       ap (λ (r : CoreState g.row.K.Denot g.row.D.Denot). r.state) c.next_frame.ensures.same ∙ was.3,
       c.if-not-write_frame.ensures.faults ∙ was.4,
       given-more (g.W.Sink.bytes_written c.args.writer.now) (g.W.Sink.bytes_written c.loop-frame.writer) (g.W.Sink.bytes_written c.write_frame.new.writer) (g.W.Sink.contents c.args.writer.now) (g.W.Sink.contents c.loop-frame.writer) (g.W.Sink.contents c.write_frame.new.writer) was.5 c.write_frame.ensures.given,
+      ap (λ (r : CoreState g.row.K.Denot g.row.D.Denot). r.keeper) c.next_frame.ensures.same ∙ was.6,
     )
 
 pub returns-clause-sends : goal.returns-clause-sends

@@ -11,6 +11,7 @@ invariant-loop-frame g l =
     × (g.W.Sink.bytes_written l.writer ≡ g.W.Sink.bytes_written l.initial.writer ++ joined frames) × (l.core.state ≡ l.initial.core.state)
     × (g.W.Sink.faults l.writer ≡ g.W.Sink.faults l.initial.writer)
     × GivesWritten (g.W.Sink.bytes_written l.initial.writer) (g.W.Sink.contents l.initial.writer) (g.W.Sink.bytes_written l.writer) (g.W.Sink.contents l.writer)
+    × (l.core.keeper ≡ l.initial.core.keeper)
 
 abbrev pub decreases-loop-frame : goal.decreases-loop-frame
 decreases-loop-frame g l = length (waiting_for l.session.serial l.core.outbox)

@@ -1,4 +1,4 @@
-use Rattle.std.proofs.Common.{rules, ◌≡◌, ℕ, ◌++◌, true, false, map, take, refl, sym, ap, ◌∙◌, arith, append-nil}
+use Rattle.std.proofs.Common.{rules, ◌≡◌, ℕ, ◌++◌, true, false, map, take, refl, sym, ap, subst, ◌∙◌, arith, append-nil}
 use Rattle.std.specs.Prelude.{is_ok}
 use Rattle.ov_history.specs.declared.event.Cause.TheVariants.{InputEnded, ReadFault}
 use Rattle.ov_history.specs.Entries.{entry_view}
@@ -13,7 +13,7 @@ returns-then-not-write_waiting-clause-served g c first from start =
     let to = io_state (g.S.Source.bytes_read c.loop.reader) (g.W.Sink.bytes_written c.loop.writer) c.loop.clock in
     let on = c.loop.invariant.0 first from start in
     let sent = then_sent g.C.Clock.tells c.args.session.serial first from false c.loop.core c.write_waiting.new.core to (g.W.Sink.bytes_written c.write_waiting.new.writer) on.done c.if-not-write_waiting.ensures.sends c.if-not-write_waiting.ensures.state in
-    by_writer g.C.Clock.tells c.args.session.serial first from c.write_waiting.new.core c.close.new.self (io_state (g.S.Source.bytes_read c.loop.reader) (g.W.Sink.bytes_written c.write_waiting.new.writer) c.loop.clock) c.close.result sent c.close.ensures
+    by_writer g.C.Clock.tells c.args.session.serial first from c.write_waiting.new.core c.close.new.self (io_state (g.S.Source.bytes_read c.loop.reader) (g.W.Sink.bytes_written c.write_waiting.new.writer) c.loop.clock) c.close.result sent c.close.ensures.closes
 
 pub returns-then-not-is_open-clause-served : goal.returns-then-not-is_open-clause-served
 returns-then-not-is_open-clause-served g c first from start =
@@ -31,7 +31,7 @@ returns-in-Some-eq0-clause-served g c first from start =
     let none : c.in-Some-eq0.field-0 ≡ 0 = first_of (omega arith, search rules, cc) in
     let heard = c.in-Some-eq0.ensures.trace ∙ ap (λ (k : ℕ). g.S.Source.bytes_read c.loop.reader ++ take k c.read.new.piece) none in
     by_reader g.C.Clock.tells c.args.session.serial first from c.write_waiting.new.core c.close-in-Some-eq0.new.self (io_state (g.S.Source.bytes_read c.loop.reader) (g.W.Sink.bytes_written c.write_waiting.new.writer) c.loop.clock)
-    InputEnded c.close-in-Some-eq0.result (g.S.Source.bytes_read c.read.new.self) refl (λ s t last k. k) (λ o is. is) (sym c.if-not-is_open.ensures) sent (c.if-not-write_waiting.ensures.sends.none_left refl) (heard ∙ append-nil (g.S.Source.bytes_read c.loop.reader)) c.close-in-Some-eq0.ensures
+    InputEnded c.close-in-Some-eq0.result (g.S.Source.bytes_read c.read.new.self) refl (λ s t last k. k) (λ o is. is) (sym c.if-not-is_open.ensures) sent (c.if-not-write_waiting.ensures.sends.none_left refl) (heard ∙ append-nil (g.S.Source.bytes_read c.loop.reader)) c.close-in-Some-eq0.ensures.closes
 
 pub returns-in-None-read-clause-served : goal.returns-in-None-read-clause-served
 returns-in-None-read-clause-served g c first from start =
@@ -39,7 +39,7 @@ returns-in-None-read-clause-served g c first from start =
     let on = c.loop.invariant.0 first from start in
     let sent = then_sent g.C.Clock.tells c.args.session.serial first from true c.loop.core c.write_waiting.new.core to (g.W.Sink.bytes_written c.write_waiting.new.writer) on.done c.if-not-write_waiting.ensures.sends c.if-not-write_waiting.ensures.state in
     by_reader g.C.Clock.tells c.args.session.serial first from c.write_waiting.new.core c.close-in-None-read.new.self (io_state (g.S.Source.bytes_read c.loop.reader) (g.W.Sink.bytes_written c.write_waiting.new.writer) c.loop.clock)
-    ReadFault c.close-in-None-read.result (g.S.Source.bytes_read c.read.new.self) refl (λ s t last k. k) (λ o is. is) (sym c.if-not-is_open.ensures) sent (c.if-not-write_waiting.ensures.sends.none_left refl) c.in-None-read.ensures.none.0 c.close-in-None-read.ensures
+    ReadFault c.close-in-None-read.result (g.S.Source.bytes_read c.read.new.self) refl (λ s t last k. k) (λ o is. is) (sym c.if-not-is_open.ensures) sent (c.if-not-write_waiting.ensures.sends.none_left refl) c.in-None-read.ensures.none.0 c.close-in-None-read.ensures.closes
 
 pub loop-preserved : goal.loop-preserved
 loop-preserved g c = (
@@ -55,6 +55,7 @@ loop-preserved g c = (
   c.if-not-write_waiting.ensures.faults ∙ c.loop.invariant.2,
   input-more (g.S.Source.bytes_read c.args.reader.now) (g.S.Source.bytes_read c.loop.reader) (g.S.Source.bytes_read c.read.new.self) (g.S.Source.remaining c.args.reader.now) (g.S.Source.remaining c.loop.reader) (g.S.Source.remaining c.read.new.self) c.loop.invariant.3 c.read.ensures.input,
   given-more (g.W.Sink.bytes_written c.args.writer.now) (g.W.Sink.bytes_written c.loop.writer) (g.W.Sink.bytes_written c.write_waiting.new.writer) (g.W.Sink.contents c.args.writer.now) (g.W.Sink.contents c.loop.writer) (g.W.Sink.contents c.write_waiting.new.writer) c.loop.invariant.4 c.write_waiting.ensures.given,
+  λ honest. c.loop.invariant.5 (subst g.K.Keeper.is_honest c.write_waiting.ensures.keeper (c.serve_piece.ensures.honest honest)),
 )
 
 pub returns-then-not-write_waiting-clause-given :

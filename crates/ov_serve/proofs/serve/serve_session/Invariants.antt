@@ -13,3 +13,4 @@ invariant-loop g l =
     × (g.S.Source.faults l.reader ≡ g.S.Source.faults l.initial.reader) × (g.W.Sink.faults l.writer ≡ g.W.Sink.faults l.initial.writer)
     × KeepsInput (g.S.Source.bytes_read l.initial.reader) (g.S.Source.remaining l.initial.reader) (g.S.Source.bytes_read l.reader) (g.S.Source.remaining l.reader)
     × GivesWritten (g.W.Sink.bytes_written l.initial.writer) (g.W.Sink.contents l.initial.writer) (g.W.Sink.bytes_written l.writer) (g.W.Sink.contents l.writer)
+    × (g.K.Keeper.is_honest l.core.keeper → g.K.Keeper.is_honest l.initial.core.keeper)

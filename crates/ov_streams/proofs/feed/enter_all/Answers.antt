@@ -8,15 +8,16 @@ use Rattle.ov_streams.proofs.feed.enter_all.Goals as goal
 pub loop-text-init : goal.loop-text-init
 loop-text-init g c = record {
   there = c.requires;
+  honest = λ honest. honest;
   entered = ([], enters_none c.args.core.now, subst (λ (rest : List (List ℕ)). Continues c.args.moment c.args.session.serial c.args.texts.items rest c.args.core.now c.args.core.now []) (sym c.into_iter-text-iterator.ensures.into_iter_gives.0) (λ others damaged more last f. f));
 }
 
-pub returns-then-not-is_open : goal.returns-then-not-is_open
-returns-then-not-is_open g c =
+pub returns-then-not-is_open-clause-enters : goal.returns-then-not-is_open-clause-enters
+returns-then-not-is_open-clause-enters g c =
     let inv = c.loop-text.invariant in
     let away : is_open c.enter_one.new.core.state c.args.session.serial ≡ false = search rules in
     ended c.args.moment c.args.session.serial c.args.core.now c.loop-text.core c.enter_one.new.core c.args.texts.items (into_iter_items c.loop-text.text-iterator) (into_iter_items c.next.new.self) c.in-Some.text c.in-Some.ensures.steps.0
-    inv.entered.0 inv.entered.1 inv.entered.2 c.enter_one.ensures away
+    inv.entered.0 inv.entered.1 inv.entered.2 c.enter_one.ensures.enters away
 
 pub loop-text-preserved : goal.loop-text-preserved
 loop-text-preserved g c =
@@ -24,17 +25,18 @@ loop-text-preserved g c =
     let there : is_open c.enter_one.new.core.state c.args.session.serial ≡ true = search rules in
     record {
       there = there;
+      honest = λ honest. inv.honest (c.enter_one.ensures.honest honest);
       entered = (
-        inv.entered.0 ++ c.enter_one.ensures.entry ∷ [],
+        inv.entered.0 ++ c.enter_one.ensures.enters.entry ∷ [],
         enters_it c.args.moment c.args.session.serial c.args.core.now c.loop-text.core c.enter_one.new.core c.args.texts.items (into_iter_items c.loop-text.text-iterator) (into_iter_items c.next.new.self) c.in-Some.text c.in-Some.ensures.steps.0
-            inv.entered.0 inv.entered.1 inv.entered.2 c.enter_one.ensures,
+            inv.entered.0 inv.entered.1 inv.entered.2 c.enter_one.ensures.enters,
         continues c.args.moment c.args.session.serial c.args.core.now c.loop-text.core c.enter_one.new.core c.args.texts.items (into_iter_items c.loop-text.text-iterator) (into_iter_items c.next.new.self) c.in-Some.text c.in-Some.ensures.steps.0
-            inv.entered.0 inv.entered.1 inv.entered.2 c.enter_one.ensures there,
+            inv.entered.0 inv.entered.1 inv.entered.2 c.enter_one.ensures.enters there,
       );
     }
 
-pub returns : goal.returns
-returns g c =
+pub returns-clause-enters : goal.returns-clause-enters
+returns-clause-enters g c =
     let inv = c.loop-text.invariant in
     let rest = c.loop-text.text-iterator.rest in
     let none : rest.items ≡ [] = nil_from_length rest.items (sym rest.ok.0 ∙ c.in-None.ensures.steps.0) in

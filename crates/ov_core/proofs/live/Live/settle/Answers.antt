@@ -13,6 +13,7 @@ tries-init g c =
       settling = rw begins (begun g.K.Keeper.failed c.args.moment c.args.first c.args.self.now c.args.attempts.now.items c.requires.untried);
       room = omega (arith, all, c.requires.room, ap length c.requires.untried);
       most = omega (arith, all, c.begin.ensures.few);
+      honest = λ honest. honest;
     }
 
 pub try_next-number-requires : goal.try_next-number-requires
@@ -31,9 +32,10 @@ tries-preserved g c =
       settling = c.try_next-number.ensures.goes_on c.args.first c.args.self.now c.args.attempts.now.items i.settling;
       room = c.try_next-number.ensures.room;
       most = i.most;
+      honest = λ honest. i.honest (c.try_next-number.ensures.honest honest);
     }
 
-pub returns : goal.returns
-returns g c =
+pub returns-clause-settles : goal.returns-clause-settles
+returns-clause-settles g c =
     let i = c.tries.invariant in
     ended g.K.Keeper.failed c.args.moment c.args.first c.args.self.now c.args.attempts.now.items c.tries.self c.tries.attempts.items c.tries.number i.settling c.tries-test.ensures

@@ -8,6 +8,7 @@ invariant-tries g l = record {
   settling : IsSettling g.K.Keeper.failed l.moment l.first l.fn.self l.fn.attempts.items l.self l.attempts.items l.number;
   room : vec_len l.attempts + many l.self.waiting ≤ vec_capacity l.attempts;
   most : length l.fn.self.waiting.outstanding ≤ most_outstanding;
+  honest : g.K.Keeper.is_honest l.self.database.keeper → g.K.Keeper.is_honest l.fn.self.database.keeper;
 }
 
 abbrev pub decreases-tries : goal.decreases-tries

@@ -28,7 +28,7 @@ returns-clause-comes_to g c =
     let listed : c.list_attempt.new.attempts.items ≡ listed_by 1 h.result.outcome = c.list_attempt.ensures.items ∙ ap (λ (list : List Attempt). list ++ listed_by 1 h.result.outcome) c.requires.none in
     let kept : is_kept h.result.outcome ≡ true = search rules in
     take_settles g.K.Keeper.failed c.args.moment c.args.session (message_view c.args.message) h.result.draws.items c.args.self.now h.new.self c.requires.open c.requires.untried h.result.outcome c.settle.new.self c.list_attempt.new.attempts.items c.settle.new.attempts.items
-    (sym c.is_closing.ensures ∙ c.if-is_closing.false) kept listed h.ensures.works h.ensures.asks h.ensures.counts h.ensures.tries c.settle.ensures
+    (sym c.is_closing.ensures ∙ c.if-is_closing.false) kept listed h.ensures.works h.ensures.asks h.ensures.counts h.ensures.tries c.settle.ensures.settles
 
 pub settle-requires : goal.settle-requires
 settle-requires g c =

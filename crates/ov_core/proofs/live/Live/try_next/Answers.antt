@@ -38,7 +38,7 @@ pub returns-in-Done-clause-goes_on : goal.returns-in-Done-clause-goes_on
 returns-in-Done-clause-goes_on g c = λ first from before x.
     let (rest, next) = c.in-Some.ensures in
     let there : has_serial c.in-Some.next.now.session c.args.self.now.sessions.open_sessions ≡ true = search rules in
-    let after = rw (c.session-session.ensures, c.in-Done.ensures.counted, c.drop_next-in-Done.ensures c.in-Some.next.now rest next) at c.after_try.ensures in
+    let after = rw (c.session-session.ensures, c.in-Done.ensures.counted, c.drop_next-in-Done.ensures c.in-Some.next.now rest next) at c.after_try.ensures.after in
     done g.K.Keeper.failed c.args.moment first from before c.args.self.now c.args.attempts.now.items c.args.number x c.in-Some.next.now rest next there c.try_again.new.database c.try_again.new.outbox c.in-Done.ensures.queues
     c.in-Done.outcome c.after_try.new.self c.list_attempt.new.attempts.items c.list_attempt.ensures.items after c.in-Done.ensures.tried c.in-Done.ensures.asks c.in-Done.ensures.counts
 
@@ -46,7 +46,7 @@ pub returns-in-Done-clause-room : goal.returns-in-Done-clause-room
 returns-in-Done-clause-room g c =
     let (rest, next) = c.in-Some.ensures in
     let one = ap (λ (ws : List Outstanding). length ws) next in
-    let after = rw (c.drop_next-in-Done.ensures c.in-Some.next.now rest next) at c.after_try.ensures in
+    let after = rw (c.drop_next-in-Done.ensures c.in-Some.next.now rest next) at c.after_try.ensures.after in
     let mid = record c.args.self.now { database = c.try_again.new.database; outbox = c.try_again.new.outbox; tries = c.try_again.new.tries; waiting = record c.args.self.now.waiting { untried = rest } } in
     let few = after_few c.session-session.result c.in-Done.outcome mid c.after_try.new.self after in
     omega (arith, few, one, c.requires.room, c.list_attempt.ensures.len, c.list_attempt.ensures.capacity, listed_few c.args.number c.in-Done.outcome)
@@ -55,6 +55,6 @@ pub returns-in-Done-clause-falls : goal.returns-in-Done-clause-falls
 returns-in-Done-clause-falls g c =
     let (rest, next) = c.in-Some.ensures in
     let one = ap (λ (ws : List Outstanding). length ws) next in
-    let after = rw (c.drop_next-in-Done.ensures c.in-Some.next.now rest next) at c.after_try.ensures in
+    let after = rw (c.drop_next-in-Done.ensures c.in-Some.next.now rest next) at c.after_try.ensures.after in
     let mid = record c.args.self.now { database = c.try_again.new.database; outbox = c.try_again.new.outbox; tries = c.try_again.new.tries; waiting = record c.args.self.now.waiting { untried = rest } } in
     after_falls c.session-session.result c.in-Done.outcome mid c.after_try.new.self (length c.args.self.now.waiting.untried) (many c.args.self.now.waiting) after (omega (arith, one)) (omega (arith, one))

@@ -3,8 +3,8 @@ use Rattle.ov_history.specs.Entries.{cause_view}
 use Rattle.ov_core.proofs.Steps.{closed, has_closed}
 use Rattle.ov_core.proofs.machine.Core.close_open.Goals as goal
 
-pub returns : goal.returns
-returns g c =
+pub returns-clause-closes : goal.returns-clause-closes
+returns-clause-closes g c =
     let low : c.self.inside.moment ≤ c.args.moment = search rules in
     let there = rw (← c.self.view_is) at c.requires.open in
     rw (← c.self.view_is) (closed g.K.Keeper.failed c.args.session.serial (cause_view c.args.cause) c.self.inside.live c.close.new.self c.self.inside.moment c.args.moment c.close.ensures c.self.inside.history c.push.new.self c.entry_without_choice.result c.self.inside.source low there c.push.ensures c.entry_without_choice.ensures)

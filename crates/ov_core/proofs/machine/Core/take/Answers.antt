@@ -28,8 +28,8 @@ take-draws-requires g c =
       );
     }
 
-pub returns : goal.returns
-returns g c =
+pub returns-clause-steps : goal.returns-clause-steps
+returns-clause-steps g c =
     let low : c.self.inside.moment ≤ c.args.moment = search rules in
     let comes = rw c.into_parts-message.ensures.message at c.take-draws.ensures.comes_to in
     let entry = entered_as c.args.moment c.args.session.serial c.args.received _ c.take-draws.result.items _ c.entry_with_choice.result c.entry_with_choice.ensures c.into_parts-message.ensures.text in

@@ -7,12 +7,12 @@ pub returns-clause-ticked : goal.returns-clause-ticked
 returns-clause-ticked g c =
     let low : c.self.inside.moment ≤ c.args.moment = search rules in
     rw (← c.self.view_is) (ticked g.K.Keeper.failed g.D.Draws.draws c.self.inside.live c.tick.new.self c.self.inside.moment c.args.moment c.tick.new.attempts.items c.self.inside.history c.push.new.self c.entry_with_choice.result c.self.inside.source
-    c.tick.ensures low c.push.ensures (rw c.new.ensures.items at c.entry_with_choice.ensures))
+    c.tick.ensures.comes_to low c.push.ensures (rw c.new.ensures.items at c.entry_with_choice.ensures))
 
 pub invariant_of-self : goal.invariant_of-self
 invariant_of-self g c =
     let low : c.self.inside.moment ≤ c.args.moment = search rules in (
-      has_entered g.K.Keeper.failed Tick c.self.inside.live c.tick.new.self c.self.inside.moment c.args.moment _ c.tick.new.attempts.items c.tick.ensures c.self.inside.history c.push.new.self c.entry_with_choice.result
+      has_entered g.K.Keeper.failed Tick c.self.inside.live c.tick.new.self c.self.inside.moment c.args.moment _ c.tick.new.attempts.items c.tick.ensures.comes_to c.self.inside.history c.push.new.self c.entry_with_choice.result
           low c.push.ensures (rw c.new.ensures.items at c.entry_with_choice.ensures) refl c.self.invariant.0,
-      c.tick.ensures.untried,
+      c.tick.ensures.comes_to.untried,
     )

@@ -7,6 +7,7 @@ use Rattle.ov_desk.proofs.hall.Hall.tend.Given as goal
 abbrev pub invariant-loop-at : goal.invariant-loop-at
 invariant-loop-at g l = record {
   goes : (moment : ℕ) → GoesOn moment l.initial.self.desk.core l.initial.self.desk.lanes.items l.self.desk.core l.self.desk.lanes.items;
+  core : l.self.desk.core ≡ l.initial.self.desk.core;
   many : vec_len l.self.desk.lanes ≡ vec_len l.initial.self.desk.lanes;
   same : (l.self.keeps ≡ l.initial.self.keeps) × (l.self.accepted ≡ l.initial.self.accepted);
   kept : l.initial.self.keeps ≡ true → StayAs IsTended l.initial.self.desk.lanes.items l.self.desk.lanes.items × (l.self.workers ≡ l.initial.self.workers);

@@ -4,12 +4,12 @@ use Rattle.ov_streams.proofs.Suiting.{finished, not_finished}
 use Rattle.ov_streams.proofs.streams.Streams.finish.Goals as goal
 use Rattle.ov_streams.proofs.Entering.{it_closed}
 
-pub returns-then-is_open : goal.returns-then-is_open
-returns-then-is_open g c =
+pub returns-then-is_open-clause-serves : goal.returns-then-is_open-clause-serves
+returns-then-is_open-clause-serves g c =
     let there : is_open c.self.inside.core.state c.args.session ≡ true = search rules in
-    rw (← c.self.view_is) (finished c.args.session _ _ refl there (rw c.session_of-session.ensures at (it_closed c.close.result _ _ _ c.close.ensures (sym c.if-is_open.ensures))))
+    rw (← c.self.view_is) (finished c.args.session _ _ refl there (rw c.session_of-session.ensures at (it_closed c.close.result _ _ _ c.close.ensures.closes (sym c.if-is_open.ensures))))
 
-pub returns-else-is_open : goal.returns-else-is_open
-returns-else-is_open g c =
+pub returns-else-is_open-clause-serves : goal.returns-else-is_open-clause-serves
+returns-else-is_open-clause-serves g c =
     let away : is_open c.self.inside.core.state c.args.session ≡ false = search rules in
     rw (← c.self.view_is) (not_finished c.args.session _ _ refl away)

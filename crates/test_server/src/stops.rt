@@ -1,0 +1,305 @@
+//! Machines over files that fail, and what is found when the files are opened again.
+
+use crate::failing::{Failing, Image, NEVER, Stop, files_of, image_of, image_of_crash, no_files};
+use ov_base::{Bytes, Text};
+use ov_core::{Core, Event};
+use ov_keeper::Keeper;
+use ov_rpc::Received;
+use ov_store::once::FailsOnce;
+use ov_store::store_over;
+use sqlite::{Alter, Connection, Files, Options};
+use sqlite_disk::{Fuse, Memory};
+use std::alloc::Global;
+use std::test::Fail;
+use test_basics::{Counter, NET, is_text, net};
+use test_support::session_of;
+
+/// Transactions over files that fail.
+#[derive(Clone, Copy)]
+pub(crate) struct Case<'a> {
+    /// The messages that are taken before, over files that do not fail, one in a line.
+    pub before: &'a str,
+    /// The messages that are taken over files that fail.
+    pub messages: &'a str,
+    /// The message that is answered with what the database holds.
+    pub look: &'a str,
+    /// Its answers: before the messages, and after each of them.
+    pub answers: &'a str,
+    /// Whether outcomes are told by the replies and the answer in full.
+    pub is_in_full: bool,
+    /// Whether no call of the opening fails.
+    pub is_opened: bool,
+}
+
+/// The largest number of runs over one file.
+const RUNS: u64 = 400;
+
+/// Adds the reply to a message, followed by how often the device has failed if the reply has an error.
+fn push_reply<K: Keeper + Drop>(
+    alloc: Global,
+    core: &mut Core<K, Counter>,
+    message: &str,
+    replies: &mut String,
+) -> Result<(), Fail> {
+    let received = Received::read(alloc, Bytes::from_slice(alloc, message.as_bytes())?)?;
+    core.step(alloc, 0, Event::Take(session_of(1), received));
+    let reply = String::from_utf8(core.take_output(alloc, session_of(1))?.into_vec())?;
+    replies.push_str(reply.as_str())?;
+    if has_error(reply.as_str()) {
+        replies.push_str(format!(in alloc; " {}", core.failures())?.as_str())?;
+    }
+    replies.push_str("\n")?;
+    Ok(())
+}
+
+/// Whether a reply has an error, of its own or of one of its operations.
+fn has_error(reply: &str) -> bool {
+    reply.contains("\"error\":\"")
+}
+
+/// The replies of a machine to messages of its first session, each in a line.
+fn replies_of<K: Keeper + Drop>(
+    alloc: Global,
+    core: &mut Core<K, Counter>,
+    messages: &str,
+) -> Result<String, Fail> {
+    let mut replies = String::new(alloc);
+    core.step(alloc, 0, Event::Open);
+    for message in messages.lines() {
+        push_reply(alloc, core, message, &mut replies)?;
+    }
+    Ok(replies)
+}
+
+/// The replies of a machine over a keeper, which is given back. None if the machine is not opened.
+fn replies_over<K: Keeper + Drop>(
+    alloc: Global,
+    keeper: K,
+    messages: &str,
+) -> Result<(K, String), Fail> {
+    let schema = net(alloc)?;
+    match Core::open(alloc, keeper, schema, Counter::new()) {
+        Ok(core) => {
+            let mut core = core;
+            let replies = replies_of(alloc, &mut core, messages)?;
+            Ok((core.into_keeper(), replies))
+        }
+        Err(refused) => Ok((refused.keeper, String::new(alloc))),
+    }
+}
+
+/// The replies of a machine over the store of a connection, which is made if there is none.
+fn replies_at<S: Alter + Drop>(
+    alloc: Global,
+    connection: Connection<S>,
+    messages: &str,
+) -> Result<(S, String), Fail> {
+    if !connection.is_autocommit() {
+        return Err(Fail::new("in a transaction"));
+    }
+    let text = Text::from_str(alloc, NET)?;
+    match store_over(alloc, connection, text) {
+        Ok(store) => {
+            let (store, replies) = replies_over(alloc, store, messages)?;
+            Ok((store.close().into_store(), replies))
+        }
+        Err(refused) => Ok((refused.connection.into_store(), String::new(alloc))),
+    }
+}
+
+/// The replies of a machine over files, which are given back. The number goes into the log, and differs from that of the
+/// machines before and after.
+fn replies_in<D: Failing>(
+    alloc: Global,
+    files: Files<D>,
+    number: u64,
+    messages: &str,
+) -> Result<(Files<D>, String), Fail> {
+    if !files.may_be_used() {
+        return Err(Fail::new("not usable"));
+    }
+    match Connection::open_files(alloc, files, Options::new(number)) {
+        Ok(connection) => {
+            let (store, replies) = replies_at(alloc, connection, messages)?;
+            Ok((store.close(), replies))
+        }
+        Err((_, left)) => Ok((left.into_files(), String::new(alloc))),
+    }
+}
+
+/// The image that messages leave over files that do not fail, whatever they held.
+fn image_after<D: Failing>(alloc: Global, messages: &str) -> Result<Image, Fail> {
+    let files = files_of::<D>(alloc, &no_files(alloc), NEVER)?;
+    let (files, replies) = replies_in(alloc, files, 1, messages)?;
+    if has_error(replies.as_str()) {
+        return Err(Fail::new(replies));
+    }
+    image_of(alloc, &files)
+}
+
+/// The reply of a machine over files that hold an image.
+fn found<D: Failing>(alloc: Global, image: &Image, look: &str) -> Result<String, Fail> {
+    let files = files_of::<D>(alloc, image, NEVER)?;
+    let (_, replies) = replies_in(alloc, files, 3, look)?;
+    Ok(replies)
+}
+
+/// The number of replies without an error. Fails if one follows a reply with an error.
+fn number_answered(replies: &str) -> Result<usize, Fail> {
+    let mut answered: usize = 0;
+    let mut refused: usize = 0;
+    for reply in replies.lines() {
+        if has_error(reply) {
+            refused = refused.saturating_add(1);
+        } else if refused == 0 {
+            answered = answered.saturating_add(1);
+        } else {
+            return Err(Fail::new("answered after an error"));
+        }
+    }
+    Ok(answered)
+}
+
+/// The number of messages after which this is the answer to the look.
+fn place_of(answers: &str, found: &str) -> Option<usize> {
+    let found = found.strip_suffix("\n").unwrap_or(found);
+    answers.lines().position(|answer| answer == found)
+}
+
+/// What comes of a run: how many messages were answered without an error, and how many were found; or the replies and what
+/// was found, in full.
+fn outcome(alloc: Global, case: &Case<'_>, replies: &str, found: &str) -> Result<String, Fail> {
+    if case.is_in_full {
+        return Ok(format!(in alloc; "{replies}{found}\n")?);
+    }
+    let answered = number_answered(replies)?;
+    match place_of(case.answers, found) {
+        Some(place) => Ok(format!(in alloc; "{answered} answered, {place} found\n")?),
+        None => Ok(format!(in alloc; "{answered} answered, found {found}")?),
+    }
+}
+
+/// Adds an outcome, unless it is there.
+fn add_new(outcomes: &mut Vec<String>, outcome: String) -> Result<(), Fail> {
+    for known in outcomes.iter() {
+        if known.as_str() == outcome.as_str() {
+            return Ok(());
+        }
+    }
+    outcomes.push(outcome)?;
+    Ok(())
+}
+
+/// Adds what comes of a run that was answered this and left this image.
+fn add_outcome<D: Failing>(
+    alloc: Global,
+    case: &Case<'_>,
+    replies: &str,
+    image: Image,
+    outcomes: &mut Vec<String>,
+) -> Result<(), Fail> {
+    let found = found::<D>(alloc, &image, case.look)?;
+    add_new(outcomes, outcome(alloc, case, replies, found.as_str())?)
+}
+
+/// Adds what comes of a run over files that fail: where the program ends after it, and nothing that was written is lost, and
+/// where the machine stops. Returns whether a call failed.
+fn add_outcomes<D: Failing>(
+    alloc: Global,
+    case: &Case<'_>,
+    image: &Image,
+    stop: Stop,
+    outcomes: &mut Vec<String>,
+) -> Result<bool, Fail> {
+    let files = files_of::<D>(alloc, image, stop)?;
+    let (mut files, replies) = replies_in(alloc, files, 2, case.messages)?;
+    let has_failed = files.log.has_failed() || files.db.has_failed();
+    let left = image_of(alloc, &files)?;
+    add_outcome::<D>(alloc, case, replies.as_str(), left, outcomes)?;
+    let left = image_of_crash(alloc, files)?;
+    add_outcome::<D>(alloc, case, replies.as_str(), left, outcomes)?;
+    Ok(has_failed)
+}
+
+/// A number of calls of each file.
+#[derive(Clone, Copy)]
+struct Calls {
+    log: u64,
+    db: u64,
+}
+
+/// The number of calls of each file of an image until a machine is open.
+fn calls_to_open(alloc: Global, image: &Image) -> Result<Calls, Fail> {
+    let files = files_of::<FailsOnce<Memory>>(alloc, image, NEVER)?;
+    let (files, _) = replies_in(alloc, files, 2, "")?;
+    Ok(Calls {
+        log: calls_of(&files.log),
+        db: calls_of(&files.db),
+    })
+}
+
+/// The number of calls of a disk that was not to fail.
+fn calls_of(disk: &FailsOnce<Memory>) -> u64 {
+    u64::MAX - disk.calls_left().unwrap_or(0)
+}
+
+/// Adds what comes of runs over files that fail at this stop and, in each next run, one call later, until a run meets no
+/// failure.
+fn add_all_outcomes<D: Failing>(
+    alloc: Global,
+    case: &Case<'_>,
+    image: &Image,
+    first: Stop,
+    outcomes: &mut Vec<String>,
+) -> Result<(), Fail> {
+    let mut stop = first;
+    for _ in 0..RUNS {
+        if !add_outcomes::<D>(alloc, case, image, stop, outcomes)? {
+            return Ok(());
+        }
+        stop.calls = stop.calls.saturating_add(1);
+    }
+    Err(Fail::new("each run fails"))
+}
+
+/// The number of calls of each file before the first that fails in a run.
+fn first_calls(alloc: Global, case: &Case<'_>, image: &Image) -> Result<Calls, Fail> {
+    if case.is_opened {
+        calls_to_open(alloc, image)
+    } else {
+        Ok(Calls { log: 0, db: 0 })
+    }
+}
+
+/// All that may come of a case, each outcome once.
+fn outcomes_of<D: Failing>(alloc: Global, case: &Case<'_>) -> Result<String, Fail> {
+    let image = image_after::<D>(alloc, case.before)?;
+    let first = first_calls(alloc, case, &image)?;
+    let mut outcomes = Vec::new(alloc);
+    for (is_log, calls) in [(true, first.log), (false, first.db)] {
+        let stop = Stop { is_log, calls };
+        add_all_outcomes::<D>(alloc, case, &image, stop, &mut outcomes)?;
+    }
+    joined(alloc, outcomes.as_slice())
+}
+
+/// The texts, joined.
+fn joined(alloc: Global, texts: &[String]) -> Result<String, Fail> {
+    let mut all = String::new(alloc);
+    for text in texts {
+        all.push_str(text.as_str())?;
+    }
+    Ok(all)
+}
+
+/// Fails unless the outcomes of a case are these, over files that stop.
+pub(crate) fn stops(alloc: Global, case: &Case<'_>, wanted: &str) -> Result<(), Fail> {
+    let outcomes = outcomes_of::<Fuse<Memory>>(alloc, case)?;
+    is_text(alloc, outcomes.as_str(), wanted)
+}
+
+/// The same over files that fail once and go on.
+pub(crate) fn fails_once(alloc: Global, case: &Case<'_>, wanted: &str) -> Result<(), Fail> {
+    let outcomes = outcomes_of::<FailsOnce<Memory>>(alloc, case)?;
+    is_text(alloc, outcomes.as_str(), wanted)
+}
