@@ -92,7 +92,7 @@ fn a_stopped_delete_takes_all_or_nothing_with_it(rt: HostRuntime) -> Result<(), 
 }
 
 /// One transaction of this number of inserts.
-fn inserts(alloc: Global, count: u64) -> Result<String, Fail> {
+pub(crate) fn inserts(alloc: Global, count: u64) -> Result<String, Fail> {
     let mut message = String::from_str(
         alloc,
         "{\"id\":1,\"method\":\"transact\",\"params\":[\"Net\"",

@@ -292,6 +292,19 @@ fn joined(alloc: Global, texts: &[String]) -> Result<String, Fail> {
     Ok(all)
 }
 
+/// Whether the database file is longer after the messages of a case, over files that do not fail.
+fn is_longer_after<D: Failing>(alloc: Global, case: &Case<'_>) -> Result<bool, Fail> {
+    let image = image_after::<D>(alloc, case.before)?;
+    let files = files_of::<D>(alloc, &image, NEVER)?;
+    let (files, _) = replies_in(alloc, files, 2, case.messages)?;
+    Ok(files.db.memory().bytes().len() > image.db.len())
+}
+
+/// The same over files that could stop.
+pub(crate) fn grows(alloc: Global, case: &Case<'_>) -> Result<bool, Fail> {
+    is_longer_after::<Fuse<Memory>>(alloc, case)
+}
+
 /// Fails unless the outcomes of a case are these, over files that stop.
 pub(crate) fn stops(alloc: Global, case: &Case<'_>, wanted: &str) -> Result<(), Fail> {
     let outcomes = outcomes_of::<Fuse<Memory>>(alloc, case)?;
