@@ -32,8 +32,8 @@ pub(crate) fn fault_of(error: &Error) -> KeepFault
     refusal(error).unwrap_or(KeepFault::Device)
 }
 
-/// Why a write stopped. On a device that failed, the commit may have gone through; a call that succeeds shows that it did not. That
-/// call takes no memory once the lines were read.
+/// Why a write stopped. After an error at the commit itself the commit may be stored; a statement that succeeds shows that it is
+/// not. This statement takes no memory if the lines were read before.
 pub fn fault_at<S: Alter>(conn: &mut Connection<S>, failure: &WriteError) -> KeepFault
     requires { conn.old.in_transaction ≡ false }
     ensures mode { conn.new.in_transaction ≡ false }

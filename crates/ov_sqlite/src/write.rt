@@ -162,8 +162,8 @@ pub fn write_all<S: Alter>(conn: &mut Connection<S>, changes: &[Change]) -> Resu
     }
 }
 
-/// Asks whether the connection is open, by a call that does nothing else. If it was asked before, this takes no memory: the
-/// connection keeps the statement.
+/// Tests whether the connection still works, by a statement that does nothing. The connection keeps this statement, so only the
+/// first call takes memory.
 pub(crate) fn probe<S: Alter>(conn: &mut Connection<S>) -> Result<(), Error>
     requires { conn.old.in_transaction ≡ false }
     ensures mode { conn.new.in_transaction ≡ false }

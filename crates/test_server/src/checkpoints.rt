@@ -43,7 +43,8 @@ fn loads(alloc: Global, first: u64, last: u64) -> Result<String, Fail> {
     Ok(answers)
 }
 
-/// Each of so many commits that fails is found whole or not at all, and all that were answered are found.
+/// What a file that fails during each of `count` commits may leave: every commit that was answered, and the next one whole or not
+/// at all.
 fn each(alloc: Global, count: u64) -> Result<String, Fail> {
     let mut outcomes = String::new(alloc);
     for done in 0..count {
@@ -60,7 +61,7 @@ fn each(alloc: Global, count: u64) -> Result<String, Fail> {
 /// The commits in which a file fails. During one of them the log comes to a thousand pages, and is copied into the file.
 const MORE: u64 = 8;
 
-/// Whether so many commits over new files copy the log into the file.
+/// Whether `count` commits over new files copy the log into the file.
 fn is_copied(alloc: Global, count: u64) -> Result<bool, Fail> {
     let messages = counted_up(alloc, count)?;
     grows(
@@ -76,7 +77,7 @@ fn is_copied(alloc: Global, count: u64) -> Result<bool, Fail> {
     )
 }
 
-/// The least number of commits over new files that copies the log into the file, if it is at most 2,048.
+/// The least number of commits over new files, up to 2,048, that copies the log into the file.
 fn commits_to_copy(alloc: Global) -> Result<u64, Fail> {
     let mut few: u64 = 0;
     let mut many: u64 = 2_048;

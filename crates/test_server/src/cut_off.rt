@@ -154,7 +154,7 @@ fn a_writer_may_stop_after_any_byte(rt: HostRuntime) -> Result<(), Fail> {
     Ok(())
 }
 
-/// An array in an array, and so on, so many of them.
+/// Arrays nested this many levels deep.
 fn nest(alloc: Global, levels: usize) -> Result<String, Fail> {
     let mut text = String::from_utf8(vec![in alloc; b'['; levels]?)?;
     text.push_str(String::from_utf8(vec![in alloc; b']'; levels]?)?.as_str())?;
