@@ -24,11 +24,11 @@ PassesOk test (Ok a) = test a ≡ true
 
 -- ---- conditions
 
-value_passes : (t : ColumnType) (r : Reading Datum) → ((v : Datum) → r ≡ Reads v → is_of (kinds_of t) v ≡ true) → PassesOk (is_of (kinds_of t)) (value_read t r)
-value_passes t Unreadable h = tt
-value_passes t Clashing h = tt
-value_passes t (Reads v) h =
-    elim (has_right_count t v) as (λ b. PassesOk {E = ConditionFault} (is_of (kinds_of t)) (if b then Ok v else Err BadCondition)) [
+value_passes : (t : ColumnType) (f : Function) (r : Reading Datum) → ((v : Datum) → r ≡ Reads v → is_of (kinds_of t) v ≡ true) → PassesOk (is_of (kinds_of t)) (value_read t f r)
+value_passes t f Unreadable h = tt
+value_passes t f Clashing h = tt
+value_passes t f (Reads v) h =
+    elim (has_right_count t f v) as (λ b. PassesOk {E = ConditionFault} (is_of (kinds_of t)) (if b then Ok v else Err BadCondition)) [
       | true ↦ h v refl
       | false ↦ tt
     ]
@@ -42,8 +42,8 @@ module _ (table : Table) (name : List ℕ) (column : Column) (is : get table.col
   with_function_passes names are c e None = tt
   with_function_passes names are c e (Some f) =
       let t = column.type_of in
-      subst (λ n. PassesOk (suits_condition table) (with_value n f (value_read t (reads names (kinds_of t) c.value)))) (sym e)
-      (with_value_passes f _ (value_passes t _ (reads_is_of names are (kinds_of t) c.value)))
+      subst (λ n. PassesOk (suits_condition table) (with_value n f (value_read t f (reads names (kinds_of t) c.value)))) (sym e)
+      (with_value_passes f _ (value_passes t f _ (reads_is_of names are (kinds_of t) c.value)))
 
 module _ (names : Names) (are : AreUuids names) (table : Table) where
   condition_on_passes : (c : Triple) (found : Option Column) → get table.columns c.column ≡ found → PassesOk (suits_condition table) (condition_on names c found)

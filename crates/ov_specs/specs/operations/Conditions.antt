@@ -1,5 +1,5 @@
 -- The conditions of a "where", and whether a row meets one (RFC 7047, 5.1, <condition>).
-use Rattle.std.specs.Prelude.{pos, ℤ, int_lt, int_le, nat_eq, ◌&&◌, not, is_none, List, [], ◌∷◌, ℕ, Bool, true, false, if◌then◌else◌, Option, Some, None, option_map, option_and_then, unwrap_or, codes, Result, Ok, Err}
+use Rattle.std.specs.Prelude.{pos, ℤ, int_lt, int_le, nat_eq, ◌&&◌, ◌||◌, not, is_none, List, [], ◌∷◌, ℕ, Bool, true, false, if◌then◌else◌, Option, Some, None, option_map, option_and_then, unwrap_or, codes, Result, Ok, Err}
 use Rattle.std.specs.List.{list_all}
 use Rattle.std.specs.FinMap.{get, contains_key, keys, entries}
 use Rattle.serde_json.specs.Data.{Data, Items, no_items, item}
@@ -89,9 +89,21 @@ function_of word =
 abbrev is_one : ℤ → Bool
 is_one n = int_le (pos 1) n && int_le n (pos 1)
 
+-- the number 0
+abbrev is_zero : ℤ → Bool
+is_zero n = int_le (pos 0) n && int_le n (pos 0)
+
+-- at most one atom or pair (RFC 7047, 3.2, <type>, max)
+abbrev at_most_one : ColumnType → Bool
+at_most_one t = unwrap_or (option_map is_one t.max) false
+
 -- exactly one atom (RFC 7047, 3.2, <type>)
 abbrev pub is_scalar : ColumnType → Bool
-is_scalar t = is_none t.value && is_one t.min && unwrap_or (option_map is_one t.max) false
+is_scalar t = is_none t.value && is_one t.min && at_most_one t
+
+-- one atom or none (RFC 7047, 3.2, <type>)
+abbrev pub is_optional : ColumnType → Bool
+is_optional t = is_none t.value && is_zero t.min && at_most_one t
 
 -- an integer (RFC 7047, 3.2, <atomic-type>)
 abbrev pub is_integers : AtomKind → Bool
@@ -100,30 +112,38 @@ is_integers Booleans = false
 is_integers Texts = false
 is_integers Uuids = false
 
--- the function is allowed on the column: an order only on one integer, the others on every type (RFC 7047, 5.1, <function>)
+-- the function is a relation of two numbers (RFC 7047, 5.1, <function>)
+abbrev pub is_relation : Function → Bool
+is_relation Less = true
+is_relation LessOrEqual = true
+is_relation Greater = true
+is_relation GreaterOrEqual = true
+is_relation Equal = false
+is_relation NotEqual = false
+is_relation Includes = false
+is_relation Excludes = false
+
+-- the column has one integer (RFC 7047, 5.1, <function>), or at most one (ovsdb-server(7))
+abbrev pub allows_relations : ColumnType → Bool
+allows_relations t = (is_scalar t || is_optional t) && is_integers t.key.kind
+
+-- the function is allowed on the column: a relation only on such a one, the others on every type (RFC 7047, 5.1, <function>)
 abbrev pub allows_function : ColumnType → Function → Bool
-allows_function t Less = is_scalar t && is_integers t.key.kind
-allows_function t LessOrEqual = is_scalar t && is_integers t.key.kind
-allows_function t Greater = is_scalar t && is_integers t.key.kind
-allows_function t GreaterOrEqual = is_scalar t && is_integers t.key.kind
-allows_function t Equal = true
-allows_function t NotEqual = true
-allows_function t Includes = true
-allows_function t Excludes = true
+allows_function t f = if is_relation f then allows_relations t else true
 
 -- the function of the word, if it is allowed on the column (RFC 7047, 5.1, <function>)
 abbrev pub function_on : ColumnType → List ℕ → Option Function
 function_on t word = option_and_then (λ f. if allows_function t f then Some f else None) (function_of word)
 
--- the value has one atom if the column is a scalar
-abbrev pub has_right_count : ColumnType → Datum → Bool
-has_right_count t value = if is_scalar t then nat_eq (count value) 1 else true
+-- the value has one atom if the column is a scalar or the function is a relation
+abbrev pub has_right_count : ColumnType → Function → Datum → Bool
+has_right_count t f value = if is_scalar t || is_relation f then nat_eq (count value) 1 else true
 
 -- the value that was read, of the right count
-abbrev pub value_read : ColumnType → Reading Datum → Result Datum ConditionFault
-value_read t reading.Unreadable = Err BadCondition
-value_read t reading.Clashing = Err Clash
-value_read t (Reads value) = if has_right_count t value then Ok value else Err BadCondition
+abbrev pub value_read : ColumnType → Function → Reading Datum → Result Datum ConditionFault
+value_read t f reading.Unreadable = Err BadCondition
+value_read t f reading.Clashing = Err Clash
+value_read t f (Reads value) = if has_right_count t f value then Ok value else Err BadCondition
 
 -- the condition with this value
 abbrev pub with_value : List ℕ → Function → Result Datum ConditionFault → Result Condition ConditionFault
@@ -133,7 +153,7 @@ with_value column f (Ok value) = Ok (record { column = column; function = f; val
 -- The condition with this function. Its value is read by the kinds of the column, and not by its constraints.
 abbrev pub with_function : Names → ColumnType → Triple → Option Function → Result Condition ConditionFault
 with_function names t c None = Err BadCondition
-with_function names t c (Some f) = with_value c.column f (value_read t (reads names (kinds_of t) c.value))
+with_function names t c (Some f) = with_value c.column f (value_read t f (reads names (kinds_of t) c.value))
 
 -- the condition on this column (RFC 7047, 5.1, <condition>)
 abbrev pub condition_on : Names → Triple → Option Column → Result Condition ConditionFault
@@ -161,7 +181,7 @@ abbrev pub lone_integer : List Atom → Option ℤ
 lone_integer (Integer n ∷ []) = Some n
 lone_integer atoms = None
 
--- the number that a scalar holds (RFC 7047, 5.1, <function>)
+-- the number of a column that holds one (RFC 7047, 5.1, <function>)
 abbrev pub number_in : Datum → Option ℤ
 number_in (Atoms atoms) = lone_integer (keys atoms)
 number_in (Pairs pairs) = None
