@@ -36,10 +36,10 @@ clash-any : (es : List Pair) → has_clash es ≡ list_any (differs es) es
 clash-any [] = refl
 clash-any (e ∷ es) =
     let here : Bool = differs es e in
-    let behind : list_any (λ p. differ_at_one_key p e || differs es p) es ≡ (here || has_clash es) =
+    let later : list_any (λ p. differ_at_one_key p e || differs es p) es ≡ (here || has_clash es) =
     any_or (λ p. differ_at_one_key p e) (differs es) es
     ∙ (ap (λ b. b || list_any (differs es) es) (any_alike (λ p. differ_at_one_key p e) (differ_at_one_key e) es (λ p. differ-swap p e)) ∙ ap (λ b. here || b) (sym (clash-any es))) in
-    sym (ap (λ b. (b || here) || list_any (λ p. differ_at_one_key p e || differs es p) es) (differ-itself e) ∙ (ap (λ b. here || b) behind ∙ or_twice here (has_clash es)))
+    sym (ap (λ b. (b || here) || list_any (λ p. differ_at_one_key p e || differs es p) es) (differ-itself e) ∙ (ap (λ b. here || b) later ∙ or_twice here (has_clash es)))
 
 -- ---- what is found
 

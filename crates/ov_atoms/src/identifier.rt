@@ -6,7 +6,7 @@ ghost use Rattle.ov_specs.specs.values.Reading.{uuid_read};
 
 use crate::id::is_id;
 use crate::names::Names;
-use crate::two::behind;
+use crate::two::tagged;
 use serde_json::Value;
 use uuid::Uuid;
 
@@ -49,12 +49,12 @@ fn parse_uuid(text: &str) -> Option<Uuid>
 pub(crate) fn uuid_of<N: Names>(tree: &Value, names: &N) -> Option<Uuid>
     ensures { result ≡ uuid_read (N.names names.now) (view tree.now) }
 {
-    if let Some(text) = behind("uuid", tree).and_then(Value::as_str)
+    if let Some(text) = tagged("uuid", tree).and_then(Value::as_str)
         && let Some(uuid) = parse_uuid(text)
     {
         return Some(uuid);
     }
-    let name = behind("named-uuid", tree)?.as_str()?;
+    let name = tagged("named-uuid", tree)?.as_str()?;
     if is_id(name) {
         names.uuid_of(name)
     } else {

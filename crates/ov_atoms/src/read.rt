@@ -13,7 +13,7 @@ use crate::fault::AtomFault;
 use crate::identifier::uuid_of;
 use crate::kind::{AtomKind, Kinds};
 use crate::names::Names;
-use crate::two::{as_two, behind};
+use crate::two::{as_two, tagged};
 use ov_base::Text;
 use serde_json::Value;
 use std::alloc::{AllocError, Global};
@@ -116,7 +116,7 @@ fn atoms_of<N: Names>(
 ) -> Result<Option<Vec<Atom>>, AllocError>
     ensures { IfOk result (λ o. option_map (λ v. atoms_view v.items) o ≡ atoms_read (N.names names.now) (kind_view kind) (view tree.now)) }
 {
-    match behind("set", tree) {
+    match tagged("set", tree) {
         Some(list) => match list.as_array() {
             Some(items) => each_atom(alloc, items, kind, names),
             None => Ok(None),
@@ -182,7 +182,7 @@ fn pairs_of<N: Names>(
 ) -> Result<Option<Vec<(Atom, Atom)>>, AllocError>
     ensures { IfOk result (λ o. option_map (λ v. pairs_view v.items) o ≡ pairs_read (N.names names.now) (kind_view key) (kind_view value) (view tree.now)) }
 {
-    match behind("map", tree) {
+    match tagged("map", tree) {
         Some(list) => match list.as_array() {
             Some(items) => each_pair(alloc, items, key, value, names),
             None => Ok(None),

@@ -1,6 +1,6 @@
 ghost use Rattle.std.specs.Prelude.{◌≡◌, option_map};
 ghost use Rattle.serde_json.specs.View.{view};
-ghost use Rattle.ov_specs.specs.values.Reading.{as_two, behind};
+ghost use Rattle.ov_specs.specs.values.Reading.{as_two, tagged};
 
 use serde_json::Value;
 
@@ -16,8 +16,8 @@ pub(crate) fn as_two(tree: &Value) -> Option<(&Value, &Value)>
 }
 
 /// The item after this word in an array of two, as in `["set",[..]]`.
-pub(crate) fn behind<'a>(word: &str, tree: &'a Value) -> Option<&'a Value>
-    ensures { option_map (λ v. view v.now) result ≡ behind word.now (view tree.now) }
+pub(crate) fn tagged<'a>(word: &str, tree: &'a Value) -> Option<&'a Value>
+    ensures { option_map (λ v. view v.now) result ≡ tagged word.now (view tree.now) }
 {
     let (first, second) = as_two(tree)?;
     if first.as_str()? == word {

@@ -35,9 +35,9 @@ failed_before : (a b c : ℕ) → HasFailed a b → b ≤ c → HasFailed a c
 failed_before a b c (inl less) up = inl (omega (arith, less, up))
 failed_before a b c (inr most) up = inr most
 
-failed_behind : (a b c : ℕ) → a ≤ b → b ≤ c → HasFailed b c → HasFailed a c
-failed_behind a b c up more (inl less) = inl (omega (arith, less, up))
-failed_behind a b c up more (inr most) = elim (cases_order a b) [
+failed_after : (a b c : ℕ) → a ≤ b → b ≤ c → HasFailed b c → HasFailed a c
+failed_after a b c up more (inl less) = inl (omega (arith, less, up))
+failed_after a b c up more (inr most) = elim (cases_order a b) [
   | inl same ↦ inr (same ∙ most)
   | inr other ↦ elim other [
     | inl less ↦ inl (omega (arith, less, more))
@@ -56,10 +56,10 @@ asks_then failed xs ys a b c one two = record {
       two.unasked parts.1 ∙ one.unasked parts.0;
   failure = λ some. elim (one_of (some_outcome is_failure xs) (some_outcome is_failure ys) (sym (some-append is_failure xs ys) ∙ some)) [
     | inl first ↦ failed_before (failed a.keeper) (failed b.keeper) (failed c.keeper) (one.failure first) two.counts
-    | inr then ↦ failed_behind (failed a.keeper) (failed b.keeper) (failed c.keeper) one.counts two.counts (two.failure then)
+    | inr then ↦ failed_after (failed a.keeper) (failed b.keeper) (failed c.keeper) one.counts two.counts (two.failure then)
   ];
   seal = λ before after. elim (sealed_by b.sealed) [
-    | inl between ↦ failed_behind (failed a.keeper) (failed b.keeper) (failed c.keeper) one.counts two.counts (two.seal between after)
+    | inl between ↦ failed_after (failed a.keeper) (failed b.keeper) (failed c.keeper) one.counts two.counts (two.seal between after)
     | inr between ↦ failed_before (failed a.keeper) (failed b.keeper) (failed c.keeper) (one.seal before between) two.counts
   ];
   counts = omega (arith, one.counts, two.counts);

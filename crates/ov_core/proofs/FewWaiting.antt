@@ -248,9 +248,9 @@ try_open s o outcome t holds there h =
 settle_open : (s : State) (number : ℕ) (attempts : List Attempt) (p : Passed) → AreOpen s → settle s number attempts ≡ Some p → AreOpen (left_by p)
 settle_open s number attempts p holds h = settle_keeps (λ t sent. AreOpen t) (λ o. true) kept s number attempts p holds h
   where
-    behind : (t : State) (waiting : List Outstanding) → list_all (λ o. is_open t o.session) (still_waiting t waiting) ≡ true
-    behind t [] = refl
-    behind t (o ∷ waiting) = by (is_open t o.session) refl (behind t waiting)
+    after : (t : State) (waiting : List Outstanding) → list_all (λ o. is_open t o.session) (still_waiting t waiting) ≡ true
+    after t [] = refl
+    after t (o ∷ waiting) = by (is_open t o.session) refl (after t waiting)
       where
         by : (b : Bool) → is_open t o.session ≡ b → list_all (λ w. is_open t w.session) (still_waiting t waiting) ≡ true → list_all (λ w. is_open t w.session) (cond b (o ∷ still_waiting t waiting) (still_waiting t waiting)) ≡ true
         by true e rest = and_from (is_open t o.session) (list_all (λ w. is_open t w.session) (still_waiting t waiting)) e rest
@@ -261,7 +261,7 @@ settle_open s number attempts p holds h = settle_keeps (λ t sent. AreOpen t) (�
       aside = λ t sent h. (refl, all-any t.outstanding);
       back = λ t sent waiting h all.
           list_all-append (λ o. is_open t o.session) t.outstanding (still_waiting t waiting)
-          ∙ and_from (list_all (λ o. is_open t o.session) t.outstanding) (list_all (λ o. is_open t o.session) (still_waiting t waiting)) h (behind t waiting);
+          ∙ and_from (list_all (λ o. is_open t o.session) t.outstanding) (list_all (λ o. is_open t o.session) (still_waiting t waiting)) h (after t waiting);
       tries = λ t sent o outcome u h all there again. try_open t o outcome u h there again;
     }
 

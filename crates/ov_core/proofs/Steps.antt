@@ -32,7 +32,7 @@ use Rattle.ov_core.specs.Following.{CoreState, EntersEntry, Follows, none_given}
 use Rattle.ov_history.specs.History.{newest, HasHistory}
 use Rattle.ov_core.specs.Stepping.{closing, AsksKeeper, Closes, HasSameKeeper, IsEntered, has_outcome}
 use Rattle.ov_outbox.proofs.Answered.{frames_to-append}
-use Rattle.ov_history.proofs.Histories.{entered_behind, keeps_more, has_more}
+use Rattle.ov_history.proofs.Histories.{entered_after, keeps_more, has_more}
 use Rattle.ov_core.proofs.Settlings.{closed_state}
 use Rattle.ov_core.proofs.Watching.{any-serial, left-open, sessions-opened}
 
@@ -49,10 +49,10 @@ moves_with old new e x sent stepped kept is waits = record {
     follows = λ before history given f. record {
       sent = f.sent ++ sent;
       legal = run_more before history e (record { state = old.state; sent = f.sent }) (record { state = new.state; sent = sent }) f.legal stepped;
-      kept = keeps_more old.kept new.kept history e f.kept (entered_behind old.kept new.kept x e kept is);
+      kept = keeps_more old.kept new.kept history e f.kept (entered_after old.kept new.kept x e kept is);
       issued = λ s. frames_to-append s f.sent sent ∙ (ap (λ (fs : List (List ℕ)). fs ++ frames_to s sent) (f.issued s) ∙ (append_assoc (given s) (waiting_for s old.outbox) (frames_to s sent) ∙ ap (λ (fs : List (List ℕ)). given s ++ fs) (sym (waits s))));
     };
-    keeps = entered_behind old.kept new.kept x e kept is;
+    keeps = entered_after old.kept new.kept x e kept is;
   };
 }
 
@@ -108,7 +108,7 @@ module _ {K : Type 0} (failed : K → ℕ) (session : Session) (old new : Live K
       moves_silent (core_of failed old before was source) (core_of failed new m is source) (entry_of machine.Open (nothing_chosen m)) x (is_opening low) added same (λ s. ap (λ (l : Live K). waiting_for s l.outbox.frames) opens.same)
 
   pub has_opened : (was is : List Entry) (x : Entry) → before ≤ m → is ≡ newest (was ++ x ∷ []) → entry_view x ≡ entry_of machine.Open (nothing_chosen m) → HasHistory (state_of old before) was → HasHistory (state_of new m) is
-  has_opened was is x low added same has = has_more (state_of old before) (state_of new m) was is (entry_of machine.Open (nothing_chosen m)) [] (is_opening low) refl (entered_behind was is x _ added same) has
+  has_opened was is x low added same has = has_more (state_of old before) (state_of new m) was is (entry_of machine.Open (nothing_chosen m)) [] (is_opening low) refl (entered_after was is x _ added same) has
 
 -- a session that was closed
 module _ {K : Type 0} (failed : K → ℕ) (n : ℕ) (cause : machine.Cause) (old new : Live K) (before m : ℕ) (closes : ClosesSession n old new) where
@@ -132,7 +132,7 @@ module _ {K : Type 0} (failed : K → ℕ) (n : ℕ) (cause : machine.Cause) (ol
   }
 
   pub has_closed : (was is : List Entry) (x : Entry) → before ≤ m → machine.is_open (state_of old before) n ≡ true → is ≡ newest (was ++ x ∷ []) → entry_view x ≡ closing m n cause → HasHistory (state_of old before) was → HasHistory (state_of new m) is
-  has_closed was is x low there added same has = has_more (state_of old before) (state_of new m) was is (closing m n cause) sent (is_closing_of low there) refl (entered_behind was is x _ added same) has
+  has_closed was is x low there added same has = has_more (state_of old before) (state_of new m) was is (closing m n cause) sent (is_closing_of low there) refl (entered_after was is x _ added same) has
 
 -- what an event came to, as it was entered
 module _ {K : Type 0} (failed : K → ℕ) (event : machine.Event) (old new : Live K) (before m : ℕ) (draws : List Uuid) (attempts : List Attempt) (comes : ComesTo failed m event old draws attempts new) where
@@ -146,7 +146,7 @@ module _ {K : Type 0} (failed : K → ℕ) (event : machine.Event) (old new : Li
   enters was is x source after low added same = moves_with (core_of failed old before was source) (core_of failed new m is after) entered x comes.sent (is_step low) added same comes.posts
 
   pub has_entered : (was is : List Entry) (x : Entry) → before ≤ m → is ≡ newest (was ++ x ∷ []) → entry_view x ≡ entered → list_all is_uuid draws ≡ true → HasHistory (state_of old before) was → HasHistory (state_of new m) is
-  has_entered was is x low added same uuids has = has_more (state_of old before) (state_of new m) was is entered comes.sent (is_step low) uuids (entered_behind was is x entered added same) has
+  has_entered was is x low added same uuids has = has_more (state_of old before) (state_of new m) was is entered comes.sent (is_step low) uuids (entered_after was is x entered added same) has
 
   pub asks_entered : {D : Type 0} (was is : List Entry) (source after : D) → AsksKeeper (core_of failed old before was source) entered (core_of failed new m is after)
   asks_entered was is source after = record {

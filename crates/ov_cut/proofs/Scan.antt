@@ -6,7 +6,7 @@ use Rattle.std.proofs.lemmas.Bool.{eq-eqb, ne_eqb, le-ltb, lt-ltb, cases_eq, and
 use Rattle.std.proofs.lemmas.List.Sums.{sum_by-append}
 use Rattle.std.proofs.lemmas.List.Elements.{All-head, All-tail}
 use Rattle.std.proofs.lemmas.List.{append-nil, take_more, drop_more, drop-take, take-take, take-append-drop, length_push, length-append, length-take}
-use Rattle.ov_specs.specs.wire.Balance.{bare, behind_quote, behind_backslash, has_equal_braces, is_balanced, is_space}
+use Rattle.ov_specs.specs.wire.Balance.{bare, after_quote, after_backslash, has_equal_braces, is_balanced, is_space}
 use Rattle.ov_specs.specs.wire.Cut.{AllSpace, cut_from, after_byte, after_byte_inside, with_message, with_messages, continue_cut, max_message, Stray, TooLong}
 use Rattle.ov_specs.proofs.laws.Cuts.{cut_append}
 use Rattle.ov_cut.specs.declared.message.Mode.{Mode}
@@ -18,7 +18,7 @@ use Rattle.ov_cut.specs.Message.{mode_after, bare_in, LeavesMode, IsBegunAs, Bri
 count_push : (p : ℕ → Bool) (xs : List ℕ) (x : ℕ) → count_by p (xs ++ x ∷ []) ≡ count_by p xs + cond (p x) 1 0
 count_push p xs x = omega (arith, sum_by-append (λ y. cond (p y) 1 0) xs (x ∷ []))
 
-in_literal : (b c : Bool) (depth : ℕ) (more : List ℕ) → cond b (bare more) (cond c (behind_backslash more) (behind_quote more)) ≡ bare_in (cond {A = Mode × ℕ} b (Outside, depth) (cond c (Escaped, depth) (InLiteral, depth))).0 more
+in_literal : (b c : Bool) (depth : ℕ) (more : List ℕ) → cond b (bare more) (cond c (after_backslash more) (after_quote more)) ≡ bare_in (cond {A = Mode × ℕ} b (Outside, depth) (cond c (Escaped, depth) (InLiteral, depth))).0 more
 in_literal true c depth more = refl
 in_literal false true depth more = refl
 in_literal false false depth more = refl
@@ -43,7 +43,7 @@ outside_quote text depth x e l = record {
 outside_other : (text : List ℕ) (depth depth' x : ℕ) → x ≢ 34 → depth' + cond (eqb x 125) 1 0 ≡ depth + cond (eqb x 123) 1 0 → LeavesMode text Outside depth → LeavesMode (text ++ x ∷ []) Outside depth'
 outside_other text depth depth' x ne e l = record {
   kept = l.kept ++ x ∷ [];
-  reads = λ more. ap bare (append_assoc text (x ∷ []) more) ∙ (l.reads (x ∷ more) ∙ (ap (λ b. option_map (λ rest. l.kept ++ rest) (cond b (behind_quote more) (option_map (λ rest. x ∷ rest) (bare more)))) (ne_eqb x 34 ne) ∙ map_kept l.kept x (bare more)));
+  reads = λ more. ap bare (append_assoc text (x ∷ []) more) ∙ (l.reads (x ∷ more) ∙ (ap (λ b. option_map (λ rest. l.kept ++ rest) (cond b (after_quote more) (option_map (λ rest. x ∷ rest) (bare more)))) (ne_eqb x 34 ne) ∙ map_kept l.kept x (bare more)));
   braces = omega (arith, l.braces, e, count_push (λ y. eqb y 123) l.kept x, count_push (λ y. eqb y 125) l.kept x);
 }
 

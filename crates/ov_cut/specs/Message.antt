@@ -1,6 +1,6 @@
 -- How a message goes on; for private clauses.
 use Rattle.std.specs.Prelude.{◌≡◌, ℕ, ◌+◌, ◌-◌, ◌<◌, ◌≤◌, ◌==◌, List, [], ◌∷◌, ◌++◌, length, take, if◌then◌else◌, Option, Some, None, option_map, count_by}
-use Rattle.ov_specs.specs.wire.Balance.{bare, behind_quote, behind_backslash}
+use Rattle.ov_specs.specs.wire.Balance.{bare, after_quote, after_backslash}
 use Rattle.ov_specs.specs.wire.Cut.{cut_from, max_message, TooLong}
 use Rattle.ov_cut.specs.declared.message.Found.{Found}
 use Rattle.ov_cut.specs.declared.message.Found.TheVariants as found
@@ -17,8 +17,8 @@ mode_after Outside depth x = if x == 34 then (InLiteral, depth) else (if x == 12
 -- how the text without its literals goes on
 abbrev pub bare_in : Mode → List ℕ → Option (List ℕ)
 bare_in Outside = bare
-bare_in InLiteral = behind_quote
-bare_in Escaped = behind_backslash
+bare_in InLiteral = after_quote
+bare_in Escaped = after_backslash
 
 -- the text leaves this mode, and opened this many more braces than it closed
 pub record LeavesMode (text : List ℕ) (mode : Mode) (depth : ℕ) : Type 0 where

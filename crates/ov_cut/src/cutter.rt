@@ -193,8 +193,8 @@ impl Cutter {
         ensures takes { TakesFront self.old messages.old.items piece.now result self.new messages.new.items }
         ensures looked { LooksAtFront self.old.looked piece.now result (self.new.looked + 1) }
     {
-        let (brace, behind) = piece.split_at(1);
-        match find_end(&mut self.looks, brace, FIRST, behind) {
+        let (brace, following) = piece.split_at(1);
+        match find_end(&mut self.looks, brace, FIRST, following) {
             Found::Whole(len) => {
                 self.copy_message(alloc, messages, &piece[..len + 1])?;
                 Ok(len + 1)

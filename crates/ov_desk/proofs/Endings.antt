@@ -28,9 +28,9 @@ outcome_as closed closed' messages messages' sent sent' why is_whole source sour
     (subst (λ k. Outcome closed messages k why is_whole source source' sink sink') (sym c) o))
 
 module _ {K D : Type 0} {old new : CoreState K D} (since : Since old new) (n : ℕ) (later : old.state.next ≤ n) (none_left : waiting_for n new.outbox ≡ []) where
-  pub ends_behind : (why : machine.Cause) (is_whole : Bool) (source source' : SourceState) (sink sink' : SinkState)
+  pub ends_past : (why : machine.Cause) (is_whole : Bool) (source source' : SourceState) (sink sink' : SinkState)
       → Outcome (closed_by old.state since.entries n) (requests since.entries n) (since.handed n) why is_whole source source' sink sink' → EndsBehind since n why is_whole source source' sink sink'
-  ends_behind why is_whole source source' sink sink' o schema database history given f =
+  ends_past why is_whole source source' sink sink' o schema database history given f =
       let f' = since.follows (opening schema database) history given f in
       let before : machine.Stepped = record { state = old.state; sent = f.sent } in
       let to_come = later_is_unopened schema database history before n later f.legal in
@@ -54,5 +54,5 @@ pub link_ends : {K D : Type 0} {old new : CoreState K D} (since : Since old new)
 link_ends since n later told source source' sink sink' e = record {
   why = e.why;
   told_for = e.told_for;
-  ends = ends_behind since n later e.none_left e.why (is_written told) source source' sink sink' e.comes_to;
+  ends = ends_past since n later e.none_left e.why (is_written told) source source' sink sink' e.comes_to;
 }

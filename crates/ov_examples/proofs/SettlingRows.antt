@@ -217,15 +217,15 @@ answered_with queue results = Some (record {
   sent = record { session = 2; tree = reply_tree (id 1) (array (item (count_result 2) no_items)) } ∷ record { session = 1; tree = reply_tree (id 1) (array results) } ∷ [];
 })
 
-pub assert_by_the_owner_behind_a_wait : step (with_queue_of_l (1 ∷ 2 ∷ [])) deletes ≡ answered_with (1 ∷ 2 ∷ []) (item empty_result (item empty_result no_items))
+pub assert_by_the_owner_after_a_wait : step (with_queue_of_l (1 ∷ 2 ∷ [])) deletes ≡ answered_with (1 ∷ 2 ∷ []) (item empty_result (item empty_result no_items))
 unfolding digits serde_json_on_literals
-assert_by_the_owner_behind_a_wait =
+assert_by_the_owner_after_a_wait =
     rw deleted (rw others (rw (table_is (codes "Switch")) (rw entries-deleted (rw (committed-none no_switches (numbered 1)) (rw same refl)))))
 
 -- the lock was stolen while it waited
-pub assert_behind_a_wait_by_former_owner : step (with_queue_of_l (2 ∷ 1 ∷ [])) deletes ≡ answered_with (2 ∷ 1 ∷ []) (item empty_result (item (error_tree NotOwner) no_items))
+pub assert_after_a_wait_by_former_owner : step (with_queue_of_l (2 ∷ 1 ∷ [])) deletes ≡ answered_with (2 ∷ 1 ∷ []) (item empty_result (item (error_tree NotOwner) no_items))
 unfolding digits serde_json_on_literals
-assert_behind_a_wait_by_former_owner = rw deleted (rw others (rw (table_is (codes "Switch")) (rw entries-deleted (rw same refl))))
+assert_after_a_wait_by_former_owner = rw deleted (rw others (rw (table_is (codes "Switch")) (rw entries-deleted (rw same refl))))
 
 -- ---- a transaction that waits for what another waiting transaction does
 

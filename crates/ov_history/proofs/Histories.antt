@@ -31,8 +31,8 @@ pub newest-last : {A : Type 0} (xs : List A) (y : A) → newest (xs ++ y ∷ [])
 newest-last xs y = drop-append-le (length (xs ++ y ∷ []) - most_entries) xs (y ∷ []) (omega (arith, length-append xs (y ∷ [])))
 
 -- an entry that was appended, as the machine's
-pub entered_behind : (old new : List Entry) (x : Entry) (e : machine.Entry) → new ≡ newest (old ++ x ∷ []) → entry_view x ≡ e → KeepsNewest old (e ∷ []) new
-entered_behind old new x e added is =
+pub entered_after : (old new : List Entry) (x : Entry) (e : machine.Entry) → new ≡ newest (old ++ x ∷ []) → entry_view x ≡ e → KeepsNewest old (e ∷ []) new
+entered_after old new x e added is =
     ap (map entry_view) added ∙ (map-newest entry_view (old ++ x ∷ []) ∙ ap newest (map-append entry_view old (x ∷ []) ∙ ap (λ (y : machine.Entry). map entry_view old ++ y ∷ []) is))
 
 -- if the history ends with the entries kept before, it ends with those kept after one more

@@ -119,9 +119,9 @@ module _ (schema : Schema) (key : IndexKey) (id : Uuid) where
 -- ---- what is at a key in an ascending list
 
 module _ {X : Type 0} (test : X → Bool) (q : LineKey) where
-  none_behind : (key : LineKey) (es : List (LineKey × X)) → T (below_all line_cmp key es) → find line_cmp key es ≡ None
-  none_behind key [] h = refl
-  none_behind key (e ∷ es) h = ap (λ b. cond b (Some e.1) (find line_cmp key es)) (not_tied (line_cmp key e.0) (left_holds _ _ h)) ∙ none_behind key es (right_holds _ _ h)
+  none_after : (key : LineKey) (es : List (LineKey × X)) → T (below_all line_cmp key es) → find line_cmp key es ≡ None
+  none_after key [] h = refl
+  none_after key (e ∷ es) h = ap (λ b. cond b (Some e.1) (find line_cmp key es)) (not_tied (line_cmp key e.0) (left_holds _ _ h)) ∙ none_after key es (right_holds _ _ h)
 
   pub any_at : (es : List (LineKey × X)) → T (is_sorted line_cmp es) → list_any (λ e. eq_by_cmp line_cmp q e.0 && test e.1) es ≡ is_some_and test (find line_cmp q es)
   any_at [] h = refl
@@ -130,7 +130,7 @@ module _ {X : Type 0} (test : X → Bool) (q : LineKey) where
       by : list_any (λ (x : LineKey × X). eq_by_cmp line_cmp q x.0 && test x.1) es ≡ is_some_and test (find line_cmp q es) → (b : Bool) → eq_by_cmp line_cmp q e.0 ≡ b
           → ((b && test e.1) || list_any (λ (x : LineKey × X). eq_by_cmp line_cmp q x.0 && test x.1) es) ≡ is_some_and test (cond b (Some e.1) (find line_cmp q es))
       by others true is =
-          let none : find line_cmp q es ≡ None = ap (λ k. find line_cmp k es) (tied_same q e.0 is) ∙ none_behind e.0 es (left_holds _ _ h) in
+          let none : find line_cmp q es ≡ None = ap (λ k. find line_cmp k es) (tied_same q e.0 is) ∙ none_after e.0 es (left_holds _ _ h) in
           ap (λ b. test e.1 || b) (others ∙ ap (is_some_and test) none) ∙ sym (or_false (test e.1))
       by others false is = others
 

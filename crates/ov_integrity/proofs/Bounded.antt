@@ -23,22 +23,22 @@ module _ (name : List ℕ) where
   one_more true r rows = omega arith
   one_more false r rows = omega arith
 
-  more_behind : (b : Bool) (r s : LineKey × Row) (rows others : List (LineKey × Row)) → length rows ≤ 1 + length others → length (cond b (r ∷ rows) rows) ≤ 1 + length (cond b (s ∷ others) others)
-  more_behind true r s rows others h = omega (arith, h)
-  more_behind false r s rows others h = omega (arith, h)
+  more_after : (b : Bool) (r s : LineKey × Row) (rows others : List (LineKey × Row)) → length rows ≤ 1 + length others → length (cond b (r ∷ rows) rows) ≤ 1 + length (cond b (s ∷ others) others)
+  more_after true r s rows others h = omega (arith, h)
+  more_after false r s rows others h = omega (arith, h)
 
-  fewer_behind : (c : Bool) (r : LineKey × Row) (rows others : List (LineKey × Row)) → length rows ≤ length others → length (cond c (r ∷ rows) rows) ≤ length (cond c (r ∷ others) others)
-  fewer_behind true r rows others h = omega (arith, h)
-  fewer_behind false r rows others h = omega (arith, h)
+  fewer_after : (c : Bool) (r : LineKey × Row) (rows others : List (LineKey × Row)) → length rows ≤ length others → length (cond c (r ∷ rows) rows) ≤ length (cond c (r ∷ others) others)
+  fewer_after true r rows others h = omega (arith, h)
+  fewer_after false r rows others h = omega (arith, h)
 
   put-count : (key : LineKey) (row : Row) (rows : List (LineKey × Row)) → count (put line_cmp key row rows) ≤ 1 + count rows
   put-count key row [] = one_more (bytes_eq key.0 name) (key, row) []
   put-count key row (r ∷ rows) = at (line_cmp key r.0) (put-count key row rows)
     where
       at : (o : Ordering) → count (put line_cmp key row rows) ≤ 1 + count rows → count (by_order o ((key, row) ∷ r ∷ rows) ((r.0, row) ∷ rows) (r ∷ put line_cmp key row rows)) ≤ 1 + count (r ∷ rows)
-      at Less behind = one_more (bytes_eq key.0 name) (key, row) (filter is_of (r ∷ rows))
-      at Equal behind = more_behind (is_of r) (r.0, row) r (filter is_of rows) (filter is_of rows) (omega arith)
-      at Greater behind = more_behind (is_of r) r r (filter is_of (put line_cmp key row rows)) (filter is_of rows) behind
+      at Less later = one_more (bytes_eq key.0 name) (key, row) (filter is_of (r ∷ rows))
+      at Equal later = more_after (is_of r) (r.0, row) r (filter is_of rows) (filter is_of rows) (omega arith)
+      at Greater later = more_after (is_of r) r r (filter is_of (put line_cmp key row rows)) (filter is_of rows) later
 
   passed : (c : Bool) (r : LineKey × Row) (n : ℕ) (others : List (LineKey × Row)) → n ≤ length others → n ≤ length (cond c (r ∷ others) others)
   passed true r n others h = omega (arith, h)
@@ -49,7 +49,7 @@ module _ (name : List ℕ) where
   kept-count test (r ∷ rows) = at (test r) (kept-count test rows)
     where
       at : (b : Bool) → count (filter test rows) ≤ count rows → count (cond b (r ∷ filter test rows) (filter test rows)) ≤ count (r ∷ rows)
-      at true fewer = fewer_behind (is_of r) r (filter is_of (filter test rows)) (filter is_of rows) fewer
+      at true fewer = fewer_after (is_of r) r (filter is_of (filter test rows)) (filter is_of rows) fewer
       at false fewer = passed (is_of r) r (count (filter test rows)) (filter is_of rows) fewer
 
   row-count : (key : LineKey) (change : Option Row) (rows : Database) → length (rows_of name (with_row key change rows)) ≤ 1 + length (rows_of name rows)

@@ -4,7 +4,7 @@ use Rattle.std.specs.Prelude.{◌&&◌}
 use Rattle.std.proofs.lemmas.Bool.{and_parts, eqb-true}
 use Rattle.std.proofs.lemmas.Option.{same_Some}
 use Rattle.ov_specs.specs.machine.History.{run}
-use Rattle.ov_specs.specs.machine.Machine.{State, Entry, Attempt, Choice, Event, Open, Take, Close, Tick, Outstanding, Listed, listed, none_listed, none_drawn, Stepped, Tried, Passed, passed, passes_behind, happens, works, work_of, takes, then_settles, takes_and_settles, is_kept, is_open, is_without_choice, pass, settle_within, settle, closed, with_next_session, ends}
+use Rattle.ov_specs.specs.machine.Machine.{State, Entry, Attempt, Choice, Event, Open, Take, Close, Tick, Outstanding, Listed, listed, none_listed, none_drawn, Stepped, Tried, Passed, passed, passes_after, happens, works, work_of, takes, then_settles, takes_and_settles, is_kept, is_open, is_without_choice, pass, settle_within, settle, closed, with_next_session, ends}
 use Rattle.ov_specs.specs.rows.Database.{Database}
 use Rattle.ov_specs.specs.wire.Message.{Message}
 use Rattle.ov_specs.proofs.laws.Histories.{run_parts}
@@ -109,7 +109,7 @@ take-commits s c n message last h =
         let all : length (kept_by_message s c n message) ≡ 0 = ap length (ap (λ o. if_suits o (λ v. keeps v (is_kept own.outcome))) taken ∙ ap (keeps (record { stepped = u; others = own.others })) kept) in
         omega (arith, first, none, others, all)
     by u taken true kept k =
-        let (p, settled, same) = map_some (λ (p : Passed). (passes_behind u.sent p).tried) (settle u.state 2 own.others) last k in
+        let (p, settled, same) = map_some (λ (p : Passed). (passes_after u.sent p).tried) (settle u.state 2 own.others) last k in
         let first = listed-commits 1 c.outcomes in
         let one : one_if (is_kept own.outcome) ≡ 1 = ap one_if kept in
         let others : commits p.tried.others ≡ commits last.others = ap (λ (v : Tried). commits v.others) same in

@@ -9,7 +9,7 @@ use Rattle.std.proofs.lemmas.Option.{same_Some}
 use Rattle.serde_json.specs.Data.{Data, Items}
 use Rattle.ov_specs.specs.locks.Queues.{owns, freed}
 use Rattle.ov_specs.specs.machine.History.{run, then_sends}
-use Rattle.ov_specs.specs.machine.Machine.{State, Entry, Attempt, Choice, Event, Open, Take, Close, Tick, Outcome, Outstanding, locks, Listed, listed, Sent, Stepped, Tried, Passed, passed, passes_behind, step, happens, works, takes_and_settles, tries_again, is_kept, pass, settle_within, settle, waits_behind, still_waiting, closed, is_open, is_request, is_without_choice, none_drawn, with_next_session, ends, arrived, Work, Transact, work_of, results_to, results_of, updates_sent}
+use Rattle.ov_specs.specs.machine.Machine.{State, Entry, Attempt, Choice, Event, Open, Take, Close, Tick, Outcome, Outstanding, locks, Listed, listed, Sent, Stepped, Tried, Passed, passed, passes_after, step, happens, works, takes_and_settles, tries_again, is_kept, pass, settle_within, settle, waits_after, still_waiting, closed, is_open, is_request, is_without_choice, none_drawn, with_next_session, ends, arrived, Work, Transact, work_of, results_to, results_of, updates_sent}
 use Rattle.ov_specs.specs.operations.Errors.{InputOutput}
 use Rattle.ov_specs.specs.operations.Transaction.{TransactionOutcome, Completes, transaction, has_error, failed_results}
 use Rattle.ov_specs.specs.rows.Database.{Database, same_database}
@@ -210,20 +210,20 @@ module _ (schema : Schema) (IsTaken : ℕ → Data → List Uuid → Items → T
 
     -- ---- settling
 
-    further : (kept : List Database) (sent : List Sent) (x : Stepped) (rest p : Passed) → passes_behind x.sent rest ≡ p → Course (and_kept kept rest.has_changed rest.tried.stepped) (left_by rest) ((sent ++ x.sent) ++ sent_by rest)
+    further : (kept : List Database) (sent : List Sent) (x : Stepped) (rest p : Passed) → passes_after x.sent rest ≡ p → Course (and_kept kept rest.has_changed rest.tried.stepped) (left_by rest) ((sent ++ x.sent) ++ sent_by rest)
         → Course (and_kept kept p.has_changed p.tried.stepped) (left_by p) (sent ++ sent_by p)
     further kept sent x rest p is h =
         subst (λ (v : Passed). Course (and_kept kept v.has_changed v.tried.stepped) (left_by v) (sent ++ sent_by v)) is
         (by rest.has_changed (subst (Course (and_kept kept rest.has_changed rest.tried.stepped) (left_by rest)) (append_assoc sent x.sent (sent_by rest)) h))
       where
-        by : (b : Bool) → Course (and_kept kept b rest.tried.stepped) (left_by rest) (sent ++ (x.sent ++ sent_by rest)) → Course (and_kept kept b (passes_behind x.sent rest).tried.stepped) (left_by rest) (sent ++ (x.sent ++ sent_by rest))
+        by : (b : Bool) → Course (and_kept kept b rest.tried.stepped) (left_by rest) (sent ++ (x.sent ++ sent_by rest)) → Course (and_kept kept b (passes_after x.sent rest).tried.stepped) (left_by rest) (sent ++ (x.sent ++ sent_by rest))
         by true c = c
         by false c = c
 
     -- those that go on waiting after a change
-    back_goes : (kept : List Database) (s : State) (sent : List Sent) (waiting : List Outstanding) → Course kept s sent → AllByRecursion Its waiting → Course kept (waits_behind s waiting) sent
+    back_goes : (kept : List Database) (s : State) (sent : List Sent) (waiting : List Outstanding) → Course kept s sent → AllByRecursion Its waiting → Course kept (waits_after s waiting) sent
     back_goes kept s sent waiting course all = (
-      goes_aside first seal kept s (waits_behind s waiting) refl refl refl course.0 (all-append Its s.outstanding (still_waiting s waiting) course.0.waiting (all-filter Its (λ o. is_open s o.session) waiting all)),
+      goes_aside first seal kept s (waits_after s waiting) refl refl refl course.0 (all-append Its s.outstanding (still_waiting s waiting) course.0.waiting (all-filter Its (λ o. is_open s o.session) waiting all)),
       course.1,
     )
 
@@ -239,7 +239,7 @@ module _ (schema : Schema) (IsTaken : ℕ → Data → List Uuid → Items → T
             | inl ends ↦
                 let kept' : Course (kept ++ x.first.state.database ∷ []) x.first.state (sent ++ x.first.sent) = subst (λ b. Course (and_kept kept b x.first) x.first.state (sent ++ x.first.sent)) ends.0 after in
                 subst (λ (v : Passed). Course (and_kept kept v.has_changed v.tried.stepped) (left_by v) ((sent ++ x.first.sent) ++ sent_by v)) ends.1
-                (subst (Course (kept ++ x.first.state.database ∷ []) (waits_behind x.first.state waiting)) (sym (append-nil (sent ++ x.first.sent))) (back_goes (kept ++ x.first.state.database ∷ []) x.first.state (sent ++ x.first.sent) waiting kept' all.1))
+                (subst (Course (kept ++ x.first.state.database ∷ []) (waits_after x.first.state waiting)) (sym (append-nil (sent ++ x.first.sent))) (back_goes (kept ++ x.first.state.database ∷ []) x.first.state (sent ++ x.first.sent) waiting kept' all.1))
             | inr on ↦
                 pass_goes kept x.first.state (sent ++ x.first.sent) (number + 1) (listed number attempts).others waiting x.rest (subst (λ b. Course (and_kept kept b x.first) x.first.state (sent ++ x.first.sent)) on.0 after) all.1 on.1
           ])

@@ -25,38 +25,38 @@ before_all name (other ∷ names) below = (name_cmp_total.antisymm other name �
 -- ---- one lock that comes after the first
 
 module _ (session : ℕ) (name : List ℕ) (e : List ℕ × List ℕ) (queues : Queues) (later : name_cmp name e.0 ≡ Greater) where
-  queue-behind : queue_of name (e ∷ queues) ≡ queue_of name queues
-  queue-behind = ap (λ o. unwrap_or (cond (is_eq o) (Some e.1) (lookup (is_at (name_cmp name)) queues)) []) later
+  queue-after : queue_of name (e ∷ queues) ≡ queue_of name queues
+  queue-after = ap (λ o. unwrap_or (cond (is_eq o) (Some e.1) (lookup (is_at (name_cmp name)) queues)) []) later
 
-  with-behind : (queue : List ℕ) → with_queue name queue (e ∷ queues) ≡ e ∷ with_queue name queue queues
-  with-behind [] = ap (λ o. cond (is_eq o) queues (e ∷ remove_entry (is_at (name_cmp name)) queues)) later
-  with-behind (first ∷ queue) = ap (λ o. match_ordering o ((name, first ∷ queue) ∷ e ∷ queues) ((e.0, first ∷ queue) ∷ queues) (e ∷ insert_entry name_cmp queues name (first ∷ queue))) later
+  with-after : (queue : List ℕ) → with_queue name queue (e ∷ queues) ≡ e ∷ with_queue name queue queues
+  with-after [] = ap (λ o. cond (is_eq o) queues (e ∷ remove_entry (is_at (name_cmp name)) queues)) later
+  with-after (first ∷ queue) = ap (λ o. match_ordering o ((name, first ∷ queue) ∷ e ∷ queues) ((e.0, first ∷ queue) ∷ queues) (e ∷ insert_entry name_cmp queues name (first ∷ queue))) later
 
-  unlock-behind : unlock name session (e ∷ queues) ≡ e ∷ unlock name session queues
-  unlock-behind = ap (λ q. with_queue name (without session q) (e ∷ queues)) queue-behind ∙ with-behind (without session (queue_of name queues))
+  unlock-after : unlock name session (e ∷ queues) ≡ e ∷ unlock name session queues
+  unlock-after = ap (λ q. with_queue name (without session q) (e ∷ queues)) queue-after ∙ with-after (without session (queue_of name queues))
 
 -- ---- more of them
 
 module _ (session : ℕ) where
-  unlock_all-behind : (e : List ℕ × List ℕ) (names : List (List ℕ)) (queues : Queues) → IsBefore e.0 names → unlock_all session names (e ∷ queues) ≡ e ∷ unlock_all session names queues
-  unlock_all-behind e [] queues later = refl
-  unlock_all-behind e (name ∷ names) queues later =
-      ap (unlock_all session names) (unlock-behind session name e queues later.0) ∙ unlock_all-behind e names (unlock name session queues) later.1
+  unlock_all-after : (e : List ℕ × List ℕ) (names : List (List ℕ)) (queues : Queues) → IsBefore e.0 names → unlock_all session names (e ∷ queues) ≡ e ∷ unlock_all session names queues
+  unlock_all-after e [] queues later = refl
+  unlock_all-after e (name ∷ names) queues later =
+      ap (unlock_all session names) (unlock-after session name e queues later.0) ∙ unlock_all-after e names (unlock name session queues) later.1
 
-  freed_all-behind : (e : List ℕ × List ℕ) (names : List (List ℕ)) (queues : Queues) → IsBefore e.0 names → freed_all session names (e ∷ queues) ≡ freed_all session names queues
-  freed_all-behind e [] queues later = refl
-  freed_all-behind e (name ∷ names) queues later =
-      (λ i. freed_before (next_in session (queue-behind session name e queues later.0 i)) name (freed_all session names (unlock-behind session name e queues later.0 i)))
-      ∙ ap (freed_before (next_owner name session queues) name) (freed_all-behind e names (unlock name session queues) later.1)
+  freed_all-after : (e : List ℕ × List ℕ) (names : List (List ℕ)) (queues : Queues) → IsBefore e.0 names → freed_all session names (e ∷ queues) ≡ freed_all session names queues
+  freed_all-after e [] queues later = refl
+  freed_all-after e (name ∷ names) queues later =
+      (λ i. freed_before (next_in session (queue-after session name e queues later.0 i)) name (freed_all session names (unlock-after session name e queues later.0 i)))
+      ∙ ap (freed_before (next_owner name session queues) name) (freed_all-after e names (unlock name session queues) later.1)
 
   unlock_all-before : (name queue : List ℕ) (names : List (List ℕ)) (queues : Queues) → IsBefore name names
       → unlock_all session names (queue_before name queue queues) ≡ queue_before name queue (unlock_all session names queues)
   unlock_all-before name [] names queues later = refl
-  unlock_all-before name (first ∷ queue) names queues later = unlock_all-behind (name, first ∷ queue) names queues later
+  unlock_all-before name (first ∷ queue) names queues later = unlock_all-after (name, first ∷ queue) names queues later
 
   freed_all-before : (name queue : List ℕ) (names : List (List ℕ)) (queues : Queues) → IsBefore name names → freed_all session names (queue_before name queue queues) ≡ freed_all session names queues
   freed_all-before name [] names queues later = refl
-  freed_all-before name (first ∷ queue) names queues later = freed_all-behind (name, first ∷ queue) names queues later
+  freed_all-before name (first ∷ queue) names queues later = freed_all-after (name, first ∷ queue) names queues later
 
   -- ---- the first lock
 
@@ -95,7 +95,7 @@ module _ (session : ℕ) where
           → unlock_all session (cond b (e.0 ∷ names_of session queues) (names_of session queues)) (e ∷ queues) ≡ cond b (queue_before e.0 (without session e.1) (leave session queues)) (e ∷ leave session queues)
       by rest true =
           ap (unlock_all session names) (unlock-here e queues) ∙ unlock_all-before e.0 (without session e.1) names queues later ∙ ap (queue_before e.0 (without session e.1)) rest
-      by rest false = unlock_all-behind e names queues later ∙ ap (λ qs. e ∷ qs) rest
+      by rest false = unlock_all-after e names queues later ∙ ap (λ qs. e ∷ qs) rest
 
   pub freed_all-leave : (queues : Queues) → DoQueuesAscend queues → freed_all session (names_of session queues) queues ≡ freed session queues
   freed_all-leave [] ascend = refl
@@ -112,4 +112,4 @@ module _ (session : ℕ) where
       by rest true is =
           (λ i. freed_before (next_in session (queue-here e queues i)) e.0 (freed_all session names (unlock-here e queues i)))
           ∙ ap (freed_before (next_in session e.1) e.0) (freed_all-before e.0 (without session e.1) names queues later ∙ rest)
-      by rest false is = freed_all-behind e names queues later ∙ rest ∙ sym (ap (λ o. freed_before o e.0 (freed session queues)) (none-next e.1 is))
+      by rest false is = freed_all-after e names queues later ∙ rest ∙ sym (ap (λ o. freed_before o e.0 (freed session queues)) (none-next e.1 is))

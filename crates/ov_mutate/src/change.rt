@@ -1,7 +1,7 @@
 ghost use Rattle.std.specs.Prelude.{◌≡◌, is_some, codes, option_map};
 ghost use Rattle.serde_json.specs.View.{view};
 ghost use Rattle.ov_specs.specs.operations.Mutators.{integer_of, deleted_kinds, change_read};
-ghost use Rattle.ov_specs.specs.values.Reading.{reads, as_two, behind};
+ghost use Rattle.ov_specs.specs.values.Reading.{reads, as_two, tagged};
 ghost use Rattle.ov_specs.specs.values.Value as value;
 ghost use Rattle.ov_atoms.specs.Views.{kinds_view};
 ghost use Rattle.ov_mutate.specs.Views.{value_change_view, mutator_view};
@@ -48,7 +48,7 @@ fn as_two(tree: &Value) -> Option<(&Value, &Value)>
 
 /// Whether a tree begins with "map".
 fn is_map(tree: &Value) -> bool
-    ensures { result ≡ is_some (behind (codes "map") (view tree.now)) }
+    ensures { result ≡ is_some (tagged (codes "map") (view tree.now)) }
 {
     let Some((first, _list)) = as_two(tree) else {
         return false;

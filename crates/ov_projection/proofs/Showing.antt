@@ -37,9 +37,9 @@ value_at name [] = None
 value_at name (c ∷ cs) = cond (bytes_eq name c.0) (Some c.1) (value_at name cs)
 
 -- another column in front is passed over
-pub behind_other : (name other : List ℕ) (o : Option Datum) (rest : Shown) → bytes_eq name other ≡ false → value_at name (option_to_list (option_map (λ datum. (other, datum)) o) ++ rest) ≡ value_at name rest
-behind_other name other None rest h = refl
-behind_other name other (Some datum) rest h = ap (λ b. cond b (Some datum) (value_at name rest)) h
+pub tagged_other : (name other : List ℕ) (o : Option Datum) (rest : Shown) → bytes_eq name other ≡ false → value_at name (option_to_list (option_map (λ datum. (other, datum)) o) ++ rest) ≡ value_at name rest
+tagged_other name other None rest h = refl
+tagged_other name other (Some datum) rest h = ap (λ b. cond b (Some datum) (value_at name rest)) h
 
 pub or_second : (a b : Bool) → a ≡ false → (a || b) ≡ true → b ≡ true
 or_second false b h k = k
@@ -51,7 +51,7 @@ shows_uuid [] r h = absurd (false≢true h)
 shows_uuid (name ∷ names) r h =
     elim (bytes_eq uuid_name name) as (λ b. bytes_eq uuid_name name ≡ b → value_at uuid_name (projection (name ∷ names) r) ≡ Some (one_uuid r.0.1)) [
       | true ↦ λ is. subst (λ n. value_at uuid_name (projection (n ∷ names) r) ≡ Some (one_uuid r.0.1)) (same_text uuid_name name (sym is)) refl
-      | false ↦ λ is. behind_other uuid_name name (entry_value r name) (projection names r) is ∙ shows_uuid names r (or_second (bytes_eq uuid_name name) (list_any (bytes_eq uuid_name) names) is h)
+      | false ↦ λ is. tagged_other uuid_name name (entry_value r name) (projection names r) is ∙ shows_uuid names r (or_second (bytes_eq uuid_name name) (list_any (bytes_eq uuid_name) names) is h)
     ] refl
 
 abbrev first_uuid : List (Atom × Unit {0}) → Identifier

@@ -30,9 +30,9 @@ nothing_more : (o : Option Reference) → all_targets o [] ≡ []
 nothing_more None = refl
 nothing_more (Some refers) = refl
 
-none_behind : (targets : List Target) → targets ≡ targets ++ []
-none_behind [] = refl
-none_behind (t ∷ ts) = ap (λ rest. t ∷ rest) (none_behind ts)
+none_after : (targets : List Target) → targets ≡ targets ++ []
+none_after [] = refl
+none_after (t ∷ ts) = ap (λ rest. t ∷ rest) (none_after ts)
 
 of_values : (o : Option BaseType) (atoms : List Atom) → value_targets o atoms ≡ all_targets (option_and_then (λ b. b.refers) o) atoms
 of_values None atoms = refl
@@ -42,5 +42,5 @@ of_values (Some b) atoms = of_atoms b.refers atoms
 pub by_parts : (t : ColumnType) (d : Datum) → datum_targets t d ≡ all_targets t.key.refers (key_atoms d) ++ all_targets (option_and_then (λ b. b.refers) t.value) (value_atoms d)
 by_parts t (Atoms atoms) =
     of_atoms t.key.refers (keys atoms)
-    ∙ (none_behind _ ∙ ap (λ rest. all_targets t.key.refers (keys atoms) ++ rest) (sym (nothing_more (option_and_then (λ b. b.refers) t.value))))
+    ∙ (none_after _ ∙ ap (λ rest. all_targets t.key.refers (keys atoms) ++ rest) (sym (nothing_more (option_and_then (λ b. b.refers) t.value))))
 by_parts t (Pairs pairs) = λ i. of_atoms t.key.refers (keys pairs) i ++ of_values t.value (values pairs) i

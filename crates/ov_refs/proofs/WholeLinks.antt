@@ -24,7 +24,7 @@ use Rattle.ov_rows.specs.Nested.{in_table}
 use Rattle.ov_refs.specs.Holding.{KeySet, Holders}
 use Rattle.ov_refs.specs.Linking.{Links, AreLinksOf}
 use Rattle.ov_refs.specs.Placed.{is_target, has_target, targets_at, refers}
-use Rattle.ov_refs.specs.Whole.{is_there, has_another, behind, is_held, are_supported}
+use Rattle.ov_refs.specs.Whole.{is_there, has_another, past, is_held, are_supported}
 use Rattle.ov_refs.proofs.Collecting.{same_key-tied, find-below}
 use Rattle.ov_refs.proofs.Placing.{same_key-is, same_key-turned, target_is, links_at}
 
@@ -151,23 +151,23 @@ above key q (e ∷ hs) h held = by (same_key e.0 q) refl held (above key q hs (r
     by false is held later = later held
 
 -- greater keys are found after it as they are in all
-find-behind : (key q : LineKey) (hs : List (LineKey × KeySet)) → T (is_sorted line_cmp hs) → line_cmp key q ≡ Less → is_held key hs ≡ true → find line_cmp q (behind key hs) ≡ find line_cmp q hs
-find-behind key q [] h up held = refl
-find-behind key q (e ∷ hs) h up held = by (same_key e.0 key) refl held (find-behind key q hs (right_holds _ _ h) up)
+find-after : (key q : LineKey) (hs : List (LineKey × KeySet)) → T (is_sorted line_cmp hs) → line_cmp key q ≡ Less → is_held key hs ≡ true → find line_cmp q (past key hs) ≡ find line_cmp q hs
+find-after key q [] h up held = refl
+find-after key q (e ∷ hs) h up held = by (same_key e.0 key) refl held (find-after key q hs (right_holds _ _ h) up)
   where
     skip : line_cmp e.0 q ≡ Less → find line_cmp q hs ≡ find line_cmp q (e ∷ hs)
     skip less = sym (ap (λ b. cond b (Some e.1) (find line_cmp q hs)) (apart e.0 q less))
 
-    by : (b : Bool) → same_key e.0 key ≡ b → cond b (has_another key e.1) (is_held key hs) ≡ true → (is_held key hs ≡ true → find line_cmp q (behind key hs) ≡ find line_cmp q hs)
-        → find line_cmp q (cond b hs (behind key hs)) ≡ find line_cmp q (e ∷ hs)
+    by : (b : Bool) → same_key e.0 key ≡ b → cond b (has_another key e.1) (is_held key hs) ≡ true → (is_held key hs ≡ true → find line_cmp q (past key hs) ≡ find line_cmp q hs)
+        → find line_cmp q (cond b hs (past key hs)) ≡ find line_cmp q (e ∷ hs)
     by true is held later = skip (ap (λ k. line_cmp k q) (same_key-is e.0 key is) ∙ up)
     by false is held later = later held ∙ skip (key_total.trans e.0 key q (above e.0 key hs (left_holds _ _ h) held) up)
 
-sorted-behind : (key : LineKey) (hs : List (LineKey × KeySet)) → T (is_sorted line_cmp hs) → T (is_sorted line_cmp (behind key hs))
-sorted-behind key [] h = tt
-sorted-behind key (e ∷ hs) h = by (same_key e.0 key) (sorted-behind key hs (right_holds _ _ h))
+sorted-after : (key : LineKey) (hs : List (LineKey × KeySet)) → T (is_sorted line_cmp hs) → T (is_sorted line_cmp (past key hs))
+sorted-after key [] h = tt
+sorted-after key (e ∷ hs) h = by (same_key e.0 key) (sorted-after key hs (right_holds _ _ h))
   where
-    by : (b : Bool) → T (is_sorted line_cmp (behind key hs)) → T (is_sorted line_cmp (cond b hs (behind key hs)))
+    by : (b : Bool) → T (is_sorted line_cmp (past key hs)) → T (is_sorted line_cmp (cond b hs (past key hs)))
     by true later = right_holds _ _ h
     by false later = later
 
@@ -181,11 +181,11 @@ same_itself : (all : List (LineKey × KeySet)) (rs : List (LineKey × Row)) → 
 same_itself all [] = tt
 same_itself all (r ∷ rs) = (refl, same_itself all rs)
 
-same_behind : (all hs : List (LineKey × KeySet)) (key : LineKey) (rs : List (LineKey × Row)) → T (is_sorted line_cmp hs) → T (below_all line_cmp key rs) → is_held key hs ≡ true → AreSameIn all hs rs
-    → AreSameIn all (behind key hs) rs
-same_behind all hs key [] h up held same = tt
-same_behind all hs key (r ∷ rs) h up held same =
-    (find-behind key r.0 hs h (less_is (line_cmp key r.0) (left_holds _ _ up)) held ∙ same.0, same_behind all hs key rs h (right_holds _ _ up) held same.1)
+same_after : (all hs : List (LineKey × KeySet)) (key : LineKey) (rs : List (LineKey × Row)) → T (is_sorted line_cmp hs) → T (below_all line_cmp key rs) → is_held key hs ≡ true → AreSameIn all hs rs
+    → AreSameIn all (past key hs) rs
+same_after all hs key [] h up held same = tt
+same_after all hs key (r ∷ rs) h up held same =
+    (find-after key r.0 hs h (less_is (line_cmp key r.0) (left_holds _ _ up)) held ∙ same.0, same_after all hs key rs h (right_holds _ _ up) held same.1)
 
 module _ (schema : Schema) (all : List (LineKey × KeySet)) where
   -- the row is in a root table or has another row among its holders
@@ -202,11 +202,11 @@ module _ (schema : Schema) (all : List (LineKey × KeySet)) where
       held : is_held r.0 hs ≡ held_in all r.0
       held = held_found r.0 hs ∙ ap (is_some_and (has_another r.0)) same.0
 
-      by_held : (b : Bool) → is_held r.0 hs ≡ b → Later → (b && are_supported schema rs (behind r.0 hs)) ≡ (b && list_all is_kept rs)
-      by_held true is later = later (behind r.0 hs) (right_holds _ _ sorted) (sorted-behind r.0 hs h) (same_behind all hs r.0 rs h (left_holds _ _ sorted) is same.1)
+      by_held : (b : Bool) → is_held r.0 hs ≡ b → Later → (b && are_supported schema rs (past r.0 hs)) ≡ (b && list_all is_kept rs)
+      by_held true is later = later (past r.0 hs) (right_holds _ _ sorted) (sorted-after r.0 hs h) (same_after all hs r.0 rs h (left_holds _ _ sorted) is same.1)
       by_held false is later = refl
 
-      by_root : (b : Bool) → Later → cond b (are_supported schema rs hs) (is_held r.0 hs && are_supported schema rs (behind r.0 hs)) ≡ ((b || held_in all r.0) && list_all is_kept rs)
+      by_root : (b : Bool) → Later → cond b (are_supported schema rs hs) (is_held r.0 hs && are_supported schema rs (past r.0 hs)) ≡ ((b || held_in all r.0) && list_all is_kept rs)
       by_root true later = later hs (right_holds _ _ sorted) h same.1
       by_root false later = by_held (is_held r.0 hs) refl later ∙ ap (λ b. b && list_all is_kept rs) held
 
@@ -215,7 +215,7 @@ pub root_table : (schema : Schema) (name : List ℕ) (es : List (Uuid × Row)) (
     → are_supported schema (in_table name es ++ rest) hs ≡ are_supported schema rest hs
 root_table schema name [] rest hs root = refl
 root_table schema name (e ∷ es) rest hs root =
-    ap (λ b. cond b (are_supported schema (in_table name es ++ rest) hs) (is_held (name, e.0) hs && are_supported schema (in_table name es ++ rest) (behind (name, e.0) hs))) root ∙ root_table schema name es rest hs root
+    ap (λ b. cond b (are_supported schema (in_table name es ++ rest) hs) (is_held (name, e.0) hs && are_supported schema (in_table name es ++ rest) (past (name, e.0) hs))) root ∙ root_table schema name es rest hs root
 
 module _ (schema : Schema) (rows : Database) (links : Links) (linked : AreLinksOf schema rows links) where
   -- ---- support

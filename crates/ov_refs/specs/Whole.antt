@@ -16,9 +16,9 @@ abbrev pub has_another : LineKey → KeySet → Bool
 has_another key set = not (len (remove set key) == 0)
 
 -- the holders after those of the row
-abbrev pub behind : LineKey → List (LineKey × KeySet) → List (LineKey × KeySet)
-behind key [] = []
-behind key (h ∷ hs) = if same_key h.0 key then hs else behind key hs
+abbrev pub past : LineKey → List (LineKey × KeySet) → List (LineKey × KeySet)
+past key [] = []
+past key (h ∷ hs) = if same_key h.0 key then hs else past key hs
 
 -- another row is among the holders of the row
 abbrev pub is_held : LineKey → List (LineKey × KeySet) → Bool
@@ -29,4 +29,4 @@ is_held key (h ∷ hs) = if same_key h.0 key then has_another key h.1 else is_he
 abbrev pub are_supported : Schema → List (LineKey × Row) → List (LineKey × KeySet) → Bool
 are_supported schema [] hs = true
 are_supported schema (r ∷ rs) hs =
-    if is_in_root_table schema r.0 then are_supported schema rs hs else is_held r.0 hs && are_supported schema rs (behind r.0 hs)
+    if is_in_root_table schema r.0 then are_supported schema rs hs else is_held r.0 hs && are_supported schema rs (past r.0 hs)

@@ -41,7 +41,7 @@ fn are_all_there(rows: &Rows, links: &Links) -> bool
 /// nothing is left.
 fn is_held(holders: &mut Iter<'_, RowKey, KeySet>, table: &str, id: Uuid) -> bool
     ensures held { result ≡ spec.is_held (table.now, id) holders.old }
-    ensures behind { IsTrue result → holders.new ≡ spec.behind (table.now, id) holders.old }
+    ensures past { IsTrue result → holders.new ≡ spec.past (table.now, id) holders.old }
 {
     while let Some((to, set)) = holders.next() {
         if to.table() == table && to.id() == id {

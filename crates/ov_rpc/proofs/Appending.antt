@@ -13,8 +13,8 @@ use Rattle.ov_specs.specs.operations.Transaction.{and_item}
 abbrev from_result : Data → List ℕ → List ℕ
 from_result id t = 123 ∷ (compact_text (string (codes "error")) ++ 58 ∷ (compact_text null ++ (44 ∷ (compact_text (string (codes "id")) ++ 58 ∷ (compact_text id ++ (44 ∷ (compact_text (string (codes "result")) ++ 58 ∷ t)))))))
 
-behind : (id : Data) (t more : List ℕ) → from_result id t ++ more ≡ from_result id (t ++ more)
-behind id t more =
+after : (id : Data) (t more : List ℕ) → from_result id t ++ more ≡ from_result id (t ++ more)
+after id t more =
     ap (λ s. 123 ∷ s) (append_assoc (compact_text (string (codes "error"))) _ more
     ∙ ap (λ s. compact_text (string (codes "error")) ++ 58 ∷ (compact_text null ++ 44 ∷ s)) (append_assoc (compact_text (string (codes "id"))) _ more
     ∙ ap (λ s. compact_text (string (codes "id")) ++ 58 ∷ s) (append_assoc (compact_text id) _ more
@@ -28,7 +28,7 @@ framed : (id : Data) (items : Items) → frame (reply_tree id (array items)) ≡
 framed id items =
     ap (λ t. from_result id (91 ∷ (t ++ 125 ∷ []))) (closed false items)
     ∙ (ap (λ t. from_result id (91 ∷ t)) (append_assoc (joined false items) (93 ∷ []) (125 ∷ []))
-    ∙ sym (behind id (91 ∷ joined false items) (93 ∷ 125 ∷ [])))
+    ∙ sym (after id (91 ∷ joined false items) (93 ∷ 125 ∷ [])))
 
 shorter : (xs : List ℕ) → take (length (xs ++ 93 ∷ 125 ∷ []) - 2) (xs ++ 93 ∷ 125 ∷ []) ≡ xs
 shorter xs =
@@ -50,6 +50,6 @@ pub appended : (id : Data) (items : Items) (first : Bool) (more : Data) → (IsT
     → ((open_reply id items ++ (if first then [] else 44 ∷ [])) ++ compact_text more) ++ 93 ∷ 125 ∷ [] ≡ frame (reply_tree id (array (and_item items more)))
 appended id items first more same =
     let with_separator = ap (λ t. ((open_reply id items ++ t) ++ compact_text more) ++ 93 ∷ 125 ∷ []) (separated first items same) in
-    let together = append_assoc (open_reply id items) (comma_if (not (has_none items))) (compact_text more) ∙ behind id (91 ∷ joined false items) (comma_if (not (has_none items)) ++ compact_text more) in
+    let together = append_assoc (open_reply id items) (comma_if (not (has_none items))) (compact_text more) ∙ after id (91 ∷ joined false items) (comma_if (not (has_none items)) ++ compact_text more) in
     let whole = together ∙ ap (λ t. from_result id (91 ∷ t)) (sym (with_more items more)) in
     with_separator ∙ (ap (λ t. t ++ 93 ∷ 125 ∷ []) whole ∙ sym (framed id (and_item items more)))

@@ -64,15 +64,15 @@ pub tick_passes : (at : ℕ) (s : State) (e : Entry) (t : Stepped) → is_due at
 tick_passes at s e t come enters = (λ is. come_later at e.choice.moment (due s) (later_of at s.moment e.choice.moment enters.moment) come, λ u stepped. tt)
 
 -- one part after another
-passes_behind : (s : State) (h k : List Entry) → PassesWhereDue s h → ((t : Stepped) → run s h ≡ Some t → PassesWhereDue t.state k) → PassesWhereDue s (h ++ k)
-passes_behind s [] k first then = then (record { state = s; sent = [] }) refl
-passes_behind s (e ∷ h) k first then = (
+passes_after : (s : State) (h k : List Entry) → PassesWhereDue s h → ((t : Stepped) → run s h ≡ Some t → PassesWhereDue t.state k) → PassesWhereDue s (h ++ k)
+passes_after s [] k first then = then (record { state = s; sent = [] }) refl
+passes_after s (e ∷ h) k first then = (
   first.0,
-  λ t stepped. passes_behind t.state h k (first.1 t stepped) (λ u r.
+  λ t stepped. passes_after t.state h k (first.1 t stepped) (λ u r.
       then (then_sends t.sent u) (ap (option_and_then (λ (v : Stepped). option_map (then_sends v.sent) (run v.state h))) stepped ∙ ap (option_map (then_sends t.sent)) r)),
 )
 
 -- from where the first leads
 pub passes_on : (s : State) (h k : List Entry) (m : State) → Leads s h m → PassesWhereDue s h → PassesWhereDue m k → PassesWhereDue s (h ++ k)
 passes_on s h k m (sent, leads) first then =
-    passes_behind s h k first (λ t r. subst (λ (v : State). PassesWhereDue v k) (ap (λ (v : Stepped). v.state) (same_Some (record { state = m; sent = sent }) t (sym leads ∙ r))) then)
+    passes_after s h k first (λ t r. subst (λ (v : State). PassesWhereDue v k) (ap (λ (v : Stepped). v.state) (same_Some (record { state = m; sent = sent }) t (sym leads ∙ r))) then)

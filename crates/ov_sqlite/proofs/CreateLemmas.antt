@@ -19,7 +19,7 @@ use Rattle.ov_sqlite.specs.Format.{IsLine, rows_of_meta, rows_of_line}
 use Rattle.ov_sqlite.specs.Changing.{IsNumbered, IsStored}
 use Rattle.ov_sqlite.specs.Making.{MayMake, HasMeta, HasTables, IsFilled, IsNew, IsNewDatabase, IsNewBeside}
 use Rattle.ov_sqlite.proofs.Texts.{meta_understood, line_understood, meta_defined, line_defined}
-use Rattle.ov_sqlite.proofs.RoomLemmas.{is_free, line_free, counts_kept, meta_tree, line_tree, ours_behind, kept_then}
+use Rattle.ov_sqlite.proofs.RoomLemmas.{is_free, line_free, counts_kept, meta_tree, line_tree, ours_after, kept_then}
 use Rattle.ov_sqlite.proofs.DeleteLemmas.{went, same_value}
 
 pub record Creates (before after : Schema) (tree : ℕ) (old new : State) : Type 0 where
@@ -70,7 +70,7 @@ pub makes_both : (before : Database) (old new : State) → HasMeta before old �
     → HasTables before new × (rows_of_meta new.now.trees ≡ [])
 makes_both before old new was mode up made =
     let schema = before.schema in
-    let has = subst HasOurTables (sym made.schema) (ours_behind before was.room was.was_sound) in
+    let has = subst HasOurTables (sym made.schema) (ours_after before was.room was.was_sound) in
     let line : tree_of new.now.schema (codes "line") ≡ next_tree (with_meta schema) = ap (λ s. tree_of s (codes "line")) made.schema ∙ line_tree schema was.room in
     let meta : tree_of new.now.schema (codes "meta") ≡ next_tree schema = ap (λ s. tree_of s (codes "meta")) made.schema ∙ meta_tree schema was.room in
     let kept : new.now.trees (next_tree schema) ≡ old.now.trees (next_tree schema) =

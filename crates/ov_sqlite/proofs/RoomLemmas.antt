@@ -61,9 +61,9 @@ module _ {X : Type 0} (p : X → Bool) where
       go true later e = absurd cc
       go false later e = later e
 
-  none_behind : (from : ℕ) (xs : List X) (a : X) → position_from p from xs ≡ None → p a ≡ false → position_from p from (xs ++ a ∷ []) ≡ None
-  none_behind from [] a h other = rw other refl
-  none_behind from (x ∷ xs) a h other = go (p x) (λ e. none_behind (from + 1) xs a e other) h
+  none_after : (from : ℕ) (xs : List X) (a : X) → position_from p from xs ≡ None → p a ≡ false → position_from p from (xs ++ a ∷ []) ≡ None
+  none_after from [] a h other = rw other refl
+  none_after from (x ∷ xs) a h other = go (p x) (λ e. none_after (from + 1) xs a e other) h
     where
       go : (b : Bool) → (position_from p (from + 1) xs ≡ None → position_from p (from + 1) (xs ++ a ∷ []) ≡ None) → cond b (Some from) (position_from p (from + 1) xs) ≡ None
           → cond b (Some from) (position_from p (from + 1) (xs ++ a ∷ [])) ≡ None
@@ -79,11 +79,11 @@ module _ {X : Type 0} (p : X → Bool) where
   none_from [] each = refl
   none_from (y ∷ xs) each = or_from _ _ (each y (inl refl)) (none_from xs (λ x h. each x (inr h)))
 
-  behind : (xs : List X) (a b : X) → find p ((xs ++ a ∷ []) ++ b ∷ []) ≡ option_or (option_or (find p xs) (find p (a ∷ []))) (find p (b ∷ []))
-  behind xs a b = find-append p (xs ++ a ∷ []) (b ∷ []) ∙ ap (λ o. option_or o (find p (b ∷ []))) (find-append p xs (a ∷ []))
+  rest : (xs : List X) (a b : X) → find p ((xs ++ a ∷ []) ++ b ∷ []) ≡ option_or (option_or (find p xs) (find p (a ∷ []))) (find p (b ∷ []))
+  rest xs a b = find-append p (xs ++ a ∷ []) (b ∷ []) ∙ ap (λ o. option_or o (find p (b ∷ []))) (find-append p xs (a ∷ []))
 
   new_found : (xs : List X) (a b : X) → find p xs ≡ None → find p ((xs ++ a ∷ []) ++ b ∷ []) ≡ option_or (find p (a ∷ [])) (find p (b ∷ []))
-  new_found xs a b none = behind xs a b ∙ ap (λ o. option_or (option_or o (find p (a ∷ []))) (find p (b ∷ []))) none
+  new_found xs a b none = rest xs a b ∙ ap (λ o. option_or (option_or o (find p (a ∷ []))) (find p (b ∷ []))) none
 
 -- nothing has the name
 pub record IsFree (schema : Schema) (name : List ℕ) : Type 0 where
@@ -99,7 +99,7 @@ is_free schema name unused =
 
 pub line_free : (schema : Schema) → IsFree schema (codes "line") → IsFree (with_meta schema) (codes "line")
 unfolding digits same_name
-line_free schema free = record { table = none_behind _ 0 schema.tables _ free.table refl; index = none_behind _ 0 schema.indexes _ free.index refl; view = free.view }
+line_free schema free = record { table = none_after _ 0 schema.tables _ free.table refl; index = none_after _ 0 schema.indexes _ free.index refl; view = free.view }
 
 -- ---- the table of the counts
 
@@ -224,7 +224,7 @@ module _ (schema : Schema) (room : HasRoom schema) where
       found : table_of after ref.parent ≡ find p schema.tables
       found =
           let parts = or_parts _ _ other in
-          behind p schema.tables (meta_table m) (line_table l) ∙ ap₂ (λ a b. option_or (option_or (find p schema.tables) a) b) (none (meta_table m) parts.0) (none (line_table l) parts.1) ∙ ends (find p schema.tables)
+          rest p schema.tables (meta_table m) (line_table l) ∙ ap₂ (λ a b. option_or (option_or (find p schema.tables) a) b) (none (meta_table m) parts.0) (none (line_table l) parts.1) ∙ ends (find p schema.tables)
 
       go : (o : Option Table) → find p schema.tables ≡ o → unwrap_or (option_map (λ (t : Table). (t.tree == m) || (t.tree == l)) o) false ≡ false
       go None h = refl
@@ -293,8 +293,8 @@ owner tables (r ∷ rows) [] all i h = absurd h
 owner tables (r ∷ rows) (j ∷ indexes) all i (inl is) = (all.0.table, all.0.listed, ap (λ (k : Index). k.table) is ∙ index_owner all.0.table j _ all.0.defined)
 owner tables (r ∷ rows) (j ∷ indexes) all i (inr later) = owner tables rows indexes all.1 i later
 
-pub ours_behind : (before : Database) → HasRoom before.schema → IsDatabase before → HasOurTables (with_ours before.schema)
-ours_behind before room sound = has_ours before.schema room (owner before.schema.tables _ before.schema.indexes sound.lists.listed.indexes)
+pub ours_after : (before : Database) → HasRoom before.schema → IsDatabase before → HasOurTables (with_ours before.schema)
+ours_after before room sound = has_ours before.schema room (owner before.schema.tables _ before.schema.indexes sound.lists.listed.indexes)
 
 pub room_of_blank : (schema : Schema) → schema ≡ no_schema → HasRoom schema
 room_of_blank schema blank = subst HasRoom (sym blank) (record { meta = refl; line = refl; keys = refl; counts = refl })

@@ -89,15 +89,15 @@ before_greater k l p = name_cmp_total.antisymm l k ∙ ap ordering_reverse p
 
 -- ---- one turn
 
-place_behind : (r : Uuid × Row) (k : Uuid) (o : Option Row) (es : Rows) → id_cmp k r.0 ≡ Greater → place id_cmp k o (r ∷ es) ≡ r ∷ place id_cmp k o es
-place_behind r k (Some row) es p = ap (λ o. by_order o ((k, row) ∷ r ∷ es) ((r.0, row) ∷ es) (r ∷ put id_cmp k row es)) p
-place_behind r k None es p = ap (λ o. cond (not (is_eq o)) (r ∷ where_key id_cmp (λ x. not (eq_by_cmp id_cmp k x)) es) (where_key id_cmp (λ x. not (eq_by_cmp id_cmp k x)) es)) p
+place_after : (r : Uuid × Row) (k : Uuid) (o : Option Row) (es : Rows) → id_cmp k r.0 ≡ Greater → place id_cmp k o (r ∷ es) ≡ r ∷ place id_cmp k o es
+place_after r k (Some row) es p = ap (λ o. by_order o ((k, row) ∷ r ∷ es) ((r.0, row) ∷ es) (r ∷ put id_cmp k row es)) p
+place_after r k None es p = ap (λ o. cond (not (is_eq o)) (r ∷ where_key id_cmp (λ x. not (eq_by_cmp id_cmp k x)) es) (where_key id_cmp (λ x. not (eq_by_cmp id_cmp k x)) es)) p
 
 -- a row below all changes stays where it is
-pub placed_behind : (r : Uuid × Row) (cs : Made) (es : Rows) → T (below_all id_cmp r.0 cs) → placed id_cmp cs (r ∷ es) ≡ r ∷ placed id_cmp cs es
-placed_behind r [] es h = refl
-placed_behind r (c ∷ cs) es h =
-    ap (placed id_cmp cs) (place_behind r c.0 c.1 es (after_less r.0 c.0 (less_is _ (left_holds _ _ h)))) ∙ placed_behind r cs (place id_cmp c.0 c.1 es) (right_holds _ _ h)
+pub placed_after : (r : Uuid × Row) (cs : Made) (es : Rows) → T (below_all id_cmp r.0 cs) → placed id_cmp cs (r ∷ es) ≡ r ∷ placed id_cmp cs es
+placed_after r [] es h = refl
+placed_after r (c ∷ cs) es h =
+    ap (placed id_cmp cs) (place_after r c.0 c.1 es (after_less r.0 c.0 (less_is _ (left_holds _ _ h)))) ∙ placed_after r cs (place id_cmp c.0 c.1 es) (right_holds _ _ h)
 
 put_front : (k : Uuid) (row : Row) (es : Rows) → T (below_all id_cmp k es) → put id_cmp k row es ≡ (k, row) ∷ es
 put_front k row [] h = refl
@@ -111,7 +111,7 @@ all_others k (e ∷ es) h =
 
 -- a change below all rows
 pub placed_first : (k : Uuid) (o : Option Row) (cs : Made) (es : Rows) → T (below_all id_cmp k cs) → T (below_all id_cmp k es) → placed id_cmp ((k, o) ∷ cs) es ≡ row_made (k, o) ++ placed id_cmp cs es
-placed_first k (Some row) cs es g h = ap (placed id_cmp cs) (put_front k row es h) ∙ placed_behind (k, row) cs es g
+placed_first k (Some row) cs es g h = ap (placed id_cmp cs) (put_front k row es h) ∙ placed_after (k, row) cs es g
 placed_first k None cs es g h = ap (placed id_cmp cs) (all_others k es h)
 
 -- a change of the first row
@@ -121,7 +121,7 @@ placed_over k (Some row) cs r es g e h =
     let same_key = name_exact r.0 k e in
     ap (placed id_cmp cs) (ap (λ q. by_order (id_cmp k q) ((k, row) ∷ r ∷ es) ((q, row) ∷ es) (r ∷ put id_cmp k row es)) same_key
     ∙ ap (λ o. by_order o ((k, row) ∷ r ∷ es) ((k, row) ∷ es) (r ∷ put id_cmp k row es)) (name_cmp_total.antisymm k k ∙ ap ordering_reverse (itself k r.0 same_key e)))
-    ∙ placed_behind (k, row) cs es g
+    ∙ placed_after (k, row) cs es g
   where
     itself : (k l : Uuid) → l ≡ k → id_cmp l k ≡ Equal → id_cmp k k ≡ Equal
     itself k l is e = sym (ap (λ q. id_cmp q k) is) ∙ e
@@ -166,7 +166,7 @@ module _ {A B : Type 0} (f : A → Uuid × Row) (g : B → Uuid × Option Row) (
     row_turn ms e =
         append_assoc ms (f x ∷ []) (placed id_cmp (map g (drop j ys)) (map f (drop (i + 1) xs)))
         ∙ ap (λ es. ms ++ es) (sym (ap (placed id_cmp (map g (drop j ys))) (row_at i x p at_x)
-        ∙ placed_behind (f x) (map g (drop j ys)) (map f (drop (i + 1) xs)) below))
+        ∙ placed_after (f x) (map g (drop j ys)) (map f (drop (i + 1) xs)) below))
       where
         below : T (below_all id_cmp (f x).0 (map g (drop j ys)))
         below = subst (λ (cs : Made). T (below_all id_cmp (f x).0 cs)) (sym (change_at j y q at_y)) (below_sorted (f x).0 (g y) (map g (drop (j + 1) ys)) e changes_here)

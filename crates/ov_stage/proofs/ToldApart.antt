@@ -24,7 +24,7 @@ use Rattle.ov_stage.specs.Staging.{is_met}
 use Rattle.ov_stage.proofs.Meeting.{matching-of_table}
 use Rattle.ov_projection.proofs.Repeats.{Shown}
 use Rattle.ov_projection.proofs.SameRows.{same-is}
-use Rattle.ov_projection.proofs.Showing.{behind_other, or_second, value_at}
+use Rattle.ov_projection.proofs.Showing.{tagged_other, or_second, value_at}
 
 -- ---- what is shown of a column
 
@@ -42,7 +42,7 @@ module _ (r : LineKey × Row) (name : List ℕ) where
   shows_none (n ∷ names) h =
       elim (bytes_eq name n) as (λ b. bytes_eq name n ≡ b → value_at name (projection (n ∷ names) r) ≡ None) [
         | true ↦ λ is. subst (λ m. value_at name (projection (m ∷ names) r) ≡ None) (same_text name n (sym is)) (ap (λ o. value_at name (with_first o names)) h ∙ shows_none names h)
-        | false ↦ λ is. behind_other name n (entry_value r n) (projection names r) is ∙ shows_none names h
+        | false ↦ λ is. tagged_other name n (entry_value r n) (projection names r) is ∙ shows_none names h
       ] refl
 
   -- and one that is among the columns is shown as it is
@@ -51,7 +51,7 @@ module _ (r : LineKey × Row) (name : List ℕ) where
   shows_value (n ∷ names) h =
       elim (bytes_eq name n) as (λ b. bytes_eq name n ≡ b → value_at name (projection (n ∷ names) r) ≡ entry_value r name) [
         | true ↦ λ is. subst (λ m. value_at name (projection (m ∷ names) r) ≡ entry_value r name) (same_text name n (sym is)) (first (entry_value r name) refl)
-        | false ↦ λ is. behind_other name n (entry_value r n) (projection names r) is ∙ shows_value names (or_second (bytes_eq name n) (list_any (bytes_eq name) names) is h)
+        | false ↦ λ is. tagged_other name n (entry_value r n) (projection names r) is ∙ shows_value names (or_second (bytes_eq name n) (list_any (bytes_eq name) names) is h)
       ] refl
     where
       first : (o : Option Datum) → entry_value r name ≡ o → value_at name (projection (name ∷ names) r) ≡ entry_value r name

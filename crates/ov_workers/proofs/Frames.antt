@@ -15,8 +15,8 @@ joined-append : (xs ys : List (List ℕ)) → joined (xs ++ ys) ≡ joined xs ++
 joined-append xs ys = flat_map-append (λ (bytes : List ℕ). bytes) xs ys
 
 -- frames after frames
-pub frames_behind : (items items' more : List Sent) (frames others : List (List ℕ)) → items ≡ map Frame frames → items' ≡ items ++ (map Frame others ++ more) → items' ≡ map Frame (frames ++ others) ++ more
-frames_behind items items' more frames others is taken =
+pub frames_after : (items items' more : List Sent) (frames others : List (List ℕ)) → items ≡ map Frame frames → items' ≡ items ++ (map Frame others ++ more) → items' ≡ map Frame (frames ++ others) ++ more
+frames_after items items' more frames others is taken =
     taken ∙ (ap (λ (l : List Sent). l ++ (map Frame others ++ more)) is
     ∙ (sym (append_assoc (map Frame frames) (map Frame others) more) ∙ ap (λ (l : List Sent). l ++ more) (sym (map-append Frame frames others))))
 
@@ -72,15 +72,15 @@ module _ (old mid : SinkState) (items : List Sent) (so_far : WrittenSoFar old mi
   }
 
   -- the writer failed, and the frames after that were dropped
-  pub written_part : (new : SinkState) (items' : List Sent) (behind : List (List ℕ)) → items' ≡ items ++ (map Frame behind ++ End ∷ []) → WritesOf false (joined behind) mid.written new.written → new.faults ≡ one_more mid.faults
+  pub written_part : (new : SinkState) (items' : List Sent) (following : List (List ℕ)) → items' ≡ items ++ (map Frame following ++ End ∷ []) → WritesOf false (joined following) mid.written new.written → new.faults ≡ one_more mid.faults
       → GivesWritten mid.written mid.contents new.written new.contents → Writes false old new items'
-  written_part new items' behind taken (part, wrote, (others, begins)) bad given = record {
-    frames = so_far.frames ++ behind;
-    taken = frames_behind items items' (End ∷ []) so_far.frames behind so_far.taken taken;
+  written_part new items' following taken (part, wrote, (others, begins)) bad given = record {
+    frames = so_far.frames ++ following;
+    taken = frames_after items items' (End ∷ []) so_far.frames following so_far.taken taken;
     written = (
       joined so_far.frames ++ part,
       wrote ∙ (ap (λ (l : List ℕ). l ++ part) so_far.written ∙ append_assoc old.written (joined so_far.frames) part),
-      (others, append_assoc (joined so_far.frames) part others ∙ (ap (λ (l : List ℕ). joined so_far.frames ++ l) begins ∙ sym (joined-append so_far.frames behind))),
+      (others, append_assoc (joined so_far.frames) part others ∙ (ap (λ (l : List ℕ). joined so_far.frames ++ l) begins ∙ sym (joined-append so_far.frames following))),
     );
     flushed = λ whole. let no : false ≡ true = whole in cc;
     faults = bad ∙ ap one_more so_far.faults;
@@ -88,17 +88,17 @@ module _ (old mid : SinkState) (items : List Sent) (so_far : WrittenSoFar old mi
   }
 
   -- the writer failed as it flushed what it held
-  pub failed_flush : (new : SinkState) (items' : List Sent) (behind : List (List ℕ)) → items' ≡ items ++ (map Frame behind ++ End ∷ []) → new.written ≡ mid.written → new.faults ≡ one_more mid.faults
+  pub failed_flush : (new : SinkState) (items' : List Sent) (following : List (List ℕ)) → items' ≡ items ++ (map Frame following ++ End ∷ []) → new.written ≡ mid.written → new.faults ≡ one_more mid.faults
       → GivesWritten mid.written mid.contents new.written new.contents → Writes false old new items'
   unfolding written_part
-  failed_flush new items' behind taken same bad given = written_part new items' behind taken ([], same ∙ sym (append-nil mid.written), (joined behind, refl)) bad given
+  failed_flush new items' following taken same bad given = written_part new items' following taken ([], same ∙ sym (append-nil mid.written), (joined following, refl)) bad given
 
   -- the writer failed in a frame
-  pub failed_write : (new : SinkState) (items1 items' : List Sent) (frame bytes : List ℕ) (behind : List (List ℕ)) → items1 ≡ items ++ Frame frame ∷ [] → items' ≡ items1 ++ (map Frame behind ++ End ∷ []) → bytes ≡ frame
+  pub failed_write : (new : SinkState) (items1 items' : List Sent) (frame bytes : List ℕ) (following : List (List ℕ)) → items1 ≡ items ++ Frame frame ∷ [] → items' ≡ items1 ++ (map Frame following ++ End ∷ []) → bytes ≡ frame
       → WritesOf false bytes mid.written new.written → new.faults ≡ one_more mid.faults → GivesWritten mid.written mid.contents new.written new.contents → Writes false old new items'
-  failed_write new items1 items' frame bytes behind taken dropped same (part, wrote, (others, begins)) bad given =
-      written_part new items' (frame ∷ behind) (dropped ∙ (ap (λ (l : List Sent). l ++ (map Frame behind ++ End ∷ [])) taken ∙ append_assoc items (Frame frame ∷ []) (map Frame behind ++ End ∷ [])))
-      (part, wrote, (others ++ joined behind, sym (append_assoc part others (joined behind)) ∙ ap (λ (l : List ℕ). l ++ joined behind) (begins ∙ same))) bad given
+  failed_write new items1 items' frame bytes following taken dropped same (part, wrote, (others, begins)) bad given =
+      written_part new items' (frame ∷ following) (dropped ∙ (ap (λ (l : List Sent). l ++ (map Frame following ++ End ∷ [])) taken ∙ append_assoc items (Frame frame ∷ []) (map Frame following ++ End ∷ [])))
+      (part, wrote, (others ++ joined following, sym (append_assoc part others (joined following)) ∙ ap (λ (l : List ℕ). l ++ joined following) (begins ∙ same))) bad given
 
   -- the end mark was taken, and what is held was flushed, or not
   pub written_all : (is_whole : Bool) (new : SinkState) (items' : List Sent) → items' ≡ items ++ End ∷ [] → new.written ≡ mid.written → new.is_flushed ≡ is_whole → (is_whole ≡ true → new.faults ≡ mid.faults) → (is_whole ≡ false → new.faults ≡ one_more mid.faults)

@@ -101,18 +101,18 @@ told_some (Some x) f why h e = refl
 
 module _ (stream piece : List ℕ) (texts : List (List ℕ)) (before after : CutterState) (old new : List Item) (f : IsBrought stream before old) where
   -- the texts so far, and those in front
-  parts_of : (front behind others : List (List ℕ)) → texts ≡ front ++ behind → (f.texts ++ texts) ++ others ≡ (cut (stream ++ piece)).messages → (f.texts ++ front) ++ (behind ++ others) ≡ (cut (stream ++ piece)).messages
-  parts_of front behind others parts whole =
-      append_assoc f.texts front (behind ++ others) ∙ (ap (λ (ts : List (List ℕ)). f.texts ++ ts) (sym (append_assoc front behind others) ∙ ap (λ (ts : List (List ℕ)). ts ++ others) (sym parts))
+  parts_of : (front following others : List (List ℕ)) → texts ≡ front ++ following → (f.texts ++ texts) ++ others ≡ (cut (stream ++ piece)).messages → (f.texts ++ front) ++ (following ++ others) ≡ (cut (stream ++ piece)).messages
+  parts_of front following others parts whole =
+      append_assoc f.texts front (following ++ others) ∙ (ap (λ (ts : List (List ℕ)). f.texts ++ ts) (sym (append_assoc front following others) ∙ ap (λ (ts : List (List ℕ)). ts ++ others) (sym parts))
       ∙ (sym (append_assoc f.texts texts others) ∙ whole))
 
   -- the first text that is left is unreadable, or an allocation for it failed
   pub at_text : (cause : Option ReadCause) (why : ReadCause) → cause ≡ Some why → BringsTexts texts cause old new → IsBeginning (f.texts ++ texts) (cut (stream ++ piece)).messages → BroughtSoFar (Some why) (stream ++ piece) after new
-  at_text cause InputEnded is b begins = let none : Remain b.behind (Some InputEnded) = subst (Remain b.behind) is b.remain in absurd none
-  at_text cause ReadFault is b begins = let none : Remain b.behind (Some ReadFault) = subst (Remain b.behind) is b.remain in absurd none
+  at_text cause InputEnded is b begins = let none : Remain b.following (Some InputEnded) = subst (Remain b.following) is b.remain in absurd none
+  at_text cause ReadFault is b begins = let none : Remain b.following (Some ReadFault) = subst (Remain b.following) is b.remain in absurd none
   at_text cause Damaged is b begins =
-      let left : Remain b.behind (Some Damaged) = subst (Remain b.behind) is b.remain in
-      let parts = parts_of b.brings.front b.behind begins.0 b.brings.parts begins.1 in
+      let left : Remain b.following (Some Damaged) = subst (Remain b.following) is b.remain in
+      let parts = parts_of b.brings.front b.following begins.0 b.brings.parts begins.1 in
       record {
         messages = f.messages ++ b.brings.messages;
         brought = brought_append [] old new f.messages b.brings.messages f.brought b.brings.brought;
@@ -122,14 +122,14 @@ module _ (stream piece : List ℕ) (texts : List (List ℕ)) (before after : Cut
   at_text cause Memory is b begins = record {
     messages = f.messages ++ b.brings.messages;
     brought = brought_append [] old new f.messages b.brings.messages f.brought b.brings.brought;
-    asks = asked_begins (stream ++ piece) (f.texts ++ b.brings.front) (b.behind ++ begins.0) (f.messages ++ b.brings.messages) (parts_of b.brings.front b.behind begins.0 b.brings.parts begins.1)
+    asks = asked_begins (stream ++ piece) (f.texts ++ b.brings.front) (b.following ++ begins.0) (f.messages ++ b.brings.messages) (parts_of b.brings.front b.following begins.0 b.brings.parts begins.1)
         (texts_append f.texts b.brings.front f.messages b.brings.messages f.read b.brings.read);
   }
 
   module _ (cause : Option ReadCause) (none : cause ≡ None) (b : BringsTexts texts cause old new) where
     -- all of the texts were brought
     front_is : b.brings.front ≡ texts
-    front_is = let empty : b.behind ≡ [] = subst (Remain b.behind) none b.remain in
+    front_is = let empty : b.following ≡ [] = subst (Remain b.following) none b.remain in
         sym (b.brings.parts ∙ (ap (λ (ts : List (List ℕ)). b.brings.front ++ ts) empty ∙ append-nil b.brings.front))
 
     read_all : AreTextsOf (f.texts ++ texts) (f.messages ++ b.brings.messages)

@@ -26,18 +26,18 @@ Remain texts (Some Damaged) = (text : List ℕ) × (others : List (List ℕ)) ×
 Remain texts (Some Memory) = Unit {0}
 
 -- the messages in the texts before these were brought
-pub record BringsFront (texts behind : List (List ℕ)) (old new : List Item) : Type 0 where
+pub record BringsFront (texts following : List (List ℕ)) (old new : List Item) : Type 0 where
   pub front : List (List ℕ)
-  pub parts : texts ≡ front ++ behind
+  pub parts : texts ≡ front ++ following
   pub messages : List wire.Message
   pub read : AreTextsOf front messages
   pub brought : new ≡ old ++ map Message messages
 
 -- the messages in the texts were brought, up to the first that can't be
 pub record BringsTexts (texts : List (List ℕ)) (end : Option ReadCause) (old new : List Item) : Type 0 where
-  pub behind : List (List ℕ)
-  pub brings : BringsFront texts behind old new
-  pub remain : Remain behind end
+  pub following : List (List ℕ)
+  pub brings : BringsFront texts following old new
+  pub remain : Remain following end
 
 -- the cutter was given this stream, which is not damaged, and the messages that it asks for were brought
 pub record IsBrought (stream : List ℕ) (cutter : CutterState) (items : List Item) : Type 0 where

@@ -102,7 +102,7 @@ pub(crate) fn converse_at<R: Threads + Wait + SystemClock + Sync>(
 }
 
 /// The outcome of clients at a new desk, through their gate.
-fn converse_behind<R: Threads + Wait + SystemClock + Sync>(
+fn converse_after<R: Threads + Wait + SystemClock + Sync>(
     rt: &R,
     alloc: Global,
     clients: &[Client<'_>],
@@ -120,7 +120,7 @@ pub(crate) fn converse<R: Threads + Wait + SystemClock + Sync>(
     clients: &[Client<'_>],
 ) -> Result<String, Fail> {
     let gate = HoldingGate::new(rt, alloc, holds)?;
-    converse_behind(rt, alloc, clients, &gate)
+    converse_after(rt, alloc, clients, &gate)
 }
 
 /// Fails unless this is the outcome of clients at a new desk.

@@ -407,7 +407,7 @@ insert 1 3 s9
 got 1 -> {"error":null,"id":3,"result":[{"uuid":["uuid","00000000-0000-4000-8000-000000000004"]}]}{"error":null,"id":2,"result":[{}]}"#;
 
 #[test]
-fn what_is_due_behind_the_last_moment_never_is(rt: HostRuntime) -> Result<(), Fail> {
+fn what_is_due_after_the_last_moment_never_is(rt: HostRuntime) -> Result<(), Fail> {
     waits_over(rt.alloc(), Faults::NONE, LATE)
 }
 

@@ -306,7 +306,7 @@ fn tables_are_made_once(rt: HostRuntime) -> Result<(), Fail> {
 }
 
 #[test]
-fn a_commit_keeps_the_tables_behind(rt: HostRuntime) -> Result<(), Fail> {
+fn a_commit_keeps_the_tables_after(rt: HostRuntime) -> Result<(), Fail> {
     are_found(rt.alloc(), Way::CommitToOpened, KEPT_BEHIND)
 }
 

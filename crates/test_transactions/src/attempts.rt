@@ -237,7 +237,7 @@ const FAULTS: &str =
 0 [{"op":"select","table":"Switch","where":[],"columns":["name"]}] -> [{"rows":[]}]"#;
 
 #[test]
-fn results_behind_a_fault_are_null(rt: HostRuntime) -> Result<(), Fail> {
+fn results_after_a_fault_are_null(rt: HostRuntime) -> Result<(), Fail> {
     attempts_over(rt.alloc(), Faults::NONE, FAULTS)
 }
 

@@ -164,9 +164,9 @@ ends_one most at s rest None (gap, e, space, inl none) =
 ends_one most at s rest None (gap, e, space, inr (b, short)) =
     sym (ap (cut_from most at []) e ∙ (skip_gap most at gap rest space
     ∙ (ap (cut_from most (at + length gap) []) (sym (append-nil rest)) ∙ scan_begun most (at + length gap) rest [] b short)))
-ends_one most at s rest (Some (Stray offset)) (gap, behind, x, e, space, solid, ne, off, none) =
-    sym (ap (cut_from most at []) e ∙ (skip_gap most at gap (x ∷ behind) space
-    ∙ (run_stray most (at + length gap) x behind solid (ne_eqb x 123 ne)
+ends_one most at s rest (Some (Stray offset)) (gap, following, x, e, space, solid, ne, off, none) =
+    sym (ap (cut_from most at []) e ∙ (skip_gap most at gap (x ∷ following) space
+    ∙ (run_stray most (at + length gap) x following solid (ne_eqb x 123 ne)
     ∙ (ap (λ k. record { messages = []; rest = []; damage = Some (Stray k) }) (sym off) ∙ ap (λ l. record { messages = []; rest = l; damage = Some (Stray offset) }) (sym none)))))
 ends_one most at s rest (Some TooLong) (gap, text, e, space, long, b, none) =
     sym (ap (cut_from most at []) e ∙ (skip_gap most at gap text space
@@ -175,12 +175,12 @@ ends_one most at s rest (Some TooLong) (gap, text, e, space, long, b, none) =
 -- a cut by the relation is what the program makes
 pub cut_from_relation : (most at : ℕ) (s : List ℕ) (messages : List (List ℕ)) (rest : List ℕ) (d : Option Damage) → IsCutAt most at s messages rest d → record { messages = messages; rest = rest; damage = d } ≡ cut_from most at [] s
 cut_from_relation most at s [] rest d h = ends_one most at s rest d h
-cut_from_relation most at s (message ∷ messages) rest d (gap, behind, e, space, m, short, on) =
+cut_from_relation most at s (message ∷ messages) rest d (gap, following, e, space, m, short, on) =
     let n : (at + length gap) + length message ≡ at + (length gap + length message) = omega arith in
-    let again : record { messages = messages; rest = rest; damage = d } ≡ cut_from most (at + (length gap + length message)) [] behind = cut_from_relation most (at + (length gap + length message)) behind messages rest d on in
+    let again : record { messages = messages; rest = rest; damage = d } ≡ cut_from most (at + (length gap + length message)) [] following = cut_from_relation most (at + (length gap + length message)) following messages rest d on in
     ap (with_message message) again
-    ∙ sym (ap (cut_from most at []) e ∙ (skip_gap most at gap (message ++ behind) space
-    ∙ (scan_message most (at + length gap) message behind m short ∙ ap (λ k. with_message message (cut_from most k [] behind)) n)))
+    ∙ sym (ap (cut_from most at []) e ∙ (skip_gap most at gap (message ++ following) space
+    ∙ (scan_message most (at + length gap) message following m short ∙ ap (λ k. with_message message (cut_from most k [] following)) n)))
 
 -- ---- the program keeps the relation
 
@@ -191,12 +191,12 @@ Holds most at s c = IsCutAt most at s c.messages c.rest c.damage
 -- white space in front
 space_more : (most at x : ℕ) → is_space x ≡ true → (s : List ℕ) (messages : List (List ℕ)) (rest : List ℕ) (d : Option Damage) → IsCutAt most (at + 1) s messages rest d → IsCutAt most at (x ∷ s) messages rest d
 space_more most at x h s [] rest None (gap, e, space, end) = (x ∷ gap, ap (λ l. x ∷ l) e, All-cons Space x gap h space, end)
-space_more most at x h s [] rest (Some (Stray offset)) (gap, behind, y, e, space, solid, ne, off, none) =
-    (x ∷ gap, behind, y, ap (λ l. x ∷ l) e, All-cons Space x gap h space, solid, ne, omega arith, none)
+space_more most at x h s [] rest (Some (Stray offset)) (gap, following, y, e, space, solid, ne, off, none) =
+    (x ∷ gap, following, y, ap (λ l. x ∷ l) e, All-cons Space x gap h space, solid, ne, omega arith, none)
 space_more most at x h s [] rest (Some TooLong) (gap, text, e, space, long, b, none) = (x ∷ gap, text, ap (λ l. x ∷ l) e, All-cons Space x gap h space, long, b, none)
-space_more most at x h s (message ∷ messages) rest d (gap, behind, e, space, m, short, on) =
+space_more most at x h s (message ∷ messages) rest d (gap, following, e, space, m, short, on) =
     let n : (at + 1) + (length gap + length message) ≡ at + (length (x ∷ gap) + length message) = omega arith in
-    (x ∷ gap, behind, ap (λ l. x ∷ l) e, All-cons Space x gap h space, m, short, subst (λ k. IsCutAt most k behind messages rest d) n on)
+    (x ∷ gap, following, ap (λ l. x ∷ l) e, All-cons Space x gap h space, m, short, subst (λ k. IsCutAt most k following messages rest d) n on)
 
 -- a message that has begun, or none
 abbrev Within : ℕ → List ℕ → Type 0
@@ -298,10 +298,10 @@ cut_is_its_relation stream c = (
 -- what is left is no longer than the stream
 rest_short : (most at : ℕ) (s : List ℕ) (messages : List (List ℕ)) (rest : List ℕ) (d : Option Damage) → IsCutAt most at s messages rest d → length rest ≤ length s
 rest_short most at s [] rest None (gap, e, space, end) = omega (arith, ap length e, length-append gap rest)
-rest_short most at s [] rest (Some (Stray offset)) (gap, behind, y, e, space, solid, ne, off, none) = omega (arith, ap length none)
+rest_short most at s [] rest (Some (Stray offset)) (gap, following, y, e, space, solid, ne, off, none) = omega (arith, ap length none)
 rest_short most at s [] rest (Some TooLong) (gap, text, e, space, long, b, none) = omega (arith, ap length none)
-rest_short most at s (message ∷ messages) rest d (gap, behind, e, space, m, short, on) =
-    omega (arith, ap length e, length-append gap (message ++ behind), length-append message behind, rest_short most (at + (length gap + length message)) behind messages rest d on)
+rest_short most at s (message ∷ messages) rest d (gap, following, e, space, m, short, on) =
+    omega (arith, ap length e, length-append gap (message ++ following), length-append message following, rest_short most (at + (length gap + length message)) following messages rest d on)
 
 -- the cut of a longer stream goes on where that of its front ended
 pub cut_goes_on : (a b : List ℕ) → cut (a ++ b) ≡ continue_cut (cut a) (λ rest. cut_from max_message (length a) rest b)

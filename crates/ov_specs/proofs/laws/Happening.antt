@@ -4,7 +4,7 @@ use Rattle.std.specs.Prelude.{option_map, option_and_then, codes}
 use Rattle.std.specs.Str.{bytes_eq}
 use Rattle.std.proofs.lemmas.List.{append-nil}
 use Rattle.serde_json.specs.Data.{Data, Items, no_items, item}
-use Rattle.ov_specs.specs.machine.Machine.{State, Choice, Take, Tick, Outcome, Attempt, Outstanding, Sent, Stepped, Tried, Passed, Listed, listed, none_listed, when, ends, is_kept, is_open, passes_behind, settle, works, then_settles, takes_and_settles, happens, Work, Answers, Transact, work_of, transact_work, notification_of, cancel_notification}
+use Rattle.ov_specs.specs.machine.Machine.{State, Choice, Take, Tick, Outcome, Attempt, Outstanding, Sent, Stepped, Tried, Passed, Listed, listed, none_listed, when, ends, is_kept, is_open, passes_after, settle, works, then_settles, takes_and_settles, happens, Work, Answers, Transact, work_of, transact_work, notification_of, cancel_notification}
 use Rattle.ov_specs.specs.values.Uuid.{Uuid}
 use Rattle.ov_specs.specs.wire.Message.{Message}
 use Rattle.ov_specs.proofs.laws.Settling.{settle_nothing}
@@ -37,8 +37,8 @@ module _ (s : State) (c : Choice) (n : ℕ) (message : Message) (own : Listed) (
   take_settled p kept settled none =
       ap (λ b. when b (ends (takes_and_settles s c n message))) there
       ∙ (ap ends (takes-work s c n message own first list work
-      ∙ (ap (λ b. then_settles b (record { stepped = first; others = own.others })) kept ∙ ap (option_map (λ x. (passes_behind first.sent x).tried)) settled))
-      ∙ ends-none (passes_behind first.sent p).tried none)
+      ∙ (ap (λ b. then_settles b (record { stepped = first; others = own.others })) kept ∙ ap (option_map (λ x. (passes_after first.sent x).tried)) settled))
+      ∙ ends-none (passes_after first.sent p).tried none)
 
 -- time passes, and those that wait are tried
 pub tick_settled : (s : State) (c : Choice) (p : Passed) → c.draws ≡ [] → settle s 1 c.outcomes ≡ Some p → p.tried.others ≡ [] → happens s c Tick ≡ Some p.tried.stepped
@@ -92,7 +92,7 @@ take-none s c n message none = by (works s n c.draws own.outcome (work_of s n me
     alone : (t : Stepped) (b : Bool) → (b ≡ true → t.state.outstanding ≡ []) → ends (then_settles b (record { stepped = t; others = own.others })) ≡ when (none_listed own.others) (Some t)
     alone t false waits = refl
     alone t true waits =
-        ap (λ r. ends (option_map (λ p. (passes_behind t.sent p).tried) r)) (settle_nothing t.state 2 own.others (waits refl))
+        ap (λ r. ends (option_map (λ p. (passes_after t.sent p).tried) r)) (settle_nothing t.state 2 own.others (waits refl))
         ∙ ap (λ (sent : List Sent). when (none_listed own.others) (Some (record { state = t.state; sent = sent }))) (append-nil t.sent)
 
     by : (r : Option Stepped) → works s n c.draws own.outcome (work_of s n message) ≡ r → ends (option_and_then (then_settles (is_kept own.outcome)) (option_map (λ t. record { stepped = t; others = own.others }) r)) ≡ when (none_listed own.others) r

@@ -294,8 +294,8 @@ stands-back : (session : ℕ) (queue : List ℕ) → stands_in session (queue ++
 stands-back session queue =
     list_any-append (λ other. eqb other session) queue (session ∷ []) ∙ ap (λ b. stands_in session queue || b) (stands-front session []) ∙ or_truth (stands_in session queue)
 
-stands-behind : (other session : ℕ) (queue : List ℕ) → eqb other session ≡ false → stands_in other (queue ++ session ∷ []) ≡ stands_in other queue
-stands-behind other session queue apart =
+stands-after : (other session : ℕ) (queue : List ℕ) → eqb other session ≡ false → stands_in other (queue ++ session ∷ []) ≡ stands_in other queue
+stands-after other session queue apart =
     list_any-append (λ one. eqb one other) queue (session ∷ []) ∙ ap (λ b. stands_in other queue || b) (stands-one other session [] apart) ∙ or_nothing (stands_in other queue)
 
 -- the queue without a session
@@ -319,7 +319,7 @@ module _ (name : List ℕ) (other session : ℕ) (queues : Queues) (ascend : DoQ
 
       by : (b : Bool) → eqb other session ≡ b → names_of other (lock name session queues) ≡ cond b (insert_key name_cmp (names_of other queues) name) (names_of other queues)
       by true is = names-in other name (queue ++ session ∷ []) queues ascend (ap (λ one. stands_in other (queue ++ one ∷ [])) (sym (same_session other session is)) ∙ stands-back other queue)
-      by false is = names-same other name (queue ++ session ∷ []) queues ascend (stands-behind other session queue is)
+      by false is = names-same other name (queue ++ session ∷ []) queues ascend (stands-after other session queue is)
 
   pub names-steal : names_of other (steal name session queues) ≡ cond (eqb other session) (insert_key name_cmp (names_of other queues) name) (names_of other queues)
   names-steal = by (eqb other session) refl

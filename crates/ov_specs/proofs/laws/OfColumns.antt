@@ -10,7 +10,7 @@ use Rattle.ov_specs.specs.operations.Mutators.{MutationFault, Change, Compute, I
 use Rattle.ov_specs.specs.schema.Fitting.{fits}
 use Rattle.ov_specs.specs.schema.Schema.{is_some_and, is_empty}
 use Rattle.ov_specs.specs.schema.SchemaTypes.{BaseType, ColumnType, Column, Table, kinds_with, kinds_of}
-use Rattle.ov_specs.specs.values.Reading.{Reading, Reads, Unreadable, Clashing, behind, reads}
+use Rattle.ov_specs.specs.values.Reading.{Reading, Reads, Unreadable, Clashing, tagged, reads}
 use Rattle.ov_specs.specs.values.Uuid.{Names, AreUuids}
 use Rattle.ov_specs.specs.values.Value.{AtomKind, Integers, Booleans, Texts, Uuids, Kinds, Single, Pair, Atom, Integer, Boolean, Text, Uuid, Datum, Atoms, Pairs, is_in_64_bits, is_atom_of, is_pair_of, set_of, is_of}
 use Rattle.ov_specs.proofs.laws.Lists.{all-filter}
@@ -81,7 +81,7 @@ either_of : (key : AtomKind) (value : Option BaseType) (d : Data) (v : Datum) �
     → (is_of (kinds_with key value) v || is_of (Single key) v) ≡ true
 either_of key None d v = λ h. ap (λ b. b || is_of (Single key) v) h
 either_of key (Some value) d v =
-    elim (is_some (behind (codes "map") d)) as (λ b. is_of (if b then Pair key value.kind else Single key) v ≡ true → (is_of (Pair key value.kind) v || is_of (Single key) v) ≡ true) [
+    elim (is_some (tagged (codes "map") d)) as (λ b. is_of (if b then Pair key value.kind else Single key) v ≡ true → (is_of (Pair key value.kind) v || is_of (Single key) v) ≡ true) [
       | true ↦ λ h. ap (λ b. b || is_of (Single key) v) h
       | false ↦ λ h. ap (λ b. is_of (Pair key value.kind) v || b) h ∙ or_truth (is_of (Pair key value.kind) v)
     ]

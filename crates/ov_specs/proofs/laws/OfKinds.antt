@@ -10,7 +10,7 @@ use Rattle.serde_json.specs.Find.{as_number, as_bool, as_str, as_array, as_i64}
 use Rattle.uuid.specs.Text.{parsed_hyphenated}
 use Rattle.ov_specs.specs.values.Uuid.{is_uuid, is_id, Names, AreUuids}
 use Rattle.ov_specs.specs.values.Value.{AtomKind, Integers, Booleans, Texts, Uuids, Atom, Integer, Boolean, Text, Uuid, is_in_64_bits, is_text, atom_cmp, Kinds, Single, Pair, marked, set_of, map_of, Datum, Atoms, Pairs, is_atom_of, is_pair_of, is_of}
-use Rattle.ov_specs.specs.values.Reading.{Reading, Reads, Unreadable, Clashing, as_two, behind, in_64_bits, integer_read, text_read, name_read, uuid_read, atom_read, in_front, both, pair_read, each_read, list_read, listed_or_one, atoms_read, pairs_read, has_clash, set_reading, map_reading, reads}
+use Rattle.ov_specs.specs.values.Reading.{Reading, Reads, Unreadable, Clashing, as_two, tagged, in_64_bits, integer_read, text_read, name_read, uuid_read, atom_read, in_front, both, pair_read, each_read, list_read, listed_or_one, atoms_read, pairs_read, has_clash, set_reading, map_reading, reads}
 use Rattle.ov_specs.proofs.laws.Order.{atom_cmp_total}
 use Rattle.ov_specs.proofs.laws.Uuids.{hyphenated_is_uuid}
 use Rattle.std.proofs.lemmas.List.{nil_from_length}
@@ -71,8 +71,8 @@ module _ (names : Names) (are : AreUuids names) where
   uuid_is_uuid : (d : Data) → Passes is_uuid (uuid_read names d)
   uuid_is_uuid d =
       passes-or is_uuid _ _
-      (passes-then is_uuid parsed_hyphenated (λ text. passes-from is_uuid (parsed_hyphenated text) (hyphenated_is_uuid text)) (option_and_then as_str (behind (codes "uuid") d)))
-      (passes-then is_uuid (name_read names) named_is_uuid (option_and_then as_str (behind (codes "named-uuid") d)))
+      (passes-then is_uuid parsed_hyphenated (λ text. passes-from is_uuid (parsed_hyphenated text) (hyphenated_is_uuid text)) (option_and_then as_str (tagged (codes "uuid") d)))
+      (passes-then is_uuid (name_read names) named_is_uuid (option_and_then as_str (tagged (codes "named-uuid") d)))
 
   atom_is_of : (kind : AtomKind) (d : Data) → Passes (is_atom_of kind) (atom_read names kind d)
   atom_is_of Integers d = passes-map is_in_64_bits (is_atom_of Integers) Integer (λ n h. h) _ (passes-then is_in_64_bits integer_read integer_is_in_64_bits (as_number d))
@@ -102,11 +102,11 @@ module _ (names : Names) (are : AreUuids names) where
   listed_passes test reader h (Some list) d = list_passes test reader h list
 
   atoms_are_of : (kind : AtomKind) (d : Data) → Passes (list_all (is_atom_of kind)) (atoms_read names kind d)
-  atoms_are_of kind d = listed_passes (is_atom_of kind) (atom_read names kind) (atom_is_of kind) (behind (codes "set") d) d
+  atoms_are_of kind d = listed_passes (is_atom_of kind) (atom_read names kind) (atom_is_of kind) (tagged (codes "set") d) d
 
   pairs_are_of : (key value : AtomKind) (d : Data) → Passes (list_all (is_pair_of key value)) (pairs_read names key value d)
   pairs_are_of key value d =
-      passes-then (list_all (is_pair_of key value)) (list_read (pair_read names key value)) (list_passes (is_pair_of key value) (pair_read names key value) (pair_is_of key value)) (behind (codes "map") d)
+      passes-then (list_all (is_pair_of key value)) (list_read (pair_read names key value)) (list_passes (is_pair_of key value) (pair_read names key value) (pair_is_of key value)) (tagged (codes "map") d)
 
 -- ---- the set and the map of a list
 

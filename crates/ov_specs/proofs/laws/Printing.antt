@@ -103,14 +103,14 @@ one-more-below : (done : List (List ℕ × Data)) (m : List ℕ × Data) (ms : L
 one-more-below [] m ms h k = (k, tt)
 one-more-below (d ∷ done) m ms h k = (right_holds _ _ h.0, one-more-below done m ms h.1 k)
 
-placed-behind : (done ms : List (List ℕ × Data)) → AllBelow done ms → T (is_sorted name_cmp ms) → placed (in_order done) ms ≡ in_order (done ++ ms)
-placed-behind done [] h k = ap in_order (sym (append-nil done))
-placed-behind done (m ∷ ms) h k =
+placed-after : (done ms : List (List ℕ × Data)) → AllBelow done ms → T (is_sorted name_cmp ms) → placed (in_order done) ms ≡ in_order (done ++ ms)
+placed-after done [] h k = ap in_order (sym (append-nil done))
+placed-after done (m ∷ ms) h k =
     ap (λ members. placed members ms) (put-last done m ms h)
-    ∙ (placed-behind (done ++ m ∷ []) ms (one-more-below done m ms h (left_holds _ _ k)) (right_holds _ _ k) ∙ ap in_order (append_assoc done (m ∷ []) ms))
+    ∙ (placed-after (done ++ m ∷ []) ms (one-more-below done m ms h (left_holds _ _ k)) (right_holds _ _ k) ∙ ap in_order (append_assoc done (m ∷ []) ms))
 
 pub placed-in_order : (ms : List (List ℕ × Data)) → T (is_sorted name_cmp ms) → placed no_members ms ≡ in_order ms
-placed-in_order ms h = placed-behind [] ms tt h
+placed-in_order ms h = placed-after [] ms tt h
 
 -- a text of these tokens reads as the object
 pub reads-object : (ms : List (List ℕ × Data)) (text : List ℕ) → T (is_sorted name_cmp ms) → EachWhole ms → depth (object_of ms) ≤ max_depth

@@ -10,7 +10,7 @@ use Rattle.uuid.specs.Text.{lower}
 use Rattle.uuid.proofs.RoundTrips.{parses_hyphenated_text}
 use Rattle.ov_specs.specs.values.Uuid.{Names}
 use Rattle.ov_specs.specs.values.Value.{AtomKind, Integers, Booleans, Texts, Uuids, Atom, Integer, Boolean, Text, Uuid, is_in_64_bits, atom_cmp, Kinds, Single, Pair, AtomSet, marked, set_of, Datum, Atoms, Pairs, is_atom_of, is_pair_of, is_of}
-use Rattle.ov_specs.specs.values.Reading.{Reads, behind, integer_read, atom_read, pair_read, each_read, atoms_read, set_reading, map_reading, reads}
+use Rattle.ov_specs.specs.values.Reading.{Reads, tagged, integer_read, atom_read, pair_read, each_read, atoms_read, set_reading, map_reading, reads}
 use Rattle.ov_specs.specs.values.Writing.{atom_tree, pair_tree, set_tree, tree}
 use Rattle.ov_specs.proofs.laws.Order.{atom_cmp_total, atom_cmp-IsAntisymmetric}
 use Rattle.ov_specs.proofs.laws.Clashing.{has_clash-ascending}
@@ -47,11 +47,11 @@ integer_read-of_integer : (n : ℤ) → is_in_64_bits n ≡ true → integer_rea
 integer_read-of_integer (pos n) h = let fits : nat_lt n (2 ^ 63) ≡ true = h in rw (fits, h) refl
 integer_read-of_integer (negsuc n) h = rw h refl
 
-behind-atom_tree : (a : Atom) → behind (codes "set") (atom_tree a) ≡ None
-behind-atom_tree (Integer n) = refl
-behind-atom_tree (Boolean b) = refl
-behind-atom_tree (Text text) = refl
-behind-atom_tree (Uuid bytes) = refl
+after-atom_tree : (a : Atom) → tagged (codes "set") (atom_tree a) ≡ None
+after-atom_tree (Integer n) = refl
+after-atom_tree (Boolean b) = refl
+after-atom_tree (Text text) = refl
+after-atom_tree (Uuid bytes) = refl
 
 module _ (names : Names) where
   pub atom_read-atom_tree : (kind : AtomKind) (a : Atom) → is_atom_of kind a ≡ true → atom_read names kind (atom_tree a) ≡ Some a
@@ -80,7 +80,7 @@ module _ (names : Names) where
 
   atoms_read-set_tree : (kind : AtomKind) (xs : List Atom) → list_all (is_atom_of kind) xs ≡ true → atoms_read names kind (set_tree xs) ≡ Some xs
   atoms_read-set_tree kind [] h = refl
-  atoms_read-set_tree kind (a ∷ []) h = rw (behind-atom_tree a, atom_read-atom_tree kind a (and_parts _ _ h).0) refl
+  atoms_read-set_tree kind (a ∷ []) h = rw (after-atom_tree a, atom_read-atom_tree kind a (and_parts _ _ h).0) refl
   atoms_read-set_tree kind (a ∷ b ∷ xs) h = each_read-map (atom_read names kind) atom_tree (is_atom_of kind) (atom_read-atom_tree kind) (a ∷ b ∷ xs) h
 
   pub reads-tree : (kinds : Kinds) (d : Datum) → is_of kinds d ≡ true → reads names kinds (tree d) ≡ Reads d

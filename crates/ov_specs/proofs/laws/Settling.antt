@@ -12,7 +12,7 @@ use Rattle.std.proofs.lemmas.Nat.{mul-le}
 use Rattle.std.proofs.lemmas.Option.{same_Some}
 use Rattle.serde_json.specs.Data.{Data, Items}
 use Rattle.ov_specs.specs.locks.Queues.{owns, leave, told_of_leaving}
-use Rattle.ov_specs.specs.machine.Machine.{State, Session, Outcome, Attempt, Outstanding, Sent, Stepped, Passed, listed, tries_again, is_kept, is_open, passed, passes_behind, still_waiting, waits_behind, waits_on, pass, settle_within, settle, to_session, results_of, results_to, updates_sent, told, of_others, closed}
+use Rattle.ov_specs.specs.machine.Machine.{State, Session, Outcome, Attempt, Outstanding, Sent, Stepped, Passed, listed, tries_again, is_kept, is_open, passed, passes_after, still_waiting, waits_after, waits_on, pass, settle_within, settle, to_session, results_of, results_to, updates_sent, told, of_others, closed}
 use Rattle.ov_specs.specs.machine.Blocked.{IsBlocked, AreBlocked}
 use Rattle.ov_specs.specs.monitors.Updates.{all_updates, update_notification}
 use Rattle.ov_specs.specs.rows.Database.{Database}
@@ -173,7 +173,7 @@ try_within s o outcome t there h =
 within_kept : (s : State) → IsKeptByTries (IsWithin s) (λ o. true)
 within_kept s = record {
   aside = λ t sent h. ((no_more-then s t (emptied t) h.0 (no_more-same t (emptied t) refl refl refl refl), h.1), all-any t.outstanding);
-  back = λ t sent waiting h all. (no_more-then s t (waits_behind t waiting) h.0 (no_more-same t (waits_behind t waiting) refl refl refl refl), h.1);
+  back = λ t sent waiting h all. (no_more-then s t (waits_after t waiting) h.0 (no_more-same t (waits_after t waiting) refl refl refl refl), h.1);
   tries = λ t sent o outcome u h all there again. within-then s t u.state sent u.sent h (try_within t o outcome u there again);
 }
 
@@ -218,7 +218,7 @@ pass_counts s number attempts (o ∷ before) p h = elim (pass_first s number att
       subst (PassCounts s number (o ∷ before)) x.is (elim x.goes_on [
         | inl ends ↦
             let left : waiting x.first.state + 1 ≤ waiting s + 1 = subst (λ b. waiting x.first.state + one_if b ≤ waiting s + 1) ends.0 c in
-            subst (λ (v : Passed). PassCounts s number (o ∷ before) (passes_behind x.first.sent v)) ends.1 (record {
+            subst (λ (v : Passed). PassCounts s number (o ∷ before) (passes_after x.first.sent v)) ends.1 (record {
               left = omega (arith, left, length-append x.first.state.outstanding (still_waiting x.first.state before), length-kept (λ (k : Outstanding). is_open x.first.state k.session) before);
               up = omega arith;
               down = omega arith;

@@ -4,19 +4,19 @@ use Rattle.std.specs.Prelude.{option_map, option_and_then}
 use Rattle.std.specs.List.{list_all}
 use Rattle.std.proofs.lemmas.Bool.{and_parts, and_from, eq-eqb, ne_eqb, leb-true, le-leb}
 use Rattle.std.proofs.lemmas.List.{append-nil}
-use Rattle.ov_specs.specs.machine.Machine.{State, Outcome, Attempt, Outstanding, Sent, Stepped, Tried, Passed, Listed, listed, tries, tries_again, is_kept, is_open, passed, passes_behind, waits_behind, pass, settle_within, settle}
+use Rattle.ov_specs.specs.machine.Machine.{State, Outcome, Attempt, Outstanding, Sent, Stepped, Tried, Passed, Listed, listed, tries, tries_again, is_kept, is_open, passed, passes_after, waits_after, pass, settle_within, settle}
 use Rattle.ov_specs.proofs.laws.Settling.{PassCounts, pass_counts, fewer_left, waiting}
 use Rattle.ov_specs.proofs.laws.Tries.{left_by, sent_by, emptied}
 
 -- ---- what was sent before
 
-pub behind-nothing : (o : Option Passed) → option_map (passes_behind []) o ≡ o
-behind-nothing None = refl
-behind-nothing (Some p) = refl
+pub past-nothing : (o : Option Passed) → option_map (passes_after []) o ≡ o
+past-nothing None = refl
+past-nothing (Some p) = refl
 
-pub behind-behind : (a b : List Sent) (o : Option Passed) → option_map (passes_behind a) (option_map (passes_behind b) o) ≡ option_map (passes_behind (a ++ b)) o
-behind-behind a b None = refl
-behind-behind a b (Some p) = ap (λ (sent : List Sent). Some (record p { tried = record p.tried { stepped = record p.tried.stepped { sent = sent } } })) (sym (append_assoc a b (sent_by p)))
+pub after-after : (a b : List Sent) (o : Option Passed) → option_map (passes_after a) (option_map (passes_after b) o) ≡ option_map (passes_after (a ++ b)) o
+after-after a b None = refl
+after-after a b (Some p) = ap (λ (sent : List Sent). Some (record p { tried = record p.tried { stepped = record p.tried.stepped { sent = sent } } })) (sym (append_assoc a b (sent_by p)))
 
 -- ---- what is listed
 
@@ -59,7 +59,7 @@ nothing most s number attempts none =
     ∙ ap (λ os. Some (passed (record s { outstanding = os }) number attempts false)) (sym none)
   where
     then_passes : Passed → Option Passed
-    then_passes p = cond p.has_changed (option_map (passes_behind (sent_by p)) (settle_within most (left_by p) p.next p.tried.others)) (Some p)
+    then_passes p = cond p.has_changed (option_map (passes_after (sent_by p)) (settle_within most (left_by p) p.next p.tried.others)) (Some p)
 
 -- as many passes as wait are enough
 enough : (a b : ℕ) (s : State) (number : ℕ) (attempts : List Attempt) → waiting s ≤ a → waiting s ≤ b → settle_within a s number attempts ≡ settle_within b s number attempts
@@ -70,15 +70,15 @@ enough (suc a) (suc b) s number attempts low high = by (pass (emptied s) number 
   where
     changed : (p : Passed) → PassCounts (emptied s) number s.outstanding p → (c : Bool) → p.has_changed ≡ c
         → ((t : State) (n : ℕ) (attempts' : List Attempt) → waiting t ≤ a → waiting t ≤ b → settle_within a t n attempts' ≡ settle_within b t n attempts')
-        → cond c (option_map (passes_behind (sent_by p)) (settle_within a (left_by p) p.next p.tried.others)) (Some p) ≡ cond c (option_map (passes_behind (sent_by p)) (settle_within b (left_by p) p.next p.tried.others)) (Some p)
+        → cond c (option_map (passes_after (sent_by p)) (settle_within a (left_by p) p.next p.tried.others)) (Some p) ≡ cond c (option_map (passes_after (sent_by p)) (settle_within b (left_by p) p.next p.tried.others)) (Some p)
     changed p counts true is same =
         let left = fewer_left s number p counts is in
-        ap (option_map (passes_behind (sent_by p))) (same (left_by p) p.next p.tried.others (omega (arith, left, low)) (omega (arith, left, high)))
+        ap (option_map (passes_after (sent_by p))) (same (left_by p) p.next p.tried.others (omega (arith, left, low)) (omega (arith, left, high)))
     changed p counts false is same = refl
 
     by : (r : Option Passed) → pass (emptied s) number attempts s.outstanding ≡ r → ((t : State) (n : ℕ) (attempts' : List Attempt) → waiting t ≤ a → waiting t ≤ b → settle_within a t n attempts' ≡ settle_within b t n attempts')
-        → option_and_then (λ p. cond p.has_changed (option_map (passes_behind (sent_by p)) (settle_within a (left_by p) p.next p.tried.others)) (Some p)) r
-        ≡ option_and_then (λ p. cond p.has_changed (option_map (passes_behind (sent_by p)) (settle_within b (left_by p) p.next p.tried.others)) (Some p)) r
+        → option_and_then (λ p. cond p.has_changed (option_map (passes_after (sent_by p)) (settle_within a (left_by p) p.next p.tried.others)) (Some p)) r
+        ≡ option_and_then (λ p. cond p.has_changed (option_map (passes_after (sent_by p)) (settle_within b (left_by p) p.next p.tried.others)) (Some p)) r
     by None is same = refl
     by (Some p) is same = changed p (pass_counts (emptied s) number attempts s.outstanding p is) p.has_changed refl same
 
@@ -86,7 +86,7 @@ enough (suc a) (suc b) s number attempts low high = by (pass (emptied s) number 
 
 -- after a pass that changed the database all that wait are tried again
 abbrev pub settles_again : Passed → Option Passed
-settles_again p = cond p.has_changed (option_map (passes_behind (sent_by p)) (settle (left_by p) p.next p.tried.others)) (Some p)
+settles_again p = cond p.has_changed (option_map (passes_after (sent_by p)) (settle (left_by p) p.next p.tried.others)) (Some p)
 
 -- the rest of a pass over these, and all passes after it
 abbrev pub settles_on : State → ℕ → List Attempt → List Outstanding → Option Passed
@@ -97,25 +97,25 @@ pub settle-begins : (s : State) (number : ℕ) (attempts : List Attempt) → set
 settle-begins s number attempts = enough (waiting s) (suc (waiting s)) s number attempts (omega arith) (omega arith) ∙ by (pass (emptied s) number attempts s.outstanding) refl
   where
     changed : (p : Passed) → PassCounts (emptied s) number s.outstanding p → (c : Bool) → p.has_changed ≡ c
-        → cond c (option_map (passes_behind (sent_by p)) (settle_within (waiting s) (left_by p) p.next p.tried.others)) (Some p) ≡ cond c (option_map (passes_behind (sent_by p)) (settle (left_by p) p.next p.tried.others)) (Some p)
+        → cond c (option_map (passes_after (sent_by p)) (settle_within (waiting s) (left_by p) p.next p.tried.others)) (Some p) ≡ cond c (option_map (passes_after (sent_by p)) (settle (left_by p) p.next p.tried.others)) (Some p)
     changed p counts true is =
         let left = fewer_left s number p counts is in
-        ap (option_map (passes_behind (sent_by p))) (enough (waiting s) (waiting (left_by p)) (left_by p) p.next p.tried.others (omega (arith, left)) (omega arith))
+        ap (option_map (passes_after (sent_by p))) (enough (waiting s) (waiting (left_by p)) (left_by p) p.next p.tried.others (omega (arith, left)) (omega arith))
     changed p counts false is = refl
 
     by : (r : Option Passed) → pass (emptied s) number attempts s.outstanding ≡ r
-        → option_and_then (λ p. cond p.has_changed (option_map (passes_behind (sent_by p)) (settle_within (waiting s) (left_by p) p.next p.tried.others)) (Some p)) r ≡ option_and_then settles_again r
+        → option_and_then (λ p. cond p.has_changed (option_map (passes_after (sent_by p)) (settle_within (waiting s) (left_by p) p.next p.tried.others)) (Some p)) r ≡ option_and_then settles_again r
     by None is = refl
     by (Some p) is = changed p (pass_counts (emptied s) number attempts s.outstanding p is) p.has_changed refl
 
 -- what was sent before stands before all of it
-on-behind : (sent : List Sent) (r : Option Passed) → option_and_then settles_again (option_map (passes_behind sent) r) ≡ option_map (passes_behind sent) (option_and_then settles_again r)
-on-behind sent None = refl
-on-behind sent (Some p) = by p.has_changed
+on-after : (sent : List Sent) (r : Option Passed) → option_and_then settles_again (option_map (passes_after sent) r) ≡ option_map (passes_after sent) (option_and_then settles_again r)
+on-after sent None = refl
+on-after sent (Some p) = by p.has_changed
   where
-    by : (c : Bool) → cond c (option_map (passes_behind (sent ++ sent_by p)) (settle (left_by p) p.next p.tried.others)) (Some (passes_behind sent p))
-        ≡ option_map (passes_behind sent) (cond c (option_map (passes_behind (sent_by p)) (settle (left_by p) p.next p.tried.others)) (Some p))
-    by true = sym (behind-behind sent (sent_by p) (settle (left_by p) p.next p.tried.others))
+    by : (c : Bool) → cond c (option_map (passes_after (sent ++ sent_by p)) (settle (left_by p) p.next p.tried.others)) (Some (passes_after sent p))
+        ≡ option_map (passes_after sent) (cond c (option_map (passes_after (sent_by p)) (settle (left_by p) p.next p.tried.others)) (Some p))
+    by true = sym (after-after sent (sent_by p) (settle (left_by p) p.next p.tried.others))
     by false = refl
 
 -- one whose session was closed is not tried
@@ -123,35 +123,35 @@ pub pass-skips : (s : State) (number : ℕ) (attempts : List Attempt) (o : Outst
 pass-skips s number attempts o waiting away =
     ap (λ b. cond b
     (option_and_then
-    (λ t. option_map (passes_behind t.stepped.sent) (cond (is_kept (listed number attempts).outcome) (Some (passed (waits_behind t.stepped.state waiting) (number + 1) t.others true)) (pass t.stepped.state (number + 1) t.others waiting)))
+    (λ t. option_map (passes_after t.stepped.sent) (cond (is_kept (listed number attempts).outcome) (Some (passed (waits_after t.stepped.state waiting) (number + 1) t.others true)) (pass t.stepped.state (number + 1) t.others waiting)))
     (tries (tries_again s o) number attempts))
     (pass s number attempts waiting))
     away
 
 -- a pass, unrolled at its front
 pub pass-tries : (s : State) (number : ℕ) (attempts : List Attempt) (own : Listed) (o : Outstanding) (waiting : List Outstanding) (t : Stepped) → is_open s o.session ≡ true → listed number attempts ≡ own → tries_again s o own.outcome ≡ Some t
-    → pass s number attempts (o ∷ waiting) ≡ option_map (passes_behind t.sent) (cond (is_kept own.outcome) (Some (passed (waits_behind t.state waiting) (number + 1) own.others true)) (pass t.state (number + 1) own.others waiting))
+    → pass s number attempts (o ∷ waiting) ≡ option_map (passes_after t.sent) (cond (is_kept own.outcome) (Some (passed (waits_after t.state waiting) (number + 1) own.others true)) (pass t.state (number + 1) own.others waiting))
 pass-tries s number attempts own o waiting t there list again =
-    ap (λ b. cond b (option_and_then (behind (listed number attempts)) (tries (tries_again s o) number attempts)) (pass s number attempts waiting)) there
-    ∙ (ap (λ (l : Listed). option_and_then (behind l) (option_map (λ x. record { stepped = x; others = l.others }) (tries_again s o l.outcome))) list
-    ∙ ap (λ r. option_and_then (behind own) (option_map (λ x. record { stepped = x; others = own.others }) r)) again)
+    ap (λ b. cond b (option_and_then (following (listed number attempts)) (tries (tries_again s o) number attempts)) (pass s number attempts waiting)) there
+    ∙ (ap (λ (l : Listed). option_and_then (following l) (option_map (λ x. record { stepped = x; others = l.others }) (tries_again s o l.outcome))) list
+    ∙ ap (λ r. option_and_then (following own) (option_map (λ x. record { stepped = x; others = own.others }) r)) again)
   where
-    behind : Listed → Tried → Option Passed
-    behind l x = option_map (passes_behind x.stepped.sent) (cond (is_kept l.outcome) (Some (passed (waits_behind x.stepped.state waiting) (number + 1) x.others true)) (pass x.stepped.state (number + 1) x.others waiting))
+    following : Listed → Tried → Option Passed
+    following l x = option_map (passes_after x.stepped.sent) (cond (is_kept l.outcome) (Some (passed (waits_after x.stepped.state waiting) (number + 1) x.others true)) (pass x.stepped.state (number + 1) x.others waiting))
 
 module _ (s : State) (number : ℕ) (attempts : List Attempt) (own : Listed) (o : Outstanding) (waiting : List Outstanding) (t : Stepped) (there : is_open s o.session ≡ true) (list : listed number attempts ≡ own) (again : tries_again s o own.outcome ≡ Some t) where
   -- one that changes nothing is followed by those after it
-  pub on-tries : is_kept own.outcome ≡ false → settles_on s number attempts (o ∷ waiting) ≡ option_map (passes_behind t.sent) (settles_on t.state (number + 1) own.others waiting)
+  pub on-tries : is_kept own.outcome ≡ false → settles_on s number attempts (o ∷ waiting) ≡ option_map (passes_after t.sent) (settles_on t.state (number + 1) own.others waiting)
   on-tries not_kept =
-      ap (option_and_then settles_again) (pass-tries s number attempts own o waiting t there list again ∙ ap (λ b. option_map (passes_behind t.sent) (cond b (Some (passed (waits_behind t.state waiting) (number + 1) own.others true)) (pass t.state (number + 1) own.others waiting))) not_kept)
-      ∙ on-behind t.sent (pass t.state (number + 1) own.others waiting)
+      ap (option_and_then settles_again) (pass-tries s number attempts own o waiting t there list again ∙ ap (λ b. option_map (passes_after t.sent) (cond b (Some (passed (waits_after t.state waiting) (number + 1) own.others true)) (pass t.state (number + 1) own.others waiting))) not_kept)
+      ∙ on-after t.sent (pass t.state (number + 1) own.others waiting)
 
   -- one that changes the database is followed by the first that waits
-  pub on-changes : is_kept own.outcome ≡ true → settles_on s number attempts (o ∷ waiting) ≡ option_map (passes_behind t.sent) (settle (waits_behind t.state waiting) (number + 1) own.others)
+  pub on-changes : is_kept own.outcome ≡ true → settles_on s number attempts (o ∷ waiting) ≡ option_map (passes_after t.sent) (settle (waits_after t.state waiting) (number + 1) own.others)
   on-changes kept =
-      ap (option_and_then settles_again) (pass-tries s number attempts own o waiting t there list again ∙ ap (λ b. option_map (passes_behind t.sent) (cond b (Some (passed (waits_behind t.state waiting) (number + 1) own.others true)) (pass t.state (number + 1) own.others waiting))) kept)
-      ∙ (on-behind t.sent (Some (passed (waits_behind t.state waiting) (number + 1) own.others true))
-      ∙ ap (option_map (passes_behind t.sent)) (behind-nothing (settle (waits_behind t.state waiting) (number + 1) own.others)))
+      ap (option_and_then settles_again) (pass-tries s number attempts own o waiting t there list again ∙ ap (λ b. option_map (passes_after t.sent) (cond b (Some (passed (waits_after t.state waiting) (number + 1) own.others true)) (pass t.state (number + 1) own.others waiting))) kept)
+      ∙ (on-after t.sent (Some (passed (waits_after t.state waiting) (number + 1) own.others true))
+      ∙ ap (option_map (passes_after t.sent)) (past-nothing (settle (waits_after t.state waiting) (number + 1) own.others)))
 
 -- ---- as a loop keeps it
 
@@ -159,11 +159,11 @@ module _ (s : State) (number : ℕ) (attempts : List Attempt) (own : Listed) (o 
 -- was sent so far and the rest of settling from here.
 abbrev pub Reaches : State → ℕ → List Attempt → State → List Sent → ℕ → List Outstanding → Type 0
 Reaches from first made s sent number waiting =
-    (more : List Attempt) → AreFrom number more → settle from first (made ++ more) ≡ option_map (passes_behind sent) (settles_on s number more waiting)
+    (more : List Attempt) → AreFrom number more → settle from first (made ++ more) ≡ option_map (passes_after sent) (settles_on s number more waiting)
 
 -- before the first try
 pub reaches_first : (s : State) (number : ℕ) → Reaches s number [] (emptied s) [] number s.outstanding
-reaches_first s number more later = settle-begins s number more ∙ sym (behind-nothing (settles_on (emptied s) number more s.outstanding))
+reaches_first s number more later = settle-begins s number more ∙ sym (past-nothing (settles_on (emptied s) number more s.outstanding))
 
 module _ (from : State) (first : ℕ) (made : List Attempt) (s : State) (sent : List Sent) (number : ℕ) where
   -- after the last try
@@ -175,10 +175,10 @@ module _ (from : State) (first : ℕ) (made : List Attempt) (s : State) (sent : 
   module _ (o : Outstanding) (waiting : List Outstanding) (reaches : Reaches from first made s sent number (o ∷ waiting)) where
     -- one whose session was closed is not tried
     pub reaches_skip : is_open s o.session ≡ false → Reaches from first made s sent number waiting
-    reaches_skip away more later = reaches more later ∙ ap (λ r. option_map (passes_behind sent) (option_and_then settles_again r)) (pass-skips s number more o waiting away)
+    reaches_skip away more later = reaches more later ∙ ap (λ r. option_map (passes_after sent) (option_and_then settles_again r)) (pass-skips s number more o waiting away)
 
     module _ (outcome : Option Outcome) (t : Stepped) (there : is_open s o.session ≡ true) (again : tries_again s o outcome ≡ Some t) where
-      before : (more : List Attempt) → AreFrom (number + 1) more → settle from first ((made ++ made_by number outcome) ++ more) ≡ option_map (passes_behind sent) (settles_on s number (made_by number outcome ++ more) (o ∷ waiting))
+      before : (more : List Attempt) → AreFrom (number + 1) more → settle from first ((made ++ made_by number outcome) ++ more) ≡ option_map (passes_after sent) (settles_on s number (made_by number outcome ++ more) (o ∷ waiting))
       before more later = ap (settle from first) (append_assoc made (made_by number outcome) more) ∙ reaches (made_by number outcome ++ more) (made_are_from number outcome more later)
 
       abbrev own : List Attempt → Listed
@@ -187,12 +187,12 @@ module _ (from : State) (first : ℕ) (made : List Attempt) (s : State) (sent : 
       -- one that changed nothing
       pub reaches_next : is_kept outcome ≡ false → Reaches from first (made ++ made_by number outcome) t.state (sent ++ t.sent) (number + 1) waiting
       reaches_next not_kept more later =
-          before more later ∙ (ap (option_map (passes_behind sent)) (on-tries s number (made_by number outcome ++ more) (own more) o waiting t there (listed-made number outcome more later) again not_kept)
-          ∙ behind-behind sent t.sent (settles_on t.state (number + 1) more waiting))
+          before more later ∙ (ap (option_map (passes_after sent)) (on-tries s number (made_by number outcome ++ more) (own more) o waiting t there (listed-made number outcome more later) again not_kept)
+          ∙ after-after sent t.sent (settles_on t.state (number + 1) more waiting))
 
       -- one that changed the database
-      pub reaches_again : is_kept outcome ≡ true → Reaches from first (made ++ made_by number outcome) (emptied (waits_behind t.state waiting)) (sent ++ t.sent) (number + 1) (waits_behind t.state waiting).outstanding
+      pub reaches_again : is_kept outcome ≡ true → Reaches from first (made ++ made_by number outcome) (emptied (waits_after t.state waiting)) (sent ++ t.sent) (number + 1) (waits_after t.state waiting).outstanding
       reaches_again kept more later =
-          before more later ∙ (ap (option_map (passes_behind sent)) (on-changes s number (made_by number outcome ++ more) (own more) o waiting t there (listed-made number outcome more later) again kept)
-          ∙ (behind-behind sent t.sent (settle (waits_behind t.state waiting) (number + 1) more)
-          ∙ ap (option_map (passes_behind (sent ++ t.sent))) (settle-begins (waits_behind t.state waiting) (number + 1) more)))
+          before more later ∙ (ap (option_map (passes_after sent)) (on-changes s number (made_by number outcome ++ more) (own more) o waiting t there (listed-made number outcome more later) again kept)
+          ∙ (after-after sent t.sent (settle (waits_after t.state waiting) (number + 1) more)
+          ∙ ap (option_map (passes_after (sent ++ t.sent))) (settle-begins (waits_after t.state waiting) (number + 1) more)))

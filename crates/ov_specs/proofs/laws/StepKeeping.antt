@@ -8,7 +8,7 @@ use Rattle.std.proofs.lemmas.Option.{same_Some}
 use Rattle.serde_json.specs.Data.{Items}
 use Rattle.ov_specs.specs.locks.Queues.{owns}
 use Rattle.ov_specs.specs.machine.History.{run}
-use Rattle.ov_specs.specs.machine.Machine.{State, Entry, Attempt, Choice, Event, Open, Take, Close, Tick, Outcome, Outstanding, Listed, listed, Stepped, Passed, step, happens, works, takes_and_settles, tries_again, settle, waits_behind, still_waiting, closed, is_open, is_request, is_without_choice, none_drawn, with_next_session, ends, arrived, Work, work_of, opening}
+use Rattle.ov_specs.specs.machine.Machine.{State, Entry, Attempt, Choice, Event, Open, Take, Close, Tick, Outcome, Outstanding, Listed, listed, Stepped, Passed, step, happens, works, takes_and_settles, tries_again, settle, waits_after, still_waiting, closed, is_open, is_request, is_without_choice, none_drawn, with_next_session, ends, arrived, Work, work_of, opening}
 use Rattle.ov_specs.specs.operations.OpOutcome.{Owns}
 use Rattle.ov_specs.specs.operations.Transaction.{Completes, transaction}
 use Rattle.ov_specs.specs.rows.Database.{Database}
@@ -95,7 +95,7 @@ module _ (P : Schema → Database → Type 0) (are_drawn : List Uuid → Bool) (
   try_stays : (s : State) (o : Outstanding) (outcome : Option Outcome) (t : Stepped) → are_drawn o.draws ≡ true → Holds P are_drawn s → tries_again s o outcome ≡ Some t → Stays s.schema t.state
   try_stays s o outcome t are holds h = try_has (λ own x. Stays s.schema x.state) s o outcome t (closed_stays s o.session holds) (outcome_stays s o (owns s.queues o.session) (s.moment - o.arrival) are holds) h
 
-  back_stays : (s : State) (waiting : List Outstanding) → Holds P are_drawn s → list_all is_drawn waiting ≡ true → Holds P are_drawn (waits_behind s waiting)
+  back_stays : (s : State) (waiting : List Outstanding) → Holds P are_drawn s → list_all is_drawn waiting ≡ true → Holds P are_drawn (waits_after s waiting)
   back_stays s waiting holds are = record {
     committed = holds.committed;
     sealed = holds.sealed;

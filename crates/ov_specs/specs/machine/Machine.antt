@@ -433,16 +433,16 @@ abbrev pub passed : State → ℕ → List Attempt → Bool → Passed
 passed s number attempts has_changed = record { tried = record { stepped = record { state = s; sent = [] }; others = attempts }; next = number; has_changed = has_changed }
 
 -- these are sent first, and then what was sent on the way
-abbrev pub passes_behind : List Sent → Passed → Passed
-passes_behind sent p = record p { tried = record p.tried { stepped = record p.tried.stepped { sent = sent ++ p.tried.stepped.sent } } }
+abbrev pub passes_after : List Sent → Passed → Passed
+passes_after sent p = record p { tried = record p.tried { stepped = record p.tried.stepped { sent = sent ++ p.tried.stepped.sent } } }
 
 -- the transactions of sessions that are open
 abbrev pub still_waiting : State → List Outstanding → List Outstanding
 still_waiting s waiting = filter (λ o. is_open s o.session) waiting
 
 -- these wait after those that wait already
-abbrev pub waits_behind : State → List Outstanding → State
-waits_behind s waiting = record s { outstanding = s.outstanding ++ still_waiting s waiting }
+abbrev pub waits_after : State → List Outstanding → State
+waits_after s waiting = record s { outstanding = s.outstanding ++ still_waiting s waiting }
 
 -- One pass over waiting transactions, in order of arrival: each is tried, and one that is blocked waits again. A try that
 -- changes the database ends the pass, and those after it go on waiting. A transaction of a session that was closed on the
@@ -452,9 +452,9 @@ pass s number attempts [] = Some (passed s number attempts false)
 pass s number attempts (o ∷ waiting) =
     if is_open s o.session
     then option_and_then
-    (λ t. option_map (passes_behind t.stepped.sent)
+    (λ t. option_map (passes_after t.stepped.sent)
     (if is_kept (listed number attempts).outcome
-    then Some (passed (waits_behind t.stepped.state waiting) (number + 1) t.others true)
+    then Some (passed (waits_after t.stepped.state waiting) (number + 1) t.others true)
     else pass t.stepped.state (number + 1) t.others waiting))
     (tries (tries_again s o) number attempts)
     else pass s number attempts waiting
@@ -464,7 +464,7 @@ pass s number attempts (o ∷ waiting) =
 abbrev pub settle_within : ℕ → State → ℕ → List Attempt → Option Passed
 settle_within zero s number attempts = Some (passed s number attempts false)
 settle_within (suc most) s number attempts = option_and_then
-    (λ p. if p.has_changed then option_map (passes_behind p.tried.stepped.sent) (settle_within most p.tried.stepped.state p.next p.tried.others) else Some p)
+    (λ p. if p.has_changed then option_map (passes_after p.tried.stepped.sent) (settle_within most p.tried.stepped.state p.next p.tried.others) else Some p)
     (pass (record s { outstanding = [] }) number attempts s.outstanding)
 
 -- all waiting transactions are tried, beginning with the attempt of this number
@@ -517,7 +517,7 @@ takes s c session message = tries (λ outcome. works s session c.draws outcome (
 -- After an attempt that changed the database, the waiting transactions are tried: these are the attempts after it.
 abbrev pub then_settles : Bool → Tried → Option Tried
 then_settles false t = Some t
-then_settles true t = option_map (λ p. (passes_behind t.stepped.sent p).tried) (settle t.stepped.state 2 t.others)
+then_settles true t = option_map (λ p. (passes_after t.stepped.sent p).tried) (settle t.stepped.state 2 t.others)
 
 -- the work on a message, and the tries that it leads to
 abbrev pub takes_and_settles : State → Choice → ℕ → Message → Option Tried

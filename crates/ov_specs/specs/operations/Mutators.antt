@@ -10,7 +10,7 @@ use Rattle.ov_specs.specs.schema.Schema.{is_empty}
 use Rattle.std.specs.Str.{bytes_eq}
 use Rattle.ov_specs.specs.operations.Errors.{OpError, SyntaxError, UnknownColumn, ConstraintViolation}
 use Rattle.ov_specs.specs.values.Reading as reading
-use Rattle.ov_specs.specs.values.Reading.{Reading, Reads, behind, reads}
+use Rattle.ov_specs.specs.values.Reading.{Reading, Reads, tagged, reads}
 use Rattle.ov_specs.specs.schema.SchemaTypes.{ColumnType, Column, Table, kinds_of}
 use Rattle.ov_specs.specs.values.Uuid.{Names}
 use Rattle.ov_specs.specs.values.Value.{Integers, is_in_64_bits, is_atom_of, is_of, Single, Pair, Kinds, Atom, Integer, Boolean, Text, Uuid, Datum, Atoms, Pairs, set_of, map_of}
@@ -104,7 +104,7 @@ integer_of (Reads value) = number_in value
 -- server's rule, over RFC 7047, 5.1, <mutation>)
 abbrev pub deleted_kinds : Kinds → Data → Kinds
 deleted_kinds (Single kind) d = Single kind
-deleted_kinds (Pair key value) d = if is_some (behind (codes "map") d) then Pair key value else Single key
+deleted_kinds (Pair key value) d = if is_some (tagged (codes "map") d) then Pair key value else Single key
 
 -- what is done, with the value that a tree stands for: one integer, or elements (RFC 7047, 5.1, <mutation>)
 abbrev pub change_read : Names → ColumnType → Mutator → Data → Result Change MutationFault

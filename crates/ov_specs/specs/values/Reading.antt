@@ -36,8 +36,8 @@ is_word word None = false
 is_word word (Some text) = bytes_eq text word
 
 -- the item after a word in an array of two, as in ["set",[..]] (RFC 7047, 5.1)
-abbrev pub behind : List ℕ → Data → Option Data
-behind word d = option_and_then (λ p. if is_word word (as_str p.0) then Some p.1 else None) (as_two d)
+abbrev pub tagged : List ℕ → Data → Option Data
+tagged word d = option_and_then (λ p. if is_word word (as_str p.0) then Some p.1 else None) (as_two d)
 
 -- ---- atoms
 
@@ -60,8 +60,8 @@ name_read names name = if is_id name then names name else None
 -- ["uuid",text], or ["named-uuid",id] (RFC 7047, 5.1, <uuid> and <named-uuid>)
 abbrev pub uuid_read : Names → Data → Option uuid.Uuid
 uuid_read names d = option_or
-    (option_and_then parsed_hyphenated (option_and_then as_str (behind (codes "uuid") d)))
-    (option_and_then (name_read names) (option_and_then as_str (behind (codes "named-uuid") d)))
+    (option_and_then parsed_hyphenated (option_and_then as_str (tagged (codes "uuid") d)))
+    (option_and_then (name_read names) (option_and_then as_str (tagged (codes "named-uuid") d)))
 
 -- the atom of the kind that a tree stands for (RFC 7047, 5.1, <atom>)
 abbrev pub atom_read : Names → AtomKind → Data → Option Atom
@@ -104,11 +104,11 @@ listed_or_one reader (Some list) d = list_read reader list
 
 -- ["set",[atom,..]], or one atom (RFC 7047, 5.1, <set>)
 abbrev pub atoms_read : Names → AtomKind → Data → Option (List Atom)
-atoms_read names kind d = listed_or_one (atom_read names kind) (behind (codes "set") d) d
+atoms_read names kind d = listed_or_one (atom_read names kind) (tagged (codes "set") d) d
 
 -- ["map",[[key,value],..]] (RFC 7047, 5.1, <map>)
 abbrev pub pairs_read : Names → AtomKind → AtomKind → Data → Option (List (Atom × Atom))
-pairs_read names key value d = option_and_then (list_read (pair_read names key value)) (behind (codes "map") d)
+pairs_read names key value d = option_and_then (list_read (pair_read names key value)) (tagged (codes "map") d)
 
 -- ---- values
 

@@ -11,17 +11,17 @@ is_space x = (x == 32) || ((x == 9) || ((x == 10) || (x == 13)))
 abbrev mutual
   pub bare : List ℕ → Option (List ℕ)
   bare [] = Some []
-  bare (x ∷ text) = if x == 34 then behind_quote text else option_map (λ rest. x ∷ rest) (bare text)
+  bare (x ∷ text) = if x == 34 then after_quote text else option_map (λ rest. x ∷ rest) (bare text)
 
   -- inside a literal: up to its quote; a backslash also takes the byte after it
-  pub behind_quote : List ℕ → Option (List ℕ)
-  behind_quote [] = None
-  behind_quote (x ∷ text) = if x == 34 then bare text else (if x == 92 then behind_backslash text else behind_quote text)
+  pub after_quote : List ℕ → Option (List ℕ)
+  after_quote [] = None
+  after_quote (x ∷ text) = if x == 34 then bare text else (if x == 92 then after_backslash text else after_quote text)
 
   -- after a backslash inside a literal
-  pub behind_backslash : List ℕ → Option (List ℕ)
-  behind_backslash [] = None
-  behind_backslash (x ∷ text) = behind_quote text
+  pub after_backslash : List ℕ → Option (List ℕ)
+  after_backslash [] = None
+  after_backslash (x ∷ text) = after_quote text
 
 -- as many opening braces as closing ones; a text with a quote left over has no count
 abbrev pub has_equal_braces : Option (List ℕ) → Bool

@@ -30,7 +30,7 @@ AllSpace gap = All (λ x. is_space x ≡ true) gap
 abbrev pub Ends : ℕ → ℕ → List ℕ → List ℕ → Option Damage → Type 0
 Ends most at tail rest None = (gap : List ℕ) × (tail ≡ gap ++ rest) × AllSpace gap × ((rest ≡ []) ⊎ (IsBegun rest × (length rest ≤ most)))
 Ends most at tail rest (Some (Stray offset)) =
-    (gap behind : List ℕ) × (x : ℕ) × (tail ≡ gap ++ x ∷ behind) × AllSpace gap × (is_space x ≡ false) × (x ≢ 123) × (offset ≡ at + length gap) × (rest ≡ [])
+    (gap following : List ℕ) × (x : ℕ) × (tail ≡ gap ++ x ∷ following) × AllSpace gap × (is_space x ≡ false) × (x ≢ 123) × (offset ≡ at + length gap) × (rest ≡ [])
 Ends most at tail rest (Some TooLong) =
     (gap text : List ℕ) × (tail ≡ gap ++ text) × AllSpace gap × (most < length text) × IsBegun (take most text) × (rest ≡ [])
 
@@ -38,8 +38,8 @@ Ends most at tail rest (Some TooLong) =
 abbrev pub IsCutAt : ℕ → ℕ → List ℕ → List (List ℕ) → List ℕ → Option Damage → Type 0
 IsCutAt most at stream [] rest damage = Ends most at stream rest damage
 IsCutAt most at stream (message ∷ messages) rest damage =
-    (gap behind : List ℕ) × (stream ≡ gap ++ (message ++ behind)) × AllSpace gap × IsMessage message × (length message ≤ most)
-    × IsCutAt most (at + (length gap + length message)) behind messages rest damage
+    (gap following : List ℕ) × (stream ≡ gap ++ (message ++ following)) × AllSpace gap × IsMessage message × (length message ≤ most)
+    × IsCutAt most (at + (length gap + length message)) following messages rest damage
 
 -- the cut of the whole stream
 abbrev pub IsCut : List ℕ → Cut → Type 0

@@ -13,8 +13,8 @@ abbrev pub invariant-loop-place : goal.invariant-loop-place
 invariant-loop-place g l = record {
   left : (links : List (Link g.row.S.Denot g.row.W.Denot)) × Threewise IsSeatOf links l.lanes.items l.workers.items;
   done : (links : List (Link g.row.S.Denot g.row.W.Denot)) → Threewise IsSeatOf links l.initial.lanes.items l.initial.workers.items
-      → (front behind : List (Link g.row.S.Denot g.row.W.Denot)) × (places : List (Option Lane)) × (links ≡ front ++ behind) × (l.initial.lanes.items ≡ l.lanes.items ++ places)
-      × Threewise IsSeatOf front l.lanes.items l.workers.items × Threewise (λ k p e. EndsSeat (source_of g.S.Source) (sink_of g.W.Sink) k p e) behind places l.ends.items;
+      → (front after : List (Link g.row.S.Denot g.row.W.Denot)) × (places : List (Option Lane)) × (links ≡ front ++ after) × (l.initial.lanes.items ≡ l.lanes.items ++ places)
+      × Threewise IsSeatOf front l.lanes.items l.workers.items × Threewise (λ k p e. EndsSeat (source_of g.S.Source) (sink_of g.W.Sink) k p e) after places l.ends.items;
   over : AreOver l.lanes.items;
   room : vec_len l.lanes + deque_len l.ends ≤ deque_capacity l.ends;
 }

@@ -20,14 +20,14 @@ loop-text-preserved g c = record {
 
 pub returns-in-Err-Unreadable-clause-brought : goal.returns-in-Err-Unreadable-clause-brought
 returns-in-Err-Unreadable-clause-brought g c = record {
-  behind = into_iter_items c.loop-text.text-iterator;
+  following = into_iter_items c.loop-text.text-iterator;
   brings = c.loop-text.invariant.brought;
   remain = (c.in-Some.text, into_iter_items c.next.new.self, c.in-Some.ensures.steps.0, c.in-Err-Unreadable.ensures.unreadable (ap Err c.in-Err-Unreadable.field-0-is));
 }
 
 pub returns-in-Err-Memory-clause-brought : goal.returns-in-Err-Memory-clause-brought
 returns-in-Err-Memory-clause-brought g c = record {
-  behind = into_iter_items c.loop-text.text-iterator;
+  following = into_iter_items c.loop-text.text-iterator;
   brings = c.loop-text.invariant.brought;
   remain = tt;
 }
@@ -36,7 +36,7 @@ pub returns-clause-brought : goal.returns-clause-brought
 returns-clause-brought g c =
     let rest = c.loop-text.text-iterator.rest in
     record {
-      behind = into_iter_items c.loop-text.text-iterator;
+      following = into_iter_items c.loop-text.text-iterator;
       brings = c.loop-text.invariant.brought;
       remain = nil_from_length rest.items (sym rest.ok.0 ∙ c.in-None.ensures.steps.0);
     }
