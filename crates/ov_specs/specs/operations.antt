@@ -3,6 +3,7 @@ pub mod Conditions
 pub mod Mutators
 pub mod Members
 pub mod Draws
+pub mod InsertedIds
 pub mod NamedUuids
 pub mod OpOutcome
 pub mod GivenRow

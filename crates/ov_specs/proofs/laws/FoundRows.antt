@@ -1,16 +1,21 @@
 -- The rows that an operation is about are rows of the schema, and rows stay so when some are put and others removed.
 use Rattle.std.proofs.Common.{◌≡◌, ℕ, zero, suc, List, [], ◌∷◌, filter, Bool, true, false, cond, T, Option, Some, None, refl, sym, ap, subst, ◌∙◌}
-use Rattle.std.specs.Prelude.{slice_get, option_and_then}
+use Rattle.std.specs.Prelude.{slice_get, option_and_then, unwrap_or, if◌then◌else◌, codes}
 use Rattle.std.specs.List.{list_all}
 use Rattle.std.specs.Str.{bytes_eq}
 use Rattle.std.specs.Ordering.{eq_by_cmp}
 use Rattle.std.specs.FinMap.{get, remove, keys, entries, find, is_sorted, entries_sorted, get-entries, get-remove}
 use Rattle.std.specs.FinMap.Entries.{below_all}
-use Rattle.std.proofs.lemmas.Bool.{and_parts}
+use Rattle.std.proofs.lemmas.Bool.{and_parts, and_from}
 use Rattle.std.proofs.lemmas.Option.{same_Some}
 use Rattle.std.proofs.lemmas.Slice.Eq.{bytes_eq-Decides}
-use Rattle.serde_json.specs.Data.{Items}
+use Rattle.serde_json.specs.Data.{Data, Items, no_items, item}
+use Rattle.serde_json.specs.Find as find
+use Rattle.serde_json.specs.Find.{as_str}
+use Rattle.uuid.specs.Text.{parsed_hyphenated}
 use Rattle.ov_specs.specs.operations.Conditions.{Condition}
+use Rattle.ov_specs.specs.operations.Draws.{is_insert}
+use Rattle.ov_specs.specs.operations.InsertedIds.{id_read, chosen_id, inserted_ids}
 use Rattle.ov_specs.specs.operations.MatchingRows.{put_rows, without_rows, matching, is_matching}
 use Rattle.ov_specs.specs.operations.NamedUuids.{place_declared, id_at, uuids_named, inserts_before}
 use Rattle.ov_specs.specs.operations.OpOutcome.{OpContext}
@@ -19,10 +24,40 @@ use Rattle.ov_specs.specs.rows.Lines.{LineKey, line_cmp}
 use Rattle.ov_specs.specs.rows.Suits.{SuitsTable, SuitsRow, Suits}
 use Rattle.ov_specs.specs.rows.Version.{row_now}
 use Rattle.ov_specs.specs.schema.SchemaTypes.{Table, Schema}
-use Rattle.ov_specs.specs.values.Uuid.{Uuid, is_uuid, AreUuids}
+use Rattle.ov_specs.specs.values.Uuid.{Uuid, is_uuid, no_names, AreUuids}
 use Rattle.ov_specs.proofs.laws.LineKeys.{key_total, tied_same, same_tied}
+use Rattle.ov_specs.proofs.laws.OfKinds.{Passes, passes-then, passes-or, passes-from, uuid_is_uuid}
 use Rattle.ov_specs.proofs.laws.Suiting.{one_row_suits, version_suits}
+use Rattle.ov_specs.proofs.laws.SuitingColumns.{no_uuids}
 use Rattle.ov_specs.proofs.laws.Truths.{left_holds, right_holds, not_tied}
+use Rattle.ov_specs.proofs.laws.Uuids.{hyphenated_is_uuid}
+
+-- ---- the inserts of a transaction have identifiers
+
+id_is_uuid : (d : Data) → Passes is_uuid (id_read d)
+id_is_uuid d =
+    passes-or is_uuid _ _
+    (passes-then is_uuid parsed_hyphenated (λ text. passes-from is_uuid (parsed_hyphenated text) (hyphenated_is_uuid text)) (as_str d))
+    (uuid_is_uuid no_names no_uuids d)
+
+chosen_is_uuid : (d : Data) → Passes is_uuid (chosen_id d)
+chosen_is_uuid d = passes-then is_uuid id_read id_is_uuid (find.get (codes "uuid") d)
+
+chosen_or_drawn : (chosen : Option Uuid) (draw : Uuid) → Passes is_uuid chosen → is_uuid draw ≡ true → is_uuid (unwrap_or chosen draw) ≡ true
+chosen_or_drawn None draw passes is = is
+chosen_or_drawn (Some id) draw passes is = passes
+
+pub inserted_are : (draws : List Uuid) (operations : Items) → list_all is_uuid draws ≡ true → list_all is_uuid (inserted_ids draws operations) ≡ true
+inserted_are draws no_items are = refl
+inserted_are [] (item d operations) are = refl
+inserted_are (draw ∷ draws) (item d operations) are =
+    let parts = and_parts (is_uuid draw) (list_all is_uuid draws) are in
+    by (is_insert d) (inserted_are draws operations parts.1) (inserted_are (draw ∷ draws) operations are) parts.0
+  where
+    by : (b : Bool) → list_all is_uuid (inserted_ids draws operations) ≡ true → list_all is_uuid (inserted_ids (draw ∷ draws) operations) ≡ true → is_uuid draw ≡ true
+        → list_all is_uuid (if b then unwrap_or (chosen_id d) draw ∷ inserted_ids draws operations else inserted_ids (draw ∷ draws) operations) ≡ true
+    by true later same is = and_from (is_uuid (unwrap_or (chosen_id d) draw)) (list_all is_uuid (inserted_ids draws operations)) (chosen_or_drawn (chosen_id d) draw (chosen_is_uuid d) is) later
+    by false later same is = same
 
 -- ---- the names of a transaction stand for identifiers
 

@@ -30,7 +30,7 @@ passes-map : {A B : Type 0} (test : A → Bool) (goal : B → Bool) (f : A → B
 passes-map test goal f h None p = tt
 passes-map test goal f h (Some a) p = h a p
 
-passes-or : {A : Type 0} (test : A → Bool) (o p : Option A) → Passes test o → Passes test p → Passes test (option_or o p)
+pub passes-or : {A : Type 0} (test : A → Bool) (o p : Option A) → Passes test o → Passes test p → Passes test (option_or o p)
 passes-or test None p h k = k
 passes-or test (Some a) p h k = h
 
@@ -38,7 +38,7 @@ pub passes-if : {A : Type 0} (test : A → Bool) (b : Bool) (a : A) → (b ≡ t
 passes-if test true a h = h refl
 passes-if test false a h = tt
 
-passes-from : {A : Type 0} (test : A → Bool) (o : Option A) → ((a : A) → o ≡ Some a → test a ≡ true) → Passes test o
+pub passes-from : {A : Type 0} (test : A → Bool) (o : Option A) → ((a : A) → o ≡ Some a → test a ≡ true) → Passes test o
 passes-from test None h = tt
 passes-from test (Some a) h = h a refl
 
@@ -68,7 +68,7 @@ module _ (names : Names) (are : AreUuids names) where
         | false ↦ tt
       ]
 
-  uuid_is_uuid : (d : Data) → Passes is_uuid (uuid_read names d)
+  pub uuid_is_uuid : (d : Data) → Passes is_uuid (uuid_read names d)
   uuid_is_uuid d =
       passes-or is_uuid _ _
       (passes-then is_uuid parsed_hyphenated (λ text. passes-from is_uuid (parsed_hyphenated text) (hyphenated_is_uuid text)) (option_and_then as_str (tagged (codes "uuid") d)))

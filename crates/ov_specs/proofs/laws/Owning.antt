@@ -5,6 +5,7 @@ use Rattle.std.specs.Str.{bytes_eq}
 use Rattle.serde_json.specs.Data.{Data, Items, no_items, item}
 use Rattle.ov_specs.specs.operations.Assert.{asserted_lock, assert_outcome}
 use Rattle.ov_specs.specs.operations.Errors.{OpError, SyntaxError, NotOwner, error_tree}
+use Rattle.ov_specs.specs.operations.InsertedIds.{inserted_ids}
 use Rattle.ov_specs.specs.operations.Members.{text_at}
 use Rattle.ov_specs.specs.operations.Operation.{outcome_of}
 use Rattle.ov_specs.specs.operations.OpOutcome.{Owns, OpContext, OpOutcome, Done, Fault, Blocked, empty_result, some_or_fault}
@@ -80,5 +81,5 @@ module _ (c : OpContext) (other : Owns) (more : (name : List ℕ) → c.owns nam
 pub waits_owning : (schema : Schema) (before : Database) (owns other : Owns) (draws : List Uuid) (age : ℕ) (operations : Items) (timeout : Option ℕ) → ((name : List ℕ) → owns name ≡ true → other name ≡ true)
     → transaction schema before owns draws age operations ≡ Waits timeout → transaction schema before other draws age operations ≡ Waits timeout
 waits_owning schema before owns other [] age operations timeout more h = h
-waits_owning schema before owns other (version ∷ ids) age operations timeout more h =
-    performed_waits (record { schema = schema; before = before; owns = owns; version = version; ids = ids; operations = operations; age = age }) other more 0 operations before timeout h
+waits_owning schema before owns other (version ∷ draws) age operations timeout more h =
+    performed_waits (record { schema = schema; before = before; owns = owns; version = version; ids = inserted_ids draws operations; operations = operations; age = age }) other more 0 operations before timeout h

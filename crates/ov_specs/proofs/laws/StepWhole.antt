@@ -6,6 +6,7 @@ use Rattle.ov_specs.specs.machine.History.{run}
 use Rattle.ov_specs.specs.machine.Machine.{State, Entry, Stepped, step, opening}
 use Rattle.ov_specs.specs.machine.Suiting.{IsWholeState}
 use Rattle.ov_specs.specs.operations.Errors.{OpError}
+use Rattle.ov_specs.specs.operations.InsertedIds.{inserted_ids}
 use Rattle.ov_specs.specs.operations.Operation.{outcome_of}
 use Rattle.ov_specs.specs.operations.OpOutcome.{Owns, OpContext, OpOutcome, Done, Fault, Blocked}
 use Rattle.ov_specs.specs.operations.Transaction.{TransactionOutcome, Completes, Waits, and_result, after, ended, performed, transaction}
@@ -49,8 +50,8 @@ module _ (c : OpContext) (accepted : IsAccepted c.schema) (whole : is_whole c.sc
 pub transaction_whole : (schema : Schema) (before : Database) (owns : Owns) (draws : List Uuid) (age : ℕ) (operations : Items) → IsAccepted schema → is_whole schema before ≡ true
     → WholeTransaction schema (transaction schema before owns draws age operations)
 transaction_whole schema before owns [] age operations accepted whole = whole
-transaction_whole schema before owns (version ∷ ids) age operations accepted whole =
-    performed_whole (record { schema = schema; before = before; owns = owns; version = version; ids = ids; operations = operations; age = age }) accepted whole 0 operations before
+transaction_whole schema before owns (version ∷ draws) age operations accepted whole =
+    performed_whole (record { schema = schema; before = before; owns = owns; version = version; ids = inserted_ids draws operations; operations = operations; age = age }) accepted whole 0 operations before
 
 -- ---- steps and runs
 

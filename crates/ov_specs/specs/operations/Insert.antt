@@ -1,15 +1,18 @@
--- insert: makes a row of "row" and puts it under the identifier that was drawn for it (RFC 7047, 5.2.1).
-use Rattle.std.specs.Prelude.{ℕ, ◌||◌, not, List, [], ◌∷◌, if◌then◌else◌, Option, Some, None, codes, Result, Ok, Err}
+-- insert: makes a row of "row" and puts it under the identifier that it chooses, or that was drawn for it (RFC 7047, 5.2.1;
+-- ovsdb-server(7), 5.2.1).
+use Rattle.std.specs.Prelude.{ℕ, ◌&&◌, ◌||◌, not, List, [], ◌∷◌, Bool, if◌then◌else◌, Option, Some, None, is_some, codes, Result, Ok, Err}
 use Rattle.std.specs.FinMap.{empty, contains_key, insert, entries}
 use Rattle.serde_json.specs.Data.{Data, Members}
 use Rattle.serde_json.specs.Find as find
 use Rattle.serde_json.specs.Find.{as_str}
 use Rattle.ov_specs.specs.operations.Errors.{OpError, SyntaxError, DuplicateName, DuplicateUuid, ConstraintViolation, ResourcesExhausted}
 use Rattle.ov_specs.specs.operations.GivenRow.{may_be_new, given_values, with_column, and_then_columns}
+use Rattle.ov_specs.specs.operations.InsertedIds.{id_read}
 use Rattle.ov_specs.specs.operations.NamedUuids.{is_declared_before, id_at}
 use Rattle.ov_specs.specs.operations.Members.{object_at}
 use Rattle.ov_specs.specs.operations.OpOutcome.{OpContext, OpOutcome, Done, Fault, names_in, some_or_fault, ok_or_fault, unless_fault, on_table}
 use Rattle.ov_specs.specs.rows.Database.{Columns, Database, object_of}
+use Rattle.ov_specs.specs.rows.Lines.{LineKey}
 use Rattle.ov_specs.specs.rows.RowNames.{is_own_column}
 use Rattle.ov_specs.specs.rows.Version.{row_now}
 use Rattle.ov_specs.specs.schema.Fitting.{fits, default_of}
@@ -20,7 +23,13 @@ use Rattle.ov_specs.specs.values.Value.{Datum}
 use Rattle.ov_specs.specs.values.Writing.{atom_tree}
 use Rattle.ov_specs.specs.wire.Message.{has_member}
 
--- ---- its name
+-- ---- its identifier and its name
+
+-- what is wrong with "uuid", which may be left out: it is neither a text of 36 characters nor ["uuid",text] (ovsdb-server(7),
+-- 5.2.1; the two forms are this server's)
+abbrev pub uuid_fault : Option Data → Option OpError
+uuid_fault None = None
+uuid_fault (Some d) = if is_some (id_read d) then None else Some SyntaxError
 
 -- what is wrong with a text as the name of a new row: it is no <id>, or an earlier operation has declared it
 abbrev pub name_text_fault : OpContext → ℕ → Option (List ℕ) → Option OpError
@@ -56,18 +65,23 @@ new_row names table members = and_then_columns (given_values may_be_new names ta
 abbrev pub insert_result : Uuid → Data
 insert_result id = object_of ((codes "uuid", atom_tree (value.Uuid id)) ∷ [])
 
--- Puts the row under its identifier, which no row of the table may have. One is drawn for each insert, so there always is one.
-abbrev pub put_new : OpContext → Database → List ℕ → Columns → Option Uuid → OpOutcome
-put_new c rows table columns None = Fault ResourcesExhausted
-put_new c rows table columns (Some id) =
-    if contains_key rows (table, id) then Fault DuplicateUuid
+-- A row of the table has the identifier. One that was chosen is also taken if a row had it before the transaction, even if that
+-- row is deleted now (this is this server's).
+abbrev pub is_taken : OpContext → Database → LineKey → Bool → Bool
+is_taken c rows key is_chosen = contains_key rows key || (is_chosen && contains_key c.before key)
+
+-- Puts the row under its identifier, which may not be taken. One is drawn for each insert, so there always is one.
+abbrev pub put_new : OpContext → Database → List ℕ → Columns → Bool → Option Uuid → OpOutcome
+put_new c rows table columns is_chosen None = Fault ResourcesExhausted
+put_new c rows table columns is_chosen (Some id) =
+    if is_taken c rows (table, id) is_chosen then Fault DuplicateUuid
     else Done (insert_result id) (insert rows (table, id) (row_now c.before c.version (table, id) columns))
 
--- The insert at this place of the transaction. Its members are checked in this order: "table"; "uuid", which can't be chosen
--- yet; "uuid-name"; "row" (RFC 7047, 5.2.1; the order is this server's).
+-- The insert at this place of the transaction. Its members are checked in this order: "table"; "uuid"; "uuid-name"; "row" (RFC
+-- 7047, 5.2.1; the order is this server's).
 abbrev pub insert_outcome : OpContext → ℕ → Database → Data → OpOutcome
 insert_outcome c place rows d = on_table c d (λ name table.
-    if has_member (codes "uuid") d then Fault SyntaxError
-    else unless_fault (name_fault c place (find.get (codes "uuid-name") d)) (
+    unless_fault (uuid_fault (find.get (codes "uuid") d)) (
+    unless_fault (name_fault c place (find.get (codes "uuid-name") d)) (
     some_or_fault (object_at (codes "row") d) SyntaxError (λ members.
-    ok_or_fault (new_row (names_in c) table members) (λ columns. put_new c rows name columns (id_at c.ids c.operations place)))))
+    ok_or_fault (new_row (names_in c) table members) (λ columns. put_new c rows name columns (has_member (codes "uuid") d) (id_at c.ids c.operations place))))))

@@ -27,7 +27,7 @@ inserts_before place no_items = 0
 inserts_before zero (item d operations) = 0
 inserts_before (suc place) (item d operations) = (if is_insert d then 1 else 0) + inserts_before place operations
 
--- the identifier of the insert at this place: one was drawn for each insert, in order
+-- the identifier of the insert at this place, of those of all inserts in order
 abbrev pub id_at : List Uuid → Items → ℕ → Option Uuid
 id_at ids operations place = slice_get ids (inserts_before place operations)
 

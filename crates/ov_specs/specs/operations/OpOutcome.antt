@@ -13,8 +13,8 @@ use Rattle.ov_specs.specs.values.Uuid.{Uuid, Names}
 abbrev pub Owns : Type 0
 Owns = List ℕ → Bool
 
--- The transaction that an operation is part of: its database, what its session owns, which identifiers were drawn for it,
--- and how old it is.
+-- The transaction that an operation is part of: its database, what its session owns, which identifiers it gives, and how old
+-- it is.
 pub record OpContext : Type 0 where
   pub schema : Schema
   pub before : Database  -- as it was before the transaction

@@ -4,6 +4,7 @@ use Rattle.std.specs.Prelude.{ℕ, ◌+◌, ◌||◌, Bool, false, List, [], ◌
 use Rattle.serde_json.specs.Data.{Data, null, Items, no_items, item}
 use Rattle.ov_specs.specs.integrity.Committed.{committed}
 use Rattle.ov_specs.specs.operations.Errors.{OpError, ResourcesExhausted, InputOutput, error_tree}
+use Rattle.ov_specs.specs.operations.InsertedIds.{inserted_ids}
 use Rattle.ov_specs.specs.operations.Operation.{outcome_of}
 use Rattle.ov_specs.specs.operations.OpOutcome.{Owns, OpContext, OpOutcome, Done, Fault, Blocked}
 use Rattle.ov_specs.specs.rows.Database.{Database}
@@ -48,12 +49,12 @@ performed c place no_items rows = ended c.before (committed c.schema c.before c.
 performed c place (item d operations) rows = after c.before (outcome_of c place rows d) operations (performed c (place + 1) operations)
 
 -- A transaction of this age on the database, of a session that owns these locks. The first draw is the version of the rows
--- that it changes, the others are the identifiers of those that it inserts (RFC 7047, 4.1.3). Without a draw it does
--- nothing; there always is one.
+-- that it changes, the others are for its inserts, one each (RFC 7047, 4.1.3 and 5.2.1). Without a draw it does nothing;
+-- there always is one.
 abbrev pub transaction : Schema → Database → Owns → List Uuid → ℕ → Items → TransactionOutcome
 transaction schema before owns [] age operations = Completes no_items before
-transaction schema before owns (version ∷ ids) age operations =
-    performed (record { schema = schema; before = before; owns = owns; version = version; ids = ids; operations = operations; age = age }) 0 operations before
+transaction schema before owns (version ∷ draws) age operations =
+    performed (record { schema = schema; before = before; owns = owns; version = version; ids = inserted_ids draws operations; operations = operations; age = age }) 0 operations before
 
 -- one of the results has an error (RFC 7047, 4.1.3)
 abbrev pub has_error : Items → Bool
