@@ -4,6 +4,7 @@ pub mod schema
 pub mod rows
 pub mod operations
 pub mod integrity
+pub mod conversion
 pub mod locks
 pub mod monitors
 pub mod machine

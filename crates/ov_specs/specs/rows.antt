@@ -4,3 +4,5 @@ pub mod Version
 pub mod Suits
 pub mod RowNames
 pub mod Changed
+pub mod Cells
+pub mod Held
