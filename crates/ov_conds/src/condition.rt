@@ -44,9 +44,9 @@ impl Model for Condition {
 
 impl Condition {
     /// Reads a condition on a row of the table from a tree. Reports the first of its faults: in its shape, its column, the
-    /// function on that column, and its value. The value is read by the kinds of the column alone, and for a scalar column it
-    /// has one atom (RFC 7047, 5.1, `<condition>`, which does not say which fault). If names stand for identifiers alone, it
-    /// is a value of these kinds within their bounds.
+    /// function on that column, and its value. The value is read by the kinds of the column alone; for a scalar column, and
+    /// for `<` and the like, it has one atom (RFC 7047, 5.1, `<condition>`, which does not say which fault). If names stand
+    /// for identifiers alone, it is a value of these kinds within their bounds.
     pub fn read<N: Names>(
         alloc: Global,
         table: &Table,
@@ -65,7 +65,7 @@ impl Condition {
         let Some(function) = Function::on(column, parts.word) else {
             return Err(ConditionFault::Syntax);
         };
-        let value = read_value(alloc, column, parts.value, names)?;
+        let value = read_value(alloc, column, function, parts.value, names)?;
         Ok(Condition {
             column: Text::from_str(alloc, parts.column)?,
             function,
@@ -153,13 +153,14 @@ impl Condition {
 fn read_value<N: Names>(
     alloc: Global,
     column: &Column,
+    function: Function,
     tree: &Value,
     names: &N,
 ) -> Result<Datum, ConditionFault>
-    ensures { IsConditionRead (value_read column.now.type_of (reads (N.names names.now) (kinds_of column.now.type_of) (view tree.now))) result }
+    ensures { IsConditionRead (value_read column.now.type_of (function_view function) (reads (N.names names.now) (kinds_of column.now.type_of) (view tree.now))) result }
 {
     let value = read_datum(alloc, tree, column.kinds(), names)?;
-    if column.is_scalar() && value.count() != 1 {
+    if (column.is_scalar() || function.is_relation()) && value.count() != 1 {
         return Err(ConditionFault::Syntax);
     }
     Ok(value)

@@ -1,5 +1,5 @@
 ghost use Rattle.std.specs.Prelude.{◌≡◌, ◌&&◌, is_none, option_map};
-ghost use Rattle.ov_specs.specs.operations.Conditions.{function_of, is_integers, allows_function, function_on};
+ghost use Rattle.ov_specs.specs.operations.Conditions.{function_of, is_integers, is_relation, allows_relations, allows_function, function_on};
 ghost use Rattle.ov_conds.specs.Views.{function_view};
 
 use ov_atoms::{AtomKind, Kinds};
@@ -43,15 +43,23 @@ impl Function {
         }
     }
 
-    /// Whether the column can be compared this way: by order only if it holds one integer, otherwise whatever it holds.
-    fn is_allowed_on(self, column: &Column) -> bool
-        ensures { result ≡ allows_function column.now.type_of (function_view self) }
+    /// Whether it is a relation of two numbers: `<`, `<=`, `>` or `>=`.
+    pub(crate) fn is_relation(self) -> bool
+        ensures { result ≡ is_relation (function_view self) }
     {
         match self {
             Function::Less | Function::LessOrEqual | Function::Greater | Function::GreaterOrEqual =>
-                column.is_scalar() && holds_integers(column),
-            Function::Equal | Function::NotEqual | Function::Includes | Function::Excludes => true,
+                true,
+            Function::Equal | Function::NotEqual | Function::Includes | Function::Excludes => false,
         }
+    }
+
+    /// Whether the column can be compared this way: by a relation only if it holds at most one integer, otherwise whatever it
+    /// holds.
+    fn is_allowed_on(self, column: &Column) -> bool
+        ensures { result ≡ allows_function column.now.type_of (function_view self) }
+    {
+        !self.is_relation() || allows_relations(column)
     }
 
     /// The function of a word, if the column can be compared this way.
@@ -65,6 +73,13 @@ impl Function {
             None
         }
     }
+}
+
+/// Whether a column holds one integer, or at most one.
+fn allows_relations(column: &Column) -> bool
+    ensures { result ≡ allows_relations column.now.type_of }
+{
+    (column.is_scalar() || column.is_optional()) && holds_integers(column)
 }
 
 /// Whether a column holds integers, one or a set of them.

@@ -1,12 +1,12 @@
 -- Worked conditions. Maps do not compute, so lookups in them and their listings are rewritten by their laws. More examples
 -- are in the tests, in conditions.rt.
-use Rattle.std.proofs.Common.{◌≡◌, ℕ, pos, List, [], ◌∷◌, map, length, true, false, T, Option, Some, None, Result, Ok, Err, option_map, refl, ap, ◌∙◌, codes}
+use Rattle.std.proofs.Common.{◌≡◌, ℕ, pos, List, [], ◌∷◌, map, length, Bool, true, false, T, Option, Some, None, Result, Ok, Err, option_map, refl, ap, ◌∙◌, codes}
 use Rattle.std.specs.Str.{is_utf8, chars}
 use Rattle.std.specs.Cmp.Lexicographic.{nat_list_cmp_total}
 use Rattle.std.specs.FinMap.{FinMap, get, from_entries, find, keys, len, len-entries, is_sorted, get-from_entries}
 use Rattle.serde_json.specs.Read.{read}
 use Rattle.serde_json.proofs.OnLiterals.{serde_json_on_literals}
-use Rattle.ov_specs.specs.operations.Conditions.{Less, LessOrEqual, Equal, Includes, Excludes, Condition, ConditionFault, BadCondition, NoColumn, condition_read, compares, column_value, holds}
+use Rattle.ov_specs.specs.operations.Conditions.{Function, Less, LessOrEqual, Greater, GreaterOrEqual, Equal, Includes, Excludes, Condition, ConditionFault, BadCondition, NoColumn, condition_read, compares, column_value, holds}
 use Rattle.ov_specs.specs.rows.Database.{Columns, one_uuid}
 use Rattle.ov_specs.specs.values.Uuid.{no_names}
 use Rattle.ov_specs.specs.schema.SchemaTypes.{BaseType, Column, Table, name_cmp}
@@ -87,6 +87,41 @@ not_less_than_itself = rw (as_listed (6 ∷ []) tt) refl
 pub less_or_equal_to_itself : compares LessOrEqual six six ≡ true
 less_or_equal_to_itself = rw (as_listed (6 ∷ []) tt) refl
 
+-- what the function says of the column and of 4, 5 and 6
+abbrev against_4_5_6 : Function → Datum → List Bool
+against_4_5_6 f d = map (λ n. compares f d (set (n ∷ []))) (4 ∷ 5 ∷ 6 ∷ [])
+
+abbrev five : Datum
+five = set (5 ∷ [])
+
+pub five_is_less : against_4_5_6 Less five ≡ false ∷ false ∷ true ∷ []
+five_is_less = rw (as_listed (4 ∷ []) tt, as_listed (5 ∷ []) tt, as_listed (6 ∷ []) tt) refl
+
+pub five_is_less_or_equal : against_4_5_6 LessOrEqual five ≡ false ∷ true ∷ true ∷ []
+five_is_less_or_equal = rw (as_listed (4 ∷ []) tt, as_listed (5 ∷ []) tt, as_listed (6 ∷ []) tt) refl
+
+pub five_is_greater : against_4_5_6 Greater five ≡ true ∷ false ∷ false ∷ []
+five_is_greater = rw (as_listed (4 ∷ []) tt, as_listed (5 ∷ []) tt, as_listed (6 ∷ []) tt) refl
+
+pub five_is_greater_or_equal : against_4_5_6 GreaterOrEqual five ≡ true ∷ true ∷ false ∷ []
+five_is_greater_or_equal = rw (as_listed (4 ∷ []) tt, as_listed (5 ∷ []) tt, as_listed (6 ∷ []) tt) refl
+
+-- an empty column stands in no relation
+abbrev never : List Bool
+never = false ∷ false ∷ false ∷ []
+
+pub nothing_is_less : against_4_5_6 Less (set []) ≡ never
+nothing_is_less = rw (as_listed [] tt, as_listed (4 ∷ []) tt, as_listed (5 ∷ []) tt, as_listed (6 ∷ []) tt) refl
+
+pub nothing_is_less_or_equal : against_4_5_6 LessOrEqual (set []) ≡ never
+nothing_is_less_or_equal = rw (as_listed [] tt, as_listed (4 ∷ []) tt, as_listed (5 ∷ []) tt, as_listed (6 ∷ []) tt) refl
+
+pub nothing_is_greater : against_4_5_6 Greater (set []) ≡ never
+nothing_is_greater = rw (as_listed [] tt, as_listed (4 ∷ []) tt, as_listed (5 ∷ []) tt, as_listed (6 ∷ []) tt) refl
+
+pub nothing_is_greater_or_equal : against_4_5_6 GreaterOrEqual (set []) ≡ never
+nothing_is_greater_or_equal = rw (as_listed [] tt, as_listed (4 ∷ []) tt, as_listed (5 ∷ []) tt, as_listed (6 ∷ []) tt) refl
+
 -- ---- reading
 
 abbrev plain : AtomKind → BaseType
@@ -98,7 +133,7 @@ column value kind min max = record { type_of = record { key = plain kind; value 
 abbrev listed : List (List ℕ × Column)
 listed =
     (codes "load", column None Integers 1 (Some 1)) ∷ (codes "tag", column None Integers 0 (Some 1))
-    ∷ (codes "ids", column (Some (plain Integers)) Texts 0 None) ∷ []
+    ∷ (codes "tags", column None Integers 0 None) ∷ (codes "ids", column (Some (plain Integers)) Texts 0 None) ∷ []
 
 pub columns : FinMap name_cmp Column
 columns = from_entries listed
@@ -116,6 +151,9 @@ condition text = option_map (condition_read no_names switch) (read text)
 pub len-one : (a : Atom) → len (set_of (a ∷ [])) ≡ 1
 len-one a = len-entries (set_of (a ∷ [])) ∙ ap length (entries-from_entries (marked a ∷ []) tt)
 
+len-of : (xs : List Atom) → T (is_sorted atom_cmp (map marked xs)) → len (set_of xs) ≡ length (map marked xs)
+len-of xs h = len-entries (set_of xs) ∙ ap length (entries-from_entries (map marked xs) h)
+
 abbrev load_below_5 : Condition
 load_below_5 = record { column = codes "load"; function = Less; value = set (5 ∷ []) }
 
@@ -128,10 +166,23 @@ pub set_of_two_for_an_optional : condition (codes "[\"tag\",\"==\",[\"set\",[5,6
 unfolding serde_json_on_literals
 set_of_two_for_an_optional = rw (column_is (codes "tag")) refl
 
--- an order is one of integers that are scalars
-pub order_of_an_optional : condition (codes "[\"tag\",\"<\",5]") ≡ Some (Err BadCondition)
+-- a relation is one of at most one integer
+pub relation_on_an_optional : condition (codes "[\"tag\",\"<\",5]") ≡ Some (Ok (record { column = codes "tag"; function = Less; value = set (5 ∷ []) }))
 unfolding serde_json_on_literals
-order_of_an_optional = rw (column_is (codes "tag")) refl
+relation_on_an_optional = rw (column_is (codes "tag")) (rw (len-one (Integer (pos 5))) refl)
+
+pub relation_on_a_set : condition (codes "[\"tags\",\"<\",5]") ≡ Some (Err BadCondition)
+unfolding serde_json_on_literals
+relation_on_a_set = rw (column_is (codes "tags")) refl
+
+-- and its value has one atom
+pub relation_to_nothing : condition (codes "[\"tag\",\">=\",[\"set\",[]]]") ≡ Some (Err BadCondition)
+unfolding serde_json_on_literals
+relation_to_nothing = rw (column_is (codes "tag")) (rw (len-of [] tt) refl)
+
+pub relation_to_two : condition (codes "[\"tag\",\"<\",[\"set\",[5,6]]]") ≡ Some (Err BadCondition)
+unfolding serde_json_on_literals
+relation_to_two = rw (column_is (codes "tag")) (rw (len-of (numbers (5 ∷ 6 ∷ [])) tt) refl)
 
 -- shape, column, function and value are looked at in this order
 pub no_such_column : condition (codes "[\"nowhere\",\"===\",1]") ≡ Some (Err NoColumn)

@@ -3,7 +3,7 @@ ghost use Rattle.std.specs.Option.{option_copied};
 ghost use Rattle.ov_specs.specs.schema.Fitting.{fits, default_of};
 ghost use Rattle.ov_specs.specs.schema.Schema.{own_column};
 ghost use Rattle.ov_specs.specs.schema.SchemaTypes.{kinds_of};
-ghost use Rattle.ov_specs.specs.operations.Conditions.{is_scalar};
+ghost use Rattle.ov_specs.specs.operations.Conditions.{is_optional, is_scalar};
 ghost use Rattle.ov_atoms.specs.Views.{kinds_view};
 
 use crate::base_type::{BaseType, Reference};
@@ -85,6 +85,14 @@ impl Column {
         ensures { result ≡ is_scalar self.now.type_of }
     {
         self.type_of.is_scalar()
+    }
+
+    /// Whether it holds at most one atom, and may hold none: it is not a map, `min` is 0 and `max` is 1 (RFC 7047, 3.2,
+    /// `<type>`).
+    pub fn is_optional(&self) -> bool
+        ensures { result ≡ is_optional self.now.type_of }
+    {
+        self.type_of.is_optional()
     }
 
     /// Whether a value of the column's kinds meets its constraints (RFC 7047, 3.2, `<type>`): its count lies between

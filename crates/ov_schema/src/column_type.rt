@@ -2,7 +2,7 @@ ghost use Rattle.std.specs.Prelude.{◌≡◌, ◌&&◌, IfOk, option_and_then};
 ghost use Rattle.std.specs.List.{list_all};
 ghost use Rattle.std.specs.Option.{option_copied};
 ghost use Rattle.ov_specs.specs.schema.SchemaTypes.{kinds_of};
-ghost use Rattle.ov_specs.specs.operations.Conditions.{is_scalar};
+ghost use Rattle.ov_specs.specs.operations.Conditions.{is_optional, is_scalar};
 ghost use Rattle.ov_specs.specs.schema.Fitting.{atom_fits, value_fits, fits, default_of};
 ghost use Rattle.ov_atoms.specs.Views.{kinds_view, atom_view, atoms_view, pairs_view};
 
@@ -85,6 +85,16 @@ impl ColumnType {
     {
         match self.max {
             Some(max) => self.value.is_none() && self.min == 1 && max == 1,
+            None => false,
+        }
+    }
+
+    /// Whether it holds at most one atom, and may hold none.
+    pub(crate) fn is_optional(&self) -> bool
+        ensures { result ≡ is_optional self.now }
+    {
+        match self.max {
+            Some(max) => self.value.is_none() && self.min == 0 && max == 1,
             None => false,
         }
     }

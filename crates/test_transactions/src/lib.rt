@@ -13,4 +13,6 @@ mod integrity;
 #[cfg(test)]
 mod operations;
 #[cfg(test)]
+mod relations;
+#[cfg(test)]
 mod sizes;

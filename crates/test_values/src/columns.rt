@@ -34,6 +34,20 @@ const UNFITTING: &str = r#"-2 {"key":{"type":"integer","minInteger":-1,"maxInteg
 ["set",[1,2,3]] {"key":"integer","min":0,"max":2} -> false
 ["map",[["a",1],["b",2]]] {"key":"string","value":{"type":"integer","maxInteger":1},"max":"unlimited"} -> false"#;
 
+/// Types, each with whether it is a scalar, is optional, or neither.
+const COUNTS: &str = r#""integer" -> scalar
+"string" -> scalar
+{"key":"integer","min":1,"max":1} -> scalar
+{"key":"integer","min":0,"max":1} -> optional
+{"key":"integer","min":0} -> optional
+{"key":"uuid","min":0} -> optional
+{"key":"integer","min":0,"max":2} -> neither
+{"key":"integer","max":2} -> neither
+{"key":"integer","min":0,"max":"unlimited"} -> neither
+{"key":"integer","min":1,"max":"unlimited"} -> neither
+{"key":"string","value":"integer","min":0} -> neither
+{"key":"string","value":"integer"} -> neither"#;
+
 /// The schema of a table `T` with one column `c` of this type.
 fn of_type(alloc: Global, type_text: &str) -> Result<Schema, Fail> {
     let text = format!(in alloc;
@@ -77,6 +91,28 @@ fn text_fits_schema(alloc: Global, schema: &Schema, value: &str) -> Result<Strin
     Ok(format!(in alloc; "{fits}")?)
 }
 
+/// Whether a column is a scalar, is optional, or neither.
+fn counted(column: &Column) -> &'static str {
+    if column.is_scalar() {
+        "scalar"
+    } else if column.is_optional() {
+        "optional"
+    } else {
+        "neither"
+    }
+}
+
+/// Whether a type is a scalar, is optional, or neither.
+#[derive(Drop)]
+struct Counts;
+
+impl Scripted for Counts {
+    fn answer(&mut self, alloc: Global, command: &str) -> Result<String, Fail> {
+        let schema = of_type(alloc, command)?;
+        Ok(String::from_str(alloc, counted(column(&schema)?))?)
+    }
+}
+
 /// The default of a type.
 #[derive(Drop)]
 struct Defaults;
@@ -103,6 +139,11 @@ impl Scripted for Fitting {
 #[test]
 fn a_default_is_one_atom_or_nothing(rt: HostRuntime) -> Result<(), Fail> {
     agrees(rt.alloc(), Defaults, DEFAULTS)
+}
+
+#[test]
+fn a_scalar_has_one_atom_and_an_optional_at_most_one(rt: HostRuntime) -> Result<(), Fail> {
+    agrees(rt.alloc(), Counts, COUNTS)
 }
 
 #[test]

@@ -30,6 +30,44 @@ const NUMBERS: &str = r#"{"load":6} ["load","<",7] -> true
 {"load":9223372036854775807} ["load",">",-9223372036854775808] -> true
 {"load":-1} ["load","<",0] -> true"#;
 
+/// A relation compares the number of an optional column, and never holds of an empty one. The value of a relation is one
+/// number; that of another function is any set.
+const OPTIONALS: &str = r#"{"tag":5} ["tag","<",4] -> false
+{"tag":5} ["tag","<",5] -> false
+{"tag":5} ["tag","<",6] -> true
+{"tag":5} ["tag","<=",4] -> false
+{"tag":5} ["tag","<=",5] -> true
+{"tag":5} ["tag","<=",6] -> true
+{"tag":5} ["tag",">",4] -> true
+{"tag":5} ["tag",">",5] -> false
+{"tag":5} ["tag",">",6] -> false
+{"tag":5} ["tag",">=",4] -> true
+{"tag":5} ["tag",">=",5] -> true
+{"tag":5} ["tag",">=",6] -> false
+{"tag":["set",[]]} ["tag","<",4] -> false
+{"tag":["set",[]]} ["tag","<",5] -> false
+{"tag":["set",[]]} ["tag","<",6] -> false
+{"tag":["set",[]]} ["tag","<=",4] -> false
+{"tag":["set",[]]} ["tag","<=",5] -> false
+{"tag":["set",[]]} ["tag","<=",6] -> false
+{"tag":["set",[]]} ["tag",">",4] -> false
+{"tag":["set",[]]} ["tag",">",5] -> false
+{"tag":["set",[]]} ["tag",">",6] -> false
+{"tag":["set",[]]} ["tag",">=",4] -> false
+{"tag":["set",[]]} ["tag",">=",5] -> false
+{"tag":["set",[]]} ["tag",">=",6] -> false
+{"tag":5} ["tag","<",["set",[6,6]]] -> true
+{"tag":["set",[]]} ["tag","<",9223372036854775807] -> false
+{"tag":["set",[]]} ["tag",">",-9223372036854775808] -> false
+{"tag":5} ["tag","==",["set",[]]] -> false
+{"tag":5} ["tag","==",["set",[5,6]]] -> false
+{"tag":5} ["tag","!=",["set",[]]] -> true
+{"tag":5} ["tag","!=",["set",[5,6]]] -> true
+{"tag":5} ["tag","includes",["set",[]]] -> true
+{"tag":5} ["tag","includes",["set",[5,6]]] -> false
+{"tag":5} ["tag","excludes",["set",[]]] -> true
+{"tag":5} ["tag","excludes",["set",[6,7]]] -> true"#;
+
 /// Sets are equal as wholes, include what they have, and exclude what they lack.
 const SETS: &str = r#"{"tags":["set",[1,2]]} ["tags","includes",1] -> true
 {"tags":["set",[1,2]]} ["tags","includes",["set",[]]] -> true
@@ -94,8 +132,26 @@ const REFUSED: &str = r#"{} {} -> syntax
 {} ["load","===","a"] -> syntax
 {} ["name","<","a"] -> syntax
 {} ["flag",">=",true] -> syntax
-{} ["tag","<",5] -> syntax
+{} ["tag","<",["set",[]]] -> syntax
+{} ["tag","<",["set",[5,6]]] -> syntax
+{} ["tag","<=",["set",[]]] -> syntax
+{} ["tag","<=",["set",[5,6]]] -> syntax
+{} ["tag",">",["set",[]]] -> syntax
+{} ["tag",">",["set",[5,6]]] -> syntax
+{} ["tag",">=",["set",[]]] -> syntax
+{} ["tag",">=",["set",[5,6]]] -> syntax
+{} ["tag","<","a"] -> syntax
+{} ["tag","<",["map",[]]] -> syntax
+{} ["tags","<",5] -> syntax
+{} ["tags","<=",5] -> syntax
 {} ["tags",">",5] -> syntax
+{} ["tags",">=",5] -> syntax
+{} ["pair","<",5] -> syntax
+{} ["digits",">",5] -> syntax
+{} ["two",">=",5] -> syntax
+{} ["some","<",5] -> syntax
+{} ["mark","<","a"] -> syntax
+{} ["pair","<",["map",[[1,2]]]] -> syntax
 {} ["counts","<=",["map",[]]] -> syntax
 {} ["_uuid",">",["uuid","00000000-0000-4000-8000-000000000001"]] -> syntax
 {} ["load","==","a"] -> syntax
@@ -222,6 +278,11 @@ fn are_judged(alloc: Global, script: &str) -> Result<(), Fail> {
 #[test]
 fn numbers_stand_in_their_order(rt: HostRuntime) -> Result<(), Fail> {
     are_judged(rt.alloc(), NUMBERS)
+}
+
+#[test]
+fn optional_numbers_stand_in_their_order(rt: HostRuntime) -> Result<(), Fail> {
+    are_judged(rt.alloc(), OPTIONALS)
 }
 
 #[test]

@@ -9,6 +9,10 @@ use test_basics::schema_of_text;
 const SHAPES: &str = r#"{"name":"Net","version":"1.0.0","tables":{"Port":{"columns":{
 "flag":{"type":"boolean"},"load":{"type":"integer"},"name":{"type":"string"},"peer":{"type":"uuid"},
 "tag":{"type":{"key":"integer","min":0,"max":1}},
+"mark":{"type":{"key":"string","min":0,"max":1}},
+"pair":{"type":{"key":"integer","value":"integer","min":0,"max":1}},
+"two":{"type":{"key":"integer","min":0,"max":2}},
+"some":{"type":{"key":"integer","min":1,"max":"unlimited"}},
 "flags":{"type":{"key":"boolean","min":0,"max":"unlimited"}},
 "tags":{"type":{"key":"integer","min":0,"max":"unlimited"}},
 "names":{"type":{"key":"string","min":0,"max":"unlimited"}},
