@@ -1,11 +1,12 @@
 ghost use Rattle.std.specs.Prelude.{◌≡◌, ◌<◌, length, All, true};
 ghost use Rattle.serde_json.specs.View.{view};
 ghost use Rattle.uuid.specs.Text.{parsed, parsed_hyphenated};
+ghost use Rattle.ov_specs.specs.operations.InsertedIds.{id_read};
 ghost use Rattle.ov_specs.specs.values.Uuid.{is_uuid};
 ghost use Rattle.ov_specs.specs.values.Reading.{uuid_read};
 
 use crate::id::is_id;
-use crate::names::Names;
+use crate::names::{Names, NoNames};
 use crate::two::tagged;
 use serde_json::Value;
 use uuid::Uuid;
@@ -60,4 +61,17 @@ pub(crate) fn uuid_of<N: Names>(tree: &Value, names: &N) -> Option<Uuid>
     } else {
         None
     }
+}
+
+/// The UUID of a text of 36 characters, with hyphens, or of `["uuid",text]` (RFC 7047, 5.1, `<uuid>`; that the text may stand
+/// alone is this server's).
+pub fn read_uuid(tree: &Value) -> Option<Uuid>
+    ensures { result ≡ id_read (view tree.now) }
+{
+    if let Some(text) = tree.as_str()
+        && let Some(uuid) = parse_uuid(text)
+    {
+        return Some(uuid);
+    }
+    uuid_of(tree, &NoNames)
 }

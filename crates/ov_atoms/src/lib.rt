@@ -23,7 +23,7 @@ pub use atom::Atom;
 pub use datum::Datum;
 pub use fault::AtomFault;
 pub use id::is_id;
-pub use identifier::has_sixteen_bytes;
+pub use identifier::{has_sixteen_bytes, read_uuid};
 pub use kind::{AtomKind, Kinds};
 pub use names::{Names, NoNames};
 pub use read::{read_atom, read_datum};

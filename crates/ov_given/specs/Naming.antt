@@ -10,7 +10,7 @@ use Rattle.ov_specs.specs.operations.NamedUuids.{place_declared}
 use Rattle.ov_specs.specs.values.Uuid.{Uuid}
 use denote.Ref.{Bor}
 
--- the identifiers that were drawn for the inserts, in order, and all operations
+-- the identifiers of the inserts, in order, and all operations
 pub record Naming : Type 0 where
   pub ids : List Uuid
   pub operations : Items

@@ -9,7 +9,7 @@ mod told;
 mod until;
 
 pub use mutated::{mutated_columns, mutations_of};
-pub use names::{NamedRows, name_fault};
+pub use names::{NamedRows, name_fault, uuid_fault};
 pub use row_values::{GivenRow, given_over, given_values, new_row};
 pub use told::{timeout_of, told_rows};
 pub use until::{Until, is_met, until_of};

@@ -4,14 +4,15 @@ ghost use Rattle.std.specs.Option.{option_copied};
 ghost use Rattle.std.specs.Str.{bytes_eq};
 ghost use Rattle.serde_json.specs.View.{view, items_view};
 ghost use Rattle.ov_specs.specs.operations.Errors.{DuplicateName};
-ghost use Rattle.ov_specs.specs.operations.Insert.{name_fault};
+ghost use Rattle.ov_specs.specs.operations.Insert.{name_fault, uuid_fault};
+ghost use Rattle.ov_specs.specs.operations.InsertedIds.{chosen_id, inserted_ids};
 ghost use Rattle.ov_specs.specs.operations.NamedUuids.{declares, place_declared, is_declared_before, inserts_before, id_at};
 ghost use Rattle.ov_specs.specs.operations.OpOutcome.{OpContext};
 ghost use Rattle.ov_specs.specs.schema.Schema.{is_some_and};
 ghost use Rattle.ov_given.specs.Naming.{ArePlaces, first_of, place_at};
 ghost use Rattle.ov_projection.specs.Errors.{error_view};
 
-use ov_atoms::{Names, is_id};
+use ov_atoms::{Names, is_id, read_uuid};
 use ov_base::Trees;
 use ov_projection::{OpError, is_insert, text_at};
 use serde_json::Value;
@@ -24,7 +25,8 @@ use uuid::Uuid;
 /// that declares one (RFC 7047, 5.1, `<named-uuid>`, and 5.2.1). Made once for each transaction.
 #[derive(Drop)]
 pub struct NamedRows<'a> {
-    ids: &'a [Uuid],
+    /// The identifier of each insert, in order: chosen, or else drawn.
+    ids: Vec<Uuid>,
     operations: &'a Trees,
     /// For each name, the place of the first operation that declares it.
     places: BTreeMap<&'a str, usize>,
@@ -45,24 +47,25 @@ impl<'a> Model for NamedRows<'a> {
 
     ghost coded = { naming_code };
 
-    ghost view = { λ n. record { ids = n.ids.now; operations = n.operations.now } };
+    ghost view = { λ n. record { ids = n.ids.items; operations = n.operations.now } };
 
     ghost invariant = { λ n. ArePlaces n.places n.operations.now × ((place : ℕ) → unwrap_or (slice_get n.counts.items place) n.inserts ≡ inserts_before place n.operations.now) };
 }
 
 impl<'a> NamedRows<'a> {
-    /// The rows that these operations insert, given one identifier drawn for each insert, in order.
+    /// The rows that these operations insert, given one identifier drawn for each insert, in order. An insert may choose
+    /// another, and its draw is not used.
     pub fn new(
         alloc: Global,
-        ids: &'a [Uuid],
+        draws: &[Uuid],
         operations: &'a Trees,
     ) -> Result<NamedRows<'a>, AllocError>
-        ensures { IfOk result (λ rows. rows ≡ record { ids = ids.now; operations = operations.now }) }
+        ensures { IfOk result (λ rows. rows ≡ record { ids = inserted_ids draws.now operations.now; operations = operations.now }) }
     {
         let items = operations.as_slice();
         let (counts, inserts) = count_inserts(alloc, items)?;
         Ok(NamedRows {
-            ids,
+            ids: inserted_ids(alloc, draws, items)?,
             operations,
             places: places_of(alloc, items)?,
             counts,
@@ -112,6 +115,17 @@ impl<'a> Names for NamedRows<'a> {
     }
 }
 
+/// What is wrong with the `uuid`, which may be left out, of an insert: it is neither a text of 36 characters nor
+/// `["uuid",text]` (RFC 7047, 5.1, `<uuid>`).
+pub fn uuid_fault(tree: Option<&Value>) -> Option<OpError>
+    ensures { option_map error_view result ≡ uuid_fault (option_map view (option_copied tree.entry)) }
+{
+    match read_uuid(tree?) {
+        Some(_) => None,
+        None => Some(OpError::Syntax),
+    }
+}
+
 /// What is wrong with the `uuid-name`, which may be left out, of the insert at this place: it is not an `<id>`, or an
 /// operation before it declares the name (RFC 7047, 5.2.1).
 pub fn name_fault(rows: &NamedRows<'_>, place: usize, tree: Option<&Value>) -> Option<OpError>
@@ -136,6 +150,36 @@ fn name_twice(rows: &NamedRows<'_>, place: usize, name: &str) -> Option<OpError>
     } else {
         None
     }
+}
+
+/// The identifier that an insert chooses, if its `uuid` is readable.
+fn chosen_id(operation: &Value) -> Option<Uuid>
+    ensures { result ≡ chosen_id (view operation.now) }
+{
+    read_uuid(operation.get("uuid")?)
+}
+
+/// The identifiers of the inserts, in order: that which an insert chooses, or else the one that was drawn for it.
+fn inserted_ids(
+    alloc: Global,
+    draws: &[Uuid],
+    operations: &[Value],
+) -> Result<Vec<Uuid>, AllocError>
+    ensures { IfOk result (λ ids. ids.items ≡ inserted_ids draws.now (items_view operations.now)) }
+{
+    let mut ids = Vec::with_capacity(alloc, draws.len())?;
+    let mut unused = draws;
+    for operation in operations {
+        if !is_insert(operation) {
+            continue;
+        }
+        let Some((draw, others)) = unused.split_first() else {
+            break;
+        };
+        ids.push(chosen_id(operation).unwrap_or(*draw))?;
+        unused = others;
+    }
+    Ok(ids)
 }
 
 /// The name that an operation declares.

@@ -1,12 +1,13 @@
 ghost use Rattle.std.specs.Prelude.{◌≡◌};
 ghost use Rattle.serde_json.specs.View.{view};
 ghost use Rattle.ov_specs.specs.operations.Insert as spec;
+ghost use Rattle.ov_specs.specs.operations.OpOutcome.{OpContext};
 ghost use Rattle.ov_ops.specs.Outcomes.{context_of, IsDone};
 
 use crate::context::OpCtx;
 use crate::members::table_at;
 use crate::owns::Owns;
-use ov_given::{name_fault, new_row};
+use ov_given::{name_fault, new_row, uuid_fault};
 use ov_projection::{OpError, OpFault};
 use ov_results::OpResult;
 use ov_rows::{Columns, RowKey};
@@ -15,31 +16,39 @@ use serde_json::Value;
 use std::alloc::Global;
 use uuid::Uuid;
 
-/// Puts the row at its identifier, which no row of the table may have.
+/// Whether a row of the table has the identifier now; or had it before the transaction, if it was chosen.
+fn is_taken(stage: &Stage<'_>, key: &RowKey, is_chosen: bool) -> bool
+    ensures { (c : OpContext) → c.before ≡ stage.now.before → result ≡ spec.is_taken c stage.now.now key.now is_chosen }
+{
+    stage.contains(key) || is_chosen && stage.before().contains(key)
+}
+
+/// Puts the row at its identifier, which may not be taken.
 fn put_new<O: Owns>(
     alloc: Global,
     stage: &mut Stage<'_>,
     ctx: &OpCtx<'_, '_, '_, '_, O>,
     table: &str,
     columns: Columns,
+    is_chosen: bool,
     id: Option<Uuid>,
 ) -> Result<OpResult, OpFault>
-    ensures done { IsDone (spec.put_new (context_of O.owned ctx.now stage.old.before) stage.old.now table.now columns id) result stage.new.now }
+    ensures done { IsDone (spec.put_new (context_of O.owned ctx.now stage.old.before) stage.old.now table.now columns is_chosen id) result stage.new.now }
     ensures frame { stage.new.before ≡ stage.old.before }
 {
     let Some(id) = id else {
         return Err(OpFault::Refused(OpError::ResourcesExhausted));
     };
     let key = RowKey::new(alloc, table, id)?;
-    if stage.contains(&key) {
+    if is_taken(stage, &key, is_chosen) {
         return Err(OpFault::Refused(OpError::DuplicateUuid));
     }
     stage.put(key, ctx.version, columns)?;
     Ok(OpResult::of_new_row(id))
 }
 
-/// The insert at this place of the transaction: makes a row of `row` and puts it at the identifier that was drawn for it. The
-/// identifier can't be chosen (RFC 7047, 5.2.1).
+/// The insert at this place of the transaction: makes a row of `row` and puts it at the identifier that it chooses, or that was
+/// drawn for it (RFC 7047, 5.2.1; ovsdb-server(7), 5.2.1).
 pub(crate) fn insert<'a, O: Owns>(
     alloc: Global,
     stage: &mut Stage<'_>,
@@ -51,8 +60,9 @@ pub(crate) fn insert<'a, O: Owns>(
     ensures frame { stage.new.before ≡ stage.old.before }
 {
     let (name, table) = table_at(ctx, operation)?;
-    if operation.get("uuid").is_some() {
-        return Err(OpFault::Refused(OpError::Syntax));
+    let chosen = operation.get("uuid");
+    if let Some(error) = uuid_fault(chosen) {
+        return Err(OpFault::Refused(error));
     }
     if let Some(error) = name_fault(ctx.inserts, place, operation.get("uuid-name")) {
         return Err(OpFault::Refused(error));
@@ -61,5 +71,6 @@ pub(crate) fn insert<'a, O: Owns>(
         return Err(OpFault::Refused(OpError::Syntax));
     };
     let columns = new_row(alloc, table, members, ctx.inserts)?;
-    put_new(alloc, stage, ctx, name, columns, ctx.inserts.id_at(place))
+    let id = ctx.inserts.id_at(place);
+    put_new(alloc, stage, ctx, name, columns, chosen.is_some(), id)
 }

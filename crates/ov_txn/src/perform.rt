@@ -108,10 +108,10 @@ fn perform_operations<O: Owns>(
 {
     let mut results = ArrayText::new(alloc);
     let mut stage = Stage::with_indexes(alloc, schema, rows, indexes);
-    let Some((version, ids)) = txn.draws().split_first() else {
+    let Some((version, draws)) = txn.draws().split_first() else {
         return Ok(Performed::Completed(results, stage.into_delta()));
     };
-    let inserts = NamedRows::new(alloc, ids, txn.operations())?;
+    let inserts = NamedRows::new(alloc, draws, txn.operations())?;
     let ctx = OpCtx {
         schema,
         inserts: &inserts,

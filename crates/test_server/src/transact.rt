@@ -10,6 +10,23 @@ const INSERTED: &str = r#">{"id":0,"method":"transact","params":["Net"]}
 >{"id":2,"method":"transact","params":["Net",{"op":"select","table":"Switch","where":[]}]}
 <{"error":null,"id":2,"result":[{"rows":[{"_uuid":["uuid","00000000-0000-4000-8000-000000000003"],"_version":["uuid","00000000-0000-4000-8000-000000000002"],"load":0,"main":["set",[]],"name":"s1","ports":["set",[]]}]}]}"#;
 
+/// A chosen identifier is used, and the draw for its insert is made all the same. It is free again in a later transaction.
+const CHOSEN: &str =
+    r#">{"id":1,"method":"transact","params":["Net",{"op":"insert","table":"Switch","uuid":"00000000-0000-4000-9000-000000000001","row":{"name":"s1"}}]}
+<{"error":null,"id":1,"result":[{"uuid":["uuid","00000000-0000-4000-9000-000000000001"]}]}
+>{"id":2,"method":"transact","params":["Net",{"op":"insert","table":"Switch","uuid":"00000000-0000-4000-9000-000000000001","row":{"name":"s2"}}]}
+<{"error":null,"id":2,"result":[{"error":"duplicate uuid"}]}
+>{"id":3,"method":"transact","params":["Net",{"op":"delete","table":"Switch","where":[]},{"op":"insert","table":"Switch","uuid":"00000000-0000-4000-9000-000000000001","row":{"name":"s1"}}]}
+<{"error":null,"id":3,"result":[{"count":1},{"error":"duplicate uuid"}]}
+>{"id":4,"method":"transact","params":["Net",{"op":"select","table":"Switch","where":[],"columns":["_uuid","name"]}]}
+<{"error":null,"id":4,"result":[{"rows":[{"_uuid":["uuid","00000000-0000-4000-9000-000000000001"],"name":"s1"}]}]}
+>{"id":5,"method":"transact","params":["Net",{"op":"delete","table":"Switch","where":[]}]}
+<{"error":null,"id":5,"result":[{"count":1}]}
+>{"id":6,"method":"transact","params":["Net",{"op":"insert","table":"Switch","uuid":"00000000-0000-4000-9000-000000000001","row":{"name":"s1"}}]}
+<{"error":null,"id":6,"result":[{"uuid":["uuid","00000000-0000-4000-9000-000000000001"]}]}
+>{"id":7,"method":"transact","params":["Net",{"op":"insert","table":"Switch","row":{"name":"s2"}}]}
+<{"error":null,"id":7,"result":[{"uuid":["uuid","00000000-0000-4000-8000-00000000000c"]}]}"#;
+
 /// After the operation that fails the results are null, and the table is as before. All that the transaction wanted was
 /// drawn.
 const UNDONE: &str =
@@ -159,6 +176,11 @@ fn a_transaction_that_waits_is_not_answered(rt: HostRuntime) -> Result<(), Fail>
 #[test]
 fn inserted_rows_are_selected(rt: HostRuntime) -> Result<(), Fail> {
     converses(rt.alloc(), INSERTED)
+}
+
+#[test]
+fn chosen_identifiers_are_used(rt: HostRuntime) -> Result<(), Fail> {
+    converses(rt.alloc(), CHOSEN)
 }
 
 #[test]

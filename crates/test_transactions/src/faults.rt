@@ -21,7 +21,17 @@ pub(crate) fn are_told(alloc: Global, script: &str) -> Result<(), Fail> {
 const INSERT: &str = r#"[{"op":"insert","row":{}}] -> syntax error
 [{"op":"insert","table":7,"row":{}}] -> syntax error
 [{"op":"insert","table":"U","row":{}}] -> unknown table
-[{"op":"insert","table":"T","uuid":["uuid","00000000-0000-0000-0000-000000000001"],"row":{}}] -> syntax error
+[{"op":"insert","table":"T","uuid":7,"row":{}}] -> syntax error
+[{"op":"insert","table":"T","uuid":null,"row":{}}] -> syntax error
+[{"op":"insert","table":"T","uuid":"p","row":{}}] -> syntax error
+[{"op":"insert","table":"T","uuid":["uuid"],"row":{}}] -> syntax error
+[{"op":"insert","table":"T","uuid":["named-uuid","a"],"row":{}}] -> syntax error
+[{"op":"insert","table":"T","uuid":["uuid","p"],"row":{}}] -> syntax error
+[{"op":"insert","table":"T","uuid":["set",["uuid","00000000-0000-4000-9000-000000000001"]],"row":{}}] -> syntax error
+[{"op":"insert","table":"T","uuid":"00000000-0000-4000-9000-00000000000","row":{}}] -> syntax error
+[{"op":"insert","table":"T","uuid":"00000000000040009000000000000001","row":{}}] -> syntax error
+[{"op":"insert","table":"T","uuid":"{00000000-0000-4000-9000-000000000001}","row":{}}] -> syntax error
+[{"op":"insert","table":"T","uuid":"00000000-0000-4000-9000-00000000000g","row":{}}] -> syntax error
 [{"op":"insert","table":"T","uuid-name":null,"row":{}}] -> syntax error
 [{"op":"insert","table":"T","uuid-name":7,"row":{}}] -> syntax error
 [{"op":"insert","table":"T","uuid-name":"1","row":{}}] -> syntax error

@@ -191,6 +191,29 @@ const COMMITTED: &str = "Switch 9
 Port 4
 Switch 3";
 
+/// An insert has the identifier that it chooses in place of its draw, and so does its name, unless its table has or had a row of
+/// it.
+const CHOSEN: &str =
+    r#"[{"op":"insert","table":"Switch","uuid":"00000000-0000-4000-9000-000000000001","row":{"name":"s1"}},{"op":"select","table":"Switch","where":[["_uuid","==",["uuid","00000000-0000-4000-9000-000000000001"]]],"columns":["_uuid","name"]}] -> {"uuid":["uuid","00000000-0000-4000-9000-000000000001"]} {"rows":[{"_uuid":["uuid","00000000-0000-4000-9000-000000000001"],"name":"s1"}]} 1
+[{"op":"insert","table":"Switch","uuid":["uuid","00000000-0000-4000-9000-000000000001"],"row":{}},{"op":"insert","table":"Switch","row":{}}] -> {"uuid":["uuid","00000000-0000-4000-9000-000000000001"]} {"uuid":["uuid","00000000-0000-4000-8000-000000000003"]} 2
+[{"op":"insert","table":"Switch","uuid":"AAAAAAAA-BBBB-4CCC-9DDD-EEEEEEEEEEEE","row":{}}] -> {"uuid":["uuid","aaaaaaaa-bbbb-4ccc-9ddd-eeeeeeeeeeee"]} 1
+[{"op":"insert","table":"Switch","uuid":"00000000-0000-4000-9000-000000000001","row":{}},{"op":"insert","table":"Switch","uuid":["uuid","00000000-0000-4000-9000-000000000001"],"row":{}}] -> {"uuid":["uuid","00000000-0000-4000-9000-000000000001"]} duplicate uuid
+[{"op":"insert","table":"Switch","uuid":"00000000-0000-4000-9000-000000000001","row":{}},{"op":"insert","table":"Port","uuid":"00000000-0000-4000-9000-000000000001","row":{}}] -> {"uuid":["uuid","00000000-0000-4000-9000-000000000001"]} {"uuid":["uuid","00000000-0000-4000-9000-000000000001"]} 2
+[{"op":"insert","table":"Switch","uuid":"00000000-0000-0000-0000-000000000009","row":{}}] -> duplicate uuid
+[{"op":"insert","table":"Switch","uuid":"00000000-0000-0000-0000-000000000004","row":{}}] -> {"uuid":["uuid","00000000-0000-0000-0000-000000000004"]} 1
+[{"op":"delete","table":"Switch","where":[]},{"op":"insert","table":"Switch","uuid":"00000000-0000-0000-0000-000000000009","row":{}}] -> {"count":2} duplicate uuid
+[{"op":"delete","table":"Switch","where":[]},{"op":"insert","table":"Switch","uuid":"00000000-0000-4000-9000-000000000001","row":{}}] -> {"count":2} {"uuid":["uuid","00000000-0000-4000-9000-000000000001"]} 3
+[{"op":"insert","table":"Port","uuid":"00000000-0000-4000-9000-000000000001","row":{}},{"op":"delete","table":"Port","where":[["_uuid","==",["uuid","00000000-0000-4000-9000-000000000001"]]]},{"op":"insert","table":"Port","uuid":"00000000-0000-4000-9000-000000000001","row":{}}] -> {"uuid":["uuid","00000000-0000-4000-9000-000000000001"]} {"count":1} {"uuid":["uuid","00000000-0000-4000-9000-000000000001"]} 1
+[{"op":"insert","table":"Switch","uuid":"00000000-0000-4000-8000-000000000003","row":{}},{"op":"insert","table":"Switch","row":{}}] -> {"uuid":["uuid","00000000-0000-4000-8000-000000000003"]} duplicate uuid
+[{"op":"insert","table":"Switch","row":{"ports":["named-uuid","p"]}},{"op":"insert","table":"Port","uuid":"00000000-0000-4000-9000-000000000001","uuid-name":"p","row":{}},{"op":"select","table":"Switch","where":[["ports","includes",["named-uuid","p"]]],"columns":["ports"]}] -> {"uuid":["uuid","00000000-0000-4000-8000-000000000002"]} {"uuid":["uuid","00000000-0000-4000-9000-000000000001"]} {"rows":[{"ports":["uuid","00000000-0000-4000-9000-000000000001"]}]} 2
+[{"op":"insert","table":"Switch","row":{"ports":["named-uuid","p"]}},{"op":"select","table":"Switch","where":[["ports","includes",["named-uuid","p"]]],"columns":["ports"]},{"op":"insert","table":"Port","uuid":7,"uuid-name":"p","row":{}}] -> {"uuid":["uuid","00000000-0000-4000-8000-000000000002"]} {"rows":[{"ports":["uuid","00000000-0000-4000-8000-000000000003"]}]} syntax error
+[{"op":"insert","table":"Port","uuid-name":"p","row":{}},{"op":"insert","table":"Port","uuid":"00000000-0000-4000-9000-000000000001","uuid-name":"p","row":{}}] -> {"uuid":["uuid","00000000-0000-4000-8000-000000000002"]} duplicate uuid-name"#;
+
+#[test]
+fn identifiers_are_chosen(rt: HostRuntime) -> Result<(), Fail> {
+    run_over(rt.alloc(), COMMITTED, 0, CHOSEN)
+}
+
 /// No row, one, and all of them; a row that is as it was before is not a change.
 const CHANGED: &str =
     r#"[{"op":"update","table":"Switch","where":[["name","==","s9"]],"row":{"load":5}}] -> {"count":0} 0

@@ -2,7 +2,7 @@ use ov_atoms::Names;
 use ov_base::{Text, Trees};
 use ov_given::{
     GivenRow, NamedRows, Until, given_over, given_values, is_met, mutated_columns, mutations_of,
-    name_fault, new_row, timeout_of, told_rows, until_of,
+    name_fault, new_row, timeout_of, told_rows, until_of, uuid_fault,
 };
 use ov_projection::{OpFault, ShownRow};
 use ov_rows::Columns;
@@ -19,9 +19,12 @@ const SCHEMA: &str = r#"{"name":"A","version":"1.0.0","tables":{"T":{"columns":{
 "n":{"type":{"key":{"type":"integer","maxInteger":9}}},
 "p":{"type":{"key":"uuid","min":0,"max":1}}}}}}"#;
 
-/// Operations that give names. The identifiers of their inserts are 1, 2, 3 and 4.
+/// Operations that give names. The identifiers drawn for their inserts are 1 to 6; one of them chooses another,
+/// and one can't.
 const OPERATIONS: &str = r#"[{"op":"insert","uuid-name":"a"},{"op":"select","uuid-name":"b"},
-{"op":"insert","uuid-name":"c"},{"op":"insert","uuid-name":"a"},{"op":"insert","uuid-name":"1"}]"#;
+{"op":"insert","uuid-name":"c"},{"op":"insert","uuid-name":"a"},{"op":"insert","uuid-name":"1"},
+{"op":"insert","uuid-name":"d","uuid":"00000000-0000-0000-0000-000000000009"},
+{"op":"insert","uuid-name":"e","uuid":"9"}]"#;
 
 /// The first insert with a name gives it, for the whole transaction.
 const NAMES: &str = r#"named a -> 1
@@ -33,7 +36,16 @@ at 1 -> 2
 at 2 -> 2
 at 3 -> 3
 at 4 -> 4
-at 5 -> none
+at 5 -> 9
+at 6 -> 6
+at 7 -> none
+named d -> 9
+named e -> 6
+uuid "00000000-0000-0000-0000-000000000009" -> none
+uuid ["uuid","00000000-0000-0000-0000-000000000009"] -> none
+uuid "9" -> syntax error
+uuid ["named-uuid","a"] -> syntax error
+uuid null -> syntax error
 fault 0 "a" -> none
 fault 3 "a" -> duplicate uuid-name
 fault 2 "c" -> none
@@ -134,6 +146,16 @@ fn fault_at(rows: &NamedRows<'_>, place: usize, name: &Value) -> &'static str {
         Some(error) => error.text(),
         None => "none",
     }
+}
+
+/// The fault of an identifier that an insert chooses.
+fn uuid_fault_of(alloc: Global, text: &str) -> Result<String, Fail> {
+    let tree = Value::from_str(alloc, text)?;
+    let fault = match uuid_fault(Some(&tree)) {
+        Some(error) => error.text(),
+        None => "none",
+    };
+    Ok(String::from_str(alloc, fault)?)
 }
 
 /// The fault of the name after a place.
@@ -344,6 +366,7 @@ fn answered(
         "named" => number(alloc, rows.uuid_of(text)),
         "at" => number_at(alloc, rows, text),
         "fault" => fault(alloc, rows, text),
+        "uuid" => uuid_fault_of(alloc, text),
         "insert" => inserted(alloc, table, rows, text),
         "update" => updated(alloc, table, rows, text),
         "mutate" => mutated(alloc, table, rows, text),
@@ -371,6 +394,8 @@ fn are_given(alloc: Global, script: &str) -> Result<(), Fail> {
         Uuid::from_u128(2),
         Uuid::from_u128(3),
         Uuid::from_u128(4),
+        Uuid::from_u128(5),
+        Uuid::from_u128(6),
     ]?;
     let given = Given {
         schema,
