@@ -1,9 +1,10 @@
 ghost use Rattle.std.specs.Prelude.{◌≡◌, ◌≤◌, ◌<◌, ◌+◌, ℕ, [], length, Some, IfOk, true, codes, vec_capacity};
 ghost use Rattle.std.specs.List.{list_all};
-ghost use Rattle.ov_rpc.specs.Message.{message_view};
+ghost use Rattle.ov_rpc.specs.Incoming.{StandsFor};
 ghost use Rattle.ov_specs.specs.machine.Machine as spec;
 ghost use Rattle.ov_specs.specs.values.Uuid.{is_uuid};
 ghost use Rattle.ov_specs.specs.wire.Frame.{frame, failure_tree};
+ghost use Rattle.ov_specs.specs.wire.Message.{Message};
 ghost use Rattle.ov_requests.specs.Asked.{IsWork, IsWithoutDraws};
 ghost use Rattle.ov_requests.specs.Drawing.{DrawsFrom};
 ghost use Rattle.ov_requests.specs.Waiting.{many, most_outstanding};
@@ -20,7 +21,7 @@ use ov_base::{Bytes, Tree, Trees};
 use ov_history::{Attempt, Outcome, is_closing, is_kept, list_attempt};
 use ov_keeper::Keeper;
 use ov_requests::{Draws, Outstanding, Txn, Work, work_of};
-use ov_rpc::{Message, failure};
+use ov_rpc::{Incoming, failure};
 use std::alloc::{AllocError, Global};
 use uuid::Uuid;
 
@@ -67,7 +68,7 @@ impl<K: Keeper + Drop> Live<K> {
         alloc: Global,
         moment: u64,
         session: u64,
-        message: Message,
+        incoming: Incoming,
         source: &mut D,
         attempts: &mut Vec<Attempt>,
     ) -> Vec<Uuid>
@@ -75,13 +76,13 @@ impl<K: Keeper + Drop> Live<K> {
         requires open { spec.is_open (state_of self.old moment) session ≡ true }
         requires none { attempts.old.items ≡ [] }
         requires room { length self.old.waiting.outstanding < vec_capacity attempts.old }
-        requires waits { HasRoomToWait moment session (message_view message) self.old }
-        ensures comes_to { ComesTo K.failed moment (spec.Take session (message_view message)) self.old result.items attempts.new.items self.new }
+        requires waits { (message : Message) × StandsFor incoming message × HasRoomToWait moment session message self.old }
+        ensures comes_to { (message : Message) → StandsFor incoming message → ComesTo K.failed moment (spec.Take session message) self.old result.items attempts.new.items self.new }
         ensures honest { K.is_honest self.new.database.keeper → K.is_honest self.old.database.keeper }
         ensures drawn { DrawsFrom D.draws source.old result.items source.new }
         ensures uuids { list_all is_uuid result.items ≡ true }
     {
-        let Handled { draws, outcome } = self.handle(alloc, moment, session, message, source);
+        let Handled { draws, outcome } = self.handle(alloc, moment, session, incoming, source);
         list_attempt(attempts, 1, outcome);
         if is_closing(outcome) {
             self.close(session);
@@ -101,12 +102,12 @@ impl<K: Keeper + Drop> Live<K> {
         alloc: Global,
         moment: u64,
         session: u64,
-        message: Message,
+        incoming: Incoming,
         source: &mut D,
     ) -> Handled
         requires open { spec.is_open (state_of self.old moment) session ≡ true }
-        requires waits { HasRoomToWait moment session (message_view message) self.old }
-        ensures works { Works moment session (spec.work_of (state_of self.old moment) session (message_view message)) self.old result self.new }
+        requires waits { (message : Message) × StandsFor incoming message × HasRoomToWait moment session message self.old }
+        ensures works { (message : Message) → StandsFor incoming message → Works moment session (spec.work_of (state_of self.old moment) session message) self.old result self.new }
         ensures asks { AsksStore K.failed result.outcome self.old.database self.new.database }
         ensures counts { K.failed self.old.database.keeper ≤ K.failed self.new.database.keeper }
         ensures honest { K.is_honest self.new.database.keeper → K.is_honest self.old.database.keeper }
@@ -115,7 +116,7 @@ impl<K: Keeper + Drop> Live<K> {
         ensures tries { self.new.tries ≤ self.old.tries + 1 }
     {
         let schema = self.database.schema();
-        let Ok(work) = work_of(alloc, schema, &self.waiting, session, message) else {
+        let Ok(work) = work_of(alloc, schema, &self.waiting, session, incoming) else {
             return out_of_memory(Vec::new(alloc));
         };
         match work {

@@ -457,12 +457,12 @@ impl<K: Keeper + Drop, D: Draws + Drop> Core<K, D> {
             return Stepped::Closed;
         };
         self.live.sessions.are_few();
-        let (message, text) = received.into_parts();
+        let (incoming, text) = received.into_parts();
         let draws = self.live.take(
             alloc,
             moment,
             session.serial,
-            message,
+            incoming,
             &mut self.source,
             &mut attempts,
         );

@@ -50,7 +50,7 @@ pub unknown_method : (s : State) (session : ℕ) (id : Data) (method : List ℕ)
     → method ≢ codes "list_dbs"
     → method ≢ codes "get_schema"
     → method ≢ codes "transact"
-    → method ≢ codes "echo"
+    → bytes_eq method (codes "echo") ≡ false
     → method ≢ codes "lock"
     → method ≢ codes "steal"
     → method ≢ codes "unlock"
@@ -58,7 +58,7 @@ pub unknown_method : (s : State) (session : ℕ) (id : Data) (method : List ℕ)
     → method ≢ codes "monitor_cancel"
     → call_of s session id method params ≡ refused id (codes "unknown method")
 unknown_method s session id method params not_list_dbs not_get_schema not_transact not_echo not_lock not_steal not_unlock not_monitor not_monitor_cancel =
-    rw (differs method (codes "list_dbs") not_list_dbs, differs method (codes "get_schema") not_get_schema, differs method (codes "transact") not_transact, differs method (codes "echo") not_echo, differs method (codes "lock") not_lock, differs method (codes "steal") not_steal, differs method (codes "unlock") not_unlock, differs method (codes "monitor") not_monitor, differs method (codes "monitor_cancel") not_monitor_cancel) refl
+    rw (differs method (codes "list_dbs") not_list_dbs, differs method (codes "get_schema") not_get_schema, differs method (codes "transact") not_transact, not_echo, differs method (codes "lock") not_lock, differs method (codes "steal") not_steal, differs method (codes "unlock") not_unlock, differs method (codes "monitor") not_monitor, differs method (codes "monitor_cancel") not_monitor_cancel) refl
 
 -- ---- transactions
 

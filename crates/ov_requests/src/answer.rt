@@ -1,10 +1,13 @@
-ghost use Rattle.std.specs.Prelude.{◌≡◌, ℕ, IfOk, Some, MatchOption, false};
+ghost use Rattle.std.specs.Prelude.{◌≡◌, ℕ, IfOk, Some, MatchOption, false, codes};
+ghost use Rattle.std.specs.Str.{bytes_eq};
 ghost use Rattle.serde_json.specs.Data.{no_items, item};
 ghost use Rattle.serde_json.specs.View.{view};
 ghost use Rattle.ov_locks.specs.Calls.{lock_call_view};
 ghost use Rattle.ov_specs.specs.wire.Frame.{frame, failure_tree, reply_tree};
 ghost use Rattle.ov_specs.specs.wire.Method.{database_names, bad_text};
 ghost use Rattle.ov_specs.specs.machine.Machine.{State, work_of, call_of, notification_of, cancel_notification, transact_call, transact_work, schema_call, schema_call_on, lock_call, monitor_call, monitor_cancel_call};
+ghost use Rattle.ov_specs.specs.wire.Message as rpc;
+ghost use Rattle.ov_rpc.specs.Incoming.{StandsFor, is_echo};
 ghost use Rattle.ov_rpc.specs.Message.{message_view, bad_kind_view};
 ghost use Rattle.ov_requests.specs.Asked.{IsWork};
 ghost use Rattle.ov_requests.specs.declared.answer.Work.TheVariants.{Answer};
@@ -14,7 +17,7 @@ use crate::waiting::Waiting;
 use ov_atoms::is_id;
 use ov_base::{Bytes, Text, Tree, Trees};
 use ov_locks::LockCall;
-use ov_rpc::{BadKind, Message, failure, reply};
+use ov_rpc::{BadKind, Incoming, Message, failure, reply};
 use ov_schema::Schema;
 use serde_json::{Value, json};
 use std::alloc::{AllocError, Global};
@@ -233,7 +236,7 @@ fn monitor_cancel_work(alloc: Global, id: Tree, params: Trees) -> Result<Work, A
     }
 }
 
-/// What a call asks for, method by method (RFC 7047, 4.1).
+/// What a call that is no echo asks for, method by method (RFC 7047, 4.1).
 fn call_work(
     alloc: Global,
     schema: &Schema,
@@ -243,13 +246,12 @@ fn call_work(
     method: &str,
     params: Trees,
 ) -> Result<Work, AllocError>
-    ensures { IfOk result (λ w. (s : State) → s.schema ≡ schema.now → s.outstanding ≡ waiting.now.outstanding → IsWork s session (call_of s session id method.now params) w) }
+    ensures { bytes_eq method.now (codes "echo") ≡ false → IfOk result (λ w. (s : State) → s.schema ≡ schema.now → s.outstanding ≡ waiting.now.outstanding → IsWork s session (call_of s session id method.now params) w) }
 {
     match method {
         "list_dbs" => answered_work(alloc, id, Tree::new(names_of(alloc, schema.name())?)),
         "get_schema" => schema_work(alloc, schema, id, &params),
         "transact" => transact_call(alloc, schema.name(), waiting, session, id, params),
-        "echo" => answered_work(alloc, id, params.into_tree()),
         "lock" => lock_work(alloc, LockCall::Lock, id, params),
         "steal" => lock_work(alloc, LockCall::Steal, id, params),
         "unlock" => lock_work(alloc, LockCall::Unlock, id, params),
@@ -306,15 +308,15 @@ fn notification_work(
     }
 }
 
-/// What a message of a session asks for, given the database's schema and the waiting transactions.
-pub fn work_of(
+/// What a message of a session that is no echo asks for.
+fn message_work(
     alloc: Global,
     schema: &Schema,
     waiting: &Waiting,
     session: u64,
     message: Message,
 ) -> Result<Work, AllocError>
-    ensures { IfOk result (λ w. (s : State) → s.schema ≡ schema.now → s.outstanding ≡ waiting.now.outstanding → IsWork s session (work_of s session (message_view message)) w) }
+    ensures { is_echo (message_view message) ≡ false → IfOk result (λ w. (s : State) → s.schema ≡ schema.now → s.outstanding ≡ waiting.now.outstanding → IsWork s session (work_of s session (message_view message)) w) }
 {
     match message {
         Message::Call { id, method, params } => {
@@ -325,5 +327,22 @@ pub fn work_of(
         }
         Message::Bad { id, kind } => refused_work(alloc, id, bad_kind_text(kind)),
         Message::Answer => Ok(Work::Answer(None)),
+    }
+}
+
+/// What a session asks for with what it takes in, given the database's schema and the waiting transactions. The reply to an
+/// echo is passed on as it is.
+pub fn work_of(
+    alloc: Global,
+    schema: &Schema,
+    waiting: &Waiting,
+    session: u64,
+    incoming: Incoming,
+) -> Result<Work, AllocError>
+    ensures { IfOk result (λ w. (s : State) (message : rpc.Message) → StandsFor incoming message → s.schema ≡ schema.now → s.outstanding ≡ waiting.now.outstanding → IsWork s session (work_of s session message) w) }
+{
+    match incoming {
+        Incoming::Echo(frame) => Ok(Work::Answer(Some(frame))),
+        Incoming::Message(message) => message_work(alloc, schema, waiting, session, message),
     }
 }

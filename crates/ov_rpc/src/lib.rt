@@ -4,6 +4,7 @@
 mod append;
 mod fault;
 mod frame;
+mod incoming;
 mod message;
 mod received;
 mod request;
@@ -11,5 +12,6 @@ mod request;
 pub use append::append_item;
 pub use fault::RpcFault;
 pub use frame::{failure, notification, reply, reply_with};
+pub use incoming::Incoming;
 pub use message::{BadKind, Message};
 pub use received::{MessageText, Received};

@@ -9,6 +9,8 @@ use Rattle.ov_base.proofs.bytes.Bytes.TheSendSync as bytes
 use Rattle.ov_base.proofs.text.Text.TheSendSync as text
 use Rattle.ov_order.proofs.items.Brought.TheSendSync as brought
 use Rattle.ov_order.proofs.items.Sent.TheSendSync as sent
+use Rattle.ov_rpc.specs.contracts.incoming.Incoming as incoming
+use Rattle.ov_rpc.specs.contracts.received.MessageText as message_text
 use Rattle.ov_rpc.specs.contracts.received.Received as received
 use Rattle.std.proofs.sync.ledger.Share.TheSendSync as share
 use Rattle.std.specs.contracts.sync.ledger.Share as share_row
@@ -37,9 +39,15 @@ Trees-send = search (sendable, crosses, maps.crosses, knot.send-Value) depth 40
 Message-send : IsSend message.the_field.row
 Message-send = search (sendable, Tree-send, Trees-send, text.the_send) depth 40
 
+Incoming-send : IsSend incoming.the_field.row
+Incoming-send = search (sendable, Message-send, bytes.the_send) depth 40
+
+MessageText-send : IsSend message_text.the_row
+MessageText-send = search (sendable, bytes.the_send) depth 40
+
 -- so may a message with its text
 Received-send : IsSend received.the_row
-Received-send = search (sendable, Message-send, bytes.the_send) depth 40
+Received-send = search (sendable, Incoming-send, MessageText-send) depth 40
 
 module _ (T : RattleType) (g : Ghosts T.Denot) where
   Share-field-send : IsSend (share_row.the_field T g).row

@@ -1,5 +1,5 @@
-use ov_base::{Text, Tree, Trees};
-use ov_rpc::{BadKind, Message, RpcFault, reply};
+use ov_base::{Bytes, Text, Tree, Trees};
+use ov_rpc::{BadKind, Incoming, Message, Received, RpcFault, reply};
 use std::alloc::{AllocError, Global};
 use std::test::Fail;
 use test_basics::{Scripted, agrees, compact, is_text};
@@ -86,6 +86,18 @@ const NO_JSON: &str = r#" -> unreadable
 {"id":1,"method":"m","params":["\ud800"]} -> unreadable
 {"id":1,"method":"m","params":["\udc00\ud800"]} -> unreadable"#;
 
+/// An echo is taken in as the frame of its reply, every other message as the message.
+const TAKEN_IN: &str =
+    r#"{"id":1,"method":"echo","params":[1,2,3,10]} -> echo {"error":null,"id":1,"result":[1,2,3,10]}
+{"params": [{"b":[],"a":null}], "method": "echo", "id": "x"} -> echo {"error":null,"id":"x","result":[{"a":null,"b":[]}]}
+{"id":1,"method":"echo","params":[]} -> echo {"error":null,"id":1,"result":[]}
+{"id":1,"method":"echo2","params":[1]} -> call 1 echo2 [1]
+{"id":1,"method":"lock","params":["l"]} -> call 1 lock ["l"]
+{"method":"echo","params":[1]} -> notification echo [1]
+{"id":1,"method":"echo"} -> bad 1 syntax
+{"id":1,"method":"echo","params":[0.5]} -> bad 1 reals
+{"id":1,"result":[],"error":null} -> answer"#;
+
 /// The message of a text in words: `call ID METHOD PARAMS`, `notification METHOD PARAMS`, `answer`, `bad ID KIND` or `unreadable`.
 fn words(alloc: Global, text: &[u8]) -> Result<String, Fail> {
     match Message::read(alloc, text) {
@@ -149,6 +161,30 @@ impl Scripted for Messages {
         let text = format!(in alloc; "{{\"id\":{command},\"method\":\"m\",\"params\":[]}}")?;
         words(alloc, text.as_bytes())
     }
+}
+
+/// The commands are texts of messages.
+#[derive(Drop)]
+struct Incomings;
+
+impl Scripted for Incomings {
+    fn answer(&mut self, alloc: Global, command: &str) -> Result<String, Fail> {
+        let text = Bytes::from_slice(alloc, command.as_bytes())?;
+        let (incoming, text) = Received::read(alloc, text)?.into_parts();
+        is_text(alloc, str::from_utf8(text.as_slice())?, command)?;
+        match incoming {
+            Incoming::Echo(frame) => {
+                let frame = String::from_utf8(frame.into_vec())?;
+                Ok(format!(in alloc; "echo {frame}")?)
+            }
+            Incoming::Message(message) => words_of(alloc, &message),
+        }
+    }
+}
+
+#[test]
+fn an_echo_is_taken_in_as_its_reply(rt: HostRuntime) -> Result<(), Fail> {
+    agrees(rt.alloc(), Incomings, TAKEN_IN)
 }
 
 /// Runs a script of texts of messages.

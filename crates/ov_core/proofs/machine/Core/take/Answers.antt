@@ -1,6 +1,5 @@
 use Rattle.std.proofs.Common.{◌≡◌, ◌≤◌, ◌∙◌, length, true, false, rules, ap, sym, arith}
 use Rattle.std.proofs.lemmas.List.{length-map}
-use Rattle.ov_rpc.specs.Message.{message_view}
 use Rattle.ov_specs.specs.machine.Machine.{Take, is_open}
 use Rattle.ov_core.specs.States.{state_of, sessions_of}
 use Rattle.ov_core.proofs.FewWaiting.{history_few, has_room}
@@ -21,18 +20,22 @@ take-draws-requires g c =
       «open» = there;
       none = search rules;
       room = search rules;
-      waits = λ id operations is. omega (
-        arith,
-        has_room (state_of live c.args.moment) c.args.session.serial (message_view c.into_parts-message.result.0) id operations (record { of_each = few.of_each; are_open = few.are_open }) (omega (arith, all, c.are_few.ensures)) there is,
-        ap length c.self.invariant.1,
+      waits = (
+        c.args.received,
+        c.into_parts-incoming.ensures.incoming,
+        λ id operations is. omega (
+          arith,
+          has_room (state_of live c.args.moment) c.args.session.serial c.args.received id operations (record { of_each = few.of_each; are_open = few.are_open }) (omega (arith, all, c.are_few.ensures)) there is,
+          ap length c.self.invariant.1,
+        ),
       );
     }
 
 pub returns-clause-steps : goal.returns-clause-steps
 returns-clause-steps g c =
     let low : c.self.inside.moment ≤ c.args.moment = search rules in
-    let comes = rw c.into_parts-message.ensures.message at c.take-draws.ensures.comes_to in
-    let entry = entered_as c.args.moment c.args.session.serial c.args.received _ c.take-draws.result.items _ c.entry_with_choice.result c.entry_with_choice.ensures c.into_parts-message.ensures.text in
+    let comes = c.take-draws.ensures.comes_to c.args.received c.into_parts-incoming.ensures.incoming in
+    let entry = entered_as c.args.moment c.args.session.serial c.args.received _ c.take-draws.result.items _ c.entry_with_choice.result c.entry_with_choice.ensures c.into_parts-incoming.ensures.text in
     elim c.if-is_open.branch [
       | then-is_open w ↦ rw (w.result-is, ← c.self.view_is)
           (took g.K.Keeper.failed g.D.Draws.draws c.args.session.serial c.args.received c.self.inside.live c.take-draws.new.self c.self.inside.moment c.args.moment c.take-draws.result.items c.take-draws.new.attempts.items c.self.inside.history c.push.new.self c.entry_with_choice.result
@@ -45,8 +48,8 @@ returns-clause-steps g c =
 pub invariant_of-self : goal.invariant_of-self
 invariant_of-self g c =
     let low : c.self.inside.moment ≤ c.args.moment = search rules in
-    let comes = rw c.into_parts-message.ensures.message at c.take-draws.ensures.comes_to in
-    let entry = entered_as c.args.moment c.args.session.serial c.args.received _ c.take-draws.result.items _ c.entry_with_choice.result c.entry_with_choice.ensures c.into_parts-message.ensures.text in (
+    let comes = c.take-draws.ensures.comes_to c.args.received c.into_parts-incoming.ensures.incoming in
+    let entry = entered_as c.args.moment c.args.session.serial c.args.received _ c.take-draws.result.items _ c.entry_with_choice.result c.entry_with_choice.ensures c.into_parts-incoming.ensures.text in (
       has_entered g.K.Keeper.failed (Take c.args.session.serial c.args.received) c.self.inside.live c.take-draws.new.self c.self.inside.moment c.args.moment c.take-draws.result.items c.take-draws.new.attempts.items comes c.self.inside.history c.push.new.self c.entry_with_choice.result
           low c.push.ensures entry c.take-draws.ensures.uuids c.self.invariant.0,
       comes.untried,
