@@ -53,7 +53,7 @@ pub(crate) fn reader_of(rest: &[u8], most: usize) -> PieceReader<'_> {
 
 /// Adds the text of a message.
 fn push_message(lines: &mut Vec<u8>, received: Received) -> Result<(), Fail> {
-    let (_message, text) = received.into_parts();
+    let (_incoming, text) = received.into_parts();
     lines.extend_from_slice(text.as_slice())?;
     Ok(())
 }
