@@ -87,7 +87,7 @@ not_less_than_itself = rw (as_listed (6 ∷ []) tt) refl
 pub less_or_equal_to_itself : compares LessOrEqual six six ≡ true
 less_or_equal_to_itself = rw (as_listed (6 ∷ []) tt) refl
 
--- what the function says of the column and of 4, 5 and 6
+-- how the column compares with 4, 5 and 6
 abbrev against_4_5_6 : Function → Datum → List Bool
 against_4_5_6 f d = map (λ n. compares f d (set (n ∷ []))) (4 ∷ 5 ∷ 6 ∷ [])
 
@@ -106,15 +106,15 @@ five_is_greater = rw (as_listed (4 ∷ []) tt, as_listed (5 ∷ []) tt, as_liste
 pub five_is_greater_or_equal : against_4_5_6 GreaterOrEqual five ≡ true ∷ true ∷ false ∷ []
 five_is_greater_or_equal = rw (as_listed (4 ∷ []) tt, as_listed (5 ∷ []) tt, as_listed (6 ∷ []) tt) refl
 
--- an empty column stands in no relation
+-- no relation holds of an empty column
 abbrev never : List Bool
 never = false ∷ false ∷ false ∷ []
 
 pub nothing_is_less : against_4_5_6 Less (set []) ≡ never
-nothing_is_less = rw (as_listed [] tt, as_listed (4 ∷ []) tt, as_listed (5 ∷ []) tt, as_listed (6 ∷ []) tt) refl
+nothing_is_less = rw (as_listed [] tt) refl
 
 pub nothing_is_less_or_equal : against_4_5_6 LessOrEqual (set []) ≡ never
-nothing_is_less_or_equal = rw (as_listed [] tt, as_listed (4 ∷ []) tt, as_listed (5 ∷ []) tt, as_listed (6 ∷ []) tt) refl
+nothing_is_less_or_equal = rw (as_listed [] tt) refl
 
 pub nothing_is_greater : against_4_5_6 Greater (set []) ≡ never
 nothing_is_greater = rw (as_listed [] tt, as_listed (4 ∷ []) tt, as_listed (5 ∷ []) tt, as_listed (6 ∷ []) tt) refl
@@ -166,7 +166,7 @@ pub set_of_two_for_an_optional : condition (codes "[\"tag\",\"==\",[\"set\",[5,6
 unfolding serde_json_on_literals
 set_of_two_for_an_optional = rw (column_is (codes "tag")) refl
 
--- a relation is one of at most one integer
+-- a relation is allowed on at most one integer
 pub relation_on_an_optional : condition (codes "[\"tag\",\"<\",5]") ≡ Some (Ok (record { column = codes "tag"; function = Less; value = set (5 ∷ []) }))
 unfolding serde_json_on_literals
 relation_on_an_optional = rw (column_is (codes "tag")) (rw (len-one (Integer (pos 5))) refl)

@@ -47,8 +47,8 @@ const CONDITIONS: &str = r#"["tag","<",10] -> a
 ["tag","excludes",["set",[4,6]]],["tag","!=",["set",[]]] -> a"#;
 
 /// A line with these inserts before an operation, and what it results in.
-fn line(alloc: Global, operation: &str, result: &str) -> Result<String, Fail> {
-    Ok(format!(in alloc; "[{PORTS},{operation}] -> {INSERTED} {result}\n")?)
+fn line(alloc: Global, operation: &str, results: &str) -> Result<String, Fail> {
+    Ok(format!(in alloc; "[{PORTS},{operation}] -> {INSERTED} {results}\n")?)
 }
 
 /// The result of an operation by what its condition matches.
