@@ -41,7 +41,7 @@ name_cmp_total = nat_list_cmp_total
 name_cmp-IsAntisymmetric : IsAntisymmetric name_cmp
 name_cmp-IsAntisymmetric = slice_cmp-IsAntisymmetric nat_cmp-IsAntisymmetric
 
-line_cmp_total : IsTotalOrder line_cmp
+pub line_cmp_total : IsTotalOrder line_cmp
 line_cmp_total = then_total (on_total (λ (k : LineKey). k.0) nat_list_cmp_total) (on_total (λ (k : LineKey). k.1) nat_list_cmp_total)
 
 module _ {K X : Type 0} {R : K → K → Ordering} (o : IsTotalOrder R) (same : IsAntisymmetric R) where
@@ -74,7 +74,7 @@ pub entries-columns : entries columns ≡ listed
 unfolding columns
 entries-columns = entries-from_entries name_cmp_total name_cmp-IsAntisymmetric listed tt
 
-load_column : get columns (codes "load") ≡ Some (scalar Integers)
+pub load_column : get columns (codes "load") ≡ Some (scalar Integers)
 unfolding columns
 load_column = get-from_entries name_cmp_total listed (codes "load")
 
@@ -160,7 +160,7 @@ name-given = get-insert name_cmp_total (insert empty (codes "load") (one (Intege
 s1-complete : with_defaults (entries columns) s1_columns ≡ Ok s1_columns
 s1-complete = rw entries-columns (rw (load-given, name-given) refl)
 
-s1-new : (names : uuid.Names) → new_row names switch (member (codes "load") (number (unsigned 4)) (member (codes "name") (string (codes "s1")) no_members)) ≡ Ok s1_columns
+pub s1-new : (names : uuid.Names) → new_row names switch (member (codes "load") (number (unsigned 4)) (member (codes "name") (string (codes "s1")) no_members)) ≡ Ok s1_columns
 s1-new names = rw (s1-given names) s1-complete
 
 -- a transaction of these operations on no rows, with draws from 1 on
@@ -177,7 +177,7 @@ entries-nothing = nil_from_length _ (sym (len-entries empty) ∙ len-empty line_
 pub entries-with_s1 : entries with_s1 ≡ ((codes "Switch", numbered 2), s1) ∷ []
 entries-with_s1 = entries-insert line_cmp_total empty (codes "Switch", numbered 2) s1 ∙ ap (put line_cmp (codes "Switch", numbered 2) s1) entries-nothing
 
-entries-s1 : entries s1_columns ≡ (codes "load", one (Integer (pos 4))) ∷ (codes "name", one (Text (codes "s1"))) ∷ []
+pub entries-s1 : entries s1_columns ≡ (codes "load", one (Integer (pos 4))) ∷ (codes "name", one (Text (codes "s1"))) ∷ []
 entries-s1 =
     entries-insert name_cmp_total (insert empty (codes "load") (one (Integer (pos 4)))) (codes "name") (one (Text (codes "s1")))
     ∙ ap (put name_cmp (codes "name") (one (Text (codes "s1")))) (entries-insert name_cmp_total empty (codes "load") (one (Integer (pos 4)))

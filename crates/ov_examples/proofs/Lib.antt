@@ -5,6 +5,7 @@ mod SchemaRows
 mod ConditionRows
 mod MutatorRows
 mod InsertRows
+mod ChosenIdRows
 mod MachineRows
 mod SettlingRows
 mod SuitsRows

@@ -4,6 +4,8 @@ use Rattle.serde_json.specs.Data.{Items}
 use Rattle.serde_json.specs.Find.{as_array}
 use Rattle.serde_json.specs.Read.{read}
 use Rattle.serde_json.proofs.OnLiterals.{serde_json_on_literals}
+use Rattle.uuid.specs.Text.{by_index}
+use Rattle.ov_specs.specs.operations.InsertedIds.{inserted_ids}
 use Rattle.ov_specs.specs.operations.NamedUuids.{place_declared, is_declared_before, id_at, uuids_named}
 use Rattle.ov_specs.specs.values.Uuid.{Uuid}
 use Rattle.ov_examples.proofs.NetRows.{numbered}
@@ -16,9 +18,9 @@ operations text = option_and_then as_array (read text)
 abbrev place : List ℕ → List ℕ → Option ℕ
 place name text = option_and_then (place_declared name) (operations text)
 
--- what it stands for in them
+-- what it stands for in them, with draws from 2 on
 abbrev stands_for : List ℕ → List ℕ → Option Uuid
-stands_for name text = option_and_then (λ ds. uuids_named (numbered 2 ∷ numbered 3 ∷ []) ds name) (operations text)
+stands_for name text = option_and_then (λ ds. uuids_named (inserted_ids (numbered 2 ∷ numbered 3 ∷ []) ds) ds name) (operations text)
 
 -- ---- which operation declares a name
 
@@ -78,6 +80,31 @@ unfolding serde_json_on_literals
 undeclared_stands_for_nothing = refl
 
 -- a refused insert has drawn too
-pub refused_insert_draws : option_and_then (λ ds. id_at (numbered 2 ∷ numbered 3 ∷ []) ds 1) (operations (codes "[{\"op\":\"insert\"},{\"op\":\"insert\"}]")) ≡ Some (numbered 3)
+pub refused_insert_draws : option_and_then (λ ds. id_at (inserted_ids (numbered 2 ∷ numbered 3 ∷ []) ds) ds 1) (operations (codes "[{\"op\":\"insert\"},{\"op\":\"insert\"}]")) ≡ Some (numbered 3)
 unfolding serde_json_on_literals
 refused_insert_draws = refl
+
+-- ---- a chosen identifier
+
+-- the identifier 00000000-0000-4000-9000-0000000000AB
+abbrev pub chosen : Uuid
+chosen = 0 ∷ 0 ∷ 0 ∷ 0 ∷ 0 ∷ 0 ∷ 64 ∷ 0 ∷ 144 ∷ 0 ∷ 0 ∷ 0 ∷ 0 ∷ 0 ∷ 0 ∷ 171 ∷ []
+
+pub stands_for_chosen : stands_for (codes "p") (codes "[{\"op\":\"insert\",\"uuid\":\"00000000-0000-4000-9000-0000000000ab\",\"uuid-name\":\"p\"}]") ≡ Some chosen
+unfolding serde_json_on_literals by_index
+stands_for_chosen = refl
+
+-- also as ["uuid",text], in capitals, and before the operation that declares the name
+pub stands_for_chosen_later : stands_for (codes "p") (codes "[{\"op\":\"insert\"},{\"op\":\"insert\",\"uuid\":[\"uuid\",\"00000000-0000-4000-9000-0000000000AB\"],\"uuid-name\":\"p\"}]") ≡ Some chosen
+unfolding serde_json_on_literals by_index
+stands_for_chosen_later = refl
+
+-- the draw of an insert that chooses is made, and not used
+pub draw_is_not_used : stands_for (codes "p") (codes "[{\"op\":\"insert\",\"uuid\":\"00000000-0000-4000-9000-0000000000ab\"},{\"op\":\"insert\",\"uuid-name\":\"p\"}]") ≡ Some (numbered 3)
+unfolding serde_json_on_literals by_index
+draw_is_not_used = refl
+
+-- if "uuid" does not read, the name stands for the draw
+pub unread_stands_for_draw : stands_for (codes "p") (codes "[{\"op\":\"insert\",\"uuid\":7,\"uuid-name\":\"p\"}]") ≡ Some (numbered 2)
+unfolding serde_json_on_literals by_index
+unread_stands_for_draw = refl

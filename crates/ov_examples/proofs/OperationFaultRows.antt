@@ -60,9 +60,18 @@ pub insert_in_unknown_table : Refused (codes "{\"op\":\"insert\",\"table\":\"Swi
 unfolding serde_json_on_literals
 insert_in_unknown_table rows = rw (table_is (codes "Swich")) refl
 
-pub insert_with_uuid : Refused (codes "{\"op\":\"insert\",\"row\":{},\"table\":\"Switch\",\"uuid\":[\"uuid\",\"00000000-0000-0000-0000-000000000009\"]}") SyntaxError
+pub insert_uuid_no_text : Refused (codes "{\"op\":\"insert\",\"row\":{},\"table\":\"Switch\",\"uuid\":null}") SyntaxError
 unfolding serde_json_on_literals
-insert_with_uuid rows = rw (table_is (codes "Switch")) refl
+insert_uuid_no_text rows = rw (table_is (codes "Switch")) refl
+
+-- of an identifier in characters one is missing
+pub insert_uuid_too_short : Refused (codes "{\"op\":\"insert\",\"row\":{},\"table\":\"Switch\",\"uuid\":\"00000000-0000-0000-0000-00000000000\"}") SyntaxError
+unfolding serde_json_on_literals
+insert_uuid_too_short rows = rw (table_is (codes "Switch")) refl
+
+pub insert_uuid_named : Refused (codes "{\"op\":\"insert\",\"row\":{},\"table\":\"Switch\",\"uuid\":[\"named-uuid\",\"p\"]}") SyntaxError
+unfolding serde_json_on_literals
+insert_uuid_named rows = rw (table_is (codes "Switch")) refl
 
 -- null is there, and no text
 pub insert_name_no_text : Refused (codes "{\"op\":\"insert\",\"row\":{},\"table\":\"Switch\",\"uuid-name\":null}") SyntaxError

@@ -6,6 +6,7 @@ use Rattle.serde_json.specs.Data.{Data, Items, no_items, item}
 use Rattle.ov_specs.specs.locks.Queues.{owner, owns, freed}
 use Rattle.ov_specs.specs.machine.Machine.{State, Outcome, Committed, Exhausted, Failed, NoMemory, Outstanding, Sent, Stepped, Transact, works, does, draws_for, arrived, attempt, tries_again, commits, sends_at_once, closed, results_to, updates_sent, waits_on}
 use Rattle.ov_specs.specs.operations.Errors.{OpError, NotOwner, ResourcesExhausted, InputOutput, error_tree}
+use Rattle.ov_specs.specs.operations.InsertedIds.{inserted_ids}
 use Rattle.ov_specs.specs.operations.Operation.{outcome_of}
 use Rattle.ov_specs.specs.operations.OpOutcome.{Owns, OpContext, OpOutcome, Done, Fault, Blocked, empty_result}
 use Rattle.ov_specs.specs.operations.Transaction.{TransactionOutcome, Completes, Waits, and_result, nulls, after, performed, transaction, and_item, exhausted_results, failed_results}
@@ -91,8 +92,8 @@ transaction_passes schema before owns [] age operations results database place d
 
     no : Passes place no_items → ⊥
     no e = cc
-transaction_passes schema before owns (version ∷ ids) age operations results database place d name h at is passes =
-    performed_passes (record { schema = schema; before = before; owns = owns; version = version; ids = ids; operations = operations; age = age }) name 0 operations before results database place d h at is passes
+transaction_passes schema before owns (version ∷ draws) age operations results database place d name h at is passes =
+    performed_passes (record { schema = schema; before = before; owns = owns; version = version; ids = inserted_ids draws operations; operations = operations; age = age }) name 0 operations before results database place d h at is passes
 
 -- ---- an attempt
 
