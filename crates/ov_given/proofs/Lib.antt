@@ -1,3 +1,4 @@
 pub mod Counting
+pub mod Choosing
 pub mod Declaring
 pub mod InFront

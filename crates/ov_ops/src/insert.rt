@@ -1,7 +1,7 @@
-ghost use Rattle.std.specs.Prelude.{◌≡◌};
+ghost use Rattle.std.specs.Prelude.{◌≡◌, ◌&&◌, ◌||◌};
+ghost use Rattle.std.specs.FinMap.{contains_key};
 ghost use Rattle.serde_json.specs.View.{view};
 ghost use Rattle.ov_specs.specs.operations.Insert as spec;
-ghost use Rattle.ov_specs.specs.operations.OpOutcome.{OpContext};
 ghost use Rattle.ov_ops.specs.Outcomes.{context_of, IsDone};
 
 use crate::context::OpCtx;
@@ -18,9 +18,9 @@ use uuid::Uuid;
 
 /// Whether a row of the table has the identifier now; or had it before the transaction, if it was chosen.
 fn is_taken(stage: &Stage<'_>, key: &RowKey, is_chosen: bool) -> bool
-    ensures { (c : OpContext) → c.before ≡ stage.now.before → result ≡ spec.is_taken c stage.now.now key.now is_chosen }
+    ensures { result ≡ (contains_key stage.now.now key.now || (is_chosen && contains_key stage.now.before key.now)) }
 {
-    stage.contains(key) || is_chosen && stage.before().contains(key)
+    stage.contains(key) || (is_chosen && stage.before().contains(key))
 }
 
 /// Puts the row at its identifier, which may not be taken.
