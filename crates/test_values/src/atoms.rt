@@ -3,7 +3,7 @@ ghost use Rattle.std.specs.Prelude.{◌≡◌, option_map};
 use json::Writer;
 use ov_atoms::{
     Atom, AtomFault, AtomKind, Datum, Kinds, Names, NoNames, has_sixteen_bytes, is_id, put_datum,
-    read_atom, read_datum, write_datum,
+    read_atom, read_datum, read_uuid, write_datum,
 };
 use ov_base::Text;
 use serde_json::Value;
@@ -210,6 +210,36 @@ impl Scripted for Named {
 #[test]
 fn a_name_is_read_as_the_row_that_has_it(rt: HostRuntime) -> Result<(), Fail> {
     agrees(rt.alloc(), Named, NAMED)
+}
+
+/// Identifiers, as a text alone and in an array, and trees that are none.
+const ALONE: &str = r#""00000000-0000-4000-9000-0000000000ab" -> 00000000-0000-4000-9000-0000000000ab
+"00000000-0000-4000-9000-0000000000AB" -> 00000000-0000-4000-9000-0000000000ab
+["uuid","00000000-0000-4000-9000-0000000000AB"] -> 00000000-0000-4000-9000-0000000000ab
+["named-uuid","a"] -> none
+"000000000000400090000000000000ab" -> none
+"{00000000-0000-4000-9000-0000000000ab}" -> none
+["00000000-0000-4000-9000-0000000000ab"] -> none
+"a" -> none
+7 -> none
+null -> none"#;
+
+/// The commands are trees that may be an identifier without names.
+#[derive(Drop)]
+struct Alone;
+
+impl Scripted for Alone {
+    fn answer(&mut self, alloc: Global, command: &str) -> Result<String, Fail> {
+        match read_uuid(&Value::from_str(alloc, command)?) {
+            Some(id) => Ok(format!(in alloc; "{id}")?),
+            None => Ok(String::from_str(alloc, "none")?),
+        }
+    }
+}
+
+#[test]
+fn an_identifier_may_stand_alone(rt: HostRuntime) -> Result<(), Fail> {
+    agrees(rt.alloc(), Alone, ALONE)
 }
 
 /// Texts, and whether each is a name.
