@@ -7,9 +7,9 @@ ghost use Rattle.serde_json.specs.Data.{Data, Items};
 ghost use Rattle.ov_specs.specs.wire.Cut.{Cut, cut, cut_from, IsCut, continue_cut, with_messages, max_message};
 ghost use Rattle.ov_specs.specs.wire.Message.{asked};
 ghost use Rattle.ov_specs.specs.locks.Queues.{Queues, DoQueuesAscend, HasNoRepeats, queue_of, owner, owns, has_requested};
-ghost use Rattle.ov_specs.specs.machine.Machine.{State, Left, is_open, Entry, Sent, Stepped, Outcome, Committed, NoMemory, Attempt, Outstanding, Passed, Transact, step, works, tries_again, is_kept, settle, results_to, updates_sent, opening};
+ghost use Rattle.ov_specs.specs.machine.Machine.{State, Left, is_open, Entry, Sent, Stepped, Outcome, Committed, NoMemory, Attempt, Outstanding, Passed, Transact, step, works, arrived, tries_again, is_kept, settle, results_to, updates_sent, opening};
 ghost use Rattle.ov_specs.specs.operations.OpOutcome.{empty_result};
-ghost use Rattle.ov_specs.specs.operations.Transaction.{Completes, transaction, has_error};
+ghost use Rattle.ov_specs.specs.operations.Transaction.{Completes, Waits, transaction, has_error};
 ghost use Rattle.ov_specs.specs.machine.Blocked.{AreBlocked};
 ghost use Rattle.ov_specs.specs.machine.Suiting.{SuitsState, IsWholeState, draws_uuids};
 ghost use Rattle.ov_specs.specs.integrity.Committed.{committed, is_whole};
@@ -22,6 +22,8 @@ ghost use Rattle.ov_specs.specs.machine.History.{run, requests, closed_by};
 ghost use Rattle.ov_specs.specs.machine.Streams.{StreamEvent, Streams, ExpandsTimed};
 ghost use Rattle.ov_specs.specs.values.Uuid.{Uuid, is_uuid};
 ghost use Rattle.ov_laws.specs.Asserting.{item_at, Asserts};
+ghost use Rattle.ov_laws.specs.Attempts.{attempts_of, most_attempts};
+ghost use Rattle.ov_laws.specs.Blocking.{LeavesBlocked};
 ghost use Rattle.ov_laws.specs.Databases.{databases, kept_by, commits_in, at_moment_of};
 ghost use Rattle.ov_laws.specs.Making.{TakesTransaction, Makes, RepliesTo, takes_another};
 ghost use Rattle.ov_laws.specs.Requests.{AreAskedFor};
@@ -65,11 +67,21 @@ pub fn sessions_are_closed_for_a_cause()
 {}
 
 /// A refused transaction changes nothing (RFC 7047, 4.1.3): if its reply has an error among its results, the database is as
-/// before, whatever was drawn and whatever the store answered.
+/// before, whatever was drawn and whatever the store answered. This holds when the transaction arrives and at each later try.
+/// A blocked transaction only waits (RFC 7047, 5.2.6).
 pub fn a_refused_transaction_changes_nothing()
-    ensures { (s : State) (session : ℕ) (draws : List Uuid) (outcome : Option Outcome) (id : Data) (operations results : Items) (before : List Sent) (stepped : Stepped)
+    ensures arrived { (s : State) (session : ℕ) (draws : List Uuid) (outcome : Option Outcome) (id : Data) (operations results : Items) (before : List Sent) (stepped : Stepped)
         → works s session draws outcome (Transact id operations) ≡ Some stepped
         → stepped.sent ≡ before ++ results_to session id results → has_error results ≡ true → stepped.state.database ≡ s.database }
+    ensures later { (s : State) (waiting : Outstanding) (outcome : Option Outcome) (results : Items) (before : List Sent) (stepped : Stepped)
+        → tries_again s waiting outcome ≡ Some stepped
+        → stepped.sent ≡ before ++ results_to waiting.session waiting.id results → has_error results ≡ true → stepped.state.database ≡ s.database }
+    ensures blocked { (s : State) (session : ℕ) (draws : List Uuid) (outcome : Option Outcome) (id : Data) (operations : Items) (timeout : Option ℕ) (stepped : Stepped)
+        → works s session draws outcome (Transact id operations) ≡ Some stepped
+        → transaction s.schema s.database (owns s.queues session) draws 0 operations ≡ Waits timeout → LeavesBlocked s (arrived s session id draws operations) timeout outcome stepped }
+    ensures blocked_again { (s : State) (waiting : Outstanding) (outcome : Option Outcome) (timeout : Option ℕ) (stepped : Stepped)
+        → tries_again s waiting outcome ≡ Some stepped
+        → transaction s.schema s.database (owns s.queues waiting.session) waiting.draws (s.moment - waiting.arrival) waiting.operations ≡ Waits timeout → LeavesBlocked s waiting timeout outcome stepped }
 {}
 
 /// If the store keeps what a transaction changed, the monitors receive the change before the reply: session by session and
@@ -114,10 +126,13 @@ pub fn only_open_sessions_are_sent_to()
         → run (opening schema database) history ≡ Some before → step before.state entry ≡ Some after → list_all (λ sent. is_open before.state sent.session) after.sent ≡ true }
 {}
 
-/// Settling n transactions that wait takes at most n · (n + 1) / 2 attempts.
+/// Settling n transactions that wait takes at most n · (n + 1) / 2 attempts. So while n transactions wait, a `Tick` makes at
+/// most as many, a message one more, and no other event makes any.
 pub fn settling_takes_few_attempts()
-    ensures { (s : State) (number : ℕ) (attempts : List Attempt) (passed : Passed) → settle s number attempts ≡ Some passed
+    ensures settling { (s : State) (number : ℕ) (attempts : List Attempt) (passed : Passed) → settle s number attempts ≡ Some passed
         → 2 * (passed.next - number) ≤ length s.outstanding * (length s.outstanding + 1) }
+    ensures event { (s : State) (entry : Entry) (stepped : Stepped) → step s entry ≡ Some stepped
+        → attempts_of (at_moment_of entry s) entry.choice entry.event ≤ most_attempts entry.event (length s.outstanding) }
 {}
 
 /// Settling ends when each remaining transaction is blocked: tried again on the database as it is then, at its age, it would
