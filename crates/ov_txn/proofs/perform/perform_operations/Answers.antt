@@ -1,7 +1,7 @@
 use Rattle.std.proofs.Common.{◌≡◌, ◌∙◌, ◌<◌, ◌+◌, List, ◌∷◌, length, drop, true, sym, ap, subst, arith}
 use Rattle.std.specs.FinMap.{entries}
 use Rattle.std.specs.List.{list_all, list_any}
-use Rattle.std.proofs.lemmas.Bool.{and_parts, or_parts}
+use Rattle.std.proofs.lemmas.Bool.{and_parts, and_from, or_parts}
 use Rattle.std.proofs.lemmas.List.{drop_all}
 use Rattle.std.proofs.lemmas.Result.{IfOk-weaker}
 use Rattle.serde_json.specs.View.{view, items_view}
@@ -9,6 +9,7 @@ use Rattle.ov_refs.specs.Linking.{AreLinksOf}
 use Rattle.ov_specs.specs.integrity.Committed.{is_whole}
 use Rattle.ov_specs.specs.integrity.Limits.{has_duplicates, has_too_many}
 use Rattle.ov_specs.specs.operations.Errors.{error_tree}
+use Rattle.ov_specs.specs.operations.InsertedIds.{inserted_ids}
 use Rattle.ov_specs.specs.operations.Operation.{outcome_of}
 use Rattle.ov_specs.specs.operations.OpOutcome.{OpContext, Done, Fault}
 use Rattle.ov_specs.specs.operations.Transaction.{TransactionOutcome, Completes, transaction, and_item}
@@ -16,6 +17,7 @@ use Rattle.ov_specs.specs.rows.Database.{Database}
 use Rattle.ov_specs.specs.rows.Suits.{Suits}
 use Rattle.ov_specs.specs.values.Uuid.{Uuid, is_uuid}
 use Rattle.ov_specs.proofs.laws.Committing.{IsWhole, whole_is}
+use Rattle.ov_specs.proofs.laws.FoundRows.{inserted_are}
 use Rattle.ov_specs.proofs.laws.OutcomeSuiting.{SuitsOutcome, outcome_suits}
 use Rattle.ov_given.specs.Naming.{Naming}
 use Rattle.ov_stage.specs.Staging.{Stage}
@@ -34,12 +36,14 @@ with_indexes-stage-requires-clause-apart g c =
 pub loop-place-init : goal.loop-place-init
 loop-place-init g c =
     let version = c.in-Some.version.now in
-    let draws : c.args.txn.now.draws ≡ version ∷ c.in-Some.ids.now = sym c.draws.ensures ∙ c.in-Some.ensures.cases.0 in
-    let drawn = subst (λ (xs : List Uuid). list_all is_uuid xs ≡ true) draws c.requires.drawn in
+    let draws : c.args.txn.now.draws ≡ version ∷ c.in-Some.draws.now = sym c.draws.ensures ∙ c.in-Some.ensures.cases.0 in
+    let are = and_parts (is_uuid version) (list_all is_uuid c.in-Some.draws.now) (subst (λ (xs : List Uuid). list_all is_uuid xs ≡ true) draws c.requires.drawn) in
+    let operations = c.args.txn.now.operations in
+    let drawn = and_from (is_uuid version) (list_all is_uuid (inserted_ids c.in-Some.draws.now operations)) are.0 (inserted_are c.in-Some.draws.now operations are.1) in
     record {
       going = rw (draws, c.new-results.ensures, c.in_ok-inserts.ensures, c.with_indexes-stage.ensures, c.as_slice-operations.ensures.same, c.operations-2.ensures, c.operations.ensures) (prefixed_none _);
       before = ap (λ (s : Stage). s.before) c.with_indexes-stage.ensures;
-      drawn = subst (λ (n : Naming). list_all is_uuid (version ∷ n.ids) ≡ true) (sym c.in_ok-inserts.ensures) drawn;
+      drawn = subst (λ (n : Naming). list_all is_uuid (version ∷ n.ids) ≡ true) (sym (c.in_ok-inserts.ensures ∙ ap (λ ds. record { ids = inserted_ids c.in-Some.draws.now ds; operations = ds }) c.operations.ensures)) drawn;
       suits = subst (λ (s : Stage). Suits c.args.schema.now s.now) (sym c.with_indexes-stage.ensures) c.requires.suits;
     }
 
