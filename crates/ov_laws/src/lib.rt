@@ -1,8 +1,9 @@
 //! Laws of the definitions. Each function has an empty body, and its contract is a law.
 #![tactic(auto)]
 
+ghost use Rattle.std.specs.FinMap.{get};
 ghost use Rattle.std.specs.List.{list_all};
-ghost use Rattle.std.specs.Prelude.{◌≡◌, ◌≢◌, ◌⊎◌, ◌↔◌, ◌++◌, ◌+◌, ◌-◌, ◌*◌, ◌<◌, ◌≤◌, ℕ, List, [], ◌∷◌, Option, Some, None, is_some, not, true, false, length, Ok};
+ghost use Rattle.std.specs.Prelude.{◌≡◌, ◌≢◌, ◌⊎◌, ◌↔◌, ◌++◌, ◌+◌, ◌-◌, ◌*◌, ◌<◌, ◌≤◌, ℕ, List, [], ◌∷◌, Option, Some, None, is_some, option_and_then, not, true, false, length, Ok};
 ghost use Rattle.serde_json.specs.Data.{Data, Items};
 ghost use Rattle.ov_specs.specs.wire.Cut.{Cut, cut, cut_from, IsCut, continue_cut, with_messages, max_message};
 ghost use Rattle.ov_specs.specs.wire.Message.{asked};
@@ -14,10 +15,13 @@ ghost use Rattle.ov_specs.specs.machine.Blocked.{AreBlocked};
 ghost use Rattle.ov_specs.specs.machine.Suiting.{SuitsState, IsWholeState, draws_uuids};
 ghost use Rattle.ov_specs.specs.integrity.Committed.{committed, is_whole};
 ghost use Rattle.ov_specs.specs.integrity.Kept.{IsGreatestSupported, kept};
-ghost use Rattle.ov_specs.specs.rows.Suits.{Suits};
+ghost use Rattle.ov_specs.specs.rows.Suits.{column_of_row, SuitsTable, Suits};
 ghost use Rattle.ov_specs.specs.schema.Schema.{accepted, IsAccepted};
-ghost use Rattle.ov_specs.specs.schema.SchemaTypes.{Schema};
-ghost use Rattle.ov_specs.specs.rows.Database.{Database, same_database};
+ghost use Rattle.ov_specs.specs.schema.SameType.{same_type};
+ghost use Rattle.ov_specs.specs.schema.SchemaTypes.{ColumnType, Table, Schema};
+ghost use Rattle.ov_specs.specs.conversion.Carried.{carried};
+ghost use Rattle.ov_specs.specs.rows.Database.{Row, Database, same_database};
+ghost use Rattle.ov_specs.specs.rows.Lines.{LineKey};
 ghost use Rattle.ov_specs.specs.machine.History.{run, requests, closed_by};
 ghost use Rattle.ov_specs.specs.machine.Streams.{StreamEvent, Streams, ExpandsTimed};
 ghost use Rattle.ov_specs.specs.values.Uuid.{Uuid, is_uuid};
@@ -235,4 +239,25 @@ pub fn a_change_is_kept_before_its_reply()
         → run (opening schema database) history ≡ Some before → step before.state entry ≡ Some after → takes_another (at_moment_of entry before.state) entry.event ≡ false
         → after.sent ≡ front ++ (results_to session id results ++ back) → has_error results ≡ false
         → RepliesTo schema (TakesTransaction (opening schema database) (history ++ entry ∷ [])) (databases before.state (entry ∷ [])) session id results }
+{}
+
+/// A conversion to a newer schema keeps the values of the columns that both schemas have, in each row of a table that both
+/// have. A row whose table has the same columns in both stays as it is, with its version. Rows of tables that the newer schema
+/// lacks are dropped. This is so before the rules of a commit are applied.
+pub fn a_conversion_keeps_what_both_schemas_have()
+    ensures common { (old new : Schema) (version : Uuid) (before : Database) (key : LineKey) (row : Row) (from to : Table) (name : List ℕ)
+        → get before key ≡ Some row → get old.tables key.0 ≡ Some from → get new.tables key.0 ≡ Some to → SuitsTable from row.columns
+        → is_some (column_of_row from name) ≡ true → is_some (column_of_row to name) ≡ true
+        → option_and_then (λ r. get r.columns name) (get (carried old new version before) key) ≡ get row.columns name }
+    ensures unchanged { (old new : Schema) (version : Uuid) (before : Database) (key : LineKey) (row : Row) (from to : Table)
+        → get before key ≡ Some row → get old.tables key.0 ≡ Some from → get new.tables key.0 ≡ Some to → SuitsTable from row.columns
+        → ((name : List ℕ) → is_some (column_of_row from name) ≡ is_some (column_of_row to name))
+        → get (carried old new version before) key ≡ Some row }
+    ensures dropped { (old new : Schema) (version : Uuid) (before : Database) (key : LineKey) → get new.tables key.0 ≡ None
+        → get (carried old new version before) key ≡ None }
+{}
+
+/// Two columns have the same type exactly if all parts of their types are equal (RFC 7047, 3.2, `<type>`).
+pub fn the_same_types_are_equal()
+    ensures { (a b : ColumnType) → ((same_type a b ≡ true) ↔ (a ≡ b)) }
 {}
