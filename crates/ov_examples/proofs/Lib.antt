@@ -22,3 +22,5 @@ mod MonitorRows
 mod UpdateRows
 mod DatabaseRows
 mod MemoryRows
+mod VersionRows
+mod ConversionRows

@@ -1,10 +1,11 @@
 -- Which values fit, by the lists that a value gives.
-use Rattle.std.proofs.Common.{◌≡◌, pos, List, Bool, true, false, ◌&&◌, Some, None, sym, ap, ◌∙◌}
+use Rattle.std.proofs.Common.{◌≡◌, pos, List, [], map, Bool, true, false, ◌&&◌, Some, None, sym, ap, ◌∙◌}
+use Rattle.std.proofs.lemmas.List.{nil_from_length}
 use Rattle.std.specs.List.{list_all, list_any}
 use Rattle.std.specs.Ordering.{eq_by_cmp}
-use Rattle.std.specs.FinMap.{keys, contains_key, contains_key-keys, get-empty}
+use Rattle.std.specs.FinMap.{keys, entries, contains_key, contains_key-keys, get-empty, len-entries, len-empty}
 use Rattle.std.specs.Prelude.{is_some}
-use Rattle.ov_specs.specs.values.Value.{Atom, atom_cmp, Datum, Atoms, Pairs, atoms_in, pairs_in, count}
+use Rattle.ov_specs.specs.values.Value.{Atom, atom_cmp, Datum, Atoms, Pairs, atoms_in, pairs_in, count, set_of}
 use Rattle.ov_specs.specs.schema.SchemaTypes.{ColumnType}
 use Rattle.ov_specs.specs.schema.Fitting.{is_between, atom_fits, value_fits, fits}
 use Rattle.ov_schema.specs.Sets.{set_in}
@@ -20,6 +21,13 @@ contains_key-atoms_in d a atoms is = ap (list_any (eq_by_cmp atom_cmp a)) (keys-
 pub contains_key-no_atoms : (d : Datum) (a : Atom) → None ≡ atoms_in d → contains_key (set_in d) a ≡ false
 contains_key-no_atoms (Atoms m) a is = cc
 contains_key-no_atoms (Pairs m) a is = ap is_some (get-empty atom_cmp a)
+
+no_keys : keys (set_of []) ≡ []
+no_keys = ap (map (λ e. e.0)) (nil_from_length (entries (set_of [])) (sym (len-entries (set_of [])) ∙ len-empty atom_cmp (Unit {0})))
+
+pub keys-no_atoms : (d : Datum) → None ≡ atoms_in d → [] ≡ keys (set_in d)
+keys-no_atoms (Atoms m) is = cc
+keys-no_atoms (Pairs m) is = sym no_keys
 
 -- the count is between the bounds of the type
 abbrev pub counts : ColumnType → Datum → Bool

@@ -1,3 +1,4 @@
 pub mod NamedLemmas
 pub mod FittingLemmas
 pub mod TextLemmas
+pub mod PartLemmas

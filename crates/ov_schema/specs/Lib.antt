@@ -1,3 +1,4 @@
 pub mod Sets
 pub mod NamedViews
 pub mod Built
+pub mod Parts

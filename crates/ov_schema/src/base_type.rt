@@ -35,11 +35,11 @@ impl Model for Reference {
 #[derive(Drop)]
 pub struct BaseType {
     kind: AtomKind,
-    choices: Option<Datum>,
-    least: Option<i64>,
-    greatest: Option<i64>,
-    shortest: Option<i64>,
-    longest: Option<i64>,
+    pub(crate) choices: Option<Datum>,
+    pub(crate) least: Option<i64>,
+    pub(crate) greatest: Option<i64>,
+    pub(crate) shortest: Option<i64>,
+    pub(crate) longest: Option<i64>,
     refers: Option<Reference>,
 }
 

@@ -15,7 +15,7 @@ use std::marker::Model;
 /// A column of a table (RFC 7047, 3.2, `<column-schema>`).
 #[derive(Drop)]
 pub struct Column {
-    type_of: ColumnType,
+    pub(crate) type_of: ColumnType,
     is_ephemeral: bool,
     is_mutable: bool,
 }

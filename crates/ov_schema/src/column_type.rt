@@ -15,10 +15,10 @@ use std::marker::Model;
 /// The type of a column (RFC 7047, 3.2, `<type>`): a map has a type for its values, and no maximum means "unlimited".
 #[derive(Drop)]
 pub struct ColumnType {
-    key: BaseType,
-    value: Option<BaseType>,
-    min: i64,
-    max: Option<i64>,
+    pub(crate) key: BaseType,
+    pub(crate) value: Option<BaseType>,
+    pub(crate) min: i64,
+    pub(crate) max: Option<i64>,
 }
 
 impl Model for ColumnType {

@@ -49,7 +49,7 @@ const COUNTS: &str = r#""integer" -> scalar
 {"key":"string","value":"integer"} -> neither"#;
 
 /// The schema of a table `T` with one column `c` of this type.
-fn of_type(alloc: Global, type_text: &str) -> Result<Schema, Fail> {
+pub(crate) fn of_type(alloc: Global, type_text: &str) -> Result<Schema, Fail> {
     let text = format!(in alloc;
         "{{\"name\":\"A\",\"tables\":{{\"T\":{{\"columns\":{{\"c\":{{\"type\":{type_text}}}}}}}}}}}"
     )?;
@@ -57,7 +57,7 @@ fn of_type(alloc: Global, type_text: &str) -> Result<Schema, Fail> {
 }
 
 /// The column `c` of the table `T`.
-fn column(schema: &Schema) -> Result<&Column, Fail> {
+pub(crate) fn column(schema: &Schema) -> Result<&Column, Fail> {
     let table = schema.table("T").ok_or("no table")?;
     Ok(table.column("c").ok_or("no column")?)
 }

@@ -14,6 +14,8 @@ mod inserts;
 #[cfg(test)]
 mod mutations;
 #[cfg(test)]
+mod newer;
+#[cfg(test)]
 mod references;
 #[cfg(test)]
 mod schema_files;
