@@ -199,6 +199,16 @@ unread_before_clash = rw (column_is (codes "ids")) refl
 pub holds_by_its_column : holds (λ name. Some (set (4 ∷ []))) load_below_5 ≡ true
 holds_by_its_column = rw (as_listed (4 ∷ []) tt, as_listed (5 ∷ []) tt) refl
 
+-- of a port with tag 5 and one without a tag, the first is below 10
+abbrev tag_below_10 : Condition
+tag_below_10 = record { column = codes "tag"; function = Less; value = set (10 ∷ []) }
+
+pub holds_of_a_tag : holds (λ name. Some (set (5 ∷ []))) tag_below_10 ≡ true
+holds_of_a_tag = rw (as_listed (5 ∷ []) tt, as_listed (10 ∷ []) tt) refl
+
+pub holds_of_no_tag : holds (λ name. Some (set [])) tag_below_10 ≡ false
+holds_of_no_tag = rw (as_listed [] tt) refl
+
 -- an identifier is a column of each row
 pub own_identifier : (id version : List ℕ) (others : Columns) → column_value id version others (codes "_uuid") ≡ Some (one_uuid id)
 own_identifier id version others = refl
