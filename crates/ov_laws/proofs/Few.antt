@@ -1,12 +1,13 @@
 -- An event makes few attempts.
-use Rattle.std.proofs.Common.{◌≡◌, ℕ, ◌-◌, ◌≤◌, List, length, Bool, true, false, cond, Option, Some, None, refl, subst, arith}
+use Rattle.std.proofs.Common.{◌≡◌, ℕ, ◌-◌, ◌≤◌, List, length, Bool, true, false, cond, Option, Some, None, option_map, refl, ap, subst, ◌∙◌, arith}
 use Rattle.std.proofs.lemmas.Bool.{false≢true}
-use Rattle.ov_specs.specs.machine.Machine.{State, Event, Open, Take, Close, Tick, Choice, Attempt, Outstanding, Outcome, Stepped, Tried, Passed, Listed, listed, is_kept, settle, takes, works, work_of}
+use Rattle.ov_specs.specs.machine.Machine.{State, Event, Open, Take, Close, Tick, Choice, Attempt, Outstanding, Outcome, Stepped, Tried, Passed, Listed, listed, is_kept, settle, takes, Work, works, work_of}
 use Rattle.ov_specs.specs.wire.Message.{Message}
 use Rattle.ov_specs.proofs.laws.Settling.{settle_counts}
 use Rattle.ov_specs.proofs.laws.Tries.{map_some}
 use Rattle.ov_specs.proofs.laws.Works.{work_has}
-use Rattle.ov_laws.specs.Attempts.{count_of, settling_attempts, attempts_after, attempts_of, most_settling, most_attempts}
+use Rattle.ov_laws.specs.Making.{is_transaction}
+use Rattle.ov_laws.specs.Attempts.{count_of, settling_attempts, attempts_after, own_attempts, attempts_of, most_settling, most_attempts}
 
 settling_few : (s : State) (number : ℕ) (attempts : List Attempt) → settling_attempts s number attempts ≤ most_settling (length s.outstanding)
 settling_few s number attempts = by (settle s number attempts) refl
@@ -58,8 +59,35 @@ after_few s c n message = by (takes s c n message) refl
         let (u, work, same) = map_some (λ x. record { stepped = x; others = own.others }) (works s n c.draws own.outcome (work_of s n message)) t is in
         kept_few t (is_kept own.outcome) (subst (λ (v : Tried). is_kept own.outcome ≡ true → v.stepped.state.outstanding ≡ s.outstanding) same (work_waits s c n message own.outcome u work))
 
+own_few : (w : Work) → own_attempts w ≤ 1
+own_few w = by (is_transaction w)
+  where
+    by : (b : Bool) → cond b 1 0 ≤ 1
+    by true = omega arith
+    by false = omega arith
+
 pub event_few : (s : State) (c : Choice) (what : Event) → attempts_of s c what ≤ most_attempts what (length s.outstanding)
 event_few s c Open = omega arith
-event_few s c (Take n message) = omega (arith, after_few s c n message)
+event_few s c (Take n message) = omega (arith, own_few (work_of s n message), after_few s c n message)
 event_few s c (Close n cause) = omega arith
 event_few s c Tick = settling_few s 1 c.outcomes
+
+-- ---- how many, by what settling comes to
+
+pub settling_makes : (s : State) (number : ℕ) (attempts : List Attempt) (p : Passed) → settle s number attempts ≡ Some p → settling_attempts s number attempts ≡ p.next - number
+settling_makes s number attempts p is = ap (λ o. count_of o (λ (p : Passed). p.next - number)) is
+
+-- after work that is not kept nothing is settled
+pub unkept_settles_none : (s : State) (c : Choice) (n : ℕ) (message : Message) → is_kept (listed 1 c.outcomes).outcome ≡ false → attempts_after s c n message ≡ 0
+unkept_settles_none s c n message unkept = by (takes s c n message)
+  where
+    by : (o : Option Tried) → count_of o (λ t. cond (is_kept (listed 1 c.outcomes).outcome) (settling_attempts t.stepped.state 2 t.others) 0) ≡ 0
+    by None = refl
+    by (Some t) = ap (λ b. cond b (settling_attempts t.stepped.state 2 t.others) 0) unkept
+
+-- after work that is kept those that wait are settled
+pub kept_settles : (s : State) (c : Choice) (n : ℕ) (message : Message) (u : Stepped) (p : Passed) → is_kept (listed 1 c.outcomes).outcome ≡ true
+    → works s n c.draws (listed 1 c.outcomes).outcome (work_of s n message) ≡ Some u → settle u.state 2 (listed 1 c.outcomes).others ≡ Some p → attempts_after s c n message ≡ p.next - 2
+kept_settles s c n message u p kept work settled =
+    ap (λ o. count_of (option_map (λ x. record { stepped = x; others = (listed 1 c.outcomes).others }) o) (λ (t : Tried). cond (is_kept (listed 1 c.outcomes).outcome) (settling_attempts t.stepped.state 2 t.others) 0)) work
+    ∙ (ap (λ b. cond b (settling_attempts u.state 2 (listed 1 c.outcomes).others) 0) kept ∙ settling_makes u.state 2 (listed 1 c.outcomes).others p settled)

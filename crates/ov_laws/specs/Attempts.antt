@@ -1,7 +1,8 @@
--- How many attempts an event makes, and how many it may make.
+-- How many attempts of transactions an event makes, and how many it may make.
 use Rattle.std.specs.Prelude.{ℕ, ◌+◌, ◌-◌, ◌*◌, ◌/◌, List, if◌then◌else◌, Option, Some, None}
-use Rattle.ov_specs.specs.machine.Machine.{State, Event, Open, Take, Close, Tick, Choice, Attempt, listed, is_kept, settle, takes}
+use Rattle.ov_specs.specs.machine.Machine.{State, Event, Open, Take, Close, Tick, Choice, Attempt, Work, work_of, listed, is_kept, settle, takes}
 use Rattle.ov_specs.specs.wire.Message.{Message}
+use Rattle.ov_laws.specs.Making.{is_transaction}
 
 -- how many are counted of this, or none if the choice does not suit
 abbrev pub count_of : {A : Type 0} → Option A → (A → ℕ) → ℕ
@@ -16,10 +17,14 @@ settling_attempts s number attempts = count_of (settle s number attempts) (λ p.
 abbrev pub attempts_after : State → Choice → ℕ → Message → ℕ
 attempts_after s c session message = count_of (takes s c session message) (λ t. if is_kept (listed 1 c.outcomes).outcome then settling_attempts t.stepped.state 2 t.others else 0)
 
--- how many attempts an event makes: the work on a message is one, and all others settle
+-- how many attempts the work on a message makes, if no allocation fails before its attempt
+abbrev pub own_attempts : Work → ℕ
+own_attempts work = if is_transaction work then 1 else 0
+
+-- how many attempts an event makes: one of its own for a message that asks for a transaction, and those that settle
 abbrev pub attempts_of : State → Choice → Event → ℕ
 attempts_of s c Open = 0
-attempts_of s c (Take session message) = 1 + attempts_after s c session message
+attempts_of s c (Take session message) = own_attempts (work_of s session message) + attempts_after s c session message
 attempts_of s c (Close session cause) = 0
 attempts_of s c Tick = settling_attempts s 1 c.outcomes
 
