@@ -1,5 +1,5 @@
 -- Which message is taken in, with the reply to an echo already written.
-use Rattle.std.specs.Prelude.{◌≡◌, ℕ, List, Bool, false, codes}
+use Rattle.std.specs.Prelude.{◌≡◌, Bool, false, codes}
 use Rattle.std.specs.Str.{bytes_eq}
 use Rattle.serde_json.specs.Data.{Data, array, Items}
 use Rattle.ov_specs.specs.wire.Frame.{frame, reply_tree}
