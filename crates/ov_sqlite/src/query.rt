@@ -44,7 +44,7 @@ pub fn line_rows<S: Alter>(conn: &mut Connection<S>) -> Result<Vec<Row>, Error>
     ensures survives { Survives (state S.Store conn.old) (state S.Store conn.new) (λ _. ⊥) }
 {
     let rows = query(conn, "SELECT rowid,tbl,id,ver,body FROM line")?;
-    // The connection keeps the statement of this test, so the test after a failed commit takes no memory.
+    // The connection keeps the statement of this test, so the test after a failed commit allocates nothing.
     probe(conn)?;
     Ok(rows)
 }

@@ -163,7 +163,7 @@ pub fn write_all<S: Alter>(conn: &mut Connection<S>, changes: &[Change]) -> Resu
 }
 
 /// Tests whether the connection still works, by a statement that does nothing. The connection keeps this statement, so only the
-/// first call takes memory.
+/// first call allocates.
 pub(crate) fn probe<S: Alter>(conn: &mut Connection<S>) -> Result<(), Error>
     requires { conn.old.in_transaction ≡ false }
     ensures mode { conn.new.in_transaction ≡ false }
