@@ -170,14 +170,13 @@ fn inserted_ids(
     let mut ids = Vec::with_capacity(alloc, draws.len())?;
     let mut unused = draws;
     for operation in operations {
-        if !is_insert(operation) {
-            continue;
+        if is_insert(operation) {
+            let Some((draw, others)) = unused.split_first() else {
+                return Ok(ids);
+            };
+            ids.push(chosen_id(operation).unwrap_or(*draw))?;
+            unused = others;
         }
-        let Some((draw, others)) = unused.split_first() else {
-            break;
-        };
-        ids.push(chosen_id(operation).unwrap_or(*draw))?;
-        unused = others;
     }
     Ok(ids)
 }
