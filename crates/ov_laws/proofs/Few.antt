@@ -19,13 +19,13 @@ settling_few s number attempts = by (settle s number attempts) refl
         omega (arith, counts.up, counts.down)
 
 -- work that is kept leaves those that wait
-abbrev Waits : State → Bool → Stepped → Type 0
+abbrev pub Waits : State → Bool → Stepped → Type 0
 Waits s kept x = kept ≡ true → x.state.outstanding ≡ s.outstanding
 
 none : {B : Type 0} → false ≡ true → B
 none is = absurd (false≢true is)
 
-work_waits : (s : State) (c : Choice) (n : ℕ) (message : Message) (outcome : Option Outcome) (t : Stepped) → works s n c.draws outcome (work_of s n message) ≡ Some t → Waits s (is_kept outcome) t
+pub work_waits : (s : State) (c : Choice) (n : ℕ) (message : Message) (outcome : Option Outcome) (t : Stepped) → works s n c.draws outcome (work_of s n message) ≡ Some t → Waits s (is_kept outcome) t
 work_waits s c n message outcome t h =
     work_has (Waits s) s n c.draws outcome (work_of s n message) t (record {
       closes = λ kept. none kept;

@@ -3,7 +3,7 @@
 
 ghost use Rattle.std.specs.FinMap.{get};
 ghost use Rattle.std.specs.List.{list_all};
-ghost use Rattle.std.specs.Prelude.{◌≡◌, ◌≢◌, ◌⊎◌, ◌↔◌, ◌++◌, ◌+◌, ◌-◌, ◌*◌, ◌<◌, ◌≤◌, ℕ, List, [], ◌∷◌, Option, Some, None, is_some, option_and_then, not, true, false, length, Ok};
+ghost use Rattle.std.specs.Prelude.{◌≡◌, ◌≢◌, ◌⊎◌, ◌↔◌, ◌++◌, ◌+◌, ◌-◌, ◌*◌, ◌<◌, ◌≤◌, ℕ, nat_le, List, [], ◌∷◌, Option, Some, None, is_some, option_and_then, not, true, false, length, Ok};
 ghost use Rattle.serde_json.specs.Data.{Data, Items};
 ghost use Rattle.ov_specs.specs.wire.Cut.{Cut, cut, cut_from, IsCut, continue_cut, with_messages, max_message};
 ghost use Rattle.ov_specs.specs.wire.Message.{asked};
@@ -131,12 +131,14 @@ pub fn only_open_sessions_are_sent_to()
 {}
 
 /// Settling n transactions that wait takes at most n · (n + 1) / 2 attempts. So while n transactions wait, a `Tick` makes at
-/// most as many, a message one more, and no other event makes any.
+/// most as many, a message one more, and no other event makes any. No attempt with a higher number is listed.
 pub fn settling_takes_few_attempts()
     ensures settling { (s : State) (number : ℕ) (attempts : List Attempt) (passed : Passed) → settle s number attempts ≡ Some passed
         → 2 * (passed.next - number) ≤ length s.outstanding * (length s.outstanding + 1) }
     ensures event { (s : State) (entry : Entry) (stepped : Stepped) → step s entry ≡ Some stepped
         → attempts_of (at_moment_of entry s) entry.choice entry.event ≤ most_attempts entry.event (length s.outstanding) }
+    ensures listed { (s : State) (entry : Entry) (stepped : Stepped) → step s entry ≡ Some stepped
+        → list_all (λ a. nat_le a.number (most_attempts entry.event (length s.outstanding))) entry.choice.outcomes ≡ true }
 {}
 
 /// Settling ends when each remaining transaction is blocked: tried again on the database as it is then, at its age, it would
