@@ -1,6 +1,7 @@
 -- Worked conversions: what is carried over to a newer schema, and which conversions are refused.
 use Rattle.std.proofs.Common.{◌≡◌, ℕ, pos, List, [], ◌∷◌, true, false, T, Some, None, Ok, Err, refl, sym, ◌∙◌, codes}
 use Rattle.std.specs.FinMap.{FinMap, entries, is_sorted, find, get, same_map, from_entries, from_sorted, entries-from_sorted, get-from_entries, get-from_sorted}
+use Rattle.std.specs.Str.{chars}
 use Rattle.serde_json.specs.Data.{null}
 use Rattle.ov_specs.specs.conversion.Carried.{carried}
 use Rattle.ov_specs.specs.conversion.Converted.{SchemaDiffers, TypeChanged, NotConvertible, has_changed_type, gets_unfit_default, converted}
@@ -28,10 +29,10 @@ named_listed = (codes "_uuid", own) ∷ (codes "_version", own) ∷ (codes "name
 abbrev noted_listed : List (List ℕ × Column)
 noted_listed = (codes "_uuid", own) ∷ (codes "_version", own) ∷ (codes "name", text) ∷ (codes "note", text) ∷ []
 
-named : FinMap name_cmp Column
+pub named : FinMap name_cmp Column
 named = from_entries named_listed
 
-noted : FinMap name_cmp Column
+pub noted : FinMap name_cmp Column
 noted = from_entries noted_listed
 
 on_named : (name : List ℕ) → get named name ≡ find name_cmp name named_listed
@@ -59,10 +60,10 @@ old_listed = (codes "Port", table_of named) ∷ (codes "Switch", table_of named)
 abbrev new_listed : List (List ℕ × Table)
 new_listed = (codes "Hub", table_of named) ∷ (codes "Switch", table_of noted) ∷ []
 
-old_tables : FinMap name_cmp Table
+pub old_tables : FinMap name_cmp Table
 old_tables = from_entries old_listed
 
-new_tables : FinMap name_cmp Table
+pub new_tables : FinMap name_cmp Table
 new_tables = from_entries new_listed
 
 in_old : (name : List ℕ) → get old_tables name ≡ find name_cmp name old_listed
@@ -98,10 +99,10 @@ values_before = (codes "name", one (Text (codes "s1"))) ∷ []
 abbrev values_after : List (List ℕ × Datum)
 values_after = (codes "name", one (Text (codes "s1"))) ∷ (codes "note", one (Text [])) ∷ []
 
-columns_before : Columns
+pub columns_before : Columns
 columns_before = from_entries values_before
 
-columns_after : Columns
+pub columns_after : Columns
 columns_after = from_entries values_after
 
 entries-before : entries columns_before ≡ values_before
@@ -160,7 +161,7 @@ types_stay = rw entries-new (rw (in_old (codes "Hub"), in_old (codes "Switch")) 
 
 defaults_fit : gets_unfit_default old new (listed before) ≡ false
 defaults_fit =
-    rw entries-new (rw (rows_are before tt) (rw (in_old (codes "Hub"), in_old (codes "Switch")) (rw entries-noted (rw (on_named (codes "name"), on_named (codes "note"))
+    rw entries-new (rw (rows_are before tt) (rw (in_old (codes "Switch")) (rw entries-noted (rw (on_named (codes "name"), on_named (codes "note"))
     (rw (len-one (Text []), entries-one (Text [])) refl)))))
 
 none_refer : references new (listed after) ≡ []
@@ -206,14 +207,14 @@ added_listed column = (codes "_uuid", own) ∷ (codes "_version", own) ∷ (code
 abbrev only_switch : FinMap name_cmp Column → List (List ℕ × Table)
 only_switch columns = (codes "Switch", table_of columns) ∷ []
 
-tables_of : FinMap name_cmp Column → FinMap name_cmp Table
+pub tables_of : FinMap name_cmp Column → FinMap name_cmp Table
 tables_of columns = from_entries (only_switch columns)
 
 entries-tables_of : (columns : FinMap name_cmp Column) → entries (tables_of columns) ≡ only_switch columns
 unfolding tables_of
 entries-tables_of columns = entries-named (only_switch columns) tt
 
-made_of : List (List ℕ × Column) → FinMap name_cmp Column
+pub made_of : List (List ℕ × Column) → FinMap name_cmp Column
 made_of columns = from_entries columns
 
 entries-made_of : (columns : List (List ℕ × Column)) → T (is_sorted name_cmp columns) → entries (made_of columns) ≡ columns
@@ -243,6 +244,7 @@ types_stay_filled =
     rw (entries-tables_of (made_of (added_listed filled))) (rw (in_old (codes "Switch")) (rw (entries-made_of (added_listed filled) tt) (rw (on_named (codes "name"), on_named (codes "note")) refl)))
 
 default_too_short : gets_unfit_default old filled_notes (listed before) ≡ true
+unfolding chars
 default_too_short =
     rw (entries-tables_of (made_of (added_listed filled))) (rw (rows_are before tt) (rw (in_old (codes "Switch")) (rw (entries-made_of (added_listed filled) tt)
     (rw (on_named (codes "name"), on_named (codes "note")) (rw (len-one (Text []), entries-one (Text [])) refl)))))
