@@ -145,7 +145,7 @@ pub a_note_is_empty : carried old new (numbered 10) (listed before) ≡ listed a
 a_note_is_empty =
     rw (rows_are before tt) (rw (in_old (codes "Port"), in_old (codes "Switch"), in_new (codes "Port"), in_new (codes "Switch"))
     (rw entries-noted (rw (on_named (codes "name"), on_named (codes "note")) (rw (on_before (codes "name")) (rw (sym after_is)
-    (rw (get-from_sorted line_cmp before (codes "Switch", numbered 7) tt) (rw (entries-before, entries-after) (made_listed after tt))))))))
+    (rw (get-from_sorted line_cmp before (codes "Switch", numbered 7) tt) (rw (entries-before, entries-after) (rw (entries-one (Text (codes "s1"))) (made_listed after tt)))))))))
 
 -- ---- and the whole conversion
 
