@@ -1,26 +1,35 @@
 -- What a conversion carries over: the values of the columns that both tables have, in the rows of tables that both schemas have.
 use Rattle.std.proofs.Common.{◌≡◌, ℕ, List, [], ◌∷◌, map, Bool, true, false, cond, not, is_some, option_map, option_and_then, Option, Some, None, refl, sym, ap, ◌∙◌}
+use Rattle.std.proofs.lemmas.Map.Lookups.{exact_pairs}
 use Rattle.std.specs.Prelude.{unwrap_or}
-use Rattle.std.specs.FinMap.{find, get, entries, get-entries, get-from_entries, same_map}
+use Rattle.std.specs.FinMap.{IsAntisymmetric, slice_cmp-IsAntisymmetric, find, get, entries, get-entries, get-from_entries, same_map, same_entries_map}
 use Rattle.std.specs.FinMap.Entries.{find-where_key}
 use Rattle.std.specs.List.{filter_map, cons_option}
 use Rattle.std.specs.Ordering.{eq_by_cmp}
 use Rattle.ov_specs.specs.conversion.Carried.{carried_value, carried_columns, carried_row, carried_if_kept, carried}
-use Rattle.ov_specs.specs.rows.Database.{Columns, Row, Database}
+use Rattle.ov_specs.specs.rows.Database.{Columns, Row, Database, same_columns}
 use Rattle.ov_specs.specs.rows.Lines.{LineKey, line_cmp}
 use Rattle.ov_specs.specs.rows.RowNames.{is_own_column, row_columns}
 use Rattle.ov_specs.specs.rows.Suits.{column_of_row, suits_column, SuitsTable}
-use Rattle.ov_specs.specs.rows.Version.{row_now}
+use Rattle.ov_specs.specs.rows.Version.{version_over, row_now}
 use Rattle.ov_specs.specs.schema.Fitting.{default_of}
 use Rattle.ov_specs.specs.schema.SchemaTypes.{name_cmp, Column, Table, Schema}
 use Rattle.ov_specs.specs.values.Uuid.{Uuid}
 use Rattle.ov_specs.specs.values.Value.{Datum}
+use Rattle.ov_specs.proofs.laws.DatumOrder.{datum_cmp-IsAntisymmetric}
 use Rattle.ov_specs.proofs.laws.LineKeys.{key_total, tied_same}
 use Rattle.ov_specs.proofs.laws.Names.{name_cmp_total, name_exact, same_name-is}
 use Rattle.ov_specs.proofs.laws.Pruning.{find-anew}
-use Rattle.ov_specs.proofs.laws.Sameness.{row_now-former}
+use Rattle.ov_specs.proofs.laws.Sameness.{column_cmp, columns-tied, row_now-former}
+use Rattle.ov_specs.proofs.laws.Truths.{equal_is}
 
 -- ---- columns
+
+column_exact : IsAntisymmetric column_cmp
+column_exact = exact_pairs name_cmp _ name_exact datum_cmp-IsAntisymmetric
+
+columns-is : (a b : Columns) → same_columns (entries a) (entries b) ≡ true → a ≡ b
+columns-is a b h = same_entries_map a b (slice_cmp-IsAntisymmetric column_exact (entries a) (entries b) (equal_is _ (sym (columns-tied (entries a) (entries b)) ∙ h)))
 
 -- a column that each row has by itself is not found
 find-row_columns : (table : Table) (name : List ℕ) → find name_cmp name (row_columns table) ≡ column_of_row table name
@@ -67,6 +76,18 @@ module _ (from to : Table) (columns : Columns) where
       by name None (Some t) is_f is_t v is_v =
           let differs : false ≡ true = sym (ap is_some is_f) ∙ same name ∙ ap is_some is_t in
           cc
+
+  -- a row that gets or loses a column is another
+  pub other_set : SuitsTable from columns → (name : List ℕ) → is_some (column_of_row from name) ≡ not (is_some (column_of_row to name)) → columns ≡ carried_columns from to columns → ⊥
+  other_set suits name differ same = by (column_of_row from name) (column_of_row to name) (get columns name) differ (suits name) (ap (λ c. get c name) same ∙ get-carried_columns name)
+    where
+      by : (f t : Option Column) (v : Option Datum) → is_some f ≡ not (is_some t) → suits_column f v ≡ true → v ≡ option_map (λ column. carried_value from columns (name, column)) t → ⊥
+      by (Some f) (Some t) v d s is = cc
+      by None None v d s is = cc
+      by (Some f) None (Some v) d s is = cc
+      by (Some f) None None d s is = cc
+      by None (Some t) (Some v) d s is = cc
+      by None (Some t) None d s is = cc
 
 -- ---- rows
 
@@ -152,3 +173,16 @@ module _ (old new : Schema) (version : Uuid) (before : Database) where
   carried_common key row from to name has is_old is_new suits in_from in_to =
       ap (option_and_then (λ r. get r.columns name)) (get-carried key from to is_old is_new ∙ ap (option_map (λ r. row_now before version key (carried_columns from to r.columns))) has)
       ∙ common_value from to row.columns suits name in_from in_to
+
+  -- a row of a table with another column gets the version of the conversion
+  pub carried_anew : (key : LineKey) (row : Row) (from to : Table) (name : List ℕ) → get before key ≡ Some row → get old.tables key.0 ≡ Some from → get new.tables key.0 ≡ Some to
+      → SuitsTable from row.columns → is_some (column_of_row from name) ≡ not (is_some (column_of_row to name))
+      → option_map (λ r. r.version) (get (carried old new version before) key) ≡ Some version
+  carried_anew key row from to name has is_old is_new suits differ =
+      ap (option_map (λ r. r.version)) (get-carried key from to is_old is_new ∙ ap (option_map (λ r. row_now before version key (carried_columns from to r.columns))) has)
+      ∙ ap (λ o. Some (version_over o version (carried_columns from to row.columns))) has
+      ∙ ap (λ b. Some (cond b row.version version)) (others (same_columns (entries row.columns) (entries (carried_columns from to row.columns))) refl)
+    where
+      others : (b : Bool) → same_columns (entries row.columns) (entries (carried_columns from to row.columns)) ≡ b → b ≡ false
+      others true same = absurd (other_set from to row.columns suits name differ (columns-is row.columns (carried_columns from to row.columns) same))
+      others false same = refl

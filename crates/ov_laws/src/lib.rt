@@ -3,7 +3,7 @@
 
 ghost use Rattle.std.specs.FinMap.{get};
 ghost use Rattle.std.specs.List.{list_all};
-ghost use Rattle.std.specs.Prelude.{◌≡◌, ◌≢◌, ◌⊎◌, ◌↔◌, ◌++◌, ◌+◌, ◌-◌, ◌*◌, ◌<◌, ◌≤◌, ℕ, nat_le, List, [], ◌∷◌, Option, Some, None, is_some, option_and_then, not, true, false, length, Ok};
+ghost use Rattle.std.specs.Prelude.{◌≡◌, ◌≢◌, ◌⊎◌, ◌↔◌, ◌++◌, ◌+◌, ◌-◌, ◌*◌, ◌<◌, ◌≤◌, ℕ, nat_le, List, [], ◌∷◌, Option, Some, None, is_some, option_map, option_and_then, not, true, false, length, Ok};
 ghost use Rattle.serde_json.specs.Data.{Data, Items};
 ghost use Rattle.ov_specs.specs.wire.Cut.{Cut, cut, cut_from, IsCut, continue_cut, with_messages, max_message};
 ghost use Rattle.ov_specs.specs.wire.Message.{asked};
@@ -244,8 +244,9 @@ pub fn a_change_is_kept_before_its_reply()
 {}
 
 /// A conversion to a newer schema keeps the values of the columns that both schemas have, in each row of a table that both
-/// have. A row whose table has the same columns in both stays as it is, with its version. Rows of tables that the newer schema
-/// lacks are dropped. This is so before the rules of a commit are applied.
+/// have. A row whose table has the same columns in both stays as it is, with its version; if the table gets or loses a column, the
+/// row gets the version of the conversion. Rows of tables that the newer schema lacks are dropped. This is so before the rules of
+/// a commit are applied.
 pub fn a_conversion_keeps_what_both_schemas_have()
     ensures common { (old new : Schema) (version : Uuid) (before : Database) (key : LineKey) (row : Row) (from to : Table) (name : List ℕ)
         → get before key ≡ Some row → get old.tables key.0 ≡ Some from → get new.tables key.0 ≡ Some to → SuitsTable from row.columns
@@ -255,6 +256,10 @@ pub fn a_conversion_keeps_what_both_schemas_have()
         → get before key ≡ Some row → get old.tables key.0 ≡ Some from → get new.tables key.0 ≡ Some to → SuitsTable from row.columns
         → ((name : List ℕ) → is_some (column_of_row from name) ≡ is_some (column_of_row to name))
         → get (carried old new version before) key ≡ Some row }
+    ensures changed { (old new : Schema) (version : Uuid) (before : Database) (key : LineKey) (row : Row) (from to : Table) (name : List ℕ)
+        → get before key ≡ Some row → get old.tables key.0 ≡ Some from → get new.tables key.0 ≡ Some to → SuitsTable from row.columns
+        → is_some (column_of_row from name) ≡ not (is_some (column_of_row to name))
+        → option_map (λ r. r.version) (get (carried old new version before) key) ≡ Some version }
     ensures dropped { (old new : Schema) (version : Uuid) (before : Database) (key : LineKey) → get new.tables key.0 ≡ None
         → get (carried old new version before) key ≡ None }
 {}
