@@ -244,9 +244,9 @@ pub fn a_change_is_kept_before_its_reply()
 {}
 
 /// A conversion to a newer schema keeps the values of the columns that both schemas have, in each row of a table that both
-/// have. A row whose table has the same columns in both stays as it is, with its version; if the table gets or loses a column, the
-/// row gets the version of the conversion. Rows of tables that the newer schema lacks are dropped. This is so before the rules of
-/// a commit are applied.
+/// have. A row whose table has the same columns in both stays as it is, with its version; if the table gets or loses a
+/// column, the row gets the version of the conversion. Rows of tables that the newer schema lacks are dropped. This is so
+/// before the rules of a commit are applied.
 pub fn a_conversion_keeps_what_both_schemas_have()
     ensures common { (old new : Schema) (version : Uuid) (before : Database) (key : LineKey) (row : Row) (from to : Table) (name : List ℕ)
         → get before key ≡ Some row → get old.tables key.0 ≡ Some from → get new.tables key.0 ≡ Some to → SuitsTable from row.columns
