@@ -213,7 +213,8 @@ fn a_name_is_read_as_the_row_that_has_it(rt: HostRuntime) -> Result<(), Fail> {
 }
 
 /// Identifiers, as a text alone and in an array, and trees that are none.
-const ALONE: &str = r#""00000000-0000-4000-9000-0000000000ab" -> 00000000-0000-4000-9000-0000000000ab
+const ALONE: &str =
+    r#""00000000-0000-4000-9000-0000000000ab" -> 00000000-0000-4000-9000-0000000000ab
 "00000000-0000-4000-9000-0000000000AB" -> 00000000-0000-4000-9000-0000000000ab
 ["uuid","00000000-0000-4000-9000-0000000000AB"] -> 00000000-0000-4000-9000-0000000000ab
 ["named-uuid","a"] -> none
