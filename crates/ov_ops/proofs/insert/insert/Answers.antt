@@ -8,7 +8,7 @@ use Rattle.ov_specs.specs.operations.Errors.{OpError, SyntaxError}
 use Rattle.ov_specs.specs.operations.Insert.{uuid_fault, name_fault, new_row, put_new}
 use Rattle.ov_specs.specs.operations.NamedUuids.{id_at}
 use Rattle.ov_specs.specs.operations.Members.{object_at}
-use Rattle.ov_specs.specs.operations.OpOutcome.{OpContext, OpOutcome, Fault, names_in, some_or_fault, ok_or_fault, unless_fault}
+use Rattle.ov_specs.specs.operations.OpOutcome.{OpContext, OpOutcome, names_in, some_or_fault, ok_or_fault, unless_fault}
 use Rattle.ov_specs.specs.rows.Database.{Database, Columns}
 use Rattle.ov_specs.specs.schema.SchemaTypes.{Table}
 use Rattle.ov_specs.specs.wire.Message.{has_member}
@@ -63,8 +63,8 @@ returns-in-Some-clause-done g c =
     let faulty : uuid_fault (find.get (codes "uuid") d) ≡ Some (error_view c.in-Some.error) = ap uuid_fault given ∙ sym c.uuid_fault.ensures ∙ ap (option_map error_view) c.in-Some.is in
     to_uuid t c.args.place c.args.stage.now.now d c.in_ok-name.name.now c.in_ok-name.table.now _ (c.in_ok-name.ensures before (from_table t c.args.place c.args.stage.now.now d)) _ faulty
 
-pub returns-in-Some-2-clause-done : goal.returns-in-Some-2-clause-done
-returns-in-Some-2-clause-done g c =
+pub returns-in-Some-name_fault-clause-done : goal.returns-in-Some-name_fault-clause-done
+returns-in-Some-name_fault-clause-done g c =
     let before = c.args.stage.now.before in
     let t = context_of g.O.Owns.owned c.args.ctx.now before in
     let place = c.args.place in
@@ -72,7 +72,7 @@ returns-in-Some-2-clause-done g c =
     let given : find.get (codes "uuid") d ≡ option_map view (option_copied c.get-chosen.result) = search rules in
     let chosen : uuid_fault (find.get (codes "uuid") d) ≡ None = ap uuid_fault given ∙ sym c.uuid_fault.ensures ∙ ap (option_map error_view) c.in_default.is in
     let got : find.get (codes "uuid-name") d ≡ option_map view (option_copied c.get.result) = search rules in
-    let faulty : name_fault t place (find.get (codes "uuid-name") d) ≡ Some (error_view c.in-Some-2.error) = ap (name_fault t place) got ∙ sym (c.name_fault.ensures t refl) ∙ ap (option_map error_view) c.in-Some-2.is in
+    let faulty : name_fault t place (find.get (codes "uuid-name") d) ≡ Some (error_view c.in-Some-name_fault.error) = ap (name_fault t place) got ∙ sym (c.name_fault.ensures t refl) ∙ ap (option_map error_view) c.in-Some-name_fault.is in
     to_name t place c.args.stage.now.now d c.in_ok-name.name.now c.in_ok-name.table.now _ (c.in_ok-name.ensures before (from_table t place c.args.stage.now.now d)) chosen _ faulty
 
 pub returns-in_err-columns-clause-done : goal.returns-in_err-columns-clause-done
@@ -88,7 +88,7 @@ returns-in_err-columns-clause-done g c =
     let given : find.get (codes "uuid") d ≡ option_map view (option_copied c.get-chosen.result) = search rules in
     let chosen : uuid_fault (find.get (codes "uuid") d) ≡ None = ap uuid_fault given ∙ sym c.uuid_fault.ensures ∙ ap (option_map error_view) c.in_default.is in
     let got : find.get (codes "uuid-name") d ≡ option_map view (option_copied c.get.result) = search rules in
-    let named : name_fault t place (find.get (codes "uuid-name") d) ≡ None = ap (name_fault t place) got ∙ sym (c.name_fault.ensures t refl) ∙ ap (option_map error_view) c.in_default-2.is in
+    let named : name_fault t place (find.get (codes "uuid-name") d) ≡ None = ap (name_fault t place) got ∙ sym (c.name_fault.ensures t refl) ∙ ap (option_map error_view) c.in_default-name_fault.is in
     let found : object_at (codes "row") d ≡ Some members = search rules in
     let e = to_row t place rows d name table _ (c.in_ok-name.ensures before (from_table t place rows d)) chosen named _ found in
     let p = err_from_is_err_and c.from_residual-in_err-columns.result c.from_residual-in_err-columns.ensures.1 in
@@ -108,7 +108,7 @@ returns-clause-done g c =
     let given : find.get (codes "uuid") d ≡ option_map view (option_copied c.get-chosen.result) = search rules in
     let chosen : uuid_fault (find.get (codes "uuid") d) ≡ None = ap uuid_fault given ∙ sym c.uuid_fault.ensures ∙ ap (option_map error_view) c.in_default.is in
     let got : find.get (codes "uuid-name") d ≡ option_map view (option_copied c.get.result) = search rules in
-    let named : name_fault t place (find.get (codes "uuid-name") d) ≡ None = ap (name_fault t place) got ∙ sym (c.name_fault.ensures t refl) ∙ ap (option_map error_view) c.in_default-2.is in
+    let named : name_fault t place (find.get (codes "uuid-name") d) ≡ None = ap (name_fault t place) got ∙ sym (c.name_fault.ensures t refl) ∙ ap (option_map error_view) c.in_default-name_fault.is in
     let found : object_at (codes "row") d ≡ Some members = search rules in
     let e = to_row t place rows d name table _ (c.in_ok-name.ensures before (from_table t place rows d)) chosen named _ found
     ∙ ap (λ (r : Result Columns OpError). ok_or_fault r (from_columns t place rows d name table)) c.in_ok-columns.ensures in
