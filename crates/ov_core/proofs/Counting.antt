@@ -41,8 +41,3 @@ falls_again left all all' some fewer = omega (arith, some, squares all' all fewe
 -- the number stays small
 pub number_below : (number first left all waiting : ℕ) → number + number + (left + left) + all * all ≤ first + first + (waiting + waiting * waiting) + all → first ≤ 2 → waiting ≤ 4096 → number + number ≤ 16785412
 number_below number first left all waiting few low most = omega (arith, few, low, most, square all, mul-le waiting waiting 4096 4096 most most)
-
--- the number of tries made
-pub tries_within : (number first all waiting tries before : ℕ) → number + number + (0 + 0) + all * all ≤ first + first + (waiting + waiting * waiting) + all → tries + first ≡ before + number
-    → tries + tries ≤ before + before + waiting * (waiting + 1)
-tries_within number first all waiting tries before few same = omega (arith, few, same, square all)

@@ -7,6 +7,7 @@ pub mod Prepared
 pub mod Workings
 pub mod Asking
 pub mod Counting
+pub mod Trying
 pub mod Settlings
 pub mod Takings
 pub mod FewWaiting

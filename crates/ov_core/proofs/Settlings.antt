@@ -9,6 +9,7 @@ use Rattle.ov_specs.specs.machine.History.{frames_to}
 use Rattle.ov_specs.specs.machine.Machine as machine
 use Rattle.ov_specs.specs.machine.Machine.{State, Sent, Outstanding, tries_again, told}
 use Rattle.ov_specs.specs.operations.Transaction.{TransactionOutcome, Waits, transaction}
+use Rattle.ov_specs.proofs.laws.Settling.{settle_counts}
 use Rattle.ov_specs.proofs.laws.SettlingOn.{Reaches, made_by, reaches_first, reaches_skip, reaches_next, reaches_again, reaches_last}
 use Rattle.ov_db.specs.KeptDatabase.{KeptDatabase}
 use Rattle.ov_outbox.specs.Frames.{waiting_for, PostsSent, HasSameFrames}
@@ -27,10 +28,10 @@ use Rattle.ov_history.specs.Entries.{attempt_view, listed_by, is_closing, is_kep
 use Rattle.ov_core.specs.Handling.{AsksStore, AsksAll, IsCompleted, IsTrial, listed_of, with_db}
 use Rattle.ov_core.specs.Sessions.{ClosesSession}
 use Rattle.ov_core.specs.States.{state_of, sessions_of}
-use Rattle.ov_core.specs.Settling.{IsSettling, Settles, AfterTry, tried_again, to_do, most_tries}
+use Rattle.ov_core.specs.Settling.{IsSettling, Settles, AfterTry, tried_again, to_do}
 use Rattle.ov_outbox.proofs.Answered.{posts_then}
 use Rattle.ov_core.proofs.Asking.{asks_none, asks_one, asks_then}
-use Rattle.ov_core.proofs.Counting.{few_dropped, few_blocked, few_done, few_again, falls_dropped, falls_again, tries_within}
+use Rattle.ov_core.proofs.Counting.{few_dropped, few_blocked, few_done, few_again, falls_dropped, falls_again}
 use Rattle.ov_core.proofs.Watching.{any-serial, filter-same, sessions-without}
 use Rattle.ov_core.proofs.Workings.{posts_none}
 
@@ -279,16 +280,13 @@ ended failed m first old before new listed number x none = record {
   lists = x.lists;
   sent = x.sent;
   next = number;
-  settles = reaches_last (state_of old m) first x.made (state_of new m) x.sent number (subst (λ (ws : List Outstanding). Reaches (state_of old m) first x.made (state_of new m) x.sent number ws) none x.reaches);
+  settles = settled;
   posts = x.posts;
   asks = x.asks;
   left = x.left;
-  tries = half;
+  tries = omega (arith, x.tries, (settle_counts (state_of old m) first x.made _ settled).up);
   untried = none;
 }
   where
-    few : number + number + (0 + 0) + many new.waiting * many new.waiting ≤ first + first + (length old.waiting.outstanding + length old.waiting.outstanding * length old.waiting.outstanding) + many new.waiting
-    few = omega (arith, x.few, ap (λ (ws : List Outstanding). length ws) none)
-
-    half : new.tries ≤ old.tries + most_tries (length old.waiting.outstanding)
-    half = omega (arith, tries_within number first (many new.waiting) (length old.waiting.outstanding) new.tries old.tries few x.tries)
+    settled : machine.settle (state_of old m) first x.made ≡ Some (record { tried = record { stepped = record { state = state_of new m; sent = x.sent }; others = [] }; next = number; has_changed = false })
+    settled = reaches_last (state_of old m) first x.made (state_of new m) x.sent number (subst (λ (ws : List Outstanding). Reaches (state_of old m) first x.made (state_of new m) x.sent number ws) none x.reaches)

@@ -1,5 +1,5 @@
 -- One step of the machine, and of the core.
-use Rattle.std.proofs.Common.{◌≡◌, ℕ, ◌+◌, ◌≤◌, List, [], ◌∷◌, ◌++◌, map, refl, sym, ap, ◌∙◌, cond, Bool, true, false, Option, Some, None, append_assoc, leb, inl, arith}
+use Rattle.std.proofs.Common.{◌≡◌, ℕ, ◌≤◌, List, [], ◌∷◌, ◌++◌, map, refl, sym, ap, ◌∙◌, cond, Bool, true, false, Option, Some, None, append_assoc, leb, inl, inr, arith}
 use Rattle.std.specs.Prelude.{is_some}
 use Rattle.std.specs.List.{list_all}
 use Rattle.std.proofs.lemmas.List.{append-nil}
@@ -27,6 +27,7 @@ use Rattle.ov_core.specs.declared.live.Live.{Live}
 use Rattle.ov_history.specs.Entries.{attempt_view, entry_view, is_failure}
 use Rattle.ov_core.specs.Sessions.{ClosesSession, OpensLive}
 use Rattle.ov_core.specs.States.{state_of}
+use Rattle.ov_core.proofs.Trying.{counts_few}
 use Rattle.ov_core.specs.Settling.{ComesTo}
 use Rattle.ov_core.specs.Following.{CoreState, EntersEntry, Follows, none_given}
 use Rattle.ov_history.specs.History.{newest, HasHistory}
@@ -171,6 +172,7 @@ took failed draws n message old new before m drawn attempts was is x source afte
   moves = enters failed (machine.Take n message) old new before m drawn attempts comes was is x source after low added same;
   asks = asks_entered failed (machine.Take n message) old new before m drawn attempts comes was is source after;
   tries = comes.tries;
+  few = counts_few (state_of old m) (record { moment = m; draws = drawn; outcomes = map attempt_view attempts }) (machine.Take n message) old.tries new.tries comes.tries;
 }
 took failed draws n message old new before m drawn attempts was is x source after false comes low added same from uuids away = record {
   entry = entered failed (machine.Take n message) old new before m drawn attempts comes;
@@ -182,6 +184,7 @@ took failed draws n message old new before m drawn attempts was is x source afte
   moves = enters failed (machine.Take n message) old new before m drawn attempts comes was is x source after low added same;
   asks = asks_entered failed (machine.Take n message) old new before m drawn attempts comes was is source after;
   tries = comes.tries;
+  few = counts_few (state_of old m) (record { moment = m; draws = drawn; outcomes = map attempt_view attempts }) (machine.Take n message) old.tries new.tries comes.tries;
 }
 
 -- a Tick
@@ -198,6 +201,7 @@ ticked failed draws old new before m attempts was is x source comes low added sa
   moves = enters failed machine.Tick old new before m [] attempts comes was is x source source low added same;
   asks = asks_entered failed machine.Tick old new before m [] attempts comes was is source source;
   tries = comes.tries;
+  few = counts_few (state_of old m) (record { moment = m; draws = []; outcomes = map attempt_view attempts }) machine.Tick old.tries new.tries comes.tries;
 }
 
 -- ---- what the keeper was asked
@@ -225,7 +229,22 @@ asks_closing m n cause old new c = asks_nothing old new (closing m n cause) refl
 
 -- a Close as it was asked for
 pub closed_as_asked : {K D : Type 0} (draws : D → Uuid → D → Type 0) (at s : ℕ) (cause : machine.Cause) (old new : CoreState K D) → Closes at s cause old new → IsEntered draws at (machine.Close s cause) old answer.Done new
-closed_as_asked draws at s cause old new c = record { entry = closing at s cause; tells = refl; keys = c.keys; moment = refl; drawn = c.drawn; uuids = refl; moves = c.moves; asks = asks_closing at s cause old new c; tries = omega (arith, c.tries) }
+closed_as_asked draws at s cause old new c = record { entry = closing at s cause; tells = refl; keys = c.keys; moment = refl; drawn = c.drawn; uuids = refl; moves = c.moves; asks = asks_closing at s cause old new c; tries = omega (arith, c.tries); few = omega (arith, c.tries) }
+
+-- a Take, if the list of its attempts cannot be allocated
+pub closed_for_memory : {K D : Type 0} (draws : D → Uuid → D → Type 0) (at s : ℕ) (message : Message) (old new : CoreState K D) → Closes at s machine.Memory old new → IsEntered draws at (machine.Take s message) old answer.Closed new
+closed_for_memory draws at s message old new c = record {
+  entry = closing at s machine.Memory;
+  tells = (inr refl, c.shut);
+  keys = c.keys;
+  moment = refl;
+  drawn = c.drawn;
+  uuids = refl;
+  moves = c.moves;
+  asks = asks_closing at s machine.Memory old new c;
+  tries = omega (arith, c.tries);
+  few = omega (arith, c.tries);
+}
 
 -- ---- before any entry
 

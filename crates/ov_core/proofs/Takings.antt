@@ -10,7 +10,8 @@ use Rattle.ov_specs.specs.wire.Message.{Message}
 use Rattle.ov_specs.proofs.laws.Happening.{take_done, take_settled, tick_settled}
 use Rattle.ov_outbox.specs.Frames.{waiting_for}
 use Rattle.ov_sessions.specs.Sessions.{without_serial}
-use Rattle.ov_requests.specs.Waiting.{WaitingList}
+use Rattle.ov_laws.specs.Attempts.{own_attempts}
+use Rattle.ov_laws.proofs.Few.{settling_makes, unkept_settles_none, kept_settles}
 use Rattle.ov_watch.specs.Watching.{monitors_at}
 use Rattle.ov_sessions.proofs.Keying.{still_all, still_others, left_then}
 use Rattle.ov_history.specs.declared.event.Attempt.{Attempt}
@@ -20,7 +21,8 @@ use Rattle.ov_core.specs.declared.live.Live.{Live}
 use Rattle.ov_history.specs.Entries.{attempt_view, listed_by, is_kept, is_closing}
 use Rattle.ov_core.specs.Handling.{AsksStore, Stays, WorkIsDone, WorksWith, listed_of}
 use Rattle.ov_core.specs.Sessions.{ClosesSession}
-use Rattle.ov_core.specs.Settling.{ComesTo, Settles, most_tries}
+use Rattle.ov_core.specs.Counting.{RisesBy, CountsTries}
+use Rattle.ov_core.specs.Settling.{ComesTo, Settles}
 use Rattle.ov_core.specs.States.{state_of}
 use Rattle.ov_outbox.proofs.Answered.{posts_then}
 use Rattle.ov_core.proofs.Asking.{asks_one, asks_then}
@@ -95,9 +97,17 @@ module _ {K : Type 0} (failed : K → ℕ) (m n : ℕ) (message : Message) (draw
   abbrev choice : List Attempt → machine.Choice
   choice attempts = record { moment = m; draws = draws; outcomes = map attempt_view attempts }
 
+  -- the attempts that are counted, if nothing was kept
+  counted : (o : Option Outcome) → is_kept o ≡ false → RisesBy (listed_of o) (own_attempts work) old.tries mid.tries → CountsTries (state_of old m) (choice (listed_by 1 o)) (machine.Take n message) old.tries mid.tries
+  counted None same rises = omega (arith, rises, unkept_settles_none (state_of old m) (choice (listed_by 1 None)) n message refl)
+  counted (Some outcome.NoMemory) same rises = (rises.0, omega (arith, rises.1))
+  counted (Some outcome.Committed) same rises = cc
+  counted (Some outcome.Exhausted) same rises = omega (arith, rises, unkept_settles_none (state_of old m) (choice (listed_by 1 (Some outcome.Exhausted))) n message refl)
+  counted (Some outcome.Failed) same rises = omega (arith, rises, unkept_settles_none (state_of old m) (choice (listed_by 1 (Some outcome.Failed))) n message refl)
+
   -- an allocation failed, and the session is closed
   pub take_closes : (o : Option Outcome) (new : Live K) (attempts : List Attempt) → is_closing o ≡ true → attempts ≡ listed_by 1 o → ClosesSession n mid new → WorksWith m n work draws old o mid
-      → AsksStore failed o old.database mid.database → failed old.database.keeper ≤ failed mid.database.keeper → mid.tries ≤ old.tries + 1 → ComesTo failed m (machine.Take n message) old draws attempts new
+      → AsksStore failed o old.database mid.database → failed old.database.keeper ≤ failed mid.database.keeper → RisesBy (listed_of o) (own_attempts work) old.tries mid.tries → ComesTo failed m (machine.Take n message) old draws attempts new
   take_closes o new attempts closing listed closes done asks counts tries =
       let no_memory = closing_is o closing in
       let (few, stays) = rw no_memory at done in
@@ -111,13 +121,13 @@ module _ {K : Type 0} (failed : K → ℕ) (m n : ℕ) (message : Message) (draw
         posts = c.posts;
         asks = rw database (asks_one failed 1 (Some outcome.NoMemory) old.database mid.database (rw no_memory at asks) counts);
         left = rw c.same (still_others n old.sessions.open_sessions);
-        tries = omega (arith, tries, ap (λ (l : Live K). l.tries) closes.same);
+        tries = subst (λ (count : ℕ). CountsTries (state_of old m) (choice (listed_by 1 (Some outcome.NoMemory))) (machine.Take n message) old.tries count) (sym (ap (λ (l : Live K). l.tries) closes.same)) (counted (Some outcome.NoMemory) refl (rw no_memory at tries));
         untried = ap (λ (l : Live K). l.waiting.untried) c.same ∙ resting;
       })
 
   -- it was done, and nothing was kept
   pub take_ends : (o : Option Outcome) (attempts : List Attempt) → is_closing o ≡ false → is_kept o ≡ false → attempts ≡ listed_by 1 o → WorksWith m n work draws old o mid
-      → AsksStore failed o old.database mid.database → failed old.database.keeper ≤ failed mid.database.keeper → mid.tries ≤ old.tries + 1 → ComesTo failed m (machine.Take n message) old draws attempts mid
+      → AsksStore failed o old.database mid.database → failed old.database.keeper ≤ failed mid.database.keeper → RisesBy (listed_of o) (own_attempts work) old.tries mid.tries → ComesTo failed m (machine.Take n message) old draws attempts mid
   take_ends o attempts open' same listed did asks counts tries =
       let done = done_where m n work draws old o mid open' did in
       rw listed (record {
@@ -126,21 +136,23 @@ module _ {K : Type 0} (failed : K → ℕ) (m n : ℕ) (message : Message) (draw
         posts = done.posts;
         asks = asks_one failed 1 o old.database mid.database asks counts;
         left = rw done.sessions (still_all old.sessions.open_sessions);
-        tries = omega (arith, tries);
+        tries = counted o same tries;
         untried = done.untried ∙ resting;
       })
 
   -- it was kept, and the waiting transactions were settled
   pub take_settles : (o : Option Outcome) (new : Live K) (before attempts : List Attempt) → is_closing o ≡ false → is_kept o ≡ true → before ≡ listed_by 1 o → WorksWith m n work draws old o mid
-      → AsksStore failed o old.database mid.database → failed old.database.keeper ≤ failed mid.database.keeper → mid.tries ≤ old.tries + 1
+      → AsksStore failed o old.database mid.database → failed old.database.keeper ≤ failed mid.database.keeper → RisesBy (listed_of o) (own_attempts work) old.tries mid.tries
       → Settles failed m 2 mid before new attempts → ComesTo failed m (machine.Take n message) old draws attempts new
   take_settles o new before attempts open' kept listed did asks counts tries s =
       let is = kept_is o kept in
       let done = done_where m n work draws old o mid open' did in
       let all : map attempt_view attempts ≡ map attempt_view (listed_by 1 (Some outcome.Committed)) ++ s.made = s.lists ∙ ap (λ (list : List Attempt). map attempt_view list ++ s.made) (listed ∙ ap (listed_by 1) is) in
-      let waits : mid.waiting ≡ old.waiting = done.kept kept in
       let worked : works (state_of old m) n draws (Some machine.Committed) work ≡ Some (record { state = state_of mid m; sent = done.sent }) = subst (λ (v : Option Outcome). works (state_of old m) n draws (listed_of v) work ≡ Some (record { state = state_of mid m; sent = done.sent })) is done.works in
       let asked = rw is at asks in
+      let rises : mid.tries ≡ old.tries + own_attempts work = rw is at tries in
+      let after = kept_settles (state_of old m) (record { moment = m; draws = draws; outcomes = map attempt_view (listed_by 1 (Some outcome.Committed)) ++ s.made }) n message (record { state = state_of mid m; sent = done.sent })
+      (record { tried = record { stepped = record { state = state_of new m; sent = s.sent }; others = [] }; next = s.next; has_changed = false }) refl worked s.settles in
       record {
         sent = done.sent ++ s.sent;
         happens = ap (λ (list : List machine.Attempt). machine.happens (state_of old m) (record { moment = m; draws = draws; outcomes = list }) (machine.Take n message)) all
@@ -149,7 +161,7 @@ module _ {K : Type 0} (failed : K → ℕ) (m n : ℕ) (message : Message) (draw
         posts = posts_then done.sent s.sent old.outbox.frames mid.outbox.frames new.outbox.frames done.posts s.posts;
         asks = rw all (asks_then failed (map attempt_view (listed_by 1 (Some outcome.Committed))) s.made old.database mid.database new.database (asks_one failed 1 (Some outcome.Committed) old.database mid.database asked counts) s.asks);
         left = left_then old.sessions.open_sessions mid.sessions.open_sessions new.sessions.open_sessions (rw done.sessions (still_all old.sessions.open_sessions)) s.left;
-        tries = omega (arith, tries, s.tries, ap (λ (w : WaitingList). most_tries (length w.outstanding)) waits);
+        tries = subst (λ (list : List machine.Attempt). CountsTries (state_of old m) (record { moment = m; draws = draws; outcomes = list }) (machine.Take n message) old.tries new.tries) (sym all) (omega (arith, rises, s.tries, after));
         untried = s.untried;
       }
 
@@ -164,6 +176,7 @@ tick_settles failed m old new before attempts none s =
       posts = s.posts;
       asks = rw all s.asks;
       left = s.left;
-      tries = omega (arith, s.tries);
+      tries = subst (λ (list : List machine.Attempt). CountsTries (state_of old m) (record { moment = m; draws = []; outcomes = list }) machine.Tick old.tries new.tries) (sym all)
+          (omega (arith, s.tries, settling_makes (state_of old m) 1 s.made (record { tried = record { stepped = record { state = state_of new m; sent = s.sent }; others = [] }; next = s.next; has_changed = false }) s.settles));
       untried = s.untried;
     }

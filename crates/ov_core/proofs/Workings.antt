@@ -6,7 +6,7 @@ use Rattle.std.proofs.lemmas.Bool.{eq-eqb}
 use Rattle.serde_json.specs.Data.{Data, Items}
 use Rattle.serde_json.specs.Written.{compact_text}
 use Rattle.ov_specs.specs.locks.Queues.{LockCall, owns, call_refusal, after_call, call_result, told_of_call}
-use Rattle.ov_specs.specs.monitors.Monitors.{Monitor, canceled}
+use Rattle.ov_specs.specs.monitors.Monitors.{Monitor}
 use Rattle.ov_specs.specs.rows.Database.{Database, same_database}
 use Rattle.ov_specs.specs.wire.Frame.{frame, reply_tree, failure_tree}
 use Rattle.ov_specs.specs.rows.Lines.{Contents}

@@ -1,5 +1,6 @@
 pub mod States
 pub mod Sessions
+pub mod Counting
 pub mod Handling
 pub mod Settling
 pub mod Preparing

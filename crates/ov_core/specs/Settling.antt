@@ -1,5 +1,5 @@
 -- Settling, try by try, and the result of an event with it.
-use Rattle.std.specs.Prelude.{◌≡◌, ℕ, ◌+◌, ◌*◌, ◌/◌, ◌≤◌, ◌++◌, List, [], map, length, false, Option, Some, None}
+use Rattle.std.specs.Prelude.{◌≡◌, ℕ, ◌+◌, ◌-◌, ◌*◌, ◌≤◌, ◌++◌, List, [], map, length, false, Option, Some, None}
 use Rattle.std.specs.List.{filter}
 use Rattle.ov_specs.specs.machine.Machine as machine
 use Rattle.ov_specs.specs.machine.Machine.{Sent, settle}
@@ -9,6 +9,7 @@ use Rattle.ov_outbox.specs.Frames.{PostsSent}
 use Rattle.ov_sessions.specs.Sessions.{IsLeft, has_serial}
 use Rattle.ov_requests.specs.Waiting.{WaitingList, many}
 use Rattle.ov_history.specs.Entries.{attempt_view}
+use Rattle.ov_core.specs.Counting.{CountsTries}
 use Rattle.ov_core.specs.Handling.{AsksAll}
 use Rattle.ov_core.specs.Sessions.{ClosesSession}
 use Rattle.ov_core.specs.States.{state_of}
@@ -53,10 +54,6 @@ pub record IsSettling {K : Type 0} (failed : K → ℕ) (moment first : ℕ) (fr
   pub few : number + number + (length now.waiting.untried + length now.waiting.untried) + many now.waiting * many now.waiting
       ≤ first + first + (length from.waiting.outstanding + length from.waiting.outstanding * length from.waiting.outstanding) + many now.waiting
 
--- the most tries that settling takes, by how many transactions wait
-abbrev pub most_tries : ℕ → ℕ
-most_tries waiting = waiting * (waiting + 1) / 2
-
 -- The waiting transactions are settled, beginning with attempt number `first`.
 pub record Settles {K : Type 0} (failed : K → ℕ) (moment first : ℕ) (old : Live K) (before : List Attempt) (new : Live K) (listed : List Attempt) : Type 0 where
   pub made : List machine.Attempt
@@ -67,7 +64,8 @@ pub record Settles {K : Type 0} (failed : K → ℕ) (moment first : ℕ) (old :
   pub posts : PostsSent sent old.outbox.frames new.outbox.frames
   pub asks : AsksAll failed made old.database new.database
   pub left : IsLeft old.sessions.open_sessions new.sessions.open_sessions
-  pub tries : new.tries ≤ old.tries + most_tries (length old.waiting.outstanding)
+  -- each try is counted
+  pub tries : new.tries ≡ old.tries + (next - first)
   pub untried : new.waiting.untried ≡ []
 
 -- The result of an event at the moment, with these identifiers drawn and these attempts listed.
@@ -77,5 +75,5 @@ pub record ComesTo {K : Type 0} (failed : K → ℕ) (moment : ℕ) (event : mac
   pub posts : PostsSent sent old.outbox.frames new.outbox.frames
   pub asks : AsksAll failed (map attempt_view attempts) old.database new.database
   pub left : IsLeft old.sessions.open_sessions new.sessions.open_sessions
-  pub tries : new.tries ≤ old.tries + 1 + most_tries (length old.waiting.outstanding)
+  pub tries : CountsTries (state_of old moment) (record { moment = moment; draws = draws; outcomes = map attempt_view attempts }) event old.tries new.tries
   pub untried : new.waiting.untried ≡ []

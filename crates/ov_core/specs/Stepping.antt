@@ -15,7 +15,9 @@ use Rattle.ov_sessions.specs.Sessions.{most_sessions, has_no_room, IsFreeKey}
 use Rattle.ov_core.specs.States.{still_open}
 use Rattle.ov_core.specs.Following.{CoreState, EntersEntry}
 use Rattle.ov_outbox.specs.Frames.{waiting_for, has_queue}
-use Rattle.ov_core.specs.Settling.{most_tries}
+use Rattle.ov_core.specs.Counting.{CountsTries}
+use Rattle.ov_laws.specs.Attempts.{most_attempts}
+use Rattle.ov_laws.specs.Databases.{at_moment_of}
 
 -- no place is left for a session, or no serial
 abbrev pub is_full : State → Bool
@@ -63,8 +65,9 @@ pub record IsEntered {K D : Type 0} (draws : D → Uuid → D → Type 0) (at : 
   pub uuids : draws_uuids entry ≡ true
   pub moves : EntersEntry old entry new
   pub asks : AsksKeeper old entry new
-  -- at most one attempt of its own, and those that settle the transactions that waited
-  pub tries : new.tries ≤ old.tries + 1 + most_tries (length old.state.outstanding)
+  -- each attempt is counted, and there are few
+  pub tries : CountsTries (at_moment_of entry old.state) entry.choice entry.event old.tries new.tries
+  pub few : new.tries ≤ old.tries + most_attempts entry.event (length old.state.outstanding)
 
 -- When a fault is answered. A `Tick` is refused for memory only if transactions wait.
 abbrev pub RefusesStep : machine.Event → State → StepFault → Type 0

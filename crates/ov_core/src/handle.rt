@@ -9,7 +9,9 @@ ghost use Rattle.ov_requests.specs.Asked.{IsWork, IsWithoutDraws};
 ghost use Rattle.ov_requests.specs.Drawing.{DrawsFrom};
 ghost use Rattle.ov_requests.specs.Waiting.{many, most_outstanding};
 ghost use Rattle.ov_sessions.specs.Sessions.{has_serial};
-ghost use Rattle.ov_core.specs.Handling.{AsksStore, HasRoomToWait, Works, WorksWith, HasSameRest, WaitsIfRoom, CancelsIfRoom};
+ghost use Rattle.ov_laws.specs.Attempts.{own_attempts};
+ghost use Rattle.ov_core.specs.Counting.{RisesBy};
+ghost use Rattle.ov_core.specs.Handling.{AsksStore, HasRoomToWait, Works, WorksWith, HasSameRest, WaitsIfRoom, CancelsIfRoom, listed_of};
 ghost use Rattle.ov_core.specs.Settling.{ComesTo};
 ghost use Rattle.ov_core.specs.States.{state_of};
 
@@ -113,7 +115,7 @@ impl<K: Keeper + Drop> Live<K> {
         ensures honest { K.is_honest self.new.database.keeper → K.is_honest self.old.database.keeper }
         ensures drawn { DrawsFrom D.draws source.old result.draws.items source.new }
         ensures uuids { list_all is_uuid result.draws.items ≡ true }
-        ensures tries { self.new.tries ≤ self.old.tries + 1 }
+        ensures tries { (message : Message) → StandsFor incoming message → RisesBy (listed_of result.outcome) (own_attempts (spec.work_of (state_of self.old moment) session message)) self.old.tries self.new.tries }
     {
         let schema = self.database.schema();
         let Ok(work) = work_of(alloc, schema, &self.waiting, session, incoming) else {
@@ -163,7 +165,7 @@ impl<K: Keeper + Drop> Live<K> {
         ensures honest { K.is_honest self.new.database.keeper → K.is_honest self.old.database.keeper }
         ensures drawn { DrawsFrom D.draws source.old result.draws.items source.new }
         ensures uuids { list_all is_uuid result.draws.items ≡ true }
-        ensures tries { self.new.tries ≤ self.old.tries + 1 }
+        ensures tries { RisesBy (listed_of result.outcome) 1 self.old.tries self.new.tries }
     {
         let Ok(txn) = Txn::read(alloc, operations, source) else {
             return out_of_memory(Vec::new(alloc));

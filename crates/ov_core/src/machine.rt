@@ -154,7 +154,8 @@ impl<K: Keeper + Drop, D: Draws + Drop> Core<K, D> {
     /// of a waiting one `duplicate request id`, and neither is tried. After an attempt that changed the database, and at a
     /// `Tick`, the waiting transactions are tried in order of arrival, from the first again after each that changed it, until
     /// a whole pass changes nothing. If an allocation for one of them fails, its session is closed. The notification `cancel`
-    /// answers the canceled one with `canceled` (4.1.4). With n waiting, a step makes at most 1 + n(n+1)/2 attempts.
+    /// answers the canceled one with `canceled` (4.1.4). With n waiting, a `Tick` makes at most n(n+1)/2 attempts, a `Take`
+    /// one more, and no other event makes any.
     ///
     /// An `Open` is refused as `TooMany` while 64 sessions are open or if no serial is left, otherwise only as `Memory`; a
     /// `Take` or a `Close` as `NotOpen` if its session is not open; a `Tick` only as `Memory`, and only while transactions

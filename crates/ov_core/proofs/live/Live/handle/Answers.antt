@@ -1,6 +1,8 @@
-use Rattle.std.proofs.Common.{refl, sym, ◌∙◌}
+use Rattle.std.proofs.Common.{refl, sym, ◌∙◌, arith}
 use Rattle.ov_specs.specs.machine.Machine as spec
 use Rattle.ov_core.specs.States.{state_of}
+use Rattle.ov_core.specs.Handling.{listed_of}
+use Rattle.ov_core.proofs.Trying.{rises_by_none, undrawn_makes_none}
 use Rattle.ov_core.proofs.Watching.{any-serial}
 use Rattle.ov_core.proofs.Workings.{nothing_drawn, rest_asks, without_draws}
 use Rattle.ov_core.proofs.live.Live.handle.Goals as goal
@@ -32,6 +34,22 @@ returns-in_default-work-clause-works g c = λ message stands.
     let s = state_of c.args.self.now c.args.moment in
     let is = c.in-Ok.ensures s message stands (sym c.schema-schema.ensures) refl in
     rw (c.without_draws.ensures.outcome, c.without_draws.ensures.none) (c.at_once.ensures.works c.args.moment (spec.work_of s c.args.session message) is)
+
+pub returns-in_default-clause-tries : goal.returns-in_default-clause-tries
+returns-in_default-clause-tries g c = λ message stands. rw c.out_of_memory.ensures (omega arith, omega arith)
+
+pub returns-in-Transact-clause-tries : goal.returns-in-Transact-clause-tries
+returns-in-Transact-clause-tries g c = λ message stands.
+    let s = state_of c.args.self.now c.args.moment in
+    let is = (rw c.in-Transact.is at c.in-Ok.ensures) s message stands (sym c.schema-schema.ensures) refl in
+    rw is c.transact.ensures.tries
+
+pub returns-in_default-work-clause-tries : goal.returns-in_default-work-clause-tries
+returns-in_default-work-clause-tries g c = λ message stands.
+    let s = state_of c.args.self.now c.args.moment in
+    let asked = spec.work_of s c.args.session message in
+    let none = undrawn_makes_none s c.args.session asked c.in-Ok.work (c.in-Ok.ensures s message stands (sym c.schema-schema.ensures) refl) (without_draws c.in-Ok.work c.in_default-work.not-Transact) in
+    rw (c.without_draws.ensures.outcome, none) (rises_by_none (listed_of c.at_once.result) c.args.self.now.tries c.at_once.new.self.tries c.at_once.ensures.rest.tries)
 
 pub returns-in_default-work-clause-asks : goal.returns-in_default-work-clause-asks
 returns-in_default-work-clause-asks g c = rw c.without_draws.ensures.outcome (rest_asks g.K.Keeper.failed c.args.self.now c.at_once.result c.at_once.new.self c.at_once.ensures.rest)

@@ -11,7 +11,7 @@ returns-then-is_closing-clause-comes_to g c = λ message stands.
     let h = c.handle-draws in
     let listed : c.list_attempt.new.attempts.items ≡ listed_by 1 h.result.outcome = c.list_attempt.ensures.items ∙ ap (λ (list : List Attempt). list ++ listed_by 1 h.result.outcome) c.requires.none in
     take_closes g.K.Keeper.failed c.args.moment c.args.session message h.result.draws.items c.args.self.now h.new.self c.requires.open c.requires.untried h.result.outcome c.close.new.self c.list_attempt.new.attempts.items
-    (sym c.is_closing.ensures ∙ c.if-is_closing.true) listed c.close.ensures (h.ensures.works message stands) h.ensures.asks h.ensures.counts h.ensures.tries
+    (sym c.is_closing.ensures ∙ c.if-is_closing.true) listed c.close.ensures (h.ensures.works message stands) h.ensures.asks h.ensures.counts (h.ensures.tries message stands)
 
 pub returns-then-not-is_kept-clause-comes_to : goal.returns-then-not-is_kept-clause-comes_to
 returns-then-not-is_kept-clause-comes_to g c = λ message stands.
@@ -19,7 +19,7 @@ returns-then-not-is_kept-clause-comes_to g c = λ message stands.
     let listed : c.list_attempt.new.attempts.items ≡ listed_by 1 h.result.outcome = c.list_attempt.ensures.items ∙ ap (λ (list : List Attempt). list ++ listed_by 1 h.result.outcome) c.requires.none in
     let same : is_kept h.result.outcome ≡ false = search rules in
     take_ends g.K.Keeper.failed c.args.moment c.args.session message h.result.draws.items c.args.self.now h.new.self c.requires.open c.requires.untried h.result.outcome c.list_attempt.new.attempts.items
-    (sym c.is_closing.ensures ∙ c.if-is_closing.false) same listed (h.ensures.works message stands) h.ensures.asks h.ensures.counts h.ensures.tries
+    (sym c.is_closing.ensures ∙ c.if-is_closing.false) same listed (h.ensures.works message stands) h.ensures.asks h.ensures.counts (h.ensures.tries message stands)
 
 pub returns-clause-comes_to : goal.returns-clause-comes_to
 returns-clause-comes_to g c = λ message stands.
@@ -27,7 +27,7 @@ returns-clause-comes_to g c = λ message stands.
     let listed : c.list_attempt.new.attempts.items ≡ listed_by 1 h.result.outcome = c.list_attempt.ensures.items ∙ ap (λ (list : List Attempt). list ++ listed_by 1 h.result.outcome) c.requires.none in
     let kept : is_kept h.result.outcome ≡ true = search rules in
     take_settles g.K.Keeper.failed c.args.moment c.args.session message h.result.draws.items c.args.self.now h.new.self c.requires.open c.requires.untried h.result.outcome c.settle.new.self c.list_attempt.new.attempts.items c.settle.new.attempts.items
-    (sym c.is_closing.ensures ∙ c.if-is_closing.false) kept listed (h.ensures.works message stands) h.ensures.asks h.ensures.counts h.ensures.tries c.settle.ensures.settles
+    (sym c.is_closing.ensures ∙ c.if-is_closing.false) kept listed (h.ensures.works message stands) h.ensures.asks h.ensures.counts (h.ensures.tries message stands) c.settle.ensures.settles
 
 pub settle-requires : goal.settle-requires
 settle-requires g c =

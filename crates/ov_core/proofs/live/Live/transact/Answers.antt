@@ -1,12 +1,13 @@
-use Rattle.std.proofs.Common.{subst}
+use Rattle.std.proofs.Common.{subst, ◌∙◌, arith}
 use Rattle.serde_json.specs.Data.{Items}
 use Rattle.ov_specs.specs.locks.Queues.{owns}
 use Rattle.ov_specs.specs.operations.Transaction.{transaction}
-use Rattle.ov_core.specs.Handling.{IsTrial}
+use Rattle.ov_core.specs.Handling.{IsTrial, listed_of}
 use Rattle.ov_core.specs.States.{state_of, sessions_of}
 use Rattle.ov_core.specs.declared.attempt.Trial.TheVariants.{Done}
 use Rattle.ov_specs.specs.machine.Machine as spec
-use Rattle.ov_core.proofs.Workings.{nothing_drawn, trial_works, wait_works, wait_asks}
+use Rattle.ov_core.proofs.Trying.{rises_by_one}
+use Rattle.ov_core.proofs.Workings.{nothing_drawn, trial_works, wait_works, wait_asks, wait_rest}
 use Rattle.ov_core.proofs.live.Live.transact.Goals as goal
 
 pub returns-in_default-clause-works : goal.returns-in_default-clause-works
@@ -31,3 +32,15 @@ returns-in-Blocked-clause-works g c =
 pub returns-in-Blocked-clause-asks : goal.returns-in-Blocked-clause-asks
 returns-in-Blocked-clause-asks g c = rw (← c.in-Blocked.ensures.tried.1) (wait_asks g.K.Keeper.failed (spec.arrived (state_of (record c.args.self.now { database = c.try_once.new.db; outbox = c.try_once.new.outbox; tries = c.try_once.new.tries }) c.args.moment) c.args.session c.args.id c.in-Ok.txn.draws c.in-Ok.txn.operations) c.in-Blocked.timeout
     (record c.args.self.now { database = c.try_once.new.db; outbox = c.try_once.new.outbox; tries = c.try_once.new.tries }) c.wait.result.outcome c.wait.new.self c.wait.ensures.waits)
+
+pub returns-in_default-clause-tries : goal.returns-in_default-clause-tries
+returns-in_default-clause-tries g c = rw c.out_of_memory.ensures (omega arith, omega arith)
+
+pub returns-in-Done-clause-tries : goal.returns-in-Done-clause-tries
+returns-in-Done-clause-tries g c = rises_by_one (listed_of c.in-Done.outcome) c.args.self.now.tries c.try_once.new.tries c.in-Done.ensures.counted
+
+pub returns-in-Blocked-clause-tries : goal.returns-in-Blocked-clause-tries
+returns-in-Blocked-clause-tries g c =
+    let mid = record c.args.self.now { database = c.try_once.new.db; outbox = c.try_once.new.outbox; tries = c.try_once.new.tries } in
+    let rest = wait_rest (spec.arrived (state_of mid c.args.moment) c.args.session c.args.id c.in-Ok.txn.draws c.in-Ok.txn.operations) c.in-Blocked.timeout mid c.wait.result.outcome c.wait.new.self c.wait.ensures.waits in
+    rises_by_one (listed_of c.wait.result.outcome) c.args.self.now.tries c.wait.new.self.tries (rest.1 ∙ c.in-Blocked.ensures.counted)

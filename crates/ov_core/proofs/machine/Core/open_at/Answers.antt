@@ -21,6 +21,7 @@ returns-clause-opened g c =
       moves = opened g.K.Keeper.failed c.in-Ok.session live c.open.new.self c.self.inside.moment c.args.moment o c.self.inside.history c.push.new.self c.entry_without_choice.result c.self.inside.source low c.push.ensures c.entry_without_choice.ensures;
       asks = asks_nothing _ _ _ refl (rw o.same refl, rw o.same refl) (rw o.same refl);
       tries = rw o.same (omega arith);
+      few = rw o.same (omega arith);
     })
 
 pub invariant_of-self-2 : goal.invariant_of-self-2

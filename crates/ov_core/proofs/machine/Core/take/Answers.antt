@@ -3,7 +3,7 @@ use Rattle.std.proofs.lemmas.List.{length-map}
 use Rattle.ov_specs.specs.machine.Machine.{Take, is_open}
 use Rattle.ov_core.specs.States.{state_of, sessions_of}
 use Rattle.ov_core.proofs.FewWaiting.{history_few, has_room}
-use Rattle.ov_core.proofs.Steps.{took, has_entered, entered_as}
+use Rattle.ov_core.proofs.Steps.{took, has_entered, entered_as, closed_for_memory}
 use Rattle.ov_core.proofs.Watching.{any-serial}
 use Rattle.ov_core.proofs.machine.Core.take.Goals as goal
 use Rattle.ov_core.proofs.machine.Core.take.Goals.{then-is_open, else-is_open}
@@ -30,6 +30,9 @@ take-draws-requires g c =
         ),
       );
     }
+
+pub returns-in_default-clause-steps : goal.returns-in_default-clause-steps
+returns-in_default-clause-steps g c = closed_for_memory _ _ _ _ _ _ c.close_open.ensures.closes
 
 pub returns-clause-steps : goal.returns-clause-steps
 returns-clause-steps g c =
