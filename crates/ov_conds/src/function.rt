@@ -54,8 +54,8 @@ impl Function {
         }
     }
 
-    /// Whether the column can be compared this way: by a relation only if it holds at most one integer, otherwise whatever it
-    /// holds.
+    /// Whether the function applies to the column: a relation to at most one integer, the others to every type (RFC 7047, 5.1,
+    /// `<function>`; ovsdb-server(7)).
     fn is_allowed_on(self, column: &Column) -> bool
         ensures { result ≡ allows_function column.now.type_of (function_view self) }
     {

@@ -72,7 +72,7 @@ pub fn sessions_are_closed_for_a_cause()
 
 /// A refused transaction changes nothing (RFC 7047, 4.1.3): if its reply has an error among its results, the database is as
 /// before, whatever was drawn and whatever the store answered. This holds when the transaction arrives and at each later try.
-/// A blocked transaction only waits (RFC 7047, 5.2.6).
+/// A blocked transaction leaves the database as it was, and unless an allocation failed it only waits (RFC 7047, 5.2.6).
 pub fn a_refused_transaction_changes_nothing()
     ensures arrived { (s : State) (session : ℕ) (draws : List Uuid) (outcome : Option Outcome) (id : Data) (operations results : Items) (before : List Sent) (stepped : Stepped)
         → works s session draws outcome (Transact id operations) ≡ Some stepped
@@ -225,7 +225,7 @@ pub fn crashes_leave_the_databases_in_order()
 {}
 
 /// A reply without an error whose transaction changes the database is sent only by the attempt whose change is kept, when the
-/// transaction arrives and at each later try. So each reply without an error tells of databases of its entry: its transaction,
+/// transaction arrives and at each later try. So each reply without an error reports on databases of its entry: its transaction,
 /// which the history takes, was tried on one of them, and left it as it was or made the next one of it. Other replies are those
 /// to a message that asks for no transaction.
 pub fn a_change_is_kept_before_its_reply()

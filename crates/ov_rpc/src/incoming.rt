@@ -8,8 +8,8 @@ use crate::message::Message;
 use ov_base::{Bytes, Text, Tree, Trees};
 use std::alloc::{AllocError, Global};
 
-/// What a session takes in for a message: the reply to an echo depends on no state, so it is written where the message is
-/// read, and a long echo does not delay other sessions.
+/// A message as the machine receives it. The reply to an echo depends on no state, so the thread that reads the message writes
+/// it, and a long echo does not delay other sessions.
 #[derive(Drop)]
 pub enum Incoming {
     /// The frame of the reply to an echo (RFC 7047, 4.1.11).
