@@ -157,6 +157,29 @@ module _ (old new : Schema) (version : Uuid) (before : Database) where
   get-dropped key is_new =
       get-from_entries key_total (filter_map (carried_if_kept old new version before) (entries before)) key ∙ find-dropped key is_new (entries before)
 
+  -- where no row is, none is carried over
+  find-none : (key : LineKey) (es : List (LineKey × Row)) → find line_cmp key es ≡ None → find line_cmp key (filter_map (carried_if_kept old new version before) es) ≡ None
+  find-none key [] none = refl
+  find-none key (e ∷ es) none = by (eq_by_cmp line_cmp key e.0) refl none (find-none key es)
+    where
+      rest : List (LineKey × Row)
+      rest = filter_map (carried_if_kept old new version before) es
+
+      by : (b : Bool) → eq_by_cmp line_cmp key e.0 ≡ b → cond b (Some e.1) (find line_cmp key es) ≡ None → (find line_cmp key es ≡ None → find line_cmp key rest ≡ None)
+          → find line_cmp key (cons_option (carried_if_kept old new version before e) rest) ≡ None
+      by true is none' later = cc
+      by false is none' later = passes key e rest is (get old.tables e.0.0) (get new.tables e.0.0) ∙ later none'
+
+  pub was_there : (key : LineKey) (row : Row) → get (carried old new version before) key ≡ Some row → (former : Row) × (get before key ≡ Some former)
+  was_there key row has = by (get before key) refl
+    where
+      by : (o : Option Row) → get before key ≡ o → (former : Row) × (get before key ≡ Some former)
+      by (Some former) is = (former, is)
+      by None is =
+          let none : None ≡ Some row =
+          sym (get-from_entries key_total (filter_map (carried_if_kept old new version before) (entries before)) key ∙ find-none key (entries before) (sym (get-entries before key) ∙ is)) ∙ has in
+          cc
+
   -- a row of a table with the same columns is carried over as it is, with its version
   pub carried_as_it_is : (key : LineKey) (row : Row) (from to : Table) → get before key ≡ Some row → get old.tables key.0 ≡ Some from → get new.tables key.0 ≡ Some to
       → SuitsTable from row.columns → ((name : List ℕ) → is_some (column_of_row from name) ≡ is_some (column_of_row to name)) → get (carried old new version before) key ≡ Some row
@@ -173,6 +196,24 @@ module _ (old new : Schema) (version : Uuid) (before : Database) where
   carried_common key row from to name has is_old is_new suits in_from in_to =
       ap (option_and_then (λ r. get r.columns name)) (get-carried key from to is_old is_new ∙ ap (option_map (λ r. row_now before version key (carried_columns from to r.columns))) has)
       ∙ common_value from to row.columns suits name in_from in_to
+
+  -- an added column has its default
+  pub carried_added : (key : LineKey) (row : Row) (from to : Table) (name : List ℕ) (column : Column) → get before key ≡ Some row → get old.tables key.0 ≡ Some from → get new.tables key.0 ≡ Some to
+      → column_of_row from name ≡ None → column_of_row to name ≡ Some column
+      → option_and_then (λ r. get r.columns name) (get (carried old new version before) key) ≡ Some (default_of column.type_of)
+  carried_added key row from to name column has is_old is_new not_in_from in_to =
+      ap (option_and_then (λ r. get r.columns name)) (get-carried key from to is_old is_new ∙ ap (option_map (λ r. row_now before version key (carried_columns from to r.columns))) has)
+      ∙ get-carried_columns from to row.columns name
+      ∙ ap (option_map (λ c. carried_value from row.columns (name, c))) in_to
+      ∙ ap (λ o. Some (unwrap_or (option_and_then (λ c. get row.columns name) o) (default_of column.type_of))) not_in_from
+
+  -- a column that the new table lacks has no value
+  pub carried_without : (key : LineKey) (row : Row) (from to : Table) (name : List ℕ) → get before key ≡ Some row → get old.tables key.0 ≡ Some from → get new.tables key.0 ≡ Some to
+      → column_of_row to name ≡ None → option_and_then (λ r. get r.columns name) (get (carried old new version before) key) ≡ None
+  carried_without key row from to name has is_old is_new not_in_to =
+      ap (option_and_then (λ r. get r.columns name)) (get-carried key from to is_old is_new ∙ ap (option_map (λ r. row_now before version key (carried_columns from to r.columns))) has)
+      ∙ get-carried_columns from to row.columns name
+      ∙ ap (option_map (λ c. carried_value from row.columns (name, c))) not_in_to
 
   -- a row of a table with another column gets the version of the conversion
   pub carried_anew : (key : LineKey) (row : Row) (from to : Table) (name : List ℕ) → get before key ≡ Some row → get old.tables key.0 ≡ Some from → get new.tables key.0 ≡ Some to

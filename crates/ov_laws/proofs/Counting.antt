@@ -11,18 +11,18 @@ use Rattle.ov_specs.proofs.laws.Histories.{run_parts}
 use Rattle.ov_specs.proofs.laws.Tries.{left_by, emptied, map_some, then_some, pass_first, settle_first}
 use Rattle.ov_specs.proofs.laws.Works.{when_is, when_suits}
 use Rattle.ov_laws.specs.Databases.{if_suits, kept_by_passes, kept_by_settling, kept_by_message, kept_by_event, at_moment_of, kept_by, commits_in}
-use Rattle.ov_laws.proofs.Keeping.{kept_by_passes-first}
+use Rattle.ov_laws.proofs.Kept.{kept_by_passes-first}
 
 -- ---- what is listed
 
-abbrev is_commit : Attempt → Bool
+abbrev pub is_commit : Attempt → Bool
 is_commit a = is_kept (Some a.outcome)
 
 -- how many of these were kept
-abbrev commits : List Attempt → ℕ
+abbrev pub commits : List Attempt → ℕ
 commits attempts = length (filter is_commit attempts)
 
-abbrev one_if : Bool → ℕ
+abbrev pub one_if : Bool → ℕ
 one_if b = cond b 1 0
 
 listed-commits : (number : ℕ) (attempts : List Attempt) → commits attempts ≡ one_if (is_kept (listed number attempts).outcome) + commits (listed number attempts).others
@@ -117,7 +117,7 @@ take-commits s c n message last h =
         let all : length (kept_by_message s c n message) ≡ suc (length (kept_by_settling u.state 2 own.others)) = ap length (ap (λ o. if_suits o (λ v. keeps v (is_kept own.outcome))) taken ∙ ap (keeps (record { stepped = u; others = own.others })) kept) in
         omega (arith, first, one, others, later, all)
 
-event-commits : (s : State) (c : Choice) (what : Event) (t : Stepped) → happens s c what ≡ Some t → commits c.outcomes ≡ length (kept_by_event s c what)
+pub event-commits : (s : State) (c : Choice) (what : Event) (t : Stepped) → happens s c what ≡ Some t → commits c.outcomes ≡ length (kept_by_event s c what)
 event-commits s c Open t h = none_left c.outcomes (and_parts (none_listed c.outcomes) (none_drawn c) (when_suits (is_without_choice c) (Some (record { state = with_next_session s; sent = [] })) t h)).0
 event-commits s c (Close n cause) t h =
     none_left c.outcomes (and_parts (none_listed c.outcomes) (none_drawn c) (and_parts (is_without_choice c) (is_open s n) (when_suits (is_without_choice c && is_open s n) (Some (closed s n)) t h)).0).0
@@ -132,7 +132,7 @@ event-commits s c Tick t h =
 
 -- ---- a run
 
-commits-append : (xs ys : List Attempt) → commits (xs ++ ys) ≡ commits xs + commits ys
+pub commits-append : (xs ys : List Attempt) → commits (xs ++ ys) ≡ commits xs + commits ys
 commits-append [] ys = omega arith
 commits-append (a ∷ xs) ys = by (is_commit a) (commits-append xs ys)
   where

@@ -1,38 +1,58 @@
 -- The databases of histories from an opening, of their fronts, and of their replies.
-use Rattle.std.proofs.Common.{◌≡◌, ℕ, List, [], ◌∷◌, ◌++◌, false, Some, None, ◌⊎◌, inl, inr, refl, sym, ap, subst, ◌∙◌, append_assoc}
+use Rattle.std.proofs.Common.{◌≡◌, ℕ, ◌+◌, ◌-◌, List, [], ◌∷◌, ◌++◌, length, false, Some, None, ◌⊎◌, inl, inr, refl, sym, ap, subst, ◌∙◌, append_assoc, arith}
 use Rattle.std.specs.List.{AllByRecursion}
 use Rattle.std.proofs.lemmas.List.{append-nil}
 use Rattle.serde_json.specs.Data.{Data, array, Items}
+use Rattle.ov_specs.specs.locks.Queues.{owns}
 use Rattle.ov_specs.specs.machine.History.{run}
-use Rattle.ov_specs.specs.machine.Machine.{State, Left, Entry, Outstanding, Sent, Stepped, step, results_to, opening}
+use Rattle.ov_specs.specs.machine.Machine.{State, Left, Entry, Take, Transact, work_of, Outcome, Committed, Failed, Outstanding, Sent, Stepped, listed, step, results_to, opening}
 use Rattle.ov_specs.specs.operations.Transaction.{has_error}
 use Rattle.ov_specs.specs.rows.Database.{Database}
 use Rattle.ov_specs.specs.schema.SchemaTypes.{Schema}
 use Rattle.ov_specs.specs.values.Uuid.{Uuid}
 use Rattle.ov_specs.specs.wire.Frame.{reply_tree}
-use Rattle.ov_specs.proofs.laws.Histories.{run_parts, run_none}
-use Rattle.ov_laws.specs.Databases.{if_suits, kept_by_event, at_moment_of, kept_by, databases}
-use Rattle.ov_laws.specs.Making.{TakesTransaction, Makes, RepliesTo, takes_another}
-use Rattle.ov_laws.proofs.Keeping.{Goes, AllAreNew, step_goes, run_goes}
-use Rattle.ov_laws.proofs.Paths.{path-last, path-next, all-at}
+use Rattle.ov_specs.specs.wire.Message.{Message}
+use Rattle.ov_specs.proofs.laws.Histories.{Leads, leads_none, run_parts, run_none}
+use Rattle.ov_laws.specs.Databases.{if_suits, kept_by_event, at_moment_of, kept_by, databases, commits_in}
+use Rattle.ov_laws.specs.Making.{TakesTransaction, IsTaken, Makes, RepliesTo, takes_another}
+use Rattle.ov_laws.specs.Tries.{EventTries}
+use Rattle.ov_laws.proofs.Attempts.{changed_succeeds}
+use Rattle.ov_laws.proofs.Counting.{commits, kept_as_listed}
+use Rattle.ov_laws.proofs.Keeping.{Goes, Entering, listed-some, step_goes, run_goes}
+use Rattle.ov_laws.proofs.Paths.{path-last, path-next, after_all, after_all-is, all-at, all-so}
 use Rattle.ov_laws.proofs.Telling.{Tells}
 
 -- ---- from any state
 
--- nothing is asked of those that wait
-abbrev any_taken : ℕ → Data → List Uuid → Items → Type 0
-any_taken session id draws operations = Unit {0}
+-- nothing is asked of those that wait, nor of what is made
+abbrev any_taken : List Entry → ℕ → Data → List Uuid → Items → ℕ → Type 0
+any_taken done session id draws operations moment = Unit {0}
 
-any_waiting : (os : List Outstanding) → AllByRecursion (λ o. any_taken o.session o.id o.draws o.operations) os
+abbrev any_made : Outcome → ℕ → Database → Database → Type 0
+any_made outcome n before after = Unit {0}
+
+any_waiting : (os : List Outstanding) → AllByRecursion (λ o. any_taken [] o.session o.id o.draws o.operations o.arrival) os
 any_waiting [] = tt
 any_waiting (o ∷ os) = (tt, any_waiting os)
 
-goes_from : (s : State) (h : List Entry) (t : Stepped) → run s h ≡ Some t → Goes s.schema any_taken s.database s.sealed (kept_by s h) t.state
-goes_from s h t r = run_goes s.schema any_taken s h t refl (any_waiting s.outstanding) (λ earlier e later u is leads n message id operations takes asks. tt) r
+goes_from : (s : State) (h : List Entry) (t : Stepped) → run s h ≡ Some t → Goes s.schema (any_taken h) any_made 0 s.database s.sealed (kept_by s h) t.state
+goes_from s h t r =
+    run_goes s.schema s h any_taken any_made
+    (λ done e later u n is leads there waiting count. record {
+      there = there;
+      waiting = waiting;
+      new = λ session message id operations takes asks. tt;
+      makes = λ made left number v o outcome results after listed tries taken own completes changes. tt;
+      replies = λ made left number v o results after ds former next listed tries taken completes counted stands kept. tt;
+      grows = λ ds more session id results told. told;
+    })
+    h [] 0 s t refl (leads_none s) refl (any_waiting s.outstanding) refl r
 
 -- the last one is the state's
 pub last_is : (s : State) (h : List Entry) (t : Stepped) → run s h ≡ Some t → (earlier : List Database) × (databases s h ≡ earlier ++ t.state.database ∷ [])
-last_is s h t r = path-last (Makes s.schema any_taken) s.database (kept_by s h) t.state.database (goes_from s h t r).path
+last_is s h t r =
+    let (earlier, is, long) = path-last (any_made Committed) 0 s.database (kept_by s h) t.state.database (goes_from s h t r).path in
+    (earlier, is)
 
 -- those of a front are the first
 kept-front : (s : State) (front back : List Entry) (mid : Stepped) → run s front ≡ Some mid → kept_by s (front ++ back) ≡ kept_by s front ++ kept_by mid.state back
@@ -63,44 +83,152 @@ module _ (schema : Schema) (database : Database) where
   abbrev first : State
   first = opening schema database
 
-  -- what the entries of a front ask for, the history takes
-  taken : (front back : List Entry) → AllAreNew schema (TakesTransaction first (front ++ back)) first front
-  taken front back earlier e later u is leads n message id operations takes asks = record {
-    earlier = earlier;
+  -- what the entries took, they take with one more
+  still_taken : (done : List Entry) (e : Entry) (session : ℕ) (id : Data) (draws : List Uuid) (operations : Items) (moment : ℕ) → TakesTransaction first done session id draws operations moment → TakesTransaction first (done ++ e ∷ []) session id draws operations moment
+  still_taken done e session id draws operations moment k = record {
+    earlier = k.earlier;
+    entry = k.entry;
+    later = k.later ++ e ∷ [];
+    stands = ap (λ l. l ++ e ∷ []) k.stands ∙ append_assoc k.earlier (k.entry ∷ k.later) (e ∷ []);
+    before = k.before;
+    leads = k.leads;
+    message = k.message;
+    takes = k.takes;
+    asks = k.asks;
+    drawn = k.drawn;
+    arrives = k.arrives;
+  }
+
+  all_taken : (done : List Entry) (e : Entry) (os : List Outstanding) → AllByRecursion (IsTaken first done) os → AllByRecursion (IsTaken first (done ++ e ∷ [])) os
+  all_taken done e os all = all-so (IsTaken first done) (IsTaken first (done ++ e ∷ [])) (λ o. still_taken done e o.session o.id o.draws o.operations o.arrival) os all
+
+  -- and what the next one asks for, it takes
+  newly_taken : (done : List Entry) (e : Entry) (s : State) → Leads first done s → (session : ℕ) (message : Message) (id : Data) (operations : Items) → e.event ≡ Take session message → work_of (at_moment_of e s) session message ≡ Transact id operations
+      → TakesTransaction first (done ++ e ∷ []) session id e.choice.draws operations e.choice.moment
+  newly_taken done e s leads session message id operations takes asks = record {
+    earlier = done;
     entry = e;
-    later = later ++ back;
-    stands = ap (λ l. l ++ back) is ∙ append_assoc earlier (e ∷ later) back;
-    before = u;
-    leads = leads;
+    later = [];
+    stands = refl;
+    before = record { state = s; sent = leads.0 };
+    leads = leads.1;
     message = message;
     takes = takes;
     asks = asks;
     drawn = refl;
+    arrives = refl;
   }
 
-  goes_on : (front back : List Entry) (t : Stepped) → run first front ≡ Some t → Goes schema (TakesTransaction first (front ++ back)) database None (kept_by first front) t.state
-  goes_on front back t r = run_goes schema (TakesTransaction first (front ++ back)) first front t refl tt (taken front back) r
+  goes : (h : List Entry) (t : Stepped) → run first h ≡ Some t → Goes schema (TakesTransaction first h) (Makes first h) 0 database None (kept_by first h) t.state
+  goes h t r =
+      run_goes schema first h (TakesTransaction first) (Makes first h)
+      (λ done e later s n is leads there waiting count. record {
+        there = there;
+        waiting = all_taken done e s.outstanding waiting;
+        new = newly_taken done e s leads;
+        makes = λ made left number u o outcome results after listed_is tries taken own completes changes.
+            let one : left ≡ record { number = number; outcome = outcome } ∷ (listed number left).others = listed-some number left outcome own in
+            record {
+              earlier = done;
+              entry = e;
+              later = later;
+              stands = is;
+              mid = record { state = s; sent = leads.0 };
+              leads = leads.1;
+              made = made;
+              number = number;
+              others = (listed number left).others;
+              listed = listed_is ∙ ap (λ l. made ++ l) one;
+              counted = ap (λ k. k + commits made) (sym count);
+              state = u;
+              tried = o;
+              tries = subst (λ l. EventTries (at_moment_of e s) e.choice e.event number l u o) one tries;
+              taken = taken;
+              database = refl;
+              results = results;
+              completes = completes;
+              succeeds = changed_succeeds schema u.database (owns u.queues o.session) o.draws (u.moment - o.arrival) o.operations results after completes changes;
+              changes = changes;
+            };
+        replies = λ made left number u o results after ds former next listed_is tries taken completes counted stands kept. tt;
+        grows = λ ds more session id results told. told;
+      })
+      h [] 0 first t refl (leads_none first) refl tt refl r
 
-  goes : (h : List Entry) (t : Stepped) → run first h ≡ Some t → Goes schema (TakesTransaction first h) database None (kept_by first h) t.state
-  goes h t r = subst (λ l. Goes schema (TakesTransaction first l) database None (kept_by first h) t.state) (append-nil h) (goes_on h [] t r)
+  pub next_is_made : (h : List Entry) (t : Stepped) (earlier later : List Database) (one next : Database) → run first h ≡ Some t → databases first h ≡ earlier ++ one ∷ next ∷ later → Makes first h Committed (length earlier) one next
+  next_is_made h t earlier later one next r is =
+      let counted : after_all 0 earlier ≡ length earlier = omega (arith, after_all-is 0 earlier) in
+      subst (λ n. Makes first h Committed n one next) counted (path-next (Makes first h Committed) 0 database (kept_by first h) t.state.database (goes h t r).path earlier later one next is)
 
-  pub next_is_made : (h : List Entry) (t : Stepped) (earlier later : List Database) (one next : Database) → run first h ≡ Some t → databases first h ≡ earlier ++ one ∷ next ∷ later → Makes schema (TakesTransaction first h) one next
-  next_is_made h t earlier later one next r is = path-next (Makes schema (TakesTransaction first h)) database (kept_by first h) t.state.database (goes h t r).path earlier later one next is
-
-  pub failed_is_made : (h : List Entry) (t : Stepped) (d : Database) → run first h ≡ Some t → t.state.sealed ≡ Some d → Makes schema (TakesTransaction first h) t.state.database d
-  failed_is_made h t d r sealed = (goes h t r).failed (λ v none. absurd (no v none)) d sealed
+  pub failed_is_made : (h : List Entry) (t : Stepped) (d : Database) → run first h ≡ Some t → t.state.sealed ≡ Some d → Makes first h Failed (length (commits_in h)) t.state.database d
+  failed_is_made h t d r sealed =
+      let counted : after_all 0 (kept_by first h) ≡ length (commits_in h) = omega (arith, after_all-is 0 (kept_by first h), kept_as_listed first h t r) in
+      subst (λ n. Makes first h Failed n t.state.database d) counted ((goes h t r).failed (λ v none. absurd (no v none)) d sealed)
     where
       no : (v : Database) → None ≡ Some v → ⊥
       no v e = cc
 
   pub reply_tells : (h : List Entry) (t u : Stepped) (e : Entry) (n : ℕ) (id : Data) (results : Items) (front back : List Sent) → run first h ≡ Some t → step t.state e ≡ Some u → takes_another (at_moment_of e t.state) e.event ≡ false
-      → u.sent ≡ front ++ (results_to n id results ++ back) → has_error results ≡ false → RepliesTo schema (TakesTransaction first (h ++ e ∷ [])) (databases t.state (e ∷ [])) n id results
+      → u.sent ≡ front ++ (results_to n id results ++ back) → has_error results ≡ false → RepliesTo first h t.state e (databases t.state (e ∷ [])) n id results
   reply_tells h t u e n id results front back r stepped told sent fine =
-      let so = goes_on h (e ∷ []) t r in
+      let so = goes h t r in
       let own : List Database = kept_by_event (at_moment_of e t.state) e.choice e.event in
-      let all = (step_goes schema (TakesTransaction first (h ++ e ∷ [])) t.state e u so.schema_is so.waiting
-      (λ n message id operations takes asks. record { earlier = h; entry = e; later = []; stands = refl; before = t; leads = r; message = message; takes = takes; asks = asks; drawn = refl }) stepped).1 told in
-      let its : Tells schema (TakesTransaction first (h ++ e ∷ [])) (t.state.database ∷ own) (record { session = n; tree = reply_tree id (array results) }) =
-      all-at (Tells schema (TakesTransaction first (h ++ e ∷ [])) (t.state.database ∷ own)) front (record { session = n; tree = reply_tree id (array results) }) back (subst (AllByRecursion (Tells schema (TakesTransaction first (h ++ e ∷ [])) (t.state.database ∷ own))) sent all) in
-      subst (λ l. RepliesTo schema (TakesTransaction first (h ++ e ∷ [])) (t.state.database ∷ l) n id results) (sym (ap (λ o. if_suits o (λ (v : Stepped). own ++ kept_by v.state [])) stepped ∙ append-nil own))
+      let ok : Entering schema (TakesTransaction first (h ++ e ∷ [])) any_made T 0 (at_moment_of e t.state) e.choice e.event =
+      record {
+        there = so.schema_is;
+        waiting = all_taken h e t.state.outstanding so.waiting;
+        new = newly_taken h e t.state (t.sent, r);
+        makes = λ made left number v o outcome results' after listed_is tries taken own' completes changes. tt;
+        replies = λ made left number v o results' after ds former next listed_is tries taken completes counted stands kept. record {
+          made = made;
+          number = number;
+          left = left;
+          listed = listed_is;
+          state = v;
+          tried = o;
+          tries = tries;
+          taken = taken;
+          of_session = refl;
+          of_id = refl;
+          after = after;
+          completes = completes;
+          former = former;
+          next = next;
+          counted = counted;
+          stands = stands;
+          kept = kept;
+        };
+        grows = grows;
+      } in
+      let all = (step_goes schema (TakesTransaction first (h ++ e ∷ [])) any_made T 0 t.state e u ok stepped).1 told in
+      let its : Tells T (t.state.database ∷ own) (record { session = n; tree = reply_tree id (array results) }) =
+      all-at (Tells T (t.state.database ∷ own)) front (record { session = n; tree = reply_tree id (array results) }) back (subst (AllByRecursion (Tells T (t.state.database ∷ own))) sent all) in
+      subst (λ l. T (t.state.database ∷ l) n id results) (sym (ap (λ o. if_suits o (λ (v : Stepped). own ++ kept_by v.state [])) stepped ∙ append-nil own))
       (its id results refl fine)
+    where
+      T : List Database → ℕ → Data → Items → Type 0
+      T ds session id' results' = RepliesTo first h t.state e ds session id' results'
+
+      grows : (ds more : List Database) (session : ℕ) (id' : Data) (results' : Items) → T ds session id' results' → T (ds ++ more) session id' results'
+      grows ds more session id' results' k = record {
+        made = k.made;
+        number = k.number;
+        left = k.left;
+        listed = k.listed;
+        state = k.state;
+        tried = k.tried;
+        tries = k.tries;
+        taken = k.taken;
+        of_session = k.of_session;
+        of_id = k.of_id;
+        after = k.after;
+        completes = k.completes;
+        former = k.former;
+        next = k.next ++ more;
+        counted = k.counted;
+        stands = ap (λ l. l ++ more) k.stands ∙ append_assoc k.former (k.state.database ∷ k.next) more;
+        kept = elim k.kept [
+          | inl same ↦ inl same
+          | inr (rest, is') ↦ inr (rest ++ more, ap (λ l. l ++ more) is')
+        ];
+      }

@@ -1,24 +1,37 @@
 -- Lists of databases, each of which is made of the one before it; and what holds of each element of a list.
-use Rattle.std.proofs.Common.{◌≡◌, List, [], ◌∷◌, ◌++◌, filter, Bool, true, false, cond, sym, ap, subst}
+use Rattle.std.proofs.Common.{◌≡◌, ℕ, suc, ◌+◌, List, [], ◌∷◌, ◌++◌, length, filter, Bool, true, false, cond, refl, sym, ap, subst, arith}
 use Rattle.std.specs.List.{AllByRecursion}
 use Rattle.ov_specs.specs.rows.Database.{Database}
 
--- from one database to another, over these, each of which is made of the one before it
-abbrev pub Path : (Database → Database → Type 0) → Database → List Database → Database → Type 0
-Path R a [] b = a ≡ b
-Path R a (d ∷ ds) b = R a d × Path R d ds b
+-- the number of the next one, after these
+abbrev pub after_all : ℕ → List Database → ℕ
+after_all n [] = n
+after_all n (d ∷ ds) = after_all (suc n) ds
 
-module _ (R : Database → Database → Type 0) where
-  pub path-append : (a : Database) (ds : List Database) (b : Database) (es : List Database) (c : Database) → Path R a ds b → Path R b es c → Path R a (ds ++ es) c
-  path-append a [] b es c p q = subst (λ d. Path R d es c) (sym p) q
-  path-append a (d ∷ ds) b es c p q = (p.0, path-append d ds b es c p.1 q)
+pub after_all-is : (n : ℕ) (ds : List Database) → after_all n ds ≡ n + length ds
+after_all-is n [] = omega arith
+after_all-is n (d ∷ ds) = omega (arith, after_all-is (suc n) ds)
+
+pub after_all-append : (n : ℕ) (ds es : List Database) → after_all n (ds ++ es) ≡ after_all (after_all n ds) es
+after_all-append n [] es = refl
+after_all-append n (d ∷ ds) es = after_all-append (suc n) ds es
+
+-- from one database to another, over these, each of which is made of the one before it; they are numbered from this one on
+abbrev pub Path : (ℕ → Database → Database → Type 0) → ℕ → Database → List Database → Database → Type 0
+Path R n a [] b = a ≡ b
+Path R n a (d ∷ ds) b = R n a d × Path R (suc n) d ds b
+
+module _ (R : ℕ → Database → Database → Type 0) where
+  pub path-append : (n : ℕ) (a : Database) (ds : List Database) (b : Database) (es : List Database) (c : Database) → Path R n a ds b → Path R (after_all n ds) b es c → Path R n a (ds ++ es) c
+  path-append n a [] b es c p q = subst (λ d. Path R n d es c) (sym p) q
+  path-append n a (d ∷ ds) b es c p q = (p.0, path-append (suc n) d ds b es c p.1 q)
 
   -- where it ends
-  pub path-last : (a : Database) (ds : List Database) (b : Database) → Path R a ds b → (earlier : List Database) × (a ∷ ds ≡ earlier ++ b ∷ [])
-  path-last a [] b p = ([], ap (λ d. d ∷ []) p)
-  path-last a (d ∷ ds) b p =
-      let (earlier, is) = path-last d ds b p.1 in
-      (a ∷ earlier, ap (λ l. a ∷ l) is)
+  pub path-last : (n : ℕ) (a : Database) (ds : List Database) (b : Database) → Path R n a ds b → (earlier : List Database) × (a ∷ ds ≡ earlier ++ b ∷ []) × (length earlier ≡ length ds)
+  path-last n a [] b p = ([], ap (λ d. d ∷ []) p, refl)
+  path-last n a (d ∷ ds) b p =
+      let (earlier, is, long) = path-last (suc n) d ds b p.1 in
+      (a ∷ earlier, ap (λ l. a ∷ l) is, omega (arith, long))
 
   abbrev others : Database → List Database → List Database
   others d [] = []
@@ -29,15 +42,15 @@ module _ (R : Database → Database → Type 0) where
   first_of d (e ∷ es) = e
 
   -- one after another
-  pub path-next : (a : Database) (ds : List Database) (b : Database) → Path R a ds b → (earlier later : List Database) (one next : Database) → a ∷ ds ≡ earlier ++ one ∷ next ∷ later → R one next
-  path-next a ds b p [] later one next is =
-      (subst (λ l. Path R one l b) (ap (others a) is) (subst (λ d. Path R d ds b) (ap (first_of a) is) p)).0
-  path-next a [] b p (x ∷ earlier) later one next is = absurd (no earlier (ap (others a) is))
+  pub path-next : (n : ℕ) (a : Database) (ds : List Database) (b : Database) → Path R n a ds b → (earlier later : List Database) (one next : Database) → a ∷ ds ≡ earlier ++ one ∷ next ∷ later → R (after_all n earlier) one next
+  path-next n a ds b p [] later one next is =
+      (subst (λ l. Path R n one l b) (ap (others a) is) (subst (λ d. Path R n d ds b) (ap (first_of a) is) p)).0
+  path-next n a [] b p (x ∷ earlier) later one next is = absurd (no earlier (ap (others a) is))
     where
       no : (l : List Database) → [] ≡ l ++ one ∷ next ∷ later → ⊥
       no [] e = cc
       no (y ∷ l) e = cc
-  path-next a (d ∷ ds) b p (x ∷ earlier) later one next is = path-next d ds b p.1 earlier later one next (ap (others a) is)
+  path-next n a (d ∷ ds) b p (x ∷ earlier) later one next is = path-next (suc n) d ds b p.1 earlier later one next (ap (others a) is)
 
 -- ---- what holds of each
 

@@ -1,5 +1,5 @@
 -- A refused transaction changes nothing.
-use Rattle.std.proofs.Common.{◌≡◌, ℕ, ◌-◌, List, ◌++◌, refl, sym, ap, ◌∙◌, Bool, true, Option, Some}
+use Rattle.std.proofs.Common.{◌≡◌, ℕ, ◌-◌, List, ◌++◌, refl, sym, ap, ◌∙◌, true, Option, Some}
 use Rattle.std.proofs.lemmas.Bool.{false≢true}
 use Rattle.serde_json.specs.Data.{Data, Items}
 use Rattle.ov_specs.specs.locks.Queues.{owns}
@@ -11,14 +11,14 @@ use Rattle.ov_laws.proofs.Replies.{same_results}
 
 module _ (s : State) (o : Outstanding) (before : List Sent) (results : Items) (error : has_error results ≡ true) where
   -- if these results are sent at the end, the database is as before
-  abbrev Leaves : Bool → Stepped → Type 0
-  Leaves kept x = x.sent ≡ before ++ results_to o.session o.id results → x.state.database ≡ s.database
+  abbrev Leaves : Option Outcome → Stepped → Type 0
+  Leaves outcome x = x.sent ≡ before ++ results_to o.session o.id results → x.state.database ≡ s.database
 
   -- a change that is kept has no error in its reply
   leaves : (draws : List Uuid) (age : ℕ) (operations : Items) → OfAttempt Leaves s o (transaction s.schema s.database (owns s.queues o.session) draws age operations)
   leaves draws age operations = record {
     same = λ own database is unchanged sent. refl;
-    refused = λ own fails sent. refl;
+    refused = λ own fails. (λ sent. refl, λ sent. refl);
     changed = λ own database is changes unsealed. (
       λ sent. absurd (false≢true
           (sym (changed_succeeds s.schema s.database (owns s.queues o.session) draws age operations own database is changes)

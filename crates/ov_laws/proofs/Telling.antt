@@ -1,5 +1,5 @@
 -- Replies without an error, and the databases that they tell of.
-use Rattle.std.proofs.Common.{◌≡◌, ℕ, List, [], ◌∷◌, ◌++◌, map, false, codes, Some, None, option_and_then, inl, inr, ap, subst, ◌∙◌, append_assoc}
+use Rattle.std.proofs.Common.{◌≡◌, ℕ, List, [], ◌∷◌, map, false, codes, Some, None, option_and_then, ap, subst, ◌∙◌}
 use Rattle.std.specs.List.{AllByRecursion}
 use Rattle.std.proofs.lemmas.Option.{same_Some}
 use Rattle.serde_json.specs.Data.{Data, array, Items}
@@ -10,37 +10,13 @@ use Rattle.ov_specs.specs.machine.Machine.{Session, Sent, told, to_session, upda
 use Rattle.ov_specs.specs.monitors.Updates.{all_updates, update_notification}
 use Rattle.ov_specs.specs.operations.Transaction.{has_error}
 use Rattle.ov_specs.specs.rows.Database.{Database}
-use Rattle.ov_specs.specs.schema.SchemaTypes.{Schema}
-use Rattle.ov_specs.specs.values.Uuid.{Uuid}
 use Rattle.ov_specs.specs.wire.Frame.{reply_tree, notification_tree}
-use Rattle.ov_laws.specs.Making.{RepliesTo}
 use Rattle.ov_laws.proofs.Paths.{all-append}
 
-module _ (schema : Schema) (IsTaken : ℕ → Data → List Uuid → Items → Type 0) where
-  -- what is sent, if it is a reply without an error, tells of one of these databases
+module _ (T : List Database → ℕ → Data → Items → Type 0) where
+  -- what is sent, if it is a reply without an error, tells of these databases
   abbrev pub Tells : List Database → Sent → Type 0
-  Tells ds x = (id : Data) (results : Items) → x.tree ≡ reply_tree id (array results) → has_error results ≡ false → RepliesTo schema IsTaken ds x.session id results
-
-  pub tells-more : (ds more : List Database) (x : Sent) → Tells ds x → Tells (ds ++ more) x
-  tells-more ds more x tells id results is fine =
-      let r = tells id results is fine in
-      record {
-        draws = r.draws;
-        operations = r.operations;
-        taken = r.taken;
-        queues = r.queues;
-        age = r.age;
-        before = r.before;
-        after = r.after;
-        completes = r.completes;
-        earlier = r.earlier;
-        later = r.later ++ more;
-        stands = ap (λ l. l ++ more) r.stands ∙ append_assoc r.earlier (r.before ∷ r.later) more;
-        kept = elim r.kept [
-          | inl same ↦ inl same
-          | inr (rest, is') ↦ inr (rest ++ more, ap (λ l. l ++ more) is')
-        ];
-      }
+  Tells ds x = (id : Data) (results : Items) → x.tree ≡ reply_tree id (array results) → has_error results ≡ false → T ds x.session id results
 
   -- a notification is no reply
   notification-tells : (ds : List Database) (n : ℕ) (method : List ℕ) (params : Items) → Tells ds (record { session = n; tree = notification_tree method params })
@@ -65,8 +41,8 @@ module _ (schema : Schema) (IsTaken : ℕ → Data → List Uuid → Items → T
       each (p ∷ params) = (notification-tells ds n.serial (codes "update") p, each params)
 
   -- a reply has one id and one array of results
-  pub reply-tells : (ds : List Database) (n : ℕ) (i : Data) (sent : Items) → (has_error sent ≡ false → RepliesTo schema IsTaken ds n i sent) → Tells ds (record { session = n; tree = reply_tree i (array sent) })
+  pub reply-tells : (ds : List Database) (n : ℕ) (i : Data) (sent : Items) → (has_error sent ≡ false → T ds n i sent) → Tells ds (record { session = n; tree = reply_tree i (array sent) })
   reply-tells ds n i sent replies id results is fine =
       let same_id : i ≡ id = same_Some i id (ap (λ tree. find.get (codes "id") tree) is) in
       let same : sent ≡ results = same_Some sent results (ap (λ tree. option_and_then as_array (find.get (codes "result") tree)) is) in
-      subst (λ v. RepliesTo schema IsTaken ds n v results) same_id (subst (λ v. RepliesTo schema IsTaken ds n i v) same (replies (ap has_error same ∙ fine)))
+      subst (λ v. T ds n v results) same_id (subst (λ v. T ds n i v) same (replies (ap has_error same ∙ fine)))

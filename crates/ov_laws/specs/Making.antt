@@ -1,19 +1,22 @@
--- Which transactions make the databases of a history, and which replies tell of them (RFC 7047, 4.1.3).
-use Rattle.std.specs.Prelude.{◌≡◌, ◌⊎◌, ℕ, List, ◌∷◌, ◌++◌, Bool, true, false, not, Some}
+-- Which attempts of a history make its databases, and which replies tell of them (RFC 7047, 4.1.3).
+use Rattle.std.specs.Prelude.{◌≡◌, ◌⊎◌, ℕ, ◌+◌, ◌-◌, List, [], ◌∷◌, ◌++◌, length, filter, Bool, true, false, not, Some}
 use Rattle.serde_json.specs.Data.{Data, Items}
-use Rattle.ov_specs.specs.locks.Queues.{Queues, owns}
+use Rattle.ov_specs.specs.locks.Queues.{owns}
 use Rattle.ov_specs.specs.machine.History.{run}
-use Rattle.ov_specs.specs.machine.Machine.{State, Event, Open, Take, Close, Tick, Entry, Stepped, Work, Answers, Transact, Cancels, Locks, Watches, work_of}
-use Rattle.ov_specs.specs.operations.Transaction.{Completes, transaction, has_error}
+use Rattle.ov_specs.specs.machine.Machine.{State, Event, Open, Take, Close, Tick, Entry, Attempt, Outcome, Outstanding, Stepped, Work, Answers, Transact, Cancels, Locks, Watches, work_of, is_kept}
+use Rattle.ov_specs.specs.operations.Transaction.{TransactionOutcome, Completes, transaction, has_error}
 use Rattle.ov_specs.specs.rows.Database.{Database, same_database}
 use Rattle.ov_specs.specs.schema.SchemaTypes.{Schema}
 use Rattle.ov_specs.specs.values.Uuid.{Uuid}
 use Rattle.ov_specs.specs.wire.Message.{Message}
-use Rattle.ov_laws.specs.Databases.{at_moment_of}
+use Rattle.ov_laws.specs.Databases.{at_moment_of, commits_in}
+use Rattle.ov_laws.specs.Tries.{EventTries}
 
--- An entry of the history takes a message of the session that asks for these operations, for a reply with this id, and
--- draws these identifiers for them.
-pub record TakesTransaction (first : State) (history : List Entry) (session : ℕ) (id : Data) (draws : List Uuid) (operations : Items) : Type 0 where
+-- At this moment an entry of the history takes a message of the session that asks for these operations, for a reply with this
+-- id, and draws these identifiers for them.
+pub record TakesTransaction
+    (first : State) (history : List Entry)
+    (session : ℕ) (id : Data) (draws : List Uuid) (operations : Items) (moment : ℕ) : Type 0 where
   pub earlier : List Entry
   pub entry : Entry
   pub later : List Entry
@@ -24,37 +27,75 @@ pub record TakesTransaction (first : State) (history : List Entry) (session : �
   pub takes : entry.event ≡ Take session message
   pub asks : work_of (at_moment_of entry before.state) session message ≡ Transact id operations
   pub drawn : entry.choice.draws ≡ draws
+  pub arrives : entry.choice.moment ≡ moment
 
--- One of the transactions that were taken makes `after` of `before`, tried at some age and with the locks that its session owns
--- in some queues: it completes, none of its results is an error, and something changes.
-pub record Makes (schema : Schema) (IsTaken : ℕ → Data → List Uuid → Items → Type 0) (before after : Database) : Type 0 where
-  pub session : ℕ
-  pub id : Data
-  pub draws : List Uuid
-  pub operations : Items
-  pub taken : IsTaken session id draws operations
-  pub queues : Queues
-  pub age : ℕ
+-- One of these entries took the transaction.
+abbrev pub IsTaken : State → List Entry → Outstanding → Type 0
+IsTaken first history o = TakesTransaction first history o.session o.id o.draws o.operations o.arrival
+
+-- What comes of the transaction in this state of the machine, at its age and with the locks that its session owns there, if the
+-- schema is this one (RFC 7047, 4.1.3, 5.2.6).
+abbrev pub tried_in : Schema → State → Outstanding → TransactionOutcome
+tried_in schema s o = transaction schema s.database (owns s.queues o.session) o.draws (s.moment - o.arrival) o.operations
+
+-- the attempts of these whose changes the store kept
+abbrev pub commits_of : List Attempt → List Attempt
+commits_of attempts = filter (λ a. is_kept (Some a.outcome)) attempts
+
+-- An attempt of the history makes `after` of `before`, after n attempts that were kept, and the store answers it with this
+-- outcome.
+pub record Makes (first : State) (history : List Entry) (outcome : Outcome) (n : ℕ) (before after : Database) : Type 0 where
+  -- the entry, and where it stands
+  pub earlier : List Entry
+  pub entry : Entry
+  pub later : List Entry
+  pub stands : history ≡ earlier ++ entry ∷ later
+  pub mid : Stepped
+  pub leads : run first earlier ≡ Some mid
+  -- the attempt, and where it is listed: n were kept before it
+  pub made : List Attempt
+  pub number : ℕ
+  pub others : List Attempt
+  pub listed : entry.choice.outcomes ≡ made ++ record { number = number; outcome = outcome } ∷ others
+  pub counted : length (commits_in earlier) + length (commits_of made) ≡ n
+  -- the transaction that it tries, which this entry or an earlier one took, and the state of the machine then
+  pub state : State
+  pub tried : Outstanding
+  pub tries : EventTries (at_moment_of entry mid.state) entry.choice entry.event number
+      (record { number = number; outcome = outcome } ∷ others) state tried
+  pub taken : IsTaken first (earlier ++ entry ∷ []) tried
+  -- what comes of it: no error, and another database
+  pub database : state.database ≡ before
   pub results : Items
-  pub completes : transaction schema before (owns queues session) draws age operations ≡ Completes results after
+  pub completes : tried_in first.schema state tried ≡ Completes results after
   pub succeeds : has_error results ≡ false
   pub changes : same_database before after ≡ false
 
--- The results reply to a transaction that was taken, of this session and id. It was tried on one of these databases, at some
--- age and with the locks that its session owns in some queues, and left it as it was or made the next one of it.
-pub record RepliesTo (schema : Schema) (IsTaken : ℕ → Data → List Uuid → Items → Type 0) (databases : List Database) (session : ℕ) (id : Data) (results : Items) : Type 0 where
-  pub draws : List Uuid
-  pub operations : Items
-  pub taken : IsTaken session id draws operations
-  pub queues : Queues
-  pub age : ℕ
-  pub before : Database
+-- The results reply to a transaction of this session and id, which an attempt of the entry tries. If n attempts of the entry were
+-- kept before it, it is tried on database n of these, counted from 0; and it leaves that as it was, or makes the next one of it.
+pub record RepliesTo
+    (first : State) (earlier : List Entry) (s : State) (entry : Entry) (databases : List Database)
+    (session : ℕ) (id : Data) (results : Items) : Type 0 where
+  -- the attempt, and what is listed before it, and from it on
+  pub made : List Attempt
+  pub number : ℕ
+  pub left : List Attempt
+  pub listed : entry.choice.outcomes ≡ made ++ left
+  -- the transaction that it tries, which this entry or an earlier one took, and the state of the machine then
+  pub state : State
+  pub tried : Outstanding
+  pub tries : EventTries (at_moment_of entry s) entry.choice entry.event number left state tried
+  pub taken : IsTaken first (earlier ++ entry ∷ []) tried
+  pub of_session : tried.session ≡ session
+  pub of_id : tried.id ≡ id
+  -- what comes of it, and which database it is tried on
   pub after : Database
-  pub completes : transaction schema before (owns queues session) draws age operations ≡ Completes results after
-  pub earlier : List Database
-  pub later : List Database
-  pub stands : databases ≡ earlier ++ before ∷ later
-  pub kept : (same_database before after ≡ true) ⊎ ((others : List Database) × (later ≡ after ∷ others))
+  pub completes : tried_in first.schema state tried ≡ Completes results after
+  pub former : List Database
+  pub next : List Database
+  pub counted : length former ≡ length (commits_of made)
+  pub stands : databases ≡ former ++ state.database ∷ next
+  pub kept : (same_database state.database after ≡ true) ⊎ ((more : List Database) × (next ≡ after ∷ more))
 
 -- the work is to try a transaction
 abbrev pub is_transaction : Work → Bool

@@ -8,7 +8,7 @@ ghost use Rattle.serde_json.specs.Data.{Data, Items};
 ghost use Rattle.ov_specs.specs.wire.Cut.{Cut, cut, cut_from, IsCut, continue_cut, with_messages, max_message};
 ghost use Rattle.ov_specs.specs.wire.Message.{asked};
 ghost use Rattle.ov_specs.specs.locks.Queues.{Queues, DoQueuesAscend, HasNoRepeats, queue_of, owner, owns, has_requested};
-ghost use Rattle.ov_specs.specs.machine.Machine.{State, Left, is_open, Entry, Sent, Stepped, Outcome, Committed, NoMemory, Attempt, Outstanding, Passed, Transact, step, works, arrived, tries_again, is_kept, settle, results_to, updates_sent, opening};
+ghost use Rattle.ov_specs.specs.machine.Machine.{State, Left, is_open, Entry, Sent, Stepped, Outcome, Committed, Failed, NoMemory, Attempt, Outstanding, Passed, Transact, step, works, arrived, tries_again, is_kept, settle, results_to, updates_sent, opening};
 ghost use Rattle.ov_specs.specs.operations.OpOutcome.{empty_result};
 ghost use Rattle.ov_specs.specs.operations.Transaction.{Completes, Waits, transaction, has_error};
 ghost use Rattle.ov_specs.specs.machine.Blocked.{AreBlocked};
@@ -16,9 +16,10 @@ ghost use Rattle.ov_specs.specs.machine.Suiting.{SuitsState, IsWholeState, draws
 ghost use Rattle.ov_specs.specs.integrity.Committed.{committed, is_whole};
 ghost use Rattle.ov_specs.specs.integrity.Kept.{IsGreatestSupported, kept};
 ghost use Rattle.ov_specs.specs.rows.Suits.{column_of_row, SuitsTable, Suits};
+ghost use Rattle.ov_specs.specs.schema.Fitting.{default_of};
 ghost use Rattle.ov_specs.specs.schema.Schema.{accepted, IsAccepted};
 ghost use Rattle.ov_specs.specs.schema.SameType.{same_type};
-ghost use Rattle.ov_specs.specs.schema.SchemaTypes.{ColumnType, Table, Schema};
+ghost use Rattle.ov_specs.specs.schema.SchemaTypes.{Column, ColumnType, Table, Schema};
 ghost use Rattle.ov_specs.specs.conversion.Carried.{carried};
 ghost use Rattle.ov_specs.specs.rows.Database.{Row, Database, same_database};
 ghost use Rattle.ov_specs.specs.rows.Lines.{LineKey};
@@ -29,8 +30,9 @@ ghost use Rattle.ov_laws.specs.Asserting.{item_at, Asserts};
 ghost use Rattle.ov_laws.specs.Attempts.{attempts_of, most_attempts};
 ghost use Rattle.ov_laws.specs.Blocking.{LeavesBlocked};
 ghost use Rattle.ov_laws.specs.Databases.{databases, kept_by, commits_in, at_moment_of};
-ghost use Rattle.ov_laws.specs.Making.{TakesTransaction, Makes, RepliesTo, takes_another};
+ghost use Rattle.ov_laws.specs.Making.{Makes, RepliesTo, takes_another};
 ghost use Rattle.ov_laws.specs.Requests.{AreAskedFor};
+ghost use Rattle.ov_laws.specs.Settling.{IsSettling};
 
 /// The relation and the program give the same cuts of every stream.
 pub fn cut_is_its_relation()
@@ -130,6 +132,12 @@ pub fn only_open_sessions_are_sent_to()
         → run (opening schema database) history ≡ Some before → step before.state entry ≡ Some after → list_all (λ sent. is_open before.state sent.session) after.sent ≡ true }
 {}
 
+/// The relation and the program give the same settling of every state: on from a try that leaves the database as it was, and
+/// from the first again after one that changes it.
+pub fn settling_is_its_relation()
+    ensures { (s : State) (number : ℕ) (attempts : List Attempt) (passed : Passed) → (IsSettling s number attempts passed ↔ (settle s number attempts ≡ Some passed)) }
+{}
+
 /// Settling n transactions that wait takes at most n · (n + 1) / 2 attempts. So while n transactions wait, a `Tick` makes at
 /// most as many, a message one more, and no other event makes any. No attempt with a higher number is listed.
 pub fn settling_takes_few_attempts()
@@ -198,19 +206,22 @@ pub fn the_last_database_is_the_states()
         → (earlier : List Database) × (databases before history ≡ earlier ++ after.state.database ∷ []) }
 {}
 
-/// From an opening, each database but the first is made of the one before it by one transaction, which the history takes, which
-/// completes without an error among its results, and which changes something (RFC 7047, 4.1.3).
+/// From an opening, the n-th database after the first is made of the one before it by the n-th attempt of the history that the
+/// store kept. It tries a transaction which its entry or an earlier one took, in the state of the machine at this attempt: with
+/// the locks and at the age there. The transaction completes without an error among its results, and changes something (RFC
+/// 7047, 4.1.3).
 pub fn each_database_is_made_by_one_transaction()
     ensures { (schema : Schema) (database : Database) (history : List Entry) (after : Stepped) (earlier later : List Database) (one next : Database)
         → run (opening schema database) history ≡ Some after → databases (opening schema database) history ≡ earlier ++ one ∷ next ∷ later
-        → Makes schema (TakesTransaction (opening schema database) history) one next }
+        → Makes (opening schema database) history Committed (length earlier) one next }
 {}
 
-/// In the same way the database that a failed commit would have made is made of the last one.
+/// In the same way the database that a failed commit would have made is made of the last one, by an attempt at which the store
+/// failed. All attempts that it kept come before.
 pub fn a_failed_commit_would_have_made_the_next_database()
     ensures { (schema : Schema) (database : Database) (history : List Entry) (after : Stepped) (failed : Database)
         → run (opening schema database) history ≡ Some after → after.state.sealed ≡ Some failed
-        → Makes schema (TakesTransaction (opening schema database) history) after.state.database failed }
+        → Makes (opening schema database) history Failed (length (commits_in history)) after.state.database failed }
 {}
 
 /// Crashes leave the databases of a history in their order. Those of a front are the first of the history's. After each front a
@@ -225,9 +236,9 @@ pub fn crashes_leave_the_databases_in_order()
 {}
 
 /// A reply without an error whose transaction changes the database is sent only by the attempt whose change is kept, when the
-/// transaction arrives and at each later try. So each reply without an error reports on databases of its entry: its transaction,
-/// which the history takes, was tried on one of them, and left it as it was or made the next one of it. Other replies are those
-/// to a message that asks for no transaction.
+/// transaction arrives and at each later try. So each reply without an error reports on databases of its entry: an attempt of
+/// the entry tried its transaction, which this entry or an earlier one took, on the one after those that were kept before it,
+/// and left that as it was or made the next one of it. Other replies are those to a message that asks for no transaction.
 pub fn a_change_is_kept_before_its_reply()
     ensures arrived { (s : State) (session : ℕ) (draws : List Uuid) (outcome : Option Outcome) (id : Data) (operations own results : Items) (database : Database) (before : List Sent) (stepped : Stepped)
         → works s session draws outcome (Transact id operations) ≡ Some stepped → stepped.sent ≡ before ++ results_to session id results → has_error results ≡ false
@@ -240,18 +251,26 @@ pub fn a_change_is_kept_before_its_reply()
     ensures entry { (schema : Schema) (database : Database) (history : List Entry) (before after : Stepped) (entry : Entry) (session : ℕ) (id : Data) (results : Items) (front back : List Sent)
         → run (opening schema database) history ≡ Some before → step before.state entry ≡ Some after → takes_another (at_moment_of entry before.state) entry.event ≡ false
         → after.sent ≡ front ++ (results_to session id results ++ back) → has_error results ≡ false
-        → RepliesTo schema (TakesTransaction (opening schema database) (history ++ entry ∷ [])) (databases before.state (entry ∷ [])) session id results }
+        → RepliesTo (opening schema database) history before.state entry (databases before.state (entry ∷ [])) session id results }
 {}
 
 /// A conversion to a newer schema keeps the values of the columns that both schemas have, in each row of a table that both
-/// have. A row whose table has the same columns in both stays as it is, with its version; if the table gets or loses a
-/// column, the row gets the version of the conversion. Rows of tables that the newer schema lacks are dropped. This is so
-/// before the rules of a commit are applied.
+/// have. A column that is added has its default there, and one that the newer schema lacks has no value. A row whose table has
+/// the same columns in both stays as it is, with its version; if the table gets or loses a column, the row gets the version of
+/// the conversion. Rows of tables that the newer schema lacks are dropped, and each row that is carried over was there before.
+/// This is so before the rules of a commit are applied.
 pub fn a_conversion_keeps_what_both_schemas_have()
     ensures common { (old new : Schema) (version : Uuid) (before : Database) (key : LineKey) (row : Row) (from to : Table) (name : List ℕ)
         → get before key ≡ Some row → get old.tables key.0 ≡ Some from → get new.tables key.0 ≡ Some to → SuitsTable from row.columns
         → is_some (column_of_row from name) ≡ true → is_some (column_of_row to name) ≡ true
         → option_and_then (λ r. get r.columns name) (get (carried old new version before) key) ≡ get row.columns name }
+    ensures added { (old new : Schema) (version : Uuid) (before : Database) (key : LineKey) (row : Row) (from to : Table) (name : List ℕ) (column : Column)
+        → get before key ≡ Some row → get old.tables key.0 ≡ Some from → get new.tables key.0 ≡ Some to
+        → column_of_row from name ≡ None → column_of_row to name ≡ Some column
+        → option_and_then (λ r. get r.columns name) (get (carried old new version before) key) ≡ Some (default_of column.type_of) }
+    ensures without { (old new : Schema) (version : Uuid) (before : Database) (key : LineKey) (row : Row) (from to : Table) (name : List ℕ)
+        → get before key ≡ Some row → get old.tables key.0 ≡ Some from → get new.tables key.0 ≡ Some to → column_of_row to name ≡ None
+        → option_and_then (λ r. get r.columns name) (get (carried old new version before) key) ≡ None }
     ensures unchanged { (old new : Schema) (version : Uuid) (before : Database) (key : LineKey) (row : Row) (from to : Table)
         → get before key ≡ Some row → get old.tables key.0 ≡ Some from → get new.tables key.0 ≡ Some to → SuitsTable from row.columns
         → ((name : List ℕ) → is_some (column_of_row from name) ≡ is_some (column_of_row to name))
@@ -262,6 +281,8 @@ pub fn a_conversion_keeps_what_both_schemas_have()
         → option_map (λ r. r.version) (get (carried old new version before) key) ≡ Some version }
     ensures dropped { (old new : Schema) (version : Uuid) (before : Database) (key : LineKey) → get new.tables key.0 ≡ None
         → get (carried old new version before) key ≡ None }
+    ensures former { (old new : Schema) (version : Uuid) (before : Database) (key : LineKey) (row : Row)
+        → get (carried old new version before) key ≡ Some row → (former : Row) × (get before key ≡ Some former) }
 {}
 
 /// Two columns have the same type exactly if all parts of their types are equal (RFC 7047, 3.2, `<type>`).
