@@ -11,3 +11,4 @@ pub mod Trying
 pub mod Settlings
 pub mod Takings
 pub mod FewWaiting
+pub mod Opening

@@ -8,3 +8,4 @@ pub mod Following
 pub mod Stepping
 pub mod Passing
 pub mod Leaving
+pub mod Opening

@@ -8,6 +8,7 @@ mod handle;
 mod live;
 mod lock;
 mod machine;
+mod open;
 mod owner;
 mod replying;
 mod send;

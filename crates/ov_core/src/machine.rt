@@ -2,15 +2,11 @@ ghost use Rattle.std.specs.Prelude.{◌≡◌, ◌≢◌, ◌≤◌, ◌-◌, �
 ghost use Rattle.serde_json.specs.Written.{compact_text};
 ghost use Rattle.ov_specs.specs.rows.Lines.{Contents};
 ghost use Rattle.ov_specs.specs.machine.History.{joined};
-ghost use Rattle.ov_specs.specs.machine.Machine.{State, opening, is_open, due, Open as SpecOpen, Tick as SpecTick, Take as SpecTake, Entry as SpecEntry};
-ghost use Rattle.ov_keeper.specs.Keeping.{LeavesNoMore, HasFailed};
-ghost use Rattle.ov_keeper.specs.declared.fault.KeepFault.TheVariants.{Device};
-ghost use Rattle.ov_db.specs.Opening.{CanOpen, IsOpenFault, RefusesOpen};
-ghost use Rattle.ov_db.specs.declared.fault.OpenFault.TheVariants.{Keeping};
+ghost use Rattle.ov_specs.specs.machine.Machine.{State, is_open, due, Open as SpecOpen, Tick as SpecTick, Take as SpecTake, Entry as SpecEntry};
 ghost use Rattle.ov_history.specs.Entries.{event_view, cause_view};
 ghost use Rattle.ov_outbox.specs.Frames.{waiting_for, has_queue};
 ghost use Rattle.ov_history.specs.History.{HasHistory};
-ghost use Rattle.ov_core.specs.Following.{Follows, none_given, and_handed, and_all_handed};
+ghost use Rattle.ov_core.specs.Following.{Follows, and_handed, and_all_handed};
 ghost use Rattle.ov_sessions.specs.Sessions.{most_sessions, serial_left};
 ghost use Rattle.ov_history.specs.declared.event.Stepped.TheVariants.{Opened, Done};
 ghost use Rattle.ov_core.specs.Stepping.{StepIs, IsEntered, RefusesStep, Closes};
@@ -20,15 +16,13 @@ ghost use Rattle.ov_db.specs.Committing.{AreKept, MayFind};
 
 use crate::live::Live;
 use ov_base::Bytes;
-use ov_db::{Db, OpenFault, RefusedOpen};
 use ov_history::{
     Cause, Entry, Event, History, StepFault, Stepped, entry_with_choice, entry_without_choice,
 };
-use ov_keeper::{KeepFault, Keeper};
-use ov_requests::{Draws, Waiting};
+use ov_keeper::Keeper;
+use ov_requests::Draws;
 use ov_rpc::Received;
-use ov_schema::Schema;
-use ov_sessions::{Session, Sessions};
+use ov_sessions::Session;
 use std::alloc::{AllocError, Global};
 use std::collections::VecDeque;
 use std::marker::Model;
@@ -36,11 +30,11 @@ use std::marker::Model;
 /// The machine over a keeper, with the newest 4,096 entries of its history (RFC 7047, 4). Up to 64 sessions may be open at a
 /// time. Calls identify a session by its serial, whatever its key.
 pub struct Core<K: Keeper, D> {
-    live: Live<K>,
-    source: D,
-    moment: u64,
-    history: History,
-    alloc: Global,
+    pub(crate) live: Live<K>,
+    pub(crate) source: D,
+    pub(crate) moment: u64,
+    pub(crate) history: History,
+    pub(crate) alloc: Global,
 }
 
 impl<K: Keeper, D> Model for Core<K, D> {
@@ -89,64 +83,6 @@ impl<K: Keeper + Drop, D: Drop> Drop for Core<K, D> {
 }
 
 impl<K: Keeper + Drop, D: Draws + Drop> Core<K, D> {
-    /// Opens a core on what the keeper holds, without history: no open session, last moment 0, next serial 1.
-    ///
-    /// Refused as `SchemaDiffers` if the keeper holds another text than the schema's (RFC 7047, 3.2), as `BadBody` if one of
-    /// its lines is not a row of the schema, and with the fault of the keeper's load. A failed allocation is the keeper's
-    /// fault `Memory`. What the keeper holds is not changed, and a refusal gives the keeper back. Space for the 4,096 entries
-    /// of the history, the serials of 64 sessions and 4,096 waiting transactions is allocated here.
-    pub fn open(
-        alloc: Global,
-        keeper: K,
-        schema: Schema,
-        draws: D,
-    ) -> Result<Core<K, D>, RefusedOpen<K>>
-        ensures start { IfOk result (λ core. Follows (opening schema core.state.database) [] none_given core) }
-        ensures none_open { IfOk result (λ core. core.open_sessions ≡ []) }
-        ensures schema { IfOk result (λ core. core.state.schema ≡ schema) }
-        ensures source { IfOk result (λ core. core.source ≡ draws) }
-        // The keeper held the database under this schema.
-        ensures held { IfOk result (λ core. K.is_honest core.keeper → (held : Contents) → K.leaves keeper held → CanOpen schema core.state.database held) }
-        // With an honest keeper, an open finds nothing now that it could not have found before.
-        ensures same { IfOk result (λ core. K.is_honest core.keeper → LeavesNoMore (K.leaves keeper) (K.leaves core.keeper)) }
-        ensures honest { IfOk result (λ core. K.is_honest core.keeper → K.is_honest keeper) }
-        ensures kinds { IfErr result (λ e. IsOpenFault e.fault) }
-        // The fault is the first that applies to what the keeper held, if its device was honest until the end of the call.
-        ensures fault { IfErr result (λ e. K.is_honest e.keeper → (held : Contents) → K.leaves keeper held → RefusesOpen schema held e.fault) }
-        // A failure of the device has a cause: the keeper's count rose in this call, or was already at its maximum.
-        ensures cause { IfErr result (λ e. e.fault ≡ Keeping Device → HasFailed (K.failed keeper) (K.failed e.keeper)) }
-        ensures same_refused { IfErr result (λ e. K.is_honest e.keeper → LeavesNoMore (K.leaves keeper) (K.leaves e.keeper)) }
-        ensures honest_refused { IfErr result (λ e. K.is_honest e.keeper → K.is_honest keeper) }
-    {
-        let Ok(history) = History::new(alloc) else {
-            return Err(RefusedOpen {
-                fault: OpenFault::Keeping(KeepFault::Memory),
-                keeper,
-            });
-        };
-        let Ok(sessions) = Sessions::new(alloc) else {
-            return Err(RefusedOpen {
-                fault: OpenFault::Keeping(KeepFault::Memory),
-                keeper,
-            });
-        };
-        let Ok(waiting) = Waiting::new(alloc) else {
-            return Err(RefusedOpen {
-                fault: OpenFault::Keeping(KeepFault::Memory),
-                keeper,
-            });
-        };
-        let database = Db::open(alloc, keeper, schema)?;
-        database.shows_kept();
-        Ok(Core {
-            live: Live::new(alloc, database, sessions, waiting),
-            source: draws,
-            moment: 0,
-            history,
-            alloc,
-        })
-    }
-
     /// Enters an event at a moment in milliseconds, or at the last moment if that is later.
     ///
     /// A blocked transaction waits, after those that already wait, until it can be answered (RFC 7047, 4.1.3, 5.2.6). At most

@@ -55,7 +55,7 @@ one_row_kept schema rows key line row id version is kept = record {
 -- ---- rows that are changed
 
 -- what is put at a key is one of what is put
-put_read : (changes : Changes) (key : LineKey) (row : Row) → ArePutRead changes → find line_cmp key changes ≡ Some (Some row) → IsBodyRead row
+pub put_read : (changes : Changes) (key : LineKey) (row : Row) → ArePutRead changes → find line_cmp key changes ≡ Some (Some row) → IsBodyRead row
 put_read [] key row read h = cc
 put_read (c ∷ changes) key row read h = by (same key c.0) c.1 read.0 (λ k. put_read changes key row read.1 k) h
   where

@@ -10,3 +10,5 @@ pub mod Guessed
 pub mod Residing
 pub mod HeldBy
 pub mod IndexedRow
+pub mod Putting
+pub mod Converting

@@ -9,7 +9,7 @@ use Rattle.std.proofs.lemmas.Bool.{and_parts}
 use Rattle.std.proofs.lemmas.Bool.Decides.{nat_tests}
 use Rattle.std.proofs.lemmas.Option.{same_Some}
 use Rattle.ov_specs.specs.rows.Database.{Columns, Database, Row, line_of, AreLinesOf}
-use Rattle.ov_specs.specs.rows.Lines.{LineKey, LineBody, Lines, line_cmp}
+use Rattle.ov_specs.specs.rows.Lines.{Contents, LineKey, LineBody, Lines, line_cmp}
 use Rattle.ov_specs.specs.wire.Message.{tree_of}
 use Rattle.std.specs.Str.{bytes_eq}
 use Rattle.ov_specs.specs.schema.SchemaTypes.{Table, Schema}
@@ -17,10 +17,10 @@ use Rattle.ov_specs.proofs.laws.LineKeys.{key_total, same_tied, tied_same}
 use Rattle.ov_keeper.specs.Keeping.{loaded_contents}
 use Rattle.ov_keeper.specs.Views.{line_entry}
 use Rattle.ov_db.specs.declared.fault.OpenFault.{OpenFault}
-use Rattle.ov_db.specs.declared.fault.OpenFault.TheVariants.{SchemaDiffers, BadBody, Broken, Keeping}
+use Rattle.ov_db.specs.declared.fault.OpenFault.TheVariants.{SchemaDiffers, BadBody, Broken, TypeChanged, NotConvertible, Keeping}
 use Rattle.ov_keeper.specs.declared.keeper.Loaded.{Loaded}
 use Rattle.ov_db.proofs.Added.{same}
-use Rattle.ov_db.specs.Opening.{HoldsRows, IsOwnFault, RefusesOpen}
+use Rattle.ov_db.specs.Opening.{IsOwnFault, RefusesOpen}
 use Rattle.ov_db.specs.Loading.{IsNotLoaded, IsLoaded, with_line, with_lines}
 use Rattle.ov_db.specs.Stored.{AreRowsOf, HasBadLine, columns_stored, row_of_columns, row_of_table, row_stored}
 
@@ -176,9 +176,11 @@ lines_of_rows schema lines database are key = by (get database key) (get lines k
     by (Some row) None h = cc
     by (Some row) (Some line) h = ap Some (sym (line_of_stored schema key line row (sym (same_Some (Some row) (row_stored schema key line) h))))
 
--- ---- the tree of a body
-
 -- ---- what is loaded, by the rows that its lines are
+
+-- the keeper holds the schema's text, and lines that are these rows
+abbrev pub HoldsRows : Schema → Contents → Database → Type 0
+HoldsRows schema held database = (held.schema ≡ compact_text schema.tree) × AreRowsOf schema held.lines database
 
 module _ (schema : Schema) (loaded : Loaded) where
   abbrev lines : List (LineKey × LineBody)
@@ -192,6 +194,8 @@ module _ (schema : Schema) (loaded : Loaded) where
   opens (Err (Keeping fault)) same_text is = (tt, tt, is)
   opens (Err SchemaDiffers) same_text is = absurd is
   opens (Err Broken) same_text is = absurd is
+  opens (Err TypeChanged) same_text is = absurd is
+  opens (Err NotConvertible) same_text is = absurd is
 
 -- ---- one line more
 
@@ -207,3 +211,5 @@ module _ (schema : Schema) (entry : LineKey × LineBody) (database : Database) w
   line_refused (Keeping fault) h is = is
   line_refused SchemaDiffers h is = is
   line_refused Broken h is = is
+  line_refused TypeChanged h is = is
+  line_refused NotConvertible h is = is

@@ -63,7 +63,7 @@ in_turn : (b : Bool) (new : Option Row) (rest : Option (Option Row)) (old : Opti
 in_turn true new rest old h = rw (h refl) refl
 in_turn false new rest old h = refl
 
-get-with_rows : (cs : Changes) (db : Database) (q : LineKey) → T (is_sorted line_cmp cs) → get (with_rows cs db) q ≡ or_before (find line_cmp q cs) (get db q)
+pub get-with_rows : (cs : Changes) (db : Database) (q : LineKey) → T (is_sorted line_cmp cs) → get (with_rows cs db) q ≡ or_before (find line_cmp q cs) (get db q)
 get-with_rows [] db q h = refl
 get-with_rows (c ∷ cs) db q h =
     get-with_rows cs (with_row c.0 c.1 db) q (right_holds _ _ h) ∙ ap (or_before (find line_cmp q cs)) (at_one c.0 c.1 db q)

@@ -1,15 +1,19 @@
 -- What is kept beside the rows follows their changes, and rows that are not whole are not opened.
-use Rattle.std.proofs.Common.{◌≡◌, Option, Some, None, refl, sym, ap, ◌∙◌}
-use Rattle.std.specs.Prelude.{unwrap_or, Result, Ok, Err, IfErr, OnOk}
+use Rattle.std.proofs.Common.{◌≡◌, Option, Some, None, true, refl, sym, ap, subst, ◌∙◌}
+use Rattle.std.specs.Prelude.{unwrap_or, Result, Ok, Err, IfOk, IfErr, OnOk}
 use Rattle.std.specs.FinMap.{get, entries, entries_sorted, get-entries, get-from_sorted}
 use Rattle.ov_specs.specs.rows.Changed.{IsAfter}
 use Rattle.ov_specs.specs.rows.Database.{Database, Row}
 use Rattle.ov_specs.specs.rows.Lines.{Contents, line_cmp}
 use Rattle.ov_specs.specs.schema.SchemaTypes.{Schema}
 use Rattle.ov_db.specs.Changing.{Delta, applied}
-use Rattle.ov_db.specs.Opening.{HoldsRows, IsNotWhole, RefusesOpen}
+use Rattle.ov_db.specs.Opening.{CanOpen, IsNotWhole, RefusesOpen}
+use Rattle.ov_db.proofs.Loads.{HoldsRows}
+use Rattle.ov_db.specs.Residing.{IsResident}
+use Rattle.ov_db.specs.declared.resident.Resident.{Resident}
+use Rattle.ov_specs.specs.integrity.Committed.{is_whole}
 use Rattle.ov_db.specs.declared.fault.OpenFault.{OpenFault}
-use Rattle.ov_db.specs.declared.fault.OpenFault.TheVariants.{SchemaDiffers, BadBody, Broken, Keeping}
+use Rattle.ov_db.specs.declared.fault.OpenFault.TheVariants.{SchemaDiffers, BadBody, Broken, TypeChanged, NotConvertible, Keeping}
 use Rattle.ov_db.proofs.Places.{or_before, get-applied}
 
 -- what a delta makes of a database is the database after its changes
@@ -42,3 +46,11 @@ not_whole_refuses schema rows held Broken holds is = (holds.0, (rows, holds.1, i
 not_whole_refuses schema rows held (Keeping fault) holds is = tt
 not_whole_refuses schema rows held SchemaDiffers holds is = absurd is
 not_whole_refuses schema rows held BadBody holds is = absurd is
+not_whole_refuses schema rows held TypeChanged holds is = absurd is
+not_whole_refuses schema rows held NotConvertible holds is = absurd is
+
+-- what holds rows that are whole is opened as these
+pub whole_opens : {E : Type 0} (schema : Schema) (rows : Database) (held : Contents) (result : Result Resident E) → HoldsRows schema held rows → IfOk result (IsResident schema rows)
+    → IfOk result (λ resident. is_whole schema rows ≡ true) → IfOk result (λ resident. CanOpen schema resident.rows held)
+whole_opens schema rows held (Err e) holds is whole = tt
+whole_opens schema rows held (Ok resident) holds is whole = subst (λ (d : Database). CanOpen schema d held) (sym is.0) (record { same_schema = holds.0; rows = holds.1; whole = whole })

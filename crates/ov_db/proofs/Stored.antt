@@ -28,7 +28,7 @@ stores_one k None db lines are q =
     get-remove key_total lines k q ∙ ap (cond (same q k) None) (are q) ∙ removed_stored (same q k) (get db q)
     ∙ ap (option_map line_of) (sym (get-remove key_total db k q))
 
-stores : (cs : List (LineKey × Option Row)) (db : Database) (lines : Lines) → AreLinesOf db lines → AreLinesOf (with_rows cs db) (after_changes (map change_of cs) lines)
+pub stores : (cs : List (LineKey × Option Row)) (db : Database) (lines : Lines) → AreLinesOf db lines → AreLinesOf (with_rows cs db) (after_changes (map change_of cs) lines)
 stores [] db lines are = are
 stores (c ∷ cs) db lines are = stores cs (with_row c.0 c.1 db) (after_change (change_of (c.0, c.1)) lines) (stores_one c.0 c.1 db lines are)
 

@@ -1,5 +1,5 @@
 -- Changes of a database by their keys, and the database after them.
-use Rattle.std.specs.Prelude.{◌≡◌, List, [], ◌∷◌, Option, Some, None}
+use Rattle.std.specs.Prelude.{◌≡◌, List, [], ◌∷◌, map, Option, Some, None}
 use Rattle.std.specs.FinMap.{FinMap, get, insert, remove, entries}
 use Rattle.ov_specs.specs.rows.Database.{Database, Row, line_of}
 use Rattle.ov_specs.specs.rows.Lines.{LineKey, LineChange, Put, Remove, line_cmp}
@@ -28,6 +28,10 @@ applied delta database = with_rows (entries delta) database
 abbrev pub change_of : LineKey × Option Row → LineChange
 change_of (key, Some row) = Put key (line_of row)
 change_of (key, None) = Remove key
+
+-- the changes that put these rows
+abbrev pub as_puts : List (LineKey × Row) → List (LineKey × Option Row)
+as_puts = map (λ r. (r.0, Some r.1))
 
 -- each row that the changes put is a row of the schema
 abbrev pub SuitsChanges : Schema → Delta → Type 0

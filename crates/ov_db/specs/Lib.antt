@@ -7,6 +7,8 @@ pub mod Committing
 pub mod Stored
 pub mod Loading
 pub mod Opening
+pub mod Converting
+pub mod Faults
 pub mod Guessed
 pub mod Residing
 pub mod Lookups

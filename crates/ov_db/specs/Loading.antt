@@ -3,7 +3,7 @@ use Rattle.std.specs.Prelude.{◌≡◌, List, [], ◌∷◌, if◌then◌else�
 use Rattle.std.specs.FinMap.{contains_key, insert}
 use Rattle.ov_keeper.specs.declared.fault.KeepFault.TheVariants.{Memory}
 use Rattle.ov_db.specs.declared.fault.OpenFault.{OpenFault}
-use Rattle.ov_db.specs.declared.fault.OpenFault.TheVariants.{SchemaDiffers, BadBody, Broken, Keeping}
+use Rattle.ov_db.specs.declared.fault.OpenFault.TheVariants.{SchemaDiffers, BadBody, Broken, TypeChanged, NotConvertible, Keeping}
 use Rattle.ov_db.specs.Stored.{row_stored}
 use Rattle.ov_specs.specs.rows.Database.{Database}
 use Rattle.ov_specs.specs.rows.Lines.{LineKey, LineBody}
@@ -24,6 +24,8 @@ IsNotLoaded given BadBody = given ≡ None
 IsNotLoaded given (Keeping fault) = fault ≡ Memory
 IsNotLoaded given SchemaDiffers = ⊥
 IsNotLoaded given Broken = ⊥
+IsNotLoaded given TypeChanged = ⊥
+IsNotLoaded given NotConvertible = ⊥
 
 -- the result, or that there is none
 abbrev pub IsLoaded : {A B : Type 0} → (A → B) → Option B → Result A OpenFault → Type 0

@@ -1,18 +1,19 @@
-ghost use Rattle.std.specs.Prelude.{◌≡◌, [], map, true, false, is_some, IfOk, OnOk, None};
+ghost use Rattle.std.specs.Prelude.{◌≡◌, ◌++◌, [], map, true, false, is_some, IfOk, OnOk, None};
 ghost use Rattle.std.specs.FinMap.{entries, get, contains_key};
 ghost use Rattle.std.specs.Ordering.{eq_by_cmp};
 ghost use Rattle.ov_specs.specs.rows.Database.{line_of};
 ghost use Rattle.ov_specs.specs.rows.Lines.{LineKey, Remove, line_cmp};
 ghost use Rattle.ov_keeper.specs.Views.{changes_view, change_view, line_entry};
 ghost use Rattle.ov_db.specs.Adding.{lent_keys, without_rows};
-ghost use Rattle.ov_db.specs.Changing.{applied, change_of, with_row};
+ghost use Rattle.ov_db.specs.Changing.{applied, as_puts, change_of, with_row};
+ghost use Rattle.ov_rows.specs.Nested.{in_table};
 ghost use Rattle.ov_db.specs.Placing.{IsPlaced, IsSameBeside};
 ghost use Rattle.ov_db.specs.Stored.{IsBodyRead, IsPutRead, ArePutRead};
 
 use crate::delta::Delta;
 use ov_base::{Bytes, ColumnNames, Text};
 use ov_keeper::{Change, Line};
-use ov_rows::{Columns, NamedValues, Row, RowKey, Rows};
+use ov_rows::{Columns, NamedValues, Row, RowKey, Rows, TableRows};
 use std::alloc::{AllocError, Global};
 use uuid::Uuid;
 
@@ -24,14 +25,14 @@ fn body_of(alloc: Global, row: &Row) -> Result<Bytes, AllocError>
     row.columns.text(alloc)
 }
 
-/// The line that stores a row.
-fn line_of(alloc: Global, key: &RowKey, row: &Row) -> Result<Line, AllocError>
-    ensures line { IfOk result (λ line. line_entry line ≡ (key.now, line_of row.now)) }
+/// The line that stores a row of the table of this name.
+fn line_of(alloc: Global, table: &str, id: Uuid, row: &Row) -> Result<Line, AllocError>
+    ensures line { IfOk result (λ line. line_entry line ≡ ((table.now, id), line_of row.now)) }
     ensures read { IfOk result (λ line. IsBodyRead row.now) }
 {
     Ok(Line {
-        table: Text::from_str(alloc, key.table())?,
-        id: key.id(),
+        table: Text::from_str(alloc, table)?,
+        id,
         version: row.version,
         body: body_of(alloc, row)?,
     })
@@ -52,7 +53,7 @@ fn change_of(alloc: Global, key: &RowKey, row: &Option<Row>) -> Result<Change, A
     ensures read { IfOk result (λ change. IsPutRead row.now) }
 {
     match row {
-        Some(row) => Ok(Change::Put(line_of(alloc, key, row)?)),
+        Some(row) => Ok(Change::Put(line_of(alloc, key.table(), key.id(), row)?)),
         None => remove_of(alloc, key),
     }
 }
@@ -65,6 +66,34 @@ pub(crate) fn changes_of(alloc: Global, delta: &Delta) -> Result<Vec<Change>, Al
     let mut changes = Vec::new(alloc);
     for (key, row) in delta.map() {
         changes.push(change_of(alloc, key, row)?)?;
+    }
+    Ok(changes)
+}
+
+/// Puts the lines of the rows of a table.
+fn put_table(
+    alloc: Global,
+    name: &str,
+    table: &TableRows,
+    changes: &mut Vec<Change>,
+) -> Result<(), AllocError>
+    ensures changes { OnOk result (changes_view changes.new.items ≡ changes_view changes.old.items ++ map change_of (as_puts (in_table name.now (entries table.now)))) }
+    ensures read { OnOk result (ArePutRead (as_puts (in_table name.now (entries table.now)))) }
+{
+    for (id, row) in table.map() {
+        changes.push(Change::Put(line_of(alloc, name, *id.as_uuid(), row)?))?;
+    }
+    Ok(())
+}
+
+/// The changes that put the line of each row. Each row reads back.
+pub(crate) fn puts_of(alloc: Global, rows: &Rows) -> Result<Vec<Change>, AllocError>
+    ensures changes { IfOk result (λ changes. changes_view changes.items ≡ map change_of (as_puts (entries rows.now))) }
+    ensures read { IfOk result (λ changes. ArePutRead (as_puts (entries rows.now))) }
+{
+    let mut changes = Vec::new(alloc);
+    for (name, table) in rows.tables() {
+        put_table(alloc, name.as_str(), table, &mut changes)?;
     }
     Ok(changes)
 }

@@ -12,13 +12,15 @@ ghost use Rattle.ov_refs.specs.Linking.{AreLinksOf};
 ghost use Rattle.ov_index.specs.Indexing.{AreIndexesOf};
 ghost use Rattle.ov_specs.specs.integrity.Committed.{is_whole};
 ghost use Rattle.ov_db.specs.Committing.{AreKept, Commits, MayFind, MayHold};
+ghost use Rattle.ov_db.specs.Converting.{IsConvertFault, IsOpened, LeavesOpened, LeavesUnopened, RefusesConversion};
 ghost use Rattle.ov_db.specs.Lookups.{TellsIndexed, if_any, strong_holders, weak_holders};
-ghost use Rattle.ov_db.specs.Opening.{CanOpen, IsOpenFault, RefusesOpen};
+ghost use Rattle.ov_db.specs.Opening.{CanOpen, FindsOne, IsOpenFault, RefusesOpen};
 ghost use Rattle.ov_db.specs.declared.answer.StoreAnswer.TheVariants.{Kept, Failed};
-ghost use Rattle.ov_db.specs.declared.fault.OpenFault.TheVariants.{Keeping};
+ghost use Rattle.ov_db.specs.declared.fault.OpenFault.TheVariants.{Keeping, SchemaDiffers};
 
 use crate::answer::StoreAnswer;
 use crate::commit::changes_of;
+use crate::convert::convert_whole;
 use crate::delta::Delta;
 use crate::fault::RefusedOpen;
 use crate::load::load_whole;
@@ -87,7 +89,7 @@ impl<K: Keeper + Drop> Db<K> {
     /// Refuses with the keeper's fault if its load fails, as `SchemaDiffers` if the keeper holds another text than the
     /// schema's, as `BadBody` if one of its lines is not a row of the schema, and as `Broken` if the rows break a rule of
     /// commits or a commit would change them; the first of these that applies. A failed allocation is the keeper's fault
-    /// `Memory`. What the keeper holds does not change, and a refusal gives the keeper back.
+    /// `Memory`. What the keeper holds does not change, and a refusal gives the keeper and the schema back.
     pub fn open(alloc: Global, mut keeper: K, schema: Schema) -> Result<Db<K>, RefusedOpen<K>>
         ensures rest { IfOk result (λ d. (d.schema ≡ schema) × (d.sealed ≡ None)) }
         ensures held { IfOk result (λ d. K.is_honest d.keeper → (held : Contents) → K.leaves keeper held → CanOpen schema d.committed held) }
@@ -97,8 +99,12 @@ impl<K: Keeper + Drop> Db<K> {
         ensures fault { IfErr result (λ e. K.is_honest e.keeper → (held : Contents) → K.leaves keeper held → RefusesOpen schema held e.fault) }
         // A failure of the device has a cause: the keeper's count rose in this call, or was already at its maximum.
         ensures cause { IfErr result (λ e. e.fault ≡ Keeping Device → HasFailed (K.failed keeper) (K.failed e.keeper)) }
+        ensures counts { IfErr result (λ e. K.failed keeper ≤ K.failed e.keeper) }
         ensures same_refused { IfErr result (λ e. K.is_honest e.keeper → LeavesNoMore (K.leaves keeper) (K.leaves e.keeper)) }
+        // Another text was what an open would have found, and nothing else.
+        ensures one { IfErr result (λ e. K.is_honest e.keeper → e.fault ≡ SchemaDiffers → FindsOne (K.leaves keeper)) }
         ensures honest_refused { IfErr result (λ e. K.is_honest e.keeper → K.is_honest keeper) }
+        ensures schema { IfErr result (λ e. e.schema ≡ schema) }
     {
         match load_whole(alloc, &mut keeper, &schema) {
             Ok(resident) => Ok(Db {
@@ -107,7 +113,57 @@ impl<K: Keeper + Drop> Db<K> {
                 failed: None,
                 keeper,
             }),
-            Err(fault) => Err(RefusedOpen { fault, keeper }),
+            Err(fault) => Err(RefusedOpen {
+                fault,
+                keeper,
+                schema,
+            }),
+        }
+    }
+
+    /// Opens the database that a keeper holds under an older schema, and converts it to this one: the keeper then holds the
+    /// schema's text and the converted rows. If it holds the schema's own text, opens it as `open` does, and writes nothing.
+    ///
+    /// The stored text must be that of an accepted schema of the same name with an older version, and each line a row of it.
+    /// The rows are carried over in one commit of this version, under the new schema. Refuses with the keeper's fault if its
+    /// load fails, as `BadBody` if the text is no schema or a line is not a row of it, as `SchemaDiffers` if the schema has
+    /// another name or is not newer, as `Broken` if the stored rows break a rule of commits, as `TypeChanged` if a column of
+    /// both schemas has two types, as `NotConvertible` if that commit fails, and with the keeper's fault if the write of the
+    /// converted rows fails; the first of these that applies. A failed allocation is the keeper's fault `Memory`. A refusal
+    /// gives the keeper and the schema back, and changes nothing that is held; only after the fault `Device` the keeper may
+    /// hold the converted rows.
+    pub fn convert(
+        alloc: Global,
+        mut keeper: K,
+        schema: Schema,
+        version: Uuid,
+    ) -> Result<Db<K>, RefusedOpen<K>>
+        ensures rest { IfOk result (λ d. (d.schema ≡ schema) × (d.sealed ≡ None)) }
+        ensures held { IfOk result (λ d. K.is_honest d.keeper → (held : Contents) → K.leaves keeper held → IsOpened schema version d.committed held) }
+        // An open now finds the database. It could have found it before, or the keeper holds what that was converted to.
+        ensures left { IfOk result (λ d. K.is_honest d.keeper → LeavesOpened (K.leaves keeper) (K.leaves d.keeper) schema version d.committed) }
+        ensures honest { IfOk result (λ d. K.is_honest d.keeper → K.is_honest keeper) }
+        ensures kinds { IfErr result (λ e. IsConvertFault e.fault) }
+        ensures fault { IfErr result (λ e. K.is_honest e.keeper → (held : Contents) → K.leaves keeper held → RefusesConversion schema version held e.fault) }
+        // A failure of the device has a cause: the keeper's count rose in this call, or was already at its maximum.
+        ensures cause { IfErr result (λ e. e.fault ≡ Keeping Device → HasFailed (K.failed keeper) (K.failed e.keeper)) }
+        ensures counts { IfErr result (λ e. K.failed keeper ≤ K.failed e.keeper) }
+        ensures left_refused { IfErr result (λ e. K.is_honest e.keeper → LeavesUnopened (K.leaves keeper) (K.leaves e.keeper) schema version e.fault) }
+        ensures honest_refused { IfErr result (λ e. K.is_honest e.keeper → K.is_honest keeper) }
+        ensures schema { IfErr result (λ e. e.schema ≡ schema) }
+    {
+        match convert_whole(alloc, &mut keeper, &schema, version) {
+            Ok(resident) => Ok(Db {
+                schema,
+                resident,
+                failed: None,
+                keeper,
+            }),
+            Err(fault) => Err(RefusedOpen {
+                fault,
+                keeper,
+                schema,
+            }),
         }
     }
 

@@ -1,20 +1,29 @@
+use ov_conversion::ConversionFault;
 use ov_keeper::{KeepFault, Keeper};
+use ov_schema::{Schema, SchemaFault};
+use ov_schema_text::SchemaFileFault;
 use std::alloc::AllocError;
 use std::fmt;
 use thiserror::Error;
 
-/// Why a database is not opened.
+/// Why a database is not opened or converted.
 #[derive(Clone, Copy, Debug, PartialEq, Eq, Error)]
 pub enum OpenFault {
-    /// The stored schema has another text.
+    /// The stored schema has another text. If it can be converted: it has another name, or is not older.
     #[error("the stored schema is another one")]
     SchemaDiffers,
-    /// A stored line is not a row of the schema.
+    /// A stored line is not a row of the stored schema, or the stored text is no schema.
     #[error("a stored row does not fit the schema")]
     BadBody,
     /// The stored rows break a rule of commits.
     #[error("the stored rows break a constraint")]
     Broken,
+    /// A column of both schemas has another type in the new one. Only a conversion returns this.
+    #[error("a column has another type in the new schema")]
+    TypeChanged,
+    /// A commit of the stored rows under the new schema fails. Only a conversion returns this.
+    #[error("the stored rows do not fit the new schema")]
+    NotConvertible,
     /// The keeper refused.
     #[error("{0}")]
     Keeping(KeepFault),
@@ -43,12 +52,43 @@ impl From<KeepFault> for OpenFault {
     }
 }
 
-/// A refused open: the reason, and the keeper given back.
+impl From<SchemaFileFault> for OpenFault {
+    ghost use Rattle.std.specs.Prelude.{◌≡◌};
+    ghost use Rattle.ov_db.specs.Faults.{by_text};
+
+    ghost from_gives = { λ fault e. e ≡ by_text fault };
+
+    fn from(fault: SchemaFileFault) -> OpenFault {
+        match fault {
+            SchemaFileFault::Memory | SchemaFileFault::Refused(SchemaFault::Memory) => {
+                OpenFault::Keeping(KeepFault::Memory)
+            }
+            _ => OpenFault::BadBody,
+        }
+    }
+}
+
+impl From<ConversionFault> for OpenFault {
+    ghost use Rattle.std.specs.Prelude.{◌≡◌};
+    ghost use Rattle.ov_db.specs.Faults.{by_conversion};
+
+    ghost from_gives = { λ fault e. e ≡ by_conversion fault };
+
+    fn from(fault: ConversionFault) -> OpenFault {
+        match fault {
+            ConversionFault::Memory => OpenFault::Keeping(KeepFault::Memory),
+            ConversionFault::NotConvertible => OpenFault::NotConvertible,
+        }
+    }
+}
+
+/// A refused open: the reason, with the keeper and the schema given back.
 #[derive(Drop, Error)]
 #[error("{fault}")]
 pub struct RefusedOpen<K: Keeper> {
     pub fault: OpenFault,
     pub keeper: K,
+    pub schema: Schema,
 }
 
 impl<K: Keeper> fmt::Debug for RefusedOpen<K> {

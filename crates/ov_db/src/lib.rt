@@ -2,10 +2,13 @@
 //!
 //! Each row is stored as one line. A commit is one call of the keeper. If it fails, the rows stay as they were, and what it
 //! would have made is kept beside them, since an open may find either.
+//!
+//! What a keeper holds under an older schema can be converted to a newer one. One call then replaces all that it holds.
 #![tactic(auto)]
 
 mod answer;
 mod commit;
+mod convert;
 mod db;
 mod delta;
 mod fault;

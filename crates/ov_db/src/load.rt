@@ -1,15 +1,16 @@
-ghost use Rattle.std.specs.Prelude.{◌≡◌, map, Some, None, Err, IfOk, IfErr, OnOk};
+ghost use Rattle.std.specs.Prelude.{◌≡◌, ◌≤◌, ◌↔◌, IsTrue, map, Some, None, Err, IfOk, IfErr, OnOk};
 ghost use Rattle.std.specs.FinMap.{empty};
+ghost use Rattle.serde_json.specs.Written.{compact_text};
 ghost use Rattle.ov_specs.specs.rows.Lines.{Contents};
 ghost use Rattle.ov_keeper.specs.Keeping.{HasFailed, LeavesNoMore, loaded_contents};
-ghost use Rattle.ov_keeper.specs.declared.fault.KeepFault.TheVariants.{Device};
+ghost use Rattle.ov_keeper.specs.declared.fault.KeepFault.TheVariants.{Device, Memory};
 ghost use Rattle.ov_keeper.specs.Views.{line_entry};
 ghost use Rattle.ov_db.specs.Loading.{IsNotLoaded, IsLoaded, with_line, with_lines};
 ghost use Rattle.ov_db.specs.Committing.{AreKept};
-ghost use Rattle.ov_db.specs.Opening.{CanOpen, HoldsRows, IsOpenFault, IsOwnFault, RefusesOpen};
+ghost use Rattle.ov_db.specs.Opening.{CanOpen, FindsOne, IsOpenFault, IsOwnFault, RefusesOpen};
 ghost use Rattle.ov_db.specs.Residing.{IsBeside};
 ghost use Rattle.ov_db.specs.Stored.{KeepsRows};
-ghost use Rattle.ov_db.specs.declared.fault.OpenFault.TheVariants.{Keeping};
+ghost use Rattle.ov_db.specs.declared.fault.OpenFault.TheVariants.{Keeping, SchemaDiffers};
 
 use crate::fault::OpenFault;
 use crate::read::next_row;
@@ -30,45 +31,53 @@ pub(crate) fn load_whole<K: Keeper>(
     ensures beside { IfOk result (λ resident. IsBeside schema.now resident.rows resident) }
     ensures ok { K.is_honest keeper.new → IfOk result (λ resident. (held : Contents) → K.leaves keeper.old held → CanOpen schema.now resident.rows held) }
     ensures err { K.is_honest keeper.new → IfErr result (λ fault. (held : Contents) → K.leaves keeper.old held → RefusesOpen schema.now held fault) }
+    ensures one { K.is_honest keeper.new → result ≡ Err SchemaDiffers → FindsOne (K.leaves keeper.old) }
     ensures kinds { IfErr result IsOpenFault }
     ensures cause { result ≡ Err (Keeping Device) → HasFailed (K.failed keeper.old) (K.failed keeper.new) }
-    ensures same { K.is_honest keeper.new → LeavesNoMore (K.leaves keeper.old) (K.leaves keeper.new) }
-    ensures honest { K.is_honest keeper.new → K.is_honest keeper.old }
-{
-    let rows = load_rows(alloc, keeper, schema)?;
-    Resident::of(alloc, schema, rows)
-}
-
-/// Loads what a keeper holds, and returns its rows. Does not check whether they are whole.
-fn load_rows<K: Keeper>(alloc: Global, keeper: &mut K, schema: &Schema) -> Result<Rows, OpenFault>
-    ensures kept { IfOk result (KeepsRows schema.now) }
-    ensures ok { K.is_honest keeper.new → IfOk result (λ rows. (held : Contents) → K.leaves keeper.old held → HoldsRows schema.now held rows) }
-    ensures err { K.is_honest keeper.new → IfErr result (λ fault. (held : Contents) → K.leaves keeper.old held → RefusesOpen schema.now held fault) }
-    ensures kinds { IfErr result IsOpenFault }
-    ensures cause { result ≡ Err (Keeping Device) → HasFailed (K.failed keeper.old) (K.failed keeper.new) }
+    ensures counts { K.failed keeper.old ≤ K.failed keeper.new }
     ensures same { K.is_honest keeper.new → LeavesNoMore (K.leaves keeper.old) (K.leaves keeper.new) }
     ensures honest { K.is_honest keeper.new → K.is_honest keeper.old }
 {
     let loaded = keeper.load(alloc)?;
-    rows_of(alloc, schema, &loaded)
+    if !has_text(alloc, schema, &loaded)? {
+        return Err(OpenFault::SchemaDiffers);
+    }
+    resident_of(alloc, schema, &loaded)
 }
 
-/// The rows of what a keeper holds, if that is the schema's text and rows; otherwise the first reason why it is not.
-fn rows_of(alloc: Global, schema: &Schema, loaded: &Loaded) -> Result<Rows, OpenFault>
-    ensures kept { IfOk result (KeepsRows schema.now) }
-    ensures ok { IfOk result (HoldsRows schema.now (loaded_contents loaded.now)) }
+/// Whether the text that was loaded is the schema's.
+pub(crate) fn has_text(alloc: Global, schema: &Schema, loaded: &Loaded) -> Result<bool, OpenFault>
+    ensures has { IfOk result (λ has. IsTrue has ↔ (loaded.now.schema ≡ compact_text schema.now.tree)) }
+    ensures err { IfErr result (λ fault. fault ≡ Keeping Memory) }
+{
+    let text = schema.tree().to_bytes(alloc)?;
+    Ok(loaded.schema.as_str().as_bytes() == text.as_slice())
+}
+
+/// The rows that were loaded with the schema's text, and their links and indexes, if a commit would leave the rows as they
+/// are; otherwise the first reason why not.
+pub(crate) fn resident_of(
+    alloc: Global,
+    schema: &Schema,
+    loaded: &Loaded,
+) -> Result<Resident, OpenFault>
+    requires { loaded.now.schema ≡ compact_text schema.now.tree }
+    ensures kept { IfOk result (λ resident. AreKept schema.now resident.rows None) }
+    ensures beside { IfOk result (λ resident. IsBeside schema.now resident.rows resident) }
+    ensures ok { IfOk result (λ resident. CanOpen schema.now resident.rows (loaded_contents loaded.now)) }
     ensures err { IfErr result (RefusesOpen schema.now (loaded_contents loaded.now)) }
     ensures kinds { IfErr result IsOwnFault }
 {
-    let text = schema.tree().to_bytes(alloc)?;
-    if loaded.schema.as_str().as_bytes() != text.as_slice() {
-        return Err(OpenFault::SchemaDiffers);
-    }
-    rows_of_lines(alloc, schema, loaded.lines.as_slice())
+    let rows = rows_of_lines(alloc, schema, loaded.lines.as_slice())?;
+    Resident::of(alloc, schema, rows)
 }
 
 /// The rows that the lines store. If two lines have the same key, the first counts.
-fn rows_of_lines(alloc: Global, schema: &Schema, lines: &[Line]) -> Result<Rows, OpenFault>
+pub(crate) fn rows_of_lines(
+    alloc: Global,
+    schema: &Schema,
+    lines: &[Line],
+) -> Result<Rows, OpenFault>
     ensures loaded { IsLoaded (λ rows. rows) (with_lines schema.now (map line_entry lines.now) empty) result }
     ensures kept { IfOk result (KeepsRows schema.now) }
 {

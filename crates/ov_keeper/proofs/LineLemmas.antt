@@ -11,9 +11,9 @@ use Rattle.std.proofs.Math.Seq.{take-suc}
 use Rattle.ov_specs.specs.rows.Lines.{LineKey, LineBody, LineChange, Lines, line_cmp, after_change, after_changes}
 use Rattle.ov_keeper.specs.declared.line.Change.{Change}
 use Rattle.ov_keeper.specs.declared.line.Line.{Line}
-use Rattle.ov_keeper.specs.Keeping.{changed}
+use Rattle.ov_keeper.specs.Keeping.{changed, rewritten}
 use Rattle.ov_keeper.specs.LineMap.{is_put, room_for}
-use Rattle.ov_keeper.specs.ListKeeper.{contents_after, lines_of}
+use Rattle.ov_keeper.specs.ListKeeper.{lines_of}
 use Rattle.ov_keeper.specs.Views.{change_view, changes_view, line_entry}
 use Rattle.ov_specs.proofs.laws.LineKeys.{key_exact, key_total, tied_same, same_tied}
 use Rattle.ov_specs.proofs.laws.Truths.{cond-not}
@@ -74,8 +74,8 @@ pub after_changes-append : (xs ys : List LineChange) (m : Lines) → after_chang
 after_changes-append [] ys m = refl
 after_changes-append (x ∷ xs) ys m = after_changes-append xs ys (after_change x m)
 
-pub contents_after-append : (schema : List ℕ) (xs ys : List LineChange) → contents_after schema (xs ++ ys) ≡ changed ys (contents_after schema xs)
-contents_after-append schema xs ys = λ i. record { schema = schema; lines = after_changes-append xs ys empty i }
+pub rewritten-append : (schema : List ℕ) (xs ys : List LineChange) → rewritten schema (xs ++ ys) ≡ changed ys (rewritten schema xs)
+rewritten-append schema xs ys = λ i. record { schema = schema; lines = after_changes-append xs ys empty i }
 
 -- one change more
 pub after_changes-take : {X : Type 0} (f : X → LineChange) (xs : List X) (i : ℕ) (x : X) (m : Lines) → i < length xs → x ≡ get_or xs i x → after_changes (map f (take (i + 1) xs)) m ≡ after_change (f x) (after_changes (map f (take i xs)) m)

@@ -16,7 +16,7 @@ lines_in map = from_entries map.bodies.entries
 abbrev pub spare_in : LineMap → ℕ
 spare_in map = spare map.bodies
 
--- the lines of a keeper, which has no map before its first commit
+-- the lines of a keeper, which has no map before its first commit or rewrite
 abbrev pub lines_held : Option LineMap → Lines
 lines_held None = empty
 lines_held (Some map) = lines_in map

@@ -6,7 +6,7 @@ pub enum KeepFault {
     /// An allocation failed. Nothing has changed.
     #[error("out of memory")]
     Memory,
-    /// The device failed. What is held is as before or has all of the changes: open it again.
+    /// The device failed. What is held is as before, or as the call would have made it: open it again.
     #[error("the device failed")]
     Device,
     /// What is there is not a database of this program. Only an open returns this.

@@ -1,7 +1,8 @@
 ghost use Rattle.std.specs.Prelude.{◌≡◌, ◌⊎◌, ◌<◌, ◌≤◌, ◌-◌, ◌^◌, ℕ, IfOk, IfErr, OnOk};
 ghost use Rattle.ov_specs.specs.rows.Lines.{Contents};
 ghost use Rattle.ov_keeper.specs.Views.{changes_view};
-ghost use Rattle.ov_keeper.specs.Keeping.{LeavesNoMore, LeavesChanged, LeavesRefused, IsCommitFault, IsLoadFault, loaded_contents};
+ghost use Rattle.ov_keeper.specs.Keeping.{LeavesNoMore, LeavesMade, LeavesRefused, IsCommitFault, IsLoadFault};
+ghost use Rattle.ov_keeper.specs.Keeping.{changed, rewritten, loaded_contents};
 
 use crate::fault::KeepFault;
 use crate::line::{Change, Line};
@@ -43,8 +44,24 @@ pub trait Keeper {
 
     /// Makes all changes, in order, or none.
     fn commit(&mut self, alloc: Global, changes: &[Change]) -> Result<(), KeepFault>
-        ensures ok { is_honest self.new → OnOk result (LeavesChanged (changes_view changes.now) (leaves self.old) (leaves self.new)) }
-        ensures err { is_honest self.new → IfErr result (LeavesRefused (changes_view changes.now) (leaves self.old) (leaves self.new)) }
+        ensures ok { is_honest self.new
+            → OnOk result (LeavesMade (changed (changes_view changes.now)) (leaves self.old) (leaves self.new)) }
+        ensures err { is_honest self.new
+            → IfErr result (LeavesRefused (changed (changes_view changes.now)) (leaves self.old) (leaves self.new)) }
+        ensures kinds { IfErr result IsCommitFault }
+        // A failure of the device has a cause: its count rises, unless it is at its maximum.
+        ensures cause { result ≡ Err KeepFault.Device → (failed self.old < failed self.new) ⊎ (failed self.old ≡ 2 ^ 64 - 1) }
+        ensures counts { failed self.old ≤ failed self.new }
+        ensures honest { is_honest self.new → is_honest self.old };
+
+    /// Replaces the schema's text and all lines by those that the changes put, starting from none; or changes nothing.
+    fn rewrite(&mut self, alloc: Global, schema: &Text, changes: &[Change]) -> Result<(), KeepFault>
+        ensures ok { is_honest self.new
+            → OnOk result (LeavesMade (λ _. rewritten schema.now (changes_view changes.now))
+            (leaves self.old) (leaves self.new)) }
+        ensures err { is_honest self.new
+            → IfErr result (LeavesRefused (λ _. rewritten schema.now (changes_view changes.now))
+            (leaves self.old) (leaves self.new)) }
         ensures kinds { IfErr result IsCommitFault }
         // A failure of the device has a cause: its count rises, unless it is at its maximum.
         ensures cause { result ≡ Err KeepFault.Device → (failed self.old < failed self.new) ⊎ (failed self.old ≡ 2 ^ 64 - 1) }

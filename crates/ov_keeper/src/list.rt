@@ -1,7 +1,8 @@
 ghost use Rattle.std.specs.Prelude.{◌≡◌, ◌↔◌, IfOk, OnOk};
 ghost use Rattle.std.specs.FinMap.{empty, remove};
 ghost use Rattle.ov_specs.specs.rows.Lines.{Contents, after_change, after_changes};
-ghost use Rattle.ov_keeper.specs.ListKeeper.{lines_of};
+ghost use Rattle.ov_keeper.specs.Keeping.{rewritten};
+ghost use Rattle.ov_keeper.specs.ListKeeper.{contents_of, lines_of};
 ghost use Rattle.ov_keeper.specs.Views.{change_view, changes_view};
 
 use crate::fault::KeepFault;
@@ -11,8 +12,8 @@ use ov_base::Text;
 use std::alloc::{AllocError, Global};
 use uuid::Uuid;
 
-/// A keeper in memory, for tests and small databases: a load takes time quadratic in the number of changes made. Each
-/// refusal is `Memory`, and a refused call changes nothing that it holds.
+/// A keeper in memory, for tests and small databases: a load takes time quadratic in the number of changes made, counted from the
+/// last rewrite. Each refusal is `Memory`, and a refused call changes nothing that it holds.
 #[derive(Drop)]
 pub struct ListKeeper {
     schema: Text,
@@ -30,6 +31,20 @@ impl ListKeeper {
         }
     }
 
+    /// A keeper with this schema text and the lines that the changes put, starting from none.
+    fn with_changes(
+        alloc: Global,
+        schema: &Text,
+        changes: &[Change],
+    ) -> Result<ListKeeper, AllocError>
+        ensures { IfOk result (λ keeper. contents_of keeper ≡ rewritten schema.now (changes_view changes.now)) }
+    {
+        Ok(ListKeeper {
+            schema: Text::from_str(alloc, schema.as_str())?,
+            made: copy_all(alloc, changes)?,
+        })
+    }
+
     /// What it holds.
     fn contents(&self, alloc: Global) -> Result<Loaded, AllocError>
         ensures schema { IfOk result (λ loaded. loaded.schema ≡ self.now.schema) }
@@ -45,7 +60,7 @@ impl ListKeeper {
 impl Keeper for ListKeeper {
     ghost use Rattle.std.specs.Prelude.{◌≡◌, IfOk, IfErr, OnOk, OnErr};
     ghost use Rattle.ov_keeper.specs.declared.fault.KeepFault.TheVariants.{Memory};
-    ghost use Rattle.ov_keeper.specs.Keeping.{LeavesChanged, loaded_contents};
+    ghost use Rattle.ov_keeper.specs.Keeping.{LeavesMade, changed, rewritten, loaded_contents};
     ghost use Rattle.ov_keeper.specs.Views.{changes_view};
     ghost use Rattle.ov_keeper.specs.ListKeeper.{contents_of, finds, some_contents};
 
@@ -73,7 +88,7 @@ impl Keeper for ListKeeper {
     }
 
     fn commit(&mut self, alloc: Global, changes: &[Change]) -> Result<(), KeepFault>
-        ensures ok { OnOk result (LeavesChanged (changes_view changes.now) (finds self.old) (finds self.new)) }
+        ensures ok { OnOk result (LeavesMade (changed (changes_view changes.now)) (finds self.old) (finds self.new)) }
         ensures memory { IfErr result (λ fault. fault ≡ Memory) }
         ensures same { OnErr result (contents_of self.new ≡ contents_of self.old) }
     {
@@ -82,6 +97,20 @@ impl Keeper for ListKeeper {
         };
         match self.made.append(&mut more) {
             Ok(()) => Ok(()),
+            Err(_) => Err(KeepFault::Memory),
+        }
+    }
+
+    fn rewrite(&mut self, alloc: Global, schema: &Text, changes: &[Change]) -> Result<(), KeepFault>
+        ensures ok { OnOk result (contents_of self.new ≡ rewritten schema.now (changes_view changes.now)) }
+        ensures memory { IfErr result (λ fault. fault ≡ Memory) }
+        ensures same { OnErr result (contents_of self.new ≡ contents_of self.old) }
+    {
+        match ListKeeper::with_changes(alloc, schema, changes) {
+            Ok(keeper) => {
+                *self = keeper;
+                Ok(())
+            }
             Err(_) => Err(KeepFault::Memory),
         }
     }

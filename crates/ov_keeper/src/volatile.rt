@@ -1,7 +1,7 @@
 ghost use Rattle.std.specs.Prelude.{◌≡◌, ◌↔◌, IfOk, OnOk, OnErr};
 ghost use Rattle.std.specs.FinMap.{empty};
 ghost use Rattle.ov_specs.specs.rows.Lines.{Contents, after_changes};
-ghost use Rattle.ov_keeper.specs.Keeping.{loaded_contents};
+ghost use Rattle.ov_keeper.specs.Keeping.{rewritten, loaded_contents};
 ghost use Rattle.ov_keeper.specs.LineMap.{lines_held};
 ghost use Rattle.ov_keeper.specs.Views.{changes_view};
 
@@ -16,10 +16,11 @@ use std::marker::Model;
 /// A keeper in memory, for a database that is gone when the program ends. It holds each line once, in a hash map.
 ///
 /// Each refusal is `Memory`, and a refused call changes nothing that it holds. A load takes time proportional to the lines, and a
-/// commit to its changes, except where the map is rehashed, mostly for twice the room. It takes 9 * 2^28 lines at most.
+/// commit or a rewrite to its changes, except where the map is rehashed, mostly for twice the room. During a rewrite it holds the
+/// former lines beside the new ones. It takes 9 * 2^28 lines at most.
 pub struct VolatileKeeper {
     schema: Text,
-    // None before the first commit, which brings an allocator.
+    // None before the first commit or rewrite, which brings an allocator.
     lines: Option<LineMap>,
 }
 
@@ -55,6 +56,22 @@ impl VolatileKeeper {
         }
     }
 
+    /// A keeper with this schema text and the lines that the changes put, starting from none.
+    fn with_changes(
+        alloc: Global,
+        schema: &Text,
+        changes: &[Change],
+    ) -> Result<VolatileKeeper, AllocError>
+        ensures { IfOk result (λ keeper. keeper ≡ rewritten schema.now (changes_view changes.now)) }
+    {
+        let mut lines = LineMap::new(alloc);
+        lines.commit(alloc, changes)?;
+        Ok(VolatileKeeper {
+            schema: Text::from_str(alloc, schema.as_str())?,
+            lines: Some(lines),
+        })
+    }
+
     /// What it holds.
     fn contents(&self, alloc: Global) -> Result<Loaded, AllocError>
         ensures { IfOk result (λ loaded. loaded_contents loaded ≡ self.now) }
@@ -73,7 +90,7 @@ impl VolatileKeeper {
 impl Keeper for VolatileKeeper {
     ghost use Rattle.std.specs.Prelude.{◌≡◌, IfOk, IfErr, OnOk, OnErr};
     ghost use Rattle.ov_keeper.specs.declared.fault.KeepFault.TheVariants.{Memory};
-    ghost use Rattle.ov_keeper.specs.Keeping.{changed, loaded_contents};
+    ghost use Rattle.ov_keeper.specs.Keeping.{changed, rewritten, loaded_contents};
     ghost use Rattle.ov_keeper.specs.Views.{changes_view};
     ghost use Rattle.ov_keeper.specs.ListKeeper.{some_contents};
     ghost use Rattle.ov_keeper.specs.VolatileKeeper.{finds};
@@ -108,6 +125,20 @@ impl Keeper for VolatileKeeper {
     {
         match commit_lines(alloc, &mut self.lines, changes) {
             Ok(()) => Ok(()),
+            Err(_) => Err(KeepFault::Memory),
+        }
+    }
+
+    fn rewrite(&mut self, alloc: Global, schema: &Text, changes: &[Change]) -> Result<(), KeepFault>
+        ensures made { OnOk result (self.new ≡ rewritten schema.now (changes_view changes.now)) }
+        ensures memory { IfErr result (λ fault. fault ≡ Memory) }
+        ensures same { OnErr result (self.new ≡ self.old) }
+    {
+        match VolatileKeeper::with_changes(alloc, schema, changes) {
+            Ok(keeper) => {
+                *self = keeper;
+                Ok(())
+            }
             Err(_) => Err(KeepFault::Memory),
         }
     }

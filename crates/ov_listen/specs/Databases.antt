@@ -1,6 +1,7 @@
 -- What comes of a database: of one in memory, or of the one in a file.
 use Rattle.std.specs.Prelude.{◌≡◌, ◌↔◌, ℕ, List, Result, Ok, Err}
 use Rattle.ov_specs.specs.rows.Lines.{Contents}
+use Rattle.ov_specs.specs.values.Uuid.{Uuid}
 use Rattle.ov_keeper.specs.declared.keeper.Keeper.{Ghosts}
 use Rattle.ov_db.specs.declared.fault.RefusedOpen.{RefusedOpen}
 use Rattle.ov_store.specs.Finding.{new_contents}
@@ -12,7 +13,7 @@ use Rattle.ov_listen.specs.declared.file.FileEnded.{FileEnded}
 use Rattle.ov_listen.specs.declared.database.Service.{Service}
 use Rattle.ov_listen.specs.declared.database.DatabaseEnded.{DatabaseEnded}
 use Rattle.ov_listen.specs.declared.database.DatabaseEnded.TheVariants.{Memory, File}
-use Rattle.ov_listen.specs.Opening.{RefusesCore}
+use Rattle.ov_core.specs.Opening.{RefusesCore}
 use Rattle.ov_listen.specs.Places.{ServesPlace}
 
 -- it holds just this text of a schema and no line, and its device has not failed
@@ -20,13 +21,13 @@ pub record IsNewKeeper {K : Type 0} (k : Ghosts K) (text : List ℕ) (keeper : K
   pub found : (contents : Contents) → k.leaves keeper contents ↔ (contents ≡ new_contents text)
   pub fresh : k.failed keeper ≡ 0
 
-module _ {K D C : Type 0} (k : Ghosts K) (tells : C → ℕ → C → Type 0) where
+module _ {K D C : Type 0} (k : Ghosts K) (drawing : D → Uuid → D → Type 0) (tells : C → ℕ → C → Type 0) where
   -- A core was opened over a new keeper, and its sessions came to that; or none was opened, and nothing is read or written.
   abbrev pub EndsMemory : Service D → PipesState C → Result (Ended K D) (RefusedOpen K) → PipesState C → Type 0
   EndsMemory service from (Ok ended) to = (keeper : K) × IsNewKeeper k service.text keeper
-      × ServesPlace k tells service.place keeper service.schema service.draws from ended.ending ended.core to
+      × ServesPlace k drawing tells service.place keeper service.schema service.draws from ended.ending ended.core to
   EndsMemory service from (Err refused) to = (keeper : K) × IsNewKeeper k service.text keeper
-      × RefusesCore k keeper service.schema refused × (to ≡ from)
+      × RefusesCore k drawing keeper service.schema service.draws refused × (to ≡ from)
 
 -- the database was in memory, and ended so
 abbrev pub IsInMemory : {D : Type 0} → DatabaseEnded D → (Result (Ended Contents D) (RefusedOpen Contents) → Type 0) → Type 0

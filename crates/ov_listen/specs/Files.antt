@@ -7,6 +7,7 @@ use Rattle.sqlite_store.specs.declared.store.FileStore.{FileStore}
 use Rattle.sqlite_wal.specs.Recovery.{Image}
 use Rattle.ov_specs.specs.rows.Lines.{Contents}
 use Rattle.ov_specs.specs.schema.SchemaTypes.{Schema}
+use Rattle.ov_specs.specs.values.Uuid.{Uuid}
 use Rattle.ov_keeper.specs.declared.fault.KeepFault.{KeepFault}
 use Rattle.ov_keeper.specs.declared.keeper.Keeper.{Ghosts}
 use Rattle.ov_keeper.specs.Keeping.{IsLoadFault}
@@ -22,16 +23,16 @@ use Rattle.ov_listen.specs.declared.place.Place.{Place}
 use Rattle.ov_listen.specs.declared.database.Service.{Service}
 use Rattle.ov_listen.specs.declared.file.FileEnded.{FileEnded}
 use Rattle.ov_listen.specs.Endings.{closes_file}
-use Rattle.ov_listen.specs.Opening.{RefusesCore}
+use Rattle.ov_core.specs.Opening.{RefusesCore}
 use Rattle.ov_listen.specs.Places.{ServesPlace}
 
-module _ {K D C : Type 0} (k : Ghosts K) (tells : C → ℕ → C → Type 0) where
+module _ {K D C : Type 0} (k : Ghosts K) (drawing : D → Uuid → D → Type 0) (tells : C → ℕ → C → Type 0) where
   -- A store that was opened came to that with its core; or no core was opened over it, or there was no store, the ending is
   -- that of the fault, and nothing is read or written.
   abbrev pub EndsStore : Place → Schema → D → Result K KeepFault → PipesState C → Ending → Option (CoreState K D) → PipesState C → Type 0
-  EndsStore place schema draws (Ok keeper) from told (Some core) to = ServesPlace k tells place keeper schema draws from told core to
+  EndsStore place schema draws (Ok keeper) from told (Some core) to = ServesPlace k drawing tells place keeper schema draws from told core to
   EndsStore place schema draws (Ok keeper) from told None to =
-      (to ≡ from) × ((refused : RefusedOpen K) × (told ≡ by_open refused.fault) × RefusesCore k keeper schema refused)
+      (to ≡ from) × ((refused : RefusedOpen K) × (told ≡ by_open refused.fault) × RefusesCore k drawing keeper schema draws refused)
   EndsStore place schema draws (Err fault) from told (Some core) to = ⊥
   EndsStore place schema draws (Err fault) from told None to = (to ≡ from) × (told ≡ by_keeping fault)
 
@@ -51,9 +52,9 @@ module _ {A : Type 0} {g : disk.Ghosts A} where
   IsClosed told None closing = closing ≡ None
 
   -- The files had a store or not, and its sessions came to that. It was closed if it was to be.
-  pub record EndsFile {D C : Type 0} (k : Ghosts (StoreState (FileStore A g))) (tells : C → ℕ → C → Type 0) (image : Image) (service : Service D) (from : PipesState C) (ended : FileEnded) (to : PipesState C) : Type 0 where
+  pub record EndsFile {D C : Type 0} (k : Ghosts (StoreState (FileStore A g))) (drawing : D → Uuid → D → Type 0) (tells : C → ℕ → C → Type 0) (image : Image) (service : Service D) (from : PipesState C) (ended : FileEnded) (to : PipesState C) : Type 0 where
     pub store : Result (StoreState (FileStore A g)) KeepFault
     pub core : Option (CoreState (StoreState (FileStore A g)) D)
     pub opened : IsOfFiles image service.text store
-    pub ends : EndsStore k tells service.place service.schema service.draws store from ended.ending core to
+    pub ends : EndsStore k drawing tells service.place service.schema service.draws store from ended.ending core to
     pub closed : IsClosed ended.ending core ended.closing

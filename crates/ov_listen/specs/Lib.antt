@@ -1,5 +1,4 @@
 pub mod Endings
-pub mod Opening
 pub mod Connections
 pub mod Places
 pub mod Files

@@ -2,6 +2,7 @@
 use Rattle.std.specs.Prelude.{◌≡◌, ℕ}
 use Rattle.ov_specs.specs.rows.Lines.{Contents}
 use Rattle.ov_specs.specs.schema.SchemaTypes.{Schema}
+use Rattle.ov_specs.specs.values.Uuid.{Uuid}
 use Rattle.ov_keeper.specs.declared.keeper.Keeper.{Ghosts}
 use Rattle.ov_db.specs.Committing.{MayFind}
 use Rattle.ov_core.specs.Following.{CoreState}
@@ -12,7 +13,7 @@ use Rattle.ov_pipes.specs.Session.{EndsSession}
 use Rattle.ov_listen.specs.declared.place.Place.{Place}
 use Rattle.ov_listen.specs.declared.place.Place.TheVariants.{Pipes, Address}
 use Rattle.ov_listen.specs.Connections.{EndsAddress}
-use Rattle.ov_listen.specs.Opening.{OpensCore}
+use Rattle.ov_core.specs.Opening.{OpensCore}
 
 module _ {K D C : Type 0} (tells : C → ℕ → C → Type 0) where
   -- One session was served over the pipes; or those of the connections at the address, and nothing was read from the pipes
@@ -24,9 +25,9 @@ module _ {K D C : Type 0} (tells : C → ℕ → C → Type 0) where
 
 -- A core was opened over the keeper, and its sessions came to that. If the keeper is honest at the end, it was when the core was
 -- opened; a crash then leaves some lines, which are those of the core's database, and an open finds it.
-pub record ServesPlace {K D C : Type 0} (k : Ghosts K) (tells : C → ℕ → C → Type 0) (place : Place) (keeper : K) (schema : Schema) (draws : D) (from : PipesState C) (told : Ending) (core : CoreState K D) (to : PipesState C) : Type 0 where
+pub record ServesPlace {K D C : Type 0} (k : Ghosts K) (drawing : D → Uuid → D → Type 0) (tells : C → ℕ → C → Type 0) (place : Place) (keeper : K) (schema : Schema) (draws : D) (from : PipesState C) (told : Ending) (core : CoreState K D) (to : PipesState C) : Type 0 where
   pub first : CoreState K D
-  pub opens : OpensCore k keeper schema draws first
+  pub opens : OpensCore k drawing keeper schema draws first
   pub ends : EndsPlace tells place first from told core to
   pub honest : k.is_honest core.keeper → k.is_honest first.keeper
   pub leaves : k.is_honest core.keeper → (held : Contents) → k.leaves core.keeper held → LeavesItsOwn core.state held

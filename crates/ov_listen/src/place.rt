@@ -2,7 +2,7 @@
 
 ghost use Rattle.std.specs.Prelude.{◌≡◌, IfOk, IfErr, OnErr};
 ghost use Rattle.ov_pipes.specs.Pipes.{state_of};
-ghost use Rattle.ov_listen.specs.Opening.{RefusesCore};
+ghost use Rattle.ov_core.specs.Opening.{RefusesCore};
 ghost use Rattle.ov_listen.specs.Places.{EndsPlace, ServesPlace};
 
 use crate::address::serve_at;
@@ -52,9 +52,9 @@ where
     S: Source,
     W: Sink,
     C: Clock,
-    ensures served { IfOk result (λ ended. ServesPlace K.Keeper C.tells place keeper schema draws
+    ensures served { IfOk result (λ ended. ServesPlace K.Keeper D.draws C.tells place keeper schema draws
         (state_of S.Source W.Sink pipes.old) ended.ending ended.core (state_of S.Source W.Sink pipes.new)) }
-    ensures refused { IfErr result (λ refused. RefusesCore K.Keeper keeper schema refused) }
+    ensures refused { IfErr result (λ refused. RefusesCore K.Keeper D.draws keeper schema draws refused) }
     ensures untouched { OnErr result (pipes.new ≡ pipes.old) }
 {
     match Core::open(alloc, keeper, schema, draws) {

@@ -5,6 +5,7 @@ use Rattle.sqlite_disk.specs.declared.Disk as disk
 use Rattle.sqlite_store.specs.declared.store.FileStore.{FileStore}
 use Rattle.sqlite_wal.specs.Recovery.{Image}
 use Rattle.ov_specs.specs.rows.Lines.{Contents}
+use Rattle.ov_specs.specs.values.Uuid.{Uuid}
 use Rattle.ov_keeper.specs.declared.keeper.Keeper.{Ghosts}
 use Rattle.ov_store.specs.StoreState.{StoreState}
 use Rattle.ov_words.specs.declared.settings.Settings.{Settings}
@@ -31,10 +32,10 @@ pub record IsAsked {D : Type 0} (file : Option (List ℕ)) (at : Place) (service
 
 -- The arguments give settings, and what they ask for was served: a database in memory if no file is named, and otherwise the
 -- one in the file.
-pub record RunsDatabase {A D C : Type 0} {g : disk.Ghosts A} (memory : Ghosts Contents) (file : Ghosts (StoreState (FileStore A g))) (tells : C → ℕ → C → Type 0) (image : Image) (words : List (List ℕ)) (from : PipesState C) (ended : DatabaseEnded D) (to : PipesState C) : Type 0 where
+pub record RunsDatabase {A D C : Type 0} {g : disk.Ghosts A} (memory : Ghosts Contents) (file : Ghosts (StoreState (FileStore A g))) (drawing : D → Uuid → D → Type 0) (tells : C → ℕ → C → Type 0) (image : Image) (words : List (List ℕ)) (from : PipesState C) (ended : DatabaseEnded D) (to : PipesState C) : Type 0 where
   pub settings : Settings
   pub given : settings_of words ≡ Some settings
   pub service : Service D
   pub asked : IsAsked settings.schema (place_of settings.listen settings.sessions) service
-  pub ends : MatchOption settings.db (IsInMemory ended (λ e. EndsMemory memory tells service from e to))
-      (λ _. IsInFile ended (λ e. EndsFile file tells image service from e to))
+  pub ends : MatchOption settings.db (IsInMemory ended (λ e. EndsMemory memory drawing tells service from e to))
+      (λ _. IsInFile ended (λ e. EndsFile file drawing tells image service from e to))

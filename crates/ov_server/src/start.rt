@@ -15,6 +15,7 @@ use ov_ends::{Clock, Sink, Source};
 use ov_keeper::{Keeper, VolatileKeeper};
 use ov_listen::{DatabaseEnded, Place, Service, serve_database};
 use ov_pipes::Pipes;
+use ov_requests::Draws;
 use ov_schema::text_of;
 use ov_schema_text::read_schema;
 use ov_store::Store;
@@ -128,7 +129,7 @@ where
     S: Source,
     W: Sink,
     C: Clock,
-    ensures served { IfOk result (λ ended. RunsDatabase ⟦<VolatileKeeper as Keeper>⟧ ⟦<Store<FileStore<FileFrom<T>>> as Keeper>⟧ C.tells
+    ensures served { IfOk result (λ ended. RunsDatabase ⟦<VolatileKeeper as Keeper>⟧ ⟦<Store<FileStore<FileFrom<T>>> as Keeper>⟧ ⟦<RandomDraws<StdRng> as Draws>⟧.draws C.tells
         (image_at T.Start) (map A.text words.now) (state_of S.Source W.Sink pipes.old) ended (state_of S.Source W.Sink pipes.new)) }
     ensures untouched { OnErr result (pipes.new ≡ pipes.old) }
     ensures kinds { IfErr result (λ ending. (ending ≢ Ending.InputEnded) × (ending ≢ Ending.Streams)) }

@@ -25,13 +25,13 @@ use Rattle.sqlite_trees.specs.Tree.{rowid}
 use Rattle.sqlite.specs.Effect.{Database, IsDatabase}
 use Rattle.ov_specs.specs.rows.Lines.{LineKey, LineBody, line_cmp}
 use Rattle.ov_specs.proofs.laws.LineKeys.{key_total, key_exact, tied_same}
-use Rattle.ov_sqlite.specs.Tables.{line_table, tree_of, HasOurTables}
+use Rattle.ov_sqlite.specs.Tables.{meta_table, line_table, tree_of, HasOurTables}
 use Rattle.ov_sqlite.proofs.TableLemmas.{found_has}
-use Rattle.ov_sqlite.proofs.ListingLemmas.{line_rows_are}
+use Rattle.ov_sqlite.proofs.ListingLemmas.{line_rows_are, meta_rows_are}
 use Rattle.sqlite_rules.specs.Lists.{Has}
 use Rattle.sqlite_rules.proofs.ListLemmas.{all_has}
 use Rattle.std.proofs.lemmas.Bool.Decides.{nat_tests}
-use Rattle.ov_sqlite.specs.Format.{IsLine, entry, stored_lines, rows_of_line}
+use Rattle.ov_sqlite.specs.Format.{IsLine, entry, stored_lines, rows_of_meta, rows_of_line}
 use Rattle.ov_sqlite.specs.Changing.{IsNumbered}
 use Rattle.ov_sqlite.specs.Reading.{line_selected}
 use Rattle.ov_sqlite.proofs.RowLemmas.{equal_texts, equal_blobs, truth_of, same_number, map_then}
@@ -122,13 +122,26 @@ unique db has sound =
     subst (λ rows. AllByRecursion (λ r. AllByRecursion (λ s. (agree (record { digits = 0 }) (1 ∷ 2 ∷ []) s (1 ∷ 2 ∷ []) r && differ (rowid s) (rowid r)) ≡ false) rows) rows) (sym (line_rows_are db has sound))
     (all_weaker _ _ (λ r none. any_none _ (db.trees l) none) (db.trees l) once)
 
-text_self : (v w : Value) (t : List ℕ) → v ≡ Text t → w ≡ Text t → is_true (binary (Compare Eq Binary) v w) ≡ true
+-- no two rows of `meta` have one key and two numbers
+pub unique_meta : (db : Database) → HasOurTables db.schema → IsDatabase db
+    → AllByRecursion (λ r. AllByRecursion (λ s. (agree (record { digits = 0 }) (1 ∷ []) s (1 ∷ []) r && differ (rowid s) (rowid r)) ≡ false) (rows_of_meta db.trees)) (rows_of_meta db.trees)
+unique_meta db has sound =
+    let m = tree_of db.schema (codes "meta") in
+    let here = found_has _ db.schema.tables (meta_table m) has.meta.named in
+    let index = all_has _ db.schema.tables (meta_table m) sound.lists.guarded here 0 (1 ∷ []) refl in
+    let keeps = all_has _ db.schema.tables (meta_table m) (sound.obeys.rules Unique) here in
+    let once : AllByRecursion (λ r. clashes (record { digits = 0 }) (1 ∷ []) (db.trees m) r ≡ false) (db.trees m) =
+    all_weaker _ _ (λ r pass. let one = all_at _ db.schema.indexes _ pass index.1 in was_false _ (rw (itself m) at one)) (db.trees m) keeps in
+    subst (λ rows. AllByRecursion (λ r. AllByRecursion (λ s. (agree (record { digits = 0 }) (1 ∷ []) s (1 ∷ []) r && differ (rowid s) (rowid r)) ≡ false) rows) rows) (sym (meta_rows_are db has sound))
+    (all_weaker _ _ (λ r none. any_none _ (db.trees m) none) (db.trees m) once)
+
+pub text_self : (v w : Value) (t : List ℕ) → v ≡ Text t → w ≡ Text t → is_true (binary (Compare Eq Binary) v w) ≡ true
 text_self v w t e f = rw (e, f) (equal_texts t t ∙ (eq_by_cmp_equiv nat_list_cmp_total).refl t)
 
 blob_self : (v w : Value) (b : List ℕ) → v ≡ Blob b → w ≡ Blob b → is_true (binary (Compare Eq Binary) v w) ≡ true
 blob_self v w b e f = rw (e, f) (equal_blobs b b ∙ (eq_by_cmp_equiv nat_list_cmp_total).refl b)
 
-ne_is : (o : Ordering) → is_ne o ≡ not (is_eq o)
+pub ne_is : (o : Ordering) → is_ne o ≡ not (is_eq o)
 ne_is Less = refl
 ne_is Equal = refl
 ne_is Greater = refl

@@ -21,3 +21,7 @@ pub mod MetaLemmas
 pub mod OpenLemmas
 pub mod NumberLemmas
 pub mod KeyLemmas
+pub mod RestLemmas
+pub mod ClearLemmas
+pub mod SchemaLemmas
+pub mod RewriteLemmas

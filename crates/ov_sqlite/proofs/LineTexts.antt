@@ -39,9 +39,9 @@ use Rattle.sqlite_resolve.specs.Scope.{Context, column}
 use Rattle.sqlite_resolve.specs.Compare.{affinity_of}
 use Rattle.sqlite_resolve.specs.declared.compare.Affinity.TheVariants as affinity
 use Rattle.sqlite_resolve.specs.Write.{deleted, updated, over}
-use Rattle.ov_sqlite.specs.Tables.{line_table, insert_text, delete_text, update_text, select_text}
+use Rattle.ov_sqlite.specs.Tables.{line_table, insert_text, delete_text, update_text, select_text, line_clear_text}
 use Rattle.ov_sqlite.proofs.TableLemmas.{Stands}
-use Rattle.ov_sqlite.proofs.Statements.{named, shows, key_test, source_of, core_of, selection, does, plain_carried, free_carried, within, insert_terms, deletes, changes, selects, runs, insert_parsed, insert_first, delete_parsed, delete_first, update_parsed, update_first, select_parsed, select_first}
+use Rattle.ov_sqlite.proofs.Statements.{named, shows, key_test, source_of, core_of, selection, does, plain_carried, free_carried, within, insert_terms, deletes, changes, selects, runs, insert_parsed, insert_first, delete_parsed, delete_first, update_parsed, update_first, select_parsed, select_first, clears, line_clear_parsed, line_clear_first}
 
 module _ (schema : Schema) (at l : ℕ) (it : Stands schema (line_table l) at) where
   abbrev line_cx : List Output → Bool → Bool → Context
@@ -145,6 +145,18 @@ module _ (schema : Schema) (at l : ℕ) (it : Stands schema (line_table l) at) w
   pub update_is : understood schema update_text ≡ Ok (does update_parsed (Update at (runs (changes l))))
   unfolding lowering understood
   update_is = rw (update_first, it.named, it.placed, updated_is, update_runs) refl
+
+  cleared_is : deleted schema at (line_table l) None ≡ Ok (clears l)
+  unfolding lowering Rattle.sqlite_resolve.specs.Write.deleted
+  cleared_is = refl
+
+  clear_runs : program schema [] (clears l) ≡ Ok (runs (clears l))
+  unfolding everything
+  clear_runs = rw (it.not_high, it.alone) refl
+
+  pub clear_is : understood schema line_clear_text ≡ Ok (does line_clear_parsed (Delete at (runs (clears l))))
+  unfolding lowering understood
+  clear_is = rw (line_clear_first, it.named, it.placed, cleared_is, clear_runs) refl
 
   abbrev shown_line : ast_select.Select
   shown_line = selection (shows (codes "rowid") ∷ shows (codes "tbl") ∷ shows (codes "id") ∷ shows (codes "ver") ∷ shows (codes "body") ∷ []) (codes "line")

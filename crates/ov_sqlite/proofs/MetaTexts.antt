@@ -5,7 +5,7 @@ use Rattle.sqlite.specs.declared.types.Value.TheVariants.{Int}
 use Rattle.sqlite.specs.Term.{Term, lit, col}
 use Rattle.sqlite_tied.specs.Compute.{everything}
 use Rattle.sqlite.specs.Schema.{Schema}
-use Rattle.sqlite_schema.specs.declared.command.Command.TheVariants.{Insert, Select}
+use Rattle.sqlite_schema.specs.declared.command.Command.TheVariants.{Insert, Update, Select}
 use Rattle.sqlite_schema.specs.declared.command.Source.TheVariants.{Values}
 use Rattle.sqlite_resolve.specs.declared.scope.Output.{Output}
 use Rattle.sqlite_resolve.specs.declared.state.Carried.{Carried}
@@ -35,9 +35,13 @@ use Rattle.sqlite.specs.Collation.{Collation}
 use Rattle.std.proofs.Common.{◌-◌, subst, sym}
 use Rattle.sqlite_resolve.specs.Program.{program, query}
 use Rattle.sqlite_resolve.specs.Scope.{Context, column}
-use Rattle.ov_sqlite.specs.Tables.{meta_table, meta_insert_text, meta_select_text}
+use Rattle.sqlite_resolve.specs.Compare.{affinity_of}
+use Rattle.sqlite_resolve.specs.declared.compare.Affinity.TheVariants as affinity
+use Rattle.sqlite_resolve.specs.Write.{updated}
+use Rattle.sqlite_ast.specs.declared.Expr.{Expr}
+use Rattle.ov_sqlite.specs.Tables.{meta_table, meta_insert_text, meta_select_text, meta_update_text}
 use Rattle.ov_sqlite.proofs.TableLemmas.{Stands}
-use Rattle.ov_sqlite.proofs.Statements.{named, shows, source_of, core_of, selection, does, plain_carried, within, meta_insert_terms, selects_meta, runs, meta_insert_parsed, meta_insert_first, meta_select_parsed, meta_select_first}
+use Rattle.ov_sqlite.proofs.Statements.{named, shows, source_of, core_of, selection, does, plain_carried, within, meta_insert_terms, selects_meta, runs, meta_insert_parsed, meta_insert_first, meta_select_parsed, meta_select_first, meta_choice, meta_changes, meta_update_parsed, meta_update_first}
 
 module _ (schema : Schema) (at m : ℕ) (it : Stands schema (meta_table m) at) where
   abbrev meta_cx : List Output → Bool → Bool → Context
@@ -74,6 +78,29 @@ module _ (schema : Schema) (at m : ℕ) (it : Stands schema (meta_table m) at) w
   pub meta_insert_is : understood schema meta_insert_text ≡ Ok (does meta_insert_parsed (Insert at (Values meta_insert_terms 3)))
   unfolding lowering understood
   meta_insert_is = rw (meta_insert_first, it.named, it.placed, new_rows_is) refl
+
+  affinity_k : (shown : List Output) (a b : Bool) → affinity_of (meta_cx shown a b) (col 1 1) ≡ affinity.Text
+  unfolding everything
+  affinity_k shown a b = rw it.placed refl
+
+  affinity_one : (shown : List Output) (a b : Bool) → affinity_of (meta_cx shown a b) (col 0 0) ≡ affinity.None
+  unfolding everything
+  affinity_one shown a b = refl
+
+  abbrev updates : List (List ℕ × Expr)
+  updates = (codes "v", meta_choice) ∷ []
+
+  updated_is : updated schema at (meta_table m) updates None ≡ Ok (meta_changes m)
+  unfolding lowering Rattle.sqlite_resolve.specs.Write.updated
+  updated_is = rw (column_k, affinity_k, affinity_one, column_v) refl
+
+  update_runs : program schema [] (meta_changes m) ≡ Ok (runs (meta_changes m))
+  unfolding everything
+  update_runs = rw (it.not_high, it.alone) refl
+
+  pub meta_update_is : understood schema meta_update_text ≡ Ok (does meta_update_parsed (Update at (runs (meta_changes m))))
+  unfolding lowering understood
+  meta_update_is = rw (meta_update_first, it.named, it.placed, updated_is, update_runs) refl
 
   abbrev shown_meta : ast_select.Select
   shown_meta = selection (shows (codes "k") ∷ shows (codes "v") ∷ []) (codes "meta")

@@ -26,7 +26,7 @@ use Rattle.sqlite.specs.Command.TheVariants.{Select}
 use Rattle.ov_sqlite.proofs.RowLemmas.{map_then}
 use Rattle.ov_sqlite.proofs.RunLemmas.{unchanged_keeps, rolled_keeps}
 
-each : {X Y : Type 0} (f : X → Y) (xs : List X) → flat_map (λ x. f x ∷ []) xs ≡ map f xs
+pub each : {X Y : Type 0} (f : X → Y) (xs : List X) → flat_map (λ x. f x ∷ []) xs ≡ map f xs
 each f [] = refl
 each f (x ∷ xs) = ap (λ ys. f x ∷ ys) (each f xs)
 

@@ -59,7 +59,7 @@ module _ (p : Row → Bool) where
   head_hit : (h : Row) (all : List Row) → IsLine h → p h ≡ true → hits (h ∷ all) h ≡ true
   head_hit h all l e = rw (same_self h l, e) refl
 
-  hit_self : (all : List Row) → AllByRecursion IsLine all → AllByRecursion (λ r. p r ≡ true → hits all r ≡ true) all
+  pub hit_self : (all : List Row) → AllByRecursion IsLine all → AllByRecursion (λ r. p r ≡ true → hits all r ≡ true) all
   hit_self [] lines = tt
   hit_self (h ∷ all) lines = (head_hit h all lines.0, all_weaker _ _ (λ r e is. or_true _ _ (e is)) all (hit_self all lines.1))
 
@@ -96,14 +96,14 @@ any_filter {X} p q (x ∷ xs) =
     ]
 
 -- the numbers that were taken, and the rows that passed
-taken : (f : Row → Row) (t i : List ℕ) (rows gone : List Row) (ordered : List Output) (r : Row) → IsPermutation (map (λ s. ([], rowid s ∷ f s)) (filter (passes t i) rows)) ordered → gone ≡ map (λ o. o.1) ordered
-    → list_any (λ id. has_rowid id r) (ids_of gone) ≡ hits (passes t i) rows r
-taken f t i rows gone ordered r same is =
+pub taken : (p : Row → Bool) (f : Row → Row) (rows gone : List Row) (ordered : List Output) (r : Row) → IsPermutation (map (λ s. ([], rowid s ∷ f s)) (filter p rows)) ordered → gone ≡ map (λ o. o.1) ordered
+    → list_any (λ id. has_rowid id r) (ids_of gone) ≡ hits p rows r
+taken p f rows gone ordered r same is =
     any_map (λ id. has_rowid id r) (λ s. id_in (rowid s)) gone ∙ ap (list_any (λ s. has_rowid (id_in (rowid s)) r)) is
     ∙ any_map (λ s. has_rowid (id_in (rowid s)) r) (λ (o : Output). o.1) ordered
     ∙ sym (list_any-IsPermutation (λ (o : Output). has_rowid (id_in (rowid o.1)) r) _ ordered same)
-    ∙ any_map (λ (o : Output). has_rowid (id_in (rowid o.1)) r) (λ s. ([], rowid s ∷ f s)) (filter (passes t i) rows)
-    ∙ any_filter _ (passes t i) rows
+    ∙ any_map (λ (o : Output). has_rowid (id_in (rowid o.1)) r) (λ s. ([], rowid s ∷ f s)) (filter p rows)
+    ∙ any_filter _ p rows
 
 -- rows of one number pass together
 passes_together : (t i : List ℕ) (s r : Row) → IsLine s → IsLine r → (column s 0 ≡ column r 0 → entry s ≡ entry r) → same s r ≡ true → passes t i s ≡ passes t i r
@@ -119,7 +119,7 @@ pub left_rows : (f : Row → Row) (t i : List ℕ) (rows gone : List Row) → Al
     → without_all rows (ids_of gone) ≡ filter (λ r. not (eq_by_cmp line_cmp (t, i) (entry r).0)) rows
 left_rows f t i rows gone lines numbered same =
     without_all_filter (ids_of gone) rows
-    ∙ filter_same _ _ rows (all_both _ _ _ (λ r l e. ap not (taken f t i rows gone same.0 r same.1 same.2 ∙ e ∙ passes_key t i r l)) rows lines (hit_once (passes t i) rows lines (together t i rows lines numbered)))
+    ∙ filter_same _ _ rows (all_both _ _ _ (λ r l e. ap not (taken (passes t i) f rows gone same.0 r same.1 same.2 ∙ e ∙ passes_key t i r l)) rows lines (hit_once (passes t i) rows lines (together t i rows lines numbered)))
 
 -- they are the lines without the key
 pub left_lines : (t i : List ℕ) (rows : List Row) → stored_lines (filter (λ r. not (eq_by_cmp line_cmp (t, i) (entry r).0)) rows) ≡ remove (stored_lines rows) (t, i)

@@ -2,7 +2,7 @@
 use Rattle.std.proofs.Common.{◌≡◌, ℕ, Bool, List, [], ◌∷◌, codes, false, None, Some, Ok, refl, pos, negsuc}
 use Rattle.sqlite.specs.Collation.TheVariants.{Binary}
 use Rattle.sqlite.specs.declared.types.Value.TheVariants.{Null, Int}
-use Rattle.sqlite.specs.Term.{Term, lit, col, op2}
+use Rattle.sqlite.specs.Term.{Term, lit, col, op2, case}
 use Rattle.sqlite.specs.Query.{inner, end}
 use Rattle.sqlite_sql.specs.declared.ops.BinaryOp.TheVariants.{Compare}
 use Rattle.sqlite_sql.specs.declared.ops.CompareOp.TheVariants.{Eq}
@@ -26,11 +26,12 @@ use Rattle.sqlite_ast.specs.declared.Origin.TheVariants as origin
 use Rattle.sqlite_ast.specs.declared.Select as ast_select
 use Rattle.sqlite_ast.specs.declared.Core as ast_core
 use Rattle.sqlite_ast.specs.declared.Source as ast_source
+use Rattle.sqlite_ast.specs.declared.Arm as ast_arm
 use Rattle.sqlite_ast.specs.declared.Statement.TheVariants as written
 use Rattle.sqlite_resolve.specs.Compile.{first}
 use Rattle.sqlite_resolve.specs.Scope.{Context}
 use Rattle.sqlite_draft.specs.declared.query.Draft.{Draft}
-use Rattle.ov_sqlite.specs.Tables.{insert_text, meta_insert_text, delete_text, update_text, select_text, meta_select_text}
+use Rattle.ov_sqlite.specs.Tables.{insert_text, meta_insert_text, delete_text, update_text, select_text, meta_select_text, line_clear_text, meta_update_text}
 
 abbrev pub named : List ℕ → Expr
 named name = expr.Column None name
@@ -102,6 +103,24 @@ pub meta_select_first : first meta_select_text ≡ Ok meta_select_parsed
 unfolding everything
 meta_select_first = refl
 
+abbrev pub line_clear_parsed : Parsed
+line_clear_parsed = record { statement = written.Delete (codes "line") None []; names = []; formats = []; start = 0; end = 16; tail = 16 }
+
+pub line_clear_first : first line_clear_text ≡ Ok line_clear_parsed
+unfolding everything
+line_clear_first = refl
+
+-- the other value where the key is that one
+abbrev pub meta_choice : Expr
+meta_choice = expr.Case None (ast_arm.roll-Arm (record { when = equals (named (codes "k")) (expr.Parameter 1); gives = expr.Parameter 2 }) ∷ []) (Some (named (codes "v")))
+
+abbrev pub meta_update_parsed : Parsed
+meta_update_parsed = record { statement = written.Update (codes "meta") ((codes "v", meta_choice) ∷ []) None []; names = codes "?1" ∷ codes "?2" ∷ []; formats = []; start = 0; end = 51; tail = 51 }
+
+pub meta_update_first : first meta_update_text ≡ Ok meta_update_parsed
+unfolding everything
+meta_update_first = refl
+
 -- a statement that was parsed, with what it asks for
 abbrev pub does : Parsed → Command → Compiled
 does p command = record { command = command; returning = None; names = p.names; formats = []; start = p.start; end = p.end; tail = p.tail }
@@ -141,6 +160,14 @@ deletes tree = drafts tree key_terms (col 1 0 ∷ [])
 -- what the UPDATE puts for each: its number as it was and as it will be, and its columns
 abbrev pub changes : ℕ → Draft
 changes tree = drafts tree key_terms (col 1 0 ∷ col 1 0 ∷ col 1 1 ∷ col 1 2 ∷ col 0 2 ∷ col 0 3 ∷ [])
+
+-- the number of each line
+abbrev pub clears : ℕ → Draft
+clears tree = drafts tree [] (col 1 0 ∷ [])
+
+-- what the UPDATE puts for each row of `meta`
+abbrev pub meta_changes : ℕ → Draft
+meta_changes tree = drafts tree [] (col 1 0 ∷ col 1 0 ∷ col 1 1 ∷ case (op2 (Compare Eq Binary) (col 1 1) (col 0 0)) (col 0 1) (col 1 2) ∷ [])
 
 -- the number and the columns of each line
 abbrev pub selects : ℕ → Draft

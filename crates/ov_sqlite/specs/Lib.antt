@@ -1,9 +1,11 @@
 pub mod Tables
 pub mod Format
 pub mod Changing
+pub mod Inside
 pub mod WriteError
 pub mod Reading
 pub mod Querying
 pub mod LineColumns
 pub mod Making
 pub mod HasText
+pub mod Rewriting

@@ -134,6 +134,12 @@ delete_text = codes "DELETE FROM line WHERE tbl=?1 AND id=?2"
 abbrev pub update_text : List ℕ
 update_text = codes "UPDATE line SET ver=?3,body=?4 WHERE tbl=?1 AND id=?2"
 
+abbrev pub line_clear_text : List ℕ
+line_clear_text = codes "DELETE FROM line"
+
+abbrev pub meta_update_text : List ℕ
+meta_update_text = codes "UPDATE meta SET v=CASE WHEN k=?1 THEN ?2 ELSE v END"
+
 abbrev pub insert_text : List ℕ
 insert_text = codes "INSERT INTO line(tbl,id,ver,body) VALUES(?1,?2,?3,?4)"
 

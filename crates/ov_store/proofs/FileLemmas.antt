@@ -14,7 +14,7 @@ use Rattle.ov_keeper.specs.declared.fault.KeepFault.{KeepFault}
 use Rattle.sqlite_wal.specs.Recovery.{Image}
 use Rattle.ov_specs.specs.rows.Lines.{Contents}
 use Rattle.ov_sqlite.specs.Tables.{no_schema, HasOurTables}
-use Rattle.ov_store.specs.StoreState.{StoreState, MayFind}
+use Rattle.ov_store.specs.StoreState.{StoreState, MayFind, text_in}
 use Rattle.ov_store.specs.Finding.{new_contents, IsNewStore, IsStoreOf, HasNoTable, IsStoredIn, IsRefused, IsPathRefused, IsFileRefused, IsMemoryRefused}
 use Rattle.ov_store.specs.Causes.{IsNobodyElses}
 
@@ -63,7 +63,7 @@ module _ {S : Type 0} (g : Ghosts S) where
         db = (state g c).now;
         sound = (it.1 it.0.is_open).0;
         found = subst (λ (d : Database). AreFoundIn image d.trees) (sym it.0.clean) trees;
-        text = s.schema;
+        text = text_in (state g c).now;
         format = old.format clean;
         contents_are = old.holds clean it.0 contents found;
       })

@@ -4,18 +4,21 @@ use Rattle.std.proofs.lemmas.Bool.Decides.{nat_tests}
 use Rattle.sqlite.specs.Store.{Ghosts}
 use Rattle.sqlite.specs.Tree.{Trees}
 use Rattle.sqlite.specs.Effect.{Database}
+use Rattle.sqlite.specs.Schema.{Schema}
 use Rattle.sqlite.specs.Change.{KeepsRows}
 use Rattle.sqlite.specs.State.{State, HasCleanDisk, Survives, KeepsCommit, IsUnchanged}
 use Rattle.sqlite.specs.Held.{Held as Connected, state}
 use Rattle.ov_specs.specs.rows.Lines.{Contents, LineChange, Lines, after_changes}
-use Rattle.ov_keeper.specs.Keeping.{LeavesNoMore, LeavesChanged, MayLeaveChanged, LeavesRefused, IsCommitFault, changed}
+use Rattle.ov_keeper.specs.Keeping.{LeavesNoMore, LeavesMade, MayLeaveMade, LeavesRefused, IsCommitFault, changed, rewritten}
 use Rattle.ov_keeper.specs.declared.fault.KeepFault.{KeepFault}
 use Rattle.ov_keeper.specs.declared.fault.KeepFault.TheVariants.{Memory, Device, NotOurs, Format, TooLarge}
-use Rattle.ov_sqlite.specs.Format.{held, stored_schema, stored_lines, IsMeta, rows_of_meta, rows_of_line}
-use Rattle.ov_sqlite.specs.Changing.{MayBeStored, KeepsOthers, Stores, IsCommitImage}
-use Rattle.ov_store.specs.StoreState.{MayFind, LeavesOthers, LeavesTables}
+use Rattle.ov_sqlite.specs.Format.{held, stored_schema, stored_lines, IsMeta, IsFormat, rows_of_meta, rows_of_line}
+use Rattle.ov_sqlite.specs.Changing.{MayBeStored, IsStored, KeepsOthers, Stores, IsCommitImage}
+use Rattle.ov_sqlite.specs.Rewriting.{KeepsRest, Rewrites, IsRewriteImage}
+use Rattle.ov_store.specs.StoreState.{MayFind, LeavesOthers, LeavesRest, LeavesTables, text_in}
 use Rattle.ov_sqlite.specs.Making.{IsNew}
 use Rattle.ov_sqlite.proofs.OpenLemmas.{schema_is}
+use Rattle.ov_sqlite.proofs.RestLemmas.{rest_of_others}
 use Rattle.std.specs.FinMap.{empty}
 use Rattle.sqlite.proofs.StateLemmas.{survives_then}
 use Rattle.ov_sqlite.specs.declared.write.WriteError.{WriteError}
@@ -25,12 +28,12 @@ use Rattle.ov_sqlite.proofs.RunLemmas.{nothing_then, survives_as, others_now}
 pub is_zero : (n : ℕ) → true ≡ (n == 0) → n ≡ 0
 is_zero n e = grind (arith, nat_tests)
 
-pub refused : (changes : List LineChange) (A B : Contents → Type 0) (fault : KeepFault) → IsCommitFault fault → fault ≢ Device → LeavesNoMore A B → LeavesRefused changes A B fault
-refused changes A B Memory kind other kept = kept
-refused changes A B TooLarge kind other kept = kept
-refused changes A B Device kind other kept = absurd (other refl)
-refused changes A B NotOurs kind other kept = kind
-refused changes A B Format kind other kept = kind
+pub refused : (made : Contents → Contents) (A B : Contents → Type 0) (fault : KeepFault) → IsCommitFault fault → fault ≢ Device → LeavesNoMore A B → LeavesRefused made A B fault
+refused made A B Memory kind other kept = kept
+refused made A B TooLarge kind other kept = kept
+refused made A B Device kind other kept = absurd (other refl)
+refused made A B NotOurs kind other kept = kind
+refused made A B Format kind other kept = kind
 
 device_or : (fault : KeepFault) → (fault ≡ Device) ⊎ (fault ≢ Device)
 device_or Device = inl refl
@@ -43,31 +46,57 @@ device_or Format = inr (λ e. absurd cc)
 pub held_changed : (changes : List LineChange) (before after : Trees) → rows_of_meta after ≡ rows_of_meta before → stored_lines (rows_of_line after) ≡ after_changes changes (stored_lines (rows_of_line before)) → held after ≡ changed changes (held before)
 held_changed changes before after meta lines = λ i. record { schema = stored_schema (meta i); lines = lines i }
 
-pub same_text : (lines : Lines) (t u : List ℕ) → t ≡ u → ◌≡◌ {A = Contents} (record { schema = t; lines = lines }) (record { schema = u; lines = lines })
-same_text lines t u e = λ i. record { schema = e i; lines = lines }
-
 pub held_is : (text : List ℕ) (trees : Trees) (lines : Lines) → IsMeta text (rows_of_meta trees) → stored_lines (rows_of_line trees) ≡ lines → held trees ≡ record { schema = text; lines = lines }
 held_is text trees lines meta is = λ i. record { schema = schema_is text (rows_of_meta trees) meta i; lines = is i }
+
+-- the text of stored format 1 is the one that `meta` has
+pub at_rest : (text : List ℕ) (s : State) → MayBeStored text s → MayBeStored (text_in s.now) s
+at_rest text s may up = let it = may up in subst (λ t. IsStored t s.now) (sym (schema_is text (rows_of_meta s.now.trees) it.format.meta)) it
+
+pub format_of : (text : List ℕ) (db : Database) → IsFormat text db → IsFormat (text_in db) db
+format_of text db format = subst (λ t. IsFormat t db) (sym (schema_is text (rows_of_meta db.trees) format.meta)) format
+
+rest_now : (schema : Schema) (trees : Trees) → KeepsRest schema trees trees
+rest_now schema trees = rest_of_others schema trees trees (others_now schema trees)
 
 module _ {S : Type 0} (g : Ghosts S) (settled : (s : S) (db : Trees) → IsTrue (g.view s).is_open → g.recovers s db → db ≡ (g.view s).committed)
     (stays : (s : S) → IsTrue (g.view s).is_open → g.recovers s (g.view s).committed) where
   pub was_found : (c : Connected S) → IsTrue (state g c).is_open → (state g c).now ≡ (state g c).committed → MayFind g c (held (state g c).now.trees)
   was_found c up same = ((g.view c.store).committed, stays c.store up, ap (λ (d : Database). held d.trees) same)
 
-  pub stores_changes : (text : List ℕ) (changes : List LineChange) (old new : Connected S) → Stores text (after_changes changes) (state g old) (state g new) → LeavesChanged changes (MayFind g old) (MayFind g new)
-  stores_changes text changes old new done h found =
-      let trees : found.0 ≡ (g.view new.store).committed = settled new.store found.0 done.is_open found.1 in (
-        held (state g old).now.trees,
-        was_found old done.was_open done.was_settled,
-        found.2 ∙ ap held trees ∙ sym (ap (λ (d : Database). held d.trees) done.is_settled) ∙ held_changed changes (state g old).now.trees (state g new).now.trees done.meta done.lines_are,
-      )
+  pub found_is : (c : Connected S) → IsTrue (state g c).is_open → (state g c).now ≡ (state g c).committed → (contents : Contents) → MayFind g c contents → contents ≡ held (state g c).now.trees
+  found_is c up same contents found = found.2 ∙ ap held (settled c.store found.0 up found.1) ∙ sym (ap (λ (d : Database). held d.trees) same)
+
+  -- what is held became what `made` makes of it, and that is committed
+  pub leaves_made : (made : Contents → Contents) (old new : Connected S) → IsTrue (state g old).is_open × ((state g old).now ≡ (state g old).committed) × IsTrue (state g new).is_open × ((state g new).now ≡ (state g new).committed)
+      → held (state g new).now.trees ≡ made (held (state g old).now.trees) → LeavesMade made (MayFind g old) (MayFind g new)
+  leaves_made made old new done is h found = (held (state g old).now.trees, was_found old done.0 done.1, found_is new done.2 done.3 h found ∙ is)
+
+  -- what a commit may write is what `made` makes of what was held
+  pub may_leave_made : (made : Contents → Contents) (old new : Connected S) (P : Trees → Type 0) → HasCleanDisk (state g new) → Survives (state g old) (state g new) P
+      → ((trees : Trees) → P trees → IsTrue (state g old).is_open × ((state g old).now ≡ (state g old).committed) × (held trees ≡ made (held (state g old).now.trees))) → MayLeaveMade made (MayFind g old) (MayFind g new)
+  may_leave_made made old new P clean s image h found = elim (s.crash clean found.0 found.1) [
+    | inl before ↦ inl (found.0, before, found.2)
+    | inr written ↦ let it = image found.0 written in inr (held (state g old).now.trees, was_found old it.0 it.1, found.2 ∙ it.2)
+  ]
+
+  pub stores_changes : (text : List ℕ) (changes : List LineChange) (old new : Connected S) → Stores text (after_changes changes) (state g old) (state g new) → LeavesMade (changed changes) (MayFind g old) (MayFind g new)
+  stores_changes text changes old new done =
+      leaves_made (changed changes) old new (done.was_open, done.was_settled, done.is_open, done.is_settled) (held_changed changes (state g old).now.trees (state g new).now.trees done.meta done.lines_are)
 
   pub crash_changes : (text : List ℕ) (changes : List LineChange) (old new : Connected S) → HasCleanDisk (state g new) → MayBeStored text (state g old)
-      → Survives (state g old) (state g new) (λ trees. (text : List ℕ) → MayBeStored text (state g old) → IsCommitImage (after_changes changes) (state g old) trees) → MayLeaveChanged changes (MayFind g old) (MayFind g new)
-  crash_changes text changes old new clean may s h found = elim (s.crash clean found.0 found.1) [
-    | inl before ↦ inl (found.0, before, found.2)
-    | inr made ↦ let it = made text may in inr (held (state g old).now.trees, was_found old it.was_open it.was_settled, found.2 ∙ held_changed changes (state g old).now.trees found.0 it.meta it.lines_are)
-  ]
+      → Survives (state g old) (state g new) (λ trees. (text : List ℕ) → MayBeStored text (state g old) → IsCommitImage (after_changes changes) (state g old) trees) → MayLeaveMade (changed changes) (MayFind g old) (MayFind g new)
+  crash_changes text changes old new clean may s =
+      may_leave_made (changed changes) old new _ clean s (λ trees made. let it = made text may in (it.was_open, it.was_settled, held_changed changes (state g old).now.trees trees it.meta it.lines_are))
+
+  pub rewrites_contents : (text : List ℕ) (changes : List LineChange) (old new : Connected S) → Rewrites text (after_changes changes empty) (state g old) (state g new) → LeavesMade (λ _. rewritten text changes) (MayFind g old) (MayFind g new)
+  rewrites_contents text changes old new done =
+      leaves_made (λ _. rewritten text changes) old new (done.was_open, done.was_settled, done.is_open, done.is_settled) (held_is text (state g new).now.trees _ done.stored.format.meta done.lines_are)
+
+  pub crash_rewrites : (before text : List ℕ) (changes : List LineChange) (old new : Connected S) → HasCleanDisk (state g new) → MayBeStored before (state g old)
+      → Survives (state g old) (state g new) (λ trees. (before : List ℕ) → MayBeStored before (state g old) → IsRewriteImage text (after_changes changes empty) (state g old) trees) → MayLeaveMade (λ _. rewritten text changes) (MayFind g old) (MayFind g new)
+  crash_rewrites before text changes old new clean may s =
+      may_leave_made (λ _. rewritten text changes) old new _ clean s (λ trees made. let it = made before may in (it.was_open, it.was_settled, held_is text trees _ it.meta it.lines_are))
 
   -- a call that was refused, and left the connection open
   pub kept_left : (old mid new : Connected S) → KeepsCommit (state g old) (state g mid) → IsUnchanged (state g mid) (state g new) → (db : Trees) → g.recovers new.store db → g.recovers old.store db
@@ -78,26 +107,49 @@ module _ {S : Type 0} (g : Ghosts S) (settled : (s : S) (db : Trees) → IsTrue 
   pub kept_found : (old mid new : Connected S) → KeepsCommit (state g old) (state g mid) → IsUnchanged (state g mid) (state g new) → LeavesNoMore (MayFind g old) (MayFind g new)
   kept_found old mid new kept same h found = (found.0, kept_left old mid new kept same found.0 found.1, found.2)
 
-  -- what is beside the lines, after each of these
-  others_from : (old : Connected S) (trees : Trees) → IsTrue (state g old).is_open → (state g old).now ≡ (state g old).committed → KeepsOthers old.schema (state g old).now.trees trees
-      → (before : Trees) × (state g old).may_leave before × KeepsOthers old.schema before trees
-  others_from old trees up same kept =
-      ((g.view old.store).committed, stays old.store up, subst (λ (d : Database). KeepsOthers old.schema d.trees trees) same kept)
+  -- what K says of the former trees and those that are found after each of these
+  keeps_from : (K : Trees → Trees → Type 0) (old : Connected S) (trees : Trees) → IsTrue (state g old).is_open → (state g old).now ≡ (state g old).committed → K (state g old).now.trees trees → (before : Trees) × (state g old).may_leave before × K before trees
+  keeps_from K old trees up same kept = ((g.view old.store).committed, stays old.store up, subst (λ (d : Database). K d.trees trees) same kept)
+
+  pub keeps_same : (K : Trees → Trees → Type 0) → ((trees : Trees) → K trees trees) → (old new : Connected S) → ((db : Trees) → g.recovers new.store db → g.recovers old.store db)
+      → (trees : Trees) → (state g new).may_leave trees → (before : Trees) × (state g old).may_leave before × K before trees
+  keeps_same K now old new found trees here = (trees, found trees here, now trees)
+
+  pub keeps_made : (K : Trees → Trees → Type 0) (old new : Connected S) → IsTrue (state g old).is_open × ((state g old).now ≡ (state g old).committed) × IsTrue (state g new).is_open × ((state g new).now ≡ (state g new).committed)
+      → K (state g old).now.trees (state g new).now.trees → (trees : Trees) → (state g new).may_leave trees → (before : Trees) × (state g old).may_leave before × K before trees
+  keeps_made K old new done kept trees here =
+      let is : (state g new).now.trees ≡ trees = ap (λ (d : Database). d.trees) done.3 ∙ sym (settled new.store trees done.2 here) in
+      keeps_from K old trees done.0 done.1 (subst (K (state g old).now.trees) is kept)
+
+  pub keeps_crashed : (K : Trees → Trees → Type 0) → ((trees : Trees) → K trees trees) → (old new : Connected S) (P : Trees → Type 0) → HasCleanDisk (state g new) → Survives (state g old) (state g new) P
+      → ((trees : Trees) → P trees → IsTrue (state g old).is_open × ((state g old).now ≡ (state g old).committed) × K (state g old).now.trees trees)
+      → (trees : Trees) → (state g new).may_leave trees → (before : Trees) × (state g old).may_leave before × K before trees
+  keeps_crashed K now old new P clean s image trees here = elim (s.crash clean trees here) [
+    | inl before ↦ (trees, before, now trees)
+    | inr written ↦ let it = image trees written in keeps_from K old trees it.0 it.1 it.2
+  ]
 
   pub others_same : (old new : Connected S) → ((db : Trees) → g.recovers new.store db → g.recovers old.store db) → LeavesOthers g old new
-  others_same old new found trees here = (trees, found trees here, others_now old.schema trees)
+  others_same old new found = keeps_same (KeepsOthers old.schema) (others_now old.schema) old new found
 
   pub others_stored : (text : List ℕ) (f : Lines → Lines) (old new : Connected S) → Stores text f (state g old) (state g new) → LeavesOthers g old new
-  others_stored text f old new done trees here =
-      let is : (state g new).now.trees ≡ trees = ap (λ (d : Database). d.trees) done.is_settled ∙ sym (settled new.store trees done.is_open here) in
-      others_from old trees done.was_open done.was_settled (subst (KeepsOthers old.schema (state g old).now.trees) is done.others)
+  others_stored text f old new done = keeps_made (KeepsOthers old.schema) old new (done.was_open, done.was_settled, done.is_open, done.is_settled) done.others
 
   pub others_crashed : (text : List ℕ) (f : Lines → Lines) (old new : Connected S) → HasCleanDisk (state g new) → MayBeStored text (state g old)
       → Survives (state g old) (state g new) (λ trees. (text : List ℕ) → MayBeStored text (state g old) → IsCommitImage f (state g old) trees) → LeavesOthers g old new
-  others_crashed text f old new clean may s trees here = elim (s.crash clean trees here) [
-    | inl before ↦ (trees, before, others_now old.schema trees)
-    | inr made ↦ let it = made text may in others_from old trees it.was_open it.was_settled it.others
-  ]
+  others_crashed text f old new clean may s =
+      keeps_crashed (KeepsOthers old.schema) (others_now old.schema) old new _ clean s (λ trees made. let it = made text may in (it.was_open, it.was_settled, it.others))
+
+  pub rest_same : (old new : Connected S) → ((db : Trees) → g.recovers new.store db → g.recovers old.store db) → LeavesRest g old new
+  rest_same old new found = keeps_same (KeepsRest old.schema) (rest_now old.schema) old new found
+
+  pub rest_rewritten : (text : List ℕ) (lines : Lines) (old new : Connected S) → Rewrites text lines (state g old) (state g new) → LeavesRest g old new
+  rest_rewritten text lines old new done = keeps_made (KeepsRest old.schema) old new (done.was_open, done.was_settled, done.is_open, done.is_settled) done.others
+
+  pub rest_crashed : (before text : List ℕ) (lines : Lines) (old new : Connected S) → HasCleanDisk (state g new) → MayBeStored before (state g old)
+      → Survives (state g old) (state g new) (λ trees. (before : List ℕ) → MayBeStored before (state g old) → IsRewriteImage text lines (state g old) trees) → LeavesRest g old new
+  rest_crashed before text lines old new clean may s =
+      keeps_crashed (KeepsRest old.schema) (rest_now old.schema) old new _ clean s (λ trees made. let it = made before may in (it.was_open, it.was_settled, it.others))
 
   -- a write that was refused: only a failed device may leave what its commit writes
   pub refused_left : (old mid new : Connected S) (P : Trees → Type 0) (fault : KeepFault) (failure : WriteError) → (IsBefore failure → Survives (state g old) (state g mid) (λ _. ⊥)) → Survives (state g old) (state g mid) P
@@ -121,9 +173,6 @@ module _ {S : Type 0} (g : Ghosts S) (settled : (s : S) (db : Trees) → IsTrue 
 
   pub survives_left : (old new : Connected S) → HasCleanDisk (state g new) → Survives (state g old) (state g new) (λ _. ⊥) → (db : Trees) → g.recovers new.store db → g.recovers old.store db
   survives_left old new clean s db found = elim (s.crash clean db found) [ inl before ↦ before | inr none ↦ absurd none ]
-
-  pub found_is : (c : Connected S) → IsTrue (state g c).is_open → (state g c).now ≡ (state g c).committed → (contents : Contents) → MayFind g c contents → contents ≡ held (state g c).now.trees
-  found_is c up same contents found = found.2 ∙ ap held (settled c.store found.0 up found.1) ∙ sym (ap (λ (d : Database). held d.trees) same)
 
   pub new_found : (text : List ℕ) (old : State) (c : Connected S) → IsNew text old (state g c) → (contents : Contents) → MayFind g c contents → contents ≡ record { schema = text; lines = empty }
   new_found text old c new contents found =

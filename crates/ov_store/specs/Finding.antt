@@ -23,7 +23,7 @@ use Rattle.ov_store.specs.Refusing.{fault_of_open}
 use Rattle.ov_store.specs.Answers.{Making, Testing, WasAnswered}
 use Rattle.ov_store.specs.Causes.{IsErrorInMemory, IsUnopened, FailsToBegin}
 use Rattle.ov_store.specs.Looking.{IsLookRefused}
-use Rattle.ov_store.specs.StoreState.{StoreState, MayFind}
+use Rattle.ov_store.specs.StoreState.{StoreState, MayFind, text_in}
 
 -- a schema text and no lines
 abbrev pub new_contents : List ℕ → Contents
@@ -34,14 +34,13 @@ module _ {S : Type 0} (g : Ghosts S) where
   pub record IsNewStore (text : List ℕ) (c : Connected S) (s : StoreState S) : Type 0 where
     pub blank : c.schema ≡ no_schema
     pub honest : HasCleanDisk (state g s.connection) → HasCleanDisk (state g c)
-    pub schema : s.schema ≡ text
     pub holds : HasCleanDisk (state g s.connection) → (contents : Contents) → MayFind g s.connection contents → contents ≡ new_contents text
 
   -- the connection had stored format 1, and the store holds what was there
   pub record IsOldStore (c : Connected S) (s : StoreState S) : Type 0 where
     pub tables : HasOurTables c.schema
     pub honest : HasCleanDisk (state g s.connection) → HasCleanDisk (state g c)
-    pub format : HasCleanDisk (state g s.connection) → IsFormat s.schema (state g c).now
+    pub format : HasCleanDisk (state g s.connection) → IsFormat (text_in (state g c).now) (state g c).now
     pub holds : HasCleanDisk (state g s.connection) → Opens (state g c) → (contents : Contents) → MayFind g s.connection contents → contents ≡ held (state g c).now.trees
 
   -- the store is one of the two

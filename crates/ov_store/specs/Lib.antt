@@ -1,4 +1,5 @@
 pub mod StoreState
+pub mod Loading
 pub mod SomeHeld
 pub mod Answers
 pub mod Refusing

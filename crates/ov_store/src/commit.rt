@@ -2,12 +2,13 @@ ghost use Rattle.std.specs.Prelude.{◌≡◌, ◌⊎◌, ◌<◌, ◌≤◌, �
 ghost use Rattle.sqlite.specs.State.{HasCleanDisk};
 ghost use Rattle.sqlite.specs.Held.{state};
 ghost use Rattle.ov_keeper.specs.Views.{changes_view};
-ghost use Rattle.ov_keeper.specs.Keeping.{LeavesChanged, LeavesRefused, IsCommitFault};
-ghost use Rattle.ov_store.specs.StoreState.{MayFind, LeavesOthers};
+ghost use Rattle.ov_keeper.specs.Keeping.{LeavesMade, LeavesRefused, IsCommitFault, changed, rewritten};
+ghost use Rattle.ov_store.specs.StoreState.{MayFind, LeavesOthers, LeavesRest};
 
 use crate::store::Store;
+use ov_base::Text;
 use ov_keeper::{Change, KeepFault};
-use ov_sqlite::{fault_at, write_all};
+use ov_sqlite::{fault_at, rewrite_all, write_all};
 use sqlite::Alter;
 
 impl<S: Alter> Store<S> {
@@ -15,19 +16,54 @@ impl<S: Alter> Store<S> {
     /// none: open it again. An error of SQLite that is neither memory nor size counts as a failure of the device. The
     /// contents of other tables are kept.
     pub fn commit(&mut self, changes: &[Change]) -> Result<(), KeepFault>
-        ensures ok { HasCleanDisk (state S.Store self.new.connection) → OnOk result (LeavesChanged (changes_view changes.now) (MayFind S.Store self.old.connection) (MayFind S.Store self.new.connection)) }
-        ensures err { HasCleanDisk (state S.Store self.new.connection) → IfErr result (LeavesRefused (changes_view changes.now) (MayFind S.Store self.old.connection) (MayFind S.Store self.new.connection)) }
+        ensures ok { HasCleanDisk (state S.Store self.new.connection)
+            → OnOk result (LeavesMade (changed (changes_view changes.now))
+            (MayFind S.Store self.old.connection) (MayFind S.Store self.new.connection)) }
+        ensures err { HasCleanDisk (state S.Store self.new.connection)
+            → IfErr result (LeavesRefused (changed (changes_view changes.now))
+            (MayFind S.Store self.old.connection) (MayFind S.Store self.new.connection)) }
         ensures kinds { IfErr result IsCommitFault }
-        ensures cause { result ≡ Err KeepFault.Device → (self.old.failures < self.new.failures) ⊎ (self.old.failures ≡ 2 ^ 64 - 1) }
+        ensures cause { result ≡ Err KeepFault.Device
+            → (self.old.failures < self.new.failures) ⊎ (self.old.failures ≡ 2 ^ 64 - 1) }
         ensures counts { self.old.failures ≤ self.new.failures }
-        ensures honest { HasCleanDisk (state S.Store self.new.connection) → HasCleanDisk (state S.Store self.old.connection) }
-        ensures schema { self.new.schema ≡ self.old.schema }
-        ensures others { HasCleanDisk (state S.Store self.new.connection) → LeavesOthers S.Store self.old.connection self.new.connection }
+        ensures honest { HasCleanDisk (state S.Store self.new.connection)
+            → HasCleanDisk (state S.Store self.old.connection) }
+        ensures others { HasCleanDisk (state S.Store self.new.connection)
+            → LeavesOthers S.Store self.old.connection self.new.connection }
     {
         if changes.is_empty() {
             return Ok(());
         }
         let Err(failure) = write_all(&mut self.connection, changes) else {
+            return Ok(());
+        };
+        let fault = fault_at(&mut self.connection, &failure);
+        if fault == KeepFault::Device {
+            return Err(self.count_failure());
+        }
+        Err(fault)
+    }
+
+    /// Replaces the schema's text and all lines by those that the changes put, starting from none, in one transaction; or
+    /// changes nothing. After `Device` the file may hold the former contents or the new ones: open it again. An error of
+    /// SQLite that is neither memory nor size counts as a failure of the device. The contents of other tables are kept.
+    pub fn rewrite(&mut self, schema: &Text, changes: &[Change]) -> Result<(), KeepFault>
+        ensures ok { HasCleanDisk (state S.Store self.new.connection)
+            → OnOk result (LeavesMade (λ _. rewritten schema.now (changes_view changes.now))
+            (MayFind S.Store self.old.connection) (MayFind S.Store self.new.connection)) }
+        ensures err { HasCleanDisk (state S.Store self.new.connection)
+            → IfErr result (LeavesRefused (λ _. rewritten schema.now (changes_view changes.now))
+            (MayFind S.Store self.old.connection) (MayFind S.Store self.new.connection)) }
+        ensures kinds { IfErr result IsCommitFault }
+        ensures cause { result ≡ Err KeepFault.Device
+            → (self.old.failures < self.new.failures) ⊎ (self.old.failures ≡ 2 ^ 64 - 1) }
+        ensures counts { self.old.failures ≤ self.new.failures }
+        ensures honest { HasCleanDisk (state S.Store self.new.connection)
+            → HasCleanDisk (state S.Store self.old.connection) }
+        ensures others { HasCleanDisk (state S.Store self.new.connection)
+            → LeavesRest S.Store self.old.connection self.new.connection }
+    {
+        let Err(failure) = rewrite_all(&mut self.connection, schema, changes) else {
             return Ok(());
         };
         let fault = fault_at(&mut self.connection, &failure);

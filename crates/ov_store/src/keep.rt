@@ -23,17 +23,19 @@ impl<S: Alter> Keeper for Store<S> {
     }
 
     fn load(&mut self, alloc: Global) -> Result<Loaded, KeepFault> {
-        let lines = match self.load_all(alloc) {
-            Ok(lines) => lines,
-            Err(fault) => return Err(fault),
-        };
-        match Text::from_str(alloc, self.schema_text().as_str()) {
-            Ok(schema) => Ok(Loaded { schema, lines }),
-            Err(_) => Err(KeepFault::Memory),
-        }
+        self.load_all(alloc)
     }
 
     fn commit(&mut self, _alloc: Global, changes: &[Change]) -> Result<(), KeepFault> {
         self.commit(changes)
+    }
+
+    fn rewrite(
+        &mut self,
+        _alloc: Global,
+        schema: &Text,
+        changes: &[Change],
+    ) -> Result<(), KeepFault> {
+        self.rewrite(schema, changes)
     }
 }

@@ -1,41 +1,66 @@
-ghost use Rattle.std.specs.Prelude.{◌≡◌, ◌⊎◌, ◌<◌, ◌≤◌, ◌-◌, ◌^◌, IfOk, IfErr, Err};
-ghost use Rattle.sqlite.specs.State.{HasCleanDisk};
+ghost use Rattle.std.specs.Prelude.{◌≡◌, ◌⊎◌, ◌<◌, ◌≤◌, ◌-◌, ◌^◌, false, IfOk, IfErr, Err};
+ghost use Rattle.sqlite.specs.State.{HasCleanDisk, Survives};
 ghost use Rattle.sqlite.specs.Held.{state};
-ghost use Rattle.ov_keeper.specs.Keeping.{LeavesNoMore, IsLoadFault};
-ghost use Rattle.ov_keeper.specs.ListKeeper.{lines_of};
+ghost use Rattle.ov_keeper.specs.Keeping.{LeavesNoMore, IsLoadFault, loaded_contents};
+ghost use Rattle.ov_sqlite.specs.Changing.{MayBeStored};
+ghost use Rattle.ov_sqlite.specs.Querying.{IsAsBefore};
+ghost use Rattle.ov_store.specs.Loading.{HoldsLoaded};
 ghost use Rattle.ov_store.specs.StoreState.{MayFind};
 
+use crate::crash::fault_over;
 use crate::store::Store;
-use ov_keeper::{KeepFault, Line};
-use ov_sqlite::{line_rows, refusal};
-use sqlite::Alter;
+use ov_keeper::{KeepFault, Loaded};
+use ov_sqlite::{line_rows, lines_of, read_meta};
+use sqlite::{Alter, Connection};
 use std::alloc::Global;
 
+/// What the two tables hold. Returns `Format` if a row is not as in stored format 1.
+fn read_tables<S: Alter>(alloc: Global, conn: &mut Connection<S>) -> Result<Loaded, KeepFault>
+    requires { conn.old.in_transaction ≡ false }
+    ensures mode { conn.new.in_transaction ≡ false }
+    ensures ok { HasCleanDisk (state S.Store conn.new)
+        → (text : _) → MayBeStored text (state S.Store conn.old) → IfOk result (HoldsLoaded (state S.Store conn.old)) }
+    ensures same { HasCleanDisk (state S.Store conn.new) → IsAsBefore (state S.Store conn.old) (state S.Store conn.new) }
+    ensures survives { Survives (state S.Store conn.old) (state S.Store conn.new) (λ _. ⊥) }
+{
+    // Its contract says that everything is committed.
+    let _before = conn.is_autocommit();
+    let schema = match read_meta(alloc, conn) {
+        Ok(schema) => schema,
+        Err(fault) => return Err(fault),
+    };
+    let rows = match line_rows(conn) {
+        Ok(rows) => rows,
+        Err(error) => return Err(fault_over(&error)),
+    };
+    match lines_of(alloc, rows.as_slice()) {
+        Ok(Some(lines)) => Ok(Loaded { schema, lines }),
+        Ok(None) => Err(KeepFault::Format),
+        Err(_) => Err(KeepFault::Memory),
+    }
+}
+
 impl<S: Alter> Store<S> {
-    /// All lines.
-    pub fn load_all(&mut self, alloc: Global) -> Result<Vec<Line>, KeepFault>
-        ensures ok { HasCleanDisk (state S.Store self.new.connection) → IfOk result (λ lines. (contents : _) → MayFind S.Store self.old.connection contents → contents ≡ record { schema = self.old.schema; lines = lines_of lines.items }) }
-        ensures same { HasCleanDisk (state S.Store self.new.connection) → LeavesNoMore (MayFind S.Store self.old.connection) (MayFind S.Store self.new.connection) }
-        ensures honest { HasCleanDisk (state S.Store self.new.connection) → HasCleanDisk (state S.Store self.old.connection) }
+    /// The schema's text and all lines.
+    pub fn load_all(&mut self, alloc: Global) -> Result<Loaded, KeepFault>
+        ensures ok { HasCleanDisk (state S.Store self.new.connection)
+            → IfOk result (λ loaded. (contents : _) → MayFind S.Store self.old.connection contents
+            → contents ≡ loaded_contents loaded) }
+        ensures same { HasCleanDisk (state S.Store self.new.connection)
+            → LeavesNoMore (MayFind S.Store self.old.connection) (MayFind S.Store self.new.connection) }
+        ensures honest { HasCleanDisk (state S.Store self.new.connection)
+            → HasCleanDisk (state S.Store self.old.connection) }
         // A failure of the device has a cause: the count rises, unless it is at its maximum.
-        ensures cause { result ≡ Err KeepFault.Device → (self.old.failures < self.new.failures) ⊎ (self.old.failures ≡ 2 ^ 64 - 1) }
+        ensures cause { result ≡ Err KeepFault.Device
+            → (self.old.failures < self.new.failures) ⊎ (self.old.failures ≡ 2 ^ 64 - 1) }
         ensures counts { self.old.failures ≤ self.new.failures }
-        ensures schema { self.new.schema ≡ self.old.schema }
         ensures kinds { IfErr result IsLoadFault }
     {
-        let rows = match line_rows(&mut self.connection) {
-            Ok(rows) => rows,
-            Err(error) => match refusal(&error) {
-                Some(KeepFault::Memory) => return Err(KeepFault::Memory),
-                // No row that was stored is too large to be read.
-                _ => return Err(self.count_failure()),
-            },
-        };
-        match ov_sqlite::lines_of(alloc, rows.as_slice()) {
-            Ok(Some(lines)) => Ok(lines),
-            // Something other than this store changed a line, or it was read wrongly.
-            Ok(None) => Err(self.count_failure()),
-            Err(_) => Err(KeepFault::Memory),
+        match read_tables(alloc, &mut self.connection) {
+            Ok(loaded) => Ok(loaded),
+            Err(KeepFault::Memory) => Err(KeepFault::Memory),
+            // Something else changed a row, or it was read wrongly. No row that was stored is too large to be read.
+            Err(_) => Err(self.count_failure()),
         }
     }
 }

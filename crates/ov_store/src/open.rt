@@ -8,7 +8,7 @@ ghost use Rattle.ov_sqlite.specs.Format.{IsFormat};
 ghost use Rattle.ov_sqlite.specs.Making.{MayMake, IsNew, IsNewBeside};
 ghost use Rattle.ov_sqlite.specs.Querying.{IsAsBefore};
 ghost use Rattle.ov_store.specs.Answers.{Making, Testing, WasAnswered};
-ghost use Rattle.ov_store.specs.StoreState.{MayFind, LeavesTables};
+ghost use Rattle.ov_store.specs.StoreState.{MayFind, LeavesTables, text_in};
 
 use crate::store::Store;
 use crate::unopened::Unopened;
@@ -49,7 +49,7 @@ impl<S: Alter + Drop> Store<S> {
         requires { connection.in_transaction ≡ false }
         ensures ok { IfOk result (λ s. HasCleanDisk (state S.Store s.connection) → (contents : _) → MayFind S.Store s.connection contents → contents ≡ record { schema = schema; lines = empty }) }
         ensures honest { IfOk result (λ s. HasCleanDisk (state S.Store s.connection) → HasCleanDisk (state S.Store connection)) }
-        ensures fresh { IfOk result (λ s. (s.schema ≡ schema) × (s.failures ≡ 0)) }
+        ensures fresh { IfOk result (λ s. s.failures ≡ 0) }
         ensures room { IfOk result (λ s. HasRoom connection.schema) }
         ensures beside { IfOk result (λ s. HasCleanDisk (state S.Store s.connection) → s.connection.schema ≡ with_ours connection.schema) }
         ensures others { IfOk result (λ s. HasCleanDisk (state S.Store s.connection) → LeavesTables S.Store connection s.connection) }
@@ -68,7 +68,6 @@ impl<S: Alter + Drop> Store<S> {
         match make_new(&mut connection, &schema) {
             Ok(()) => Ok(Store {
                 connection,
-                schema,
                 failures: 0,
             }),
             Err(fault) => Err(Unopened { fault, connection }),
@@ -81,7 +80,8 @@ impl<S: Alter + Drop> Store<S> {
     /// refusal leaves the connection with what it held, and a crash then leaves what it left before.
     pub fn open(alloc: Global, mut connection: Connection<S>) -> Result<Store<S>, Unopened<S>>
         requires { connection.in_transaction ≡ false }
-        ensures ok { IfOk result (λ s. HasCleanDisk (state S.Store s.connection) → IsFormat s.schema (state S.Store connection).now) }
+        ensures ok { IfOk result (λ s. HasCleanDisk (state S.Store s.connection)
+            → IsFormat (text_in (state S.Store connection).now) (state S.Store connection).now) }
         ensures same { IfOk result (λ s. HasCleanDisk (state S.Store s.connection) → IsAsBefore (state S.Store connection) (state S.Store s.connection)) }
         ensures survives { IfOk result (λ s. Survives (state S.Store connection) (state S.Store s.connection) (λ _. ⊥)) }
         ensures same_refused { IfErr result (λ e. HasCleanDisk (state S.Store e.connection) → IsAsBefore (state S.Store connection) (state S.Store e.connection)) }
@@ -100,9 +100,8 @@ impl<S: Alter + Drop> Store<S> {
             });
         }
         match test_format(alloc, &mut connection) {
-            Ok(schema) => Ok(Store {
+            Ok(_text) => Ok(Store {
                 connection,
-                schema,
                 failures: 0,
             }),
             Err(fault) => Err(Unopened { fault, connection }),

@@ -2,15 +2,13 @@ ghost use Rattle.std.specs.Prelude.{◌≡◌, ◌⊎◌, ◌<◌, ◌≤◌, �
 ghost use Rattle.ov_keeper.specs.Keeping.{IsCommitFault};
 ghost use Rattle.ov_store.specs.StoreState.{StoreState, store_code, IsAtRest};
 
-use ov_base::Text;
 use ov_keeper::KeepFault;
 use sqlite::{Alter, Connection};
 use std::marker::Model;
 
-/// Lines in the two tables of stored format 1, over a connection.
+/// Lines and the schema's text in the two tables of stored format 1, over a connection.
 pub struct Store<S: Alter> {
     pub(crate) connection: Connection<S>,
-    pub(crate) schema: Text,
     pub(crate) failures: u64,
 }
 
@@ -21,9 +19,9 @@ impl<S: Alter> Model for Store<S> {
 
     ghost coded = { store_code S.code };
 
-    ghost view = { λ s. record { connection = s.connection; schema = s.schema; failures = s.failures } };
+    ghost view = { λ s. record { connection = s.connection; failures = s.failures } };
 
-    ghost invariant = { λ s. IsAtRest S.Store s.schema s.connection };
+    ghost invariant = { λ s. IsAtRest S.Store s.connection };
 }
 
 impl<S: Alter + Drop> Drop for Store<S> {
@@ -31,22 +29,13 @@ impl<S: Alter + Drop> Drop for Store<S> {
     fn drop(self) {
         let Store {
             connection,
-            schema,
             failures: _,
         } = self;
         drop(connection);
-        drop(schema);
     }
 }
 
 impl<S: Alter> Store<S> {
-    /// The compact text of the schema.
-    pub fn schema_text(&self) -> &Text
-        ensures { result.now ≡ self.now.schema }
-    {
-        &self.schema
-    }
-
     /// How often the device has failed since the store was opened. The count stays at 2^64-1.
     pub fn failures(&self) -> u64
         ensures { result ≡ self.now.failures }
@@ -58,7 +47,7 @@ impl<S: Alter> Store<S> {
     pub(crate) fn count_failure(&mut self) -> KeepFault
         ensures fault { result ≡ KeepFault.Device }
         ensures kind { IsCommitFault result }
-        ensures same { (self.new.connection ≡ self.old.connection) × (self.new.schema ≡ self.old.schema) }
+        ensures same { self.new.connection ≡ self.old.connection }
         ensures count { (self.old.failures < self.new.failures) ⊎ (self.old.failures ≡ 2 ^ 64 - 1) }
         ensures rises { self.old.failures ≤ self.new.failures }
     {
@@ -74,7 +63,6 @@ impl<S: Alter + Drop> Store<S> {
     {
         let Store {
             connection,
-            schema: _,
             failures: _,
         } = self;
         connection

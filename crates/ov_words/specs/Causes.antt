@@ -39,6 +39,8 @@ abbrev pub by_open : OpenFault → Ending
 by_open opening.SchemaDiffers = ends.Database
 by_open opening.BadBody = ends.Database
 by_open opening.Broken = ends.Database
+by_open opening.TypeChanged = ends.Database
+by_open opening.NotConvertible = ends.Database
 by_open (opening.Keeping fault) = by_keeping fault
 
 -- the ending if a session is not opened

@@ -49,7 +49,11 @@ pub fn ending_of_open(fault: OpenFault) -> Ending
     ensures { result ≡ by_open fault }
 {
     match fault {
-        OpenFault::SchemaDiffers | OpenFault::BadBody | OpenFault::Broken => Ending::Database,
+        OpenFault::SchemaDiffers
+        | OpenFault::BadBody
+        | OpenFault::Broken
+        | OpenFault::TypeChanged
+        | OpenFault::NotConvertible => Ending::Database,
         OpenFault::Keeping(fault) => ending_of_keeping(fault),
     }
 }

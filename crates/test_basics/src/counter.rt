@@ -10,7 +10,12 @@ pub struct Counter {
 impl Counter {
     /// Nothing has been drawn yet.
     pub fn new() -> Counter {
-        Counter { drawn: 0 }
+        Counter::after(0)
+    }
+
+    /// This many have been drawn.
+    pub fn after(drawn: u64) -> Counter {
+        Counter { drawn }
     }
 }
 

@@ -1,5 +1,6 @@
 ghost use Rattle.ov_specs.specs.rows.Lines.{Contents};
 
+use ov_base::Text;
 use ov_keeper::{Change, KeepFault, Keeper, Loaded};
 use std::alloc::Global;
 
@@ -8,16 +9,42 @@ use std::alloc::Global;
 pub struct FailingKeeper<K: Keeper> {
     /// The keeper of the schema and the lines.
     pub inner: K,
-    /// Whether the next commit is refused as too large.
+    /// Whether the next commit or rewrite is refused as too large.
     pub is_too_large: bool,
     /// How many loads fail. Later ones are made.
     pub bad_loads: u64,
-    /// How many commits are made before the device fails.
+    /// How many commits and rewrites are made before the device fails.
     pub good: u64,
-    /// How many commits fail then. Later ones are made.
+    /// How many of them fail then. Later ones are made.
     pub bad: u64,
     /// How often the device has failed.
     pub failures: u64,
+}
+
+impl<K: Keeper> FailingKeeper<K> {
+    ghost use Rattle.std.specs.Prelude.{◌≡◌, ◌≤◌, IfSome, Some};
+    ghost use Rattle.ov_keeper.specs.Keeping.{HasFailed, IsCommitFault};
+    ghost use Rattle.ov_keeper.specs.declared.fault.KeepFault.TheVariants.{Device};
+
+    /// The fault of the next commit or rewrite, if one is configured.
+    fn next_fault(&mut self) -> Option<KeepFault>
+        ensures same { self.new.inner ≡ self.old.inner }
+        ensures kinds { IfSome result IsCommitFault }
+        ensures cause { result ≡ Some Device → HasFailed self.old.failures self.new.failures }
+        ensures counts { self.old.failures ≤ self.new.failures }
+    {
+        if self.is_too_large {
+            self.is_too_large = false;
+            return Some(KeepFault::TooLarge);
+        }
+        if self.good == 0 && self.bad > 0 {
+            self.bad -= 1;
+            self.failures = self.failures.saturating_add(1);
+            return Some(KeepFault::Device);
+        }
+        self.good = self.good.saturating_sub(1);
+        None
+    }
 }
 
 impl<K: Keeper> Keeper for FailingKeeper<K> {
@@ -47,17 +74,26 @@ impl<K: Keeper> Keeper for FailingKeeper<K> {
     }
 
     fn commit(&mut self, alloc: Global, changes: &[Change]) -> Result<(), KeepFault> {
-        if self.is_too_large {
-            self.is_too_large = false;
-            return Err(KeepFault::TooLarge);
+        if let Some(fault) = self.next_fault() {
+            return Err(fault);
         }
-        if self.good == 0 && self.bad > 0 {
-            self.bad -= 1;
-            self.failures = self.failures.saturating_add(1);
-            return Err(KeepFault::Device);
-        }
-        self.good = self.good.saturating_sub(1);
         let answer = self.inner.commit(alloc, changes);
+        if answer == Err(KeepFault::Device) {
+            self.failures = self.failures.saturating_add(1);
+        }
+        answer
+    }
+
+    fn rewrite(
+        &mut self,
+        alloc: Global,
+        schema: &Text,
+        changes: &[Change],
+    ) -> Result<(), KeepFault> {
+        if let Some(fault) = self.next_fault() {
+            return Err(fault);
+        }
+        let answer = self.inner.rewrite(alloc, schema, changes);
         if answer == Err(KeepFault::Device) {
             self.failures = self.failures.saturating_add(1);
         }

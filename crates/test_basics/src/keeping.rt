@@ -1,12 +1,13 @@
 use crate::lines::{change_of, text_of_line};
 use crate::scripts::Scripted;
-use ov_keeper::{Change, Keeper, Line};
+use ov_base::Text;
+use ov_keeper::{Change, KeepFault, Keeper, Line};
 use std::alloc::Global;
 use std::test::Fail;
 
-/// A keeper driven by a script, and the changes of its next commit.
+/// A keeper driven by a script, and the changes of its next commit or rewrite.
 ///
-/// The commands are a change, `commit`, `lines`, `schema` and `failures`.
+/// The commands are a change, `commit`, `rewrite TEXT`, `lines`, `schema` and `failures`.
 #[derive(Drop)]
 pub struct Keeping<K: Keeper> {
     keeper: K,
@@ -29,7 +30,20 @@ impl<K: Keeper + Drop> Keeping<K> {
 
     /// Commits the changes: `made`, or why not, in which case they wait for the next commit.
     fn commit(&mut self, alloc: Global) -> Result<String, Fail> {
-        match self.keeper.commit(alloc, self.changes.as_slice()) {
+        let answer = self.keeper.commit(alloc, self.changes.as_slice());
+        self.told(alloc, answer)
+    }
+
+    /// Replaces the schema's text and all lines by this text and what the changes put; answers as a commit does.
+    fn rewrite(&mut self, alloc: Global, schema: &str) -> Result<String, Fail> {
+        let schema = Text::from_str(alloc, schema)?;
+        let answer = self.keeper.rewrite(alloc, &schema, self.changes.as_slice());
+        self.told(alloc, answer)
+    }
+
+    /// The answer of the keeper. Changes that are made wait no longer.
+    fn told(&mut self, alloc: Global, answer: Result<(), KeepFault>) -> Result<String, Fail> {
+        match answer {
             Ok(()) => {
                 self.changes.clear();
                 Ok(String::from_str(alloc, "made")?)
@@ -57,6 +71,9 @@ impl<K: Keeper + Drop> Keeping<K> {
 
 impl<K: Keeper + Drop> Scripted for Keeping<K> {
     fn answer(&mut self, alloc: Global, command: &str) -> Result<String, Fail> {
+        if let Some(schema) = command.strip_prefix("rewrite ") {
+            return self.rewrite(alloc, schema);
+        }
         match command {
             "commit" => self.commit(alloc),
             "lines" => self.lines(alloc),

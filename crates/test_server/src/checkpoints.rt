@@ -4,7 +4,7 @@ use crate::crashes::inserts;
 use crate::stops::{Case, grows, stops};
 use std::alloc::Global;
 use std::test::Fail;
-use test_basics::holds;
+use test_basics::{NET, holds};
 
 /// Counts the load of each switch up.
 const COUNT_UP: &str =
@@ -68,6 +68,7 @@ fn is_copied(alloc: Global, count: u64) -> Result<bool, Fail> {
         alloc,
         &Case {
             before: "",
+            schema: NET,
             messages: messages.as_str(),
             look: LOADS,
             answers: "",
@@ -101,6 +102,7 @@ fn copied(alloc: Global) -> Result<(), Fail> {
     let wanted = each(alloc, MORE)?;
     let case = Case {
         before: before.as_str(),
+        schema: NET,
         messages: messages.as_str(),
         look: LOADS,
         answers: answers.as_str(),

@@ -5,10 +5,12 @@
 use crate::stops::{Case, fails_once, stops};
 use std::alloc::Global;
 use std::test::Fail;
+use test_basics::NET;
 
 /// Two switches, each in a transaction of its own. A file fails after each number of calls.
 const INSERTS: Case<'static> = Case {
     before: "",
+    schema: NET,
     messages: r#"{"id":1,"method":"transact","params":["Net",{"op":"insert","table":"Switch","row":{"name":"s1"}}]}
 {"id":2,"method":"transact","params":["Net",{"op":"insert","table":"Switch","row":{"name":"s2"}}]}"#,
     look: r#"{"id":9,"method":"transact","params":["Net",{"op":"select","table":"Switch","where":[],"columns":["name"]}]}"#,
@@ -62,6 +64,7 @@ const ONE: &str = "0 answered, 0 found
 /// A row gets another value.
 const UPDATE: Case<'static> = Case {
     before: r#"{"id":1,"method":"transact","params":["Net",{"op":"insert","table":"Switch","row":{"name":"s1"}}]}"#,
+    schema: NET,
     messages: r#"{"id":2,"method":"transact","params":["Net",{"op":"update","table":"Switch","where":[],"row":{"load":5}}]}"#,
     look: r#"{"id":9,"method":"transact","params":["Net",{"op":"select","table":"Switch","where":[],"columns":["load","name"]}]}"#,
     answers: r#"{"error":null,"id":9,"result":[{"rows":[{"load":0,"name":"s1"}]}]}
@@ -78,6 +81,7 @@ fn a_stopped_update_is_found_whole_or_not_at_all(rt: HostRuntime) -> Result<(), 
 /// With a switch go its two ports, and the other switch loses its reference to one of them.
 const DELETE: Case<'static> = Case {
     before: r#"{"id":1,"method":"transact","params":["Net",{"op":"insert","table":"Port","uuid-name":"p1","row":{"name":"p1"}},{"op":"insert","table":"Port","uuid-name":"p2","row":{"name":"p2"}},{"op":"insert","table":"Switch","row":{"name":"s1","ports":["set",[["named-uuid","p1"],["named-uuid","p2"]]]}},{"op":"insert","table":"Switch","row":{"main":["named-uuid","p1"],"name":"s2"}}]}"#,
+    schema: NET,
     messages: r#"{"id":2,"method":"transact","params":["Net",{"op":"delete","table":"Switch","where":[["name","==","s1"]]}]}"#,
     look: r#"{"id":9,"method":"transact","params":["Net",{"op":"select","table":"Port","where":[],"columns":["name"]},{"op":"select","table":"Switch","where":[],"columns":["main","name"]}]}"#,
     answers: r#"{"error":null,"id":9,"result":[{"rows":[{"name":"p1"},{"name":"p2"}]},{"rows":[{"main":["set",[]],"name":"s1"},{"main":["uuid","00000000-0000-4000-8000-000000000002"],"name":"s2"}]}]}
@@ -115,6 +119,7 @@ const COUNT: &str =
 fn thousand(messages: &str) -> Case<'_> {
     Case {
         before: "",
+        schema: NET,
         messages,
         look: COUNT,
         answers: r#"{"error":null,"id":9,"result":[{"count":0}]}

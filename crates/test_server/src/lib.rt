@@ -5,6 +5,8 @@
 #[cfg(test)]
 mod checkpoints;
 #[cfg(test)]
+mod conversions;
+#[cfg(test)]
 mod crashes;
 #[cfg(test)]
 mod cut_off;

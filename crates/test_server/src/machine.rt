@@ -235,7 +235,11 @@ fn is_failed_once(alloc: Global, fault: OpenFault, before: u64, after: u64) -> R
 /// The device's failure is reported and counted, and the keeper that is handed back can be opened.
 #[test]
 fn a_refused_opening_gives_the_keeper_back(rt: HostRuntime) -> Result<(), Fail> {
-    let RefusedOpen { fault, keeper } = refused_at_the_load(rt.alloc())?;
+    let RefusedOpen {
+        fault,
+        keeper,
+        schema: _,
+    } = refused_at_the_load(rt.alloc())?;
     let before = keeper.failures();
     let after = failures_of(rt.alloc(), keeper)?;
     is_failed_once(rt.alloc(), fault, before, after)

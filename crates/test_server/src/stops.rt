@@ -11,7 +11,7 @@ use sqlite::{Alter, Connection, Files, Options};
 use sqlite_disk::{Fuse, Memory};
 use std::alloc::Global;
 use std::test::Fail;
-use test_basics::{Counter, NET, is_text, net};
+use test_basics::{Counter, NET, is_text, schema_of_text};
 use test_support::session_of;
 
 /// Transactions over files that fail.
@@ -19,6 +19,8 @@ use test_support::session_of;
 pub(crate) struct Case<'a> {
     /// The messages that are taken before, over files that do not fail, one in a line.
     pub before: &'a str,
+    /// The schema that the machine over files that fail is opened with: the compact text of its tree.
+    pub schema: &'a str,
     /// The messages that are taken over files that fail.
     pub messages: &'a str,
     /// The message that is answered with what the database holds.
@@ -58,7 +60,7 @@ fn has_error(reply: &str) -> bool {
 }
 
 /// The replies of a machine to messages of its first session, each in a line.
-fn replies_of<K: Keeper + Drop>(
+pub(crate) fn replies_of<K: Keeper + Drop>(
     alloc: Global,
     core: &mut Core<K, Counter>,
     messages: &str,
@@ -75,9 +77,10 @@ fn replies_of<K: Keeper + Drop>(
 fn replies_over<K: Keeper + Drop>(
     alloc: Global,
     keeper: K,
+    schema: &str,
     messages: &str,
 ) -> Result<(K, String), Fail> {
-    let schema = net(alloc)?;
+    let schema = schema_of_text(alloc, schema)?;
     match Core::open(alloc, keeper, schema, Counter::new()) {
         Ok(core) => {
             let mut core = core;
@@ -92,15 +95,16 @@ fn replies_over<K: Keeper + Drop>(
 fn replies_at<S: Alter + Drop>(
     alloc: Global,
     connection: Connection<S>,
+    schema: &str,
     messages: &str,
 ) -> Result<(S, String), Fail> {
     if !connection.is_autocommit() {
         return Err(Fail::new("in a transaction"));
     }
-    let text = Text::from_str(alloc, NET)?;
+    let text = Text::from_str(alloc, schema)?;
     match store_over(alloc, connection, text) {
         Ok(store) => {
-            let (store, replies) = replies_over(alloc, store, messages)?;
+            let (store, replies) = replies_over(alloc, store, schema, messages)?;
             Ok((store.close().into_store(), replies))
         }
         Err(refused) => Ok((refused.connection.into_store(), String::new(alloc))),
@@ -113,6 +117,7 @@ fn replies_in<D: Failing>(
     alloc: Global,
     files: Files<D>,
     number: u64,
+    schema: &str,
     messages: &str,
 ) -> Result<(Files<D>, String), Fail> {
     if !files.may_be_used() {
@@ -120,27 +125,27 @@ fn replies_in<D: Failing>(
     }
     match Connection::open_files(alloc, files, Options::new(number)) {
         Ok(connection) => {
-            let (store, replies) = replies_at(alloc, connection, messages)?;
+            let (store, replies) = replies_at(alloc, connection, schema, messages)?;
             Ok((store.close(), replies))
         }
         Err((_, left)) => Ok((left.into_files(), String::new(alloc))),
     }
 }
 
-/// The image that messages leave over files that do not fail, whatever they held.
+/// The image that messages leave over new files that do not fail, under the schema Net.
 fn image_after<D: Failing>(alloc: Global, messages: &str) -> Result<Image, Fail> {
     let files = files_of::<D>(alloc, &no_files(alloc), NEVER)?;
-    let (files, replies) = replies_in(alloc, files, 1, messages)?;
+    let (files, replies) = replies_in(alloc, files, 1, NET, messages)?;
     if has_error(replies.as_str()) {
         return Err(Fail::new(replies));
     }
     image_of(alloc, &files)
 }
 
-/// The reply of a machine over files that hold an image.
+/// The reply of a machine over files that hold an image, under the schema Net.
 fn found<D: Failing>(alloc: Global, image: &Image, look: &str) -> Result<String, Fail> {
     let files = files_of::<D>(alloc, image, NEVER)?;
-    let (_, replies) = replies_in(alloc, files, 3, look)?;
+    let (_, replies) = replies_in(alloc, files, 3, NET, look)?;
     Ok(replies)
 }
 
@@ -212,7 +217,7 @@ fn add_outcomes<D: Failing>(
     outcomes: &mut Vec<String>,
 ) -> Result<bool, Fail> {
     let files = files_of::<D>(alloc, image, stop)?;
-    let (mut files, replies) = replies_in(alloc, files, 2, case.messages)?;
+    let (mut files, replies) = replies_in(alloc, files, 2, case.schema, case.messages)?;
     let has_failed = files.log.has_failed() || files.db.has_failed();
     let left = image_of(alloc, &files)?;
     add_outcome::<D>(alloc, case, replies.as_str(), left, outcomes)?;
@@ -231,7 +236,7 @@ struct Calls {
 /// The number of calls of each file of an image until a machine is open.
 fn calls_to_open(alloc: Global, image: &Image) -> Result<Calls, Fail> {
     let files = files_of::<FailsOnce<Memory>>(alloc, image, NEVER)?;
-    let (files, _) = replies_in(alloc, files, 2, "")?;
+    let (files, _) = replies_in(alloc, files, 2, NET, "")?;
     Ok(Calls {
         log: calls_of(&files.log),
         db: calls_of(&files.db),
@@ -296,7 +301,7 @@ fn joined(alloc: Global, texts: &[String]) -> Result<String, Fail> {
 fn is_longer_after<D: Failing>(alloc: Global, case: &Case<'_>) -> Result<bool, Fail> {
     let image = image_after::<D>(alloc, case.before)?;
     let files = files_of::<D>(alloc, &image, NEVER)?;
-    let (files, _) = replies_in(alloc, files, 2, case.messages)?;
+    let (files, _) = replies_in(alloc, files, 2, case.schema, case.messages)?;
     Ok(files.db.memory().bytes().len() > image.db.len())
 }
 

@@ -7,17 +7,20 @@ use std::alloc::Global;
 use std::test::Fail;
 use test_basics::{Keeping, NET, Scripted, is_text};
 
-/// Two commits of several changes each.
+/// Two commits of several changes each, and a rewrite.
 const SCRIPT: &str = "put Switch 1 0 one
 put Switch 2 0 two
 commit
 remove Switch 1
 put Switch 2 1 two again
 put Port 1 1 port
-commit";
+commit
+put Switch 3 0 three
+put Port 1 2 port again
+rewrite newer";
 
-/// What may be found: the number of commits made, then the lines of exactly these, or of the one that failed too. After a
-/// refused create there is nothing, or the whole new store.
+/// What may be found: the number of commits and rewrites made, then the lines of exactly these, or of the one that failed too,
+/// and the text of the schema if it is the newer one. After a refused create there is nothing, or the whole new store.
 const ALLOWED: &str = "no database
 refused: nothing
 refused: a store
@@ -25,14 +28,16 @@ made 0:
 made 0:Switch 1 0 one;Switch 2 0 two;
 made 1:Switch 1 0 one;Switch 2 0 two;
 made 1:Port 1 1 port;Switch 2 1 two again;
-made 2:Port 1 1 port;Switch 2 1 two again;";
+made 2:Port 1 1 port;Switch 2 1 two again;
+made 2:Port 1 2 port again;Switch 3 0 three; newer
+made 3:Port 1 2 port again;Switch 3 0 three; newer";
 
 /// Whether a store whose create was refused has lines.
 fn lines_of_refused<S: Alter + Drop>(
     alloc: Global,
     store: &mut Store<S>,
 ) -> Result<&'static str, Fail> {
-    if store.load_all(alloc)?.is_empty() {
+    if store.load_all(alloc)?.lines.is_empty() {
         Ok("refused: a store")
     } else {
         Ok("refused: lines")
@@ -89,31 +94,38 @@ fn text_of_refused<S: Alter + Reopen + Drop>(
     Ok(String::from_str(alloc, found)?)
 }
 
-/// The number of commits of the script that are made before the first that is not.
+/// The number of commits and rewrites of the script that are made before the first that is not.
 fn made<S: Scripted>(alloc: Global, keeping: &mut S) -> Result<u64, Fail> {
     let mut made: u64 = 0;
     for line in SCRIPT.lines() {
         let answer = keeping.answer(alloc, line)?;
         if answer.as_str() == "made" {
             made = made.saturating_add(1);
-        } else if line == "commit" {
+        } else if !answer.as_str().is_empty() {
             return Ok(made);
         }
     }
     Ok(made)
 }
 
-/// What is found after `made` commits.
+/// What is found after `made` commits and rewrites.
 fn found_in_store<S: Alter + Drop>(
     alloc: Global,
     made: u64,
     again: Store<S>,
 ) -> Result<String, Fail> {
-    let lines = Keeping::new(alloc, again).answer(alloc, "lines")?;
-    Ok(format!(in alloc; "made {made}:{lines}")?)
+    let mut keeping = Keeping::new(alloc, again);
+    let lines = keeping.answer(alloc, "lines")?;
+    let schema = keeping.answer(alloc, "schema")?;
+    let newer = if schema.as_str() == "newer" {
+        " newer"
+    } else {
+        ""
+    };
+    Ok(format!(in alloc; "made {made}:{lines}{newer}")?)
 }
 
-/// What is found after `made` commits and a crash.
+/// What is found after `made` commits and rewrites, and a crash.
 fn found_after<S: Alter + Reopen + Drop>(
     alloc: Global,
     made: u64,
@@ -133,7 +145,7 @@ fn found_of_made<S: Alter + Reopen + Drop>(alloc: Global, store: Store<S>) -> Re
     found_after(alloc, made, keeping.into_keeper())
 }
 
-/// Makes a store, runs the script until a commit fails, and returns what is found after a crash.
+/// Makes a store, runs the script until a commit or the rewrite fails, and returns what is found after a crash.
 fn found<S: Alter + Reopen + Drop>(
     alloc: Global,
     connection: Connection<S>,
@@ -191,14 +203,14 @@ fn leaves_no_part(alloc: Global, is_log: bool, calls: u64) -> Result<(), Fail> {
 
 /// Fails unless what is found is allowed when the log, or else the file, fails after each number of calls in turn.
 fn leave_no_part(alloc: Global, is_log: bool) -> Result<(), Fail> {
-    for calls in 0..60u64 {
+    for calls in 0..90u64 {
         leaves_no_part(alloc, is_log, calls)?;
     }
     Ok(())
 }
 
 /// What is found if nothing fails.
-const WHOLE: &str = "made 2:Port 1 1 port;Switch 2 1 two again;";
+const WHOLE: &str = "made 3:Port 1 2 port again;Switch 3 0 three; newer";
 
 #[test]
 fn a_crash_leaves_no_part_of_a_commit(rt: HostRuntime) -> Result<(), Fail> {

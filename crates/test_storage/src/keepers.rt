@@ -1,3 +1,4 @@
+use crate::stores::TWO_REWRITES;
 use ov_db::OpenFault;
 use ov_keeper::KeepFault;
 use std::alloc::Global;
@@ -42,6 +43,31 @@ put Port 1 0 new
 commit -> made
 lines -> Port 1 0 new;Port 2 0 kept;";
     keeps(rt.alloc(), Faults::NONE, script)
+}
+
+#[test]
+fn a_rewrite_replaces_text_and_lines(rt: HostRuntime) -> Result<(), Fail> {
+    keeps(rt.alloc(), Faults::NONE, TWO_REWRITES)
+}
+
+#[test]
+fn a_rewrite_at_a_failing_device_is_counted(rt: HostRuntime) -> Result<(), Fail> {
+    let script = format!(in rt.alloc();
+        "put Port 1 0 one
+rewrite newer -> the device failed
+failures -> 1
+schema -> {NET}
+lines
+rewrite newer -> made
+schema -> newer
+lines -> Port 1 0 one;"
+    )?;
+    let faults = Faults {
+        is_too_large: false,
+        good: 0,
+        bad: 1,
+    };
+    keeps(rt.alloc(), faults, script.as_str())
 }
 
 #[test]

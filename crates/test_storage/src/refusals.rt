@@ -99,8 +99,9 @@ const KEPT_BY_NEW: &str = "foreign seven_there view -> true";
 
 /// The schema text of a store and its number of lines.
 fn contents<S: Alter + Drop>(alloc: Global, store: &mut Store<S>) -> Result<String, Fail> {
-    let lines = store.load_all(alloc)?.len();
-    Ok(format!(in alloc; "{} {lines}", store.schema_text().as_str())?)
+    let loaded = store.load_all(alloc)?;
+    let lines = loaded.lines.len();
+    Ok(format!(in alloc; "{} {lines}", loaded.schema.as_str())?)
 }
 
 /// The same for a store that is not used again.

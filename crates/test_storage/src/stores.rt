@@ -50,6 +50,23 @@ remove Port 1
 commit -> made
 lines -> Switch 1 1 one again;";
 
+/// Lines and text that are replaced, and replaced again by none.
+pub(crate) const TWO_REWRITES: &str = "put Switch 1 0 one
+put Port 1 7 port
+commit -> made
+put Port 2 8 other
+put Port 2 9 at last
+remove Switch 3
+rewrite newer -> made
+schema -> newer
+lines -> Port 2 9 at last;
+put Switch 1 0 one
+commit -> made
+rewrite newest -> made
+schema -> newest
+lines
+failures -> 0";
+
 /// Runs a script over a keeper and returns the keeper.
 pub(crate) fn kept<K: Keeper + Drop>(alloc: Global, keeper: K, script: &str) -> Result<K, Fail> {
     let mut keeping = Keeping::new(alloc, keeper);
@@ -82,6 +99,11 @@ fn found_after_a_close(alloc: Global, script: &str, next: &str) -> Result<(), Fa
 #[test]
 fn a_commit_is_found_after_a_close(rt: HostRuntime) -> Result<(), Fail> {
     found_after_a_close(rt.alloc(), TWO_COMMITS, FOUND)
+}
+
+#[test]
+fn a_rewrite_is_found_after_a_close(rt: HostRuntime) -> Result<(), Fail> {
+    found_after_a_close(rt.alloc(), TWO_REWRITES, "schema -> newest\nlines")
 }
 
 /// Runs a script over a keeper with these faults, over a new store.

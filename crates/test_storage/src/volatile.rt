@@ -1,6 +1,6 @@
 //! A keeper in memory for a database that is gone when the program ends. Memory is ample here, so nothing is refused.
 
-use crate::stores::{FOUND, TWO_COMMITS, kept};
+use crate::stores::{FOUND, TWO_COMMITS, TWO_REWRITES, kept};
 use ov_base::Text;
 use ov_keeper::VolatileKeeper;
 use std::alloc::Global;
@@ -19,6 +19,12 @@ fn keeps(alloc: Global, script: &str) -> Result<VolatileKeeper, Fail> {
 fn what_is_committed_is_loaded(rt: HostRuntime) -> Result<(), Fail> {
     let keeper = keeps(rt.alloc(), TWO_COMMITS)?;
     kept(rt.alloc(), keeper, FOUND)?;
+    Ok(())
+}
+
+#[test]
+fn a_rewrite_replaces_text_and_lines(rt: HostRuntime) -> Result<(), Fail> {
+    keeps(rt.alloc(), TWO_REWRITES)?;
     Ok(())
 }
 

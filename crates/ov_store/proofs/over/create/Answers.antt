@@ -10,7 +10,7 @@ pub returns-clause-store : goal.returns-clause-store
 returns-clause-store g c =
     let r = c.create.result in
     let it = c.create.ensures in
-    IfOk-weaker r _ _ (λ s h. record { blank = c.requires.blank; honest = h.0; schema = h.1.0.0; holds = h.1.1 }) (ok_pair r _ _ it.honest (ok_pair r _ _ it.fresh it.ok))
+    IfOk-weaker r _ _ (λ s h. record { blank = c.requires.blank; honest = h.0; holds = h.1 }) (ok_pair r _ _ it.honest it.ok)
 
 pub returns-clause-refused : goal.returns-clause-refused
 returns-clause-refused g c =

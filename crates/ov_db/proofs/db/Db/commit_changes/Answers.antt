@@ -2,7 +2,7 @@ use Rattle.std.proofs.Common.{◌≡◌, true, Some, None, sym, ap, subst, ◌�
 use mathlib.Core.Logic.{inl, inr}
 use Rattle.ov_specs.specs.integrity.Committed.{is_whole}
 use Rattle.ov_specs.specs.rows.Database.{Database, AreLinesOf}
-use Rattle.ov_keeper.specs.Keeping.{LeavesRefused}
+use Rattle.ov_keeper.specs.Keeping.{LeavesRefused, changed}
 use Rattle.ov_keeper.specs.Views.{changes_view}
 use Rattle.ov_db.specs.Changing.{applied, SuitsChanges}
 use Rattle.ov_db.specs.Committing.{AreKept}
@@ -44,7 +44,7 @@ invariant_of-self-in-Device-1 g c =
     let back = c.take_back-in-Err-Device.ensures schema rows c.in-Ok-place.ensures.back in (
       λ honest held leaves.
           let changes = ap changes_view c.as_slice.ensures.value ∙ c.in-Ok.ensures.changes in
-          let may = subst (LeavesRefused (changes_view c.as_slice.result.now) (g.K.Keeper.leaves c.self.inside.keeper) (g.K.Keeper.leaves c.commit.new.self)) c.in-Err-Device.field-0-is (c.in-Err-Device.ensures.err honest) in
+          let may = subst (LeavesRefused (changed (changes_view c.as_slice.result.now)) (g.K.Keeper.leaves c.self.inside.keeper) (g.K.Keeper.leaves c.commit.new.self)) c.in-Err-Device.field-0-is (c.in-Err-Device.ensures.err honest) in
           let was = c.self.invariant.0 (c.commit.ensures.honest honest) in
           elim (may held leaves) [
             | inl same ↦

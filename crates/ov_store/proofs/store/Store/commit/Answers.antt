@@ -3,13 +3,13 @@ use Rattle.sqlite.specs.State.{HasCleanDisk}
 use Rattle.sqlite.specs.Held.{state}
 use Rattle.std.specs.Prelude.{List, ℕ}
 use Rattle.ov_specs.specs.rows.Lines.{after_changes}
-use Rattle.ov_keeper.specs.Keeping.{LeavesNoMore, LeavesChanged, MayLeaveChanged, changed}
+use Rattle.ov_keeper.specs.Keeping.{LeavesNoMore, LeavesMade, MayLeaveMade, changed}
 use Rattle.ov_keeper.specs.Views.{changes_view}
 use Rattle.sqlite.specs.Tree.{Trees}
 use Rattle.sqlite.proofs.StateLemmas.{survives_then}
 use Rattle.ov_sqlite.specs.Changing.{MayBeStored, IsCommitImage}
-use Rattle.ov_store.specs.StoreState.{StoreState, MayFind, LeavesOthers}
-use Rattle.ov_store.proofs.FoundLemmas.{is_zero, refused, stores_changes, crash_changes, kept_found, kept_left, survives_found, survives_left, others_same, others_stored, others_crashed}
+use Rattle.ov_store.specs.StoreState.{StoreState, MayFind, LeavesOthers, text_in}
+use Rattle.ov_store.proofs.FoundLemmas.{is_zero, at_rest, refused, stores_changes, crash_changes, kept_found, kept_left, survives_found, survives_left, others_same, others_stored, others_crashed}
 use Rattle.ov_sqlite.proofs.RunLemmas.{nothing_then}
 use Rattle.ov_keeper.specs.declared.fault.KeepFault.TheVariants.{Device}
 use Rattle.ov_store.proofs.store.Store.commit.Goals as goal
@@ -25,24 +25,24 @@ returns-in_default-clause-ok g c clean =
     let new = c.write_all.new.conn in
     let early : HasCleanDisk (state g.S.Store old) = omega (arith, c.write_all.ensures.crash.clean) in
     let same : old ≡ c.args.self.now.connection = ap (λ (s : StoreState _). s.connection) c.self.view_is in
-    let done = c.in_default.ensures.ok clean c.self.inside.schema (c.self.invariant.1 early) in
-    subst (λ was. LeavesChanged (changes_view c.args.changes.now) (MayFind g.S.Store was) (MayFind g.S.Store new)) same
-    (stores_changes g.S.Store g.met.S.Store.settled g.met.S.Store.stays c.self.inside.schema (changes_view c.args.changes.now) old new done)
+    let done = c.in_default.ensures.ok clean (text_in (state g.S.Store old).now) (c.self.invariant.1 early) in
+    subst (λ was. LeavesMade (changed (changes_view c.args.changes.now)) (MayFind g.S.Store was) (MayFind g.S.Store new)) same
+    (stores_changes g.S.Store g.met.S.Store.settled g.met.S.Store.stays (text_in (state g.S.Store old).now) (changes_view c.args.changes.now) old new done)
 
 pub returns-then-eq-clause-err : goal.returns-then-eq-clause-err
 returns-then-eq-clause-err g c clean =
     let old = c.self.inside.connection in
     let mid = c.write_all.new.conn in
     let new = c.fault_at-fault.new.conn in
-    let moved = c.count_failure.ensures.same.0 in
+    let moved = c.count_failure.ensures.same in
     let late : HasCleanDisk (state g.S.Store new) = rw moved at clean in
     let middle : HasCleanDisk (state g.S.Store mid) = omega (arith, c.fault_at-fault.ensures.survives.clean) in
     let early : HasCleanDisk (state g.S.Store old) = omega (arith, c.write_all.ensures.crash.clean) in
     let same : old ≡ c.args.self.now.connection = ap (λ (s : StoreState _). s.connection) c.self.view_is in
     let P = λ (trees : Trees). (text : List ℕ) → MayBeStored text (state g.S.Store old) → IsCommitImage (after_changes (changes_view c.args.changes.now)) (state g.S.Store old) trees in
     let whole = survives_then (state g.S.Store old) (state g.S.Store mid) (state g.S.Store new) P (λ _. ⊥) P (λ _ db h. h) (λ _ db none. absurd none) c.write_all.ensures.crash c.fault_at-fault.ensures.survives in
-    rw (c.count_failure.ensures.fault, moved) (subst (λ was. MayLeaveChanged (changes_view c.args.changes.now) (MayFind g.S.Store was) (MayFind g.S.Store new)) same
-    (crash_changes g.S.Store g.met.S.Store.settled g.met.S.Store.stays c.self.inside.schema (changes_view c.args.changes.now) old new late (c.self.invariant.1 early) whole))
+    rw (c.count_failure.ensures.fault, moved) (subst (λ was. MayLeaveMade (changed (changes_view c.args.changes.now)) (MayFind g.S.Store was) (MayFind g.S.Store new)) same
+    (crash_changes g.S.Store g.met.S.Store.settled g.met.S.Store.stays (text_in (state g.S.Store old).now) (changes_view c.args.changes.now) old new late (c.self.invariant.1 early) whole))
 
 pub returns-clause-err : goal.returns-clause-err
 returns-clause-err g c clean =
@@ -57,7 +57,7 @@ returns-clause-err g c clean =
       | inl before ↦ survives_found g.S.Store g.met.S.Store.settled g.met.S.Store.stays old new clean (nothing_then _ _ _ (c.in-Err.ensures.before before) c.fault_at-fault.ensures.survives)
       | inr up ↦ kept_found g.S.Store g.met.S.Store.settled g.met.S.Store.stays old mid new (c.in-Err.ensures.unmoved middle) up
     ] in
-    refused (changes_view c.args.changes.now) (MayFind g.S.Store c.args.self.now.connection) (MayFind g.S.Store new) fault c.fault_at-fault.ensures.kind other
+    refused (changed (changes_view c.args.changes.now)) (MayFind g.S.Store c.args.self.now.connection) (MayFind g.S.Store new) fault c.fault_at-fault.ensures.kind other
     (subst (λ was. LeavesNoMore (MayFind g.S.Store was) (MayFind g.S.Store new)) same kept)
 
 pub returns-then-is_empty-clause-others : goal.returns-then-is_empty-clause-others
@@ -70,16 +70,16 @@ returns-in_default-clause-others g c clean =
     let new = c.write_all.new.conn in
     let early : HasCleanDisk (state g.S.Store old) = omega (arith, c.write_all.ensures.crash.clean) in
     let same : old ≡ c.args.self.now.connection = ap (λ (s : StoreState _). s.connection) c.self.view_is in
-    let done = c.in_default.ensures.ok clean c.self.inside.schema (c.self.invariant.1 early) in
+    let done = c.in_default.ensures.ok clean (text_in (state g.S.Store old).now) (c.self.invariant.1 early) in
     subst (λ was. LeavesOthers g.S.Store was new) same
-    (others_stored g.S.Store g.met.S.Store.settled g.met.S.Store.stays c.self.inside.schema (after_changes (changes_view c.args.changes.now)) old new done)
+    (others_stored g.S.Store g.met.S.Store.settled g.met.S.Store.stays (text_in (state g.S.Store old).now) (after_changes (changes_view c.args.changes.now)) old new done)
 
 pub returns-then-eq-clause-others : goal.returns-then-eq-clause-others
 returns-then-eq-clause-others g c clean =
     let old = c.self.inside.connection in
     let mid = c.write_all.new.conn in
     let new = c.fault_at-fault.new.conn in
-    let moved = c.count_failure.ensures.same.0 in
+    let moved = c.count_failure.ensures.same in
     let late : HasCleanDisk (state g.S.Store new) = rw moved at clean in
     let middle : HasCleanDisk (state g.S.Store mid) = omega (arith, c.fault_at-fault.ensures.survives.clean) in
     let early : HasCleanDisk (state g.S.Store old) = omega (arith, c.write_all.ensures.crash.clean) in
@@ -88,7 +88,7 @@ returns-then-eq-clause-others g c clean =
     let P = λ (trees : Trees). (text : List ℕ) → MayBeStored text (state g.S.Store old) → IsCommitImage changes (state g.S.Store old) trees in
     let whole = survives_then (state g.S.Store old) (state g.S.Store mid) (state g.S.Store new) P (λ _. ⊥) P (λ _ db h. h) (λ _ db none. absurd none) c.write_all.ensures.crash c.fault_at-fault.ensures.survives in
     rw moved (subst (λ was. LeavesOthers g.S.Store was new) same
-    (others_crashed g.S.Store g.met.S.Store.settled g.met.S.Store.stays c.self.inside.schema changes old new late (c.self.invariant.1 early) whole))
+    (others_crashed g.S.Store g.met.S.Store.settled g.met.S.Store.stays (text_in (state g.S.Store old).now) changes old new late (c.self.invariant.1 early) whole))
 
 pub returns-clause-others : goal.returns-clause-others
 returns-clause-others g c clean =
@@ -108,22 +108,25 @@ returns-clause-others g c clean =
 pub invariant_of-self : goal.invariant_of-self
 invariant_of-self g c = (
   c.write_all.ensures.mode,
-  λ clean. let early : HasCleanDisk (state g.S.Store c.self.inside.connection) = omega (arith, c.write_all.ensures.crash.clean) in
-      c.write_all.ensures.kept clean c.self.inside.schema (c.self.invariant.1 early),
+  λ clean. let old = state g.S.Store c.self.inside.connection in
+      let early : HasCleanDisk old = omega (arith, c.write_all.ensures.crash.clean) in
+      at_rest (text_in old.now) (state g.S.Store c.write_all.new.conn) (c.write_all.ensures.kept clean (text_in old.now) (c.self.invariant.1 early)),
 )
 
 pub invariant_of-self-then-eq : goal.invariant_of-self-then-eq
 invariant_of-self-then-eq g c = (
   c.fault_at-fault.ensures.mode,
-  λ clean. let middle : HasCleanDisk (state g.S.Store c.write_all.new.conn) = omega (arith, c.fault_at-fault.ensures.survives.clean) in
-      let early : HasCleanDisk (state g.S.Store c.self.inside.connection) = omega (arith, c.write_all.ensures.crash.clean) in
-      c.fault_at-fault.ensures.kept clean c.self.inside.schema (c.write_all.ensures.kept middle c.self.inside.schema (c.self.invariant.1 early)),
+  λ clean. let old = state g.S.Store c.self.inside.connection in
+      let middle : HasCleanDisk (state g.S.Store c.write_all.new.conn) = omega (arith, c.fault_at-fault.ensures.survives.clean) in
+      let early : HasCleanDisk old = omega (arith, c.write_all.ensures.crash.clean) in
+      at_rest (text_in old.now) (state g.S.Store c.fault_at-fault.new.conn) (c.fault_at-fault.ensures.kept clean (text_in old.now) (c.write_all.ensures.kept middle (text_in old.now) (c.self.invariant.1 early))),
 )
 
 pub invariant_of-self-else-eq : goal.invariant_of-self-else-eq
 invariant_of-self-else-eq g c = (
   c.fault_at-fault.ensures.mode,
-  λ clean. let middle : HasCleanDisk (state g.S.Store c.write_all.new.conn) = omega (arith, c.fault_at-fault.ensures.survives.clean) in
-      let early : HasCleanDisk (state g.S.Store c.self.inside.connection) = omega (arith, c.write_all.ensures.crash.clean) in
-      c.fault_at-fault.ensures.kept clean c.self.inside.schema (c.write_all.ensures.kept middle c.self.inside.schema (c.self.invariant.1 early)),
+  λ clean. let old = state g.S.Store c.self.inside.connection in
+      let middle : HasCleanDisk (state g.S.Store c.write_all.new.conn) = omega (arith, c.fault_at-fault.ensures.survives.clean) in
+      let early : HasCleanDisk old = omega (arith, c.write_all.ensures.crash.clean) in
+      at_rest (text_in old.now) (state g.S.Store c.fault_at-fault.new.conn) (c.fault_at-fault.ensures.kept clean (text_in old.now) (c.write_all.ensures.kept middle (text_in old.now) (c.self.invariant.1 early))),
 )

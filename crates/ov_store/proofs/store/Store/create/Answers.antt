@@ -3,7 +3,7 @@ use Rattle.sqlite.specs.Held.{state}
 use Rattle.ov_keeper.specs.Keeping.{IsCommitFault}
 use Rattle.ov_sqlite.specs.Tables.{HasRoom}
 use Rattle.ov_sqlite.specs.Making.{MayMake}
-use Rattle.ov_store.proofs.FoundLemmas.{new_found, new_beside}
+use Rattle.ov_store.proofs.FoundLemmas.{at_rest, new_found, new_beside}
 use Rattle.ov_sqlite.proofs.RunLemmas.{nothing_now, survives_as}
 use Rattle.ov_store.proofs.store.Store.create.Goals as goal
 
@@ -28,8 +28,8 @@ returns-in-Ok-clause-others g c clean =
     let may : MayMake old = λ up. (room, (c.schema.ensures.live up).0) in
     new_beside g.S.Store g.met.S.Store.settled g.met.S.Store.stays c.args.schema c.args.connection c.make_new.new.conn (c.in-Ok.ensures.ok clean may)
 
-pub returns-in-Err-clause-left : goal.returns-in-Err-clause-left
-returns-in-Err-clause-left g c =
+pub returns-clause-left : goal.returns-clause-left
+returns-clause-left g c =
     let old = state g.S.Store c.args.connection in
     let room : HasRoom c.args.connection.schema = subst HasRoom c.schema.ensures.value (c.has_room.ensures.0 c.if-not-has_room.false) in
     let may : MayMake old = λ up. (room, (c.schema.ensures.live up).0) in
@@ -45,21 +45,21 @@ pub invariant_of-result : goal.invariant_of-result
 invariant_of-result g c =
     let room : HasRoom c.args.connection.schema = subst HasRoom c.schema.ensures.value (c.has_room.ensures.0 c.if-not-has_room.false) in
     let may : MayMake (state g.S.Store c.args.connection) = λ up. (room, (c.schema.ensures.live up).0) in
-    (c.make_new.ensures.mode, λ clean up. (c.in-Ok.ensures.ok clean may).stored)
+    (c.make_new.ensures.mode, λ clean. at_rest c.args.schema (state g.S.Store c.make_new.new.conn) (λ up. (c.in-Ok.ensures.ok clean may).stored))
 
-pub returns-in-Err-clause-honest : goal.returns-in-Err-clause-honest
-returns-in-Err-clause-honest g c = tt
+pub returns-clause-honest : goal.returns-clause-honest
+returns-clause-honest g c = tt
 
-pub returns-in-Err-clause-ours : goal.returns-in-Err-clause-ours
-returns-in-Err-clause-ours g c =
+pub returns-clause-ours : goal.returns-clause-ours
+returns-clause-ours g c =
     let room : HasRoom c.args.connection.schema = subst HasRoom c.schema.ensures.value (c.has_room.ensures.0 c.if-not-has_room.false) in
     (λ is. absurd (subst IsCommitFault is c.in-Err.ensures.kinds), λ none. absurd (none room))
 
-pub returns-in-Err-clause-format : goal.returns-in-Err-clause-format
-returns-in-Err-clause-format g c = λ is. subst IsCommitFault is c.in-Err.ensures.kinds
+pub returns-clause-format : goal.returns-clause-format
+returns-clause-format g c = λ is. subst IsCommitFault is c.in-Err.ensures.kinds
 
-pub returns-in-Err-clause-same : goal.returns-in-Err-clause-same
-returns-in-Err-clause-same g c clean = c.in-Err.ensures.same clean
+pub returns-clause-same : goal.returns-clause-same
+returns-clause-same g c clean = c.in-Err.ensures.same clean
 
 pub returns-then-not-has_room-clause-ours : goal.returns-then-not-has_room-clause-ours
 returns-then-not-has_room-clause-ours g c =

@@ -1,0 +1,10 @@
+use Rattle.std.proofs.Common.{◌≡◌}
+use Rattle.std.specs.List.{list_any}
+use Rattle.ov_specs.specs.integrity.Limits.{has_too_few}
+use Rattle.ov_rows.proofs.Names.{paired}
+use Rattle.ov_conversion.proofs.limits.have_too_few.Given as goal
+
+abbrev pub invariant-loop-name : goal.invariant-loop-name
+invariant-loop-name l =
+    list_any (has_too_few l.table) (paired l.name-iterator.a.rest.now l.name-iterator.b.rest.now)
+    ≡ list_any (has_too_few l.table) (paired l.initial.name-iterator.a.rest.now l.initial.name-iterator.b.rest.now)

@@ -1,0 +1,5 @@
+pub mod Tables
+pub mod Making
+pub mod Support
+pub mod Pruning
+pub mod Committing

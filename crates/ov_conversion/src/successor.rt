@@ -1,0 +1,86 @@
+ghost use Rattle.std.specs.Prelude.{◌≡◌, ◌&&◌, not, filter};
+ghost use Rattle.std.specs.FinMap.{get};
+ghost use Rattle.std.specs.List.{list_any};
+ghost use Rattle.std.specs.Str.{bytes_eq};
+ghost use Rattle.ov_conversion.specs.Tables.{has_changed_column};
+ghost use Rattle.ov_specs.specs.conversion.Converted as spec;
+ghost use Rattle.ov_specs.specs.conversion.Converted.{is_of_changed_type};
+ghost use Rattle.ov_specs.specs.rows.RowNames.{is_own_column};
+ghost use Rattle.ov_specs.specs.schema.Newer.{newer_than};
+ghost use Rattle.ov_specs.specs.schema.Schema.{is_some_and};
+
+use ov_base::Text;
+use ov_schema::{Column, Schema, Table, is_own};
+
+/// Whether a database of the old schema can become one of the new schema: the schemas have the same name, and the new one is
+/// newer (RFC 7047, 3.1, `<version>`). A schema without a version has no successor, and is none itself. Allocates nothing.
+pub fn is_successor(old: &Schema, new: &Schema) -> bool
+    ensures { result ≡ (bytes_eq old.now.name new.now.name && newer_than new.now old.now) }
+{
+    old.name().as_str() == new.name().as_str() && new.newer_than(old)
+}
+
+/// Whether the old table has this column, with another type.
+fn is_of_changed_type(old: &Table, name: &str, column: &Column) -> bool
+    ensures { result ≡ is_of_changed_type old.now (name.now, column.now) }
+{
+    if is_own(name) {
+        return false;
+    }
+    match old.column(name) {
+        Some(former) => !former.same_type(column),
+        None => false,
+    }
+}
+
+/// Whether the old table has one of these columns, with another type.
+fn is_any_of_changed_type(old: &Table, columns: &[(Text, Column)]) -> bool
+    ensures { result ≡ list_any (is_of_changed_type old.now) (filter (λ c. not (is_own_column c.0)) columns.now) }
+{
+    for (name, column) in columns {
+        if !is_own(name.as_str()) && is_of_changed_type(old, name.as_str(), column) {
+            return true;
+        }
+    }
+    false
+}
+
+/// Whether the old schema has a table of this name, and a column of both tables has another type.
+fn has_changed_column(old: &Schema, name: &str, table: &Table) -> bool
+    ensures { result ≡ has_changed_column old.now name.now table.now }
+{
+    match old.table(name) {
+        Some(former) => is_any_of_changed_type(former, table.columns()),
+        None => false,
+    }
+}
+
+/// Whether both schemas have the table of this name, and a column of both tables has another type.
+fn is_changed_table(old: &Schema, new: &Schema, name: &str) -> bool
+    ensures { result ≡ is_some_and (has_changed_column old.now name.now) (get new.now.tables name.now) }
+{
+    match new.table(name) {
+        Some(table) => has_changed_column(old, name, table),
+        None => false,
+    }
+}
+
+/// Whether one of these tables is changed so.
+fn is_any_changed(old: &Schema, new: &Schema, tables: &[(Text, Table)]) -> bool
+    ensures { result ≡ list_any (λ t. is_some_and (has_changed_column old.now t.0) (get new.now.tables t.0)) tables.now }
+{
+    for (name, _table) in tables {
+        if is_changed_table(old, new, name.as_str()) {
+            return true;
+        }
+    }
+    false
+}
+
+/// Whether a column that a table has in both schemas has another type (RFC 7047, 3.2, `<type>`). Whether a column is ephemeral
+/// or mutable is no part of its type. Allocates nothing.
+pub fn has_changed_type(old: &Schema, new: &Schema) -> bool
+    ensures { result ≡ spec.has_changed_type old.now new.now }
+{
+    is_any_changed(old, new, new.tables())
+}

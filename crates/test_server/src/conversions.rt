@@ -1,0 +1,178 @@
+//! Machines that are opened with a newer schema than the stored one.
+
+use crate::stops::{Case, fails_once, replies_of, stops};
+use ov_core::Core;
+use ov_keeper::ListKeeper;
+use std::alloc::Global;
+use std::test::Fail;
+use test_basics::{Counter, Keeping, NET, Scripted, is_text, keeper_of, schema_of_text};
+
+/// The schema Net in version 1.1.0, whose switches have a note.
+const NOTES: &str =
+    r#"{"name":"Net","tables":{"Port":{"columns":{"name":{"type":"string"},"peer":{"type":{"key":{"refTable":"Port","type":"uuid"},"max":1,"min":0}},"tag":{"type":{"key":{"maxInteger":4095,"minInteger":0,"type":"integer"},"max":1,"min":0}}}},"Switch":{"columns":{"load":{"type":"integer"},"main":{"type":{"key":{"refTable":"Port","refType":"weak","type":"uuid"},"max":1,"min":0}},"name":{"type":"string"},"note":{"type":"string"},"ports":{"type":{"key":{"refTable":"Port","type":"uuid"},"max":"unlimited","min":0}}},"indexes":[["name"]],"isRoot":true}},"version":"1.1.0"}"#;
+
+/// The same in a version before the stored one.
+const OLDER: &str =
+    r#"{"name":"Net","tables":{"Port":{"columns":{"name":{"type":"string"},"peer":{"type":{"key":{"refTable":"Port","type":"uuid"},"max":1,"min":0}},"tag":{"type":{"key":{"maxInteger":4095,"minInteger":0,"type":"integer"},"max":1,"min":0}}}},"Switch":{"columns":{"load":{"type":"integer"},"main":{"type":{"key":{"refTable":"Port","refType":"weak","type":"uuid"},"max":1,"min":0}},"name":{"type":"string"},"note":{"type":"string"},"ports":{"type":{"key":{"refTable":"Port","type":"uuid"},"max":"unlimited","min":0}}},"indexes":[["name"]],"isRoot":true}},"version":"0.9.0"}"#;
+
+/// Net in version 1.1.0, whose load is a text.
+const TEXTS: &str =
+    r#"{"name":"Net","tables":{"Port":{"columns":{"name":{"type":"string"},"peer":{"type":{"key":{"refTable":"Port","type":"uuid"},"max":1,"min":0}},"tag":{"type":{"key":{"maxInteger":4095,"minInteger":0,"type":"integer"},"max":1,"min":0}}}},"Switch":{"columns":{"load":{"type":"string"},"main":{"type":{"key":{"refTable":"Port","refType":"weak","type":"uuid"},"max":1,"min":0}},"name":{"type":"string"},"ports":{"type":{"key":{"refTable":"Port","type":"uuid"},"max":"unlimited","min":0}}},"indexes":[["name"]],"isRoot":true}},"version":"1.1.0"}"#;
+
+/// Net in version 1.1.0, in which no two switches have the same load.
+const LOADS: &str =
+    r#"{"name":"Net","tables":{"Port":{"columns":{"name":{"type":"string"},"peer":{"type":{"key":{"refTable":"Port","type":"uuid"},"max":1,"min":0}},"tag":{"type":{"key":{"maxInteger":4095,"minInteger":0,"type":"integer"},"max":1,"min":0}}}},"Switch":{"columns":{"load":{"type":"integer"},"main":{"type":{"key":{"refTable":"Port","refType":"weak","type":"uuid"},"max":1,"min":0}},"name":{"type":"string"},"ports":{"type":{"key":{"refTable":"Port","type":"uuid"},"max":"unlimited","min":0}}},"indexes":[["name"],["load"]],"isRoot":true}},"version":"1.1.0"}"#;
+
+/// A switch.
+const ONE: &str = r#"Switch 2 1 {"load":0,"main":["set",[]],"name":"s1","ports":["set",[]]}"#;
+
+/// Two switches with the same load.
+const TWO: &str = r#"Switch 2 1 {"load":0,"main":["set",[]],"name":"s1","ports":["set",[]]}
+Switch 4 3 {"load":0,"main":["set",[]],"name":"s2","ports":["set",[]]}"#;
+
+/// What a machine over a keeper with these lines of Net replies to a message, under another schema; the hundredth identifier is
+/// the next one. Why it is not opened, if it is not.
+fn reply(alloc: Global, lines: &str, schema: &str, message: &str) -> Result<String, Fail> {
+    let keeper = keeper_of(alloc, NET, lines)?;
+    let schema = schema_of_text(alloc, schema)?;
+    match Core::open(alloc, keeper, schema, Counter::after(99)) {
+        Ok(mut core) => replies_of(alloc, &mut core, message),
+        Err(refused) => Ok(format!(in alloc; "{}", refused.fault)?),
+    }
+}
+
+/// Fails unless that is the reply.
+fn replies(alloc: Global, case: [&str; 4]) -> Result<(), Fail> {
+    let [lines, schema, message, wanted] = case;
+    let found = reply(alloc, lines, schema, message)?;
+    is_text(alloc, found.as_str(), wanted)
+}
+
+/// What the keeper holds after such an opening: its lines, and the text of its schema.
+fn stored(alloc: Global, lines: &str, schema: &str) -> Result<String, Fail> {
+    let keeper = keeper_of(alloc, NET, lines)?;
+    let schema = schema_of_text(alloc, schema)?;
+    let keeper = match Core::open(alloc, keeper, schema, Counter::after(99)) {
+        Ok(core) => core.into_keeper(),
+        Err(refused) => refused.keeper,
+    };
+    told(alloc, keeper)
+}
+
+/// The lines of a keeper, and the text of its schema.
+fn told(alloc: Global, keeper: ListKeeper) -> Result<String, Fail> {
+    let mut keeping = Keeping::new(alloc, keeper);
+    let lines = keeping.answer(alloc, "lines")?;
+    let schema = keeping.answer(alloc, "schema")?;
+    Ok(format!(in alloc; "{lines}{schema}")?)
+}
+
+/// Selects all columns of all switches.
+const SELECT: &str =
+    r#"{"id":1,"method":"transact","params":["Net",{"op":"select","table":"Switch","where":[]}]}"#;
+
+/// The switch with a note, in the version of the conversion.
+const NOTED: &str =
+    r#"{"error":null,"id":1,"result":[{"rows":[{"_uuid":["uuid","00000000-0000-0000-0000-000000000002"],"_version":["uuid","00000000-0000-4000-8000-000000000064"],"load":0,"main":["set",[]],"name":"s1","note":"","ports":["set",[]]}]}]}
+"#;
+
+/// The switch as it was, in its own version.
+const SAME: &str =
+    r#"{"error":null,"id":1,"result":[{"rows":[{"_uuid":["uuid","00000000-0000-0000-0000-000000000002"],"_version":["uuid","00000000-0000-0000-0000-000000000001"],"load":0,"main":["set",[]],"name":"s1","ports":["set",[]]}]}]}
+"#;
+
+/// The line of the switch with a note.
+const NOTED_LINE: &str =
+    r#"Switch 2 302240678275694148452452 {"load":0,"main":["set",[]],"name":"s1","note":"","ports":["set",[]]};"#;
+
+#[test]
+fn a_newer_schema_converts_the_rows(rt: HostRuntime) -> Result<(), Fail> {
+    replies(rt.alloc(), [ONE, NOTES, SELECT, NOTED])
+}
+
+#[test]
+fn a_converted_database_is_stored(rt: HostRuntime) -> Result<(), Fail> {
+    let found = stored(rt.alloc(), ONE, NOTES)?;
+    let wanted = format!(in rt.alloc(); "{NOTED_LINE}{NOTES}")?;
+    is_text(rt.alloc(), found.as_str(), wanted.as_str())
+}
+
+#[test]
+fn the_same_schema_leaves_the_versions_of_rows(rt: HostRuntime) -> Result<(), Fail> {
+    replies(rt.alloc(), [ONE, NET, SELECT, SAME])
+}
+
+#[test]
+fn an_older_schema_is_refused(rt: HostRuntime) -> Result<(), Fail> {
+    replies(
+        rt.alloc(),
+        [ONE, OLDER, SELECT, "the stored schema is another one"],
+    )
+}
+
+#[test]
+fn another_type_of_a_column_is_refused(rt: HostRuntime) -> Result<(), Fail> {
+    replies(
+        rt.alloc(),
+        [
+            ONE,
+            TEXTS,
+            SELECT,
+            "a column has another type in the new schema",
+        ],
+    )
+}
+
+#[test]
+fn rows_that_do_not_fit_the_newer_schema_are_refused(rt: HostRuntime) -> Result<(), Fail> {
+    replies(
+        rt.alloc(),
+        [
+            TWO,
+            LOADS,
+            SELECT,
+            "the stored rows do not fit the new schema",
+        ],
+    )
+}
+
+#[test]
+fn a_refused_conversion_changes_nothing(rt: HostRuntime) -> Result<(), Fail> {
+    let found = stored(rt.alloc(), ONE, TEXTS)?;
+    let wanted = format!(in rt.alloc(); "{ONE};{NET}")?;
+    is_text(rt.alloc(), found.as_str(), wanted.as_str())
+}
+
+/// A conversion over files that fail. The look is at the stored schema.
+const CONVERSION: Case<'static> = Case {
+    before: r#"{"id":1,"method":"transact","params":["Net",{"op":"insert","table":"Switch","row":{"name":"s1"}}]}"#,
+    schema: NOTES,
+    messages: r#"{"id":2,"method":"transact","params":["Net",{"op":"select","table":"Switch","where":[],"columns":["name","note"]}]}"#,
+    look: r#"{"id":9,"method":"transact","params":["Net",{"op":"select","table":"Switch","where":[],"columns":["name"]}]}"#,
+    answers: "",
+    is_in_full: true,
+    is_opened: false,
+};
+
+/// The machine is not opened, and the database is the stored one, or the converted one, which the stored schema does not open;
+/// or the machine is opened.
+const CONVERTED: &str = r#"{"error":null,"id":9,"result":[{"rows":[{"name":"s1"}]}]}
+
+
+{"error":null,"id":2,"result":[{"rows":[{"name":"s1","note":""}]}]}
+
+"#;
+
+#[test]
+fn a_stopped_conversion_leaves_the_stored_or_the_converted_database(
+    rt: HostRuntime,
+) -> Result<(), Fail> {
+    stops(rt.alloc(), &CONVERSION, CONVERTED)
+}
+
+#[test]
+fn a_conversion_that_fails_once_leaves_the_stored_or_the_converted_database(
+    rt: HostRuntime,
+) -> Result<(), Fail> {
+    fails_once(rt.alloc(), &CONVERSION, CONVERTED)
+}
