@@ -1,20 +1,15 @@
 -- What a database looks up by its links and indexes: which rows refer to a row, and which row has some values in an index.
-use Rattle.std.specs.Prelude.{◌≡◌, ◌↔◌, ◌&&◌, not, List, [], ◌∷◌, map, filter, true, Option, Some, None}
+use Rattle.std.specs.Prelude.{◌≡◌, ◌↔◌, List, [], ◌∷◌, map, filter, true, Option, Some, None}
 use Rattle.std.specs.FinMap.{entries}
 use Rattle.ov_index.specs.IndexKeys.{IndexKey}
 use Rattle.ov_index.specs.Indexing.{is_in}
-use Rattle.ov_specs.specs.integrity.References.{refers_strongly, refers_weakly}
-use Rattle.ov_specs.specs.rows.Database.{Database, same_key}
+use Rattle.ov_specs.specs.integrity.References.{refers_weakly}
+use Rattle.ov_specs.specs.rows.Database.{Database}
 use Rattle.ov_specs.specs.rows.Lines.{LineKey}
 use Rattle.ov_specs.specs.schema.SchemaTypes.{Schema}
 use Rattle.ov_specs.specs.values.Uuid.{Uuid}
 
--- the keys, in ascending order, of the rows other than the row itself that refer strongly to the row of this key (RFC 7047,
--- 3.2, <base-type>, refType)
-abbrev pub strong_holders : Schema → Database → LineKey → List LineKey
-strong_holders schema rows to = map (λ r. r.0) (filter (λ r. refers_strongly schema r to && not (same_key r.0 to)) (entries rows))
-
--- the keys, in ascending order, of the rows that refer weakly to it
+-- the keys, in ascending order, of the rows that refer weakly to the row of this key (RFC 7047, 3.2, <base-type>, refType)
 abbrev pub weak_holders : Schema → Database → LineKey → List LineKey
 weak_holders schema rows to = map (λ r. r.0) (filter (λ r. refers_weakly schema r to) (entries rows))
 

@@ -1,4 +1,4 @@
-ghost use Rattle.std.specs.Prelude.{◌≡◌, ◌≤◌, ◌==◌, true, length, is_some, option_copied, option_map, IfOk, IfErr, None};
+ghost use Rattle.std.specs.Prelude.{◌≡◌, ◌≤◌, ◌==◌, true, is_some, option_copied, option_map, IfOk, IfErr, None};
 ghost use Rattle.std.specs.FinMap.{get, entries, keys, len};
 ghost use Rattle.std.specs.List.{filter};
 ghost use Rattle.serde_json.specs.Written.{compact_text};
@@ -8,12 +8,13 @@ ghost use Rattle.ov_rows.specs.Nested.{rows_in};
 ghost use Rattle.ov_keeper.specs.Keeping.{LeavesNoMore, HasFailed};
 ghost use Rattle.ov_keeper.specs.declared.fault.KeepFault.TheVariants.{Device};
 ghost use Rattle.ov_db.specs.Changing.{SuitsChanges, applied};
+ghost use Rattle.ov_refs.specs.Counting.{in_64_bits, strong_count};
 ghost use Rattle.ov_refs.specs.Linking.{AreLinksOf};
 ghost use Rattle.ov_index.specs.Indexing.{AreIndexesOf};
 ghost use Rattle.ov_specs.specs.integrity.Committed.{is_whole};
 ghost use Rattle.ov_db.specs.Committing.{AreKept, Commits, MayFind, MayHold};
 ghost use Rattle.ov_db.specs.Converting.{IsConvertFault, IsOpened, LeavesOpened, LeavesUnopened, RefusesConversion};
-ghost use Rattle.ov_db.specs.Lookups.{TellsIndexed, if_any, strong_holders, weak_holders};
+ghost use Rattle.ov_db.specs.Lookups.{TellsIndexed, if_any, weak_holders};
 ghost use Rattle.ov_db.specs.Opening.{CanOpen, FindsOne, IsOpenFault, RefusesOpen};
 ghost use Rattle.ov_db.specs.declared.answer.StoreAnswer.TheVariants.{Kept, Failed};
 ghost use Rattle.ov_db.specs.declared.fault.OpenFault.TheVariants.{Keeping, SchemaDiffers};
@@ -188,12 +189,13 @@ impl<K: Keeper + Drop> Db<K> {
         &self.resident.indexes
     }
 
-    /// The number of rows that refer strongly to the row of this key. Each counts once, and the row itself does not count
-    /// (RFC 7047, 3.2, `<base-type>`, refType). Allocates nothing.
-    pub fn strong_count(&self, to: &RowKey) -> usize
-        ensures { result ≡ length (strong_holders self.now.schema self.now.committed to.now) }
+    /// The number of strong references from different rows to the row of this key, which stays at 2^64-1 (RFC 7047, 3.2,
+    /// `<base-type>`, refType). Reads only the rows that refer to it, and allocates nothing.
+    pub fn strong_count(&self, to: &RowKey) -> u64
+        ensures { result ≡ in_64_bits (strong_count self.now.schema self.now.committed to.now) }
     {
-        self.resident.links.strong_count(to)
+        let links = &self.resident.links;
+        links.strong_count(&self.schema, &self.resident.rows, to)
     }
 
     /// The rows that refer weakly to the row of this key, in ascending order and each once, or `None` if there are none (RFC

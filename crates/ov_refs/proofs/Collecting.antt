@@ -1,9 +1,9 @@
 -- Which rows refer to which after the references of rows were collected.
-use Rattle.std.proofs.Common.{◌≡◌, ◌==◌, ◌-◌, List, [], ◌∷◌, ◌++◌, Bool, true, false, cond, T, ◌&&◌, ◌||◌, not, Option, Some, None, is_some, refl, sym, ap, ◌∙◌, Ordering, Less, Equal, Greater}
+use Rattle.std.proofs.Common.{◌≡◌, ◌==◌, List, [], ◌∷◌, ◌++◌, Bool, true, false, cond, T, ◌&&◌, ◌||◌, not, Option, Some, None, is_some, refl, sym, ap, ◌∙◌, Ordering, Less, Equal, Greater}
 use Rattle.std.specs.Prelude.{unwrap_or}
 use Rattle.std.specs.Cmp.{eq_by_cmp_equiv}
 use Rattle.std.specs.Cmp.Lexicographic.{slice_cmp, texts_ties}
-use Rattle.std.specs.FinMap.{find, is_sorted, empty, get, contains_key, insert, remove, entries, len, len-empty, len-remove, empty_of_len, entries_sorted, get-entries, get-empty, get-insert, get-remove}
+use Rattle.std.specs.FinMap.{find, is_sorted, empty, get, contains_key, insert, remove, entries, len, empty_of_len, entries_sorted, get-entries, get-empty, get-insert, get-remove}
 use Rattle.std.specs.FinMap.Entries.{below_all}
 use Rattle.std.specs.List.{list_any}
 use Rattle.std.specs.Ordering.{nat_cmp, eq_by_cmp, is_eq, ordering_then}
@@ -15,7 +15,7 @@ use Rattle.ov_specs.specs.schema.SchemaTypes.{Schema}
 use Rattle.ov_specs.proofs.laws.LineKeys.{key_total, tied_same}
 use Rattle.ov_specs.proofs.laws.Truths.{left_holds, right_holds, zero_is, not_tied}
 use Rattle.ov_refs.specs.Holding.{KeySet, Holders, is_holder, with_holder, without, without_holder}
-use Rattle.ov_refs.specs.Linking.{Links, AreNone, AreLinksOf, strong_count, with_target, with_targets, with_rows}
+use Rattle.ov_refs.specs.Linking.{Links, AreNone, AreLinksOf, with_target, with_targets, with_rows}
 
 -- ---- keys
 
@@ -243,12 +243,3 @@ links_are schema rows none links nobody are = record {
 pub with_rows-append : (schema : Schema) (xs ys : List (LineKey × Row)) (links : Links) → with_rows schema (xs ++ ys) links ≡ with_rows schema ys (with_rows schema xs links)
 with_rows-append schema [] ys links = refl
 with_rows-append schema (x ∷ xs) ys links = with_rows-append schema xs ys (with_targets x.0 (row_targets schema x) links)
-
-len_none : (to : LineKey) → len (remove (empty {X = Unit {0}} {R = line_cmp}) to) ≡ 0
-len_none to =
-    len-remove key_total empty to ∙ ap (λ (o : Option (Unit {0})). cond (is_some o) (len (empty {X = Unit {0}} {R = line_cmp}) - 1) (len (empty {X = Unit {0}} {R = line_cmp}))) (get-empty line_cmp to)
-    ∙ len-empty line_cmp (Unit {0})
-
--- no row refers to one that is not listed
-pub count_none : (links : Links) (to : LineKey) → None ≡ get links.strong to → 0 ≡ strong_count links to
-count_none links to none = sym (ap (λ (o : Option KeySet). len (remove (unwrap_or o empty) to)) (sym none) ∙ len_none to)

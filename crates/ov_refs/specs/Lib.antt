@@ -1,6 +1,7 @@
 pub mod Targets
 pub mod Holding
 pub mod Linking
+pub mod Counting
 pub mod Placed
 pub mod Whole
 pub mod StoredKeys

@@ -1,7 +1,7 @@
 -- Which rows of a database refer to which, and how that is collected row by row.
-use Rattle.std.specs.Prelude.{◌≡◌, ℕ, List, [], ◌∷◌, Bool, if◌then◌else◌, unwrap_or, refl}
+use Rattle.std.specs.Prelude.{◌≡◌, List, [], ◌∷◌, Bool, if◌then◌else◌, refl}
 use Rattle.std.specs.Coded.{Coded, code_by, coded×}
-use Rattle.std.specs.FinMap.{empty, get, remove, len}
+use Rattle.std.specs.FinMap.{empty, get}
 use Rattle.ov_refs.specs.Holding.{Holders, holders_code, is_holder, with_holder, without_holder}
 use Rattle.ov_specs.specs.integrity.References.{Target, RowReference, refers_strongly, refers_weakly, row_targets}
 use Rattle.ov_specs.specs.rows.Database.{Row, Database}
@@ -48,12 +48,6 @@ without_reference r links =
 abbrev pub without_references : List RowReference → Links → Links
 without_references [] links = links
 without_references (r ∷ rs) links = without_references rs (without_reference r links)
-
--- ---- support
-
--- the number of different rows, other than itself, that refer strongly to the row
-abbrev pub strong_count : Links → LineKey → ℕ
-strong_count links to = len (remove (unwrap_or (get links.strong to) empty) to)
 
 -- ---- how they are collected; for private clauses
 

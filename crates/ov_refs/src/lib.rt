@@ -1,6 +1,7 @@
 //! What rows refer to, and which rows refer to a row (RFC 7047, 3.2, `<base-type>`, refTable and refType).
 #![tactic(auto)]
 
+mod counting;
 mod holders;
 mod key_iter;
 mod key_set;

@@ -3,10 +3,12 @@ ghost use Rattle.std.specs.FinMap.{get, entries};
 ghost use Rattle.ov_specs.specs.integrity.References.{targets_in};
 ghost use Rattle.ov_specs.specs.rows.Database.{Database};
 ghost use Rattle.ov_specs.specs.rows.Changed.{IsAfter};
-ghost use Rattle.ov_refs.specs.Linking.{AreLinksOf, AreNone, strong_count, with_rows, with_target, with_targets, without_reference, without_references};
+ghost use Rattle.ov_refs.specs.Linking.{AreLinksOf, AreNone, with_rows, with_target, with_targets, without_reference, without_references};
+ghost use Rattle.ov_refs.specs.Counting.{in_64_bits, strong_count};
 ghost use Rattle.ov_refs.specs.Placed.{Adds, AreAlike, lost, refers, targets_at};
 ghost use Rattle.ov_rows.specs.Nested.{in_table};
 
+use crate::counting::count_holders;
 use crate::holders::Holders;
 use crate::link_changes::LinkChanges;
 use crate::reference::RowReference;
@@ -62,12 +64,14 @@ impl Links {
         &self.weak
     }
 
-    /// The number of different rows, other than itself, that refer strongly to the row.
-    pub fn strong_count(&self, to: &RowKey) -> usize
-        ensures { result ≡ strong_count self.now to.now }
+    /// The number of strong references from different rows to the row, which stays at 2^64-1 (RFC 7047, 3.2, `<base-type>`,
+    /// refType). The links are those of the rows. Reads only the rows that refer to it, and allocates nothing.
+    pub fn strong_count(&self, schema: &Schema, rows: &Rows, to: &RowKey) -> u64
+        requires { AreLinksOf schema.now rows.now self.now }
+        ensures { result ≡ in_64_bits (strong_count schema.now rows.now to.now) }
     {
         match self.strong.of(to) {
-            Some(set) => set.count_beside(to),
+            Some(holders) => count_holders(schema, rows, holders, to),
             None => 0,
         }
     }

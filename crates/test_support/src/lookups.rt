@@ -73,9 +73,9 @@ impl Lookups {
         Ok(())
     }
 
-    /// What a database reports for these keys. For the key of a row: how many rows refer to it strongly, and which rows do
-    /// weakly. For a key of an index: the row that stands there. Each has a line with its key; that of an index omits the
-    /// values.
+    /// What a database reports for these keys. For the key of a row: how many strong references other rows have to it, and
+    /// which rows refer to it weakly. For a key of an index: the row that stands there. Each has a line with its key; that of
+    /// an index omits the values.
     pub(crate) fn told<K: Keeper + Drop>(&self, alloc: Global, db: &Db<K>) -> Result<String, Fail> {
         let mut text = String::new(alloc);
         for key in &self.rows {
