@@ -31,11 +31,11 @@ one_of true c h = inl refl
 one_of false c h = inr h
 
 -- a failure stays one while the count only rises
-failed_before : (a b c : ℕ) → HasFailed a b → b ≤ c → HasFailed a c
+pub failed_before : (a b c : ℕ) → HasFailed a b → b ≤ c → HasFailed a c
 failed_before a b c (inl less) up = inl (omega (arith, less, up))
 failed_before a b c (inr most) up = inr most
 
-failed_after : (a b c : ℕ) → a ≤ b → b ≤ c → HasFailed b c → HasFailed a c
+pub failed_after : (a b c : ℕ) → a ≤ b → b ≤ c → HasFailed b c → HasFailed a c
 failed_after a b c up more (inl less) = inl (omega (arith, less, up))
 failed_after a b c up more (inr most) = elim (cases_order a b) [
   | inl same ↦ inr (same ∙ most)
@@ -45,7 +45,7 @@ failed_after a b c up more (inr most) = elim (cases_order a b) [
   ]
 ]
 
-sealed_by : (o : Option Database) → (is_some o ≡ false) ⊎ (is_some o ≡ true)
+pub sealed_by : (o : Option Database) → (is_some o ≡ false) ⊎ (is_some o ≡ true)
 sealed_by None = inl refl
 sealed_by (Some d) = inr refl
 

@@ -8,6 +8,7 @@ pub mod Workings
 pub mod Asking
 pub mod Counting
 pub mod Trying
+pub mod Counted
 pub mod Settlings
 pub mod Takings
 pub mod FewWaiting

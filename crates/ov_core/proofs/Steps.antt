@@ -29,11 +29,12 @@ use Rattle.ov_core.specs.Sessions.{ClosesSession, OpensLive}
 use Rattle.ov_core.specs.States.{state_of}
 use Rattle.ov_core.proofs.Trying.{counts_few}
 use Rattle.ov_core.specs.Settling.{ComesTo}
-use Rattle.ov_core.specs.Following.{CoreState, EntersEntry, Follows, none_given}
+use Rattle.ov_core.specs.Following.{CoreState, CountsWork, EntersEntry, Follows, none_given}
 use Rattle.ov_history.specs.History.{newest, HasHistory}
 use Rattle.ov_core.specs.Stepping.{closing, AsksKeeper, Closes, HasSameKeeper, IsEntered, has_outcome}
 use Rattle.ov_outbox.proofs.Answered.{frames_to-append}
 use Rattle.ov_history.proofs.Histories.{entered_after, keeps_more, has_more}
+use Rattle.ov_core.proofs.Counted.{counts_one, counts_unasked}
 use Rattle.ov_core.proofs.Settlings.{closed_state}
 use Rattle.ov_core.proofs.Watching.{any-serial, left-open, sessions-opened}
 
@@ -41,8 +42,8 @@ use Rattle.ov_core.proofs.Watching.{any-serial, left-open, sessions-opened}
 
 -- an entry that is a step of the machine and is kept, and whose frames wait
 pub moves_with : {K D : Type 0} (old new : CoreState K D) (e : machine.Entry) (x : Entry) (sent : List Sent) → step old.state e ≡ Some (record { state = new.state; sent = sent }) → new.kept ≡ newest (old.kept ++ x ∷ []) → entry_view x ≡ e
-    → PostsSent sent old.outbox new.outbox → EntersEntry old e new
-moves_with old new e x sent stepped kept is waits = record {
+    → PostsSent sent old.outbox new.outbox → CountsWork old (e ∷ []) new → EntersEntry old e new
+moves_with old new e x sent stepped kept is waits counts = record {
   sent = sent;
   stepped = stepped;
   waits = waits;
@@ -54,13 +55,14 @@ moves_with old new e x sent stepped kept is waits = record {
       issued = λ s. frames_to-append s f.sent sent ∙ (ap (λ (fs : List (List ℕ)). fs ++ frames_to s sent) (f.issued s) ∙ (append_assoc (given s) (waiting_for s old.outbox) (frames_to s sent) ∙ ap (λ (fs : List (List ℕ)). given s ++ fs) (sym (waits s))));
     };
     keeps = entered_after old.kept new.kept x e kept is;
+    counts = counts;
   };
 }
 
 -- a step that sends nothing
 pub moves_silent : {K D : Type 0} (old new : CoreState K D) (e : machine.Entry) (x : Entry) → step old.state e ≡ Some (record { state = new.state; sent = [] }) → new.kept ≡ newest (old.kept ++ x ∷ []) → entry_view x ≡ e
-    → HasSameFrames old.outbox new.outbox → EntersEntry old e new
-moves_silent old new e x stepped kept is same = moves_with old new e x [] stepped kept is (λ s. same s ∙ sym (append-nil (waiting_for s old.outbox)))
+    → HasSameFrames old.outbox new.outbox → CountsWork old (e ∷ []) new → EntersEntry old e new
+moves_silent old new e x stepped kept is same counts = moves_with old new e x [] stepped kept is (λ s. same s ∙ sym (append-nil (waiting_for s old.outbox))) counts
 
 -- at a moment that is not below the last one
 step_at : (s : State) (event : machine.Event) (c : machine.Choice) → s.moment ≤ c.moment → step s (record { event = event; choice = c }) ≡ machine.happens (record s { moment = c.moment }) c event
@@ -107,6 +109,8 @@ module _ {K : Type 0} (failed : K → ℕ) (session : Session) (old new : Live K
       → EntersEntry (core_of failed old before was source) (entry_of machine.Open (nothing_chosen m)) (core_of failed new m is source)
   opened was is x source low added same =
       moves_silent (core_of failed old before was source) (core_of failed new m is source) (entry_of machine.Open (nothing_chosen m)) x (is_opening low) added same (λ s. ap (λ (l : Live K). waiting_for s l.outbox.frames) opens.same)
+      (counts_unasked (core_of failed old before was source) (core_of failed new m is source) (entry_of machine.Open (nothing_chosen m)) [] (is_opening low) (omega (arith, ap (λ (l : Live K). l.tries) opens.same))
+      (ap (λ (l : Live K). failed l.database.keeper) opens.same) (ap (λ (l : Live K). l.database.sealed) opens.same))
 
   pub has_opened : (was is : List Entry) (x : Entry) → before ≤ m → is ≡ newest (was ++ x ∷ []) → entry_view x ≡ entry_of machine.Open (nothing_chosen m) → HasHistory (state_of old before) was → HasHistory (state_of new m) is
   has_opened was is x low added same has = has_more (state_of old before) (state_of new m) was is (entry_of machine.Open (nothing_chosen m)) [] (is_opening low) refl (entered_after was is x _ added same) has
@@ -123,7 +127,9 @@ module _ {K : Type 0} (failed : K → ℕ) (n : ℕ) (cause : machine.Cause) (ol
   pub closed : {D : Type 0} (was is : List Entry) (x : Entry) (source : D) → before ≤ m → machine.is_open (state_of old before) n ≡ true → is ≡ newest (was ++ x ∷ []) → entry_view x ≡ closing m n cause
       → Closes m n cause (core_of failed old before was source) (core_of failed new m is source)
   closed was is x source low there added same = record {
-    moves = moves_with (core_of failed old before was source) (core_of failed new m is source) (closing m n cause) x sent (is_closing_of low there) added same closes.posts;
+    moves = moves_with (core_of failed old before was source) (core_of failed new m is source) (closing m n cause) x sent (is_closing_of low there) added same closes.posts
+        (counts_unasked (core_of failed old before was source) (core_of failed new m is source) (closing m n cause) sent (is_closing_of low there) (omega (arith, ap (λ (l : Live K). l.tries) closes.same))
+        (ap (λ (l : Live K). failed l.database.keeper) closes.same) (ap (λ (l : Live K). l.database.sealed) closes.same));
     shut = any-serial new.watchers n new.sessions.open_sessions ∙ rw closes.same (shut_without n old.sessions.open_sessions);
     keys = left-open (state_of new m) new.watchers old.sessions.open_sessions new.sessions.open_sessions refl (rw closes.same (still_others n old.sessions.open_sessions));
     drawn = refl;
@@ -144,7 +150,9 @@ module _ {K : Type 0} (failed : K → ℕ) (event : machine.Event) (old new : Li
   is_step low = step_at (state_of old before) event entered.choice low ∙ comes.happens
 
   pub enters : {D : Type 0} (was is : List Entry) (x : Entry) (source after : D) → before ≤ m → is ≡ newest (was ++ x ∷ []) → entry_view x ≡ entered → EntersEntry (core_of failed old before was source) entered (core_of failed new m is after)
-  enters was is x source after low added same = moves_with (core_of failed old before was source) (core_of failed new m is after) entered x comes.sent (is_step low) added same comes.posts
+  enters was is x source after low added same =
+      moves_with (core_of failed old before was source) (core_of failed new m is after) entered x comes.sent (is_step low) added same comes.posts
+      (counts_one (core_of failed old before was source) (core_of failed new m is after) entered comes.sent (is_step low) comes.tries comes.asks.counts comes.asks.seal)
 
   pub has_entered : (was is : List Entry) (x : Entry) → before ≤ m → is ≡ newest (was ++ x ∷ []) → entry_view x ≡ entered → list_all is_uuid draws ≡ true → HasHistory (state_of old before) was → HasHistory (state_of new m) is
   has_entered was is x low added same uuids has = has_more (state_of old before) (state_of new m) was is entered comes.sent (is_step low) uuids (entered_after was is x entered added same) has

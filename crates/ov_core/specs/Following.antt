@@ -1,12 +1,14 @@
 -- Which histories a core has followed, and which of their frames were handed out.
-use Rattle.std.specs.Prelude.{◌≡◌, ℕ, ◌==◌, ◌++◌, List, [], ◌∷◌, if◌then◌else◌, Option, Some, option_to_list}
+use Rattle.std.specs.Prelude.{◌≡◌, ℕ, ◌+◌, ◌≤◌, ◌==◌, ◌++◌, List, [], ◌∷◌, if◌then◌else◌, true, false, is_some, Option, Some, option_to_list}
 use Rattle.ov_specs.specs.machine.Machine as machine
 use Rattle.ov_specs.specs.machine.Machine.{State, Sent}
 use Rattle.ov_specs.specs.machine.History.{run, frames_to}
 use Rattle.ov_history.specs.declared.event.Entry.{Entry}
 use Rattle.ov_sessions.specs.declared.session.Session.{Session}
 use Rattle.ov_history.specs.History.{Keeps, KeepsNewest}
+use Rattle.ov_keeper.specs.Keeping.{HasFailed}
 use Rattle.ov_outbox.specs.Frames.{WaitingFrames, waiting_for, PostsSent}
+use Rattle.ov_core.specs.Counting.{CountsAll, most_in}
 
 -- what contracts see of a core: its state, the open sessions with their keys in order of opening, the entries that it keeps,
 -- the waiting frames, its keeper, how often the keeper's device has failed, its source of draws, and how many attempts of
@@ -29,11 +31,20 @@ pub record Follows {K D : Type 0} (before : State) (history : List machine.Entry
   pub kept : Keeps core.kept history
   pub issued : (session : ℕ) → frames_to session sent ≡ given session ++ waiting_for session core.outbox
 
+-- While these entries were entered, each attempt was counted, and there were few. The count of failures never falls, and if the
+-- database became sealed, there is a cause: the device has failed.
+pub record CountsWork {K D : Type 0} (old : CoreState K D) (entries : List machine.Entry) (new : CoreState K D) : Type 0 where
+  pub tries : CountsAll old.state entries old.tries new.state new.tries
+  pub few : new.tries ≤ old.tries + most_in old.state entries
+  pub failures : old.failures ≤ new.failures
+  pub seal : is_some old.state.sealed ≡ false → is_some new.state.sealed ≡ true → HasFailed old.failures new.failures
+
 -- If the core has followed a history and frames, it follows that history with these entries appended, and no frame is handed
--- out. The newest of the entries kept before and of these are kept.
+-- out. The newest of the entries kept before and of these are kept, and the work on these is counted.
 pub record Extends {K D : Type 0} (old : CoreState K D) (entries : List machine.Entry) (new : CoreState K D) : Type 0 where
   pub follows : (before : State) (history : List machine.Entry) (given : ℕ → List (List ℕ)) → Follows before history given old → Follows before (history ++ entries) given new
   pub keeps : KeepsNewest old.kept entries new.kept
+  pub counts : CountsWork old entries new
 
 -- no frame was handed out for any session
 abbrev pub none_given : ℕ → List (List ℕ)

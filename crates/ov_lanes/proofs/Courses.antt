@@ -19,9 +19,10 @@ use Rattle.ov_history.specs.declared.event.Stepped.TheVariants as answer
 use Rattle.ov_history.specs.declared.event.StepFault.{StepFault}
 use Rattle.ov_history.specs.declared.event.StepFault.TheVariants as fault
 use Rattle.ov_history.specs.Entries.{cause_view, entry_view}
-use Rattle.ov_core.specs.Following.{CoreState, Follows, EntersEntry, and_handed, and_all_handed}
+use Rattle.ov_core.specs.Following.{CoreState, Follows, CountsWork, EntersEntry, and_handed, and_all_handed}
 use Rattle.ov_core.specs.Stepping.{StepIs, RefusesStep, Closes, closing}
 use Rattle.ov_core.specs.Passing.{is_due, TicksIf}
+use Rattle.ov_core.proofs.Counted.{counts_none, counts_same, counts_on}
 use Rattle.ov_history.proofs.Histories.{keeps_on}
 use Rattle.ov_lanes.specs.Courses.{Spares}
 use Rattle.ov_lanes.specs.Moments.{IsAtMoment, AreTimed}
@@ -48,6 +49,7 @@ pub record EnteredTo {K D : Type 0} {first a : CoreState K D} (p : Since first a
   pub adds : after.entries ≡ p.entries ++ e ∷ []
   pub sent : List Sent
   pub stepped : step a.state e ≡ Some (record { state = b.state; sent = sent })
+  pub counts : CountsWork a (e ∷ []) b
   pub handed : (n : ℕ) → after.handed n ≡ p.handed n
   pub asks : (n : ℕ) → requests after.entries n ≡ requests p.entries n ++ taken_by n e.event
   pub closed : (n : ℕ) → closed_by first.state after.entries n ≡ option_or (closed_by first.state p.entries n) (closing_cause n a.state e.event b.state)
@@ -70,6 +72,7 @@ module _ {K D : Type 0} {first a b : CoreState K D} (p : Since first a) where
               subst (λ (h : List Entry). Follows before h (and_then_handed given p.handed) b) (append_assoc history p.entries (e ∷ []))
               (m.follows.follows before (history ++ p.entries) (and_then_handed given p.handed) (p.follows before history given f));
           keeps = keeps_on first.kept a.kept b.kept p.entries (e ∷ []) p.keeps m.follows.keeps;
+          counts = counts_on first a b p.entries (e ∷ []) p.counts m.follows.counts;
           legal = run_more first.state p.entries e here there p.legal m.stepped;
           frames = λ s.
               ap (λ (l : List (List ℕ)). waiting_for s first.outbox ++ l) (frames_to-append s p.sent m.sent)
@@ -81,6 +84,7 @@ module _ {K D : Type 0} {first a b : CoreState K D} (p : Since first a) where
         adds = refl;
         sent = m.sent;
         stepped = m.stepped;
+        counts = m.follows.counts;
         handed = λ n. refl;
         asks = λ n. requests_more p.entries e n;
         closed = λ n. closed_by_more first.state p.entries a.state e there n (p.sent, p.legal) m.stepped;
@@ -112,14 +116,14 @@ module _ {K D : Type 0} {first a b : CoreState K D} (p : Since first a) where
   entered_timed at e x is = timed_one at a.state e (record { state = b.state; sent = x.sent }) x.stepped is
 
   abbrev goes_entered : (at n : ℕ) (e : Entry) (x : EnteredTo p e b) → IsAtMoment at a.state.moment e.choice.moment e.event → ((t : ℕ) → t ≢ n → MayClose t a.state e (record { state = b.state; sent = x.sent }) []) → Goes at n p b
-  goes_entered at n e x is may = record { after = x.after; more = e ∷ []; adds = x.adds; timed = entered_timed at e x is; beside = λ t ne. spared e x t (may t ne) }
+  goes_entered at n e x is may = record { after = x.after; more = e ∷ []; adds = x.adds; timed = entered_timed at e x is; counts = x.counts; beside = λ t ne. spared e x t (may t ne) }
 
 -- ---- parts of what is done
 
 module _ {K D : Type 0} {first a : CoreState K D} (at n : ℕ) (p : Since first a) where
   -- nothing was done
   abbrev pub goes_same : Goes at n p a
-  goes_same = record { after = p; more = []; adds = sym (append-nil p.entries); timed = refl; beside = λ t ne. spares_same (course_of p t) }
+  goes_same = record { after = p; more = []; adds = sym (append-nil p.entries); timed = refl; counts = counts_none a; beside = λ t ne. spares_same (course_of p t) }
 
   -- one part after another
   abbrev pub goes_along : {b c : CoreState K D} (x : Goes at n p b) → Goes at n x.after c → Goes at n p c
@@ -128,6 +132,7 @@ module _ {K D : Type 0} {first a : CoreState K D} (at n : ℕ) (p : Since first 
     more = x.more ++ y.more;
     adds = y.adds ∙ (ap (λ (l : List Entry). l ++ y.more) x.adds ∙ append_assoc p.entries x.more y.more);
     timed = timed_append at a.state x.more y.more b.state c.state x.timed y.timed;
+    counts = counts_on a b c x.more y.more x.counts y.counts;
     beside = λ t ne. spares_along (course_of p t) (course_of x.after t) (course_of y.after t) (x.beside t ne) (y.beside t ne);
   }
 
@@ -196,6 +201,7 @@ module _ {K D : Type 0} {first a b : CoreState K D} (n : ℕ) (p : Since first a
         (λ s. append_assoc (given s) (p.handed s) (cond (eqb s n) frames []))
         (h.follows before (history ++ p.entries) (and_then_handed given p.handed) (p.follows before history given f));
     keeps = ap (λ (r : CoreState K D). map entry_view r.kept) h.same ∙ p.keeps;
+    counts = subst (λ (l : List Entry). CountsWork first l b) (append-nil p.entries) (counts_on first a b p.entries [] p.counts (counts_same a b h.same));
     legal = p.legal ∙ ap (λ (s : State). Some (record { state = s; sent = p.sent })) (sym same_state);
     frames = λ s. p.frames s ∙ waits s;
   }
@@ -207,6 +213,7 @@ module _ {K D : Type 0} {first a b : CoreState K D} (n : ℕ) (p : Since first a
       more = [];
       adds = sym (append-nil p.entries);
       timed = same_state;
+      counts = counts_same a b h.same;
       beside = λ t ne. record {
         more = [];
         waiting = h.others t ne ∙ sym (append-nil (waiting_for t a.outbox));
@@ -334,6 +341,7 @@ pub record Passes {K D : Type 0} {first a : CoreState K D} (at : ℕ) (p : Since
   pub more : List Entry
   pub adds : after.entries ≡ p.entries ++ more
   pub timed : AreTimed at a.state more b.state
+  pub counts : CountsWork a more b
   pub all : (n : ℕ) → Spares (course_of p n) (course_of after n)
 
 module _ {K D : Type 0} {first a : CoreState K D} (at : ℕ) (p : Since first a) where
@@ -346,11 +354,12 @@ module _ {K D : Type 0} {first a : CoreState K D} (at : ℕ) (p : Since first a)
         more = e ∷ [];
         adds = x.adds;
         timed = entered_timed p at e x (at_moment at a.state.moment e.choice.moment e.event Tick is when);
+        counts = x.counts;
         all = λ n. spared p e x n (turn_tick n a.state e t x.stepped is);
       }
 
   passes_none : Passes at p a
-  passes_none = record { after = p; more = []; adds = sym (append-nil p.entries); timed = refl; all = λ n. spares_same (course_of p n) }
+  passes_none = record { after = p; more = []; adds = sym (append-nil p.entries); timed = refl; counts = counts_none a; all = λ n. spares_same (course_of p n) }
 
   pub passes : (draws : D → Uuid → D → Type 0) (b : CoreState K D) (r : Result Bool StepFault) → IfOk r (λ ticks. TicksIf draws ticks at a b)
       → IfErr r (λ fault. (b ≡ a) × (is_due at a.state ≡ true) × RefusesStep Tick a.state fault) → Passes at p b

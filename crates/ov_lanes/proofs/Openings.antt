@@ -17,6 +17,7 @@ use Rattle.ov_history.specs.declared.event.Stepped.TheVariants as answer
 use Rattle.ov_core.specs.Following.{CoreState, Follows}
 use Rattle.ov_history.specs.History.{HasHistory}
 use Rattle.ov_core.specs.Stepping.{IsEntered}
+use Rattle.ov_core.proofs.Counted.{counts_none}
 use Rattle.ov_lanes.specs.Courses.{Course, Spares}
 use Rattle.ov_lanes.specs.Since.{Since, course_of, course_before, and_then_handed}
 use Rattle.ov_lanes.specs.Fitting.{FitsCourse, Took, brought, framed, is_by_reader}
@@ -37,6 +38,7 @@ since_none a known = record {
       subst (λ (h : List Entry). Follows before h (and_then_handed given (λ n. [])) a) (sym (append-nil history))
       (given_same before history given (and_then_handed given (λ n. [])) a (λ s. sym (append-nil (given s))) f);
   keeps = refl;
+  counts = counts_none a;
   legal = refl;
   frames = λ s. append-nil (waiting_for s a.outbox);
 }

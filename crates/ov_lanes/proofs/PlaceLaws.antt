@@ -10,7 +10,8 @@ use Rattle.rtrb.specs.Ring.{sent, received}
 use Rattle.ov_specs.specs.machine.Machine as machine
 use Rattle.ov_specs.specs.machine.Machine.{Entry, is_open}
 use Rattle.ov_history.specs.History.{HasHistory}
-use Rattle.ov_core.specs.Following.{CoreState}
+use Rattle.ov_core.specs.Following.{CoreState, CountsWork}
+use Rattle.ov_core.proofs.Counted.{counts_none, counts_on}
 use Rattle.ov_lanes.specs.Courses.{Course, Spares}
 use Rattle.ov_lanes.specs.Moments.{AreTimed}
 use Rattle.ov_lanes.specs.Since.{Since, course_of, course_before}
@@ -79,8 +80,8 @@ pub record ServedSince {K D : Type 0} {start b : CoreState K D} (q : Since start
   pub serves : Serves start b ls
   pub is : serves.since ≡ q
 
-pub served_on : {K D : Type 0} {start a b : CoreState K D} (at : ℕ) (ls ms : List (Option Lane)) (s : Serves start a ls) (q : Since start b) → ServedSince q ms → (more : List Entry) → q.entries ≡ s.since.entries ++ more → AreTimed at a.state more b.state → ServesOn at s b ms
-served_on at ls ms s q x more adds timed = record { after = x.serves; more = more; adds = ap (λ (r : _). r.entries) x.is ∙ adds; timed = timed }
+pub served_on : {K D : Type 0} {start a b : CoreState K D} (at : ℕ) (ls ms : List (Option Lane)) (s : Serves start a ls) (q : Since start b) → ServedSince q ms → (more : List Entry) → q.entries ≡ s.since.entries ++ more → AreTimed at a.state more b.state → CountsWork a more b → ServesOn at s b ms
+served_on at ls ms s q x more adds timed counts = record { after = x.serves; more = more; adds = ap (λ (r : _). r.entries) x.is ∙ adds; timed = timed; counts = counts }
 
 module _ {K D : Type 0} {start a b : CoreState K D} (ls : List (Option Lane)) (i : ℕ) (lt : i < length ls) (s : Serves start a ls) (q : Since start b) (beside : Beside ls i s.since q) where
   -- the lane at another place is the same
@@ -178,7 +179,7 @@ module _ {K D : Type 0} {start a : CoreState K D} (at : ℕ) (ls : List (Option 
           | inr ne ↦ inr (j, l, ne, is, serial)
         ]
       ]))
-      [] (sym (append-nil s.since.entries)) refl
+      [] (sym (append-nil s.since.entries)) refl (counts_none a)
 
   -- its lane was moved on
   moved : {b : CoreState K D} (l m : Lane) → IsAt ls i l → m.session ≡ l.session → Moves at s.since l b m → ServesOn at s b (slice_set ls i (Some m))
@@ -209,7 +210,7 @@ module _ {K D : Type 0} {start a : CoreState K D} (at : ℕ) (ls : List (Option 
           | inr ne'' ↦ inr (j, k, ne'', is, is_serial)
         ]
       ]))
-      moves.goes.more moves.goes.adds moves.goes.timed
+      moves.goes.more moves.goes.adds moves.goes.timed moves.goes.counts
 
   -- in whichever way
   serves_moved : {b : CoreState K D} (place place' : Option Lane) → get_or ls i None ≡ place → MovesPlace at s.since place b place' → ServesOn at s b (slice_set ls i place')
@@ -259,10 +260,10 @@ module _ {K D : Type 0} {start a b : CoreState K D} (at : ℕ) (ls : List (Optio
         };
         is = refl;
       })
-      x.more x.adds x.timed
+      x.more x.adds x.timed x.counts
 
 pub goes_none : {K D : Type 0} (at : ℕ) (a : CoreState K D) (ls : List (Option Lane)) → GoesOn at a ls a ls
-goes_none at a ls start s = record { after = s; more = []; adds = sym (append-nil s.since.entries); timed = refl }
+goes_none at a ls start s = record { after = s; more = []; adds = sym (append-nil s.since.entries); timed = refl; counts = counts_none a }
 
 pub goes_unchanged : {K D : Type 0} {a b : CoreState K D} (at : ℕ) (ls : List (Option Lane)) → b ≡ a → GoesOn at a ls b ls
 goes_unchanged {a = a} at ls same = subst (λ (k : CoreState _ _). GoesOn at a ls k ls) (sym same) (goes_none at a ls)
@@ -275,6 +276,7 @@ goes_along {a = a} {b = b} {c = c} at ls ms ns x y start s =
       more = p.more ++ q.more;
       adds = q.adds ∙ (ap (λ (l : List Entry). l ++ q.more) p.adds ∙ append_assoc s.since.entries p.more q.more);
       timed = timed_append at a.state p.more q.more b.state c.state p.timed q.timed;
+      counts = counts_on a b c p.more q.more p.counts q.counts;
     }
 
 pub goes_passed : {K D : Type 0} {a b : CoreState K D} (at : ℕ) (ls : List (Option Lane)) → ((start : CoreState K D) (since : Since start a) → Passes at since b) → GoesOn at a ls b ls
@@ -293,7 +295,7 @@ module _ (P : Lane → Lane → Type 0) where
   some_after (Some k) (Some m) l s is = (m, refl, subst (λ (x : Lane). P x m) (same_Some k l is) s)
 
 pub goes_looked : {K D : Type 0} {a : CoreState K D} (at : ℕ) (ls ms : List (Option Lane)) → StayAs LooksAt ls ms → GoesOn at a ls a ms
-goes_looked at ls ms looks start s =
+goes_looked {a = a} at ls ms looks start s =
     served_on at ls ms s s.since
     (record {
       serves = record {
@@ -312,7 +314,7 @@ goes_looked at ls ms looks start s =
       };
       is = refl;
     })
-    [] (sym (append-nil s.since.entries)) refl
+    [] (sym (append-nil s.since.entries)) refl (counts_none a)
   where
     before : (i : ℕ) (m : Lane) → IsAt ms i m → (l : Lane) × IsAt ls i l × LooksAt l m
     before i m is = some_before LooksAt (get_or ls i None) (get_or ms i None) m (looks.each i) is

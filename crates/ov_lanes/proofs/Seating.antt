@@ -6,7 +6,7 @@ use Rattle.ov_specs.specs.machine.Machine as machine
 use Rattle.ov_specs.specs.machine.Machine.{Entry, is_open}
 use Rattle.ov_sessions.specs.declared.session.Session.{Session}
 use Rattle.ov_history.specs.declared.event.Stepped.TheVariants as answer
-use Rattle.ov_core.specs.Following.{CoreState}
+use Rattle.ov_core.specs.Following.{CoreState, CountsWork}
 use Rattle.ov_core.specs.Stepping.{IsEntered}
 use Rattle.ov_lanes.specs.Courses.{Spares}
 use Rattle.ov_lanes.specs.Moments.{AreTimed}
@@ -27,6 +27,7 @@ record Opens {K D : Type 0} {start a : CoreState K D} (at : ℕ) (ls : List (Opt
   pub more : List Entry
   pub adds : after.entries ≡ s.since.entries ++ more
   pub timed : AreTimed at a.state more b.state
+  pub counts : CountsWork a more b
   pub beside : (other : ℕ) → other ≢ n → Spares (course_of s.since other) (course_of after other)
   pub untouched : IsUntouched (course_of after n)
   pub there : is_open b.state n ≡ true
@@ -43,6 +44,7 @@ module _ {K D : Type 0} {start a b : CoreState K D} (at : ℕ) (ls : List (Optio
         more = e ∷ [];
         adds = x.adds;
         timed = opened_timed s.since e is x when at;
+        counts = x.counts;
         beside = others_spared s.since e is x;
         untouched = (
           closed_same s.since e is x n ∙ coming_unclosed s.since n low,
@@ -87,7 +89,7 @@ module _ {K D : Type 0} {start a b : CoreState K D} (at : ℕ) (ls : List (Optio
         | inl was ↦ inl was
         | inr (j, l, is, serial) ↦ inr (j, l, λ e. taken_free j l e free is, is, serial)
       ]))
-      x.more x.adds x.timed
+      x.more x.adds x.timed x.counts
     where
       taken_free : (j : ℕ) (l : Lane) → j ≡ i → get_or ls i None ≡ None → IsAt ls j l → ⊥
       taken_free j l e free is = none_some l (sym free ∙ (ap (λ (k : ℕ). get_or ls k None) (sym e) ∙ is))

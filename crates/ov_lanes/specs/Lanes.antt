@@ -7,7 +7,7 @@ use Rattle.ov_specs.specs.wire.Message.{Message}
 use Rattle.ov_outbox.specs.Frames.{waiting_for}
 use Rattle.ov_order.specs.declared.items.Brought.{Brought}
 use Rattle.ov_workers.specs.declared.cause.ReadCause.{ReadCause}
-use Rattle.ov_core.specs.Following.{CoreState}
+use Rattle.ov_core.specs.Following.{CoreState, CountsWork}
 use Rattle.ov_lanes.specs.Courses.{Course, Spares}
 use Rattle.ov_lanes.specs.Moments.{AreTimed}
 use Rattle.ov_lanes.specs.Since.{Since, course_of, course_before, Goes}
@@ -112,12 +112,13 @@ pub record Serves {K D : Type 0} (start core : CoreState K D) (places : List (Op
   pub untold : (n : ℕ) → IsUntold (course_of since n)
   pub earlier : (n : ℕ) → n < start.state.next → Spares (course_before start n) (course_of since n)
 
--- what holds after further steps, with the moment `at` reported
+-- what holds after further steps, with the moment `at` reported; the core has counted the work on these
 pub record ServesOn {K D : Type 0} {start core : CoreState K D} {places : List (Option Lane)} (at : ℕ) (serves : Serves start core places) (core' : CoreState K D) (places' : List (Option Lane)) : Type 0 where
   pub after : Serves start core' places'
   pub more : List machine.Entry
   pub adds : after.since.entries ≡ serves.since.entries ++ more
   pub timed : AreTimed at core.state more core'.state
+  pub counts : CountsWork core more core'
 
 -- Whatever was done since a core was `start`, the places fit it as before.
 abbrev pub GoesOn : {K D : Type 0} → ℕ → CoreState K D → List (Option Lane) → CoreState K D → List (Option Lane) → Type 0

@@ -4,7 +4,7 @@ use Rattle.ov_specs.specs.machine.Machine as machine
 use Rattle.ov_specs.specs.machine.Machine.{State, Sent, is_open}
 use Rattle.ov_specs.specs.machine.History.{run, frames_to, requests, closed_by}
 use Rattle.ov_outbox.specs.Frames.{waiting_for}
-use Rattle.ov_core.specs.Following.{CoreState, Follows, and_all_handed}
+use Rattle.ov_core.specs.Following.{CoreState, Follows, CountsWork, and_all_handed}
 use Rattle.ov_history.specs.History.{KeepsNewest, HasHistory}
 use Rattle.ov_lanes.specs.Courses.{Course, Spares}
 use Rattle.ov_lanes.specs.Moments.{AreTimed}
@@ -22,7 +22,7 @@ and_then_handed given handed session = given session ++ handed session
 
 -- What was done since the core was `first`: whatever history and frames it had followed then, it now follows the history
 -- with these entries appended, and these frames were handed out on the way. The core keeps the newest of the entries it had
--- kept and these.
+-- kept and these, and it has counted the work on these.
 pub record Since {K D : Type 0} (first core : CoreState K D) : Type 0 where
   pub entries : List machine.Entry
   pub sent : List Sent
@@ -31,6 +31,7 @@ pub record Since {K D : Type 0} (first core : CoreState K D) : Type 0 where
   pub follows : (before : State) (history : List machine.Entry) (given : ℕ → List (List ℕ)) → Follows before history given first
       → Follows before (history ++ entries) (and_then_handed given handed) core
   pub keeps : KeepsNewest first.kept entries core.kept
+  pub counts : CountsWork first entries core
   pub legal : run first.state entries ≡ Some (record { state = core.state; sent = sent })
   pub frames : (session : ℕ) → waiting_for session first.outbox ++ frames_to session sent ≡ handed session ++ waiting_for session core.outbox
 
@@ -60,4 +61,5 @@ pub record Goes {K D : Type 0} {first old : CoreState K D} (at n : ℕ) (since :
   pub more : List machine.Entry
   pub adds : after.entries ≡ since.entries ++ more
   pub timed : AreTimed at old.state more new.state
+  pub counts : CountsWork old more new
   pub beside : (other : ℕ) → other ≢ n → Spares (course_of since other) (course_of after other)

@@ -8,6 +8,7 @@ use Rattle.ov_specs.specs.machine.History.{joined}
 use Rattle.ov_history.specs.Entries.{entry_view}
 use Rattle.ov_outbox.specs.Frames.{waiting_for}
 use Rattle.ov_core.specs.Following.{CoreState, Follows, Extends, and_handed, and_all_handed}
+use Rattle.ov_core.proofs.Counted.{counts_none, counts_same, counts_on}
 use Rattle.ov_history.proofs.Histories.{keeps_on}
 use Rattle.ov_ends.specs.Writing.{WritesOf}
 use Rattle.ov_serve.specs.Serving.{ExtendsHanding}
@@ -36,17 +37,19 @@ module _ {K D : Type 0} (n : ℕ) where
   goes_by_entries a b entries enters = record {
     follows = λ before history given f. given_same before (history ++ entries) given (and_all_handed given n []) b (λ s. none_more (eqb s n) (given s)) (enters.follows before history given f);
     keeps = enters.keeps;
+    counts = enters.counts;
   }
 
   -- nothing was done
   pub goes_nowhere : (a : CoreState K D) → ExtendsHanding n a [] [] a
-  goes_nowhere a = goes_by_entries a a [] (record { follows = λ before history given f. subst (λ (h : List Entry). Follows before h given a) (sym (append-nil history)) f; keeps = refl })
+  goes_nowhere a = goes_by_entries a a [] (record { follows = λ before history given f. subst (λ (h : List Entry). Follows before h given a) (sym (append-nil history)) f; keeps = refl; counts = counts_none a })
 
   -- a frame, if there is one
-  pub goes_by_frame : (a b : CoreState K D) (frame : Option (List ℕ)) → b.kept ≡ a.kept → ((before : State) (history : List Entry) (given : ℕ → List (List ℕ)) → Follows before history given a → Follows before history (and_handed given n frame) b) → ExtendsHanding n a [] (option_to_list frame) b
+  pub goes_by_frame : (a b : CoreState K D) (frame : Option (List ℕ)) → b ≡ record a { outbox = b.outbox } → ((before : State) (history : List Entry) (given : ℕ → List (List ℕ)) → Follows before history given a → Follows before history (and_handed given n frame) b) → ExtendsHanding n a [] (option_to_list frame) b
   goes_by_frame a b frame same handed = record {
     follows = λ before history given f. subst (λ (h : List Entry). Follows before h (and_all_handed given n (option_to_list frame)) b) (sym (append-nil history)) (handed before history given f);
-    keeps = ap (map entry_view) same;
+    keeps = ap (λ (r : CoreState K D). map entry_view r.kept) same;
+    counts = counts_same a b same;
   }
 
   -- one part after another
@@ -57,6 +60,7 @@ module _ {K D : Type 0} (n : ℕ) where
         (given_same before ((history ++ es) ++ fs) (and_all_handed (and_all_handed given n xs) n ys) (and_all_handed given n (xs ++ ys)) c (λ s. some_more (eqb s n) (given s) xs ys)
         (then.follows before (history ++ es) (and_all_handed given n xs) (first.follows before history given f)));
     keeps = keeps_on a.kept b.kept c.kept es fs first.keeps then.keeps;
+    counts = counts_on a b c es fs first.counts then.counts;
   }
 
   -- then more entries
@@ -66,6 +70,7 @@ module _ {K D : Type 0} (n : ℕ) where
         subst (λ (h : List Entry). Follows before h (and_all_handed given n xs) c) (append_assoc history es fs)
         (then.follows before (history ++ es) (and_all_handed given n xs) (first.follows before history given f));
     keeps = keeps_on a.kept b.kept c.kept es fs first.keeps then.keeps;
+    counts = counts_on a b c es fs first.counts then.counts;
   }
 
   -- then more frames
@@ -89,7 +94,7 @@ writes_on false a b old mid new first then =
 
 module _ {K D : Type 0} (n : ℕ) (a b c : CoreState K D) (frames : List (List ℕ)) (before told : List ℕ) (extends : ExtendsHanding n a [] frames b) (written : told ≡ before ++ joined frames) where
   -- one frame more was handed out, and written
-  pub extends-more : (frame : List ℕ) → c.kept ≡ b.kept → ((s : State) (history : List Entry) (given : ℕ → List (List ℕ)) → Follows s history given b → Follows s history (and_handed given n (Some frame)) c) → ExtendsHanding n a [] (frames ++ frame ∷ []) c
+  pub extends-more : (frame : List ℕ) → c ≡ record b { outbox = c.outbox } → ((s : State) (history : List Entry) (given : ℕ → List (List ℕ)) → Follows s history given b → Follows s history (and_handed given n (Some frame)) c) → ExtendsHanding n a [] (frames ++ frame ∷ []) c
   extends-more frame same handed = goes_on_handing n a b c [] frames (frame ∷ []) extends (goes_by_frame n b c (Some frame) same handed)
 
   pub writes-more : (is_whole : Bool) (frame bytes after : List ℕ) → bytes ≡ frame → WritesOf is_whole bytes told after → WritesOf is_whole (joined (frames ++ frame ∷ [])) before after
@@ -98,11 +103,11 @@ module _ {K D : Type 0} (n : ℕ) (a b c : CoreState K D) (frames : List (List �
       (writes_on is_whole (joined frames) frame before told after written (subst (λ (all : List ℕ). WritesOf is_whole all told after) same writes))
 
   -- no frame was left, and what was written was flushed, or not
-  pub sends-last : (is_whole : Bool) (frame : Option (List ℕ)) (after : List ℕ) → frame ≡ None → waiting_for n b.outbox ≡ option_to_list frame ++ waiting_for n c.outbox → IfNone frame (waiting_for n b.outbox ≡ []) → c.kept ≡ b.kept → ((s : State) (history : List Entry) (given : ℕ → List (List ℕ)) → Follows s history given b → Follows s history (and_handed given n frame) c) → after ≡ told → Sends n is_whole a c before after
-  sends-last is_whole frame after none oldest empty kept handed same = record {
+  pub sends-last : (is_whole : Bool) (frame : Option (List ℕ)) (after : List ℕ) → frame ≡ None → waiting_for n b.outbox ≡ option_to_list frame ++ waiting_for n c.outbox → IfNone frame (waiting_for n b.outbox ≡ []) → c ≡ record b { outbox = c.outbox } → ((s : State) (history : List Entry) (given : ℕ → List (List ℕ)) → Follows s history given b → Follows s history (and_handed given n frame) c) → after ≡ told → Sends n is_whole a c before after
+  sends-last is_whole frame after none oldest empty aside handed same = record {
     frames = frames;
     extends = subst (λ (xs : List (List ℕ)). ExtendsHanding n a [] xs c) (append-nil frames)
-        (goes_on_handing n a b c [] frames [] extends (subst (λ (o : Option (List ℕ)). ExtendsHanding n b [] (option_to_list o) c) none (goes_by_frame n b c frame kept handed)));
+        (goes_on_handing n a b c [] frames [] extends (subst (λ (o : Option (List ℕ)). ExtendsHanding n b [] (option_to_list o) c) none (goes_by_frame n b c frame aside handed)));
     written = all_or_some is_whole;
     none_left = λ whole. left_none frame none oldest empty;
   }

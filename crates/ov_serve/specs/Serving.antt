@@ -11,7 +11,7 @@ use Rattle.ov_specs.specs.machine.Streams.{StreamEvent, Opens, Feed, Passes, Str
 use Rattle.ov_history.specs.declared.event.Cause.{Cause}
 use Rattle.ov_history.specs.declared.event.Cause.TheVariants.{InputEnded, ReadFault, WriteFault, Damaged, Overrun, Memory}
 use Rattle.ov_outbox.specs.Frames.{waiting_for}
-use Rattle.ov_core.specs.Following.{CoreState, Follows, and_all_handed}
+use Rattle.ov_core.specs.Following.{CoreState, Follows, CountsWork, and_all_handed}
 use Rattle.ov_core.specs.Passing.{is_due}
 use Rattle.ov_history.specs.History.{KeepsNewest}
 use Rattle.ov_ends.specs.Ends.{one_more}
@@ -30,11 +30,13 @@ io_state read written clock = record { read = read; written = written; clock = c
 -- ---- frames handed out
 
 -- Whatever history and frames the core has followed, it follows the history with these entries appended, and these frames of
--- the session were handed out on the way. The core keeps the newest of the entries it had kept and these.
+-- the session were handed out on the way. The core keeps the newest of the entries it had kept and these, and it has counted the
+-- work on these.
 pub record ExtendsHanding {K D : Type 0} (n : ℕ) (old : CoreState K D) (entries : List machine.Entry) (frames : List (List ℕ)) (new : CoreState K D) : Type 0 where
   pub follows : (before : State) (history : List machine.Entry) (given : ℕ → List (List ℕ)) → Follows before history given old
       → Follows before (history ++ entries) (and_all_handed given n frames) new
   pub keeps : KeepsNewest old.kept entries new.kept
+  pub counts : CountsWork old entries new
 
 -- ---- what was read
 

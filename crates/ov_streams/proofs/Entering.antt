@@ -15,6 +15,7 @@ use Rattle.ov_history.specs.declared.event.Stepped.TheVariants as answer
 use Rattle.ov_history.specs.declared.event.StepFault.TheVariants as fault
 use Rattle.ov_core.specs.Following.{CoreState, Follows, Extends}
 use Rattle.ov_core.specs.Stepping.{StepIs, IsEntered}
+use Rattle.ov_core.proofs.Counted.{counts_none, counts_on}
 use Rattle.ov_history.proofs.Histories.{keeps_on}
 use Rattle.ov_streams.specs.Entering.{ExtendsByStep, ClosesByEntry, TakesMessage, EntersText, EntersTexts}
 
@@ -112,12 +113,13 @@ ended_by at n text texts d s e t shut (inr (inr (none, h))) = feeds_as at s n _ 
 -- ---- the loop
 
 pub enters_none : {K D : Type 0} (core : CoreState K D) → Extends core [] core
-enters_none core = record { follows = λ before history given h. subst (λ (k : List Entry). Follows before k given core) (sym (append-nil history)) h; keeps = refl }
+enters_none core = record { follows = λ before history given h. subst (λ (k : List Entry). Follows before k given core) (sym (append-nil history)) h; keeps = refl; counts = counts_none core }
 
 pub enters_more : {K D : Type 0} (old mid new : CoreState K D) (entries more : List Entry) → Extends old entries mid → Extends mid more new → Extends old (entries ++ more) new
 enters_more old mid new entries more one two = record {
   follows = λ before history given h. subst (λ (k : List Entry). Follows before k given new) (append_assoc history entries more) (two.follows before (history ++ entries) given (one.follows before history given h));
   keeps = keeps_on old.kept mid.kept new.kept entries more one.keeps two.keeps;
+  counts = counts_on old mid new entries more one.counts two.counts;
 }
 
 -- what is still to come of these texts, whatever follows them, comes of all of them

@@ -23,9 +23,10 @@ use Rattle.ov_cut.specs.CutterState.{CutterState, StandsFor}
 use Rattle.ov_sessions.specs.declared.session.Session.{Session}
 use Rattle.ov_history.specs.declared.event.Stepped.TheVariants as answer
 use Rattle.ov_streams.specs.declared.event.StreamEvent.{StreamEvent}
-use Rattle.ov_core.specs.Following.{CoreState, Extends}
+use Rattle.ov_core.specs.Following.{CoreState, CountsWork, Extends}
 use Rattle.ov_sessions.specs.Sessions.{most_sessions, beyond_serials, serial_left}
 use Rattle.ov_core.specs.Stepping.{IsEntered, Closes, is_full, closing}
+use Rattle.ov_core.proofs.Counted.{counts_none, counts_on}
 use Rattle.ov_sessions.proofs.Keying.{same_serial}
 use Rattle.ov_streams.specs.Feeding.{IsFed, EntersPiece}
 use Rattle.ov_streams.specs.Running.{StreamsState, FollowsEvents, RunsEvents, HasCutter, cutter_of, stream_event_view, stream_events_view}
@@ -66,7 +67,12 @@ passed draws ms old new same e schema database list h given s =
       suits_more schema database list h given old new s (streams.Passes ms) (e.entry ∷ []) s.fed e.moves.follows
           (e.entry, t, refl, record { event = e.tells; moment = e.moment; step = e.moves.stepped }, refl, refl)
           (λ n there. subst (HasCutter n (s.fed n)) (sym same) (s.cutters n (open_before n old.core.state e.entry t [] (turn_tick n old.core.state e.entry t e.moves.stepped e.tells) there))),
+      e.moves.follows.counts,
     )
+
+-- nothing was entered
+counts_as_before : {K D : Type 0} {old new : StreamsState K D} → new ≡ old → CountsWork old.core [] new.core
+counts_as_before {K} {D} {old} same = subst (λ (x : StreamsState K D). CountsWork old.core [] x.core) (sym same) (counts_none old.core)
 
 module _ {K D : Type 0} (n : ℕ) (old new : StreamsState K D) where
   pub finished : new.cutters ≡ old.cutters → is_open old.core.state n ≡ true → Closes old.core.state.moment n machine.InputEnded old.core new.core → RunsEvents (streams.Finish n ∷ []) old new
@@ -80,6 +86,7 @@ module _ {K D : Type 0} (n : ℕ) (old new : StreamsState K D) where
               | inl is ↦ absurd (false≢true (sym c.shut ∙ (ap (is_open new.core.state) is ∙ still)))
               | inr ne ↦ sym (turn_close_other m old.core.state e t c.moves.stepped n machine.InputEnded ne refl).open_is ∙ still
             ]))),
+        c.moves.follows.counts,
       )
 
   pub not_finished : new ≡ old → is_open old.core.state n ≡ false → RunsEvents (streams.Finish n ∷ []) old new
@@ -87,6 +94,7 @@ module _ {K D : Type 0} (n : ℕ) (old new : StreamsState K D) where
     [],
     subst (λ (x : StreamsState K D). FollowsEvents schema database (list ++ streams.Finish n ∷ []) (h ++ []) given x) (sym same)
         (suits_more schema database list h given old old s (streams.Finish n) [] s.fed (enters_none old.core) (at_false (is_open old.core.state n) _ _ away (refl, refl, refl)) s.cutters),
+    counts_as_before same,
   )
 
 -- ---- cutters
@@ -129,6 +137,7 @@ with_cutters old cutters has schema database list h given s = (
         expands = s.expands;
         cutters = has schema database list h given s;
       })),
+  counts_none old.core,
 )
 
 -- the cutter of a closed session was given up
@@ -181,6 +190,7 @@ module _ {K D : Type 0} (cutter : CutterState) (old : StreamsState K D) (cutters
             (λ n there.
             let turned : (is_open old.core.state n || eqb old.core.state.next n) ≡ true = sym (turn_open n old.core.state e.entry t e.moves.stepped e.tells.0).open_is ∙ there in
             next_has schema database list h given s n (λ ne. only (is_open old.core.state n) (eqb old.core.state.next n) (ne_eqb old.core.state.next n (λ is. ne (sym is))) turned)),
+        e.moves.follows.counts,
       )
     where
       only : (a b : Bool) → b ≡ false → (a || b) ≡ true → a ≡ true
@@ -263,6 +273,7 @@ was_fed n bytes before after old new was updates there brings schema database li
           (λ is. subst (λ (k : ℕ). IsFed (with_fed s.fed n bytes k) after) (sym is) (subst (λ (l : List ℕ). IsFed l after) (sym (fed_own s.fed n bytes)) (b.goes_on (ap (is_open new.core.state) (sym is) ∙ still))))
           (λ ne. subst (λ (l : List ℕ). HasCutter m l old.cutters) (sym (fed_other s.fed n m bytes ne))
           (s.cutters m (others_open 0 m n (λ e. ne (sym e)) old.core.state b.messages (asked (s.fed n ++ bytes)).damaged b.entries new.core.state b.feeds still)))),
+      b.enters.counts,
     )
 
 -- the session is not open
@@ -271,6 +282,7 @@ not_fed n bytes old new same shut schema database list h given s = (
   [],
   subst (λ (x : StreamsState _ _). FollowsEvents schema database (list ++ streams.Feed n bytes ∷ []) (h ++ []) given x) (sym same)
       (suits_more schema database list h given old old s (streams.Feed n bytes) [] s.fed (enters_none old.core) (at_false (is_open old.core.state n) _ _ shut (refl, refl, refl)) s.cutters),
+  counts_as_before same,
 )
 
 -- an open session has a cutter, so what is without is nothing that the streams come to
@@ -281,13 +293,13 @@ no_cutter n bytes old new there none schema database list h given s = absurd (su
 
 pub serves_none : {K D : Type 0} (now : StreamsState K D) → RunsEvents [] now now
 serves_none now schema database list h given s =
-    ([], subst (λ (l : List streams.StreamEvent). FollowsEvents schema database l (h ++ []) given now) (sym (append-nil list)) (subst (λ (k : List Entry). FollowsEvents schema database list k given now) (sym (append-nil h)) s))
+    ([], subst (λ (l : List streams.StreamEvent). FollowsEvents schema database l (h ++ []) given now) (sym (append-nil list)) (subst (λ (k : List Entry). FollowsEvents schema database list k given now) (sym (append-nil h)) s), counts_none now.core)
 
 pub serves_more : {K D : Type 0} (xs ys : List streams.StreamEvent) (old mid new : StreamsState K D) → RunsEvents xs old mid → RunsEvents ys mid new → RunsEvents (xs ++ ys) old new
 serves_more xs ys old mid new one two schema database list h given s =
     let a = one schema database list h given s in
     let b = two schema database (list ++ xs) (h ++ a.0) given a.1 in
-    (a.0 ++ b.0, subst (λ (l : List streams.StreamEvent). FollowsEvents schema database l (h ++ (a.0 ++ b.0)) given new) (append_assoc list xs ys) (subst (λ (k : List Entry). FollowsEvents schema database ((list ++ xs) ++ ys) k given new) (append_assoc h a.0 b.0) b.1))
+    (a.0 ++ b.0, subst (λ (l : List streams.StreamEvent). FollowsEvents schema database l (h ++ (a.0 ++ b.0)) given new) (append_assoc list xs ys) (subst (λ (k : List Entry). FollowsEvents schema database ((list ++ xs) ++ ys) k given new) (append_assoc h a.0 b.0) b.1), counts_on old.core mid.core new.core a.0 b.0 a.2 b.2)
 
 -- one event more
 pub view_more : (events : List StreamEvent) (i : ℕ) (event : StreamEvent) → i < length events → event ≡ get_or events i event → stream_events_view (take (i + 1) events) ≡ stream_events_view (take i events) ++ stream_event_view event ∷ []

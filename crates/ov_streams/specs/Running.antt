@@ -11,7 +11,7 @@ use Rattle.ov_specs.specs.rows.Database.{Database}
 use Rattle.ov_specs.specs.machine.Streams as streams
 use Rattle.ov_specs.specs.machine.Streams.{Streams, no_streams, ExpandsAll}
 use Rattle.ov_history.specs.declared.event.StepFault.{StepFault}
-use Rattle.ov_core.specs.Following.{CoreState, Follows}
+use Rattle.ov_core.specs.Following.{CoreState, Follows, CountsWork}
 use Rattle.ov_core.specs.Stepping.{RefusesStep}
 use Rattle.ov_streams.specs.declared.event.StreamEvent.{StreamEvent}
 use Rattle.ov_streams.specs.declared.event.StreamEvent.TheVariants.{Open, Feed, Finish, Tick}
@@ -49,11 +49,13 @@ pub record FollowsEvents {K D : Type 0} (schema : Schema) (database : Database) 
   pub expands : ExpandsAll (opening schema database) no_streams list history now.core.state fed
   pub cutters : (n : ℕ) → is_open now.core.state n ≡ true → HasCutter n (fed n) now.cutters
 
--- whatever list the streams suited before, they suit it with these events appended
+-- Whatever list the streams suited before, they suit it with these events appended, and the core has counted the work on the
+-- entries that they expand to.
 abbrev pub RunsEvents : {K D : Type 0} → List streams.StreamEvent → StreamsState K D → StreamsState K D → Type 0
 RunsEvents events old new =
     (schema : Schema) (database : Database) (list : List streams.StreamEvent) (history : List Entry) (given : ℕ → List (List ℕ)) → FollowsEvents schema database list history given old
     → (entries : List Entry) × FollowsEvents schema database (list ++ events) (history ++ entries) given new
+    × CountsWork old.core entries new.core
 
 -- An event is refused in a state if the machine's step for it is, with the fault of that step: an opening or a passing of
 -- time may be refused, what a session sends and its end never are.

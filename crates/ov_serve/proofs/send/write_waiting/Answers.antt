@@ -15,7 +15,7 @@ returns-then-not-write_frame-clause-sends g c =
     let was = c.loop-frame.invariant in
     record {
       frames = was.0 ++ c.in-Some.frame ∷ [];
-      extends = extends-more c.args.session.serial c.args.core.now c.loop-frame.core c.next_frame.new.self was.0 (g.W.Sink.bytes_written c.args.writer.now) (g.W.Sink.bytes_written c.loop-frame.writer) was.1 was.2 c.in-Some.frame (ap (λ (r : CoreState g.row.K.Denot g.row.D.Denot). r.kept) c.next_frame.ensures.same) c.in-Some.ensures.handed;
+      extends = extends-more c.args.session.serial c.args.core.now c.loop-frame.core c.next_frame.new.self was.0 (g.W.Sink.bytes_written c.args.writer.now) (g.W.Sink.bytes_written c.loop-frame.writer) was.1 was.2 c.in-Some.frame c.next_frame.ensures.same c.in-Some.ensures.handed;
       written = writes-more c.args.session.serial c.args.core.now c.loop-frame.core c.next_frame.new.self was.0 (g.W.Sink.bytes_written c.args.writer.now) (g.W.Sink.bytes_written c.loop-frame.writer) was.1 was.2 false c.in-Some.frame c.as_slice.result.now (g.W.Sink.bytes_written c.write_frame.new.writer) c.as_slice.ensures c.if-not-write_frame.ensures.written;
       none_left = λ whole. absurd (false≢true whole);
     }
@@ -24,7 +24,7 @@ pub loop-frame-preserved : goal.loop-frame-preserved
 loop-frame-preserved g c =
     let was = c.loop-frame.invariant in (
       was.0 ++ c.in-Some.frame ∷ [],
-      extends-more c.args.session.serial c.args.core.now c.loop-frame.core c.next_frame.new.self was.0 (g.W.Sink.bytes_written c.args.writer.now) (g.W.Sink.bytes_written c.loop-frame.writer) was.1 was.2 c.in-Some.frame (ap (λ (r : CoreState g.row.K.Denot g.row.D.Denot). r.kept) c.next_frame.ensures.same) c.in-Some.ensures.handed,
+      extends-more c.args.session.serial c.args.core.now c.loop-frame.core c.next_frame.new.self was.0 (g.W.Sink.bytes_written c.args.writer.now) (g.W.Sink.bytes_written c.loop-frame.writer) was.1 was.2 c.in-Some.frame c.next_frame.ensures.same c.in-Some.ensures.handed,
       writes-more c.args.session.serial c.args.core.now c.loop-frame.core c.next_frame.new.self was.0 (g.W.Sink.bytes_written c.args.writer.now) (g.W.Sink.bytes_written c.loop-frame.writer) was.1 was.2 true c.in-Some.frame c.as_slice.result.now (g.W.Sink.bytes_written c.write_frame.new.writer) c.as_slice.ensures c.if-not-write_frame.ensures.written,
       ap (λ (r : CoreState g.row.K.Denot g.row.D.Denot). r.state) c.next_frame.ensures.same ∙ was.3,
       c.if-not-write_frame.ensures.faults ∙ was.4,
@@ -36,7 +36,7 @@ pub returns-clause-sends : goal.returns-clause-sends
 returns-clause-sends g c =
     let was = c.loop-frame.invariant in
     sends-last c.args.session.serial c.args.core.now c.loop-frame.core c.next_frame.new.self was.0 (g.W.Sink.bytes_written c.args.writer.now) (g.W.Sink.bytes_written c.loop-frame.writer) was.1 was.2
-    c.flush.result c.next_frame.result (g.W.Sink.bytes_written c.flush.new.self) c.in_default.is c.next_frame.ensures.oldest c.next_frame.ensures.none (ap (λ (r : CoreState g.row.K.Denot g.row.D.Denot). r.kept) c.next_frame.ensures.same) c.next_frame.ensures.handed c.flush.ensures.trace
+    c.flush.result c.next_frame.result (g.W.Sink.bytes_written c.flush.new.self) c.in_default.is c.next_frame.ensures.oldest c.next_frame.ensures.none c.next_frame.ensures.same c.next_frame.ensures.handed c.flush.ensures.trace
 
 pub returns-then-not-write_frame-clause-given :
     goal.returns-then-not-write_frame-clause-given
