@@ -169,14 +169,16 @@ fn refuses(alloc: Global, stored: &str, lines: &str, wanted: &str) -> Result<(),
 /// A port that no row refers to.
 const UNUSED: &str = r#"Port 1 0 {"name":"p1","peer":["set",[]],"tag":7}"#;
 
+/// A schema of another name.
+const OTHER: &str = r#"{"name":"Other","tables":{"T":{"columns":{"a":{"type":"string"}}}}}"#;
+
+/// A text that is no schema, since it has no tables.
+const NO_SCHEMA: &str = r#"{"name":"Other"}"#;
+
 #[test]
 fn a_database_that_does_not_fit_is_not_opened(rt: HostRuntime) -> Result<(), Fail> {
-    refuses(
-        rt.alloc(),
-        "{\"name\":\"Other\"}",
-        "",
-        "Some(SchemaDiffers)",
-    )?;
+    refuses(rt.alloc(), OTHER, "", "Some(SchemaDiffers)")?;
+    refuses(rt.alloc(), NO_SCHEMA, "", "Some(BadBody)")?;
     refuses(rt.alloc(), NET, "Port 1 0 {}", "Some(BadBody)")?;
     refuses(rt.alloc(), NET, UNUSED, "Some(Broken)")
 }
