@@ -38,17 +38,18 @@ SETTINGS = """
 """
 TABLES = (
     "CREATE TABLE meta(k TEXT PRIMARY KEY, v BLOB)",
-    "CREATE TABLE line(tbl TEXT, id BLOB, ver BLOB, body BLOB, PRIMARY KEY(tbl,id))",
+    "CREATE TABLE head(tbl TEXT, id BLOB, ver BLOB, PRIMARY KEY(tbl,id))",
+    "CREATE TABLE cell(tbl TEXT, id BLOB, col TEXT, body BLOB, PRIMARY KEY(tbl,id,col))",
 )
 
 
 def switch(number, load):
-    """A row, by the number and the load of its switch, as `ov_store_bench` makes it."""
+    """A row, by the number and the load of its switch, as `ov_store_bench` makes it: its head, and its cells."""
     drawn = (number * SCATTER) % 2**64
-    body = '{"load":%d,"main":["set",[]],"name":"s%d","ports":["set",[]]}' % (load, number)
     identifier = (drawn << 64 | number).to_bytes(16, "big")
     version = (load << 64 | drawn).to_bytes(16, "big")
-    return "Switch", identifier, version, body.encode()
+    bodies = ("load", "%d" % load), ("main", '["set",[]]'), ("name", '"s%d"' % number), ("ports", '["set",[]]')
+    return ("Switch", identifier, version), [("Switch", identifier, column, body.encode()) for column, body in bodies]
 
 
 class Store:
@@ -84,7 +85,7 @@ class Peer:
         run("BEGIN")
         for table in TABLES:
             run(table)
-        run("INSERT INTO meta(k,v) VALUES(?1,?2)", ("format", b"1"))
+        run("INSERT INTO meta(k,v) VALUES(?1,?2)", ("format", b"2"))
         run("INSERT INTO meta(k,v) VALUES(?1,?2)", ("schema", SCHEMA.encode()))
         run("COMMIT")
 
@@ -92,9 +93,12 @@ class Peer:
         run = self.connection.execute
         start = time.perf_counter_ns()
         run("BEGIN")
-        for row in rows:
-            if run("UPDATE line SET ver=?3,body=?4 WHERE tbl=?1 AND id=?2", row).rowcount == 0:
-                run("INSERT INTO line(tbl,id,ver,body) VALUES(?1,?2,?3,?4)", row)
+        for head, cells in rows:
+            run("DELETE FROM cell WHERE tbl=?1 AND id=?2", head[:2])
+            if run("UPDATE head SET ver=?3 WHERE tbl=?1 AND id=?2", head).rowcount == 0:
+                run("INSERT INTO head(tbl,id,ver) VALUES(?1,?2,?3)", head)
+            for cell in cells:
+                run("INSERT INTO cell(tbl,id,col,body) VALUES(?1,?2,?3,?4)", cell)
         run("COMMIT")
         return time.perf_counter_ns() - start
 
@@ -109,9 +113,10 @@ class Peer:
 
     def load(self):
         start = time.perf_counter_ns()
-        rows = self.connection.execute("SELECT rowid,tbl,id,ver,body FROM line").fetchall()
+        heads = self.connection.execute("SELECT tbl,id,ver FROM head").fetchall()
+        self.connection.execute("SELECT tbl,id,col,body FROM cell").fetchall()
         taken = time.perf_counter_ns() - start
-        assert len(rows) == self.rows
+        assert len(heads) == self.rows
         return taken
 
     def perform(self, word, count):
@@ -168,7 +173,7 @@ def work(pairs):
 def all_rows(path):
     """Each row of a database, as sqlite3 reads it."""
     connection = sqlite3.connect(path)
-    rows = [connection.execute(f"SELECT rowid,* FROM {table} ORDER BY rowid").fetchall() for table in ("meta", "line")]
+    rows = [connection.execute(f"SELECT * FROM {table} ORDER BY 1,2").fetchall() for table in ("meta", "head", "cell")]
     connection.close()
     return rows
 

@@ -9,7 +9,7 @@ use Rattle.ov_specs.specs.locks.Queues.{LockCall, owns, call_refusal, after_call
 use Rattle.ov_specs.specs.monitors.Monitors.{Monitor}
 use Rattle.ov_specs.specs.rows.Database.{Database, same_database}
 use Rattle.ov_specs.specs.wire.Frame.{frame, reply_tree, failure_tree}
-use Rattle.ov_specs.specs.rows.Lines.{Contents}
+use Rattle.ov_specs.specs.rows.Cells as cells
 use Rattle.ov_specs.specs.machine.History.{frames_to}
 use Rattle.ov_specs.specs.machine.Machine as machine
 use Rattle.ov_specs.specs.machine.Machine.{State, Sent, Work, Answers, Transact, Cancels, Locks, Watches, works, does, completes, told, to_session, results_to, updates_sent, unless_refused}
@@ -374,6 +374,6 @@ without_draws (kinds.CancelMonitor id name) other = tt
 -- ---- what a crash leaves
 
 -- what is held of a database is what a crash may leave of a state over it
-pub its_own : (s : State) (held : Contents) → IsHeld (compact_text s.schema.tree) s.database s.sealed held → LeavesItsOwn s held
-its_own s held (schema, inl lines) = (schema, (s.database, inl refl, lines))
-its_own s held (schema, inr (d, sealed, lines)) = (schema, (d, inr sealed, lines))
+pub its_own : (s : State) (held : cells.Stored) → IsHeld s.schema s.database s.sealed held → LeavesItsOwn s held
+its_own s held (inl is) = (s.database, inl refl, is)
+its_own s held (inr (d, sealed, is)) = (d, inr sealed, is)

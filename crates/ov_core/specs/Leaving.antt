@@ -1,10 +1,10 @@
 -- What a crash leaves of a core.
 use Rattle.std.specs.Prelude.{◌≡◌}
-use Rattle.serde_json.specs.Written.{compact_text}
-use Rattle.ov_specs.specs.rows.Database.{Database, AreLinesOf}
-use Rattle.ov_specs.specs.rows.Lines.{Contents}
+use Rattle.ov_specs.specs.conversion.Converted.{stored_of}
+use Rattle.ov_specs.specs.rows.Cells.{Stored}
+use Rattle.ov_specs.specs.rows.Database.{Database}
 use Rattle.ov_specs.specs.machine.Machine.{State, Left}
 
--- what is held has the text of the state's schema, and the lines of a database that a crash may leave of the state
-abbrev pub LeavesItsOwn : State → Contents → Type 0
-LeavesItsOwn s held = (held.schema ≡ compact_text s.schema.tree) × ((d : Database) × Left s d × AreLinesOf d held.lines)
+-- what is held is what is stored of a database that a crash may leave of the state, under the state's schema
+abbrev pub LeavesItsOwn : State → Stored → Type 0
+LeavesItsOwn s held = (d : Database) × Left s d × (held ≡ stored_of s.schema d)

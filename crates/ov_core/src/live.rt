@@ -80,7 +80,8 @@ impl<K: Keeper + Drop> Live<K> {
 
     /// Gives up all but the keeper, and returns it.
     pub fn into_keeper(self) -> K
-        ensures { result ≡ self.database.keeper }
+        ensures same { result ≡ self.database.keeper }
+        ensures format { K.format result ≡ 2 }
     {
         let Live {
             database,

@@ -1,6 +1,5 @@
 ghost use Rattle.std.specs.Prelude.{◌≡◌, ◌≢◌, ◌≤◌, ◌-◌, ◌++◌, ℕ, List, [], length, max, true, false, MatchBool, IfOk, IfErr, IfNone, OnOk, OnErr, option_to_list};
-ghost use Rattle.serde_json.specs.Written.{compact_text};
-ghost use Rattle.ov_specs.specs.rows.Lines.{Contents};
+ghost use Rattle.ov_specs.specs.rows.Cells.{Stored};
 ghost use Rattle.ov_specs.specs.machine.History.{joined};
 ghost use Rattle.ov_specs.specs.machine.Machine.{State, is_open, due, Open as SpecOpen, Tick as SpecTick, Take as SpecTake, Entry as SpecEntry};
 ghost use Rattle.ov_history.specs.Entries.{event_view, cause_view};
@@ -274,20 +273,22 @@ impl<K: Keeper + Drop, D: Draws + Drop> Core<K, D> {
         self.live.outbox.clear(session.serial);
     }
 
-    /// States what a crash now leaves, an invariant of every core: the lines of the machine's database, or after a failed
-    /// commit possibly those of the database that it would have made. If the keeper is honest, an open finds some such lines.
-    /// Does nothing.
+    /// States what a crash now leaves, an invariant of every core: what is stored of the machine's database in format 2, or
+    /// after a failed commit possibly of the database that it would have made. If the keeper is honest, an open finds one of
+    /// them. Does nothing.
     pub fn shows_left(&self)
-        ensures own { K.is_honest self.now.keeper → (held : Contents) → K.leaves self.now.keeper held → LeavesItsOwn self.now.state held }
+        ensures own { K.is_honest self.now.keeper → (held : Stored) → K.leaves self.now.keeper held → LeavesItsOwn self.now.state held }
         // An open finds something.
-        ensures some { K.is_honest self.now.keeper → ∥ ((held : Contents) × K.leaves self.now.keeper held) ∥₁ }
+        ensures some { K.is_honest self.now.keeper → ∥ ((held : Stored) × K.leaves self.now.keeper held) ∥₁ }
+        ensures format { K.format self.now.keeper ≡ 2 }
     {
         self.live.database.shows_left();
     }
 
-    /// Gives up the core, and returns its keeper.
+    /// Gives up the core, and returns its keeper, which is of format 2.
     pub fn into_keeper(self) -> K
-        ensures { result ≡ self.keeper }
+        ensures same { result ≡ self.keeper }
+        ensures format { K.format result ≡ 2 }
     {
         let Core {
             live,
@@ -307,7 +308,7 @@ impl<K: Keeper + Drop, D: Draws + Drop> Core<K, D> {
         self.live.database.shows_left();
     }
 
-    /// States an invariant of every core: each row of the machine's database is a row of the schema and what its line reads
+    /// States an invariant of every core: each row of the machine's database is a row of the schema and what its cells read
     /// back as, and the rows are whole, so that a commit leaves them as they are. The same holds for the rows that a failed
     /// commit would have made. Does nothing.
     pub fn shows_kept(&self)

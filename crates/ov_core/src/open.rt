@@ -1,9 +1,7 @@
 //! Opening a machine over a keeper.
 
-ghost use Rattle.std.specs.Prelude.{◌≡◌, ◌≢◌, [], IfOk, IfErr, None};
-ghost use Rattle.serde_json.specs.Written.{compact_text};
-ghost use Rattle.ov_specs.specs.rows.Lines.{Contents};
-ghost use Rattle.ov_core.specs.Opening.{OpensCore, OpensDatabase, RefusesCore};
+ghost use Rattle.std.specs.Prelude.{◌≡◌, [], IfOk, IfErr, None};
+ghost use Rattle.ov_core.specs.Opening.{FindsAnother, OpensCore, OpensDatabase, RefusesCore};
 
 use crate::live::Live;
 use crate::machine::Core;
@@ -41,11 +39,13 @@ impl Places {
 impl<K: Keeper + Drop, D: Draws + Drop> Core<K, D> {
     /// Opens a core on what the keeper holds, without history: no open session, last moment 0, next serial 1.
     ///
-    /// If the keeper holds another text than the schema's, draws one identifier, and converts what is held to the schema in a
-    /// commit of that version, as `Db::convert` does: the schema must have the stored one's name and be newer (RFC 7047, 3.1,
-    /// `<version>`; that a server converts is this server's). Refused as `Db::open` and `Db::convert` are. A failed allocation
-    /// is the keeper's fault `Memory`. A refusal gives keeper and schema back; what the keeper holds is then as before, except
-    /// that a device that failed as the converted rows were written leaves the stored rows or the converted ones.
+    /// Opens the database as `Db::open` does. Only if that is refused as `SchemaDiffers`, draws one identifier, and converts
+    /// what is held to the schema in a commit of that version, as `Db::convert` does: the schema must have the stored one's
+    /// name and be newer (RFC 7047, 3.1, `<version>`; that a server converts is this server's). Either writes rows of format 1
+    /// anew, so that the keeper then holds the database in format 2. Refused as `Db::open` and `Db::convert` are. A failed
+    /// allocation is the keeper's fault `Memory`. A refusal gives keeper and schema back; what the keeper holds is then as
+    /// before, except that a device that failed as rows were written anew leaves what was held or the rows in format 2.
+    #[tactic(auto, using(crate::proofs::Opening::no_memory))]
     pub fn open(
         alloc: Global,
         keeper: K,
@@ -64,6 +64,7 @@ impl<K: Keeper + Drop, D: Draws + Drop> Core<K, D> {
         };
         let (database, source) = open_database(alloc, keeper, schema, draws)?;
         database.shows_kept();
+        database.shows_left();
         let Places {
             history,
             sessions,
@@ -79,8 +80,8 @@ impl<K: Keeper + Drop, D: Draws + Drop> Core<K, D> {
     }
 }
 
-/// Opens the database that a keeper holds, converted if the keeper holds another text than the schema's; returns it with the
-/// source, from which an identifier is then drawn.
+/// Opens the database that a keeper holds, converted if that is refused as `SchemaDiffers`; returns it with the source, from
+/// which an identifier is then drawn.
 fn open_database<K: Keeper + Drop, D: Draws + Drop>(
     alloc: Global,
     keeper: K,
@@ -101,14 +102,15 @@ fn open_database<K: Keeper + Drop, D: Draws + Drop>(
     convert_database(alloc, refused.keeper, refused.schema, draws)
 }
 
-/// Draws an identifier, and converts the database that a keeper holds, under another schema's text, in a commit of this version.
+/// Draws an identifier, and converts the database that a keeper holds, under another schema's text, in a commit of this
+/// version.
 fn convert_database<K: Keeper + Drop, D: Draws + Drop>(
     alloc: Global,
     keeper: K,
     schema: Schema,
     mut draws: D,
 ) -> Result<(Db<K>, D), RefusedOpen<K>>
-    requires another { K.is_honest keeper → (held : Contents) → K.leaves keeper held → held.schema ≢ compact_text schema.tree }
+    requires another { K.is_honest keeper → FindsAnother (K.leaves keeper) schema }
     ensures opened { IfOk result (λ it. OpensDatabase K.Keeper D.draws keeper schema draws it.0 it.1) }
     ensures rest { IfOk result (λ it. (it.0.schema ≡ schema) × (it.0.sealed ≡ None)) }
     ensures refused { IfErr result (RefusesCore K.Keeper D.draws keeper schema draws) }

@@ -1,27 +1,31 @@
--- A row whose values are those of a table's columns, and whose text is the body of a line, is what the line is stored as.
-use Rattle.std.proofs.Common.{◌≡◌, ℕ, List, [], ◌∷◌, map, zip, ◌&&◌, Bool, true, false, cond, T, Option, Some, None, option_and_then, refl, sym, ap, ◌∙◌}
+-- A row whose values are those of a table's columns, and whose text is the body of a line, is what the line stores.
+use Rattle.std.proofs.Common.{◌≡◌, ℕ, List, [], ◌∷◌, map, zip, ◌&&◌, Bool, true, false, cond, T, Option, Some, None, option_map, option_and_then, refl, sym, ap, ◌∙◌}
 use Rattle.std.specs.Prelude.{not}
 use Rattle.std.proofs.lemmas.Bool.{and_parts}
-use Rattle.std.specs.FinMap.{empty, find, is_sorted, get, keys, values, entries, entries_sorted, get-entries}
+use Rattle.std.specs.FinMap.{find, is_sorted, get, keys, values, entries, entries_sorted, get-entries}
 use Rattle.std.specs.FinMap.Entries.{below_all}
 use Rattle.std.specs.Str.{bytes_eq}
+use Rattle.serde_json.specs.Find as json
 use Rattle.serde_json.specs.Written.{compact_text}
 use Rattle.ov_specs.specs.rows.RowNames.{is_own_column}
-use Rattle.ov_specs.specs.rows.Database.{Columns, Row, line_of}
-use Rattle.ov_specs.specs.rows.Lines.{LineBody}
+use Rattle.ov_specs.specs.rows.Database.{Columns}
+use Rattle.ov_specs.specs.rows.Held.{OneText, tree_stored}
 use Rattle.ov_specs.specs.rows.RowNames.{row_names, without_own}
 use Rattle.ov_specs.specs.rows.Suits.{is_value_for, suits_column, SuitsTable}
 use Rattle.ov_specs.specs.schema.SchemaTypes.{Column, Table, name_cmp}
+use Rattle.ov_specs.specs.values.Uuid.{Uuid}
 use Rattle.ov_specs.specs.values.Value.{Datum}
+use Rattle.ov_specs.specs.values.Writing.{tree}
 use Rattle.ov_specs.specs.wire.Message.{tree_of}
+use Rattle.ov_specs.proofs.laws.Bodies.{get-body}
 use Rattle.ov_specs.proofs.laws.Names.{same_name, same_name-is}
 use Rattle.ov_specs.proofs.laws.Truths.{both_hold, left_holds, right_holds}
 use Rattle.ov_rows.specs.Body.{body_of, AreOfKinds}
 use Rattle.ov_rows.specs.Named.{alone, DoAscend}
 use Rattle.ov_rows.proofs.Names.{zip-entries}
 use Rattle.ov_db.specs.Guessed.{are_values_for}
-use Rattle.ov_db.specs.Stored.{columns_stored, row_of_columns, row_of_table}
-use Rattle.ov_db.proofs.ReadsBack.{columns_are_stored, values_of_kinds}
+use Rattle.ov_db.specs.Stored.{row_of_table}
+use Rattle.ov_db.proofs.ReadsBack.{row_is_stored, values_of_kinds}
 use Rattle.ov_db.proofs.Same.{text-same}
 
 -- ---- the names of a table's rows ascend
@@ -113,12 +117,9 @@ module _ (table : Table) (columns : Columns) (named : keys columns ≡ row_names
 
   -- ---- the row that the line is
 
-  pub guessed_row : (line : LineBody) → compact_text (body_of columns) ≡ line.1 → (AreOfKinds columns → tree_of line.1 ≡ Some (body_of columns))
-      → row_of_table table line ≡ Some (record { version = line.0; columns = columns })
-  guessed_row line text read =
-      ap (option_and_then (λ body. option_and_then (row_of_columns line) (columns_stored body (entries table.columns) empty))) (read (values_of_kinds table columns guessed_suit))
-      ∙ ap (option_and_then (row_of_columns line)) (columns_are_stored table columns guessed_suit)
-      ∙ ap (λ b. cond b (Some row) None) (ap (bytes_eq (line_of row).1) (sym text) ∙ text-same (line_of row).1)
+  pub guessed_row : (version : Uuid) (text : List ℕ) → compact_text (body_of columns) ≡ text → (AreOfKinds columns → tree_of text ≡ Some (body_of columns))
+      → row_of_table table (version, OneText text) ≡ Some (record { version = version; columns = columns })
+  guessed_row version text is read = row_is_stored table version columns (OneText text) guessed_suit holds (ap (bytes_eq (compact_text (body_of columns))) (sym is) ∙ text-same (compact_text (body_of columns)))
     where
-      row : Row
-      row = record { version = line.0; columns = columns }
+      holds : (name : List ℕ) (datum : Datum) → get columns name ≡ Some datum → tree_stored (OneText text) name ≡ Some (tree datum)
+      holds name datum found = ap (option_and_then (json.get name)) (read (values_of_kinds table columns guessed_suit)) ∙ get-body columns name ∙ ap (option_map tree) found

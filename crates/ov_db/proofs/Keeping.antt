@@ -1,15 +1,15 @@
 -- Rows of the schema that read back stay so, row by row and commit by commit.
-use Rattle.std.proofs.Common.{◌≡◌, List, [], ◌∷◌, Bool, true, false, cond, Option, Some, None, refl, sym, ap, subst, ◌∙◌}
+use Rattle.std.proofs.Common.{◌≡◌, [], ◌∷◌, Bool, true, false, cond, Option, Some, None, option_map, refl, sym, ap, subst, ◌∙◌}
 use mathlib.Core.Logic.{◌⊎◌, inl, inr}
-use Rattle.std.proofs.Common.{ℕ}
-use Rattle.std.specs.Prelude.{Result, Ok, Err, IfOk}
-use Rattle.ov_specs.specs.wire.Message.{tree_of}
+use Rattle.std.specs.Prelude.{Ok, Err}
 use Rattle.std.proofs.lemmas.Option.{same_Some}
 use Rattle.std.specs.FinMap.{empty, get, insert, get-empty, get-insert, get-entries, entries, find}
-use Rattle.serde_json.specs.Written.{compact_text}
+use Rattle.ov_specs.specs.conversion.Converted.{Broken, if_held, opened, stored_of}
 use Rattle.ov_specs.specs.integrity.Committed.{is_whole}
-use Rattle.ov_specs.specs.rows.Database.{Database, Row, line_of}
-use Rattle.ov_specs.specs.rows.Lines.{LineKey, LineBody, Contents, line_cmp}
+use Rattle.ov_specs.specs.rows.Cells.{CellLine, InCells, Stored, cell_line_of, cell_lines_of}
+use Rattle.ov_specs.specs.rows.Database.{Database, Row}
+use Rattle.ov_specs.specs.rows.Held.{OfCells}
+use Rattle.ov_specs.specs.rows.Lines.{LineKey, line_cmp}
 use Rattle.ov_specs.specs.rows.Suits.{SuitsRow}
 use Rattle.ov_specs.specs.schema.SchemaTypes.{Schema}
 use Rattle.ov_specs.specs.values.Uuid.{is_uuid}
@@ -17,13 +17,14 @@ use Rattle.ov_specs.proofs.laws.LineKeys.{key_total, tied_same}
 use Rattle.ov_specs.proofs.laws.Suiting.{no_row_suits, one_row_suits}
 use Rattle.ov_db.specs.Changing.{Delta, applied, SuitsChanges}
 use Rattle.ov_db.specs.Committing.{AreKept, IsHeld, MayHold, MayFind}
-use Rattle.ov_db.specs.Opening.{CanOpen}
-use Rattle.ov_rows.specs.Body.{body_of, AreOfKinds}
-use Rattle.ov_db.specs.Stored.{row_stored, IsBodyRead, IsPutRead, ArePutRead, KeepsRows}
+use Rattle.ov_db.specs.Opening.{open_of}
+use Rattle.ov_db.specs.Stored.{AreCellsRead, ArePutRead, IsPutRead, KeepsRows, row_cells, row_stored}
 use Rattle.ov_db.proofs.Added.{same}
-use Rattle.ov_db.proofs.Loads.{line_of_stored}
+use Rattle.ov_db.proofs.Answers.{own_opens}
+use Rattle.ov_db.proofs.CellMaps.{get-cell_lines_of}
+use Rattle.ov_db.proofs.Loads.{cells_of_stored, rows_held, stored_under}
 use Rattle.ov_db.proofs.Places.{Changes, or_before, get-applied}
-use Rattle.ov_db.proofs.ReadsBack.{reads_back, lines_read_back}
+use Rattle.ov_db.proofs.ReadsBack.{reads_back}
 use Rattle.ov_db.proofs.StoredSuits.{stored_row_suits}
 
 -- ---- rows that are loaded
@@ -37,31 +38,31 @@ no_row_kept schema = record { suits = no_row_suits schema; read_back = λ key ro
     no : (key : LineKey) (row : Row) → get (empty {K = LineKey} {X = Row} {R = line_cmp}) key ≡ Some row → ⊥
     no key row h = none row (sym (get-empty line_cmp key) ∙ h)
 
--- one row more, as its line is read
-pub one_row_kept : (schema : Schema) (rows : Database) (key : LineKey) (line : LineBody) (row : Row) → is_uuid key.1 ≡ true → is_uuid line.0 ≡ true → row_stored schema key line ≡ Some row
+-- one row more, as its cells are read
+pub one_row_kept : (schema : Schema) (rows : Database) (key : LineKey) (line : CellLine) (row : Row) → is_uuid key.1 ≡ true → is_uuid line.0 ≡ true → row_stored schema key (line.0, OfCells line.1) ≡ Some row
     → KeepsRows schema rows → KeepsRows schema (insert rows key row)
 one_row_kept schema rows key line row id version is kept = record {
-  suits = one_row_suits schema rows key row (stored_row_suits schema key line row id version is) kept.suits;
+  suits = one_row_suits schema rows key row (stored_row_suits schema key (line.0, OfCells line.1) row id version is) kept.suits;
   read_back = λ q r h. by q r (same q key) refl (sym (get-insert key_total rows key row q) ∙ h);
 }
   where
-    here : row_stored schema key (line_of row) ≡ Some row
-    here = ap (row_stored schema key) (line_of_stored schema key line row is) ∙ is
+    here : row_stored schema key (row_cells row) ≡ Some row
+    here = ap (λ (l : CellLine). row_stored schema key (l.0, OfCells l.1)) (cells_of_stored schema key line row is) ∙ is
 
-    by : (q : LineKey) (r : Row) (b : Bool) → same q key ≡ b → cond b (Some row) (get rows q) ≡ Some r → row_stored schema q (line_of r) ≡ Some r
-    by q r true tied k = subst (λ (p : LineKey × Row). row_stored schema p.0 (line_of p.1) ≡ Some p.1) (λ i. (sym (tied_same q key tied) i, same_Some row r k i)) here
+    by : (q : LineKey) (r : Row) (b : Bool) → same q key ≡ b → cond b (Some row) (get rows q) ≡ Some r → row_stored schema q (row_cells r) ≡ Some r
+    by q r true tied k = subst (λ (p : LineKey × Row). row_stored schema p.0 (row_cells p.1) ≡ Some p.1) (λ i. (sym (tied_same q key tied) i, same_Some row r k i)) here
     by q r false tied k = kept.read_back q r k
 
 -- ---- rows that are changed
 
 -- what is put at a key is one of what is put
-pub put_read : (changes : Changes) (key : LineKey) (row : Row) → ArePutRead changes → find line_cmp key changes ≡ Some (Some row) → IsBodyRead row
+pub put_read : (changes : Changes) (key : LineKey) (row : Row) → ArePutRead changes → find line_cmp key changes ≡ Some (Some row) → AreCellsRead row.columns
 put_read [] key row read h = cc
 put_read (c ∷ changes) key row read h = by (same key c.0) c.1 read.0 (λ k. put_read changes key row read.1 k) h
   where
-    by : (b : Bool) (o : Option Row) → IsPutRead o → (find line_cmp key changes ≡ Some (Some row) → IsBodyRead row) → cond b (Some o) (find line_cmp key changes) ≡ Some (Some row) → IsBodyRead row
+    by : (b : Bool) (o : Option Row) → IsPutRead o → (find line_cmp key changes ≡ Some (Some row) → AreCellsRead row.columns) → cond b (Some o) (find line_cmp key changes) ≡ Some (Some row) → AreCellsRead row.columns
     by true None is rest k = cc
-    by true (Some r) is rest k = subst IsBodyRead (same_Some r row (same_Some (Some r) (Some row) k)) is
+    by true (Some r) is rest k = subst (λ (x : Row). AreCellsRead x.columns) (same_Some r row (same_Some (Some r) (Some row) k)) is
     by false o is rest k = rest k
 
 pub changes_kept : (schema : Schema) (delta : Delta) (rows : Database) → SuitsChanges schema delta → ArePutRead (entries delta) → KeepsRows schema rows → KeepsRows schema (applied delta rows)
@@ -78,7 +79,7 @@ changes_kept schema delta rows suit read kept = record {
     by_suits key row (Some None) is k = cc
     by_suits key row (Some (Some r)) is k = suit key row (at key row r is k)
 
-    by_read : (key : LineKey) (row : Row) (o : Option (Option Row)) → get delta key ≡ o → or_before o (get rows key) ≡ Some row → row_stored schema key (line_of row) ≡ Some row
+    by_read : (key : LineKey) (row : Row) (o : Option (Option Row)) → get delta key ≡ o → or_before o (get rows key) ≡ Some row → row_stored schema key (row_cells row) ≡ Some row
     by_read key row None is k = kept.read_back key row k
     by_read key row (Some None) is k = cc
     by_read key row (Some (Some r)) is k =
@@ -87,14 +88,25 @@ changes_kept schema delta rows suit read kept = record {
 
 -- ---- what an open may find
 
--- lines of rows that read back and are whole can be opened as these rows
-pub found_rows : (leaves : Contents → Type 0) (schema : Schema) (committed : Database) (sealed : Option Database) → MayHold leaves (compact_text schema.tree) committed sealed
-    → AreKept schema committed sealed → MayFind leaves schema committed sealed
+-- rows that read back and are whole are opened from what is stored of them
+pub kept_opens : (schema : Schema) (database : Database) → KeepsRows schema database → is_whole schema database ≡ true → open_of schema (stored_of schema database) ≡ Ok database
+kept_opens schema database kept whole =
+    own_opens schema None (stored_of schema database) refl ∙ ap (λ o. if_held o (opened schema)) (rows_held schema (InCells (cell_lines_of database)) database are)
+    ∙ ap (λ b. cond b (Ok database) (Err Broken)) whole
+  where
+    by : (key : LineKey) (o : Option Row) → get database key ≡ o → option_map Some o ≡ option_map (row_stored schema key) (option_map (λ l. (l.0, OfCells l.1)) (option_map cell_line_of o))
+    by key None is = refl
+    by key (Some row) is = ap Some (sym (kept.read_back key row is))
+
+    are : (key : LineKey) → option_map Some (get database key) ≡ option_map (row_stored schema key) (stored_under (InCells (cell_lines_of database)) key)
+    are key = by key (get database key) refl ∙ ap (λ (o : Option CellLine). option_map (row_stored schema key) (option_map (λ l. (l.0, OfCells l.1)) o)) (sym (get-cell_lines_of database key))
+
+pub found_rows : (leaves : Stored → Type 0) (schema : Schema) (committed : Database) (sealed : Option Database) → MayHold leaves schema committed sealed → AreKept schema committed sealed → MayFind leaves schema committed sealed
 found_rows leaves schema committed sealed may kept held left = by (may held left)
   where
-    by : IsHeld (compact_text schema.tree) committed sealed held → CanOpen schema committed held ⊎ ((database : Database) × (sealed ≡ Some database) × CanOpen schema database held)
-    by (text, inl lines) = inl (record { same_schema = text; rows = lines_read_back schema held.lines committed kept.committed_kept.read_back lines; whole = kept.committed_whole })
-    by (text, inr (database, is, lines)) = inr (database, is, record { same_schema = text; rows = lines_read_back schema held.lines database (kept.sealed_kept database is).read_back lines; whole = kept.sealed_whole database is })
+    by : IsHeld schema committed sealed held → (open_of schema held ≡ Ok committed) ⊎ ((database : Database) × (sealed ≡ Some database) × (open_of schema held ≡ Ok database))
+    by (inl is) = inl (ap (open_of schema) is ∙ kept_opens schema committed kept.committed_kept kept.committed_whole)
+    by (inr (database, failed, is)) = inr (database, failed, ap (open_of schema) is ∙ kept_opens schema database (kept.sealed_kept database failed) (kept.sealed_whole database failed))
 
 -- ---- what a step of a function shows
 
@@ -117,12 +129,6 @@ sealed_some schema committed failed kept whole left left_whole = record {
   sealed_kept = λ database is. subst (KeepsRows schema) (same_Some failed database is) left;
   sealed_whole = λ database is. subst (λ (d : Database). is_whole schema d ≡ true) (same_Some failed database is) left_whole;
 }
-
--- a body that reads back, as a call says it
-pub read_as_written : {E : Type 0} (row : Row) (result : Result (List ℕ) E) → IfOk result (λ text. text ≡ compact_text (body_of row.columns))
-    → (AreOfKinds row.columns → IfOk result (λ text. tree_of text ≡ Some (body_of row.columns))) → IfOk result (λ text. IsBodyRead row)
-read_as_written row (Err e) is read = tt
-read_as_written row (Ok text) is read = λ of_kinds. ap tree_of (sym is) ∙ read of_kinds
 
 -- ---- changes of one row
 

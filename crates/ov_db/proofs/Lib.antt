@@ -11,4 +11,8 @@ pub mod Residing
 pub mod HeldBy
 pub mod IndexedRow
 pub mod Putting
-pub mod Converting
+pub mod CellMaps
+pub mod WrittenCells
+pub mod BodyRows
+pub mod Answers
+pub mod Opening

@@ -1,24 +1,24 @@
--- Rows whose lines are put where there was nothing are the whole database, and an open finds it.
-use Rattle.std.proofs.Common.{◌≡◌, ℕ, List, [], ◌∷◌, ◌++◌, map, Bool, true, false, cond, T, Option, Some, None, option_map, refl, sym, ap, subst, ◌∙◌}
+-- Rows that are put where there was nothing are the whole database, as it is stored.
+use Rattle.std.proofs.Common.{◌≡◌, ℕ, List, [], ◌∷◌, ◌++◌, map, Bool, true, false, cond, T, Option, Some, None, option_map, refl, sym, ap, ◌∙◌}
 use Rattle.std.proofs.lemmas.List.{map-append}
 use Rattle.std.specs.FinMap.{empty, find, is_sorted, get, entries, entries_sorted, get-empty, get-entries, same_map}
 use Rattle.std.specs.FinMap.Entries.{below_all}
 use Rattle.serde_json.specs.Written.{compact_text}
-use Rattle.ov_specs.specs.integrity.Committed.{is_whole}
-use Rattle.ov_specs.specs.rows.Database.{Database, Row, line_of, AreLinesOf}
-use Rattle.ov_specs.specs.rows.Lines.{LineKey, LineChange, Lines, Contents, line_cmp, after_changes}
+use Rattle.ov_specs.specs.conversion.Converted.{stored_of}
+use Rattle.ov_specs.specs.rows.Cells.{CellChange, InCells, after_cell_changes, cell_lines_of, rewritten}
+use Rattle.ov_specs.specs.rows.Database.{Database, Row}
+use Rattle.ov_specs.specs.rows.Lines.{LineKey, line_cmp}
 use Rattle.ov_specs.specs.rows.Suits.{Suits}
 use Rattle.ov_specs.specs.schema.SchemaTypes.{Schema}
 use Rattle.ov_specs.proofs.laws.LineKeys.{key_exact, key_total}
 use Rattle.ov_specs.proofs.laws.Truths.{both_hold, left_holds, right_holds}
-use Rattle.ov_keeper.specs.Keeping.{rewritten}
 use Rattle.ov_db.specs.Changing.{as_puts, change_of, with_rows}
-use Rattle.ov_db.specs.Opening.{CanOpen}
 use Rattle.ov_db.specs.Stored.{ArePutRead, KeepsRows}
 use Rattle.ov_db.proofs.Added.{same}
+use Rattle.ov_db.proofs.CellMaps.{cell_lines-empty}
 use Rattle.ov_db.proofs.Keeping.{put_read}
 use Rattle.ov_db.proofs.Places.{or_before, get-with_rows}
-use Rattle.ov_db.proofs.ReadsBack.{reads_back, lines_read_back}
+use Rattle.ov_db.proofs.ReadsBack.{reads_back}
 use Rattle.ov_db.proofs.Stored.{stores}
 
 abbrev Rows : Type 0
@@ -64,25 +64,18 @@ put_all database = same_map key_total key_exact _ _ (λ key.
     by key None = get-empty line_cmp key
     by key (Some row) = refl
 
-abbrev lines_put : Database → Lines
-lines_put database = after_changes (map change_of (as_puts (entries database))) empty
-
-no_lines : AreLinesOf empty empty
-no_lines key = get-empty line_cmp key ∙ ap (option_map line_of) (sym (get-empty line_cmp key))
-
-lines_of_puts : (database : Database) → AreLinesOf database (lines_put database)
-lines_of_puts database = subst (λ (d : Database). AreLinesOf d (lines_put database)) (put_all database) (stores (as_puts (entries database)) empty empty no_lines)
-
--- rows of the schema whose bodies read back are kept
+-- rows of the schema whose cells read back are kept
 pub puts_kept : (schema : Schema) (database : Database) → Suits schema database → ArePutRead (as_puts (entries database)) → KeepsRows schema database
 puts_kept schema database suits read = record {
   suits = suits;
   read_back = λ key row h. reads_back schema key row (suits key row h) (put_read (as_puts (entries database)) key row read (put_at database key ∙ ap (option_map Some) h));
 }
 
--- where the text of the schema and these lines are all that is held, an open finds the database
-pub puts_open : (schema : Schema) (database : Database) (text : List ℕ) (changes : List LineChange) (found : Contents) → KeepsRows schema database → is_whole schema database ≡ true → text ≡ compact_text schema.tree
-    → changes ≡ map change_of (as_puts (entries database)) → found ≡ rewritten text changes → CanOpen schema database found
-puts_open schema database text changes found kept whole text_is changes_are is =
-    subst (CanOpen schema database) (sym (is ∙ (λ i. rewritten (text_is i) (changes_are i))))
-    (record { same_schema = refl; rows = lines_read_back schema (lines_put database) database kept.read_back (lines_of_puts database); whole = whole })
+-- the schema's text, and these rows put where there was nothing, are what is stored of the database
+pub puts_stored : (schema : Schema) (database : Database) (text : List ℕ) (changes : List CellChange) → text ≡ compact_text schema.tree → changes ≡ map change_of (as_puts (entries database)) → rewritten text changes ≡ stored_of schema database
+puts_stored schema database text changes text_is changes_are =
+    (λ i. rewritten (text_is i) (changes_are i)) ∙ (λ i. record { schema = compact_text schema.tree; lines = InCells (lines_are i) })
+  where
+    lines_are : after_cell_changes (map change_of (as_puts (entries database))) empty ≡ cell_lines_of database
+    lines_are =
+        ap (after_cell_changes (map change_of (as_puts (entries database)))) (sym cell_lines-empty) ∙ stores (as_puts (entries database)) empty ∙ ap (λ (d : Database). cell_lines_of d) (put_all database)

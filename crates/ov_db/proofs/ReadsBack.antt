@@ -1,26 +1,27 @@
--- The line of a row of the schema reads back as the row.
-use Rattle.std.proofs.Common.{◌≡◌, ℕ, List, [], ◌∷◌, map, Bool, true, false, cond, ◌&&◌, Option, Some, None, option_map, option_and_then, is_some, refl, sym, ap, ◌∙◌}
+-- The cells of a row of the schema read back as the row.
+use Rattle.std.proofs.Common.{◌≡◌, ℕ, List, [], ◌∷◌, Bool, true, false, cond, ◌&&◌, Option, Some, None, option_map, option_and_then, is_some, refl, sym, ap, ◌∙◌}
 use Rattle.std.specs.Prelude.{not}
 use Rattle.std.proofs.lemmas.Bool.{and_parts}
 use Rattle.std.specs.FinMap.{empty, get, insert, entries, find, same_map, get-empty, get-insert, get-entries}
-use Rattle.serde_json.specs.Data.{Data}
-use Rattle.serde_json.specs.Find as find
 use Rattle.ov_specs.specs.rows.RowNames.{is_own_column}
-use Rattle.ov_specs.specs.values.Uuid.{no_names}
-use Rattle.ov_specs.specs.rows.Database.{Columns, Row, Database, line_of, object_of, written_column, AreLinesOf}
-use Rattle.ov_specs.specs.rows.Lines.{LineKey, Lines}
+use Rattle.ov_specs.specs.values.Uuid.{Uuid, no_names}
+use Rattle.ov_specs.specs.rows.Cells.{cell_body, cells_of}
+use Rattle.ov_specs.specs.rows.Database.{Columns, Row}
+use Rattle.ov_specs.specs.rows.Held.{Body, OfCells, if_fits, is_stored_as, row_if_stored, row_of_body, tree_stored}
+use Rattle.ov_specs.specs.rows.Lines.{LineKey}
 use Rattle.ov_specs.specs.rows.Suits.{is_value_for, column_of_row, suits_column, SuitsTable, SuitsRow}
 use Rattle.ov_specs.specs.schema.Fitting.{fits}
 use Rattle.ov_specs.specs.schema.SchemaTypes.{Column, Table, Schema, kinds_of, name_cmp}
 use Rattle.ov_specs.specs.values.Reading.{reads}
 use Rattle.ov_specs.specs.values.Value.{Datum, Kinds, is_of}
 use Rattle.ov_specs.specs.values.Writing.{tree}
-use Rattle.ov_specs.proofs.laws.Bodies.{get-body}
 use Rattle.ov_specs.proofs.laws.Names.{name_cmp_total, name_exact, same_name, same_name-is, EachEntry, each_entry}
 use Rattle.ov_specs.proofs.laws.ReadingBack.{reads-tree}
 use Rattle.ov_rows.specs.Body.{AreOfKinds}
-use Rattle.ov_db.specs.Stored.{fitting_value, value_stored, columns_stored, row_of_columns, row_of_table, row_stored, IsBodyRead, AllReadBack, AreRowsOf}
-use Rattle.ov_db.proofs.Same.{text-same}
+use Rattle.ov_specs.specs.wire.Message.{tree_of}
+use Rattle.ov_db.specs.Stored.{AreCellsRead, columns_stored, row_cells, row_of_table, row_stored, value_stored}
+use Rattle.ov_db.proofs.BodyRows.{row_of_table_is}
+use Rattle.ov_db.proofs.CellMaps.{are_stored, get-cells_of}
 
 -- ---- one value
 
@@ -29,22 +30,19 @@ given : (column : Column) (o : Option Datum) → suits_column (Some column) o �
 given column None h = cc
 given column (Some datum) h = (datum, refl, h)
 
-fits_it : (column : Column) (datum : Datum) → is_value_for column datum ≡ true → fitting_value column (reads no_names (kinds_of column.type_of) (tree datum)) ≡ Some datum
+fits_it : (column : Column) (datum : Datum) → is_value_for column datum ≡ true → if_fits column (reads no_names (kinds_of column.type_of) (tree datum)) ≡ Some datum
 fits_it column datum h =
     let parts = and_parts (is_of (kinds_of column.type_of) datum) (fits column.type_of datum) h in
-    ap (fitting_value column) (reads-tree no_names (kinds_of column.type_of) datum parts.0) ∙ ap (λ b. cond b (Some datum) None) parts.1
+    ap (if_fits column) (reads-tree no_names (kinds_of column.type_of) datum parts.0) ∙ ap (λ b. cond b (Some datum) None) parts.1
 
-module _ (table : Table) (columns : Columns) (suits : SuitsTable table columns) where
-  abbrev body : Data
-  body = object_of (map written_column (entries columns))
-
+module _ (table : Table) (columns : Columns) (suits : SuitsTable table columns) (body : Body) (holds : (name : List ℕ) (datum : Datum) → get columns name ≡ Some datum → tree_stored body name ≡ Some (tree datum)) where
   -- the body has the row's value for the column
   value_is_stored : (name : List ℕ) (column : Column) → is_own_column name ≡ false → get table.columns name ≡ Some column → (datum : Datum) × (get columns name ≡ Some datum) × (value_stored body (name, column) ≡ Some datum)
   value_is_stored name column own is =
       let at : column_of_row table name ≡ Some column = ap (λ b. cond b None (get table.columns name)) own ∙ is in
       let value = given column (get columns name) (sym (ap (λ c. suits_column c (get columns name)) at) ∙ suits name) in
-      let member : find.get name body ≡ Some (tree value.0) = get-body columns name ∙ ap (option_map tree) value.1 in
-      (value.0, value.1, ap (option_and_then (λ d. fitting_value column (reads no_names (kinds_of column.type_of) d))) member ∙ fits_it column value.0 value.2)
+      let member : tree_stored body name ≡ Some (tree value.0) = holds name value.0 value.1 in
+      (value.0, value.1, ap (option_and_then (λ d. if_fits column (reads no_names (kinds_of column.type_of) d))) member ∙ fits_it column value.0 value.2)
 
   -- ---- all columns
 
@@ -139,21 +137,23 @@ values_of_kinds table columns suits name datum is = by (column_of_row table name
     by None h = cc
     by (Some column) h = (kinds_of column.type_of, (and_parts (is_of (kinds_of column.type_of) datum) (fits column.type_of datum) h).0)
 
--- if its body reads back as written, the line of a row of the schema reads back as the row
-pub reads_back : (schema : Schema) (key : LineKey) (row : Row) → SuitsRow schema key row → IsBodyRead row → row_stored schema key (line_of row) ≡ Some row
-reads_back schema key row suits read =
-    ap (option_and_then (λ table. row_of_table table (line_of row))) suits.named
-    ∙ ap (option_and_then (λ body. option_and_then (row_of_columns (line_of row)) (columns_stored body (entries suits.table.columns) empty))) (read (values_of_kinds suits.table row.columns suits.columns))
-    ∙ ap (option_and_then (row_of_columns (line_of row))) (columns_are_stored suits.table row.columns suits.columns)
-    ∙ ap (λ b. cond b (Some row) None) (text-same (line_of row).1)
-
--- ---- a database
-
--- the lines of rows that read back are these rows
-pub lines_read_back : (schema : Schema) (lines : Lines) (database : Database) → AllReadBack schema database → AreLinesOf database lines → AreRowsOf schema lines database
-lines_read_back schema lines database back are key = by (get database key) refl ∙ sym (ap (option_map (row_stored schema key)) (are key))
+-- a row of a table, stored as its columns are
+pub row_is_stored : (table : Table) (version : Uuid) (columns : Columns) (body : Body) → SuitsTable table columns → ((name : List ℕ) (datum : Datum) → get columns name ≡ Some datum → tree_stored body name ≡ Some (tree datum))
+    → is_stored_as columns body ≡ true → row_of_table table (version, body) ≡ Some (record { version = version; columns = columns })
+row_is_stored table version columns body suits holds exact =
+    ap (option_and_then (row_if_stored version body)) (columns_are_stored table columns suits body holds) ∙ ap (λ b. cond b (Some row) None) exact
   where
-    by : (o : Option Row) → get database key ≡ o → option_map Some (get database key) ≡ option_map (row_stored schema key) (option_map line_of (get database key))
-    by None is = ap (option_map Some) is ∙ sym (ap (λ o. option_map (row_stored schema key) (option_map line_of o)) is)
-    by (Some row) is =
-        ap (option_map Some) is ∙ ap Some (sym (back key row is)) ∙ sym (ap (λ o. option_map (row_stored schema key) (option_map line_of o)) is)
+    row : Row
+    row = record { version = version; columns = columns }
+
+-- if its cells read back as written, they read back as the row
+pub reads_back : (schema : Schema) (key : LineKey) (row : Row) → SuitsRow schema key row → AreCellsRead row.columns → row_stored schema key (row_cells row) ≡ Some row
+reads_back schema key row suits read =
+    ap (option_and_then (λ (table : Table). row_of_body table row.version body)) suits.named ∙ sym (row_of_table_is suits.table (row.version, body))
+    ∙ row_is_stored suits.table row.version row.columns body suits.columns holds (are_stored row.columns)
+  where
+    body : Body
+    body = OfCells (cells_of row.columns)
+
+    holds : (name : List ℕ) (datum : Datum) → get row.columns name ≡ Some datum → tree_stored body name ≡ Some (tree datum)
+    holds name datum is = ap (option_and_then tree_of) (get-cells_of row.columns name ∙ ap (option_map cell_body) is) ∙ read name datum is

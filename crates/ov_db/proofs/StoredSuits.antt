@@ -1,26 +1,25 @@
--- The row that a line stores is a row of the schema.
+-- The row that a body is, is a row of the schema.
 use Rattle.std.proofs.Common.{◌≡◌, ℕ, List, [], ◌∷◌, Bool, true, false, cond, ◌||◌, Option, Some, None, option_and_then, refl, ap, subst, ◌∙◌}
 use Rattle.std.specs.Prelude.{Ok}
 use Rattle.std.proofs.lemmas.Bool.{and_from}
 use Rattle.std.proofs.lemmas.Option.{same_Some}
 use Rattle.std.specs.FinMap.{empty, get, insert, entries, contains_key}
-use Rattle.std.specs.Str.{bytes_eq}
 use Rattle.serde_json.specs.Data.{Data}
-use Rattle.serde_json.specs.Find as find
 use Rattle.ov_specs.specs.rows.RowNames.{is_own_column}
-use Rattle.ov_specs.specs.rows.Database.{Columns, Row, line_of}
-use Rattle.ov_specs.specs.rows.Lines.{LineKey, LineBody}
+use Rattle.ov_specs.specs.rows.Database.{Columns, Row}
+use Rattle.ov_specs.specs.rows.Held.{Body, if_fits, is_stored_as, row_if_stored, row_of_body, tree_stored}
+use Rattle.ov_specs.specs.rows.Lines.{LineKey}
 use Rattle.ov_specs.specs.rows.Suits.{is_value_for, SuitsTable, SuitsRow}
 use Rattle.ov_specs.specs.schema.Fitting.{fits}
 use Rattle.ov_specs.specs.schema.SchemaTypes.{Column, Table, Schema, kinds_of}
 use Rattle.ov_specs.specs.values.Reading.{Reading, Reads, Unreadable, Clashing, reads}
 use Rattle.ov_specs.specs.values.Uuid.{is_uuid, no_names}
 use Rattle.ov_specs.specs.values.Value.{Datum, is_of}
-use Rattle.ov_specs.specs.wire.Message.{tree_of}
 use Rattle.ov_specs.proofs.laws.Names.{each_entry}
 use Rattle.ov_specs.proofs.laws.OfKinds.{reads_is_of}
 use Rattle.ov_specs.proofs.laws.SuitingColumns.{no_uuids, IsGiven, column_is, SuitsSoFar, none_suits, one_more_suits, Completes, passed, added, StandIn, complete_suits}
-use Rattle.ov_db.specs.Stored.{fitting_value, value_stored, columns_stored, row_of_columns, row_of_table, row_stored}
+use Rattle.ov_db.specs.Stored.{RowBody, columns_stored, row_of_table, row_stored, value_stored}
+use Rattle.ov_db.proofs.BodyRows.{row_of_table_is}
 
 -- ---- one value
 
@@ -28,21 +27,21 @@ fitting_suits : (column : Column) (v datum : Datum) (b : Bool) → is_of (kinds_
 fitting_suits column v datum true of is h = subst (λ (d : Datum). is_value_for column d ≡ true) (same_Some v datum h) (and_from (is_of (kinds_of column.type_of) v) (fits column.type_of v) of is)
 fitting_suits column v datum false of is h = cc
 
-stored_value_suits : (body : Data) (c : List ℕ × Column) (datum : Datum) → value_stored body c ≡ Some datum → is_value_for c.1 datum ≡ true
-stored_value_suits body c datum h = by_member (find.get c.0 body) h
+stored_value_suits : (body : Body) (c : List ℕ × Column) (datum : Datum) → value_stored body c ≡ Some datum → is_value_for c.1 datum ≡ true
+stored_value_suits body c datum h = by_member (tree_stored body c.0) h
   where
-    by_reading : (d : Data) (r : Reading Datum) → reads no_names (kinds_of c.1.type_of) d ≡ r → fitting_value c.1 r ≡ Some datum → is_value_for c.1 datum ≡ true
+    by_reading : (d : Data) (r : Reading Datum) → reads no_names (kinds_of c.1.type_of) d ≡ r → if_fits c.1 r ≡ Some datum → is_value_for c.1 datum ≡ true
     by_reading d Unreadable is k = cc
     by_reading d Clashing is k = cc
     by_reading d (Reads v) is k = fitting_suits c.1 v datum (fits c.1.type_of v) (reads_is_of no_names no_uuids (kinds_of c.1.type_of) d v is) refl k
 
-    by_member : (o : Option Data) → option_and_then (λ d. fitting_value c.1 (reads no_names (kinds_of c.1.type_of) d)) o ≡ Some datum → is_value_for c.1 datum ≡ true
+    by_member : (o : Option Data) → option_and_then (λ d. if_fits c.1 (reads no_names (kinds_of c.1.type_of) d)) o ≡ Some datum → is_value_for c.1 datum ≡ true
     by_member None k = cc
     by_member (Some d) k = by_reading d (reads no_names (kinds_of c.1.type_of) d) refl k
 
 -- ---- all columns
 
-module _ (table : Table) (body : Data) where
+module _ (table : Table) (body : Body) where
   one_column : (c : List ℕ × Column) (cs : List (List ℕ × Column)) (before after : Columns) → get table.columns c.0 ≡ Some c.1 → SuitsSoFar table before → columns_stored body (c ∷ cs) before ≡ Some after
       → ((more : Columns) → SuitsSoFar table more → columns_stored body cs more ≡ Some after → Completes table cs more after) → Completes table (c ∷ cs) before after
   one_column c cs before after stands suits h next = by (is_own_column c.0) refl h
@@ -68,34 +67,29 @@ module _ (table : Table) (body : Data) where
 
 -- ---- a row
 
--- a row of the table under the line's version
-abbrev IsOfTable : Table → LineBody → Row → Type 0
-IsOfTable table line row = (row.version ≡ line.0) × SuitsTable table row.columns
+-- a row of the table under the version that is stored
+abbrev IsOfTable : Table → RowBody → Row → Type 0
+IsOfTable table stored row = (row.version ≡ stored.0) × SuitsTable table row.columns
 
-row_of_table_suits : (table : Table) (line : LineBody) (row : Row) → row_of_table table line ≡ Some row → IsOfTable table line row
-row_of_table_suits table line row h = by_body (tree_of line.1) h
+row_of_table_suits : (table : Table) (stored : RowBody) (row : Row) → row_of_table table stored ≡ Some row → IsOfTable table stored row
+row_of_table_suits table stored row h = by_columns (columns_stored stored.1 (entries table.columns) empty) refl h
   where
-    by_bytes : (columns : Columns) (b : Bool) → SuitsTable table columns → cond b (Some (record { version = line.0; columns = columns })) None ≡ Some row → IsOfTable table line row
-    by_bytes columns true suits k =
-        let same = same_Some (record { version = line.0; columns = columns }) row k in
-        subst (IsOfTable table line) same (refl, suits)
-    by_bytes columns false suits k = cc
+    by_test : (columns : Columns) (b : Bool) → SuitsTable table columns → cond b (Some (record { version = stored.0; columns = columns })) None ≡ Some row → IsOfTable table stored row
+    by_test columns true suits k =
+        let same = same_Some (record { version = stored.0; columns = columns }) row k in
+        subst (IsOfTable table stored) same (refl, suits)
+    by_test columns false suits k = cc
 
-    by_columns : (body : Data) (o : Option Columns) → columns_stored body (entries table.columns) empty ≡ o → option_and_then (row_of_columns line) o ≡ Some row → IsOfTable table line row
-    by_columns body None is k = cc
-    by_columns body (Some columns) is k =
-        by_bytes columns (bytes_eq (line_of (record { version = line.0; columns = columns })).1 line.1) (stored_columns_suit table body columns is) k
+    by_columns : (o : Option Columns) → columns_stored stored.1 (entries table.columns) empty ≡ o → option_and_then (row_if_stored stored.0 stored.1) o ≡ Some row → IsOfTable table stored row
+    by_columns None is k = cc
+    by_columns (Some columns) is k = by_test columns (is_stored_as columns stored.1) (stored_columns_suit table stored.1 columns is) k
 
-    by_body : (o : Option Data) → option_and_then (λ body. option_and_then (row_of_columns line) (columns_stored body (entries table.columns) empty)) o ≡ Some row → IsOfTable table line row
-    by_body None k = cc
-    by_body (Some body) k = by_columns body (columns_stored body (entries table.columns) empty) refl k
-
--- what a line under identifiers is, is a row of the schema
-pub stored_row_suits : (schema : Schema) (key : LineKey) (line : LineBody) (row : Row) → is_uuid key.1 ≡ true → is_uuid line.0 ≡ true → row_stored schema key line ≡ Some row → SuitsRow schema key row
-stored_row_suits schema key line row id version h = by (get schema.tables key.0) refl h
+-- what is stored under identifiers is a row of the schema
+pub stored_row_suits : (schema : Schema) (key : LineKey) (stored : RowBody) (row : Row) → is_uuid key.1 ≡ true → is_uuid stored.0 ≡ true → row_stored schema key stored ≡ Some row → SuitsRow schema key row
+stored_row_suits schema key stored row id version h = by (get schema.tables key.0) refl h
   where
-    by : (o : Option Table) → get schema.tables key.0 ≡ o → option_and_then (λ table. row_of_table table line) o ≡ Some row → SuitsRow schema key row
+    by : (o : Option Table) → get schema.tables key.0 ≡ o → option_and_then (λ table. row_of_body table stored.0 stored.1) o ≡ Some row → SuitsRow schema key row
     by None is k = cc
     by (Some table) is k =
-        let of = row_of_table_suits table line row k in
+        let of = row_of_table_suits table stored row (row_of_table_is table stored ∙ k) in
         record { table = table; named = is; id = id; version = ap is_uuid of.0 ∙ version; columns = of.1 }

@@ -1,8 +1,9 @@
 -- Changes of a database by their keys, and the database after them.
 use Rattle.std.specs.Prelude.{◌≡◌, List, [], ◌∷◌, map, Option, Some, None}
 use Rattle.std.specs.FinMap.{FinMap, get, insert, remove, entries}
-use Rattle.ov_specs.specs.rows.Database.{Database, Row, line_of}
-use Rattle.ov_specs.specs.rows.Lines.{LineKey, LineChange, Put, Remove, line_cmp}
+use Rattle.ov_specs.specs.rows.Cells.{CellChange, PutCells, RemoveCells, cell_line_of}
+use Rattle.ov_specs.specs.rows.Database.{Database, Row}
+use Rattle.ov_specs.specs.rows.Lines.{LineKey, line_cmp}
 use Rattle.ov_specs.specs.rows.Suits.{SuitsRow}
 use Rattle.ov_specs.specs.schema.SchemaTypes.{Schema}
 
@@ -24,10 +25,10 @@ with_rows (change ∷ changes) database = with_rows changes (with_row change.0 c
 abbrev pub applied : Delta → Database → Database
 applied delta database = with_rows (entries delta) database
 
--- what a change makes of the line of its key
-abbrev pub change_of : LineKey × Option Row → LineChange
-change_of (key, Some row) = Put key (line_of row)
-change_of (key, None) = Remove key
+-- what a change makes of what is stored under its key
+abbrev pub change_of : LineKey × Option Row → CellChange
+change_of (key, Some row) = PutCells key (cell_line_of row)
+change_of (key, None) = RemoveCells key
 
 -- the changes that put these rows
 abbrev pub as_puts : List (LineKey × Row) → List (LineKey × Option Row)

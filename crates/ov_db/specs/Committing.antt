@@ -1,13 +1,14 @@
 -- What a commit makes of a database, and what an open may find of it.
-use Rattle.std.specs.Prelude.{◌≡◌, ◌⊎◌, List, ℕ, true, Option, Some}
+use Rattle.std.specs.Prelude.{◌≡◌, ◌⊎◌, true, Option, Some, Ok}
+use Rattle.ov_specs.specs.conversion.Converted.{stored_of}
 use Rattle.ov_specs.specs.integrity.Committed.{is_whole}
-use Rattle.ov_specs.specs.rows.Database.{Database, AreLinesOf}
-use Rattle.ov_specs.specs.rows.Lines.{Contents}
+use Rattle.ov_specs.specs.rows.Cells.{Stored}
+use Rattle.ov_specs.specs.rows.Database.{Database}
 use Rattle.ov_db.specs.declared.answer.StoreAnswer.{StoreAnswer}
 use Rattle.ov_db.specs.declared.answer.StoreAnswer.TheVariants.{Kept, Exhausted, Failed}
 use Rattle.ov_db.specs.Changing.{Delta, applied}
 use Rattle.ov_db.specs.KeptDatabase as kept
-use Rattle.ov_db.specs.Opening.{CanOpen}
+use Rattle.ov_db.specs.Opening.{open_of}
 use Rattle.ov_db.specs.Stored.{KeepsRows}
 use Rattle.ov_specs.specs.schema.SchemaTypes.{Schema}
 
@@ -18,13 +19,14 @@ Commits delta old Kept new = new ≡ record old { committed = applied delta old.
 Commits delta old Exhausted new = new ≡ record old { keeper = new.keeper }
 Commits delta old Failed new = new ≡ record old { sealed = Some (applied delta old.committed); keeper = new.keeper }
 
--- the contents are the schema's text with the lines of the committed rows, or with those of the failed commit
-abbrev pub IsHeld : List ℕ → Database → Option Database → Contents → Type 0
-IsHeld text committed sealed held = (held.schema ≡ text) × (AreLinesOf committed held.lines ⊎ ((database : Database) × (sealed ≡ Some database) × AreLinesOf database held.lines))
+-- what is held is the schema's text with the cells of the committed rows, or with those of the failed commit
+abbrev pub IsHeld : Schema → Database → Option Database → Stored → Type 0
+IsHeld schema committed sealed held =
+    (held ≡ stored_of schema committed) ⊎ ((database : Database) × (sealed ≡ Some database) × (held ≡ stored_of schema database))
 
--- whatever an open may find now are such contents
-abbrev pub MayHold : (Contents → Type 0) → List ℕ → Database → Option Database → Type 0
-MayHold leaves text committed sealed = (held : Contents) → leaves held → IsHeld text committed sealed held
+-- whatever an open may find now is that
+abbrev pub MayHold : (Stored → Type 0) → Schema → Database → Option Database → Type 0
+MayHold leaves schema committed sealed = (held : Stored) → leaves held → IsHeld schema committed sealed held
 
 -- the committed rows, and those that a failed commit would have made, are rows of the schema that read back, and are whole:
 -- a commit leaves them as they are
@@ -34,7 +36,8 @@ pub record AreKept (schema : Schema) (committed : Database) (sealed : Option Dat
   pub sealed_kept : (database : Database) → sealed ≡ Some database → KeepsRows schema database
   pub sealed_whole : (database : Database) → sealed ≡ Some database → is_whole schema database ≡ true
 
--- An open now finds the committed rows, or those of the failed commit: the schema's text, and lines that read back as them.
--- They are whole, so the open does not refuse them.
-abbrev pub MayFind : (Contents → Type 0) → Schema → Database → Option Database → Type 0
-MayFind leaves schema committed sealed = (held : Contents) → leaves held → CanOpen schema committed held ⊎ ((database : Database) × (sealed ≡ Some database) × CanOpen schema database held)
+-- an open now gives the committed rows, or those of the failed commit
+abbrev pub MayFind : (Stored → Type 0) → Schema → Database → Option Database → Type 0
+MayFind leaves schema committed sealed =
+    (held : Stored) → leaves held
+    → (open_of schema held ≡ Ok committed) ⊎ ((database : Database) × (sealed ≡ Some database) × (open_of schema held ≡ Ok database))

@@ -4,10 +4,11 @@ pub mod Adding
 pub mod DeltaModel
 pub mod KeptDatabase
 pub mod Committing
+pub mod CellLists
 pub mod Stored
 pub mod Loading
 pub mod Opening
-pub mod Converting
+pub mod OpensFrom
 pub mod Faults
 pub mod Guessed
 pub mod Residing

@@ -1,83 +1,87 @@
--- Which stored lines are rows under a schema, and the rows that they store.
-use Rattle.std.specs.Prelude.{◌≡◌, ℕ, List, [], ◌∷◌, if◌then◌else◌, Option, Some, None, option_and_then, option_map}
+-- The row that is stored under a key, and which rows read back from their cells.
+use Rattle.std.specs.Prelude.{◌≡◌, ℕ, List, [], ◌∷◌, if◌then◌else◌, Option, Some, None, option_and_then}
 use Rattle.std.specs.FinMap.{empty, get, insert, entries}
 use Rattle.serde_json.specs.Data.{Data}
 use Rattle.serde_json.specs.Find as find
-use Rattle.ov_specs.specs.rows.Database.{Columns, Row, Database, line_of}
-use Rattle.ov_rows.specs.Body.{body_of, AreOfKinds}
-use Rattle.ov_specs.specs.rows.Suits.{Suits}
-use Rattle.ov_specs.specs.schema.Fitting.{fits}
-use Rattle.ov_specs.specs.rows.Lines.{LineKey, LineBody, Lines}
-use Rattle.ov_specs.specs.wire.Message.{tree_of}
-use Rattle.std.specs.Str.{bytes_eq}
+use Rattle.ov_specs.specs.rows.Cells.{cell_body, cells_of}
+use Rattle.ov_specs.specs.rows.Database.{Columns, Row, Database}
+use Rattle.ov_specs.specs.rows.Held.{Body, OfCells, if_fits, row_if_stored, row_of_body, tree_stored}
+use Rattle.ov_specs.specs.rows.Lines.{LineKey}
 use Rattle.ov_specs.specs.rows.RowNames.{is_own_column}
-use Rattle.ov_specs.specs.values.Uuid.{no_names}
-use Rattle.ov_specs.specs.values.Reading.{Reading, Reads, Unreadable, Clashing, reads}
+use Rattle.ov_specs.specs.rows.Suits.{Suits}
 use Rattle.ov_specs.specs.schema.SchemaTypes.{Column, Table, Schema, kinds_of}
+use Rattle.ov_specs.specs.values.Reading.{reads}
+use Rattle.ov_specs.specs.values.Uuid.{Uuid, no_names}
 use Rattle.ov_specs.specs.values.Value.{Datum}
+use Rattle.ov_specs.specs.values.Writing.{tree}
+use Rattle.ov_specs.specs.wire.Message.{tree_of}
 
--- the value, if there is one and it fits its column (RFC 7047, 3.2, <type>)
-abbrev pub fitting_value : Column → Reading Datum → Option Datum
-fitting_value column (Reads datum) = if fits column.type_of datum then Some datum else None
-fitting_value column Unreadable = None
-fitting_value column Clashing = None
+-- what is stored of a row beside its key: its version, and its columns as one text or as cells
+abbrev pub RowBody : Type 0
+RowBody = Uuid × Body
 
--- a body's value for a column: the member of its name (RFC 7047, 5.1, <row>)
-abbrev pub value_stored : Data → List ℕ × Column → Option Datum
-value_stored body c = option_and_then (λ d. fitting_value c.1 (reads no_names (kinds_of c.1.type_of) d)) (find.get c.0 body)
+-- the row that is stored under the key, as in `row_held`
+abbrev pub row_stored : Schema → LineKey → RowBody → Option Row
+row_stored schema key stored = option_and_then (λ table. row_of_body table stored.0 stored.1) (get schema.tables key.0)
 
--- these columns added to those before, each with its value from the body; columns that every row has by itself are not in
--- the body
-abbrev pub columns_stored : Data → List (List ℕ × Column) → Columns → Option Columns
-columns_stored body [] columns = Some columns
-columns_stored body (c ∷ cs) columns =
-    if is_own_column c.0 then columns_stored body cs columns
-    else option_and_then (λ datum. columns_stored body cs (insert columns c.0 datum)) (value_stored body c)
+-- ---- rows that read back
 
--- the row, if it is stored as exactly the bytes of the line
-abbrev pub stored_as : LineBody → Row → Option Row
-stored_as line row = if bytes_eq (line_of row).1 line.1 then Some row else None
+-- the cells of a row, with its version
+abbrev pub row_cells : Row → RowBody
+row_cells row = (row.version, OfCells (cells_of row.columns))
 
--- the row of these columns, with the version of the line
-abbrev pub row_of_columns : LineBody → Columns → Option Row
-row_of_columns line columns = stored_as line (record { version = line.0; columns = columns })
-
--- the row of a table that a line stores, if it stores one
-abbrev pub row_of_table : Table → LineBody → Option Row
-row_of_table table line = option_and_then (λ body. option_and_then (row_of_columns line) (columns_stored body (entries table.columns) empty)) (tree_of line.1)
-
--- The row that a line stores: the schema has its table, and its body has a fitting value for each column and nothing else,
--- not even a space.
-abbrev pub row_stored : Schema → LineKey → LineBody → Option Row
-row_stored schema key line = option_and_then (λ table. row_of_table table line) (get schema.tables key.0)
-
--- the body of the row's line reads back as written, if each value is of some kinds
-abbrev pub IsBodyRead : Row → Type 0
-IsBodyRead row = AreOfKinds row.columns → tree_of (line_of row).1 ≡ Some (body_of row.columns)
-
--- the body of the row that a change puts, if it puts one, reads back as written
-abbrev pub IsPutRead : Option Row → Type 0
-IsPutRead None = Unit {0}
-IsPutRead (Some row) = IsBodyRead row
-
--- so do the bodies of all rows that these changes put
-abbrev pub ArePutRead : List (LineKey × Option Row) → Type 0
-ArePutRead [] = Unit {0}
-ArePutRead (change ∷ changes) = IsPutRead change.1 × ArePutRead changes
-
--- each row of the database is what its line reads back as
+-- each row of the database is what its cells read back as
 abbrev pub AllReadBack : Schema → Database → Type 0
-AllReadBack schema database = (key : LineKey) (row : Row) → get database key ≡ Some row → row_stored schema key (line_of row) ≡ Some row
+AllReadBack schema database = (key : LineKey) (row : Row) → get database key ≡ Some row → row_stored schema key (row_cells row) ≡ Some row
 
--- each row of the database is a row of the schema, and what its line reads back as
+-- each row of the database is a row of the schema, and what its cells read back as
 pub record KeepsRows (schema : Schema) (database : Database) : Type 0 where
   pub suits : Suits schema database
   pub read_back : AllReadBack schema database
 
--- the database has the row that each line is, and no other
-abbrev pub AreRowsOf : Schema → Lines → Database → Type 0
-AreRowsOf schema lines database = (key : LineKey) → option_map Some (get database key) ≡ option_map (row_stored schema key) (get lines key)
+-- ---- for private clauses
 
--- some line is not a row
-abbrev pub HasBadLine : Schema → Lines → Type 0
-HasBadLine schema lines = (key : LineKey) × (line : LineBody) × (get lines key ≡ Some line) × (row_stored schema key line ≡ None)
+-- the text of the cell reads as what was written
+abbrev pub IsCellRead : Datum → Type 0
+IsCellRead datum = tree_of (cell_body datum) ≡ Some (tree datum)
+
+-- so do the texts of all cells of a row
+abbrev pub AreCellsRead : Columns → Type 0
+AreCellsRead columns = (name : List ℕ) (datum : Datum) → get columns name ≡ Some datum → IsCellRead datum
+
+-- and those of the row that a change puts, if it puts one
+abbrev pub IsPutRead : Option Row → Type 0
+IsPutRead None = Unit {0}
+IsPutRead (Some row) = AreCellsRead row.columns
+
+-- and those of all rows that these changes put
+abbrev pub ArePutRead : List (LineKey × Option Row) → Type 0
+ArePutRead [] = Unit {0}
+ArePutRead (change ∷ changes) = IsPutRead change.1 × ArePutRead changes
+
+-- the value that a stored tree is for a column
+abbrev pub value_from : Option Data → Column → Option Datum
+value_from found column = option_and_then (λ d. if_fits column (reads no_names (kinds_of column.type_of) d)) found
+
+-- the value that is stored for a column, as in `value_held`
+abbrev pub value_stored : Body → List ℕ × Column → Option Datum
+value_stored body c = value_from (tree_stored body c.0) c.1
+
+-- these columns added to those before, each with the value of its tree, but for the columns that every row has by itself
+abbrev pub columns_by : (List ℕ → Option Data) → List (List ℕ × Column) → Columns → Option Columns
+columns_by tree_at [] columns = Some columns
+columns_by tree_at (c ∷ cs) columns =
+    if is_own_column c.0 then columns_by tree_at cs columns
+    else option_and_then (λ datum. columns_by tree_at cs (insert columns c.0 datum)) (value_from (tree_at c.0) c.1)
+
+-- the same, each with its stored value
+abbrev pub columns_stored : Body → List (List ℕ × Column) → Columns → Option Columns
+columns_stored body cs columns = columns_by (tree_stored body) cs columns
+
+-- the members of a tree, if there is one
+abbrev pub trees_in : Option Data → List ℕ → Option Data
+trees_in body name = option_and_then (find.get name) body
+
+-- the row of a table that is stored as this: `row_of_body`, with the columns added one by one
+abbrev pub row_of_table : Table → RowBody → Option Row
+row_of_table table stored = option_and_then (row_if_stored stored.0 stored.1) (columns_stored stored.1 (entries table.columns) empty)

@@ -1,53 +1,47 @@
 ghost use Rattle.std.specs.Prelude.{◌≡◌, ◌++◌, [], map, true, false, is_some, IfOk, OnOk, None};
 ghost use Rattle.std.specs.FinMap.{entries, get, contains_key};
 ghost use Rattle.std.specs.Ordering.{eq_by_cmp};
-ghost use Rattle.ov_specs.specs.rows.Database.{line_of};
-ghost use Rattle.ov_specs.specs.rows.Lines.{LineKey, Remove, line_cmp};
-ghost use Rattle.ov_keeper.specs.Views.{changes_view, change_view, line_entry};
+ghost use Rattle.ov_specs.specs.rows.Cells.{RemoveCells, cell_line_of};
+ghost use Rattle.ov_specs.specs.rows.Lines.{LineKey, line_cmp};
+ghost use Rattle.ov_keeper.specs.Views.{changes_view, change_view, cell_line_entry};
 ghost use Rattle.ov_db.specs.Adding.{lent_keys, without_rows};
 ghost use Rattle.ov_db.specs.Changing.{applied, as_puts, change_of, with_row};
 ghost use Rattle.ov_rows.specs.Nested.{in_table};
 ghost use Rattle.ov_db.specs.Placing.{IsPlaced, IsSameBeside};
-ghost use Rattle.ov_db.specs.Stored.{IsBodyRead, IsPutRead, ArePutRead};
+ghost use Rattle.ov_db.specs.Stored.{AreCellsRead, IsPutRead, ArePutRead};
 
+use crate::cells::cells_of;
 use crate::delta::Delta;
-use ov_base::{Bytes, ColumnNames, Text};
-use ov_keeper::{Change, Line};
+use ov_base::{ColumnNames, Text};
+use ov_keeper::{CellLine, Change};
 use ov_rows::{Columns, NamedValues, Row, RowKey, Rows, TableRows};
 use std::alloc::{AllocError, Global};
 use uuid::Uuid;
 
-/// The body of the line that stores a row. It reads back as written if each value is of some kinds.
-fn body_of(alloc: Global, row: &Row) -> Result<Bytes, AllocError>
-    ensures body { IfOk result (λ body. body ≡ (line_of row.now).1) }
-    ensures read { IfOk result (λ body. IsBodyRead row.now) }
+/// What is stored of a row of the table of this name: its version, and a cell for each of its columns. Each cell reads back.
+fn line_of(alloc: Global, table: &str, id: Uuid, row: &Row) -> Result<CellLine, AllocError>
+    ensures line { IfOk result (λ line. cell_line_entry line
+        ≡ ((table.now, id), cell_line_of row.now)) }
+    ensures read { IfOk result (λ line. AreCellsRead row.now.columns) }
 {
-    row.columns.text(alloc)
-}
-
-/// The line that stores a row of the table of this name.
-fn line_of(alloc: Global, table: &str, id: Uuid, row: &Row) -> Result<Line, AllocError>
-    ensures line { IfOk result (λ line. line_entry line ≡ ((table.now, id), line_of row.now)) }
-    ensures read { IfOk result (λ line. IsBodyRead row.now) }
-{
-    Ok(Line {
+    Ok(CellLine {
         table: Text::from_str(alloc, table)?,
         id,
         version: row.version,
-        body: body_of(alloc, row)?,
+        cells: cells_of(alloc, &row.columns)?,
     })
 }
 
-/// The removal of the line of a key.
+/// The removal of what is stored under a key.
 fn remove_of(alloc: Global, key: &RowKey) -> Result<Change, AllocError>
-    ensures { IfOk result (λ change. change_view change ≡ Remove key.now) }
+    ensures { IfOk result (λ change. change_view change ≡ RemoveCells key.now) }
 {
     let table = Text::from_str(alloc, key.table())?;
     let id = key.id();
     Ok(Change::Remove { table, id })
 }
 
-/// What a change of a row makes of its line.
+/// What a change of a row makes of what is stored under its key.
 fn change_of(alloc: Global, key: &RowKey, row: &Option<Row>) -> Result<Change, AllocError>
     ensures change { IfOk result (λ change. change_view change ≡ change_of (key.now, row.now)) }
     ensures read { IfOk result (λ change. IsPutRead row.now) }
@@ -58,9 +52,10 @@ fn change_of(alloc: Global, key: &RowKey, row: &Option<Row>) -> Result<Change, A
     }
 }
 
-/// The changes of lines that the changes of rows make. Each row that is put reads back.
+/// The changes of what is stored that the changes of rows make. Each row that is put reads back.
 pub(crate) fn changes_of(alloc: Global, delta: &Delta) -> Result<Vec<Change>, AllocError>
-    ensures changes { IfOk result (λ changes. changes_view changes.items ≡ map change_of (entries delta.now)) }
+    ensures changes { IfOk result (λ changes. changes_view changes.items
+        ≡ map change_of (entries delta.now)) }
     ensures read { IfOk result (λ changes. ArePutRead (entries delta.now)) }
 {
     let mut changes = Vec::new(alloc);
@@ -70,14 +65,16 @@ pub(crate) fn changes_of(alloc: Global, delta: &Delta) -> Result<Vec<Change>, Al
     Ok(changes)
 }
 
-/// Puts the lines of the rows of a table.
+/// Puts the cells of the rows of a table.
 fn put_table(
     alloc: Global,
     name: &str,
     table: &TableRows,
     changes: &mut Vec<Change>,
 ) -> Result<(), AllocError>
-    ensures changes { OnOk result (changes_view changes.new.items ≡ changes_view changes.old.items ++ map change_of (as_puts (in_table name.now (entries table.now)))) }
+    ensures changes { OnOk result (changes_view changes.new.items
+        ≡ changes_view changes.old.items ++ map change_of
+        (as_puts (in_table name.now (entries table.now)))) }
     ensures read { OnOk result (ArePutRead (as_puts (in_table name.now (entries table.now)))) }
 {
     for (id, row) in table.map() {
@@ -86,9 +83,10 @@ fn put_table(
     Ok(())
 }
 
-/// The changes that put the line of each row. Each row reads back.
+/// The changes that put the cells of each row. Each row reads back.
 pub(crate) fn puts_of(alloc: Global, rows: &Rows) -> Result<Vec<Change>, AllocError>
-    ensures changes { IfOk result (λ changes. changes_view changes.items ≡ map change_of (as_puts (entries rows.now))) }
+    ensures changes { IfOk result (λ changes. changes_view changes.items
+        ≡ map change_of (as_puts (entries rows.now))) }
     ensures read { IfOk result (λ changes. ArePutRead (as_puts (entries rows.now))) }
 {
     let mut changes = Vec::new(alloc);
@@ -127,9 +125,12 @@ fn place_one<'a>(
     added: &mut Vec<&'a RowKey>,
 ) -> Result<(), AllocError>
     requires { nothing.now ≡ [] }
-    ensures added { without_rows (lent_keys added.new.items) rows.new ≡ without_rows (lent_keys added.old.items) rows.old }
-    ensures same { (other : LineKey) → eq_by_cmp line_cmp other key.now ≡ false → get rows.new other ≡ get rows.old other }
-    ensures stays { (other : LineKey) → contains_key rows.old other ≡ true → contains_key rows.new other ≡ true }
+    ensures added { without_rows (lent_keys added.new.items) rows.new
+        ≡ without_rows (lent_keys added.old.items) rows.old }
+    ensures same { (other : LineKey) → eq_by_cmp line_cmp other key.now ≡ false
+        → get rows.new other ≡ get rows.old other }
+    ensures stays { (other : LineKey) → contains_key rows.old other ≡ true
+        → contains_key rows.new other ≡ true }
     ensures placed { OnOk result (is_some row.now ≡ true → contains_key rows.new key.now ≡ true) }
 {
     if row.is_none() || rows.contains(key) {
@@ -148,9 +149,12 @@ fn place_at<'a>(
 ) -> Result<(), AllocError>
     requires absent { contains_key rows.old key.now ≡ false }
     requires nothing { nothing.now ≡ [] }
-    ensures added { without_rows (lent_keys added.new.items) rows.new ≡ without_rows (lent_keys added.old.items) rows.old }
-    ensures same { (other : LineKey) → eq_by_cmp line_cmp other key.now ≡ false → get rows.new other ≡ get rows.old other }
-    ensures stays { (other : LineKey) → contains_key rows.old other ≡ true → contains_key rows.new other ≡ true }
+    ensures added { without_rows (lent_keys added.new.items) rows.new
+        ≡ without_rows (lent_keys added.old.items) rows.old }
+    ensures same { (other : LineKey) → eq_by_cmp line_cmp other key.now ≡ false
+        → get rows.new other ≡ get rows.old other }
+    ensures stays { (other : LineKey) → contains_key rows.old other ≡ true
+        → contains_key rows.new other ≡ true }
     ensures placed { OnOk result (contains_key rows.new key.now ≡ true) }
 {
     added.reserve(1)?;

@@ -1,11 +1,11 @@
-ghost use Rattle.std.specs.Prelude.{◌≡◌, ◌≤◌, ◌==◌, true, is_some, option_copied, option_map, IfOk, IfErr, None};
+ghost use Rattle.std.specs.Prelude.{◌≡◌, ◌≤◌, ◌==◌, true, is_some, option_copied, option_map, IfOk, IfErr, None, Ok};
 ghost use Rattle.std.specs.FinMap.{get, entries, keys, len};
 ghost use Rattle.std.specs.List.{filter};
-ghost use Rattle.serde_json.specs.Written.{compact_text};
-ghost use Rattle.ov_specs.specs.rows.Lines.{Contents};
+ghost use Rattle.ov_specs.specs.conversion.Converted.{opening_of};
+ghost use Rattle.ov_specs.specs.rows.Cells.{Stored};
 ghost use Rattle.std.specs.Str.{bytes_eq};
 ghost use Rattle.ov_rows.specs.Nested.{rows_in};
-ghost use Rattle.ov_keeper.specs.Keeping.{LeavesNoMore, HasFailed};
+ghost use Rattle.ov_keeper.specs.Keeping.{HasFailed};
 ghost use Rattle.ov_keeper.specs.declared.fault.KeepFault.TheVariants.{Device};
 ghost use Rattle.ov_db.specs.Changing.{SuitsChanges, applied};
 ghost use Rattle.ov_refs.specs.Counting.{in_64_bits, strong_count};
@@ -13,18 +13,16 @@ ghost use Rattle.ov_refs.specs.Linking.{AreLinksOf};
 ghost use Rattle.ov_index.specs.Indexing.{AreIndexesOf};
 ghost use Rattle.ov_specs.specs.integrity.Committed.{is_whole};
 ghost use Rattle.ov_db.specs.Committing.{AreKept, Commits, MayFind, MayHold};
-ghost use Rattle.ov_db.specs.Converting.{IsConvertFault, IsOpened, LeavesOpened, LeavesUnopened, RefusesConversion};
 ghost use Rattle.ov_db.specs.Lookups.{TellsIndexed, if_any, weak_holders};
-ghost use Rattle.ov_db.specs.Opening.{CanOpen, FindsOne, IsOpenFault, RefusesOpen};
+ghost use Rattle.ov_db.specs.Opening.{FindsOne, IsConvertFault, IsOpenFault, IsReadFault, LeavesOpened, LeavesUnopened, TellsRefusal, open_of};
 ghost use Rattle.ov_db.specs.declared.answer.StoreAnswer.TheVariants.{Kept, Failed};
 ghost use Rattle.ov_db.specs.declared.fault.OpenFault.TheVariants.{Keeping, SchemaDiffers};
 
 use crate::answer::StoreAnswer;
 use crate::commit::changes_of;
-use crate::convert::convert_whole;
 use crate::delta::Delta;
 use crate::fault::RefusedOpen;
-use crate::load::load_whole;
+use crate::open::open_whole;
 use crate::resident::{Resident, Room};
 use ov_index::{IndexKey, Indexes};
 use ov_keeper::{KeepFault, Keeper};
@@ -35,7 +33,7 @@ use std::alloc::Global;
 use std::marker::Model;
 use uuid::Uuid;
 
-/// A database: its rows under their schema, and the keeper that stores them as lines (RFC 7047, 3.2).
+/// A database: its rows under their schema, and the keeper that stores them in format 2 (RFC 7047, 3.2).
 ///
 /// An open at this moment, even after a crash, finds the rows as they are, or those that a failed commit would have left.
 pub struct Db<K: Keeper> {
@@ -47,9 +45,8 @@ pub struct Db<K: Keeper> {
 }
 
 impl<K: Keeper> Model for Db<K> {
-    ghost use Rattle.std.specs.Prelude.{option_map};
+    ghost use Rattle.std.specs.Prelude.{◌≡◌, option_map};
     ghost use Rattle.std.specs.Coded.{codes};
-    ghost use Rattle.serde_json.specs.Written.{compact_text};
     ghost use Rattle.ov_specs.specs.codes.SchemaCode.{schema_code};
     ghost use Rattle.ov_db.specs.Changing.{applied};
     ghost use Rattle.ov_db.specs.Committing.{MayHold, AreKept};
@@ -63,7 +60,8 @@ impl<K: Keeper> Model for Db<K> {
 
     ghost view = { λ d. record { schema = d.schema; committed = d.resident.rows; sealed = option_map (λ delta. applied delta d.resident.rows) d.failed; keeper = d.keeper } };
 
-    ghost invariant = { λ d. (K.Keeper.is_honest d.keeper → MayHold (K.Keeper.leaves d.keeper) (compact_text d.schema.tree) d.resident.rows (option_map (λ delta. applied delta d.resident.rows) d.failed))
+    ghost invariant = { λ d. (K.Keeper.format d.keeper ≡ 2)
+        × (K.Keeper.is_honest d.keeper → MayHold (K.Keeper.leaves d.keeper) d.schema d.resident.rows (option_map (λ delta. applied delta d.resident.rows) d.failed))
         × AreKept d.schema d.resident.rows (option_map (λ delta. applied delta d.resident.rows) d.failed)
         × IsBeside d.schema d.resident.rows d.resident };
 }
@@ -85,29 +83,44 @@ impl<K: Keeper + Drop> Drop for Db<K> {
 }
 
 impl<K: Keeper + Drop> Db<K> {
-    /// Opens the database that a keeper holds. Each of its lines is a row.
+    /// Opens the database that a keeper holds, in either format.
     ///
     /// Refuses with the keeper's fault if its load fails, as `SchemaDiffers` if the keeper holds another text than the
-    /// schema's, as `BadBody` if one of its lines is not a row of the schema, and as `Broken` if the rows break a rule of
-    /// commits or a commit would change them; the first of these that applies. A failed allocation is the keeper's fault
-    /// `Memory`. What the keeper holds does not change, and a refusal gives the keeper and the schema back.
+    /// schema's, as `BadBody` if what is stored for one of its rows is no row of the schema, as `Broken` if the rows break a
+    /// rule of commits or a commit would change them, and with the keeper's fault if a write fails; the first of these that
+    /// applies. A failed allocation is the keeper's fault `Memory`. Rows of format 1 are written anew in format 2, once; else
+    /// nothing is written. A refusal gives the keeper and the schema back, and changes nothing that is held; only after the
+    /// fault `Device` the keeper may hold the same rows in format 2.
     pub fn open(alloc: Global, mut keeper: K, schema: Schema) -> Result<Db<K>, RefusedOpen<K>>
         ensures rest { IfOk result (λ d. (d.schema ≡ schema) × (d.sealed ≡ None)) }
-        ensures held { IfOk result (λ d. K.is_honest d.keeper → (held : Contents) → K.leaves keeper held → CanOpen schema d.committed held) }
-        ensures same { IfOk result (λ d. K.is_honest d.keeper → LeavesNoMore (K.leaves keeper) (K.leaves d.keeper)) }
+        ensures held { IfOk result (λ d. K.is_honest d.keeper → (held : Stored)
+            → K.leaves keeper held → open_of schema held ≡ Ok d.committed) }
+        // What is found now might have been found before, or it is the database in format 2, over rows of format 1.
+        ensures left { IfOk result (λ d. K.is_honest d.keeper
+            → LeavesOpened (K.leaves keeper) (K.leaves d.keeper)
+            (open_of schema) schema d.committed) }
         ensures honest { IfOk result (λ d. K.is_honest d.keeper → K.is_honest keeper) }
         ensures kinds { IfErr result (λ e. IsOpenFault e.fault) }
-        ensures fault { IfErr result (λ e. K.is_honest e.keeper → (held : Contents) → K.leaves keeper held → RefusesOpen schema held e.fault) }
+        // Over a keeper of format 2 nothing is written, so no write fails.
+        ensures read_kinds { IfErr result (λ e. K.is_honest e.keeper → K.format keeper ≡ 2
+            → IsReadFault e.fault) }
+        ensures fault { IfErr result (λ e. K.is_honest e.keeper → (held : Stored)
+            → K.leaves keeper held → TellsRefusal (open_of schema held) e.fault) }
         // A failure of the device has a cause: the keeper's count rose in this call, or was already at its maximum.
-        ensures cause { IfErr result (λ e. e.fault ≡ Keeping Device → HasFailed (K.failed keeper) (K.failed e.keeper)) }
+        ensures cause { IfErr result (λ e. e.fault ≡ Keeping Device
+            → HasFailed (K.failed keeper) (K.failed e.keeper)) }
         ensures counts { IfErr result (λ e. K.failed keeper ≤ K.failed e.keeper) }
-        ensures same_refused { IfErr result (λ e. K.is_honest e.keeper → LeavesNoMore (K.leaves keeper) (K.leaves e.keeper)) }
+        ensures left_refused { IfErr result (λ e. K.is_honest e.keeper
+            → LeavesUnopened (K.leaves keeper) (K.leaves e.keeper)
+            (open_of schema) schema e.fault) }
+        ensures format_refused { IfErr result (λ e. K.format e.keeper ≡ K.format keeper) }
         // Another text was what an open would have found, and nothing else.
-        ensures one { IfErr result (λ e. K.is_honest e.keeper → e.fault ≡ SchemaDiffers → FindsOne (K.leaves keeper)) }
+        ensures one { IfErr result (λ e. K.is_honest e.keeper → e.fault ≡ SchemaDiffers
+            → FindsOne (K.leaves keeper)) }
         ensures honest_refused { IfErr result (λ e. K.is_honest e.keeper → K.is_honest keeper) }
         ensures schema { IfErr result (λ e. e.schema ≡ schema) }
     {
-        match load_whole(alloc, &mut keeper, &schema) {
+        match open_whole(alloc, &mut keeper, &schema, None) {
             Ok(resident) => Ok(Db {
                 schema,
                 resident,
@@ -123,16 +136,16 @@ impl<K: Keeper + Drop> Db<K> {
     }
 
     /// Opens the database that a keeper holds under an older schema, and converts it to this one: the keeper then holds the
-    /// schema's text and the converted rows. If it holds the schema's own text, opens it as `open` does, and writes nothing.
+    /// schema's text and the converted rows, in format 2. If it holds the schema's own text, opens it as `open` does.
     ///
-    /// The stored text must be that of an accepted schema of the same name with an older version, and each line a row of it.
-    /// The rows are carried over in one commit of this version, under the new schema. Refuses with the keeper's fault if its
-    /// load fails, as `BadBody` if the text is no schema or a line is not a row of it, as `SchemaDiffers` if the schema has
-    /// another name or is not newer, as `Broken` if the stored rows break a rule of commits, as `TypeChanged` if a column of
-    /// both schemas has two types, as `NotConvertible` if that commit fails, and with the keeper's fault if the write of the
-    /// converted rows fails; the first of these that applies. A failed allocation is the keeper's fault `Memory`. A refusal
-    /// gives the keeper and the schema back, and changes nothing that is held; only after the fault `Device` the keeper may
-    /// hold the converted rows.
+    /// The stored text must be that of an accepted schema of the same name with an older version, and what is stored for each
+    /// row a row of it. The rows are carried over in one commit of this version, under the new schema. Refuses with the
+    /// keeper's fault if its load fails, as `BadBody` if the text is no schema or what is stored for a row is not a row of it,
+    /// as `SchemaDiffers` if the schema has another name or is not newer, as `Broken` if the stored rows break a rule of
+    /// commits, as `TypeChanged` if a column of both schemas has two types, as `NotConvertible` if that commit fails, and with
+    /// the keeper's fault if the write of the converted rows fails; the first of these that applies. A failed allocation is the
+    /// keeper's fault `Memory`. A refusal gives the keeper and the schema back, and changes nothing that is held; only after
+    /// the fault `Device` the keeper may hold the converted rows.
     pub fn convert(
         alloc: Global,
         mut keeper: K,
@@ -140,20 +153,29 @@ impl<K: Keeper + Drop> Db<K> {
         version: Uuid,
     ) -> Result<Db<K>, RefusedOpen<K>>
         ensures rest { IfOk result (λ d. (d.schema ≡ schema) × (d.sealed ≡ None)) }
-        ensures held { IfOk result (λ d. K.is_honest d.keeper → (held : Contents) → K.leaves keeper held → IsOpened schema version d.committed held) }
-        // An open now finds the database. It could have found it before, or the keeper holds what that was converted to.
-        ensures left { IfOk result (λ d. K.is_honest d.keeper → LeavesOpened (K.leaves keeper) (K.leaves d.keeper) schema version d.committed) }
+        ensures held { IfOk result (λ d. K.is_honest d.keeper → (held : Stored)
+            → K.leaves keeper held → opening_of schema version held ≡ Ok d.committed) }
+        // What is found now might have been found before, or it is the database in format 2, over rows of format 1 or of
+        // another schema.
+        ensures left { IfOk result (λ d. K.is_honest d.keeper
+            → LeavesOpened (K.leaves keeper) (K.leaves d.keeper)
+            (opening_of schema version) schema d.committed) }
         ensures honest { IfOk result (λ d. K.is_honest d.keeper → K.is_honest keeper) }
         ensures kinds { IfErr result (λ e. IsConvertFault e.fault) }
-        ensures fault { IfErr result (λ e. K.is_honest e.keeper → (held : Contents) → K.leaves keeper held → RefusesConversion schema version held e.fault) }
+        ensures fault { IfErr result (λ e. K.is_honest e.keeper → (held : Stored)
+            → K.leaves keeper held → TellsRefusal (opening_of schema version held) e.fault) }
         // A failure of the device has a cause: the keeper's count rose in this call, or was already at its maximum.
-        ensures cause { IfErr result (λ e. e.fault ≡ Keeping Device → HasFailed (K.failed keeper) (K.failed e.keeper)) }
+        ensures cause { IfErr result (λ e. e.fault ≡ Keeping Device
+            → HasFailed (K.failed keeper) (K.failed e.keeper)) }
         ensures counts { IfErr result (λ e. K.failed keeper ≤ K.failed e.keeper) }
-        ensures left_refused { IfErr result (λ e. K.is_honest e.keeper → LeavesUnopened (K.leaves keeper) (K.leaves e.keeper) schema version e.fault) }
+        ensures left_refused { IfErr result (λ e. K.is_honest e.keeper
+            → LeavesUnopened (K.leaves keeper) (K.leaves e.keeper)
+            (opening_of schema version) schema e.fault) }
+        ensures format_refused { IfErr result (λ e. K.format e.keeper ≡ K.format keeper) }
         ensures honest_refused { IfErr result (λ e. K.is_honest e.keeper → K.is_honest keeper) }
         ensures schema { IfErr result (λ e. e.schema ≡ schema) }
     {
-        match convert_whole(alloc, &mut keeper, &schema, version) {
+        match open_whole(alloc, &mut keeper, &schema, Some(version)) {
             Ok(resident) => Ok(Db {
                 schema,
                 resident,
@@ -201,7 +223,8 @@ impl<K: Keeper + Drop> Db<K> {
     /// The rows that refer weakly to the row of this key, in ascending order and each once, or `None` if there are none (RFC
     /// 7047, 3.2, `<base-type>`, refType). Allocates nothing.
     pub fn weak_holders(&self, to: &RowKey) -> Option<&KeySet>
-        ensures { option_map keys (option_copied result) ≡ if_any (weak_holders self.now.schema self.now.committed to.now) }
+        ensures { option_map keys (option_copied result)
+            ≡ if_any (weak_holders self.now.schema self.now.committed to.now) }
     {
         let holders = self.resident.links.weak().of(to)?;
         if holders.is_empty() {
@@ -235,7 +258,8 @@ impl<K: Keeper + Drop> Db<K> {
 
     /// The rows of the table of this name, if it ever had one. Allocates nothing.
     pub fn rows_of(&self, table: &str) -> Option<&TableRows>
-        ensures { rows_in table.now (option_copied result) ≡ filter (λ r. bytes_eq r.0.0 table.now) (entries self.now.committed) }
+        ensures { rows_in table.now (option_copied result)
+            ≡ filter (λ r. bytes_eq r.0.0 table.now) (entries self.now.committed) }
     {
         self.resident.rows.of_table(table)
     }
@@ -256,7 +280,8 @@ impl<K: Keeper + Drop> Db<K> {
 
     /// Consumes the database and returns its keeper.
     pub fn into_keeper(self) -> K
-        ensures { result ≡ self.keeper }
+        ensures same { result ≡ self.keeper }
+        ensures format { K.format result ≡ 2 }
     {
         let Db {
             schema: _,
@@ -269,15 +294,19 @@ impl<K: Keeper + Drop> Db<K> {
 
     /// For contracts: what a crash at this moment leaves. Does nothing.
     pub fn shows_left(&self)
-        ensures held { K.is_honest self.now.keeper → MayHold (K.leaves self.now.keeper) (compact_text self.now.schema.tree) self.now.committed self.now.sealed }
-        ensures found { K.is_honest self.now.keeper → MayFind (K.leaves self.now.keeper) self.now.schema self.now.committed self.now.sealed }
+        ensures held { K.is_honest self.now.keeper → MayHold
+            (K.leaves self.now.keeper) self.now.schema self.now.committed self.now.sealed }
+        ensures found { K.is_honest self.now.keeper → MayFind
+            (K.leaves self.now.keeper) self.now.schema self.now.committed self.now.sealed }
         // An open finds something.
-        ensures some { K.is_honest self.now.keeper → ∥ ((held : Contents) × K.leaves self.now.keeper held) ∥₁ }
+        ensures some { K.is_honest self.now.keeper → ∥ ((held : Stored)
+            × K.leaves self.now.keeper held) ∥₁ }
+        ensures format { K.format self.now.keeper ≡ 2 }
     {
         let _keeper = &self.keeper;
     }
 
-    /// For contracts: each row is a row of the schema and is what its line reads back as, and a commit would leave the rows
+    /// For contracts: each row is a row of the schema and is what its cells read back as, and a commit would leave the rows
     /// as they are. The same holds for the rows that a failed commit would have left. Does nothing.
     pub fn shows_kept(&self)
         ensures { AreKept self.now.schema self.now.committed self.now.sealed }
@@ -295,10 +324,13 @@ impl<K: Keeper + Drop> Db<K> {
         requires suits { SuitsChanges self.old.schema delta }
         requires whole { is_whole self.old.schema (applied delta self.old.committed) ≡ true }
         ensures commits { self.old.sealed ≡ None → Commits delta self.old result self.new }
-        ensures sealed { is_some self.old.sealed ≡ true → (result ≡ Failed) × (self.new ≡ self.old) }
-        ensures empty { self.old.sealed ≡ None → (len delta == 0) ≡ true → (result ≡ Kept) × (self.new ≡ self.old) }
+        ensures sealed { is_some self.old.sealed ≡ true → (result ≡ Failed)
+            × (self.new ≡ self.old) }
+        ensures empty { self.old.sealed ≡ None → (len delta == 0) ≡ true → (result ≡ Kept)
+            × (self.new ≡ self.old) }
         // A failure has a cause: the device's count rises, unless it is at its maximum.
-        ensures cause { self.old.sealed ≡ None → result ≡ Failed → HasFailed (K.failed self.old.keeper) (K.failed self.new.keeper) }
+        ensures cause { self.old.sealed ≡ None → result ≡ Failed
+            → HasFailed (K.failed self.old.keeper) (K.failed self.new.keeper) }
         ensures counts { K.failed self.old.keeper ≤ K.failed self.new.keeper }
         ensures honest { K.is_honest self.new.keeper → K.is_honest self.old.keeper }
     {
@@ -317,7 +349,8 @@ impl<K: Keeper + Drop> Db<K> {
         requires suits { SuitsChanges self.old.schema delta }
         requires whole { is_whole self.old.schema (applied delta self.old.committed) ≡ true }
         ensures commits { Commits delta self.old result self.new }
-        ensures cause { result ≡ Failed → HasFailed (K.failed self.old.keeper) (K.failed self.new.keeper) }
+        ensures cause { result ≡ Failed → HasFailed (K.failed self.old.keeper)
+            (K.failed self.new.keeper) }
         ensures counts { K.failed self.old.keeper ≤ K.failed self.new.keeper }
         ensures honest { K.is_honest self.new.keeper → K.is_honest self.old.keeper }
     {

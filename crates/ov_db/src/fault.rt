@@ -12,7 +12,7 @@ pub enum OpenFault {
     /// The stored schema has another text. If it can be converted: it has another name, or is not older.
     #[error("the stored schema is another one")]
     SchemaDiffers,
-    /// A stored line is not a row of the stored schema, or the stored text is no schema.
+    /// What is stored of a row is no row of the stored schema, or the stored text is no schema.
     #[error("a stored row does not fit the schema")]
     BadBody,
     /// The stored rows break a rule of commits.

@@ -1,12 +1,14 @@
-ghost use Rattle.std.specs.Prelude.{◌≡◌, IfOk, Some};
+ghost use Rattle.std.specs.Prelude.{◌≡◌, IfOk, IfErr, Some, option_map};
 ghost use Rattle.std.specs.FinMap.{empty, entries};
 ghost use Rattle.serde_json.specs.View.{view};
+ghost use Rattle.ov_specs.specs.rows.Held.{OneText};
 ghost use Rattle.ov_specs.specs.rows.Suits.{is_value_for};
 ghost use Rattle.ov_specs.specs.wire.Message.{tree_of};
-ghost use Rattle.ov_keeper.specs.Views.{line_entry};
-ghost use Rattle.ov_db.specs.Loading.{IsLoaded};
+ghost use Rattle.ov_keeper.specs.declared.fault.KeepFault.TheVariants.{Memory};
+ghost use Rattle.ov_db.specs.Loading.{IsLoaded, whole_entry};
 ghost use Rattle.ov_db.specs.Guessed.{are_values_for};
-ghost use Rattle.ov_db.specs.Stored.{columns_stored, row_of_table, row_stored, value_stored};
+ghost use Rattle.ov_db.specs.Stored.{columns_by, columns_stored, row_of_table, row_stored, trees_in, value_from};
+ghost use Rattle.ov_db.specs.declared.fault.OpenFault.TheVariants.{Keeping};
 
 use crate::fault::OpenFault;
 use ov_atoms::{AtomFault, Datum, NoNames, read_datum};
@@ -17,10 +19,11 @@ use ov_schema::{Column, Schema, Table, is_own};
 use serde_json::Value;
 use std::alloc::Global;
 
-/// The row that a stored line holds. Refused as `BadBody` if the schema has no such table, if the body lacks a fitting value
-/// for a column, or if the row would be stored as other bytes, even by one space.
+/// The row that a line of format 1 holds. Refused as `BadBody` if the schema has no such table, if the body lacks a fitting
+/// value for a column, or if the row would be stored as other bytes, even by one space.
 pub fn row_of(alloc: Global, schema: &Schema, line: &Line) -> Result<Row, OpenFault>
-    ensures { IsLoaded (λ row. row) (row_stored schema.now (line_entry line.now).0 (line_entry line.now).1) result }
+    ensures { IsLoaded (λ row. row) (row_stored schema.now (whole_entry line.now).0
+        (whole_entry line.now).1) result }
 {
     let mut reader = BodyReader::new(alloc);
     next_row(alloc, &mut reader, schema, line)
@@ -33,7 +36,8 @@ pub(crate) fn next_row(
     schema: &Schema,
     line: &Line,
 ) -> Result<Row, OpenFault>
-    ensures { IsLoaded (λ row. row) (row_stored schema.now (line_entry line.now).0 (line_entry line.now).1) result }
+    ensures { IsLoaded (λ row. row) (row_stored schema.now (whole_entry line.now).0
+        (whole_entry line.now).1) result }
 {
     match schema.table(line.table.as_str()) {
         Some(table) => row_of_table(alloc, reader, table, line),
@@ -48,7 +52,7 @@ fn row_of_table(
     table: &Table,
     line: &Line,
 ) -> Result<Row, OpenFault>
-    ensures { IsLoaded (λ row. row) (row_of_table table.now (line_entry line.now).1) result }
+    ensures { IsLoaded (λ row. row) (row_of_table table.now (whole_entry line.now).1) result }
 {
     match row_by_guess(alloc, reader, table, line) {
         Ok(row) => Ok(row),
@@ -65,7 +69,7 @@ fn row_by_guess(
     table: &Table,
     line: &Line,
 ) -> Result<Row, AtomFault>
-    ensures { IfOk result (λ row. row_of_table table.now (line_entry line.now).1 ≡ Some row) }
+    ensures { IfOk result (λ row. row_of_table table.now (whole_entry line.now).1 ≡ Some row) }
 {
     let columns = reader.columns(alloc, table.names_of_row(), line.body.as_slice())?;
     if !are_values_for(table.columns(), columns.values()) {
@@ -105,10 +109,9 @@ fn is_value_for(column: &Column, datum: &Datum) -> bool
 
 /// The row of a table that a stored line holds, read from the tree of its body.
 fn row_in_full(alloc: Global, table: &Table, line: &Line) -> Result<Row, OpenFault>
-    ensures { IsLoaded (λ row. row) (row_of_table table.now (line_entry line.now).1) result }
+    ensures { IsLoaded (λ row. row) (row_of_table table.now (whole_entry line.now).1) result }
 {
-    let body = body_of(alloc, line.body.as_slice())?;
-    let columns = columns_of(alloc, table, &body)?;
+    let columns = columns_of(alloc, table, line.body.as_slice())?;
     let row = Row {
         version: line.version,
         columns,
@@ -121,28 +124,20 @@ fn row_in_full(alloc: Global, table: &Table, line: &Line) -> Result<Row, OpenFau
     }
 }
 
-/// The tree of a body.
-fn body_of(alloc: Global, body: &[u8]) -> Result<Value, OpenFault>
-    ensures { IsLoaded view (tree_of body.now) result }
+/// All columns of the table except those that every row has by itself, each with its value from the text.
+fn columns_of(alloc: Global, table: &Table, text: &[u8]) -> Result<Columns, OpenFault>
+    ensures { IsLoaded (λ columns. columns) (columns_stored (OneText text.now)
+        (entries table.now.columns) empty) result }
 {
-    match Value::from_slice(alloc, body) {
-        Ok(tree) => Ok(tree),
-        Err(error) if error.is_memory() => Err(OpenFault::Keeping(KeepFault::Memory)),
-        Err(_) => Err(OpenFault::BadBody),
-    }
-}
-
-/// All columns of the table except those that every row has by itself, each with its value from the body.
-fn columns_of(alloc: Global, table: &Table, body: &Value) -> Result<Columns, OpenFault>
-    ensures { IsLoaded (λ columns. columns) (columns_stored (view body.now) (entries table.now.columns) empty) result }
-{
-    let values = values_of(alloc, table, body)?;
+    let body = tree_of(alloc, text)?;
+    let values = values_of(alloc, table, &body)?;
     Ok(Columns::of(alloc, table.names_of_row(), values)?)
 }
 
-/// The body's values for all columns of the table except those that every row has by itself.
-fn values_of(alloc: Global, table: &Table, body: &Value) -> Result<NamedValues, OpenFault>
-    ensures { IsLoaded (λ values. values) (columns_stored (view body.now) (entries table.now.columns) empty) result }
+/// The values that the body has for all columns of the table except those that every row has by itself.
+fn values_of(alloc: Global, table: &Table, body: &Option<Value>) -> Result<NamedValues, OpenFault>
+    ensures { IsLoaded (λ values. values) (columns_by (trees_in (option_map view body.now))
+        (entries table.now.columns) empty) result }
 {
     let mut values = NamedValues::new(alloc);
     for (name, column) in table.columns() {
@@ -154,13 +149,41 @@ fn values_of(alloc: Global, table: &Table, body: &Value) -> Result<NamedValues, 
     Ok(values)
 }
 
-/// The body's value for a column, if it fits.
-fn value_of(alloc: Global, body: &Value, name: &str, column: &Column) -> Result<Datum, OpenFault>
-    ensures { IsLoaded (λ datum. datum) (value_stored (view body.now) (name.now, column.now)) result }
+/// The tree of a text, if it is JSON.
+pub(crate) fn tree_of(alloc: Global, text: &[u8]) -> Result<Option<Value>, OpenFault>
+    ensures ok { IfOk result (λ tree. option_map view tree ≡ tree_of text.now) }
+    ensures err { IfErr result (λ fault. fault ≡ Keeping Memory) }
 {
+    match Value::from_slice(alloc, text) {
+        Ok(tree) => Ok(Some(tree)),
+        Err(error) if error.is_memory() => Err(OpenFault::Keeping(KeepFault::Memory)),
+        Err(_) => Ok(None),
+    }
+}
+
+/// The body's value for a column, if it fits.
+fn value_of(
+    alloc: Global,
+    body: &Option<Value>,
+    name: &str,
+    column: &Column,
+) -> Result<Datum, OpenFault>
+    ensures { IsLoaded (λ datum. datum) (value_from (trees_in
+        (option_map view body.now) name.now) column.now) result }
+{
+    let Some(body) = body else {
+        return Err(OpenFault::BadBody);
+    };
     let Some(tree) = body.get(name) else {
         return Err(OpenFault::BadBody);
     };
+    value_in(alloc, tree, column)
+}
+
+/// The value that a tree stands for, if it fits the column.
+pub(crate) fn value_in(alloc: Global, tree: &Value, column: &Column) -> Result<Datum, OpenFault>
+    ensures { IsLoaded (λ datum. datum) (value_from (Some (view tree.now)) column.now) result }
+{
     match read_datum(alloc, tree, column.kinds(), &NoNames) {
         Ok(datum) if column.fits(&datum) => Ok(datum),
         Ok(_) | Err(AtomFault::Syntax | AtomFault::Clash) => Err(OpenFault::BadBody),

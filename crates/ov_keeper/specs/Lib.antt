@@ -1,6 +1,6 @@
 pub mod Views
 pub mod Keeping
 pub mod ListKeeper
-pub mod LineCode
+pub mod CellCode
 pub mod LineMap
 pub mod VolatileKeeper

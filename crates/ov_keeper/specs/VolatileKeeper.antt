@@ -1,7 +1,11 @@
--- What an open of a keeper without lines finds.
-use Rattle.std.specs.Prelude.{◌≡◌}
-use Rattle.ov_specs.specs.rows.Lines.{Contents}
+-- What an open of a keeper without a device finds.
+use Rattle.std.specs.Prelude.{◌≡◌, ℕ, List}
+use Rattle.ov_specs.specs.rows.Cells.{CellLines, Stored, InCells}
 
--- exactly what it holds, as contracts see it
-abbrev pub finds : Contents → Contents → Type 0
-finds keeper held = held ≡ keeper
+-- what the keeper holds, by the text of its schema and its rows
+abbrev pub contents_of : List ℕ × CellLines → Stored
+contents_of (schema, lines) = record { schema = schema; lines = InCells lines }
+
+-- an open finds exactly that
+abbrev pub finds : List ℕ × CellLines → Stored → Type 0
+finds keeper held = held ≡ contents_of keeper

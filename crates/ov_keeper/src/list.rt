@@ -1,19 +1,20 @@
 ghost use Rattle.std.specs.Prelude.{◌≡◌, ◌↔◌, IfOk, OnOk};
 ghost use Rattle.std.specs.FinMap.{empty, remove};
-ghost use Rattle.ov_specs.specs.rows.Lines.{Contents, after_change, after_changes};
-ghost use Rattle.ov_keeper.specs.Keeping.{rewritten};
+ghost use Rattle.ov_specs.specs.rows.Cells.{Stored, InCells, after_cell_change, after_cell_changes, rewritten};
+ghost use Rattle.ov_keeper.specs.Keeping.{loaded_contents};
 ghost use Rattle.ov_keeper.specs.ListKeeper.{contents_of, lines_of};
 ghost use Rattle.ov_keeper.specs.Views.{change_view, changes_view};
 
+use crate::cell_line::CellLine;
+use crate::change::{Change, copy_all};
 use crate::fault::KeepFault;
-use crate::keeper::{Keeper, Loaded};
-use crate::line::{Change, Line, copy_all};
+use crate::keeper::{Keeper, Lines, Loaded};
 use ov_base::Text;
 use std::alloc::{AllocError, Global};
 use uuid::Uuid;
 
-/// A keeper in memory, for tests and small databases: a load takes time quadratic in the number of changes made, counted from the
-/// last rewrite. Each refusal is `Memory`, and a refused call changes nothing that it holds.
+/// A keeper in memory, of format 2, for tests and small databases: a load takes time quadratic in the number of changes made,
+/// counted from the last rewrite. Each refusal is `Memory`, and a refused call changes nothing that it holds.
 #[derive(Drop)]
 pub struct ListKeeper {
     schema: Text,
@@ -21,9 +22,10 @@ pub struct ListKeeper {
 }
 
 impl ListKeeper {
-    /// A keeper with this schema text and no lines.
+    /// A keeper with this schema text and no rows.
     pub fn new(alloc: Global, schema: Text) -> ListKeeper
-        ensures { (held : Contents) → ⟦<ListKeeper as Keeper>⟧.leaves result held ↔ (held ≡ record { schema = schema; lines = empty }) }
+        ensures { (held : Stored) → ⟦<ListKeeper as Keeper>⟧.leaves result held ↔
+            (held ≡ record { schema = schema; lines = InCells empty }) }
     {
         ListKeeper {
             schema,
@@ -31,13 +33,14 @@ impl ListKeeper {
         }
     }
 
-    /// A keeper with this schema text and the lines that the changes put, starting from none.
+    /// A keeper with this schema text and the rows that the changes put, starting from none.
     fn with_changes(
         alloc: Global,
         schema: &Text,
         changes: &[Change],
     ) -> Result<ListKeeper, AllocError>
-        ensures { IfOk result (λ keeper. contents_of keeper ≡ rewritten schema.now (changes_view changes.now)) }
+        ensures { IfOk result (λ keeper. contents_of keeper
+            ≡ rewritten schema.now (changes_view changes.now)) }
     {
         Ok(ListKeeper {
             schema: Text::from_str(alloc, schema.as_str())?,
@@ -47,12 +50,11 @@ impl ListKeeper {
 
     /// What it holds.
     fn contents(&self, alloc: Global) -> Result<Loaded, AllocError>
-        ensures schema { IfOk result (λ loaded. loaded.schema ≡ self.now.schema) }
-        ensures lines { IfOk result (λ loaded. lines_of loaded.lines.items ≡ after_changes (changes_view self.now.made.items) empty) }
+        ensures { IfOk result (λ loaded. loaded_contents loaded ≡ contents_of self.now) }
     {
         Ok(Loaded {
             schema: Text::from_str(alloc, self.schema.as_str())?,
-            lines: lines_after(alloc, self.made.as_slice())?,
+            lines: Lines::InCells(lines_after(alloc, self.made.as_slice())?),
         })
     }
 }
@@ -60,7 +62,8 @@ impl ListKeeper {
 impl Keeper for ListKeeper {
     ghost use Rattle.std.specs.Prelude.{◌≡◌, IfOk, IfErr, OnOk, OnErr};
     ghost use Rattle.ov_keeper.specs.declared.fault.KeepFault.TheVariants.{Memory};
-    ghost use Rattle.ov_keeper.specs.Keeping.{LeavesMade, changed, rewritten, loaded_contents};
+    ghost use Rattle.ov_specs.specs.rows.Cells.{rewritten};
+    ghost use Rattle.ov_keeper.specs.Keeping.{LeavesMade, changed, loaded_contents};
     ghost use Rattle.ov_keeper.specs.Views.{changes_view};
     ghost use Rattle.ov_keeper.specs.ListKeeper.{contents_of, finds, some_contents};
 
@@ -70,10 +73,16 @@ impl Keeper for ListKeeper {
 
     ghost failed = { λ _. 0 };
 
+    ghost format = { λ _. 2 };
+
     ghost leaves_some = { λ k _. some_contents (contents_of k) };
 
     fn failures(&self) -> u64 {
         0
+    }
+
+    fn format(&self) -> u8 {
+        2
     }
 
     fn load(&mut self, alloc: Global) -> Result<Loaded, KeepFault>
@@ -88,7 +97,8 @@ impl Keeper for ListKeeper {
     }
 
     fn commit(&mut self, alloc: Global, changes: &[Change]) -> Result<(), KeepFault>
-        ensures ok { OnOk result (LeavesMade (changed (changes_view changes.now)) (finds self.old) (finds self.new)) }
+        ensures ok { OnOk result (LeavesMade (changed (changes_view changes.now)) (finds self.old)
+            (finds self.new)) }
         ensures memory { IfErr result (λ fault. fault ≡ Memory) }
         ensures same { OnErr result (contents_of self.new ≡ contents_of self.old) }
     {
@@ -102,7 +112,8 @@ impl Keeper for ListKeeper {
     }
 
     fn rewrite(&mut self, alloc: Global, schema: &Text, changes: &[Change]) -> Result<(), KeepFault>
-        ensures ok { OnOk result (contents_of self.new ≡ rewritten schema.now (changes_view changes.now)) }
+        ensures ok { OnOk result (contents_of self.new ≡ rewritten schema.now
+            (changes_view changes.now)) }
         ensures memory { IfErr result (λ fault. fault ≡ Memory) }
         ensures same { OnErr result (contents_of self.new ≡ contents_of self.old) }
     {
@@ -116,9 +127,10 @@ impl Keeper for ListKeeper {
     }
 }
 
-/// The lines that the changes make, starting from none.
-fn lines_after(alloc: Global, changes: &[Change]) -> Result<Vec<Line>, AllocError>
-    ensures { IfOk result (λ lines. lines_of lines.items ≡ after_changes (changes_view changes.now) empty) }
+/// The rows that the changes make, starting from none.
+fn lines_after(alloc: Global, changes: &[Change]) -> Result<Vec<CellLine>, AllocError>
+    ensures { IfOk result (λ lines. lines_of lines.items
+        ≡ after_cell_changes (changes_view changes.now) empty) }
 {
     let mut lines = Vec::new(alloc);
     for change in changes {
@@ -127,8 +139,9 @@ fn lines_after(alloc: Global, changes: &[Change]) -> Result<Vec<Line>, AllocErro
     Ok(lines)
 }
 
-fn make_change(alloc: Global, change: &Change, lines: &mut Vec<Line>) -> Result<(), AllocError>
-    ensures { OnOk result (lines_of lines.new.items ≡ after_change (change_view change.now) (lines_of lines.old.items)) }
+fn make_change(alloc: Global, change: &Change, lines: &mut Vec<CellLine>) -> Result<(), AllocError>
+    ensures { OnOk result (lines_of lines.new.items ≡ after_cell_change (change_view change.now)
+        (lines_of lines.old.items)) }
 {
     match change {
         Change::Put(line) => {
@@ -140,7 +153,7 @@ fn make_change(alloc: Global, change: &Change, lines: &mut Vec<Line>) -> Result<
     Ok(())
 }
 
-fn remove_line(lines: &mut Vec<Line>, table: &str, id: Uuid)
+fn remove_line(lines: &mut Vec<CellLine>, table: &str, id: Uuid)
     ensures { lines_of lines.new.items ≡ remove (lines_of lines.old.items) (table.now, id) }
 {
     lines.retain(|line| !line.is_at(table, id));

@@ -1,6 +1,6 @@
 -- What comes of a database: of one in memory, or of the one in a file.
 use Rattle.std.specs.Prelude.{◌≡◌, ◌↔◌, ℕ, List, Result, Ok, Err}
-use Rattle.ov_specs.specs.rows.Lines.{Contents}
+use Rattle.ov_specs.specs.rows.Cells.{CellLines, Stored}
 use Rattle.ov_specs.specs.values.Uuid.{Uuid}
 use Rattle.ov_keeper.specs.declared.keeper.Keeper.{Ghosts}
 use Rattle.ov_db.specs.declared.fault.RefusedOpen.{RefusedOpen}
@@ -16,9 +16,9 @@ use Rattle.ov_listen.specs.declared.database.DatabaseEnded.TheVariants.{Memory, 
 use Rattle.ov_core.specs.Opening.{RefusesCore}
 use Rattle.ov_listen.specs.Places.{ServesPlace}
 
--- it holds just this text of a schema and no line, and its device has not failed
+-- it holds just this text of a schema and no row, in format 2, and its device has not failed
 pub record IsNewKeeper {K : Type 0} (k : Ghosts K) (text : List ℕ) (keeper : K) : Type 0 where
-  pub found : (contents : Contents) → k.leaves keeper contents ↔ (contents ≡ new_contents text)
+  pub found : (contents : Stored) → k.leaves keeper contents ↔ (contents ≡ new_contents text)
   pub fresh : k.failed keeper ≡ 0
 
 module _ {K D C : Type 0} (k : Ghosts K) (drawing : D → Uuid → D → Type 0) (tells : C → ℕ → C → Type 0) where
@@ -29,8 +29,12 @@ module _ {K D C : Type 0} (k : Ghosts K) (drawing : D → Uuid → D → Type 0)
   EndsMemory service from (Err refused) to = (keeper : K) × IsNewKeeper k service.text keeper
       × RefusesCore k drawing keeper service.schema service.draws refused × (to ≡ from)
 
+-- what contracts see of a keeper in memory: the text of its schema, and its rows
+abbrev pub MemoryState : Type 0
+MemoryState = List ℕ × CellLines
+
 -- the database was in memory, and ended so
-abbrev pub IsInMemory : {D : Type 0} → DatabaseEnded D → (Result (Ended Contents D) (RefusedOpen Contents) → Type 0) → Type 0
+abbrev pub IsInMemory : {D : Type 0} → DatabaseEnded D → (Result (Ended MemoryState D) (RefusedOpen MemoryState) → Type 0) → Type 0
 IsInMemory (Memory ended) holds = holds ended
 IsInMemory (File ended) holds = ⊥
 

@@ -5,7 +5,7 @@ use Rattle.sqlite.specs.State.{HasCleanDisk}
 use Rattle.sqlite_disk.specs.declared.Disk as disk
 use Rattle.sqlite_store.specs.declared.store.FileStore.{FileStore}
 use Rattle.sqlite_wal.specs.Recovery.{Image}
-use Rattle.ov_specs.specs.rows.Lines.{Contents}
+use Rattle.ov_specs.specs.rows.Cells.{Stored}
 use Rattle.ov_specs.specs.schema.SchemaTypes.{Schema}
 use Rattle.ov_specs.specs.values.Uuid.{Uuid}
 use Rattle.ov_keeper.specs.declared.fault.KeepFault.{KeepFault}
@@ -39,7 +39,7 @@ module _ {K D C : Type 0} (k : Ghosts K) (drawing : D → Uuid → D → Type 0)
 module _ {A : Type 0} {g : disk.Ghosts A} where
   -- the store of what the files held, or a new one if they had no table; or why there is none
   pub record IsOfFiles (image : Image) (text : List ℕ) (store : Result (StoreState (FileStore A g)) KeepFault) : Type 0 where
-    pub found : IfOk store (λ s. HasCleanDisk (file_state s.connection) → (contents : Contents) → MayFind over_files s.connection contents
+    pub found : IfOk store (λ s. HasCleanDisk (file_state s.connection) → (contents : Stored) → MayFind over_files s.connection contents
         → (HasNoTable image × (contents ≡ new_contents text)) ⊎ IsStoredIn image contents)
     pub fresh : IfOk store (λ s. s.failures ≡ 0)
     pub refused : IsFileRefused image text store

@@ -4,7 +4,6 @@ use Rattle.serde_json.specs.Written.{compact_text}
 use Rattle.sqlite_disk.specs.declared.Disk as disk
 use Rattle.sqlite_store.specs.declared.store.FileStore.{FileStore}
 use Rattle.sqlite_wal.specs.Recovery.{Image}
-use Rattle.ov_specs.specs.rows.Lines.{Contents}
 use Rattle.ov_specs.specs.values.Uuid.{Uuid}
 use Rattle.ov_keeper.specs.declared.keeper.Keeper.{Ghosts}
 use Rattle.ov_store.specs.StoreState.{StoreState}
@@ -15,7 +14,7 @@ use Rattle.ov_listen.specs.declared.place.Place.{Place}
 use Rattle.ov_listen.specs.declared.place.Place.TheVariants.{Pipes, Address}
 use Rattle.ov_listen.specs.declared.database.Service.{Service}
 use Rattle.ov_listen.specs.declared.database.DatabaseEnded.{DatabaseEnded}
-use Rattle.ov_listen.specs.Databases.{EndsMemory, IsInFile, IsInMemory}
+use Rattle.ov_listen.specs.Databases.{EndsMemory, IsInFile, IsInMemory, MemoryState}
 use Rattle.ov_listen.specs.Files.{EndsFile}
 use Rattle.ov_server.specs.Schemas.{IsBuiltIn}
 
@@ -32,7 +31,7 @@ pub record IsAsked {D : Type 0} (file : Option (List ℕ)) (at : Place) (service
 
 -- The arguments give settings, and what they ask for was served: a database in memory if no file is named, and otherwise the
 -- one in the file.
-pub record RunsDatabase {A D C : Type 0} {g : disk.Ghosts A} (memory : Ghosts Contents) (file : Ghosts (StoreState (FileStore A g))) (drawing : D → Uuid → D → Type 0) (tells : C → ℕ → C → Type 0) (image : Image) (words : List (List ℕ)) (from : PipesState C) (ended : DatabaseEnded D) (to : PipesState C) : Type 0 where
+pub record RunsDatabase {A D C : Type 0} {g : disk.Ghosts A} (memory : Ghosts MemoryState) (file : Ghosts (StoreState (FileStore A g))) (drawing : D → Uuid → D → Type 0) (tells : C → ℕ → C → Type 0) (image : Image) (words : List (List ℕ)) (from : PipesState C) (ended : DatabaseEnded D) (to : PipesState C) : Type 0 where
   pub settings : Settings
   pub given : settings_of words ≡ Some settings
   pub service : Service D

@@ -1,168 +1,165 @@
--- The rows that the UPDATE makes, as a map.
-use Rattle.std.proofs.Common.{◌≡◌, ℕ, ℤ, length, nat_lt, drop, suc, arith, IsUtf8, List, [], ◌∷◌, map, filter, cond, Bool, true, false, not, ◌&&◌, Some, refl, sym, ap, subst, ◌∙◌}
-use Rattle.std.proofs.lemmas.Bool.Decides.{nat_tests}
-use Rattle.std.specs.List.{AllByRecursion}
-use Rattle.std.specs.List.Sorted.{IsPermutation}
-use Rattle.std.specs.Ordering.{eq_by_cmp}
-use Rattle.std.specs.FinMap.{find, insert, remove, get-from_entries, get-insert, same_map}
-use Rattle.sqlite.specs.declared.types.Value.TheVariants.{Int, Text, Blob}
+-- What the statements make of a database of stored format 2.
+use Rattle.std.proofs.Common.{◌≡◌, ℕ, ℤ, List, [], ◌∷◌, map, filter, find, length, Bool, true, false, not, ◌&&◌, ◌||◌, Option, Some, None, IfSome, IsTrue, IsUtf8, Ok, codes, refl, sym, ap, subst, ◌∙◌, option_map}
+use Rattle.std.specs.List.{AllByRecursion, list_any}
+use Rattle.std.specs.FinMap.{empty, get, insert, remove}
+use Rattle.sqlite.specs.declared.types.Value.TheVariants.{Text, Blob}
 use Rattle.sqlite.specs.Order.{Row, column}
-use Rattle.sqlite.specs.Query.{Output}
-use Rattle.sqlite.specs.Ops.{unary}
-use Rattle.sqlite.specs.Kind.TheVariants.{Integer}
-use Rattle.sqlite.specs.Cast.{cast}
 use Rattle.sqlite_value.specs.Order.{bytes}
-use Rattle.sqlite_trees.specs.Tree.{rowid, put_row}
+use Rattle.sqlite_trees.specs.Tree.{put_row}
 use Rattle.sqlite_trees.proofs.TreeLemmas.{all-put_row}
-use Rattle.sqlite_trees.proofs.ListLemmas.{all_weaker, all-filter}
-use Rattle.sqlite_rules.specs.Edit.{is_taken, are_fresh, put_all, without_all}
-use Rattle.sqlite_rules.specs.Calls.{ids_of}
-use Rattle.sqlite_rules.specs.Cast.{cast_row}
-use Rattle.sqlite.specs.State.{State}
-use Rattle.ov_specs.specs.rows.Lines.{LineKey, LineBody, line_cmp}
-use Rattle.ov_specs.proofs.laws.LineKeys.{key_total, key_exact, tied_same}
-use Rattle.ov_sqlite.specs.Tables.{line_table, HasOurTables}
-use Rattle.ov_sqlite.specs.Format.{IsLine, IsMeta, entry, stored_lines, rows_of_line}
-use Rattle.ov_sqlite.specs.Changing.{IsNumbered, IsStored, after_update}
-use Rattle.ov_sqlite.proofs.EntryLemmas.{same_cond}
-use Rattle.ov_sqlite.proofs.RowLemmas.{passes, passes_key}
-use Rattle.ov_sqlite.proofs.RemoveLemmas.{left_rows, left_lines, filter_numbered}
-use Rattle.ov_sqlite.proofs.InsertLemmas.{either, line_row}
-use Rattle.ov_sqlite.proofs.PutLemmas.{Agree, find_put, put_numbered, new_line}
-use Rattle.ov_sqlite.proofs.OpenLemmas.{map_all, every_shuffled}
-use Rattle.ov_sqlite.proofs.UpdateLemmas.{again, put_for, Updates}
-use Rattle.ov_keeper.proofs.LineLemmas.{insert-remove}
+use Rattle.sqlite_trees.proofs.ListLemmas.{all_weaker, all_both, all-filter}
+use Rattle.sqlite.specs.Effect.{Database, IsDatabase}
+use Rattle.sqlite.specs.State.{State, Executes}
+use Rattle.ov_specs.specs.rows.Lines.{LineKey}
+use Rattle.ov_specs.specs.rows.Cells.{CellLine, CellLines, cell_lines}
+use Rattle.ov_sqlite.specs.Tables.{meta_table, head_table, cell_table, tree_of, row_trees, HasCellTables, cell_insert_text, cell_delete_text, head_insert_text, head_delete_text}
+use Rattle.ov_sqlite.specs.Format.{IsMeta, IsKeyed, IsHead, IsCell, row_key, head_of, cell_of, stored_cells, rows_of_meta, rows_of_head, rows_of_cell}
+use Rattle.ov_sqlite.specs.Changing.{HoldsCells, IsNumbered, Makes, Becomes, IsEmptied, IsAdded, is_among}
+use Rattle.ov_sqlite.proofs.ListingLemmas.{Touches, rows_beside, others_kept}
+use Rattle.ov_sqlite.proofs.Statements.{key_terms, head_insert_terms, cell_insert_terms, head_insert_parsed, cell_insert_parsed, head_delete_parsed, cell_delete_parsed}
+use Rattle.ov_sqlite.proofs.HeadTexts.{head_insert_is, head_delete_is}
+use Rattle.ov_sqlite.proofs.CellTexts.{cell_insert_is, cell_delete_is}
+use Rattle.ov_sqlite.proofs.RowLemmas.{has_key}
+use Rattle.ov_sqlite.proofs.DeleteLemmas.{deletes}
+use Rattle.ov_sqlite.proofs.InsertLemmas.{inserts, head_row, cell_row, head_adds, cell_adds}
+use Rattle.ov_sqlite.proofs.RemoveLemmas.{left_keyed, filter_numbered, numbered_part}
+use Rattle.ov_sqlite.proofs.PutLemmas.{not_taken, put_numbered, any_put, none_passes}
+use Rattle.ov_sqlite.proofs.CellLemmas.{others, others_all, IsAbsent, HasHead, heads_each, each_heads, head_stays, head_there, bare, emptied, removed, headed, celled, get_lines, line_at}
+use Rattle.ov_sqlite.proofs.KeyLemmas.{apart_by_key, new_cell}
+use Rattle.ov_sqlite.proofs.MetaLemmas.{first_among, head_not_meta, cell_not_meta, head_not_cell, cell_not_head, meta_not_head, meta_not_cell, itself}
 
-cast_int : (n : ℤ) → cast Integer (Int n) ≡ Int n
-unfolding unary
-cast_int n = either _ (Int n)
+module _ (text : List ℕ) (old new : State) (stored : HoldsCells text old.now) (mode : IsTrue new.in_transaction) (was : IsTrue old.is_open) (committed : new.committed ≡ old.committed) where
+  abbrev H : List Row
+  H = rows_of_head old.now.trees
 
-all_passing : {X : Type 0} (P : X → Type 0) (p : X → Bool) (xs : List X) → AllByRecursion P xs → AllByRecursion (λ x. P x × (p x ≡ true)) (filter p xs)
-all_passing P p [] all = tt
-all_passing {X} P p (x ∷ xs) all = go (p x) refl (all_passing P p xs all.1)
-  where
-    go : (b : Bool) → p x ≡ b → AllByRecursion (λ y. P y × (p y ≡ true)) (filter p xs) → AllByRecursion (λ y. P y × (p y ≡ true)) (cond {A = List X} b (x ∷ filter p xs) (filter p xs))
-    go true is more = ((all.0, is), more)
-    go false is more = more
+  abbrev C : List Row
+  C = rows_of_cell old.now.trees
 
-fresh_parts : (rows : List Row) (x : Row) (xs : List Row) → are_fresh rows (x ∷ xs) ≡ true → (is_taken rows x ≡ false) × (are_fresh (put_row x rows) xs ≡ true)
-fresh_parts rows x xs h =
-    elim (is_taken rows x) as (λ b. (not b && are_fresh (put_row x rows) xs) ≡ true → (b ≡ false) × (are_fresh (put_row x rows) xs ≡ true)) [ true ↦ λ e. absurd cc | false ↦ λ e. (refl, e) ] h
+  abbrev h : ℕ
+  h = tree_of old.now.schema (codes "head")
 
-not_same : (b : Bool) → not b ≡ true → b ≡ true → ⊥
-not_same true h e = cc
-not_same false h e = cc
+  abbrev c : ℕ
+  c = tree_of old.now.schema (codes "cell")
 
-some : (n : ℕ) → nat_lt 0 (suc n) ≡ true
-some n = grind (arith, nat_tests)
+  has : HasCellTables old.now.schema
+  has = stored.format.schema
 
--- the columns as they are cast
-cast_again : (v b : List ℕ) (r : Row) (n : ℤ) (t i : List ℕ) → column r 0 ≡ Int n → column r 1 ≡ Text t → column r 2 ≡ Blob i → cast_row (line_table 0) (again v b r) ≡ line_row n t i v b
-cast_again v b r n t i number tbl id = rw (number, tbl, id, cast_int n) refl
+  pub heads_are : AllByRecursion (HasHead H) C
+  heads_are = heads_each H C stored.format.owned
 
-module _ (t i v b : List ℕ) (named : IsUtf8 t) (id_sixteen : length i ≡ 16) (ver_sixteen : length v ≡ 16) where
-  abbrev k : LineKey
-  k = (t, i)
+  -- `head` has other rows
+  head_changed : (Became : CellLines → CellLines → Type 0) (rows : List Row) → Touches (head_table h) old.now new.now → rows_of_head new.now.trees ≡ rows → AllByRecursion IsHead rows → IsNumbered head_of rows
+      → AllByRecursion (HasHead rows) C → Became (stored_cells old.now.trees) (cell_lines (map head_of rows) (map cell_of C)) → Makes text Became old new
+  head_changed Became rows only are heads numbered owned became =
+      let meta = rows_beside old.now new.now (head_table h) only (meta_table (tree_of old.now.schema (codes "meta"))) has.meta stored.sound (meta_not_head old.now.schema has) in
+      let cells = rows_beside old.now new.now (head_table h) only (cell_table c) has.cell stored.sound (cell_not_head old.now.schema has) in
+      record {
+        mode = mode;
+        opens = λ _. was;
+        stored = λ _. record {
+          format = record {
+            schema = subst HasCellTables (sym only.schema) has;
+            meta = subst (IsMeta 2 text) (sym meta) stored.format.meta;
+            heads = subst (AllByRecursion IsHead) (sym are) heads;
+            cells = subst (AllByRecursion IsCell) (sym cells) stored.format.cells;
+            owned = rw (are, cells) (each_heads rows C owned);
+          };
+          heads_numbered = subst (IsNumbered head_of) (sym are) numbered;
+          cells_numbered = subst (IsNumbered cell_of) (sym cells) stored.cells_numbered;
+          sound = only.sound;
+        };
+        lines_are = rw (are, cells) became;
+        meta = meta;
+        schema = only.schema;
+        others = others_kept old.now new.now (head_table h) only (row_trees old.now.schema) (first_among h (c ∷ []));
+        committed = committed;
+      }
 
-  abbrev body : LineBody
-  body = (v, b)
+  last_among : is_among (row_trees old.now.schema) c ≡ true
+  last_among = in_second _ (itself c)
+    where
+      in_second : (a : Bool) {b : Bool} → b ≡ true → (a || (b || false)) ≡ true
+      in_second true e = refl
+      in_second false e = rw e refl
 
-  -- a row that the UPDATE puts
-  abbrev IsPut : Row → Type 0
-  IsPut x = (n : ℤ) × (x ≡ line_row n t i v b)
+  -- `cell` has other rows
+  cell_changed : (Became : CellLines → CellLines → Type 0) (rows : List Row) → Touches (cell_table c) old.now new.now → rows_of_cell new.now.trees ≡ rows → AllByRecursion IsCell rows → IsNumbered cell_of rows
+      → AllByRecursion (HasHead H) rows → Became (stored_cells old.now.trees) (cell_lines (map head_of H) (map cell_of rows)) → Makes text Became old new
+  cell_changed Became rows only are cells numbered owned became =
+      let meta = rows_beside old.now new.now (cell_table c) only (meta_table (tree_of old.now.schema (codes "meta"))) has.meta stored.sound (meta_not_cell old.now.schema has) in
+      let heads = rows_beside old.now new.now (cell_table c) only (head_table h) has.head stored.sound (head_not_cell old.now.schema has) in
+      record {
+        mode = mode;
+        opens = λ _. was;
+        stored = λ _. record {
+          format = record {
+            schema = subst HasCellTables (sym only.schema) has;
+            meta = subst (IsMeta 2 text) (sym meta) stored.format.meta;
+            heads = subst (AllByRecursion IsHead) (sym heads) stored.format.heads;
+            cells = subst (AllByRecursion IsCell) (sym are) cells;
+            owned = rw (heads, are) (each_heads H rows owned);
+          };
+          heads_numbered = subst (IsNumbered head_of) (sym heads) stored.heads_numbered;
+          cells_numbered = subst (IsNumbered cell_of) (sym are) numbered;
+          sound = only.sound;
+        };
+        lines_are = rw (heads, are) became;
+        meta = meta;
+        schema = only.schema;
+        others = others_kept old.now new.now (cell_table c) only (row_trees old.now.schema) last_among;
+        committed = committed;
+      }
 
-  record AreReady (rows : List Row) : Type 0 where
-    lines : AllByRecursion IsLine rows
-    numbered : IsNumbered rows
-    agree : Agree (k, body) rows
+  module _ (k : LineKey) (count : ℕ) where
+    pub cells_removed : Executes cell_delete_text (Text k.0 ∷ Blob k.1 ∷ []) old new (Ok count) → Makes text (IsEmptied k) old new
+    cells_removed ran =
+        let d = deletes old new (cell_table c) cell_delete_text key_terms (Text k.0 ∷ Blob k.1 ∷ []) cell_delete_parsed has.cell stored.sound (λ at it. cell_delete_is old.now.schema at c it) count ran in
+        let keyed = all_weaker _ _ (λ r (is : IsCell r). is.keyed) C stored.format.cells in
+        let left = d.left ∙ left_keyed k C d.rows keyed (numbered_part cell_of (λ c. c.key) C stored.cells_numbered) d.same in
+        cell_changed (IsEmptied k) (others k C) d.only left (all-filter _ _ C stored.format.cells) (filter_numbered cell_of _ C stored.cells_numbered) (all-filter _ _ C heads_are) (emptied k H C)
 
-  is_put : (r : Row) → IsLine r → passes t i r ≡ true → IsPut (cast_row (line_table 0) (again v b r))
-  is_put r l is =
-      let key : (t, i) ≡ (entry r).0 = tied_same (t, i) (entry r).0 (sym (passes_key t i r l) ∙ is) in
-      let tbl : l.tbl ≡ t = sym (ap bytes l.tbl_is) ∙ sym (ap (λ (e : LineKey). e.0) key) in
-      let id : l.id ≡ i = sym (ap bytes l.id_is) ∙ sym (ap (λ (e : LineKey). e.1) key) in
-      (l.number, cast_again v b r l.number t i l.number_is (l.tbl_is ∙ ap Text tbl) (l.id_is ∙ ap Blob id))
+    pub head_removed : IfSome (get (stored_cells old.now.trees) k) (λ l. l.1 ≡ empty) → Executes head_delete_text (Text k.0 ∷ Blob k.1 ∷ []) old new (Ok count) → Makes text (Becomes (λ m. remove m k)) old new
+    head_removed none ran =
+        let d = deletes old new (head_table h) head_delete_text key_terms (Text k.0 ∷ Blob k.1 ∷ []) head_delete_parsed has.head stored.sound (λ at it. head_delete_is old.now.schema at h it) count ran in
+        let keyed = all_weaker _ _ (λ r (is : IsHead r). is.keyed) H stored.format.heads in
+        let left = d.left ∙ left_keyed k H d.rows keyed (numbered_part head_of (λ x. x.key) H stored.heads_numbered) d.same in
+        let absent = bare k H C heads_are none in
+        head_changed (Becomes (λ m. remove m k)) (others k H) d.only left (all-filter _ _ H stored.format.heads) (filter_numbered head_of _ H stored.heads_numbered)
+        (all_both _ _ _ (λ r there apart. head_stays k H r apart there) C heads_are absent) (ap (λ rows. cell_lines (map head_of (others k H)) (map cell_of rows)) (sym (others_all k C absent)) ∙ removed k H C)
 
-  all_put : (rows given : List Row) → AllByRecursion IsLine rows
-      → (ordered : List Output) × IsPermutation (map (λ r. ([], rowid r ∷ again v b r)) (filter (passes t i) rows)) ordered × (given ≡ map (λ o. o.1) ordered) → AllByRecursion IsPut (put_for given)
-  all_put rows given lines same =
-      let P = λ (s : Row). IsPut (cast_row (line_table 0) (drop 1 s)) in
-      let passing = all_weaker _ _ (λ r both. is_put r both.0 both.1) (filter (passes t i) rows) (all_passing IsLine (passes t i) rows lines) in
-      let outputs = map_all (λ (o : Output). P o.1) (λ r. ([], rowid r ∷ again v b r)) (filter (passes t i) rows) passing in
-      let shuffled = every_shuffled (λ (o : Output). P o.1) _ same.0 same.1 outputs in
-      map_all IsPut _ given (subst (AllByRecursion P) (sym same.2) (map_all P (λ (o : Output). o.1) same.0 shuffled))
+  module _ (t i : List ℕ) (named : IsUtf8 t) (id_sixteen : length i ≡ 16) (count : ℕ) where
+    keyed_row : (r : Row) (n : ℤ) → column r 0 ≡ Rattle.sqlite.specs.declared.types.Value.TheVariants.Int n → column r 1 ≡ Text t → column r 2 ≡ Blob i → IsKeyed r
+    keyed_row r n number tbl id = record { number = n; tbl = t; id = i; number_is = number; tbl_is = tbl; id_is = id; named = named; id_sixteen = id_sixteen }
 
-  put_ready : (x : Row) (rows : List Row) → IsPut x → is_taken rows x ≡ false → AreReady rows → AreReady (put_row x rows)
-  put_ready x rows put fresh ready = record {
-    lines = all-put_row IsLine x rows (subst IsLine (sym put.1) (new_line t i v b named id_sixteen ver_sixteen put.0)) ready.lines;
-    numbered = put_numbered x rows fresh ready.numbered;
-    agree = all-put_row _ x rows (λ _. ap (λ r. (entry r).1) put.1) ready.agree;
-  }
+    lacking : (o : Option Row) → line_at C (t, i) o ≡ None → o ≡ None
+    lacking None e = refl
+    lacking (Some r) e = absurd cc
 
-  all_ready : (xs rows : List Row) → AllByRecursion IsPut xs → are_fresh rows xs ≡ true → AreReady rows → AreReady (put_all rows xs)
-  all_ready [] rows put fresh ready = ready
-  all_ready (x ∷ xs) rows put fresh ready =
-      let parts = fresh_parts rows x xs fresh in all_ready xs (put_row x rows) put.1 parts.1 (put_ready x rows put.0 parts.0 ready)
+    pub head_inserted : (v : List ℕ) → length v ≡ 16 → get (stored_cells old.now.trees) (t, i) ≡ None → Executes head_insert_text (Text t ∷ Blob i ∷ Blob v ∷ []) old new (Ok count)
+        → Makes text (Becomes (λ m. insert m (t, i) (v, empty))) old new
+    head_inserted v ver_sixteen none ran =
+        let d = inserts old new (codes "head") h _ (1 ∷ 2 ∷ []) head_insert_text head_insert_terms 4 (Text t ∷ Blob i ∷ Blob v ∷ []) (head_row t i v) head_insert_parsed has.head stored.sound (λ at it. head_insert_is old.now.schema at h it) (head_adds h t i v) count ran in
+        let x = head_row t i v d.number in
+        let fresh = not_taken H x d.fresh in
+        let is : IsHead x = record { keyed = keyed_row x d.number refl refl refl; ver = v; ver_is = refl; ver_sixteen = ver_sixteen } in
+        let absent : IsAbsent (t, i) H = none_passes (has_key (t, i)) H (lacking (find (has_key (t, i)) H) (sym (get_lines C H (t, i)) ∙ none)) in
+        let bare_cells : IsAbsent (t, i) C = bare (t, i) H C heads_are (subst (λ o. IfSome o (λ l. l.1 ≡ empty)) (sym none) tt) in
+        head_changed (Becomes (λ m. insert m (t, i) (v, empty))) (put_row x H) d.only d.rows (all-put_row IsHead x H is stored.format.heads) (put_numbered head_of x H fresh stored.heads_numbered)
+        (all_weaker _ _ (λ r there. any_put (has_key (row_key r)) x H fresh ∙ or_true _ _ there) C heads_are) (headed x H C fresh absent bare_cells)
+      where
+        or_true : (a b : Bool) → b ≡ true → (a || b) ≡ true
+        or_true true b e = refl
+        or_true false b e = e
 
-  find_one : (q : LineKey) (x : Row) (rows : List Row) → IsPut x → is_taken rows x ≡ false → AreReady rows
-      → find line_cmp q (map entry (put_row x rows)) ≡ cond (eq_by_cmp line_cmp q k) (Some body) (find line_cmp q (map entry rows))
-  find_one q x rows put fresh ready =
-      let is : entry x ≡ (k, body) = ap entry put.1 in
-      let found = find_put x rows q fresh (subst (λ e. Agree e rows) (sym is) ready.agree) in
-      found ∙ ap (λ (e : LineKey × LineBody). cond (eq_by_cmp line_cmp q e.0) (Some e.1) (find line_cmp q (map entry rows))) is
-
-  find_all : (q : LineKey) (x : Row) (xs rows : List Row) → AllByRecursion IsPut (x ∷ xs) → are_fresh rows (x ∷ xs) ≡ true → AreReady rows
-      → find line_cmp q (map entry (put_all rows (x ∷ xs))) ≡ cond (eq_by_cmp line_cmp q k) (Some body) (find line_cmp q (map entry rows))
-  find_all q x [] rows put fresh ready = find_one q x rows put.0 (fresh_parts rows x [] fresh).0 ready
-  find_all q x (y ∷ ys) rows put fresh ready =
-      let parts = fresh_parts rows x (y ∷ ys) fresh in
-      find_all q y ys (put_row x rows) put.1 parts.1 (put_ready x rows put.0 parts.0 ready) ∙ ap (cond (eq_by_cmp line_cmp q k) (Some body)) (find_one q x rows put.0 parts.0 ready)
-      ∙ same_cond (eq_by_cmp line_cmp q k) (Some body) _ _
-
-  put_lines : (given rows : List Row) → AllByRecursion IsPut (put_for given) → are_fresh rows (put_for given) ≡ true → AreReady rows
-      → stored_lines (put_all rows (put_for given)) ≡ cond (nat_lt 0 (length given)) (insert (stored_lines rows) k body) (stored_lines rows)
-  put_lines [] rows put fresh ready = refl
-  put_lines (s ∷ given) rows put fresh ready = same_map key_total key_exact _ _ (λ q.
-      get-from_entries key_total _ q ∙ find_all q _ (put_for given) rows put fresh ready
-      ∙ sym (get-insert key_total (stored_lines rows) k body q ∙ ap (cond (eq_by_cmp line_cmp q k) (Some body)) (get-from_entries key_total (map entry rows) q)))
-      ∙ sym (ap (λ c. cond c (insert {R = line_cmp} (stored_lines rows) k body) (stored_lines rows)) (some (length given)))
-
-  module _ (text : List ℕ) (old new : State) (count : ℕ) (stored : IsStored text old.now) (d : Updates t i v b old new count) where
-    abbrev rest : List Row
-    rest = filter (λ r. not (eq_by_cmp line_cmp k (entry r).0)) (rows_of_line old.now.trees)
-
-    left : without_all (rows_of_line old.now.trees) (ids_of d.rows) ≡ rest
-    left = left_rows (again v b) t i (rows_of_line old.now.trees) d.rows stored.format.lines stored.numbered d.same
-
-    ready : AreReady rest
-    ready = record {
-      lines = all-filter IsLine _ _ stored.format.lines;
-      numbered = filter_numbered _ _ stored.numbered;
-      agree = all_weaker _ _ (λ r both is. absurd (not_same _ both.1 is)) rest (all_passing IsLine _ (rows_of_line old.now.trees) stored.format.lines);
-    }
-
-    news : AllByRecursion IsPut (put_for d.rows)
-    news = all_put (rows_of_line old.now.trees) d.rows stored.format.lines d.same
-
-    fresh : are_fresh rest (put_for d.rows) ≡ true
-    fresh = subst (λ rows. are_fresh rows (put_for d.rows) ≡ true) left d.fresh
-
-    rows_are : rows_of_line new.now.trees ≡ put_all rest (put_for d.rows)
-    rows_are = d.put ∙ ap (λ rows. put_all rows (put_for d.rows)) left
-
-    pub updated_stored : IsStored text new.now
-    updated_stored =
-        let all = all_ready (put_for d.rows) rest news fresh ready in
-        record {
-          format = record { schema = subst HasOurTables (sym d.schema) stored.format.schema; meta = subst (IsMeta text) (sym d.meta) stored.format.meta; lines = subst (AllByRecursion IsLine) (sym rows_are) all.lines };
-          numbered = subst IsNumbered (sym rows_are) all.numbered;
-          sound = d.sound;
-        }
-
-    pub updated_lines : stored_lines (rows_of_line new.now.trees) ≡ after_update (nat_lt 0 count) k body (stored_lines (rows_of_line old.now.trees))
-    updated_lines =
-        let m = stored_lines (rows_of_line old.now.trees) in
-        ap stored_lines rows_are ∙ put_lines d.rows rest news fresh ready
-        ∙ ap (λ n. cond (nat_lt 0 n) (insert (stored_lines rest) k body) (stored_lines rest)) (sym d.counted)
-        ∙ ap (λ l. cond (nat_lt 0 count) (insert {R = line_cmp} l k body) l) (left_lines t i (rows_of_line old.now.trees))
-        ∙ ap (λ l. cond (nat_lt 0 count) l (remove m k)) (insert-remove m k body)
+    pub cell_inserted : (name body : List ℕ) (l : CellLine) → IsUtf8 name → get (stored_cells old.now.trees) (t, i) ≡ Some l → Executes cell_insert_text (Text t ∷ Blob i ∷ Text name ∷ Blob body ∷ []) old new (Ok count)
+        → Makes text (IsAdded (t, i) name body) old new
+    cell_inserted name body l col_named line ran =
+        let d = inserts old new (codes "cell") c _ (1 ∷ 2 ∷ 3 ∷ []) cell_insert_text cell_insert_terms 5 (Text t ∷ Blob i ∷ Text name ∷ Blob body ∷ []) (cell_row t i name body) cell_insert_parsed has.cell stored.sound (λ at it. cell_insert_is old.now.schema at c it) (cell_adds c t i name body) count ran in
+        let x = cell_row t i name body d.number in
+        let fresh = not_taken C x d.fresh in
+        let is : IsCell x = record { keyed = keyed_row x d.number refl refl refl; col = name; body = body; col_is = refl; body_is = refl; col_named = col_named } in
+        let table = subst (λ s. Rattle.ov_sqlite.specs.Tables.HasTable s (cell_table c)) (sym d.only.schema) has.cell in
+        let apart = subst (Rattle.ov_sqlite.proofs.KeyLemmas.AreApart (1 ∷ 2 ∷ 3 ∷ [])) d.rows (apart_by_key new.now (codes "cell") c _ (1 ∷ 2 ∷ 3 ∷ []) table d.only.sound) in
+        let free = new_cell x C d.fresh stored.format.cells is apart in
+        cell_changed (IsAdded (t, i) name body) (put_row x C) d.only d.rows (all-put_row IsCell x C is stored.format.cells) (put_numbered cell_of x C fresh stored.cells_numbered)
+        (all-put_row (HasHead H) x C (head_there H C x l line) heads_are) (λ l e. celled x C fresh free H l e)

@@ -1,5 +1,8 @@
--- What a CREATE TABLE does.
-use Rattle.std.proofs.Common.{◌≡◌, ℕ, List, [], false, None, Ok, codes, refl, sym, ap, subst, ◌∙◌, arith, inl, IsTrue}
+-- What a CREATE TABLE does, and the tables of stored format 2 after several.
+use Rattle.std.proofs.Common.{◌≡◌, ◌≢◌, ◌==◌, ◌||◌, ◌<◌, inl, inr, ℕ, List, [], ◌∷◌, true, false, None, Ok, codes, refl, sym, ap, subst, ◌∙◌, arith, IsTrue}
+use Rattle.std.proofs.lemmas.Bool.Decides.{nat_tests}
+use Rattle.std.proofs.lemmas.Bool.{or_from}
+use Rattle.std.specs.List.{AllByRecursion}
 use Rattle.sqlite.specs.Table.{Table}
 use Rattle.sqlite.specs.Schema.{Schema}
 use Rattle.sqlite.specs.Command.TheVariants.{CreateTable}
@@ -7,22 +10,23 @@ use Rattle.sqlite.specs.Compile.{table_defined_by}
 use Rattle.sqlite.specs.Change.{created, next_tree, KeepsRows}
 use Rattle.sqlite.specs.Does.{Tally, lacks_sequence}
 use Rattle.sqlite.specs.Listing.{understood}
+use Rattle.sqlite.specs.Tree.{Trees}
 use Rattle.sqlite.specs.Effect.{Database, IsDatabase}
-use Rattle.sqlite.specs.State.{State, HasCleanDisk, Survives, Writes, Executes}
-use Rattle.sqlite.proofs.StateLemmas.{survives_then}
+use Rattle.sqlite.specs.State.{State, Writes, Executes}
 use Rattle.sqlite.proofs.Callers.{IsPlain, command_of, statement_of, runs_as}
-use Rattle.sqlite_rules.proofs.ListLemmas.{all_has, has_right}
-use Rattle.ov_sqlite.specs.Tables.{meta_table, line_table, tree_of, with_meta, with_ours, HasRoom, HasOurTables, create_meta, create_line}
-use Rattle.ov_sqlite.proofs.ListingLemmas.{line_rows_are, meta_rows_are}
-use Rattle.std.specs.List.{AllByRecursion}
-use Rattle.ov_sqlite.specs.Format.{IsLine, rows_of_meta, rows_of_line}
-use Rattle.ov_sqlite.specs.Changing.{IsNumbered, IsStored}
-use Rattle.ov_sqlite.specs.Making.{MayMake, HasMeta, HasTables, IsFilled, IsNew, IsNewDatabase, IsNewBeside}
-use Rattle.ov_sqlite.proofs.Texts.{meta_understood, line_understood, meta_defined, line_defined}
-use Rattle.ov_sqlite.proofs.RoomLemmas.{is_free, line_free, counts_kept, meta_tree, line_tree, ours_after, kept_then}
+use Rattle.sqlite_rules.specs.Lists.{Has}
+use Rattle.sqlite_rules.proofs.ListLemmas.{all_has, all_from, has_right}
+use Rattle.ov_sqlite.specs.Tables.{meta_table, head_table, cell_table, tree_of, with_rows, HasRoomFor, HasRoom, HasTable, HasCellTables, create_meta, create_head, create_cell}
+use Rattle.ov_sqlite.specs.Format.{rows_of, rows_of_meta}
+use Rattle.ov_sqlite.specs.Changing.{KeepsOthers}
+use Rattle.ov_sqlite.specs.Making.{Creates, CreatesRows, IsBare, MakesOurs, Fills, MakesFilled}
+use Rattle.ov_sqlite.proofs.TableLemmas.{found_has, tree_is}
+use Rattle.ov_sqlite.proofs.ListingLemmas.{rows_are}
+use Rattle.ov_sqlite.proofs.Texts.{meta_understood, head_understood, cell_understood, meta_defined, head_defined, cell_defined}
+use Rattle.ov_sqlite.proofs.RoomLemmas.{owned_after, is_free, counts_kept, made, kept, old_table, owned_by, tree_below, kept_then, meta_itself, head_itself, cell_itself, meta_indexed, head_indexed, cell_indexed, head_after_meta, cell_after_meta, cell_after_head}
 use Rattle.ov_sqlite.proofs.DeleteLemmas.{went, same_value}
 
-pub record Creates (before after : Schema) (tree : ℕ) (old new : State) : Type 0 where
+pub record WasCreated (before after : Schema) (tree : ℕ) (old new : State) : Type 0 where
   pub schema : new.now.schema ≡ after
   pub empty : new.now.trees tree ≡ []
   pub others : KeepsRows before.tables old.now.trees new.now.trees
@@ -30,7 +34,7 @@ pub record Creates (before after : Schema) (tree : ℕ) (old new : State) : Type
 
 module _ (text : List ℕ) (before : Schema) (table : Table) (command : command_of (understood before text) ≡ CreateTable) (whole : statement_of text (understood before text) ≡ text)
     (defined : table_defined_by text ≡ Ok table) (plain : IsPlain (understood before text)) (uncounted : lacks_sequence (created before table) ≡ false) where
-  pub creates : (old new : State) (count : ℕ) → old.now.schema ≡ before → Executes text [] old new (Ok count) → Creates before (created before table) (next_tree before) old new
+  creates : (old new : State) (count : ℕ) → old.now.schema ≡ before → Executes text [] old new (Ok count) → WasCreated before (created before table) (next_tree before) old new
   creates old new count has h =
       let w = subst (λ t. Writes old new None CreateTable t [] count) whole (runs_as text [] old new before has CreateTable command plain count h) in
       let all = went w.changed in
@@ -48,86 +52,140 @@ module _ (text : List ℕ) (before : Schema) (table : Table) (command : command_
         sound = w.sound;
       }
 
-pub creates_meta : (old new : State) (count : ℕ) → HasRoom old.now.schema → Executes create_meta [] old new (Ok count) → Creates old.now.schema (with_meta old.now.schema) (next_tree old.now.schema) old new
-creates_meta old new count room h =
+module _ (old new : State) (count : ℕ) (counts : lacks_sequence old.now.schema ≡ false) where
+  abbrev schema : Schema
+  schema = old.now.schema
+
+  pub creates_meta : HasRoomFor schema (codes "meta") → Executes create_meta [] old new (Ok count) → WasCreated schema (created schema (meta_table 0)) (next_tree schema) old new
+  creates_meta room h =
+      let free = is_free schema (codes "meta") room.free in
+      let known = meta_understood schema free.table free.index free.view in
+      creates create_meta schema (meta_table 0) (ap command_of known) (ap (statement_of create_meta) known) meta_defined (subst IsPlain (sym known) (refl, refl)) (counts_kept schema (meta_table 0) refl counts) old new count refl h
+
+  pub creates_head : HasRoomFor schema (codes "head") → Executes create_head [] old new (Ok count) → WasCreated schema (created schema (head_table 0)) (next_tree schema) old new
+  creates_head room h =
+      let free = is_free schema (codes "head") room.free in
+      let known = head_understood schema free.table free.index free.view in
+      creates create_head schema (head_table 0) (ap command_of known) (ap (statement_of create_head) known) head_defined (subst IsPlain (sym known) (refl, refl)) (counts_kept schema (head_table 0) refl counts) old new count refl h
+
+  pub creates_cell : HasRoomFor schema (codes "cell") → Executes create_cell [] old new (Ok count) → WasCreated schema (created schema (cell_table 0)) (next_tree schema) old new
+  creates_cell room h =
+      let free = is_free schema (codes "cell") room.free in
+      let known = cell_understood schema free.table free.index free.view in
+      creates create_cell schema (cell_table 0) (ap command_of known) (ap (statement_of create_cell) known) cell_defined (subst IsPlain (sym known) (refl, refl)) (counts_kept schema (cell_table 0) refl counts) old new count refl h
+
+-- ---- `head` and `cell`
+
+-- the room for `cell`, once `head` is made
+pub room_for_cell : (old mid : State) → HasRoomFor old.now.schema (codes "cell") → lacks_sequence old.now.schema ≡ false → Creates (head_table 0) old mid
+    → HasRoomFor mid.now.schema (codes "cell") × (lacks_sequence mid.now.schema ≡ false)
+room_for_cell old mid room counts head = (
+  subst (λ s. HasRoomFor s (codes "cell")) (sym head.schema) (cell_after_head old.now.schema room),
+  subst (λ s. lacks_sequence s ≡ false) (sym head.schema) (counts_kept old.now.schema (head_table 0) refl counts),
+)
+
+pub both_created : (old mid new : State) → Creates (head_table 0) old mid → Creates (cell_table 0) mid new → CreatesRows old new
+both_created old mid new head cell =
     let schema = old.now.schema in
-    let free = is_free schema (codes "meta") room.meta in
-    let known = meta_understood schema free.table free.index free.view in
-    creates create_meta schema (meta_table 0) (ap command_of known) (ap (statement_of create_meta) known) meta_defined (subst IsPlain (sym known) (refl, refl))
-    (counts_kept schema (meta_table 0) refl room.counts) old new count refl h
-
-pub creates_line : (schema : Schema) (old new : State) (count : ℕ) → HasRoom schema → old.now.schema ≡ with_meta schema → Executes create_line [] old new (Ok count)
-    → Creates (with_meta schema) (with_ours schema) (next_tree (with_meta schema)) old new
-creates_line schema old new count room has h =
-    let free = line_free schema (is_free schema (codes "line") room.line) in
-    let known = line_understood (with_meta schema) free.table free.index free.view in
-    let counts = counts_kept schema (meta_table 0) refl room.counts in
-    creates create_line (with_meta schema) (line_table 0) (ap command_of known) (ap (statement_of create_line) known) line_defined (subst IsPlain (sym known) (refl, refl))
-    (counts_kept (with_meta schema) (line_table 0) refl counts) old new count has h
-
--- both tables are made, and are empty
-pub makes_both : (before : Database) (old new : State) → HasMeta before old → IsTrue new.in_transaction → IsTrue new.is_open → Creates (with_meta before.schema) (with_ours before.schema) (next_tree (with_meta before.schema)) old new
-    → HasTables before new × (rows_of_meta new.now.trees ≡ [])
-makes_both before old new was mode up made =
-    let schema = before.schema in
-    let has = subst HasOurTables (sym made.schema) (ours_after before was.room was.was_sound) in
-    let line : tree_of new.now.schema (codes "line") ≡ next_tree (with_meta schema) = ap (λ s. tree_of s (codes "line")) made.schema ∙ line_tree schema was.room in
-    let meta : tree_of new.now.schema (codes "meta") ≡ next_tree schema = ap (λ s. tree_of s (codes "meta")) made.schema ∙ meta_tree schema was.room in
-    let kept : new.now.trees (next_tree schema) ≡ old.now.trees (next_tree schema) =
-    all_has _ (with_meta schema).tables (meta_table (next_tree schema)) made.others (has_right schema.tables _ (meta_table (next_tree schema)) (inl refl)) in (
-      record {
-        mode = mode;
-        is_open = up;
-        room = was.room;
-        ours = has;
-        schema = made.schema;
-        others = kept_then schema.tables _ before.trees old.now.trees new.now.trees was.others made.others;
-        lines = line_rows_are new.now has made.sound ∙ ap new.now.trees line ∙ made.empty;
-        sound = made.sound;
-      },
-      meta_rows_are new.now has made.sound ∙ ap new.now.trees meta ∙ kept ∙ was.meta,
-    )
-
--- what is filled is a new database
-pub filled_new : (before : Database) (text : List ℕ) (s : State) → IsFilled before text s → IsNewDatabase text s.now
-filled_new before text s f = record {
-  stored = record {
-    format = record { schema = f.tables.ours; meta = f.meta; lines = subst (AllByRecursion IsLine) (sym f.tables.lines) tt };
-    numbered = subst IsNumbered (sym f.tables.lines) tt;
-    sound = f.tables.sound;
-  };
-  no_line = f.tables.lines;
-}
-
--- and so it is committed
-pub filled_committed : (text : List ℕ) (old last end : State) → IsFilled old.now text last → IsTrue old.is_open → old.now ≡ old.committed → IsTrue end.is_open → end.now ≡ last.now → end.committed ≡ last.now → IsNew text old end
-filled_committed text old last end f was settled up now committed =
-    let new = filled_new old.now text last f in
+    let n = next_tree schema in
+    let whole = subst (λ (s : Schema). KeepsRows s.tables mid.now.trees new.now.trees) head.schema cell.others in
+    let here = all_has _ (created schema (head_table 0)).tables (head_table n) whole (has_right schema.tables _ (head_table n) (inl refl)) in
     record {
-      was_open = was;
-      was_settled = settled;
-      is_open = up;
-      settled = now ∙ sym committed;
-      schema = ap (λ (d : Database). d.schema) now ∙ f.tables.schema;
-      others = subst (λ (d : Database). KeepsRows old.now.schema.tables old.now.trees d.trees) (sym now) f.tables.others;
-      stored = subst (IsStored text) (sym now) new.stored;
-      no_line = ap (λ (d : Database). rows_of_line d.trees) now ∙ new.no_line;
+      mode = cell.mode;
+      was_open = head.was_open;
+      is_open = cell.is_open;
+      schema = cell.schema ∙ ap (λ s. created s (cell_table 0)) head.schema;
+      head = here ∙ head.empty;
+      cell = ap (λ s. new.now.trees (next_tree s)) (sym head.schema) ∙ cell.empty;
+      others = kept_then schema.tables _ old.now.trees mid.now.trees new.now.trees head.others whole;
+      sound = cell.sound;
     }
 
--- its commit writes the whole of it, if it gets that far
-pub filled_crash : (text : List ℕ) (old last end : State) → Survives old last (λ _. ⊥) → Survives last end (λ db. db ≡ last.now.trees) → (IsTrue old.is_open → old.now ≡ old.committed)
-    → (HasCleanDisk last → IsTrue last.is_open → IsTrue old.is_open) → (HasCleanDisk last → MayMake old → IsFilled old.now text last) → Survives old end (λ trees. MayMake old → IsNewBeside text old trees)
-filled_crash text old last end one two settled opens filled =
-    survives_then old last end (λ _. ⊥) (λ db. db ≡ last.now.trees) (λ trees. MayMake old → IsNewBeside text old trees) (λ _ db none. absurd none)
-    (λ clean db is may.
-    let early : HasCleanDisk last = omega (arith, two.clean) in
-    let f = filled early may in
-    let up = opens early f.tables.is_open in
+-- the rows of a table that has this tree
+rows_at : (db : Database) (table : Table) (tree : ℕ) → HasTable db.schema table → IsDatabase db → table.tree ≡ tree → rows_of table.name db.trees ≡ db.trees tree
+rows_at db table tree has sound is = rows_are db table has sound ∙ ap db.trees is
+
+-- beside `meta`, which has no rows, these two make up stored format 2
+module _ (old new : State) (m : ℕ) (meta : HasTable old.now.schema (meta_table m)) (head_room : HasRoomFor old.now.schema (codes "head")) (cell_room : HasRoomFor old.now.schema (codes "cell")) (was : IsDatabase old.now) (c : CreatesRows old new) where
+  abbrev first : Schema
+  first = old.now.schema
+
+  abbrev second : Schema
+  second = created first (head_table 0)
+
+  head_made : HasTable second (head_table (next_tree first))
+  head_made = made first (codes "head") _ (1 ∷ 2 ∷ []) head_room head_itself (head_indexed first) (owned_by old.now was)
+
+  pub meta_last : HasTable new.now.schema (meta_table m)
+  meta_last = subst (λ s. HasTable s (meta_table m)) (sym c.schema) (kept second (codes "cell") _ (1 ∷ 2 ∷ 3 ∷ []) (meta_table m) (kept first (codes "head") _ (1 ∷ 2 ∷ []) (meta_table m) meta))
+
+  pub head_last : HasTable new.now.schema (head_table (next_tree first))
+  head_last = subst (λ s. HasTable s (head_table (next_tree first))) (sym c.schema) (kept second (codes "cell") _ (1 ∷ 2 ∷ 3 ∷ []) (head_table (next_tree first)) head_made)
+
+  pub cell_last : HasTable new.now.schema (cell_table (next_tree second))
+  cell_last = subst (λ s. HasTable s (cell_table (next_tree second))) (sym c.schema) (made second (codes "cell") _ (1 ∷ 2 ∷ 3 ∷ []) (cell_after_head first cell_room) cell_itself (cell_indexed second) (owned_after first (codes "head") _ (1 ∷ 2 ∷ []) (owned_by old.now was)))
+
+  pub bare_rows : new.now.trees m ≡ [] → IsBare new.now
+  bare_rows none = record {
+    tables = record {
+      meta = subst (λ n. HasTable new.now.schema (meta_table n)) (sym (tree_is new.now.schema (meta_table m) meta_last)) meta_last;
+      head = subst (λ n. HasTable new.now.schema (head_table n)) (sym (tree_is new.now.schema (head_table (next_tree first)) head_last)) head_last;
+      cell = subst (λ n. HasTable new.now.schema (cell_table n)) (sym (tree_is new.now.schema (cell_table (next_tree second)) cell_last)) cell_last;
+    };
+    meta = rows_are new.now (meta_table m) meta_last c.sound ∙ none;
+    head = rows_are new.now (head_table (next_tree first)) head_last c.sound ∙ c.head;
+    cell = rows_are new.now (cell_table (next_tree second)) cell_last c.sound ∙ c.cell;
+    sound = c.sound;
+  }
+
+-- ---- all three
+
+-- the room for the tables of the rows, once `meta` is made
+pub room_for_rows : (old mid : State) → HasRoom old.now.schema → Creates (meta_table 0) old mid → HasRoomFor mid.now.schema (codes "head") × HasRoomFor mid.now.schema (codes "cell") × (lacks_sequence mid.now.schema ≡ false) × IsDatabase mid.now
+room_for_rows old mid room meta =
+    let schema = old.now.schema in (
+      subst (λ s. HasRoomFor s (codes "head")) (sym meta.schema) (head_after_meta schema room.head),
+      subst (λ s. HasRoomFor s (codes "cell")) (sym meta.schema) (cell_after_meta schema room.cell),
+      subst (λ s. lacks_sequence s ≡ false) (sym meta.schema) (counts_kept schema (meta_table 0) refl room.counts),
+      meta.sound,
+    )
+
+pub ours_made : (old mid new : State) → HasRoom old.now.schema → IsDatabase old.now → Creates (meta_table 0) old mid → CreatesRows mid new → MakesOurs old new
+ours_made old mid new room was meta rows =
+    let schema = old.now.schema in
+    let n = next_tree schema in
+    let has : HasTable mid.now.schema (meta_table n) = subst (λ s. HasTable s (meta_table n)) (sym meta.schema) (made schema (codes "meta") _ (1 ∷ []) room.meta meta_itself (meta_indexed schema) (owned_by old.now was)) in
+    let free = room_for_rows old mid room meta in
+    let here = all_has _ mid.now.schema.tables (meta_table n) rows.others (found_has _ mid.now.schema.tables (meta_table n) has.named) in
     record {
-      was_open = up;
-      was_settled = settled up;
-      file = record { db = last.now; trees_are = is; new = filled_new old.now text last f };
-      schema = f.tables.schema;
-      others = subst (KeepsRows old.now.schema.tables old.now.trees) (sym is) f.tables.others;
-    })
-    one two
+      mode = rows.mode;
+      was_open = meta.was_open;
+      is_open = rows.is_open;
+      bare = bare_rows mid new n has free.0 free.1 meta.sound rows (here ∙ meta.empty);
+      meta_tree = tree_is new.now.schema (meta_table n) (meta_last mid new n has free.0 free.1 meta.sound rows);
+      schema = rows.schema ∙ ap with_rows meta.schema;
+      others = kept_then schema.tables _ old.now.trees mid.now.trees new.now.trees meta.others (subst (λ (s : Schema). KeepsRows s.tables mid.now.trees new.now.trees) meta.schema rows.others);
+    }
+
+apart_from : (m t : ℕ) → t ≢ m → ((t == m) || false) ≡ false
+apart_from m t other = or_from _ _ (grind (arith, nat_tests)) refl
+
+-- what was there keeps its rows as `meta` is filled
+pub filled : (text : List ℕ) (old mid new : State) → MakesOurs old mid → Fills text mid new → MakesFilled text old new
+filled text old mid new m f =
+    let schema = old.now.schema in
+    let tables = (created schema (meta_table 0)).tables in
+    record {
+      mode = f.mode;
+      was_open = m.was_open;
+      is_open = f.is_open;
+      stored = f.stored;
+      no_head = f.no_head;
+      no_cell = f.no_cell;
+      schema = f.schema ∙ m.schema;
+      others = all_from _ schema.tables (λ t h.
+          let later = old_table (created schema (meta_table 0)) (codes "head") _ (1 ∷ 2 ∷ []) t (old_table schema (codes "meta") _ (1 ∷ []) t h) in
+          let last = subst (λ (s : Schema). Has s.tables t) (sym m.schema) (old_table (created (created schema (meta_table 0)) (head_table 0)) (codes "cell") _ (1 ∷ 2 ∷ 3 ∷ []) t later) in
+          let apart = apart_from (tree_of mid.now.schema (codes "meta")) t.tree (λ e. absurd (omega (arith, tree_below schema t h, e, m.meta_tree))) in
+          all_has _ mid.now.schema.tables t f.others.tables last apart ∙ all_has _ schema.tables t m.others h);
+    }

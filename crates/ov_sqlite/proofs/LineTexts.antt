@@ -39,130 +39,79 @@ use Rattle.sqlite_resolve.specs.Scope.{Context, column}
 use Rattle.sqlite_resolve.specs.Compare.{affinity_of}
 use Rattle.sqlite_resolve.specs.declared.compare.Affinity.TheVariants as affinity
 use Rattle.sqlite_resolve.specs.Write.{deleted, updated, over}
-use Rattle.ov_sqlite.specs.Tables.{line_table, insert_text, delete_text, update_text, select_text, line_clear_text}
+use Rattle.ov_sqlite.specs.Tables.{line_table, line_select_text, line_clear_text}
 use Rattle.ov_sqlite.proofs.TableLemmas.{Stands}
-use Rattle.ov_sqlite.proofs.Statements.{named, shows, key_test, source_of, core_of, selection, does, plain_carried, free_carried, within, insert_terms, deletes, changes, selects, runs, insert_parsed, insert_first, delete_parsed, delete_first, update_parsed, update_first, select_parsed, select_first, clears, line_clear_parsed, line_clear_first}
+use Rattle.ov_sqlite.proofs.Statements.{line_select_parsed, line_clear_parsed, line_select_first, line_clear_first, line_selects, numbers, runs, named, shows, source_of, core_of, selection, does, plain_carried, free_carried, within}
 
 module _ (schema : Schema) (at l : ℕ) (it : Stands schema (line_table l) at) where
-  abbrev line_cx : List Output → Bool → Bool → Context
-  line_cx = within schema at (codes "line")
+  abbrev cx : List Output → Bool → Bool → Context
+  cx = within schema at (codes "line")
 
-  column_tbl : (shown : List Output) (a b : Bool) (s : State) → column (line_cx shown a b) None (codes "tbl") s ≡ Ok (col 1 1, record s { last = plain_carried })
+  column_tbl : (shown : List Output) (a b : Bool) (s : State) → column (cx shown a b) None (codes "tbl") s ≡ Ok (col 1 1, record s { last = plain_carried })
   unfolding everything
   column_tbl shown a b s = rw (it.placed, it.placed) refl
 
-  heading_tbl : (shown : List Output) (a b : Bool) → heading (line_cx shown a b) (named (codes "tbl")) (codes "tbl") ≡ codes "tbl"
+  heading_tbl : (shown : List Output) (a b : Bool) → heading (cx shown a b) (named (codes "tbl")) (codes "tbl") ≡ codes "tbl"
   unfolding everything
   heading_tbl shown a b = rw (it.placed, it.placed) refl
 
-  column_id : (shown : List Output) (a b : Bool) (s : State) → column (line_cx shown a b) None (codes "id") s ≡ Ok (col 1 2, record s { last = plain_carried })
+  column_id : (shown : List Output) (a b : Bool) (s : State) → column (cx shown a b) None (codes "id") s ≡ Ok (col 1 2, record s { last = plain_carried })
   unfolding everything
   column_id shown a b s = rw (it.placed, it.placed) refl
 
-  heading_id : (shown : List Output) (a b : Bool) → heading (line_cx shown a b) (named (codes "id")) (codes "id") ≡ codes "id"
+  heading_id : (shown : List Output) (a b : Bool) → heading (cx shown a b) (named (codes "id")) (codes "id") ≡ codes "id"
   unfolding everything
   heading_id shown a b = rw (it.placed, it.placed) refl
 
-  column_ver : (shown : List Output) (a b : Bool) (s : State) → column (line_cx shown a b) None (codes "ver") s ≡ Ok (col 1 3, record s { last = plain_carried })
+  column_ver : (shown : List Output) (a b : Bool) (s : State) → column (cx shown a b) None (codes "ver") s ≡ Ok (col 1 3, record s { last = plain_carried })
   unfolding everything
   column_ver shown a b s = rw (it.placed, it.placed) refl
 
-  heading_ver : (shown : List Output) (a b : Bool) → heading (line_cx shown a b) (named (codes "ver")) (codes "ver") ≡ codes "ver"
+  heading_ver : (shown : List Output) (a b : Bool) → heading (cx shown a b) (named (codes "ver")) (codes "ver") ≡ codes "ver"
   unfolding everything
   heading_ver shown a b = rw (it.placed, it.placed) refl
 
-  column_body : (shown : List Output) (a b : Bool) (s : State) → column (line_cx shown a b) None (codes "body") s ≡ Ok (col 1 4, record s { last = plain_carried })
+  column_body : (shown : List Output) (a b : Bool) (s : State) → column (cx shown a b) None (codes "body") s ≡ Ok (col 1 4, record s { last = plain_carried })
   unfolding everything
   column_body shown a b s = rw (it.placed, it.placed) refl
 
-  heading_body : (shown : List Output) (a b : Bool) → heading (line_cx shown a b) (named (codes "body")) (codes "body") ≡ codes "body"
+  heading_body : (shown : List Output) (a b : Bool) → heading (cx shown a b) (named (codes "body")) (codes "body") ≡ codes "body"
   unfolding everything
   heading_body shown a b = rw (it.placed, it.placed) refl
 
-  column_rowid : (shown : List Output) (a b : Bool) (s : State) → column (line_cx shown a b) None (codes "rowid") s ≡ Ok (col 1 0, record s { last = free_carried })
+  column_rowid : (shown : List Output) (a b : Bool) (s : State) → column (cx shown a b) None (codes "rowid") s ≡ Ok (col 1 0, record s { last = free_carried })
   unfolding everything
   column_rowid shown a b s = rw (it.placed, it.low) refl
 
-  heading_rowid : (shown : List Output) (a b : Bool) → heading (line_cx shown a b) (named (codes "rowid")) (codes "rowid") ≡ codes "rowid"
+  heading_rowid : (shown : List Output) (a b : Bool) → heading (cx shown a b) (named (codes "rowid")) (codes "rowid") ≡ codes "rowid"
   unfolding everything
   heading_rowid shown a b = rw (it.placed, it.low, it.placed) refl
-
-  affinity_tbl : (shown : List Output) (a b : Bool) → affinity_of (line_cx shown a b) (col 1 1) ≡ affinity.Text
-  unfolding everything
-  affinity_tbl shown a b = rw it.placed refl
-
-  affinity_id : (shown : List Output) (a b : Bool) → affinity_of (line_cx shown a b) (col 1 2) ≡ affinity.Blob
-  unfolding everything
-  affinity_id shown a b = rw it.placed refl
-
-  affinity_one : (shown : List Output) (a b : Bool) → affinity_of (line_cx shown a b) (col 0 0) ≡ affinity.None
-  unfolding everything
-  affinity_one shown a b = refl
-
-  affinity_two : (shown : List Output) (a b : Bool) → affinity_of (line_cx shown a b) (col 0 1) ≡ affinity.None
-  unfolding everything
-  affinity_two shown a b = refl
 
   table_is : (slot : ℕ) → table_in schema slot (origin.Table (codes "line")) ≡ Ok (codes "line", at)
   unfolding everything
   table_is slot = rw it.named refl
 
-  deleted_is : deleted schema at (line_table l) (Some key_test) ≡ Ok (deletes l)
-  unfolding lowering Rattle.sqlite_resolve.specs.Write.deleted
-  deleted_is = rw (column_tbl, affinity_tbl, affinity_one, column_id, affinity_id, affinity_two) refl
-
-  abbrev updates : List (List ℕ × Expr)
-  updates = (codes "ver", expr.Parameter 3) ∷ (codes "body", expr.Parameter 4) ∷ []
-
-  updated_is : updated schema at (line_table l) updates (Some key_test) ≡ Ok (changes l)
-  unfolding lowering Rattle.sqlite_resolve.specs.Write.updated
-  updated_is = rw (column_tbl, affinity_tbl, affinity_one, column_id, affinity_id, affinity_two) refl
-
-  new_rows_is : new_rows schema (line_table l) 4 (codes "tbl" ∷ codes "id" ∷ codes "ver" ∷ codes "body" ∷ []) (rows.Values ((expr.Parameter 1 ∷ expr.Parameter 2 ∷ expr.Parameter 3 ∷ expr.Parameter 4 ∷ []) ∷ [])) ≡ Ok (Values insert_terms 5)
-  unfolding everything
-  new_rows_is = refl
-
-  delete_runs : program schema [] (deletes l) ≡ Ok (runs (deletes l))
-  unfolding everything
-  delete_runs = rw (it.not_high, it.alone) refl
-
-  update_runs : program schema [] (changes l) ≡ Ok (runs (changes l))
-  unfolding everything
-  update_runs = rw (it.not_high, it.alone) refl
-
-  select_runs : program schema [] (selects l) ≡ Ok (runs (selects l))
-  unfolding everything
-  select_runs = rw (it.not_high, it.alone) refl
-
-  pub insert_is : understood schema insert_text ≡ Ok (does insert_parsed (Insert at (Values insert_terms 5)))
-  unfolding lowering understood
-  insert_is = rw (insert_first, it.named, it.placed, new_rows_is) refl
-
-  pub delete_is : understood schema delete_text ≡ Ok (does delete_parsed (Delete at (runs (deletes l))))
-  unfolding lowering understood
-  delete_is = rw (delete_first, it.named, it.placed, deleted_is, delete_runs) refl
-
-  pub update_is : understood schema update_text ≡ Ok (does update_parsed (Update at (runs (changes l))))
-  unfolding lowering understood
-  update_is = rw (update_first, it.named, it.placed, updated_is, update_runs) refl
-
-  cleared_is : deleted schema at (line_table l) None ≡ Ok (clears l)
+  cleared_is : deleted schema at (line_table l) None ≡ Ok (numbers [] l)
   unfolding lowering Rattle.sqlite_resolve.specs.Write.deleted
   cleared_is = refl
 
-  clear_runs : program schema [] (clears l) ≡ Ok (runs (clears l))
+  clear_runs : program schema [] (numbers [] l) ≡ Ok (runs (numbers [] l))
   unfolding everything
   clear_runs = rw (it.not_high, it.alone) refl
 
-  pub clear_is : understood schema line_clear_text ≡ Ok (does line_clear_parsed (Delete at (runs (clears l))))
+  pub line_clear_is : understood schema line_clear_text ≡ Ok (does line_clear_parsed (Delete at (runs (numbers [] l))))
   unfolding lowering understood
-  clear_is = rw (line_clear_first, it.named, it.placed, cleared_is, clear_runs) refl
+  line_clear_is = rw (line_clear_first, it.named, it.placed, cleared_is, clear_runs) refl
 
-  abbrev shown_line : ast_select.Select
-  shown_line = selection (shows (codes "rowid") ∷ shows (codes "tbl") ∷ shows (codes "id") ∷ shows (codes "ver") ∷ shows (codes "body") ∷ []) (codes "line")
+  select_runs : program schema [] (line_selects l) ≡ Ok (runs (line_selects l))
+  unfolding everything
+  select_runs = rw (it.not_high, it.alone) refl
 
   abbrev shown_columns : List Shown
   shown_columns = shows (codes "rowid") ∷ shows (codes "tbl") ∷ shows (codes "id") ∷ shows (codes "ver") ∷ shows (codes "body") ∷ []
+
+  abbrev shown_table : ast_select.Select
+  shown_table = selection shown_columns (codes "line")
 
   abbrev core : ast_core.Core
   core = core_of shown_columns (codes "line")
@@ -214,40 +163,40 @@ module _ (schema : Schema) (at l : ℕ) (it : Stands schema (line_table l) at) w
   unfolding written_parts Rattle.sqlite_resolve.specs.Select.parts Rattle.sqlite_resolve.specs.Order.keys Rattle.sqlite_resolve.specs.Order.sorts Rattle.sqlite_resolve.specs.Select.having Rattle.sqlite_resolve.specs.Body.tests
   parts_is = rw body_is refl
 
-  abbrev pub columns : List (List ℕ)
+  abbrev columns : List (List ℕ)
   columns = codes "rowid" ∷ codes "tbl" ∷ codes "id" ∷ codes "ver" ∷ codes "body" ∷ []
 
   abbrev carried : List (Option Collation)
   carried = None ∷ Some Binary ∷ Some Binary ∷ Some Binary ∷ Some Binary ∷ []
 
-  named_is : resolved.named schema core [] page ≡ Ok (selects l, columns, carried)
+  named_is : resolved.named schema core [] page ≡ Ok (line_selects l, columns, carried)
   unfolding written_parts Rattle.sqlite_resolve.specs.Select.named Rattle.sqlite_resolve.specs.Select.assembled Rattle.sqlite_resolve.specs.Select.ungrouped
   named_is = rw parts_is refl
 
-  viewing_is : (q : Schema → ast_select.Select → Building Query) → viewing q schema core [] page 64 schema [] ≡ Ok (((selects l, columns, carried), schema), [])
+  viewing_is : (q : Schema → ast_select.Select → Building Query) → viewing q schema core [] page 64 schema [] ≡ Ok (((line_selects l, columns, carried), schema), [])
   unfolding Rattle.sqlite_resolve.specs.Program.viewing
-  viewing_is q = subst (λ r. or_view q (viewing q schema core [] page 63) schema schema r [] ≡ Ok (((selects l, columns, carried), schema), [])) (sym named_is) refl
+  viewing_is q = subst (λ r. or_view q (viewing q schema core [] page 63) schema schema r [] ≡ Ok (((line_selects l, columns, carried), schema), [])) (sym named_is) refl
 
-  alone_is : (q : Schema → ast_select.Select → Building Query) → alone q schema core [] page [] ≡ Ok ((selects l, columns, carried), [])
+  alone_is : (q : Schema → ast_select.Select → Building Query) → alone q schema core [] page [] ≡ Ok ((line_selects l, columns, carried), [])
   unfolding written_parts Rattle.sqlite_resolve.specs.Program.alone Rattle.sqlite_resolve.specs.Program.single Rattle.sqlite_resolve.specs.Program.sources Rattle.sqlite_resolve.specs.Program.source
   alone_is q = rw viewing_is refl
 
-  paging_is : paging schema shown_line ≡ Ok page
+  paging_is : paging schema shown_table ≡ Ok page
   unfolding lowering
   paging_is = refl
 
-  level_is : (q : Schema → ast_select.Select → Building Query) → program_level q schema shown_line [] ≡ Ok ((selects l, columns, carried), [])
+  level_is : (q : Schema → ast_select.Select → Building Query) → program_level q schema shown_table [] ≡ Ok ((line_selects l, columns, carried), [])
   unfolding written_parts Rattle.sqlite_resolve.specs.Program.level Rattle.sqlite_resolve.specs.Program.with Rattle.sqlite_resolve.specs.Program.whole
   level_is q = rw (paging_is, alone_is) refl
 
-  select_drafts : query schema shown_line ≡ Ok ((selects l, columns, carried), [])
+  select_drafts : query schema shown_table ≡ Ok ((line_selects l, columns, carried), [])
   unfolding Rattle.sqlite_resolve.specs.Program.query Rattle.sqlite_resolve.specs.Program.query_to
   select_drafts = level_is (query_to 15)
 
-  pub select_is : understood schema select_text ≡ Ok (does select_parsed (Select (runs (selects l)) (codes "rowid" ∷ codes "tbl" ∷ codes "id" ∷ codes "ver" ∷ codes "body" ∷ [])))
+  pub line_select_is : understood schema line_select_text ≡ Ok (does line_select_parsed (Select (runs (line_selects l)) (codes "rowid" ∷ codes "tbl" ∷ codes "id" ∷ codes "ver" ∷ codes "body" ∷ [])))
   unfolding lowering understood Rattle.sqlite_resolve.specs.Compile.read
-  select_is = rw (select_first, select_drafts, select_runs) refl
+  line_select_is = rw (line_select_first, select_drafts, select_runs) refl
 
-  pub select_listed : reads_listing schema select_text ≡ false
+  pub line_select_listed : reads_listing schema line_select_text ≡ false
   unfolding lowering Rattle.sqlite_resolve.specs.Compile.read
-  select_listed = rw (select_first, select_drafts, select_runs) refl
+  line_select_listed = rw (line_select_first, select_drafts, select_runs) refl

@@ -1,5 +1,5 @@
--- The trees of our tables by the list of objects, as the schema has them, and that a change of one of them keeps the rest.
-use Rattle.std.proofs.Common.{◌≡◌, ◌≢◌, ◌<◌, ◌+◌, ◌-◌, ◌^◌, ℕ, List, [], ◌∷◌, filter, find, cond, Bool, true, false, ◌&&◌, ◌==◌, Some, None, codes, pos, refl, sym, ap, subst, ◌∙◌, arith}
+-- The trees of our tables by the list of objects, as the schema has them, and that a change of one table keeps the rest.
+use Rattle.std.proofs.Common.{◌≡◌, ◌≢◌, ◌<◌, ◌+◌, ◌-◌, ◌^◌, ℕ, List, [], ◌∷◌, filter, find, cond, Bool, true, false, ◌&&◌, ◌||◌, ◌==◌, ne_eqb, Some, None, codes, pos, refl, sym, ap, subst, ◌∙◌, arith}
 use Rattle.std.specs.List.{AllByRecursion, AllZip}
 use Rattle.sqlite.specs.Order.{Row, column}
 use Rattle.sqlite_value.specs.Order.{bytes}
@@ -13,10 +13,12 @@ use Rattle.sqlite_rules.specs.Edit.{Edit, Applies, IsNoIndex}
 use Rattle.sqlite_rules.proofs.ListLemmas.{all_has}
 use Rattle.sqlite_catalog.specs.Listing.{IsTableRow, IsIndexRow, is_table_row}
 use Rattle.sqlite.specs.Effect.{Database, IsDatabase}
-use Rattle.ov_sqlite.specs.Tables.{meta_table, line_table, tree_of, HasTable, HasOurTables}
-use Rattle.ov_sqlite.specs.Format.{lists_table, tree_listed, rows_of, rows_of_meta, rows_of_line}
-use Rattle.ov_sqlite.specs.Changing.{KeepsOthers}
-use Rattle.ov_sqlite.proofs.TableLemmas.{some_table, found_has, ours_apart, Stands, stands}
+use Rattle.sqlite.specs.State.{State}
+use Rattle.sqlite_trees.proofs.ListLemmas.{all_weaker}
+use Rattle.ov_sqlite.specs.Tables.{HasTable}
+use Rattle.ov_sqlite.specs.Format.{lists_table, tree_listed, rows_of}
+use Rattle.ov_sqlite.specs.Changing.{is_among, KeepsOthers}
+use Rattle.ov_sqlite.proofs.TableLemmas.{some_table, found_has, Stands, stands}
 
 -- the row of a table that the schema has by its name
 row_found : (name : List ℕ) (objects : List Row) (tables : List Table) (table : Table) → AllZip IsTableRow (filter is_table_row objects) tables
@@ -57,64 +59,76 @@ indexes_low tables [] (i ∷ indexes) all = absurd all
 indexes_low tables (r ∷ rows) [] all = absurd all
 indexes_low tables (r ∷ rows) (i ∷ indexes) all = (λ e. absurd (omega (arith, all.0.described.low, e)), indexes_low tables rows indexes all.1)
 
-module _ (db : Database) (has : HasOurTables db.schema) (sound : IsDatabase db) where
-  abbrev m : ℕ
-  m = tree_of db.schema (codes "meta")
+-- in another database that has the same list of objects, the table is where it was
+pub still : (name : List ℕ) (old new : Trees) → new catalog_tree ≡ old catalog_tree → tree_listed name new ≡ tree_listed name old
+unfolding tree_listed
+still name old new same = ap (λ objects. number_in (rowid (Rattle.std.proofs.Common.unwrap_or (find (lists_table name) objects) [])) - 1) same
 
-  abbrev l : ℕ
-  l = tree_of db.schema (codes "line")
+module _ (db : Database) (table : Table) (has : HasTable db.schema table) (sound : IsDatabase db) where
+  pub stands_in : (at : ℕ) × Stands db.schema table at
+  stands_in = stands db.schema table has (listed db table has sound).1
 
-  pub line_listed : tree_listed (codes "line") db.trees ≡ l
-  line_listed = (listed db (line_table l) has.line sound).0
-
-  pub meta_listed : tree_listed (codes "meta") db.trees ≡ m
-  meta_listed = (listed db (meta_table m) has.meta sound).0
-
-  pub line_stands : (at : ℕ) × Stands db.schema (line_table l) at
-  line_stands = stands db.schema (line_table l) has.line (listed db (line_table l) has.line sound).1
-
-  pub meta_stands : (at : ℕ) × Stands db.schema (meta_table m) at
-  meta_stands = stands db.schema (meta_table m) has.meta (listed db (meta_table m) has.meta sound).1
-
-  pub line_rows_are : rows_of_line db.trees ≡ db.trees l
+  pub rows_are : rows_of table.name db.trees ≡ db.trees table.tree
   unfolding rows_of
-  line_rows_are = ap db.trees line_listed
+  rows_are = ap db.trees (listed db table has sound).0
 
-  pub meta_rows_are : rows_of_meta db.trees ≡ db.trees m
+-- only the rows of this table have changed, and the entries of its indexes
+pub record Touches (table : Table) (old new : Database) : Type 0 where
+  pub schema : new.schema ≡ old.schema
+  pub catalog : new.trees catalog_tree ≡ old.trees catalog_tree
+  pub tables : AllByRecursion (λ t. t.tree ≢ table.tree → new.trees t.tree ≡ old.trees t.tree) old.schema.tables
+  pub trees : (t : ℕ) → t ≢ table.tree → IsNoIndex old.schema t → new.trees t ≡ old.trees t
+  pub sound : IsDatabase new
+
+-- a step of an edit of the table does that
+pub touches : (old new : Database) (table : Table) → HasTable old.schema table → IsDatabase old → (keys : Keys) (edit : Edit) → edit.table ≡ table → Applies old.schema keys old.trees edit new.trees
+    → new.schema ≡ old.schema → IsDatabase new → Touches table old new
+touches old new table has was keys edit is step same sound =
+    let low = (listed old table has was).1 in
+    let tree = ap (λ (t : Table). t.tree) is in
+    record {
+      schema = same;
+      catalog = step.others catalog_tree (λ e. absurd (omega (arith, low, e, tree))) (indexes_low _ _ old.schema.indexes was.lists.listed.indexes);
+      tables = subst (λ n. AllByRecursion (λ (t : Table). t.tree ≢ n → new.trees t.tree ≡ old.trees t.tree) old.schema.tables) tree step.tables;
+      trees = λ t other. step.others t (λ e. other (e ∙ tree));
+      sound = sound;
+    }
+
+-- and so does what keeps everything outside its tree
+pub touches_of : (old new : Database) (table : Table) → HasTable old.schema table → IsDatabase old → KeepsOthers (table.tree ∷ []) old.schema old.trees new.trees → new.schema ≡ old.schema → IsDatabase new → Touches table old new
+touches_of old new table has was kept same sound =
+    let low = (listed old table has was).1 in
+    record {
+      schema = same;
+      catalog = kept.trees catalog_tree (apart catalog_tree (λ e. absurd (omega (arith, low, e)))) (indexes_low _ _ old.schema.indexes was.lists.listed.indexes);
+      tables = all_weaker _ _ (λ t rows other. rows (apart t.tree other)) old.schema.tables kept.tables;
+      trees = λ t other. kept.trees t (apart t other);
+      sound = sound;
+    }
+  where
+    apart : (t : ℕ) → t ≢ table.tree → ((t == table.tree) || false) ≡ false
+    apart t other = rw (ne_eqb t table.tree other) refl
+
+module _ (old new : Database) (table : Table) (t : Touches table old new) where
+  -- the rows of the table itself
+  pub rows_after : HasTable old.schema table → IsDatabase old → rows_of table.name new.trees ≡ new.trees table.tree
   unfolding rows_of
-  meta_rows_are = ap db.trees meta_listed
+  rows_after has was = ap new.trees (still table.name old.trees new.trees t.catalog ∙ (listed old table has was).0)
 
-  -- a change of one tree of a table keeps the list of objects
-  catalog_kept : (keys : Keys) (edit : Edit) (next : Trees) → edit.table.tree < 65536 → Applies db.schema keys db.trees edit next → next catalog_tree ≡ db.trees catalog_tree
-  catalog_kept keys edit next low step = step.others catalog_tree (λ e. absurd (omega (arith, low, e))) (indexes_low _ _ db.schema.indexes sound.lists.listed.indexes)
+  -- another table of ours keeps its rows
+  pub rows_beside : (other : Table) → HasTable old.schema other → IsDatabase old → other.tree ≢ table.tree → rows_of other.name new.trees ≡ rows_of other.name old.trees
+  unfolding rows_of
+  rows_beside other has was apart =
+      ap new.trees (still other.name old.trees new.trees t.catalog ∙ (listed old other has was).0)
+      ∙ all_has _ old.schema.tables other t.tables (found_has _ old.schema.tables other has.named) apart
+      ∙ sym (rows_are old other has was)
 
-  still : (name : List ℕ) (next : Trees) → next catalog_tree ≡ db.trees catalog_tree → tree_listed name next ≡ tree_listed name db.trees
-  unfolding tree_listed
-  still name next same = ap (λ objects. number_in (rowid (Rattle.std.proofs.Common.unwrap_or (find (lists_table name) objects) [])) - 1) same
-
-  module _ (keys : Keys) (edit : Edit) (next : Trees) (step : Applies db.schema keys db.trees edit next) where
-    pub line_after : edit.table ≡ line_table l → rows_of_line next ≡ next l
-    unfolding rows_of
-    line_after is = ap next (still (codes "line") next (catalog_kept keys edit next (rw is (listed db (line_table l) has.line sound).1) step) ∙ line_listed)
-
-    pub meta_beside : edit.table ≡ line_table l → rows_of_meta next ≡ rows_of_meta db.trees
-    unfolding rows_of
-    meta_beside is =
-        ap next (still (codes "meta") next (catalog_kept keys edit next (rw is (listed db (line_table l) has.line sound).1) step) ∙ meta_listed)
-        ∙ all_has _ db.schema.tables (meta_table m) step.tables (found_has _ db.schema.tables (meta_table m) has.meta.named) (λ e. ours_apart db.schema has (e ∙ ap (λ (t : Table). t.tree) is))
-        ∙ sym meta_rows_are
-
-    pub others_kept : edit.table ≡ line_table l → KeepsOthers db.schema db.trees next
-    others_kept is = subst (λ n. AllByRecursion (λ (t : Table). t.tree ≢ n → next t.tree ≡ db.trees t.tree) db.schema.tables → ((t : ℕ) → t ≢ n → IsNoIndex db.schema t → next t ≡ db.trees t) → KeepsOthers db.schema db.trees next)
-        (sym (ap (λ (t : Table). t.tree) is)) (λ tables trees. record { tables = tables; trees = trees }) step.tables step.others
-
-    pub meta_after : edit.table ≡ meta_table m → rows_of_meta next ≡ next m
-    unfolding rows_of
-    meta_after is = ap next (still (codes "meta") next (catalog_kept keys edit next (rw is (listed db (meta_table m) has.meta sound).1) step) ∙ meta_listed)
-
-    pub line_beside : edit.table ≡ meta_table m → rows_of_line next ≡ rows_of_line db.trees
-    unfolding rows_of
-    line_beside is =
-        ap next (still (codes "line") next (catalog_kept keys edit next (rw is (listed db (meta_table m) has.meta sound).1) step) ∙ line_listed)
-        ∙ all_has _ db.schema.tables (line_table l) step.tables (found_has _ db.schema.tables (line_table l) has.line.named) (λ e. ours_apart db.schema has (sym (e ∙ ap (λ (t : Table). t.tree) is)))
-        ∙ sym line_rows_are
+  -- and so does everything outside some trees, if that of the table is among them
+  pub others_kept : (exempt : List ℕ) → is_among exempt table.tree ≡ true → KeepsOthers exempt old.schema old.trees new.trees
+  others_kept exempt among = record {
+    tables = all_weaker _ _ (λ u same free. same (apart u.tree free)) old.schema.tables t.tables;
+    trees = λ n free none. t.trees n (apart n free) none;
+  }
+    where
+      apart : (n : ℕ) → is_among exempt n ≡ false → n ≢ table.tree
+      apart n free e = let clash : true ≡ false = sym among ∙ sym (ap (is_among exempt) e) ∙ free in absurd cc

@@ -5,11 +5,12 @@ use Rattle.sqlite.specs.declared.types.Value.TheVariants.{Int}
 use Rattle.sqlite.specs.Term.{Term, lit, col}
 use Rattle.sqlite_tied.specs.Compute.{everything}
 use Rattle.sqlite.specs.Schema.{Schema}
-use Rattle.sqlite_schema.specs.declared.command.Command.TheVariants.{Insert, Update, Select}
+use Rattle.sqlite_schema.specs.declared.command.Command.TheVariants.{Insert, Update, Delete, Select}
 use Rattle.sqlite_schema.specs.declared.command.Source.TheVariants.{Values}
 use Rattle.sqlite_resolve.specs.declared.scope.Output.{Output}
 use Rattle.sqlite_resolve.specs.declared.state.Carried.{Carried}
 use Rattle.sqlite.specs.Listing.{understood, reads_listing}
+use Rattle.sqlite_ast.specs.declared.Expr.{Expr}
 use Rattle.sqlite_ast.specs.declared.Expr.TheVariants as expr
 use Rattle.sqlite_ast.specs.declared.Rows.TheVariants as rows
 use Rattle.sqlite_ast.specs.declared.Shown.{Shown}
@@ -37,76 +38,72 @@ use Rattle.sqlite_resolve.specs.Program.{program, query}
 use Rattle.sqlite_resolve.specs.Scope.{Context, column}
 use Rattle.sqlite_resolve.specs.Compare.{affinity_of}
 use Rattle.sqlite_resolve.specs.declared.compare.Affinity.TheVariants as affinity
-use Rattle.sqlite_resolve.specs.Write.{updated}
-use Rattle.sqlite_ast.specs.declared.Expr.{Expr}
-use Rattle.ov_sqlite.specs.Tables.{meta_table, meta_insert_text, meta_select_text, meta_update_text}
+use Rattle.sqlite_resolve.specs.Write.{deleted, updated, over}
+use Rattle.ov_sqlite.specs.Tables.{meta_table, meta_insert_text, meta_select_text, meta_clear_text}
 use Rattle.ov_sqlite.proofs.TableLemmas.{Stands}
-use Rattle.ov_sqlite.proofs.Statements.{named, shows, source_of, core_of, selection, does, plain_carried, within, meta_insert_terms, selects_meta, runs, meta_insert_parsed, meta_insert_first, meta_select_parsed, meta_select_first, meta_choice, meta_changes, meta_update_parsed, meta_update_first}
+use Rattle.ov_sqlite.proofs.Statements.{meta_insert_parsed, meta_select_parsed, meta_clear_parsed, meta_insert_first, meta_select_first, meta_clear_first, meta_selects, numbers, runs, named, shows, source_of, core_of, selection, does, plain_carried, free_carried, within, meta_insert_terms}
 
-module _ (schema : Schema) (at m : ℕ) (it : Stands schema (meta_table m) at) where
-  abbrev meta_cx : List Output → Bool → Bool → Context
-  meta_cx = within schema at (codes "meta")
+module _ (schema : Schema) (at l : ℕ) (it : Stands schema (meta_table l) at) where
+  abbrev cx : List Output → Bool → Bool → Context
+  cx = within schema at (codes "meta")
 
-  column_k : (shown : List Output) (a b : Bool) (s : State) → column (meta_cx shown a b) None (codes "k") s ≡ Ok (col 1 1, record s { last = plain_carried })
+  column_k : (shown : List Output) (a b : Bool) (s : State) → column (cx shown a b) None (codes "k") s ≡ Ok (col 1 1, record s { last = plain_carried })
   unfolding everything
   column_k shown a b s = rw (it.placed, it.placed) refl
 
-  heading_k : (shown : List Output) (a b : Bool) → heading (meta_cx shown a b) (named (codes "k")) (codes "k") ≡ codes "k"
+  heading_k : (shown : List Output) (a b : Bool) → heading (cx shown a b) (named (codes "k")) (codes "k") ≡ codes "k"
   unfolding everything
   heading_k shown a b = rw (it.placed, it.placed) refl
 
-  column_v : (shown : List Output) (a b : Bool) (s : State) → column (meta_cx shown a b) None (codes "v") s ≡ Ok (col 1 2, record s { last = plain_carried })
+  column_v : (shown : List Output) (a b : Bool) (s : State) → column (cx shown a b) None (codes "v") s ≡ Ok (col 1 2, record s { last = plain_carried })
   unfolding everything
   column_v shown a b s = rw (it.placed, it.placed) refl
 
-  heading_v : (shown : List Output) (a b : Bool) → heading (meta_cx shown a b) (named (codes "v")) (codes "v") ≡ codes "v"
+  heading_v : (shown : List Output) (a b : Bool) → heading (cx shown a b) (named (codes "v")) (codes "v") ≡ codes "v"
   unfolding everything
   heading_v shown a b = rw (it.placed, it.placed) refl
+
+  column_rowid : (shown : List Output) (a b : Bool) (s : State) → column (cx shown a b) None (codes "rowid") s ≡ Ok (col 1 0, record s { last = free_carried })
+  unfolding everything
+  column_rowid shown a b s = rw (it.placed, it.low) refl
+
+  heading_rowid : (shown : List Output) (a b : Bool) → heading (cx shown a b) (named (codes "rowid")) (codes "rowid") ≡ codes "rowid"
+  unfolding everything
+  heading_rowid shown a b = rw (it.placed, it.low, it.placed) refl
 
   table_is : (slot : ℕ) → table_in schema slot (origin.Table (codes "meta")) ≡ Ok (codes "meta", at)
   unfolding everything
   table_is slot = rw it.named refl
 
-  new_rows_is : new_rows schema (meta_table m) 2 (codes "k" ∷ codes "v" ∷ []) (rows.Values ((expr.Parameter 1 ∷ expr.Parameter 2 ∷ []) ∷ [])) ≡ Ok (Values meta_insert_terms 3)
+  new_rows_is : new_rows schema (meta_table l) 2 (codes "k" ∷ codes "v" ∷ []) (rows.Values ((expr.Parameter 1 ∷ expr.Parameter 2 ∷ []) ∷ [])) ≡ Ok (Values meta_insert_terms 3)
   unfolding everything
   new_rows_is = refl
-
-  meta_select_runs : program schema [] (selects_meta m) ≡ Ok (runs (selects_meta m))
-  unfolding everything
-  meta_select_runs = rw (it.not_high, it.alone) refl
 
   pub meta_insert_is : understood schema meta_insert_text ≡ Ok (does meta_insert_parsed (Insert at (Values meta_insert_terms 3)))
   unfolding lowering understood
   meta_insert_is = rw (meta_insert_first, it.named, it.placed, new_rows_is) refl
 
-  affinity_k : (shown : List Output) (a b : Bool) → affinity_of (meta_cx shown a b) (col 1 1) ≡ affinity.Text
+  cleared_is : deleted schema at (meta_table l) None ≡ Ok (numbers [] l)
+  unfolding lowering Rattle.sqlite_resolve.specs.Write.deleted
+  cleared_is = refl
+
+  clear_runs : program schema [] (numbers [] l) ≡ Ok (runs (numbers [] l))
   unfolding everything
-  affinity_k shown a b = rw it.placed refl
+  clear_runs = rw (it.not_high, it.alone) refl
 
-  affinity_one : (shown : List Output) (a b : Bool) → affinity_of (meta_cx shown a b) (col 0 0) ≡ affinity.None
-  unfolding everything
-  affinity_one shown a b = refl
-
-  abbrev updates : List (List ℕ × Expr)
-  updates = (codes "v", meta_choice) ∷ []
-
-  updated_is : updated schema at (meta_table m) updates None ≡ Ok (meta_changes m)
-  unfolding lowering Rattle.sqlite_resolve.specs.Write.updated
-  updated_is = rw (column_k, affinity_k, affinity_one, column_v) refl
-
-  update_runs : program schema [] (meta_changes m) ≡ Ok (runs (meta_changes m))
-  unfolding everything
-  update_runs = rw (it.not_high, it.alone) refl
-
-  pub meta_update_is : understood schema meta_update_text ≡ Ok (does meta_update_parsed (Update at (runs (meta_changes m))))
+  pub meta_clear_is : understood schema meta_clear_text ≡ Ok (does meta_clear_parsed (Delete at (runs (numbers [] l))))
   unfolding lowering understood
-  meta_update_is = rw (meta_update_first, it.named, it.placed, updated_is, update_runs) refl
+  meta_clear_is = rw (meta_clear_first, it.named, it.placed, cleared_is, clear_runs) refl
 
-  abbrev shown_meta : ast_select.Select
-  shown_meta = selection (shows (codes "k") ∷ shows (codes "v") ∷ []) (codes "meta")
+  select_runs : program schema [] (meta_selects l) ≡ Ok (runs (meta_selects l))
+  unfolding everything
+  select_runs = rw (it.not_high, it.alone) refl
 
   abbrev shown_columns : List Shown
-  shown_columns = shows (codes "k") ∷ shows (codes "v") ∷ []
+  shown_columns = shows (codes "rowid") ∷ shows (codes "k") ∷ shows (codes "v") ∷ []
+
+  abbrev shown_table : ast_select.Select
+  shown_table = selection shown_columns (codes "meta")
 
   abbrev core : ast_core.Core
   core = core_of shown_columns (codes "meta")
@@ -121,7 +118,7 @@ module _ (schema : Schema) (at m : ℕ) (it : Stands schema (meta_table m) at) w
   out name at carried = record { name = name; is_alias = false; is_column = true; term = col 1 at; carried = carried }
 
   abbrev outs : List Output
-  outs = out (codes "k") 1 plain_carried ∷ out (codes "v") 2 plain_carried ∷ []
+  outs = out (codes "rowid") 0 free_carried ∷ out (codes "k") 1 plain_carried ∷ out (codes "v") 2 plain_carried ∷ []
 
   abbrev after : ℕ → State
   after n = record { next = 2; steps = []; aggregates = []; budget = max_budget - n; written = None; last = plain_carried }
@@ -133,18 +130,18 @@ module _ (schema : Schema) (at m : ℕ) (it : Stands schema (meta_table m) at) w
   abbrev level : List Output → Level
   level shown = record { tables = place ∷ []; shown = shown }
 
-  result_is : result lower (outermost schema) (level []) core (fresh 2 max_budget) ≡ Ok (outs, after 2)
+  result_is : result lower (outermost schema) (level []) core (fresh 2 max_budget) ≡ Ok (outs, after 3)
   unfolding lowering
-  result_is = rw (column_k, heading_k, column_v, heading_v) refl
+  result_is = rw (column_rowid, heading_rowid, column_k, heading_k, column_v, heading_v) refl
 
-  matching_is : matching lower (outermost schema) (level outs) core (after 2) ≡ Ok (record { steps = Inner m ∷ []; filter = [] }, after 2)
+  matching_is : matching lower (outermost schema) (level outs) core (after 3) ≡ Ok (record { steps = Inner l ∷ []; filter = [] }, after 3)
   unfolding lowering
   matching_is = rw it.placed refl
 
   abbrev whole : Body
-  whole = record { level = level outs; steps = Inner m ∷ []; filter = [] }
+  whole = record { level = level outs; steps = Inner l ∷ []; filter = [] }
 
-  body_is : body lower (outermost schema) core (fresh 1 max_budget) ≡ Ok (whole, after 2)
+  body_is : body lower (outermost schema) core (fresh 1 max_budget) ≡ Ok (whole, after 3)
   unfolding written_parts Rattle.sqlite_resolve.specs.Body.body
   body_is = rw (bounds_is, result_is, matching_is) refl
 
@@ -154,44 +151,44 @@ module _ (schema : Schema) (at m : ℕ) (it : Stands schema (meta_table m) at) w
   abbrev clauses : Clauses
   clauses = record { body = whole; is_grouped = false; keys = []; collations = []; having = []; order = [] }
 
-  parts_is : parts schema core [] (fresh 1 max_budget) ≡ Ok (clauses, after 2)
+  parts_is : parts schema core [] (fresh 1 max_budget) ≡ Ok (clauses, after 3)
   unfolding written_parts Rattle.sqlite_resolve.specs.Select.parts Rattle.sqlite_resolve.specs.Order.keys Rattle.sqlite_resolve.specs.Order.sorts Rattle.sqlite_resolve.specs.Select.having Rattle.sqlite_resolve.specs.Body.tests
   parts_is = rw body_is refl
 
-  abbrev pub columns : List (List ℕ)
-  columns = codes "k" ∷ codes "v" ∷ []
+  abbrev columns : List (List ℕ)
+  columns = codes "rowid" ∷ codes "k" ∷ codes "v" ∷ []
 
   abbrev carried : List (Option Collation)
-  carried = Some Binary ∷ Some Binary ∷ []
+  carried = None ∷ Some Binary ∷ Some Binary ∷ []
 
-  named_is : resolved.named schema core [] page ≡ Ok (selects_meta m, columns, carried)
+  named_is : resolved.named schema core [] page ≡ Ok (meta_selects l, columns, carried)
   unfolding written_parts Rattle.sqlite_resolve.specs.Select.named Rattle.sqlite_resolve.specs.Select.assembled Rattle.sqlite_resolve.specs.Select.ungrouped
   named_is = rw parts_is refl
 
-  viewing_is : (q : Schema → ast_select.Select → Building Query) → viewing q schema core [] page 64 schema [] ≡ Ok (((selects_meta m, columns, carried), schema), [])
+  viewing_is : (q : Schema → ast_select.Select → Building Query) → viewing q schema core [] page 64 schema [] ≡ Ok (((meta_selects l, columns, carried), schema), [])
   unfolding Rattle.sqlite_resolve.specs.Program.viewing
-  viewing_is q = subst (λ r. or_view q (viewing q schema core [] page 63) schema schema r [] ≡ Ok (((selects_meta m, columns, carried), schema), [])) (sym named_is) refl
+  viewing_is q = subst (λ r. or_view q (viewing q schema core [] page 63) schema schema r [] ≡ Ok (((meta_selects l, columns, carried), schema), [])) (sym named_is) refl
 
-  alone_is : (q : Schema → ast_select.Select → Building Query) → alone q schema core [] page [] ≡ Ok ((selects_meta m, columns, carried), [])
+  alone_is : (q : Schema → ast_select.Select → Building Query) → alone q schema core [] page [] ≡ Ok ((meta_selects l, columns, carried), [])
   unfolding written_parts Rattle.sqlite_resolve.specs.Program.alone Rattle.sqlite_resolve.specs.Program.single Rattle.sqlite_resolve.specs.Program.sources Rattle.sqlite_resolve.specs.Program.source
   alone_is q = rw viewing_is refl
 
-  paging_is : paging schema shown_meta ≡ Ok page
+  paging_is : paging schema shown_table ≡ Ok page
   unfolding lowering
   paging_is = refl
 
-  level_is : (q : Schema → ast_select.Select → Building Query) → program_level q schema shown_meta [] ≡ Ok ((selects_meta m, columns, carried), [])
+  level_is : (q : Schema → ast_select.Select → Building Query) → program_level q schema shown_table [] ≡ Ok ((meta_selects l, columns, carried), [])
   unfolding written_parts Rattle.sqlite_resolve.specs.Program.level Rattle.sqlite_resolve.specs.Program.with Rattle.sqlite_resolve.specs.Program.whole
   level_is q = rw (paging_is, alone_is) refl
 
-  meta_select_drafts : query schema shown_meta ≡ Ok ((selects_meta m, columns, carried), [])
+  select_drafts : query schema shown_table ≡ Ok ((meta_selects l, columns, carried), [])
   unfolding Rattle.sqlite_resolve.specs.Program.query Rattle.sqlite_resolve.specs.Program.query_to
-  meta_select_drafts = level_is (query_to 15)
+  select_drafts = level_is (query_to 15)
 
-  pub meta_select_is : understood schema meta_select_text ≡ Ok (does meta_select_parsed (Select (runs (selects_meta m)) (codes "k" ∷ codes "v" ∷ [])))
+  pub meta_select_is : understood schema meta_select_text ≡ Ok (does meta_select_parsed (Select (runs (meta_selects l)) (codes "rowid" ∷ codes "k" ∷ codes "v" ∷ [])))
   unfolding lowering understood Rattle.sqlite_resolve.specs.Compile.read
-  meta_select_is = rw (meta_select_first, meta_select_drafts, meta_select_runs) refl
+  meta_select_is = rw (meta_select_first, select_drafts, select_runs) refl
 
   pub meta_select_listed : reads_listing schema meta_select_text ≡ false
   unfolding lowering Rattle.sqlite_resolve.specs.Compile.read
-  meta_select_listed = rw (meta_select_first, meta_select_drafts, meta_select_runs) refl
+  meta_select_listed = rw (meta_select_first, select_drafts, select_runs) refl

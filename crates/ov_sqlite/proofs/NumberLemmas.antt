@@ -8,7 +8,9 @@ use Rattle.sqlite.specs.declared.types.Value.{Value}
 use Rattle.sqlite.specs.declared.types.Value.TheVariants.{Null, Int, Real, Text, Blob}
 use Rattle.sqlite.specs.Order.{Row, column}
 use Rattle.sqlite_trees.proofs.ListLemmas.{all_weaker, all_both}
+use Rattle.sqlite_trees.specs.Tree.{IsAscending}
 use Rattle.ov_sqlite.specs.Changing.{IsNumbered}
+use Rattle.ov_sqlite.specs.Joining.{AreNumbered}
 
 pub all_push : {X : Type 0} (P : X → Type 0) (xs : List X) (x : X) → AllByRecursion P xs → P x → AllByRecursion P (xs ++ x ∷ [])
 all_push P [] x all h = (h, tt)
@@ -31,7 +33,7 @@ value_of_int (Real x) = Rattle.std.proofs.Common.pos 0
 value_of_int (Text t) = Rattle.std.proofs.Common.pos 0
 value_of_int (Blob b) = Rattle.std.proofs.Common.pos 0
 
-pub push_numbered : (rows : List Row) (x : Row) (n : ℤ) → column x 0 ≡ Int n → AllByRecursion (λ r. column r 0 ≢ Int n) rows → IsNumbered rows → IsNumbered (rows ++ x ∷ [])
+pub push_numbered : (rows : List Row) (x : Row) (n : ℤ) → column x 0 ≡ Int n → AllByRecursion (λ r. column r 0 ≢ Int n) rows → IsNumbered (λ r. r) rows → IsNumbered (λ r. r) (rows ++ x ∷ [])
 push_numbered rows x n is apart numbered =
     all_push _ rows x
     (all_both _ _ _ (λ r no ones. all_push _ rows x ones (λ e. absurd (no (sym e ∙ is)))) rows apart numbered)
@@ -47,3 +49,10 @@ push_below rows x last n m is above low below =
     further : (last : Option ℤ) → IfSome last (λ k. k <ℤ n) → IfSome last (λ k. k <ℤ m)
     further None h = h
     further (Some k) h = int_chain k n m h low
+
+ascending_push : {X : Type 0} (R : X → X → Type 0) (xs : List X) (x : X) → IsAscending R xs → AllByRecursion (λ a. R a x) xs → IsAscending R (xs ++ x ∷ [])
+ascending_push R [] x rises all = (tt, tt)
+ascending_push R (y ∷ xs) x rises all = (all_push (R y) xs x rises.0 all.0, ascending_push R xs x rises.1 all.1)
+
+pub push_distinct : (rows : List Row) (x : Row) (n : ℤ) → column x 0 ≡ Int n → AllByRecursion (λ r. column r 0 ≢ Int n) rows → AreNumbered rows → AreNumbered (rows ++ x ∷ [])
+push_distinct rows x n is apart rises = ascending_push _ rows x rises (all_weaker _ _ (λ r no e. absurd (no (e ∙ is))) rows apart)

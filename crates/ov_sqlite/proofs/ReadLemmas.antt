@@ -1,27 +1,29 @@
 -- What a query returns, and that it keeps the commit.
-use Rattle.std.proofs.Common.{◌≡◌, ◌⊎◌, inl, inr, ℕ, List, [], ◌∷◌, map, codes, refl, sym, ap, subst, ◌∙◌, Option, Some, None, Result, Ok, Err, IfOk, IfErr, IsTrue, true}
+use Rattle.std.proofs.Common.{◌≡◌, ◌⊎◌, inl, inr, ℕ, List, [], ◌∷◌, map, refl, sym, ap, ap₂, subst, ◌∙◌, Option, Some, None, Result, Ok, Err, IfOk, IfErr, IsTrue, true, false, pos, negsuc}
 use Rattle.std.specs.List.{flat_map}
 use Rattle.std.specs.List.Sorted.{IsPermutation}
 use Rattle.std.proofs.lemmas.List.Sorted.{IsPermutation-map}
 use Rattle.sqlite.specs.declared.types.Value.TheVariants.{Null}
 use Rattle.sqlite.specs.declared.error.Error.{Error}
 use Rattle.sqlite.specs.Order.{Row}
+use Rattle.sqlite.specs.Term.{Term}
+use Rattle.sqlite.specs.Table.{Table}
+use Rattle.sqlite.specs.Listing.{understood, reads_listing}
+use Rattle.sqlite_syntax.specs.declared.statement.Parsed.{Parsed}
 use Rattle.sqlite.specs.Query.{IsAnswer, output, Output}
 use Rattle.sqlite.specs.Program.{overlay}
 use Rattle.sqlite.specs.State.{State, Shown, IsRolledBack, IsUnchanged, KeepsCommit, ShowsRows, FailsToQuery, FailsToShow, IsNotRun, IsTooLate}
 use Rattle.sqlite_resolve.specs.declared.compiled.Compiled.{Compiled}
 use Rattle.sqlite_schema.specs.declared.command.Returning.{Returning}
 use Rattle.sqlite.proofs.Callers.{IsPlain, command_of, reads_as}
-use Rattle.ov_sqlite.specs.Tables.{HasOurTables, tree_of, select_text, meta_select_text}
-use Rattle.ov_sqlite.proofs.ListingLemmas.{line_stands, line_rows_are, meta_stands, meta_rows_are}
-use Rattle.ov_sqlite.specs.Reading.{line_selected, meta_selected}
+use Rattle.ov_sqlite.specs.Tables.{HasTable}
+use Rattle.ov_sqlite.proofs.TableLemmas.{Stands}
+use Rattle.ov_sqlite.proofs.ListingLemmas.{stands_in, rows_are}
 use Rattle.ov_sqlite.specs.Querying.{IsAsBefore}
-use Rattle.ov_sqlite.proofs.Statements.{selects as draft, selects_meta as meta_draft, runs}
-use Rattle.ov_sqlite.proofs.LineTexts.{select_is, select_listed}
-use Rattle.ov_sqlite.proofs.MetaTexts.{meta_select_is, meta_select_listed}
+use Rattle.ov_sqlite.proofs.Statements.{drafts, runs, does}
 use Rattle.sqlite_draft.specs.Query.{query_of}
 use Rattle.sqlite.specs.Effect.{IsDatabase}
-use Rattle.ov_sqlite.specs.Format.{rows_of_meta, rows_of_line}
+use Rattle.ov_sqlite.specs.Format.{rows_of}
 use Rattle.sqlite.specs.Command.TheVariants.{Select}
 use Rattle.ov_sqlite.proofs.RowLemmas.{map_then}
 use Rattle.ov_sqlite.proofs.RunLemmas.{unchanged_keeps, rolled_keeps}
@@ -30,43 +32,32 @@ pub each : {X Y : Type 0} (f : X → Y) (xs : List X) → flat_map (λ x. f x �
 each f [] = refl
 each f (x ∷ xs) = ap (λ ys. f x ∷ ys) (each f xs)
 
-pub selects : (old new : State) (rows : List Row) → HasOurTables old.now.schema → IsDatabase old.now → Shown select_text [] old new rows → IsPermutation (map line_selected (rows_of_line old.now.trees)) rows
-selects old new rows has sound h =
-    let schema = old.now.schema in
-    let tree = tree_of schema (codes "line") in
-    let stood = line_stands old.now has sound in
-    let at = stood.0 in
-    let it = stood.1 in
-    let known = select_is schema at tree it in
-    let query = query_of (draft tree) in
-    let read = reads_as select_text [] old new schema refl (Select (runs (draft tree)) (codes "rowid" ∷ codes "tbl" ∷ codes "id" ∷ codes "ver" ∷ codes "body" ∷ [])) (ap command_of known) (subst IsPlain (sym known) (refl, refl)) (select_listed schema at tree it) rows h in
-    let db = old.now.trees in
-    let a : IsAnswer query (overlay db []) [] rows = read.answer Null in
-    let here : overlay db [] tree ≡ rows_of_line db = rw it.not_high (sym (line_rows_are old.now has sound)) in
-    let kept : a.kept ≡ map (λ r. ([], line_selected r)) (rows_of_line db) =
-    a.distinct ∙ ap (map (output query)) (a.grouped ∙ each (λ r. [] ∷ r ∷ []) (overlay db [] tree)) ∙ map_then (λ r. [] ∷ r ∷ []) (output query) (overlay db [] tree) ∙ ap (map (λ r. ([], line_selected r))) here in
-    let same : IsPermutation (map (λ (o : Output). o.1) (map (λ r. ([], line_selected r)) (rows_of_line db))) (map (λ (o : Output). o.1) a.ordered) =
-    IsPermutation-map (λ (o : Output). o.1) _ _ (subst (λ k. IsPermutation k a.ordered) kept a.same) in
-    subst (λ xs. IsPermutation xs rows) (map_then (λ r. ([], line_selected r)) (λ (o : Output). o.1) (rows_of_line db)) (subst (IsPermutation _) (sym a.shown) same)
+module _ (old new : State) (table : Table) (sql : List ℕ) (project : List Term) (names : List (List ℕ)) (selected : Row → Row) (parsed : Parsed) (has : HasTable old.now.schema table) (sound : IsDatabase old.now)
+    (known : (at : ℕ) → Stands old.now.schema table at → understood old.now.schema sql ≡ Ok (does parsed (Select (runs (drafts table.tree [] project)) names)))
+    (listed : (at : ℕ) → Stands old.now.schema table at → reads_listing old.now.schema sql ≡ false) (shows : (r : Row) → output (query_of (drafts table.tree [] project)) ([] ∷ r ∷ []) ≡ ([], selected r)) where
+  outputs : (rows : List Row) → map (λ r. output (query_of (drafts table.tree [] project)) ([] ∷ r ∷ [])) rows ≡ map (λ r. ([], selected r)) rows
+  outputs [] = refl
+  outputs (r ∷ rows) = ap₂ (λ x xs. x ∷ xs) (shows r) (outputs rows)
 
-pub selects_meta : (old new : State) (rows : List Row) → HasOurTables old.now.schema → IsDatabase old.now → Shown meta_select_text [] old new rows → IsPermutation (map meta_selected (rows_of_meta old.now.trees)) rows
-selects_meta old new rows has sound h =
-    let schema = old.now.schema in
-    let tree = tree_of schema (codes "meta") in
-    let stood = meta_stands old.now has sound in
-    let at = stood.0 in
-    let it = stood.1 in
-    let known = meta_select_is schema at tree it in
-    let query = query_of (meta_draft tree) in
-    let read = reads_as meta_select_text [] old new schema refl (Select (runs (meta_draft tree)) (codes "k" ∷ codes "v" ∷ [])) (ap command_of known) (subst IsPlain (sym known) (refl, refl)) (meta_select_listed schema at tree it) rows h in
-    let db = old.now.trees in
-    let a : IsAnswer query (overlay db []) [] rows = read.answer Null in
-    let here : overlay db [] tree ≡ rows_of_meta db = rw it.not_high (sym (meta_rows_are old.now has sound)) in
-    let kept : a.kept ≡ map (λ r. ([], meta_selected r)) (rows_of_meta db) =
-    a.distinct ∙ ap (map (output query)) (a.grouped ∙ each (λ r. [] ∷ r ∷ []) (overlay db [] tree)) ∙ map_then (λ r. [] ∷ r ∷ []) (output query) (overlay db [] tree) ∙ ap (map (λ r. ([], meta_selected r))) here in
-    let same : IsPermutation (map (λ (o : Output). o.1) (map (λ r. ([], meta_selected r)) (rows_of_meta db))) (map (λ (o : Output). o.1) a.ordered) =
-    IsPermutation-map (λ (o : Output). o.1) _ _ (subst (λ k. IsPermutation k a.ordered) kept a.same) in
-    subst (λ xs. IsPermutation xs rows) (map_then (λ r. ([], meta_selected r)) (λ (o : Output). o.1) (rows_of_meta db)) (subst (IsPermutation _) (sym a.shown) same)
+  -- what a SELECT of a whole table returns
+  pub selects : (rows : List Row) → Shown sql [] old new rows → IsPermutation (map selected (rows_of table.name old.now.trees)) rows
+  selects rows h =
+      let schema = old.now.schema in
+      let tree = table.tree in
+      let stood = stands_in old.now table has sound in
+      let at = stood.0 in
+      let it = stood.1 in
+      let is = known at it in
+      let query = query_of (drafts tree [] project) in
+      let read = reads_as sql [] old new schema refl (Select (runs (drafts tree [] project)) names) (ap command_of is) (subst IsPlain (sym is) (refl, refl)) (listed at it) rows h in
+      let db = old.now.trees in
+      let a : IsAnswer query (overlay db []) [] rows = read.answer Null in
+      let here : overlay db [] tree ≡ rows_of table.name db = rw it.not_high (sym (rows_are old.now table has sound)) in
+      let kept : a.kept ≡ map (λ r. ([], selected r)) (rows_of table.name db) =
+      a.distinct ∙ ap (map (output query)) (a.grouped ∙ each (λ r. [] ∷ r ∷ []) (overlay db [] tree)) ∙ map_then (λ r. [] ∷ r ∷ []) (output query) (overlay db [] tree) ∙ outputs (overlay db [] tree) ∙ ap (map (λ r. ([], selected r))) here in
+      let same : IsPermutation (map (λ (o : Output). o.1) (map (λ r. ([], selected r)) (rows_of table.name db))) (map (λ (o : Output). o.1) a.ordered) =
+      IsPermutation-map (λ (o : Output). o.1) _ _ (subst (λ k. IsPermutation k a.ordered) kept a.same) in
+      subst (λ xs. IsPermutation xs rows) (map_then (λ r. ([], selected r)) (λ (o : Output). o.1) (rows_of table.name db)) (subst (IsPermutation _) (sym a.shown) same)
 
 opened_by : (sql : List ℕ) (old new : State) (c : Compiled) (params : Row) (rows : List Row) (o : Option Returning) → ShowsRows old new sql c params rows o → IsTrue old.is_open
 opened_by sql old new c params rows None h = h.3.0.was_open

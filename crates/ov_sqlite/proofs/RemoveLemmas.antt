@@ -1,43 +1,38 @@
--- The rows that the DELETE leaves, as a map.
+-- The rows that a DELETE leaves.
 use Rattle.std.proofs.Common.{◌≡◌, ℕ, List, [], ◌∷◌, map, filter, cond, Bool, true, false, not, ◌&&◌, ◌||◌, refl, sym, ap, subst, ◌∙◌}
 use Rattle.std.specs.List.{list_any, AllByRecursion}
 use Rattle.std.specs.List.Sorted.{IsPermutation}
 use Rattle.std.proofs.lemmas.List.Sorted.{list_any-IsPermutation}
 use Rattle.std.specs.Ordering.{is_eq, eq_by_cmp}
 use Rattle.std.specs.Cmp.{eq_by_cmp_equiv}
-use Rattle.std.specs.FinMap.{from_entries, remove}
 use Rattle.sqlite.specs.declared.types.Value.TheVariants.{Int}
 use Rattle.sqlite.specs.Order.{Row, column, value_cmp}
 use Rattle.sqlite_value.proofs.OrderLemmas.{value_cmp_total}
 use Rattle.sqlite.specs.Query.{Output}
 use Rattle.sqlite_trees.specs.Tree.{rowid, has_rowid}
-use Rattle.sqlite_trees.proofs.ListLemmas.{filter_same, filter-map, all_weaker, all_both, all-filter}
+use Rattle.sqlite_trees.proofs.ListLemmas.{filter_same, all_weaker, all_both, all-filter}
 use Rattle.sqlite_rules.specs.Edit.{id_in, without_all}
 use Rattle.sqlite_rules.specs.Calls.{ids_of}
-use Rattle.sqlite.specs.State.{State}
-use Rattle.ov_specs.specs.rows.Lines.{line_cmp}
-use Rattle.ov_sqlite.specs.Tables.{HasOurTables}
-use Rattle.ov_sqlite.specs.Format.{IsLine, entry, stored_lines, rows_of_line}
-use Rattle.ov_sqlite.specs.Changing.{IsNumbered, IsStored}
-use Rattle.ov_sqlite.proofs.RowLemmas.{passes, passes_key, without_all_filter, same_number}
-use Rattle.ov_sqlite.proofs.DeleteLemmas.{Deletes}
-use Rattle.ov_keeper.proofs.LineLemmas.{from_entries-filter}
+use Rattle.ov_specs.specs.rows.Lines.{LineKey, line_cmp}
+use Rattle.ov_sqlite.specs.Format.{HasNumber, IsKeyed, row_key}
+use Rattle.ov_sqlite.specs.Changing.{IsNumbered}
+use Rattle.ov_sqlite.proofs.RowLemmas.{has_key, keyed_number, passes, passes_key, without_all_filter, same_number}
 
 -- the second has the number of the first
 abbrev same : Row → Row → Bool
 same s r = has_rowid (id_in (rowid s)) r
 
-own_id : (s : Row) → IsLine s → Int (id_in (rowid s)) ≡ rowid s
-own_id s l = rw l.number_is refl
+own_id : (s : Row) → HasNumber s → Int (id_in (rowid s)) ≡ rowid s
+own_id s l = rw l.1 refl
 
-same_is : (s r : Row) → IsLine s → same s r ≡ is_eq (value_cmp (rowid r) (rowid s))
+same_is : (s r : Row) → HasNumber s → same s r ≡ is_eq (value_cmp (rowid r) (rowid s))
 same_is s r l = ap (λ v. is_eq (value_cmp (rowid r) v)) (own_id s l)
 
-same_self : (s : Row) → IsLine s → same s s ≡ true
+same_self : (s : Row) → HasNumber s → same s s ≡ true
 same_self s l = same_is s s l ∙ (eq_by_cmp_equiv value_cmp_total).refl (rowid s)
 
 -- rows of one number have one number
-same_equal : (s r : Row) → IsLine s → IsLine r → same s r ≡ true → rowid s ≡ rowid r
+same_equal : (s r : Row) → HasNumber s → HasNumber r → same s r ≡ true → rowid s ≡ rowid r
 same_equal s r l m h = sym (same_number r s m l (sym h ∙ same_is s r l))
 
 and_false : (a b : Bool) → b ≡ false → (a && b) ≡ false
@@ -56,10 +51,10 @@ module _ (p : Row → Bool) where
   abbrev hits : List Row → Row → Bool
   hits all r = list_any (λ s. p s && same s r) all
 
-  head_hit : (h : Row) (all : List Row) → IsLine h → p h ≡ true → hits (h ∷ all) h ≡ true
+  head_hit : (h : Row) (all : List Row) → HasNumber h → p h ≡ true → hits (h ∷ all) h ≡ true
   head_hit h all l e = rw (same_self h l, e) refl
 
-  pub hit_self : (all : List Row) → AllByRecursion IsLine all → AllByRecursion (λ r. p r ≡ true → hits all r ≡ true) all
+  hit_self : (all : List Row) → AllByRecursion HasNumber all → AllByRecursion (λ r. p r ≡ true → hits all r ≡ true) all
   hit_self [] lines = tt
   hit_self (h ∷ all) lines = (head_hit h all lines.0, all_weaker _ _ (λ r e is. or_true _ _ (e is)) all (hit_self all lines.1))
 
@@ -80,7 +75,7 @@ module _ (p : Row → Bool) where
       decided true e = found e
       decided false e = miss_all all r e ones
 
-  pub hit_once : (all : List Row) → AllByRecursion IsLine all → AllByRecursion (λ r. AllByRecursion (λ s. same s r ≡ true → p s ≡ p r) all) all → AllByRecursion (λ r. hits all r ≡ p r) all
+  hit_once : (all : List Row) → AllByRecursion HasNumber all → AllByRecursion (λ r. AllByRecursion (λ s. same s r ≡ true → p s ≡ p r) all) all → AllByRecursion (λ r. hits all r ≡ p r) all
   hit_once all lines ones = all_both _ _ _ (λ r one found. hit_is all r one found) all ones (hit_self all lines)
 
 any_map : {X Y : Type 0} (p : Y → Bool) (f : X → Y) (xs : List X) → list_any p (map f xs) ≡ list_any (λ x. p (f x)) xs
@@ -96,7 +91,7 @@ any_filter {X} p q (x ∷ xs) =
     ]
 
 -- the numbers that were taken, and the rows that passed
-pub taken : (p : Row → Bool) (f : Row → Row) (rows gone : List Row) (ordered : List Output) (r : Row) → IsPermutation (map (λ s. ([], rowid s ∷ f s)) (filter p rows)) ordered → gone ≡ map (λ o. o.1) ordered
+taken : (p : Row → Bool) (f : Row → Row) (rows gone : List Row) (ordered : List Output) (r : Row) → IsPermutation (map (λ s. ([], rowid s ∷ f s)) (filter p rows)) ordered → gone ≡ map (λ o. o.1) ordered
     → list_any (λ id. has_rowid id r) (ids_of gone) ≡ hits p rows r
 taken p f rows gone ordered r same is =
     any_map (λ id. has_rowid id r) (λ s. id_in (rowid s)) gone ∙ ap (list_any (λ s. has_rowid (id_in (rowid s)) r)) is
@@ -106,41 +101,39 @@ taken p f rows gone ordered r same is =
     ∙ any_filter _ p rows
 
 -- rows of one number pass together
-passes_together : (t i : List ℕ) (s r : Row) → IsLine s → IsLine r → (column s 0 ≡ column r 0 → entry s ≡ entry r) → same s r ≡ true → passes t i s ≡ passes t i r
-passes_together t i s r l m one h = passes_key t i s l ∙ ap (λ e. eq_by_cmp line_cmp (t, i) e.0) (one (same_equal s r l m h)) ∙ sym (passes_key t i r m)
+abbrev pub Together : (Row → Bool) → List Row → Type 0
+Together p rows = AllByRecursion (λ r. AllByRecursion (λ s. same s r ≡ true → p s ≡ p r) rows) rows
 
-together : (t i : List ℕ) (rows : List Row) → AllByRecursion IsLine rows → IsNumbered rows → AllByRecursion (λ r. AllByRecursion (λ s. same s r ≡ true → passes t i s ≡ passes t i r) rows) rows
-together t i rows lines numbered =
-    all_both _ _ _ (λ r m ones. all_both _ _ _ (λ s l one. passes_together t i s r l m one) rows lines ones) rows lines numbered
+-- what a query of the numbers of these rows gave
+abbrev pub Gives : List Row → List Row → Type 0
+Gives rows gone = (ordered : List Output) × IsPermutation (map (λ r. ([], rowid r ∷ [])) rows) ordered × (gone ≡ map (λ o. o.1) ordered)
 
--- the rows that are left are those with another key
-pub left_rows : (f : Row → Row) (t i : List ℕ) (rows gone : List Row) → AllByRecursion IsLine rows → IsNumbered rows
-    → (ordered : List Output) × IsPermutation (map (λ r. ([], rowid r ∷ f r)) (filter (passes t i) rows)) ordered × (gone ≡ map (λ o. o.1) ordered)
-    → without_all rows (ids_of gone) ≡ filter (λ r. not (eq_by_cmp line_cmp (t, i) (entry r).0)) rows
-left_rows f t i rows gone lines numbered same =
+-- the rows that are left are those that did not pass
+left_rows : (p : Row → Bool) (rows gone : List Row) → AllByRecursion HasNumber rows → Together p rows → Gives (filter p rows) gone → without_all rows (ids_of gone) ≡ filter (λ r. not (p r)) rows
+left_rows p rows gone numbers together same =
     without_all_filter (ids_of gone) rows
-    ∙ filter_same _ _ rows (all_both _ _ _ (λ r l e. ap not (taken (passes t i) f rows gone same.0 r same.1 same.2 ∙ e ∙ passes_key t i r l)) rows lines (hit_once (passes t i) rows lines (together t i rows lines numbered)))
+    ∙ filter_same _ _ rows (all_weaker _ _ (λ r e. ap not (taken p (λ _. []) rows gone same.0 r same.1 same.2 ∙ e)) rows (hit_once p rows numbers together))
 
--- they are the lines without the key
-pub left_lines : (t i : List ℕ) (rows : List Row) → stored_lines (filter (λ r. not (eq_by_cmp line_cmp (t, i) (entry r).0)) rows) ≡ remove (stored_lines rows) (t, i)
-left_lines t i rows = ap from_entries (sym (filter-map (λ e. not (eq_by_cmp line_cmp (t, i) e.0)) entry rows)) ∙ from_entries-filter (map entry rows) (t, i)
+keyed_together : (k : LineKey) (s r : Row) → IsKeyed s → IsKeyed r → (column s 0 ≡ column r 0 → row_key s ≡ row_key r) → same s r ≡ true → passes k s ≡ passes k r
+keyed_together k s r l m one h = passes_key k s l ∙ ap (eq_by_cmp line_cmp k) (one (same_equal s r (keyed_number s l) (keyed_number r m) h)) ∙ sym (passes_key k r m)
 
-deleted_rows : (t i : List ℕ) (old new : State) → AllByRecursion IsLine (rows_of_line old.now.trees) → IsNumbered (rows_of_line old.now.trees) → Deletes t i old new
-    → rows_of_line new.now.trees ≡ filter (λ r. not (eq_by_cmp line_cmp (t, i) (entry r).0)) (rows_of_line old.now.trees)
-deleted_rows t i old new lines numbered d = d.left ∙ left_rows (λ _. []) t i (rows_of_line old.now.trees) d.rows lines numbered d.same
+-- of rows with keys, those are left that have another key
+pub left_keyed : (k : LineKey) (rows gone : List Row) → AllByRecursion IsKeyed rows → IsNumbered row_key rows → Gives (filter (passes k) rows) gone → without_all rows (ids_of gone) ≡ filter (λ r. not (has_key k r)) rows
+left_keyed k rows gone keyed numbered same =
+    let together : Together (passes k) rows = all_both _ _ _ (λ r m ones. all_both _ _ _ (λ s l one. keyed_together k s r l m one) rows keyed ones) rows keyed numbered in
+    left_rows (passes k) rows gone (all_weaker _ _ keyed_number rows keyed) together same ∙ filter_same _ _ rows (all_weaker _ _ (λ r m. ap not (passes_key k r m)) rows keyed)
 
-pub filter_numbered : (p : Row → Bool) (rows : List Row) → IsNumbered rows → IsNumbered (filter p rows)
-filter_numbered p rows numbered = all-filter _ p rows (all_weaker _ _ (λ r ones. all-filter _ p rows ones) rows numbered)
+none_left : (rows : List Row) → filter (λ _. not true) rows ≡ []
+none_left [] = refl
+none_left (r ∷ rows) = none_left rows
 
-pub deleted_stored : (text t i : List ℕ) (old new : State) → IsStored text old.now → Deletes t i old new → IsStored text new.now
-deleted_stored text t i old new stored d =
-    let left = deleted_rows t i old new stored.format.lines stored.numbered d in
-    record {
-      format = record { schema = subst HasOurTables (sym d.schema) stored.format.schema; meta = subst (Rattle.ov_sqlite.specs.Format.IsMeta text) (sym d.meta) stored.format.meta; lines = subst (AllByRecursion IsLine) (sym left) (all-filter _ _ _ stored.format.lines) };
-      numbered = subst IsNumbered (sym left) (filter_numbered _ _ stored.numbered);
-      sound = d.sound;
-    }
+-- of all rows, none is left
+pub none_remain : (rows gone : List Row) → AllByRecursion HasNumber rows → Gives (filter (λ _. true) rows) gone → without_all rows (ids_of gone) ≡ []
+none_remain rows gone numbers same = left_rows (λ _. true) rows gone numbers (all_weaker _ _ (λ r n. all_weaker _ _ (λ s m h. refl) rows numbers) rows numbers) same ∙ none_left rows
 
-pub deleted_lines : (text t i : List ℕ) (old new : State) → IsStored text old.now → Deletes t i old new → stored_lines (rows_of_line new.now.trees) ≡ remove (stored_lines (rows_of_line old.now.trees)) (t, i)
-deleted_lines text t i old new stored d =
-    ap stored_lines (deleted_rows t i old new stored.format.lines stored.numbered d) ∙ left_lines t i (rows_of_line old.now.trees)
+pub filter_numbered : {X : Type 0} (is : Row → X) (p : Row → Bool) (rows : List Row) → IsNumbered is rows → IsNumbered is (filter p rows)
+filter_numbered is p rows numbered = all-filter _ p rows (all_weaker _ _ (λ r ones. all-filter _ p rows ones) rows numbered)
+
+-- a part of what rows are is numbered as they are
+pub numbered_part : {X Y : Type 0} (is : Row → X) (part : X → Y) (rows : List Row) → IsNumbered is rows → IsNumbered (λ r. part (is r)) rows
+numbered_part is part rows numbered = all_weaker _ _ (λ r ones. all_weaker _ _ (λ s one e. ap part (one e)) rows ones) rows numbered

@@ -9,9 +9,9 @@ use Rattle.sqlite.specs.Steps.{FailsToCommit}
 use Rattle.sqlite.proofs.StateLemmas.{survives_then}
 use Rattle.sqlite.proofs.Callers.{survives_begin}
 use Rattle.sqlite_trees.specs.Tree.{Trees}
-use Rattle.ov_specs.specs.rows.Lines.{Lines}
-use Rattle.ov_sqlite.specs.Format.{IsMeta, stored_lines, rows_of_meta, rows_of_line}
-use Rattle.ov_sqlite.specs.Changing.{IsStored, MayBeStored}
+use Rattle.ov_specs.specs.rows.Cells.{CellLines}
+use Rattle.ov_sqlite.specs.Format.{IsMeta, stored_cells, rows_of_meta}
+use Rattle.ov_sqlite.specs.Changing.{HoldsCells, MayBeStored}
 use Rattle.ov_sqlite.specs.Querying.{IsAsBefore}
 use Rattle.ov_sqlite.specs.Rewriting.{KeepsRest, Remakes, Rewrites, IsRewriteImage}
 use Rattle.ov_sqlite.proofs.ReadLemmas.{rolled_as_before}
@@ -31,9 +31,9 @@ module _ {S : Type 0} (g : Ghosts S) (held : Connected S) (last end : State) (se
   refused_same e kept mode (inl fails) = rolled_same kept fails.3
   refused_same e kept mode (inr ends) = let ended : last.in_transaction ≡ false = ends.1 in absurd cc
 
-  module _ (text : List ℕ) (lines : Lines) where
+  module _ (text : List ℕ) (lines : CellLines) where
     -- the commit writes the whole of it, if it gets that far
-    pub rewritten_crash : Survives begun last (λ _. ⊥) → Survives last end (λ db. db ≡ last.now.trees) → (HasCleanDisk last → (t : List ℕ) → MayBeStored t old → Remakes text (λ _. lines) begun last)
+    pub rewritten_crash : Survives begun last (λ _. ⊥) → Survives last end (λ db. db ≡ last.now.trees) → (HasCleanDisk last → (t : List ℕ) → MayBeStored t old → Remakes text lines begun last)
         → Survives old end (λ trees. (t : List ℕ) → MayBeStored t old → IsRewriteImage text lines old trees)
     rewritten_crash one two made =
         survives_then old last end (λ _. ⊥) (λ db. db ≡ last.now.trees) (λ trees. (t : List ℕ) → MayBeStored t old → IsRewriteImage text lines old trees) (λ _ db none. absurd none)
@@ -43,19 +43,19 @@ module _ {S : Type 0} (g : Ghosts S) (held : Connected S) (last end : State) (se
         record {
           was_open = it.was_open;
           was_settled = settled it.was_open;
-          meta = subst (λ trees. IsMeta text (rows_of_meta trees)) (sym is) it.meta;
-          lines_are = ap (λ (trees : Trees). stored_lines (rows_of_line trees)) is ∙ it.lines_are;
+          meta = subst (λ trees. IsMeta 2 text (rows_of_meta trees)) (sym is) it.meta;
+          lines_are = ap stored_cells is ∙ it.lines_are;
           others = subst (KeepsRest old.now.schema old.now.trees) (sym is) it.others;
         })
         (survives_begin g held last _ one) two
 
-    pub rewritten : Remakes text (λ _. lines) begun last → IsTrue last.is_open → IsTrue end.is_open → end.now ≡ last.now → end.committed ≡ last.now → Rewrites text lines old end
+    pub rewritten : Remakes text lines begun last → IsTrue last.is_open → IsTrue end.is_open → end.now ≡ last.now → end.committed ≡ last.now → Rewrites text lines old end
     rewritten it was up now committed = record {
       was_open = it.was_open;
       is_open = up;
       was_settled = settled it.was_open;
       is_settled = now ∙ sym committed;
-      stored = subst (IsStored text) (sym now) (it.stored was);
-      lines_are = ap (λ (d : Database). stored_lines (rows_of_line d.trees)) now ∙ it.lines_are;
+      stored = subst (HoldsCells text) (sym now) (it.stored was);
+      lines_are = ap (λ (d : Database). stored_cells d.trees) now ∙ it.lines_are;
       others = subst (λ (d : Database). KeepsRest old.now.schema old.now.trees d.trees) (sym now) it.others;
     }

@@ -1,4 +1,4 @@
--- A schema with our two tables after all that it had.
+-- A schema with one more table after all that it had.
 use Rattle.std.proofs.Common.{◌≡◌, ◌≢◌, ◌⊎◌, ◌<◌, ◌≤◌, ◌+◌, ℕ, max, fold, List, [], ◌∷◌, ◌++◌, find, slice_get, Bool, true, false, not, ◌&&◌, ◌||◌, ◌==◌, cond, Option, Some, None, is_some, unwrap_or, option_map, option_and_then, refl, sym, ap, ap₂, subst, ◌∙◌, arith, codes, inl, inr, ne_eqb}
 use Rattle.std.specs.Option.{option_or}
 use Rattle.std.specs.Fmt.{digits}
@@ -16,11 +16,12 @@ use Rattle.sqlite_schema.specs.declared.schema.Index.{Index}
 use Rattle.sqlite_schema.specs.declared.schema.Reference.{Reference}
 use Rattle.sqlite_schema.specs.Names.{same_name, table_named, index_named, view_named}
 use Rattle.sqlite_rules.specs.Lists.{Has}
-use Rattle.sqlite_rules.proofs.ListLemmas.{all_has, all_from, test_from, has_left, has_right, has_either, has_found}
+use Rattle.sqlite_rules.proofs.ListLemmas.{all_has, all_from, test_from, test_has, has_left, has_right, has_either, has_found}
 use Rattle.sqlite_catalog.specs.Listing.{IsIndexRow, automatic}
 use Rattle.sqlite_catalog.proofs.LayoutLemmas.{index_owner}
 use Rattle.sqlite_trees.specs.Tree.{Trees}
-use Rattle.ov_sqlite.specs.Tables.{meta_table, line_table, no_schema, table_of, tree_of, is_tree_of_ours, points_to, refers_to_ours, is_apart, is_key_of_ours, is_allowed_index, with_meta, with_ours, names_ours, HasRoom, HasTable, HasOurTables}
+use Rattle.ov_sqlite.specs.Tables.{plain_table, meta_table, head_table, cell_table, no_schema, table_of, tree_of, points_to, is_apart, is_key_to, key_index, is_allowed, HasRoomFor, HasRoom, HasTable}
+use Rattle.sqlite_schema.specs.declared.schema.Column.{Column}
 use Rattle.ov_sqlite.proofs.TableLemmas.{found_place}
 
 -- ---- numbers of trees
@@ -45,7 +46,7 @@ no_place None h = refl
 no_place (Some at) h = absurd cc
 
 module _ {X : Type 0} (p : X → Bool) where
-  none_found : (from : ℕ) (xs : List X) → position_from p from xs ≡ None → find p xs ≡ None
+  pub none_found : (from : ℕ) (xs : List X) → position_from p from xs ≡ None → find p xs ≡ None
   none_found from [] h = refl
   none_found from (x ∷ xs) h = go (p x) (none_found (from + 1) xs) h
     where
@@ -79,12 +80,6 @@ module _ {X : Type 0} (p : X → Bool) where
   none_from [] each = refl
   none_from (y ∷ xs) each = or_from _ _ (each y (inl refl)) (none_from xs (λ x h. each x (inr h)))
 
-  rest : (xs : List X) (a b : X) → find p ((xs ++ a ∷ []) ++ b ∷ []) ≡ option_or (option_or (find p xs) (find p (a ∷ []))) (find p (b ∷ []))
-  rest xs a b = find-append p (xs ++ a ∷ []) (b ∷ []) ∙ ap (λ o. option_or o (find p (b ∷ []))) (find-append p xs (a ∷ []))
-
-  new_found : (xs : List X) (a b : X) → find p xs ≡ None → find p ((xs ++ a ∷ []) ++ b ∷ []) ≡ option_or (find p (a ∷ [])) (find p (b ∷ []))
-  new_found xs a b none = rest xs a b ∙ ap (λ o. option_or (option_or o (find p (a ∷ []))) (find p (b ∷ []))) none
-
 -- nothing has the name
 pub record IsFree (schema : Schema) (name : List ℕ) : Type 0 where
   pub table : table_named schema name ≡ None
@@ -96,10 +91,6 @@ is_free schema name unused =
     let parts = or_parts _ _ unused in
     let front = or_parts _ _ parts.0 in
     record { table = no_place _ front.0; index = no_place _ front.1; view = no_place _ parts.1 }
-
-pub line_free : (schema : Schema) → IsFree schema (codes "line") → IsFree (with_meta schema) (codes "line")
-unfolding digits same_name
-line_free schema free = record { table = none_after _ 0 schema.tables _ free.table refl; index = none_after _ 0 schema.indexes _ free.index refl; view = free.view }
 
 -- ---- the table of the counts
 
@@ -128,164 +119,146 @@ counts_kept schema table uncounted none =
     sequence_found p (schema.tables ++ new ∷ []) ∙ ap is_some (find-append p schema.tables (new ∷ [])) in
     ap₂ (λ a b. a && not b) any there ∙ still_there (list_any (λ (t : Table). t.is_counted) schema.tables) (find p schema.tables) (find p (new ∷ [])) was
 
--- ---- the schema with both
+-- ---- the schema with one more
 
 far : (a n : ℕ) (b : Bool) → a ≢ n → (not (a == n) || b) ≡ true
 far a n b other = rw (ne_eqb a n other) refl
 
-ends : (o : Option Table) → option_or (option_or o None) None ≡ o
-ends None = refl
-ends (Some t) = refl
+unlike : (u a b : Bool) → a ≡ false → (not (u && a) || b) ≡ true
+unlike true a b h = rw h refl
+unlike false a b h = refl
 
-allowed : (u a b : Bool) → a ≡ false → (not (u && a) || b) ≡ true
-allowed true a b h = rw h refl
-allowed false a b h = refl
+-- each index is of a table
+abbrev pub AreOwned : Schema → Type 0
+AreOwned schema = (i : Index) → Has schema.indexes i → (t : Table) × Has schema.tables t × (i.table ≡ t.tree)
 
-module _ (schema : Schema) (room : HasRoom schema) where
-  abbrev m : ℕ
-  m = next_tree schema
+module _ (schema : Schema) (name : List ℕ) (columns : List Column) (key : List ℕ) where
+  abbrev n : ℕ
+  n = next_tree schema
 
-  abbrev l : ℕ
-  l = next_tree (with_meta schema)
+  abbrev new : Table
+  new = plain_table name n columns key
 
   abbrev after : Schema
-  after = with_ours schema
+  after = created schema (plain_table name 0 columns key)
 
-  in_order : m < l
-  in_order = tree_below (with_meta schema) (meta_table m) (has_right schema.tables (meta_table m ∷ []) (meta_table m) (inl refl))
+  abbrev new_index : Index
+  new_index = automatic new 0 key (n + 1)
 
-  before_meta : (t : Table) → Has schema.tables t → t.tree ≢ m
-  before_meta t h e = absurd (omega (arith, tree_below schema t h, e))
+  before_new : (t : Table) → Has schema.tables t → t.tree ≢ n
+  before_new t h e = absurd (omega (arith, tree_below schema t h, e))
 
-  before_line : (t : Table) → Has schema.tables t → t.tree ≢ l
-  before_line t h e = absurd (omega (arith, tree_below schema t h, in_order, e))
-
-  -- a table of the new schema
-  abbrev IsAmong : Table → Type 0
-  IsAmong t = Has schema.tables t ⊎ ((t ≡ meta_table m) ⊎ (t ≡ line_table l))
-
-  last_of : (a t : Table) → Has (a ∷ []) t → t ≡ a
+  last_of : {X : Type 0} (a t : X) → Has (a ∷ []) t → t ≡ a
   last_of a t (inl is) = is
   last_of a t (inr none) = absurd none
 
-  each_table : (t : Table) → Has after.tables t → IsAmong t
-  each_table t h = back (has_either (schema.tables ++ meta_table m ∷ []) (line_table l ∷ []) t h)
+  pub each_table : (t : Table) → Has after.tables t → Has schema.tables t ⊎ (t ≡ new)
+  each_table t h = elim (has_either schema.tables (new ∷ []) t h) [ inl old ↦ inl old | inr it ↦ inr (last_of new t it) ]
+
+  each_index : (i : Index) → Has after.indexes i → Has schema.indexes i ⊎ (i ≡ new_index)
+  each_index i h = elim (has_either schema.indexes (new_index ∷ []) i h) [ inl old ↦ inl old | inr it ↦ inr (last_of new_index i it) ]
+
+  pub old_table : (t : Table) → Has schema.tables t → Has after.tables t
+  old_table t h = has_left schema.tables (new ∷ []) t h
+
+  found_in : (p : Table → Bool) → find p after.tables ≡ option_or (find p schema.tables) (find p (new ∷ []))
+  found_in p = find-append p schema.tables (new ∷ [])
+
+  -- what is found by a name that the new table has not
+  found_old : (p : Table → Bool) → p new ≡ false → find p after.tables ≡ find p schema.tables
+  found_old p other = found_in p ∙ ap (option_or (find p schema.tables)) none ∙ ends (find p schema.tables)
     where
-      front : Has schema.tables t ⊎ Has (meta_table m ∷ []) t → IsAmong t
-      front (inl old) = inl old
-      front (inr new) = inr (inl (last_of (meta_table m) t new))
+      none : find p (new ∷ []) ≡ None
+      none = rw other refl
 
-      back : Has (schema.tables ++ meta_table m ∷ []) t ⊎ Has (line_table l ∷ []) t → IsAmong t
-      back (inl h) = front (has_either schema.tables (meta_table m ∷ []) t h)
-      back (inr new) = inr (inr (last_of (line_table l) t new))
+      ends : (o : Option Table) → option_or o None ≡ o
+      ends None = refl
+      ends (Some t) = refl
 
-  meta_named : table_of after (codes "meta") ≡ Some (meta_table m)
-  unfolding same_name
-  meta_named = new_found _ schema.tables (meta_table m) (line_table l) (none_found _ 0 schema.tables (is_free schema (codes "meta") room.meta).table)
+  -- ---- the new table
 
-  line_named : table_of after (codes "line") ≡ Some (line_table l)
-  unfolding same_name
-  line_named = new_found _ schema.tables (meta_table m) (line_table l) (none_found _ 0 schema.tables (is_free schema (codes "line") room.line).table)
+  module _ (room : HasRoomFor schema name) (itself : same_name name name ≡ true) (indexed : same_name (key_index name) new_index.name ≡ true) (owned : AreOwned schema) where
+    new_named : table_of after name ≡ Some new
+    new_named = found_in _ ∙ ap (λ o. option_or o (find (λ t. same_name t.name name) (new ∷ []))) (none_found _ 0 schema.tables (is_free schema name room.free).table) ∙ rw itself refl
 
-  pub meta_tree : tree_of after (codes "meta") ≡ m
-  meta_tree = ap (λ (o : Option Table). unwrap_or (option_map (λ t. t.tree) o) 0) meta_named
+    new_alone : list_all (λ t. not (t.tree == n) || same_name t.name name) after.tables ≡ true
+    new_alone = test_from _ after.tables (λ t h. elim (each_table t h) [ inl old ↦ far t.tree n _ (before_new t old) | inr is ↦ rw is (or_right _ _ itself) ])
 
-  pub line_tree : tree_of after (codes "line") ≡ l
-  line_tree = ap (λ (o : Option Table). unwrap_or (option_map (λ t. t.tree) o) 0) line_named
-
-  meta_alone : list_all (λ t. not (t.tree == m) || same_name t.name (codes "meta")) after.tables ≡ true
-  unfolding same_name
-  meta_alone = test_from _ after.tables (λ t h. go t (each_table t h))
-    where
-      go : (t : Table) → IsAmong t → (not (t.tree == m) || same_name t.name (codes "meta")) ≡ true
-      go t (inl old) = far t.tree m _ (before_meta t old)
-      go t (inr (inl is)) = rw is (or_right _ _ refl)
-      go t (inr (inr is)) = rw is (far l m _ (λ e. absurd (omega (arith, in_order, e))))
-
-  line_alone : list_all (λ t. not (t.tree == l) || same_name t.name (codes "line")) after.tables ≡ true
-  unfolding same_name
-  line_alone = test_from _ after.tables (λ t h. go t (each_table t h))
-    where
-      go : (t : Table) → IsAmong t → (not (t.tree == l) || same_name t.name (codes "line")) ≡ true
-      go t (inl old) = far t.tree l _ (before_line t old)
-      go t (inr (inl is)) = rw is (far m l _ (λ e. absurd (omega (arith, in_order, e))))
-      go t (inr (inr is)) = rw is (or_right _ _ refl)
-
-  -- a foreign key that names none of ours points to none
-  points_past : (ref : Reference) → names_ours ref ≡ false → points_to m l after ref ≡ false
-  points_past ref other = ap (λ (o : Option Table). unwrap_or (option_map (λ t. (t.tree == m) || (t.tree == l)) o) false) found ∙ go (find p schema.tables) refl
-    where
-      p : Table → Bool
-      p t = same_name t.name ref.parent
-
-      none : (t : Table) → p t ≡ false → find p (t ∷ []) ≡ None
-      none t other = rw other refl
-
-      found : table_of after ref.parent ≡ find p schema.tables
-      found =
-          let parts = or_parts _ _ other in
-          rest p schema.tables (meta_table m) (line_table l) ∙ ap₂ (λ a b. option_or (option_or (find p schema.tables) a) b) (none (meta_table m) parts.0) (none (line_table l) parts.1) ∙ ends (find p schema.tables)
-
-      go : (o : Option Table) → find p schema.tables ≡ o → unwrap_or (option_map (λ (t : Table). (t.tree == m) || (t.tree == l)) o) false ≡ false
-      go None h = refl
-      go (Some t) h = let here = (has_found p schema.tables t h).0 in or_from _ _ (ne_eqb t.tree m (before_meta t here)) (ne_eqb t.tree l (before_line t here))
-
-  tables_apart : list_all (is_apart after) after.tables ≡ true
-  tables_apart = test_from _ after.tables (λ t h. go t (each_table t h))
-    where
-      at_trees : (ref : Reference) → refers_to_ours after ref ≡ points_to m l after ref
-      at_trees ref = ap₂ (λ a b. points_to a b after ref) meta_tree line_tree
-
-      go : (t : Table) → IsAmong t → is_apart after t ≡ true
-      go t (inl old) =
-          let keys = none_has (λ (t : Table). list_any names_ours t.references) schema.tables t room.keys old in
-          ap not (none_from (refers_to_ours after) t.references (λ ref h. at_trees ref ∙ points_past ref (none_has names_ours t.references ref keys h)))
-      go t (inr (inl is)) = rw is refl
-      go t (inr (inr is)) = rw is refl
-
-  abbrev meta_index : Index
-  meta_index = automatic (meta_table m) 0 (1 ∷ []) (m + 1)
-
-  abbrev line_index : Index
-  line_index = automatic (line_table l) 0 (1 ∷ 2 ∷ []) (l + 1)
-
-  -- an index of the new schema
-  each_index : (i : Index) → Has after.indexes i → Has schema.indexes i ⊎ (is_key_of_ours i ≡ true)
-  unfolding digits same_name
-  each_index i h = back (has_either (schema.indexes ++ meta_index ∷ []) (line_index ∷ []) i h)
-    where
-      ours : (a : Index) → is_key_of_ours a ≡ true → Has (a ∷ []) i → is_key_of_ours i ≡ true
-      ours a key (inl is) = rw is key
-      ours a key (inr none) = absurd none
-
-      front : Has schema.indexes i ⊎ Has (meta_index ∷ []) i → Has schema.indexes i ⊎ (is_key_of_ours i ≡ true)
-      front (inl old) = inl old
-      front (inr new) = inr (ours meta_index refl new)
-
-      back : Has (schema.indexes ++ meta_index ∷ []) i ⊎ Has (line_index ∷ []) i → Has schema.indexes i ⊎ (is_key_of_ours i ≡ true)
-      back (inl h) = front (has_either schema.indexes (meta_index ∷ []) i h)
-      back (inr new) = inr (ours line_index refl new)
-
-  module _ (owned : (i : Index) → Has schema.indexes i → (t : Table) × Has schema.tables t × (i.table ≡ t.tree)) where
-    indexes_allowed : list_all (is_allowed_index after) after.indexes ≡ true
-    indexes_allowed = test_from _ after.indexes (λ i h. go i (each_index i h))
+    -- a foreign key that does not name it points to another table, or to none
+    points_past : (ref : Reference) → is_key_to name ref ≡ false → points_to n after ref ≡ false
+    points_past ref other = ap (λ (o : Option Table). unwrap_or (option_map (λ t. t.tree == n) o) false) (found_old (λ t. same_name t.name ref.parent) other) ∙ go (find (λ t. same_name t.name ref.parent) schema.tables) refl
       where
-        go : (i : Index) → Has schema.indexes i ⊎ (is_key_of_ours i ≡ true) → is_allowed_index after i ≡ true
-        go i (inl old) =
-            let it = owned i old in
-            allowed i.is_unique (is_tree_of_ours after i.table) (is_key_of_ours i)
-            (or_from _ _ (ne_eqb i.table _ (λ e. before_meta it.0 it.1 (sym it.2 ∙ e ∙ meta_tree))) (ne_eqb i.table _ (λ e. before_line it.0 it.1 (sym it.2 ∙ e ∙ line_tree))))
-        go i (inr key) = or_right _ _ key
+        go : (o : Option Table) → find (λ t. same_name t.name ref.parent) schema.tables ≡ o → unwrap_or (option_map (λ (t : Table). t.tree == n) o) false ≡ false
+        go None h = refl
+        go (Some t) h = ne_eqb t.tree n (before_new t (has_found (λ t. same_name t.name ref.parent) schema.tables t h).0)
 
-    has_ours : HasOurTables after
-    has_ours = record {
-      meta = subst (λ n. HasTable after (meta_table n)) (sym meta_tree) (record { named = meta_named; alone = meta_alone });
-      line = subst (λ n. HasTable after (line_table n)) (sym line_tree) (record { named = line_named; alone = line_alone });
-      other_tables = tables_apart;
-      other_indexes = indexes_allowed;
+    new_apart : list_all (is_apart n after) after.tables ≡ true
+    new_apart = test_from _ after.tables (λ t h. elim (each_table t h) [
+      | inl old ↦ let keys = none_has (λ (t : Table). list_any (is_key_to name) t.references) schema.tables t room.keys old in
+          ap not (none_from (points_to n after) t.references (λ ref h. points_past ref (none_has (is_key_to name) t.references ref keys h)))
+      | inr is ↦ rw is refl
+    ])
+
+    new_allowed : list_all (is_allowed (key_index name) n) after.indexes ≡ true
+    new_allowed = test_from _ after.indexes (λ i h. elim (each_index i h) [
+      | inl old ↦ let it = owned i old in unlike i.is_unique (i.table == n) _ (ne_eqb i.table n (λ e. before_new it.0 it.1 (sym it.2 ∙ e)))
+      | inr is ↦ rw is (or_right _ _ indexed)
+    ])
+
+    pub made : HasTable after new
+    made = record { named = new_named; alone = new_alone; apart = new_apart; allowed = new_allowed }
+
+  -- its index is of it
+  pub owned_after : AreOwned schema → AreOwned after
+  owned_after owned i h = elim (each_index i h) [
+    | inl old ↦ let it = owned i old in (it.0, old_table it.0 it.1, it.2)
+    | inr is ↦ (new, has_right schema.tables (new ∷ []) new (inl refl), ap (λ (j : Index). j.table) is)
+  ]
+
+  -- ---- a table that was there
+
+  module _ (u : Table) (has : HasTable schema u) where
+    u_below : u.tree ≢ n
+    u_below = before_new u (has_found (λ t. same_name t.name u.name) schema.tables u has.named).0
+
+    still_apart : (ref : Reference) → points_to u.tree schema ref ≡ false → points_to u.tree after ref ≡ false
+    still_apart ref none = ap (λ (o : Option Table). unwrap_or (option_map (λ t. t.tree == u.tree) o) false) (found_in (λ t. same_name t.name ref.parent)) ∙ go (find (λ t. same_name t.name ref.parent) schema.tables) none
+      where
+        go : (o : Option Table) → unwrap_or (option_map (λ (t : Table). t.tree == u.tree) o) false ≡ false → unwrap_or (option_map (λ (t : Table). t.tree == u.tree) (option_or o (find (λ t. same_name t.name ref.parent) (new ∷ [])))) false ≡ false
+        go (Some t) h = h
+        go None h = elim (same_name name ref.parent) as (λ b. unwrap_or (option_map (λ (t : Table). t.tree == u.tree) (cond b (Some new) None)) false ≡ false) [
+          | true ↦ ne_eqb n u.tree (λ e. u_below (sym e))
+          | false ↦ refl
+        ]
+
+    was_apart : (b : Bool) → not b ≡ true → b ≡ false
+    was_apart true h = absurd cc
+    was_apart false h = refl
+
+    pub kept : HasTable after u
+    kept = record {
+      named = found_in _ ∙ ap (λ o. option_or o (find (λ t. same_name t.name u.name) (new ∷ []))) has.named;
+      alone = test_from _ after.tables (λ t h. elim (each_table t h) [ inl old ↦ test_has _ schema.tables t has.alone old | inr is ↦ rw is (far n u.tree _ (λ e. u_below (sym e))) ]);
+      apart = test_from _ after.tables (λ t h. elim (each_table t h) [
+        | inl old ↦ let none = was_apart _ (test_has _ schema.tables t has.apart old) in ap not (none_from (points_to u.tree after) t.references (λ ref r. still_apart ref (none_has (points_to u.tree schema) t.references ref none r)))
+        | inr is ↦ rw is refl
+      ]);
+      allowed = test_from _ after.indexes (λ i h. elim (each_index i h) [
+        | inl old ↦ test_has _ schema.indexes i has.allowed old
+        | inr is ↦ rw is (unlike true (n == u.tree) _ (ne_eqb n u.tree (λ e. u_below (sym e))))
+      ]);
     }
 
--- each index is of a table
+  -- ---- room that was there
+
+  pub room_kept : (other : List ℕ) → HasRoomFor schema other → same_name name other ≡ false → same_name new_index.name other ≡ false → HasRoomFor after other
+  room_kept other room table index =
+      let free = is_free schema other room.free in
+      record {
+        free = or_from _ _ (or_from _ _ (ap is_some (none_after _ 0 schema.tables new free.table table)) (ap is_some (none_after _ 0 schema.indexes new_index free.index index))) (ap is_some free.view);
+        keys = list_any-append (λ t. list_any (is_key_to other) t.references) schema.tables (new ∷ []) ∙ or_from _ _ room.keys refl;
+      }
+
 owner : (tables : List Table) (rows : List Row) (indexes : List Index) → AllZip (IsIndexRow tables) rows indexes → (i : Index) → Has indexes i → (t : Table) × Has tables t × (i.table ≡ t.tree)
 owner tables [] [] all i h = absurd h
 owner tables [] (j ∷ indexes) all i h = absurd all
@@ -293,21 +266,55 @@ owner tables (r ∷ rows) [] all i h = absurd h
 owner tables (r ∷ rows) (j ∷ indexes) all i (inl is) = (all.0.table, all.0.listed, ap (λ (k : Index). k.table) is ∙ index_owner all.0.table j _ all.0.defined)
 owner tables (r ∷ rows) (j ∷ indexes) all i (inr later) = owner tables rows indexes all.1 i later
 
-pub ours_after : (before : Database) → HasRoom before.schema → IsDatabase before → HasOurTables (with_ours before.schema)
-ours_after before room sound = has_ours before.schema room (owner before.schema.tables _ before.schema.indexes sound.lists.listed.indexes)
+pub owned_by : (db : Database) → IsDatabase db → AreOwned db.schema
+owned_by db sound = owner db.schema.tables _ db.schema.indexes sound.lists.listed.indexes
+
+-- ---- the three tables
+
+pub meta_itself : same_name (codes "meta") (codes "meta") ≡ true
+unfolding same_name
+meta_itself = refl
+
+pub head_itself : same_name (codes "head") (codes "head") ≡ true
+unfolding same_name
+head_itself = refl
+
+pub cell_itself : same_name (codes "cell") (codes "cell") ≡ true
+unfolding same_name
+cell_itself = refl
+
+module _ (schema : Schema) where
+  pub meta_indexed : same_name (key_index (codes "meta")) (automatic (meta_table (next_tree schema)) 0 (1 ∷ []) (next_tree schema + 1)).name ≡ true
+  unfolding digits same_name
+  meta_indexed = refl
+
+  pub head_indexed : same_name (key_index (codes "head")) (automatic (head_table (next_tree schema)) 0 (1 ∷ 2 ∷ []) (next_tree schema + 1)).name ≡ true
+  unfolding digits same_name
+  head_indexed = refl
+
+  pub cell_indexed : same_name (key_index (codes "cell")) (automatic (cell_table (next_tree schema)) 0 (1 ∷ 2 ∷ 3 ∷ []) (next_tree schema + 1)).name ≡ true
+  unfolding digits same_name
+  cell_indexed = refl
+
+  -- room for one is kept where another is made
+  pub head_after_meta : HasRoomFor schema (codes "head") → HasRoomFor (created schema (meta_table 0)) (codes "head")
+  unfolding digits same_name
+  head_after_meta room = room_kept schema (codes "meta") _ (1 ∷ []) (codes "head") room refl refl
+
+  pub cell_after_meta : HasRoomFor schema (codes "cell") → HasRoomFor (created schema (meta_table 0)) (codes "cell")
+  unfolding digits same_name
+  cell_after_meta room = room_kept schema (codes "meta") _ (1 ∷ []) (codes "cell") room refl refl
+
+  pub cell_after_head : HasRoomFor schema (codes "cell") → HasRoomFor (created schema (head_table 0)) (codes "cell")
+  unfolding digits same_name
+  cell_after_head room = room_kept schema (codes "head") _ (1 ∷ 2 ∷ []) (codes "cell") room refl refl
 
 pub room_of_blank : (schema : Schema) → schema ≡ no_schema → HasRoom schema
-room_of_blank schema blank = subst HasRoom (sym blank) (record { meta = refl; line = refl; keys = refl; counts = refl })
+room_of_blank schema blank =
+    subst HasRoom (sym blank) (record { meta = record { free = refl; keys = refl }; head = record { free = refl; keys = refl }; cell = record { free = refl; keys = refl }; counts = refl })
 
 -- ---- the rows of the other tables
 
 pub kept_then : (tables more : List Table) (a b c : Trees) → KeepsRows tables a b → KeepsRows (tables ++ more) b c → KeepsRows tables a c
 kept_then [] more a b c one two = tt
 kept_then (t ∷ tables) more a b c one two = (two.0 ∙ one.0, kept_then tables more a b c one.1 two.1)
-
--- a change of `meta` alone
-pub kept_beside : (schema now : Schema) → HasRoom schema → now ≡ with_ours schema → (a b c : Trees) → KeepsRows schema.tables a b
-    → AllByRecursion (λ t. t.tree ≢ tree_of now (codes "meta") → c t.tree ≡ b t.tree) now.tables → KeepsRows schema.tables a c
-kept_beside schema now room is a b c one step =
-    let there = subst (λ (s : Schema). AllByRecursion (λ t. t.tree ≢ tree_of s (codes "meta") → c t.tree ≡ b t.tree) s.tables) is step in
-    all_from _ schema.tables (λ t h. all_has _ (with_ours schema).tables t there (has_left _ _ t (has_left schema.tables _ t h)) (λ e. absurd (before_meta schema room t h (e ∙ meta_tree schema room))) ∙ all_has _ schema.tables t one h)

@@ -1,4 +1,4 @@
--- Rows of `line`, and the tests that a query makes of them.
+-- Rows that begin with a key, and the tests that a statement makes of them.
 use Rattle.std.proofs.Common.{◌≡◌, ℕ, ℤ, List, [], ◌∷◌, ◌++◌, map, filter, Bool, true, false, not, cond, ◌&&◌, ◌||◌, Some, refl, sym, ap, ap₂, ◌∙◌}
 use Rattle.std.specs.List.{list_any, list_all, flat_map}
 use Rattle.std.specs.Ordering.{is_eq, nat_cmp, int_cmp, ordering_then, eq_by_cmp}
@@ -20,14 +20,18 @@ use Rattle.sqlite_sql.specs.Ops.{binary, is_true, from_truth}
 use Rattle.sqlite_sql.specs.declared.ops.BinaryOp.TheVariants.{Compare}
 use Rattle.sqlite_sql.specs.declared.ops.CompareOp.TheVariants.{Eq}
 use Rattle.sqlite.specs.Collation.TheVariants.{Binary}
-use Rattle.ov_specs.specs.rows.Lines.{line_cmp}
-use Rattle.ov_sqlite.specs.Format.{IsLine, entry}
+use Rattle.ov_specs.specs.rows.Lines.{LineKey, line_cmp}
+use Rattle.ov_sqlite.specs.Format.{HasNumber, IsKeyed, row_key}
 use Rattle.ov_sqlite.proofs.Statements.{key_terms}
 use Rattle.ov_specs.proofs.laws.Truths.{equal_is}
 
--- the row passes the test of the DELETE
-abbrev pub passes : List ℕ → List ℕ → Row → Bool
-passes t i r = list_all (holds ((Text t ∷ Blob i ∷ []) ∷ r ∷ [])) key_terms
+-- the row passes the tests of the key
+abbrev pub passes : LineKey → Row → Bool
+passes k r = list_all (holds ((Text k.0 ∷ Blob k.1 ∷ []) ∷ r ∷ [])) key_terms
+
+-- the row has the key
+abbrev pub has_key : LineKey → Row → Bool
+has_key k r = eq_by_cmp line_cmp k (row_key r)
 
 is_eq_then : (a b : Ordering) → is_eq (ordering_then a b) ≡ (is_eq a && is_eq b)
 is_eq_then Less b = refl
@@ -58,17 +62,20 @@ equal_to_blob : (v : Value) (s t : List ℕ) → v ≡ Blob s → is_true (binar
 equal_to_blob v s t e = rw e (equal_blobs s t)
 
 -- which asks for its key
-pub passes_key : (t i : List ℕ) (r : Row) → IsLine r → passes t i r ≡ eq_by_cmp line_cmp (t, i) (entry r).0
-passes_key t i r l =
-    and_true _ _ ∙ ap₂ ◌&&◌ (equal_to_text (column r 1) l.tbl t l.tbl_is) (equal_to_blob (column r 2) l.id i l.id_is)
-    ∙ sym (is_eq_then (slice_cmp nat_cmp t (bytes (column r 1))) (slice_cmp nat_cmp i (bytes (column r 2))))
+pub passes_key : (k : LineKey) (r : Row) → IsKeyed r → passes k r ≡ has_key k r
+passes_key k r l =
+    and_true _ _ ∙ ap₂ ◌&&◌ (equal_to_text (column r 1) l.tbl k.0 l.tbl_is) (equal_to_blob (column r 2) l.id k.1 l.id_is)
+    ∙ sym (is_eq_then (slice_cmp nat_cmp k.0 (bytes (column r 1))) (slice_cmp nat_cmp k.1 (bytes (column r 2))))
 
 same_int : (m n : ℤ) → is_eq (int_cmp m n) ≡ true → m ≡ n
 same_int m n h = int_cmp-IsAntisymmetric m n (equal_is _ h)
 
+pub keyed_number : (r : Row) → IsKeyed r → HasNumber r
+keyed_number r k = (k.number, k.number_is)
+
 -- rows of one number have one number
-pub same_number : (r s : Row) → IsLine r → IsLine s → true ≡ is_eq (value_cmp (column r 0) (column s 0)) → column r 0 ≡ column s 0
-same_number r s l m h = l.number_is ∙ ap Int (same_int l.number m.number (ap is_eq (sym (value_cmp-Int l.number m.number)) ∙ ap₂ (λ a b. is_eq (value_cmp a b)) (sym l.number_is) (sym m.number_is) ∙ sym h)) ∙ sym m.number_is
+pub same_number : (r s : Row) → HasNumber r → HasNumber s → true ≡ is_eq (value_cmp (column r 0) (column s 0)) → column r 0 ≡ column s 0
+same_number r s l m h = l.1 ∙ ap Int (same_int l.0 m.0 (ap is_eq (sym (value_cmp-Int l.0 m.0)) ∙ ap₂ (λ a b. is_eq (value_cmp a b)) (sym l.1) (sym m.1) ∙ sym h)) ∙ sym m.1
 
 pub filter_filter : {X : Type 0} (p q : X → Bool) (xs : List X) → filter p (filter q xs) ≡ filter (λ x. q x && p x) xs
 filter_filter p q [] = refl

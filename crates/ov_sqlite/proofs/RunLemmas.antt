@@ -11,40 +11,52 @@ use Rattle.sqlite.specs.Order.{Row}
 use Rattle.sqlite.specs.declared.error.Error.{Error}
 use Rattle.sqlite_trees.specs.Tree.{Trees}
 use Rattle.sqlite.proofs.StateLemmas.{survives_then}
-use Rattle.ov_specs.specs.rows.Lines.{Lines}
+use Rattle.ov_specs.specs.rows.Cells.{CellLines}
 use Rattle.std.specs.List.{AllByRecursion}
 use Rattle.sqlite.specs.Schema.{Schema}
 use Rattle.sqlite_trees.proofs.ListLemmas.{all_weaker, all_both}
-use Rattle.ov_sqlite.specs.Changing.{IsStored, MayBeStored, KeepsOthers, Makes}
+use Rattle.ov_sqlite.specs.Tables.{row_trees}
+use Rattle.ov_sqlite.specs.Format.{stored_cells}
+use Rattle.ov_sqlite.specs.Changing.{MayHoldCells, KeepsOthers, Makes, is_among}
 
-pub others_now : (schema : Schema) (trees : Trees) → KeepsOthers schema trees trees
-others_now schema trees = record { tables = all_weaker _ _ (λ t here apart. refl) schema.tables (all_here schema.tables); trees = λ t apart free. refl }
+pub others_now : (exempt : List ℕ) (schema : Schema) (trees : Trees) → KeepsOthers exempt schema trees trees
+others_now exempt schema trees = record { tables = all_weaker _ _ (λ t here apart. refl) schema.tables (all_here schema.tables); trees = λ t apart free. refl }
   where
     all_here : {X : Type 0} (xs : List X) → AllByRecursion (λ _. Unit {0}) xs
     all_here [] = tt
     all_here (x ∷ xs) = (tt, all_here xs)
 
-pub others_then : (schema : Schema) (a b c : Trees) → KeepsOthers schema a b → KeepsOthers schema b c → KeepsOthers schema a c
-others_then schema a b c one two = record {
+pub others_then : (exempt : List ℕ) (schema : Schema) (a b c : Trees) → KeepsOthers exempt schema a b → KeepsOthers exempt schema b c → KeepsOthers exempt schema a c
+others_then exempt schema a b c one two = record {
   tables = all_both _ _ _ (λ t first then apart. then apart ∙ first apart) schema.tables one.tables two.tables;
   trees = λ t apart free. two.trees t apart free ∙ one.trees t apart free;
 }
 
-pub others_after : (a b c : State) → b.now.schema ≡ a.now.schema → KeepsOthers a.now.schema a.now.trees b.now.trees → KeepsOthers b.now.schema b.now.trees c.now.trees → KeepsOthers a.now.schema a.now.trees c.now.trees
-others_after a b c same one two = others_then a.now.schema a.now.trees b.now.trees c.now.trees one (subst (λ s. KeepsOthers s b.now.trees c.now.trees) same two)
+-- more trees may change
+pub others_wider : (few more : List ℕ) (schema : Schema) (a b : Trees) → ((t : ℕ) → is_among more t ≡ false → is_among few t ≡ false) → KeepsOthers few schema a b → KeepsOthers more schema a b
+others_wider few more schema a b within kept = record {
+  tables = all_weaker _ _ (λ t same free. same (within t.tree free)) schema.tables kept.tables;
+  trees = λ t free none. kept.trees t (within t free) none;
+}
 
-pub makes_none : (text : List ℕ) (f : Lines → Lines) (s : State) → IsTrue s.in_transaction → MayBeStored text s → ((m : Lines) → f m ≡ m) → Makes text f s s
-makes_none text f s mode stored same = record { mode = mode; opens = λ up. up; stored = stored; lines_are = sym (same _); meta = refl; schema = refl; others = others_now s.now.schema s.now.trees; committed = refl }
+-- the second change is of trees that the schema after the first names
+pub others_after : (trees_in : Schema → List ℕ) (a b c : State) → b.now.schema ≡ a.now.schema → KeepsOthers (trees_in a.now.schema) a.now.schema a.now.trees b.now.trees
+    → KeepsOthers (trees_in b.now.schema) b.now.schema b.now.trees c.now.trees → KeepsOthers (trees_in a.now.schema) a.now.schema a.now.trees c.now.trees
+others_after trees_in a b c same one two = others_then _ a.now.schema a.now.trees b.now.trees c.now.trees one (subst (λ s. KeepsOthers (trees_in s) s b.now.trees c.now.trees) same two)
 
-pub makes_then : (text : List ℕ) (f g h : Lines → Lines) (a b c : State) → ((m : Lines) → h m ≡ g (f m)) → Makes text f a b → Makes text g b c → Makes text h a c
-makes_then text f g h a b c is one two = record {
+pub makes_none : (text : List ℕ) (Became : CellLines → CellLines → Type 0) (s : State) → IsTrue s.in_transaction → MayHoldCells text s → Became (stored_cells s.now.trees) (stored_cells s.now.trees) → Makes text Became s s
+makes_none text Became s mode stored same =
+    record { mode = mode; opens = λ up. up; stored = stored; lines_are = same; meta = refl; schema = refl; others = others_now _ s.now.schema s.now.trees; committed = refl }
+
+pub makes_then : (text : List ℕ) (P Q R : CellLines → CellLines → Type 0) (a b c : State) → ((k l m : CellLines) → P k l → Q l m → R k m) → Makes text P a b → Makes text Q b c → Makes text R a c
+makes_then text P Q R a b c is one two = record {
   mode = two.mode;
   opens = λ up. one.opens (two.opens up);
   stored = two.stored;
-  lines_are = two.lines_are ∙ ap g one.lines_are ∙ sym (is _);
+  lines_are = is _ _ _ one.lines_are two.lines_are;
   meta = two.meta ∙ one.meta;
   schema = two.schema ∙ one.schema;
-  others = others_after a b c one.schema one.others two.others;
+  others = others_after row_trees a b c one.schema one.others two.others;
   committed = two.committed ∙ one.committed;
 }
 
@@ -100,20 +112,6 @@ pub inside_opens : (sql : List ℕ) (params : Row) (a b : State) (r : Result ℕ
 inside_opens sql params a b (Ok count) h = h.1.was_open
 inside_opens sql params a b (Err e) h = tt
 
--- after a rollback it is as the last commit left it
-pub stored_again : (text : List ℕ) (a b c : State) → MayBeStored text a → (IsTrue a.is_open → a.now ≡ a.committed) → KeepsCommit a b → IsRolledBack b c → MayBeStored text c
-stored_again text a b c may settled kept back up =
-    let was = back.was_open up in
-    subst (IsStored text) (sym ((back.undone up).0 ∙ kept.committed was ∙ sym (settled (kept.was_open was)))) (may (kept.was_open was))
-
-pub unchanged_stored : (text : List ℕ) (a b : State) → IsUnchanged a b → MayBeStored text a → MayBeStored text b
-unchanged_stored text a b same may up = subst (IsStored text) (sym same.0.now_is) (may same.0.was_open)
-
-pub not_run_stored : (text : List ℕ) (a b : State) (sql : List ℕ) (params : Row) (e : Error) → IsNotRun a b sql params e → MayBeStored text a → (IsTrue a.is_open → a.now ≡ a.committed) → MayBeStored text b
-unfolding IsNotRun
-not_run_stored text a b sql params e (inl refused) may settled = unchanged_stored text a b refused.1 may
-not_run_stored text a b sql params e (inr fails) may settled = stored_again text a a b may settled (keeps_now a) fails.3
-
 not_run_keeps : (a b : State) (sql : List ℕ) (params : Row) (e : Error) → IsNotRun a b sql params e → KeepsCommit a b
 unfolding IsNotRun
 not_run_keeps a b sql params e (inl refused) = unchanged_keeps a b refused.1
@@ -122,13 +120,3 @@ not_run_keeps a b sql params e (inr fails) = rolled_keeps a b fails.3
 pub prepared_keeps : {T : Type 0} (P : T → Type 0) (a b : State) (sql : List ℕ) (r : Result T Error) → IfOk r (λ s. P s × IsUnchanged a b) → IfErr r (λ e. (params : Row) → IsNotRun a b sql params e) → KeepsCommit a b
 prepared_keeps P a b sql (Ok s) ok err = unchanged_keeps a b ok.1
 prepared_keeps P a b sql (Err e) ok err = not_run_keeps a b sql [] e (err [])
-
-pub prepared_stored : {T : Type 0} (text : List ℕ) (P : T → Type 0) (a b : State) (sql : List ℕ) (r : Result T Error) → IfOk r (λ s. P s × IsUnchanged a b) → IfErr r (λ e. (params : Row) → IsNotRun a b sql params e)
-    → MayBeStored text a → (IsTrue a.is_open → a.now ≡ a.committed) → MayBeStored text b
-prepared_stored text P a b sql (Ok s) ok err may settled = unchanged_stored text a b ok.1 may
-prepared_stored text P a b sql (Err e) ok err may settled = not_run_stored text a b sql [] e (err []) may settled
-
--- after a commit that fails in a transaction it is as the last commit left it
-pub commit_fails_stored : (text : List ℕ) (a b c : State) (e : Error) → MayBeStored text a → (IsTrue a.is_open → a.now ≡ a.committed) → KeepsCommit a b → IsTrue b.in_transaction → FailsToCommit b c e → MayBeStored text c
-commit_fails_stored text a b c e may settled kept mode (inl fails) = stored_again text a b c may settled kept fails.3
-commit_fails_stored text a b c e may settled kept mode (inr ends) = let ended : b.in_transaction ≡ false = ends.1 in absurd cc

@@ -1,4 +1,4 @@
--- Where our tables stand in a schema, and that no change of theirs sets off an action of a foreign key.
+-- Where a table of ours stands in a schema, and that no change of its rows sets off an action of a foreign key.
 use Rattle.std.proofs.Common.{◌≡◌, ◌≢◌, ◌<◌, ◌+◌, ◌^◌, ℕ, zero, suc, List, [], ◌∷◌, ◌++◌, length, find, Bool, true, false, not, ◌&&◌, ◌||◌, ◌==◌, nat_lt, nat_le, slice_get, cond, Option, Some, None, IfSome, IsTrue, option_and_then, option_map, refl, sym, ap, ap₂, subst, ◌∙◌, arith, codes, Ok, inl, inr}
 use Rattle.std.specs.List.{list_any, list_all, flat_map, filter_map, position_from}
 use Rattle.std.proofs.lemmas.Bool.Decides.{nat_tests}
@@ -15,7 +15,7 @@ use Rattle.sqlite_rules.specs.Edit.{Edit, taken_by, Applies}
 use Rattle.sqlite_trees.specs.Tree.{Trees}
 use Rattle.sqlite.proofs.Callers.{one_step}
 use Rattle.sqlite_rules.specs.declared.action.Deed.{Deed}
-use Rattle.ov_sqlite.specs.Tables.{meta_table, line_table, table_of, tree_of, is_tree_of_ours, refers_to_ours, is_apart, HasTable, HasOurTables}
+use Rattle.ov_sqlite.specs.Tables.{table_of, tree_of, points_to, is_apart, HasTable}
 
 -- a table at its place in a schema, where nothing else has its name or its tree
 pub record Stands (schema : Schema) (table : Table) (at : ℕ) : Type 0 where
@@ -75,12 +75,14 @@ stands schema table has low =
     let it = found_place (λ t. same_name t.name table.name) 0 schema.tables table has.named in
     (it.0, record { named = it.1 ∙ ap Some (omega arith); placed = it.2; alone = tree_found table schema.tables has.named has.alone; low = grind (arith, nat_tests); not_high = grind (arith, nat_tests) })
 
-other_names : (m l : ℕ) → ◌≡◌ {A = Table} (meta_table m) (line_table l) → ⊥
-other_names m l e = let names = ap (λ (t : Table). length t.columns) e in absurd (omega (arith, names))
+-- tables of two names have trees of their own
+pub trees_apart : (schema : Schema) (t u : Table) → HasTable schema t → HasTable schema u → t.name ≢ u.name → t.tree ≢ u.tree
+trees_apart schema t u one two other same =
+    other (ap (λ (x : Table). x.name) (some_table (sym (tree_found t schema.tables one.named one.alone) ∙ ap (λ n. find (λ x. x.tree == n) schema.tables) same ∙ tree_found u schema.tables two.named two.alone)))
 
--- the two have trees of their own
-pub ours_apart : (schema : Schema) → HasOurTables schema → tree_of schema (codes "meta") ≢ tree_of schema (codes "line")
-ours_apart schema has same = other_names _ _ (some_table (sym (tree_found _ schema.tables has.meta.named has.meta.alone) ∙ ap (λ n. find (λ t. t.tree == n) schema.tables) same ∙ tree_found _ schema.tables has.line.named has.line.alone))
+-- the table of a name has the tree of the name
+pub tree_is : (schema : Schema) (table : Table) → HasTable schema table → tree_of schema table.name ≡ table.tree
+tree_is schema table has = ap (λ (o : Option Table). Rattle.std.proofs.Common.unwrap_or (option_map (λ t. t.tree) o) 0) has.named
 
 -- ---- foreign keys
 
@@ -92,7 +94,7 @@ was_false : (b : Bool) → not b ≡ true → b ≡ false
 was_false true h = absurd cc
 was_false false h = refl
 
-module _ (schema : Schema) (tree : ℕ) (ours : (n : ℕ) → is_tree_of_ours schema n ≡ false → (n == tree) ≡ false) where
+module _ (schema : Schema) (tree : ℕ) where
   no_work : (depth : ℕ) (moves : List (Row × Row)) (child : Table) (ref : Reference) (deed : Option Deed) (parent : Option Table) → IfSome parent (λ t. (t.tree == tree) ≡ false)
       → work_by depth tree moves child ref deed (option_and_then (λ t. option_and_then (key_in t) (key_places t ref.parent_columns)) parent) ≡ None
   no_work depth moves child ref None parent far = refl
@@ -107,35 +109,28 @@ module _ (schema : Schema) (tree : ℕ) (ours : (n : ℕ) → is_tree_of_ours sc
       at_places None = refl
       at_places (Some places) = at_order places (declared_order t places)
 
-  found_apart : (ref : Reference) → refers_to_ours schema ref ≡ false → IfSome (table_of schema ref.parent) (λ t. (t.tree == tree) ≡ false)
+  found_apart : (ref : Reference) → points_to tree schema ref ≡ false → IfSome (table_of schema ref.parent) (λ t. (t.tree == tree) ≡ false)
   found_apart ref none = go (table_of schema ref.parent) none
     where
-      go : (o : Option Table) → Rattle.std.proofs.Common.unwrap_or (option_map (λ t. is_tree_of_ours schema t.tree) o) false ≡ false → IfSome o (λ t. (t.tree == tree) ≡ false)
+      go : (o : Option Table) → Rattle.std.proofs.Common.unwrap_or (option_map (λ t. t.tree == tree) o) false ≡ false → IfSome o (λ t. (t.tree == tree) ≡ false)
       go None h = tt
-      go (Some t) h = ours t.tree h
+      go (Some t) h = h
 
   module _ (keys : Keys) (depth : ℕ) (olds news : List Row) where
-    none_by : (child : Table) (ref : Reference) → refers_to_ours schema ref ≡ false → work_for schema keys depth tree olds news child ref ≡ None
+    none_by : (child : Table) (ref : Reference) → points_to tree schema ref ≡ false → work_for schema keys depth tree olds news child ref ≡ None
     none_by child ref none = no_work depth (pairs olds news) child ref (deed_for keys (length news == 0) ref) _ (found_apart ref none)
 
-    none_of : (child : Table) (refs : List Reference) → list_any (refers_to_ours schema) refs ≡ false → filter_map (work_for schema keys depth tree olds news child) refs ≡ []
+    none_of : (child : Table) (refs : List Reference) → list_any (points_to tree schema) refs ≡ false → filter_map (work_for schema keys depth tree olds news child) refs ≡ []
     none_of child [] none = refl
-    none_of child (ref ∷ refs) none = let parts = no_part (refers_to_ours schema ref) (list_any (refers_to_ours schema) refs) none in rw (none_by child ref parts.0) (none_of child refs parts.1)
+    none_of child (ref ∷ refs) none = let parts = no_part (points_to tree schema ref) (list_any (points_to tree schema) refs) none in rw (none_by child ref parts.0) (none_of child refs parts.1)
 
-    none_in : (tables : List Table) → list_all (is_apart schema) tables ≡ true → flat_map (λ child. filter_map (work_for schema keys depth tree olds news child) child.references) tables ≡ []
+    none_in : (tables : List Table) → list_all (is_apart tree schema) tables ≡ true → flat_map (λ child. filter_map (work_for schema keys depth tree olds news child) child.references) tables ≡ []
     none_in [] is = refl
     none_in (t ∷ more) is =
-        let parts = both_parts (is_apart schema t) (list_all (is_apart schema) more) is in
+        let parts = both_parts (is_apart tree schema t) (list_all (is_apart tree schema) more) is in
         ap₂ (λ a b. a ++ b) (none_of t t.references (was_false _ parts.0)) (none_in more parts.1)
 
--- so a write of one of ours is its one step
-pub our_step : (schema : Schema) → HasOurTables schema → (keys : Keys) (db next : Trees) (edit : Edit) → ((n : ℕ) → is_tree_of_ours schema n ≡ false → (n == edit.table.tree) ≡ false)
-    → Writes schema keys db edit (Ok next) → Applies schema keys db edit next
-our_step schema has keys db next edit ours =
-    one_step schema keys db next edit (none_in schema edit.table.tree ours keys 0 (taken_by db edit) edit.news schema.tables has.other_tables)
-
-pub meta_is_ours : (schema : Schema) (n : ℕ) → is_tree_of_ours schema n ≡ false → (n == tree_of schema (codes "meta")) ≡ false
-meta_is_ours schema n h = (no_part _ _ h).0
-
-pub line_is_ours : (schema : Schema) (n : ℕ) → is_tree_of_ours schema n ≡ false → (n == tree_of schema (codes "line")) ≡ false
-line_is_ours schema n h = (no_part _ _ h).1
+-- so a write of such a table is its one step
+pub our_step : (schema : Schema) (edit : Edit) → HasTable schema edit.table → (keys : Keys) (db next : Trees) → Writes schema keys db edit (Ok next) → Applies schema keys db edit next
+our_step schema edit has keys db next =
+    one_step schema keys db next edit (none_in schema edit.table.tree keys 0 (taken_by db edit) edit.news schema.tables has.apart)

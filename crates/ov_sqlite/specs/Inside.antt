@@ -2,12 +2,21 @@
 use Rattle.std.specs.Prelude.{ℕ, List, Result, IsTrue, OnOk}
 use Rattle.sqlite.specs.declared.error.Error.{Error}
 use Rattle.sqlite.specs.State.{State, HasCleanDisk, KeepsCommit}
-use Rattle.ov_sqlite.specs.Changing.{MayBeStored}
+use Rattle.ov_sqlite.specs.Changing.{MayHoldCells}
 
--- where it succeeds, it did this
+-- from such a state, where it succeeds, it did this
+abbrev pub Within : {T : Type 0} → (State → Type 0) → (State → State → Type 0) → State → State → Result T Error → Type 0
+Within May Did old new result = HasCleanDisk new → IsTrue old.in_transaction → May old → OnOk result (Did old new)
+
+-- where it succeeds over stored format 2, it did this
 abbrev pub DoesInside : {T : Type 0} → (List ℕ → State → State → Type 0) → State → State → Result T Error → Type 0
 DoesInside Did old new result =
-    HasCleanDisk new → IsTrue old.in_transaction → (text : List ℕ) → MayBeStored text old → OnOk result (Did text old new)
+    HasCleanDisk new → IsTrue old.in_transaction → (text : List ℕ) → MayHoldCells text old → OnOk result (Did text old new)
+
+-- the same, if the rows are so too
+abbrev pub DoesInsideIf : {T : Type 0} → (State → Type 0) → (List ℕ → State → State → Type 0) → State → State → Result T Error → Type 0
+DoesInsideIf May Did old new result =
+    HasCleanDisk new → IsTrue old.in_transaction → (text : List ℕ) → MayHoldCells text old → May old → OnOk result (Did text old new)
 
 -- where it succeeds, the connection was open
 abbrev pub WasOpenInside : {T : Type 0} → State → State → Result T Error → Type 0

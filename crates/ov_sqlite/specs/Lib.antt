@@ -3,9 +3,9 @@ pub mod Format
 pub mod Changing
 pub mod Inside
 pub mod WriteError
-pub mod Reading
-pub mod Querying
-pub mod LineColumns
-pub mod Making
 pub mod HasText
+pub mod Querying
+pub mod Making
 pub mod Rewriting
+pub mod Joining
+pub mod Reading

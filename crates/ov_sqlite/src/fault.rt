@@ -5,7 +5,7 @@ ghost use Rattle.sqlite.specs.State.{HasCleanDisk, Survives, KeepsCommit, IsUnch
 ghost use Rattle.sqlite.specs.Held.{state};
 ghost use Rattle.ov_keeper.specs.Keeping.{IsCommitFault};
 ghost use Rattle.ov_sqlite.specs.WriteError.{IsBefore};
-ghost use Rattle.ov_sqlite.specs.Changing.{MayBeStored};
+ghost use Rattle.ov_sqlite.specs.Querying.{IsAsBefore};
 
 use crate::write::{WriteError, probe};
 use ov_keeper::KeepFault;
@@ -38,9 +38,10 @@ pub fn fault_at<S: Alter>(conn: &mut Connection<S>, failure: &WriteError) -> Kee
     requires { conn.old.in_transaction ≡ false }
     ensures mode { conn.new.in_transaction ≡ false }
     ensures kind { IsCommitFault result }
-    ensures shown { HasCleanDisk (state S.Store conn.new) → result ≢ KeepFault.Device → IsBefore failure.now ⊎ IsUnchanged (state S.Store conn.old) (state S.Store conn.new) }
+    ensures shown { HasCleanDisk (state S.Store conn.new) → result ≢ KeepFault.Device
+        → IsBefore failure.now ⊎ IsUnchanged (state S.Store conn.old) (state S.Store conn.new) }
     ensures unmoved { HasCleanDisk (state S.Store conn.new) → KeepsCommit (state S.Store conn.old) (state S.Store conn.new) }
-    ensures kept { HasCleanDisk (state S.Store conn.new) → (text : _) → MayBeStored text (state S.Store conn.old) → MayBeStored text (state S.Store conn.new) }
+    ensures same { HasCleanDisk (state S.Store conn.new) → IsAsBefore (state S.Store conn.old) (state S.Store conn.new) }
     ensures survives { Survives (state S.Store conn.old) (state S.Store conn.new) (λ _. ⊥) }
 {
     let error = match failure {

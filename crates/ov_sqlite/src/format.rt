@@ -1,86 +1,194 @@
-//! Whether the contents of the two tables are of stored format 1.
+//! Whether the contents of the tables are of the stored format whose tables are there, and what they hold.
 
-ghost use Rattle.std.specs.Prelude.{◌≡◌, ◌≢◌, false, IfOk, OnOk, IsTrue, Err};
+ghost use Rattle.std.specs.Prelude.{◌≡◌, ◌≢◌, false, map, IfOk, IfSome, IsTrue, Err};
 ghost use Rattle.std.specs.List.{AllByRecursion};
 ghost use Rattle.sqlite.specs.State.{HasCleanDisk, Survives};
 ghost use Rattle.sqlite.specs.Held.{state};
+ghost use Rattle.ov_keeper.specs.Keeping.{loaded_contents};
+ghost use Rattle.ov_keeper.specs.Views.{line_entry};
 ghost use Rattle.ov_sqlite.specs.Tables.{HasOurTables};
-ghost use Rattle.ov_sqlite.specs.Format.{IsLine, IsMeta, IsFormat, rows_of_meta, rows_of_line};
-ghost use Rattle.ov_sqlite.specs.Changing.{IsNumbered, IsStored};
+ghost use Rattle.ov_sqlite.specs.Format.{IsFormat, IsCellFormat, IsLine, NamesOther, entry, held, rows_of_line};
+ghost use Rattle.ov_sqlite.specs.Changing.{IsStoredAs, MayBeStored};
 ghost use Rattle.ov_sqlite.specs.Querying.{IsAsBefore};
+ghost use Rattle.ov_sqlite.specs.Reading.{MayReadCells, MayReadRows, ReadsCells, ReadsLines, are_cells};
 
+use crate::columns::line_columns_of;
 use crate::fault::fault_of;
-use crate::meta::schema_text_of;
-use crate::query::{line_rows, meta_rows};
-use crate::rows::test_rows;
-use ov_base::Text;
-use ov_keeper::KeepFault;
-use sqlite::{Alter, Connection};
-use std::alloc::Global;
+use crate::join::join;
+use crate::schema::has_cell_tables;
+use crate::tables::{read_cells, read_heads, read_lines, read_meta};
+use crate::write::probe;
+use ov_base::{Bytes, Text};
+use ov_keeper::{CellLine, KeepFault, Line, Lines, Loaded};
+use sqlite::{Alter, Connection, Row};
+use std::alloc::{AllocError, Global};
 
-/// The schema's text, read from `meta`.
-pub fn read_meta<S: Alter>(alloc: Global, conn: &mut Connection<S>) -> Result<Text, KeepFault>
+/// The heads with their cells. Returns `Format` if a row is malformed, or a cell has no head.
+fn read_joined<S: Alter>(
+    alloc: Global,
+    conn: &mut Connection<S>,
+) -> Result<Vec<CellLine>, KeepFault>
     requires { conn.old.in_transaction ≡ false }
     ensures mode { conn.new.in_transaction ≡ false }
-    ensures ok { HasCleanDisk (state S.Store conn.new) → HasOurTables (state S.Store conn.old).now.schema
-        → IfOk result (λ text. IsTrue (state S.Store conn.old).is_open × IsMeta text (rows_of_meta (state S.Store conn.old).now.trees)) }
-    ensures format { HasCleanDisk (state S.Store conn.new) → HasOurTables (state S.Store conn.old).now.schema
-        → result ≡ Err KeepFault.Format → (text : _) → ¬ IsMeta text (rows_of_meta (state S.Store conn.old).now.trees) }
-    ensures ours { result ≢ Err KeepFault.NotOurs }
-    ensures same { HasCleanDisk (state S.Store conn.new) → IsAsBefore (state S.Store conn.old) (state S.Store conn.new) }
-    ensures survives { Survives (state S.Store conn.old) (state S.Store conn.new) (λ _. ⊥) }
-{
-    let rows = match meta_rows(conn) {
-        Ok(rows) => rows,
-        Err(error) => return Err(fault_of(&error)),
-    };
-    let Some(text) = schema_text_of(rows.as_slice()) else {
-        return Err(KeepFault::Format);
-    };
-    match Text::from_str(alloc, text) {
-        Ok(text) => Ok(text),
-        Err(_) => Err(KeepFault::Memory),
-    }
-}
-
-/// Tests the rows of `line`.
-fn test_lines<S: Alter>(conn: &mut Connection<S>) -> Result<(), KeepFault>
-    requires { conn.old.in_transaction ≡ false }
-    ensures mode { conn.new.in_transaction ≡ false }
-    ensures ok { HasCleanDisk (state S.Store conn.new) → (IsTrue (state S.Store conn.old).is_open → HasOurTables (state S.Store conn.old).now.schema)
-        → OnOk result (IsTrue (state S.Store conn.old).is_open × AllByRecursion IsLine (rows_of_line (state S.Store conn.old).now.trees) × IsNumbered (rows_of_line (state S.Store conn.old).now.trees)) }
-    ensures format { HasCleanDisk (state S.Store conn.new) → (IsTrue (state S.Store conn.old).is_open → HasOurTables (state S.Store conn.old).now.schema)
-        → result ≡ Err KeepFault.Format → IsTrue (state S.Store conn.old).is_open × (¬ AllByRecursion IsLine (rows_of_line (state S.Store conn.old).now.trees)) }
-    ensures ours { result ≢ Err KeepFault.NotOurs }
-    ensures same { HasCleanDisk (state S.Store conn.new) → IsAsBefore (state S.Store conn.old) (state S.Store conn.new) }
-    ensures survives { Survives (state S.Store conn.old) (state S.Store conn.new) (λ _. ⊥) }
-{
-    match line_rows(conn) {
-        Ok(rows) => test_rows(rows.as_slice()),
-        Err(error) => Err(fault_of(&error)),
-    }
-}
-
-/// Tests all rows, and returns the schema's text.
-pub fn test_format<S: Alter>(alloc: Global, conn: &mut Connection<S>) -> Result<Text, KeepFault>
-    requires { conn.old.in_transaction ≡ false }
-    ensures mode { conn.new.in_transaction ≡ false }
-    ensures ok { HasCleanDisk (state S.Store conn.new) → HasOurTables (state S.Store conn.old).now.schema
-        → IfOk result (λ text. IsTrue (state S.Store conn.old).is_open × IsStored text (state S.Store conn.old).now) }
-    ensures format { HasCleanDisk (state S.Store conn.new) → HasOurTables (state S.Store conn.old).now.schema
-        → result ≡ Err KeepFault.Format → (text : _) → ¬ IsFormat text (state S.Store conn.old).now }
+    ensures ok { HasCleanDisk (state S.Store conn.new) → MayReadCells (state S.Store conn.old)
+        → IfOk result (λ lines. IsTrue (state S.Store conn.old).is_open × ReadsCells (state S.Store conn.old).now lines.items) }
+    ensures format { HasCleanDisk (state S.Store conn.new) → MayReadCells (state S.Store conn.old)
+        → result ≡ Err KeepFault.Format → IsTrue (state S.Store conn.old).is_open
+        × ((text : _) → ¬ IsCellFormat text (state S.Store conn.old).now) }
     ensures ours { result ≢ Err KeepFault.NotOurs }
     ensures same { HasCleanDisk (state S.Store conn.new) → IsAsBefore (state S.Store conn.old) (state S.Store conn.new) }
     ensures survives { Survives (state S.Store conn.old) (state S.Store conn.new) (λ _. ⊥) }
 {
     // Its contract says that the rows obey the schema.
     let _schema = conn.schema();
-    let text = match read_meta(alloc, conn) {
-        Ok(text) => text,
+    let heads = match read_heads(conn) {
+        Ok(heads) => heads,
         Err(fault) => return Err(fault),
     };
-    match test_lines(conn) {
-        Ok(()) => Ok(text),
+    let cells = match read_cells(conn) {
+        Ok(cells) => cells,
+        Err(fault) => return Err(fault),
+    };
+    match join(alloc, heads.as_slice(), cells.as_slice()) {
+        Ok(Some(lines)) => Ok(lines),
+        Ok(None) => Err(KeepFault::Format),
+        Err(_) => Err(KeepFault::Memory),
+    }
+}
+
+/// The lines of the rows, if each row is one.
+fn lines_of(alloc: Global, rows: &[Row]) -> Result<Option<Vec<Line>>, AllocError>
+    ensures { IfOk result (λ all. IfSome all (λ lines. map line_entry lines.items ≡ map entry rows.now)) }
+{
+    let mut lines = Vec::with_capacity(alloc, rows.len())?;
+    for row in rows {
+        let Some(parts) = line_columns_of(row) else {
+            return Ok(None);
+        };
+        lines.push(Line {
+            table: Text::from_str(alloc, parts.table)?,
+            id: parts.id,
+            version: parts.version,
+            body: Bytes::from_slice(alloc, parts.body)?,
+        })?;
+    }
+    Ok(Some(lines))
+}
+
+/// The lines of stored format 1. Returns `Format` if a row is no line.
+fn read_whole<S: Alter>(alloc: Global, conn: &mut Connection<S>) -> Result<Vec<Line>, KeepFault>
+    requires { conn.old.in_transaction ≡ false }
+    ensures mode { conn.new.in_transaction ≡ false }
+    ensures ok { HasCleanDisk (state S.Store conn.new) → MayReadRows false (state S.Store conn.old)
+        → IfOk result (λ lines. IsTrue (state S.Store conn.old).is_open × ReadsLines (state S.Store conn.old).now (Lines.Whole lines)) }
+    ensures format { HasCleanDisk (state S.Store conn.new) → MayReadRows false (state S.Store conn.old)
+        → result ≡ Err KeepFault.Format → IsTrue (state S.Store conn.old).is_open
+        × (¬ AllByRecursion IsLine (rows_of_line (state S.Store conn.old).now.trees)) }
+    ensures ours { result ≢ Err KeepFault.NotOurs }
+    ensures same { HasCleanDisk (state S.Store conn.new) → IsAsBefore (state S.Store conn.old) (state S.Store conn.new) }
+    ensures survives { Survives (state S.Store conn.old) (state S.Store conn.new) (λ _. ⊥) }
+{
+    // Its contract says that the rows obey the schema.
+    let _schema = conn.schema();
+    let rows = match read_lines(conn) {
+        Ok(rows) => rows,
+        Err(fault) => return Err(fault),
+    };
+    match lines_of(alloc, rows.as_slice()) {
+        Ok(Some(lines)) => Ok(lines),
+        // Each row was tested.
+        Ok(None) => Err(KeepFault::Device),
+        Err(_) => Err(KeepFault::Memory),
+    }
+}
+
+/// The rows of this format. Returns `Format` if a row is malformed, or a cell has no head.
+fn read_rows<S: Alter>(
+    alloc: Global,
+    conn: &mut Connection<S>,
+    in_cells: bool,
+) -> Result<Lines, KeepFault>
+    requires { conn.old.in_transaction ≡ false }
+    ensures mode { conn.new.in_transaction ≡ false }
+    ensures ok { HasCleanDisk (state S.Store conn.new) → MayReadRows in_cells (state S.Store conn.old)
+        → IfOk result (λ lines. IsTrue (state S.Store conn.old).is_open
+        × (are_cells lines ≡ in_cells) × ReadsLines (state S.Store conn.old).now lines) }
+    ensures format { HasCleanDisk (state S.Store conn.new) → MayReadRows in_cells (state S.Store conn.old)
+        → result ≡ Err KeepFault.Format → IsTrue (state S.Store conn.old).is_open
+        × ((text : _) → ¬ IsFormat text (state S.Store conn.old).now) }
+    ensures ours { result ≢ Err KeepFault.NotOurs }
+    ensures same { HasCleanDisk (state S.Store conn.new) → IsAsBefore (state S.Store conn.old) (state S.Store conn.new) }
+    ensures survives { Survives (state S.Store conn.old) (state S.Store conn.new) (λ _. ⊥) }
+{
+    if in_cells {
+        match read_joined(alloc, conn) {
+            Ok(lines) => Ok(Lines::InCells(lines)),
+            Err(fault) => Err(fault),
+        }
+    } else {
+        match read_whole(alloc, conn) {
+            Ok(lines) => Ok(Lines::Whole(lines)),
+            Err(fault) => Err(fault),
+        }
+    }
+}
+
+/// Tests all rows of the format whose tables are there, and returns its number and the schema's text. Returns `NotOurs` if `meta`
+/// names the other format.
+pub fn test_format<S: Alter>(
+    alloc: Global,
+    conn: &mut Connection<S>,
+) -> Result<(u8, Text), KeepFault>
+    requires { conn.old.in_transaction ≡ false }
+    ensures mode { conn.new.in_transaction ≡ false }
+    ensures ok { HasCleanDisk (state S.Store conn.new) → HasOurTables (state S.Store conn.old).now.schema
+        → IfOk result (λ p. IsTrue (state S.Store conn.old).is_open × IsStoredAs p.0 p.1 (state S.Store conn.old).now) }
+    ensures format { HasCleanDisk (state S.Store conn.new) → HasOurTables (state S.Store conn.old).now.schema
+        → result ≡ Err KeepFault.Format → (text : _) → ¬ IsFormat text (state S.Store conn.old).now }
+    ensures ours { HasCleanDisk (state S.Store conn.new) → HasOurTables (state S.Store conn.old).now.schema
+        → result ≡ Err KeepFault.NotOurs → NamesOther (state S.Store conn.old).now }
+    ensures same { HasCleanDisk (state S.Store conn.new) → IsAsBefore (state S.Store conn.old) (state S.Store conn.new) }
+    ensures survives { Survives (state S.Store conn.old) (state S.Store conn.new) (λ _. ⊥) }
+{
+    // Its contract says that the rows obey the schema.
+    let in_cells = has_cell_tables(conn.schema());
+    let named = match read_meta(alloc, conn) {
+        Ok(named) => named,
+        Err(fault) => return Err(fault),
+    };
+    if (named.format == 2) != in_cells {
+        return Err(KeepFault::NotOurs);
+    }
+    match read_rows(alloc, conn, in_cells) {
+        Ok(_) => Ok((named.format, named.schema)),
         Err(fault) => Err(fault),
+    }
+}
+
+/// What the tables hold. Returns `Format` only if something else changed a row.
+pub fn read_all<S: Alter>(alloc: Global, conn: &mut Connection<S>) -> Result<Loaded, KeepFault>
+    requires { conn.old.in_transaction ≡ false }
+    ensures mode { conn.new.in_transaction ≡ false }
+    ensures ok { HasCleanDisk (state S.Store conn.new) → (text : _) → MayBeStored text (state S.Store conn.old)
+        → IfOk result (λ loaded. IsTrue (state S.Store conn.old).is_open
+        × (held (state S.Store conn.old).now.trees ≡ loaded_contents loaded)) }
+    ensures same { HasCleanDisk (state S.Store conn.new) → IsAsBefore (state S.Store conn.old) (state S.Store conn.new) }
+    ensures survives { Survives (state S.Store conn.old) (state S.Store conn.new) (λ _. ⊥) }
+{
+    let named = match read_meta(alloc, conn) {
+        Ok(named) => named,
+        Err(fault) => return Err(fault),
+    };
+    let lines = match read_rows(alloc, conn, named.format == 2) {
+        Ok(lines) => lines,
+        Err(fault) => return Err(fault),
+    };
+    // The connection keeps the statement of this test, so the test after a failed commit allocates nothing.
+    match probe(conn) {
+        Ok(()) => Ok(Loaded {
+            schema: named.schema,
+            lines,
+        }),
+        Err(error) => Err(fault_of(&error)),
     }
 }

@@ -1,24 +1,25 @@
 //! Queries that change nothing.
 
-ghost use Rattle.std.specs.Prelude.{◌≡◌, IfOk, map, true, false, [], IsTrue};
+ghost use Rattle.std.specs.Prelude.{◌≡◌, IfOk, map, codes, true, false, [], IsTrue};
 ghost use Rattle.std.specs.List.Sorted.{IsPermutation};
 ghost use Rattle.sqlite.specs.State.{HasCleanDisk, Survives, Shown};
 ghost use Rattle.sqlite.specs.Effect.{IsDatabase};
 ghost use Rattle.sqlite.specs.Held.{state};
-ghost use Rattle.ov_sqlite.specs.Format.{rows_of_line, rows_of_meta};
-ghost use Rattle.ov_sqlite.specs.Tables.{HasOurTables};
+ghost use Rattle.ov_sqlite.specs.Format.{rows_of_meta, rows_of_line, rows_of_head, rows_of_cell};
+ghost use Rattle.ov_sqlite.specs.Tables.{meta_table, line_table, head_table, cell_table};
 ghost use Rattle.ov_sqlite.specs.Querying.{IsAsBefore};
-ghost use Rattle.ov_sqlite.specs.Reading.{line_selected, meta_selected};
+ghost use Rattle.ov_sqlite.specs.Reading.{MayRead, meta_selected, head_selected, row_selected};
 
-use crate::write::probe;
 use sqlite::{Alter, Connection, Error, Row};
 
 /// The rows that a query returns. It runs in a transaction that is rolled back, so nothing is committed.
 fn query<S: Alter>(conn: &mut Connection<S>, sql: &str) -> Result<Vec<Row>, Error>
     requires { conn.old.in_transaction ≡ false }
     ensures mode { conn.new.in_transaction ≡ false }
-    ensures rows { HasCleanDisk (state S.Store conn.new) → IfOk result (λ rows. (mid : _) × Shown sql.now [] (state S.Store (record conn.old { in_transaction = true })) (state S.Store mid) rows.items) }
-    ensures settled { IsTrue (state S.Store conn.old).is_open → ((state S.Store conn.old).now ≡ (state S.Store conn.old).committed) × IsDatabase (state S.Store conn.old).now }
+    ensures rows { HasCleanDisk (state S.Store conn.new) → IfOk result (λ rows. (mid : _)
+        × Shown sql.now [] (state S.Store (record conn.old { in_transaction = true })) (state S.Store mid) rows.items) }
+    ensures settled { IsTrue (state S.Store conn.old).is_open
+        → ((state S.Store conn.old).now ≡ (state S.Store conn.old).committed) × IsDatabase (state S.Store conn.old).now }
     ensures same { HasCleanDisk (state S.Store conn.new) → IsAsBefore (state S.Store conn.old) (state S.Store conn.new) }
     ensures survives { Survives (state S.Store conn.old) (state S.Store conn.new) (λ _. ⊥) }
 {
@@ -33,31 +34,62 @@ fn query<S: Alter>(conn: &mut Connection<S>, sql: &str) -> Result<Vec<Row>, Erro
     rows
 }
 
-/// The rows of `line`.
-pub fn line_rows<S: Alter>(conn: &mut Connection<S>) -> Result<Vec<Row>, Error>
-    requires { conn.old.in_transaction ≡ false }
-    ensures mode { conn.new.in_transaction ≡ false }
-    ensures rows { HasCleanDisk (state S.Store conn.new) → (IsTrue (state S.Store conn.old).is_open → HasOurTables (state S.Store conn.old).now.schema)
-        → IfOk result (λ rows. IsTrue (state S.Store conn.old).is_open × IsPermutation (map line_selected (rows_of_line (state S.Store conn.old).now.trees)) rows.items) }
-    ensures settled { IsTrue (state S.Store conn.old).is_open → ((state S.Store conn.old).now ≡ (state S.Store conn.old).committed) × IsDatabase (state S.Store conn.old).now }
-    ensures same { HasCleanDisk (state S.Store conn.new) → IsAsBefore (state S.Store conn.old) (state S.Store conn.new) }
-    ensures survives { Survives (state S.Store conn.old) (state S.Store conn.new) (λ _. ⊥) }
-{
-    let rows = query(conn, "SELECT rowid,tbl,id,ver,body FROM line")?;
-    // The connection keeps the statement of this test, so the test after a failed commit allocates nothing.
-    probe(conn)?;
-    Ok(rows)
-}
-
 /// The rows of `meta`.
 pub(crate) fn meta_rows<S: Alter>(conn: &mut Connection<S>) -> Result<Vec<Row>, Error>
     requires { conn.old.in_transaction ≡ false }
     ensures mode { conn.new.in_transaction ≡ false }
-    ensures rows { HasCleanDisk (state S.Store conn.new) → (IsTrue (state S.Store conn.old).is_open → HasOurTables (state S.Store conn.old).now.schema)
-        → IfOk result (λ rows. IsTrue (state S.Store conn.old).is_open × IsPermutation (map meta_selected (rows_of_meta (state S.Store conn.old).now.trees)) rows.items) }
-    ensures settled { IsTrue (state S.Store conn.old).is_open → ((state S.Store conn.old).now ≡ (state S.Store conn.old).committed) × IsDatabase (state S.Store conn.old).now }
+    ensures rows { HasCleanDisk (state S.Store conn.new) → MayRead meta_table (codes "meta") (state S.Store conn.old)
+        → IfOk result (λ rows. IsTrue (state S.Store conn.old).is_open
+        × IsPermutation (map meta_selected (rows_of_meta (state S.Store conn.old).now.trees)) rows.items) }
+    ensures settled { IsTrue (state S.Store conn.old).is_open
+        → ((state S.Store conn.old).now ≡ (state S.Store conn.old).committed) × IsDatabase (state S.Store conn.old).now }
     ensures same { HasCleanDisk (state S.Store conn.new) → IsAsBefore (state S.Store conn.old) (state S.Store conn.new) }
     ensures survives { Survives (state S.Store conn.old) (state S.Store conn.new) (λ _. ⊥) }
 {
-    query(conn, "SELECT k,v FROM meta")
+    query(conn, "SELECT rowid,k,v FROM meta")
+}
+
+/// The rows of `line`.
+pub(crate) fn line_rows<S: Alter>(conn: &mut Connection<S>) -> Result<Vec<Row>, Error>
+    requires { conn.old.in_transaction ≡ false }
+    ensures mode { conn.new.in_transaction ≡ false }
+    ensures rows { HasCleanDisk (state S.Store conn.new) → MayRead line_table (codes "line") (state S.Store conn.old)
+        → IfOk result (λ rows. IsTrue (state S.Store conn.old).is_open
+        × IsPermutation (map row_selected (rows_of_line (state S.Store conn.old).now.trees)) rows.items) }
+    ensures settled { IsTrue (state S.Store conn.old).is_open
+        → ((state S.Store conn.old).now ≡ (state S.Store conn.old).committed) × IsDatabase (state S.Store conn.old).now }
+    ensures same { HasCleanDisk (state S.Store conn.new) → IsAsBefore (state S.Store conn.old) (state S.Store conn.new) }
+    ensures survives { Survives (state S.Store conn.old) (state S.Store conn.new) (λ _. ⊥) }
+{
+    query(conn, "SELECT rowid,tbl,id,ver,body FROM line")
+}
+
+/// The rows of `head`.
+pub(crate) fn head_rows<S: Alter>(conn: &mut Connection<S>) -> Result<Vec<Row>, Error>
+    requires { conn.old.in_transaction ≡ false }
+    ensures mode { conn.new.in_transaction ≡ false }
+    ensures rows { HasCleanDisk (state S.Store conn.new) → MayRead head_table (codes "head") (state S.Store conn.old)
+        → IfOk result (λ rows. IsTrue (state S.Store conn.old).is_open
+        × IsPermutation (map head_selected (rows_of_head (state S.Store conn.old).now.trees)) rows.items) }
+    ensures settled { IsTrue (state S.Store conn.old).is_open
+        → ((state S.Store conn.old).now ≡ (state S.Store conn.old).committed) × IsDatabase (state S.Store conn.old).now }
+    ensures same { HasCleanDisk (state S.Store conn.new) → IsAsBefore (state S.Store conn.old) (state S.Store conn.new) }
+    ensures survives { Survives (state S.Store conn.old) (state S.Store conn.new) (λ _. ⊥) }
+{
+    query(conn, "SELECT rowid,tbl,id,ver FROM head")
+}
+
+/// The rows of `cell`.
+pub(crate) fn cell_rows<S: Alter>(conn: &mut Connection<S>) -> Result<Vec<Row>, Error>
+    requires { conn.old.in_transaction ≡ false }
+    ensures mode { conn.new.in_transaction ≡ false }
+    ensures rows { HasCleanDisk (state S.Store conn.new) → MayRead cell_table (codes "cell") (state S.Store conn.old)
+        → IfOk result (λ rows. IsTrue (state S.Store conn.old).is_open
+        × IsPermutation (map row_selected (rows_of_cell (state S.Store conn.old).now.trees)) rows.items) }
+    ensures settled { IsTrue (state S.Store conn.old).is_open
+        → ((state S.Store conn.old).now ≡ (state S.Store conn.old).committed) × IsDatabase (state S.Store conn.old).now }
+    ensures same { HasCleanDisk (state S.Store conn.new) → IsAsBefore (state S.Store conn.old) (state S.Store conn.new) }
+    ensures survives { Survives (state S.Store conn.old) (state S.Store conn.new) (λ _. ⊥) }
+{
+    query(conn, "SELECT rowid,tbl,id,col,body FROM cell")
 }

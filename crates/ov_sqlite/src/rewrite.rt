@@ -1,48 +1,44 @@
-//! Replacing the schema's text and all lines.
+//! Replacing the schema's text and all rows, from either stored format, by rows of format 2.
 
-ghost use Rattle.std.specs.Prelude.{◌≡◌, false, OnOk, OnErr, IfErr};
+ghost use Rattle.std.specs.Prelude.{◌≡◌, ◌↔◌, codes, false, is_some, IsTrue, OnOk, OnErr, IfErr};
 ghost use Rattle.std.specs.FinMap.{empty};
 ghost use Rattle.sqlite.specs.State.{HasCleanDisk, Survives, KeepsCommit};
 ghost use Rattle.sqlite.specs.Held.{state};
-ghost use Rattle.ov_specs.specs.rows.Lines.{after_changes};
+ghost use Rattle.sqlite_schema.specs.Names.{table_named};
+ghost use Rattle.ov_specs.specs.rows.Cells.{after_cell_changes};
 ghost use Rattle.ov_keeper.specs.Views.{changes_view};
 ghost use Rattle.ov_sqlite.specs.WriteError.{IsBefore};
-ghost use Rattle.ov_sqlite.specs.Changing.{MayBeStored, Makes};
+ghost use Rattle.ov_sqlite.specs.Tables.{meta_table, line_table, head_table, cell_table};
+ghost use Rattle.ov_sqlite.specs.Changing.{HoldsLines, MayBeStored};
 ghost use Rattle.ov_sqlite.specs.Querying.{IsAsBefore};
-ghost use Rattle.ov_sqlite.specs.Inside.{DoesInside, GoesOnInside, CommitsNothing};
-ghost use Rattle.ov_sqlite.specs.Rewriting.{Remakes, Rewrites, IsRewriteImage};
+ghost use Rattle.ov_sqlite.specs.Making.{MayClear, Clears};
+ghost use Rattle.ov_sqlite.specs.Inside.{Within, DoesInside, GoesOnInside, CommitsNothing};
+ghost use Rattle.ov_sqlite.specs.Rewriting.{MayHold, Empties, Remakes, Rewrites, IsRewriteImage};
 
+use crate::make::{fill_meta, make_rows};
 use crate::write::{WriteError, apply_all};
 use ov_base::Text;
 use ov_keeper::Change;
-use sqlite::types::ValueRef;
 use sqlite::{Alter, Connection, Error, Transaction};
+use sqlite_schema::schema::Schema;
 
-/// Puts the text into the schema's row of `meta`. The statement writes both rows, because SQLite replaces a row by its number,
-/// and only if both are written does its success show that their numbers differ.
-fn set_schema<S: Alter>(tx: &mut Transaction<'_, S>, schema: &Text) -> Result<(), Error>
+/// Removes every row of `meta`.
+fn clear_meta<S: Alter>(tx: &mut Transaction<'_, S>) -> Result<(), Error>
     ensures same_reference { tx.new.conn.ghost_name ≡ tx.old.conn.ghost_name }
-    ensures ok { DoesInside (λ _. Remakes schema.now (λ m. m))
+    ensures ok { Within (MayClear meta_table (codes "meta")) (Clears (codes "meta"))
         (state S.Store tx.old.conn.now) (state S.Store tx.new.conn.now) result }
     ensures goes_on { GoesOnInside (state S.Store tx.old.conn.now) (state S.Store tx.new.conn.now) result }
     ensures kept { CommitsNothing (state S.Store tx.old.conn.now) (state S.Store tx.new.conn.now) }
     ensures survives { Survives (state S.Store tx.old.conn.now) (state S.Store tx.new.conn.now) (λ _. ⊥) }
 {
-    let values = [
-        ValueRef::Text(b"schema"),
-        ValueRef::Blob(schema.as_str().as_bytes()),
-    ];
-    tx.execute(
-        "UPDATE meta SET v=CASE WHEN k=?1 THEN ?2 ELSE v END",
-        &values,
-    )?;
+    tx.execute("DELETE FROM meta", &[])?;
     Ok(())
 }
 
-/// Removes every line.
-fn clear_lines<S: Alter>(tx: &mut Transaction<'_, S>) -> Result<(), Error>
+/// Removes every row of `line`.
+fn clear_line<S: Alter>(tx: &mut Transaction<'_, S>) -> Result<(), Error>
     ensures same_reference { tx.new.conn.ghost_name ≡ tx.old.conn.ghost_name }
-    ensures ok { DoesInside (λ text. Makes text (λ _. empty))
+    ensures ok { Within (MayClear line_table (codes "line")) (Clears (codes "line"))
         (state S.Store tx.old.conn.now) (state S.Store tx.new.conn.now) result }
     ensures goes_on { GoesOnInside (state S.Store tx.old.conn.now) (state S.Store tx.new.conn.now) result }
     ensures kept { CommitsNothing (state S.Store tx.old.conn.now) (state S.Store tx.new.conn.now) }
@@ -52,38 +48,108 @@ fn clear_lines<S: Alter>(tx: &mut Transaction<'_, S>) -> Result<(), Error>
     Ok(())
 }
 
-/// Removes every line, then makes the changes.
-fn replace_lines<S: Alter>(tx: &mut Transaction<'_, S>, changes: &[Change]) -> Result<(), Error>
+/// Removes every row of `head`.
+fn clear_head<S: Alter>(tx: &mut Transaction<'_, S>) -> Result<(), Error>
     ensures same_reference { tx.new.conn.ghost_name ≡ tx.old.conn.ghost_name }
-    ensures ok { DoesInside (λ text. Makes text (λ _. after_changes (changes_view changes.now) empty))
+    ensures ok { Within (MayClear head_table (codes "head")) (Clears (codes "head"))
         (state S.Store tx.old.conn.now) (state S.Store tx.new.conn.now) result }
     ensures goes_on { GoesOnInside (state S.Store tx.old.conn.now) (state S.Store tx.new.conn.now) result }
     ensures kept { CommitsNothing (state S.Store tx.old.conn.now) (state S.Store tx.new.conn.now) }
     ensures survives { Survives (state S.Store tx.old.conn.now) (state S.Store tx.new.conn.now) (λ _. ⊥) }
 {
-    clear_lines(tx)?;
-    apply_all(tx, changes)
+    tx.execute("DELETE FROM head", &[])?;
+    Ok(())
 }
 
-/// Replaces the schema's text and all lines.
+/// Removes every row of `cell`.
+fn clear_cell<S: Alter>(tx: &mut Transaction<'_, S>) -> Result<(), Error>
+    ensures same_reference { tx.new.conn.ghost_name ≡ tx.old.conn.ghost_name }
+    ensures ok { Within (MayClear cell_table (codes "cell")) (Clears (codes "cell"))
+        (state S.Store tx.old.conn.now) (state S.Store tx.new.conn.now) result }
+    ensures goes_on { GoesOnInside (state S.Store tx.old.conn.now) (state S.Store tx.new.conn.now) result }
+    ensures kept { CommitsNothing (state S.Store tx.old.conn.now) (state S.Store tx.new.conn.now) }
+    ensures survives { Survives (state S.Store tx.old.conn.now) (state S.Store tx.new.conn.now) (λ _. ⊥) }
+{
+    tx.execute("DELETE FROM cell", &[])?;
+    Ok(())
+}
+
+/// Empties the tables of stored format 2.
+fn clear_cells<S: Alter>(tx: &mut Transaction<'_, S>) -> Result<(), Error>
+    ensures same_reference { tx.new.conn.ghost_name ≡ tx.old.conn.ghost_name }
+    ensures ok { DoesInside (λ _. Empties) (state S.Store tx.old.conn.now) (state S.Store tx.new.conn.now) result }
+    ensures goes_on { GoesOnInside (state S.Store tx.old.conn.now) (state S.Store tx.new.conn.now) result }
+    ensures kept { CommitsNothing (state S.Store tx.old.conn.now) (state S.Store tx.new.conn.now) }
+    ensures survives { Survives (state S.Store tx.old.conn.now) (state S.Store tx.new.conn.now) (λ _. ⊥) }
+{
+    clear_cell(tx)?;
+    clear_head(tx)?;
+    clear_meta(tx)
+}
+
+/// Empties the tables of stored format 1, and makes `head` and `cell`. The empty `line` stays.
+fn clear_lines<S: Alter>(tx: &mut Transaction<'_, S>) -> Result<(), Error>
+    ensures same_reference { tx.new.conn.ghost_name ≡ tx.old.conn.ghost_name }
+    ensures ok { HasCleanDisk (state S.Store tx.new.conn.now) → IsTrue (state S.Store tx.old.conn.now).in_transaction → (text : _)
+        → (IsTrue (state S.Store tx.old.conn.now).is_open → HoldsLines text (state S.Store tx.old.conn.now).now)
+        → OnOk result (Empties (state S.Store tx.old.conn.now) (state S.Store tx.new.conn.now)) }
+    ensures goes_on { GoesOnInside (state S.Store tx.old.conn.now) (state S.Store tx.new.conn.now) result }
+    ensures kept { CommitsNothing (state S.Store tx.old.conn.now) (state S.Store tx.new.conn.now) }
+    ensures survives { Survives (state S.Store tx.old.conn.now) (state S.Store tx.new.conn.now) (λ _. ⊥) }
+{
+    clear_line(tx)?;
+    clear_meta(tx)?;
+    make_rows(tx)
+}
+
+/// Leaves the tables of stored format 2 without rows, from either format.
+fn clear<S: Alter>(tx: &mut Transaction<'_, S>, in_cells: bool) -> Result<(), Error>
+    ensures same_reference { tx.new.conn.ghost_name ≡ tx.old.conn.ghost_name }
+    ensures ok { HasCleanDisk (state S.Store tx.new.conn.now) → IsTrue (state S.Store tx.old.conn.now).in_transaction → (text : _)
+        → MayHold in_cells text (state S.Store tx.old.conn.now)
+        → OnOk result (Empties (state S.Store tx.old.conn.now) (state S.Store tx.new.conn.now)) }
+    ensures goes_on { GoesOnInside (state S.Store tx.old.conn.now) (state S.Store tx.new.conn.now) result }
+    ensures kept { CommitsNothing (state S.Store tx.old.conn.now) (state S.Store tx.new.conn.now) }
+    ensures survives { Survives (state S.Store tx.old.conn.now) (state S.Store tx.new.conn.now) (λ _. ⊥) }
+{
+    if in_cells {
+        clear_cells(tx)
+    } else {
+        clear_lines(tx)
+    }
+}
+
+/// Replaces the schema's text and all rows.
 fn rewrite<S: Alter>(
     tx: &mut Transaction<'_, S>,
+    in_cells: bool,
     schema: &Text,
     changes: &[Change],
 ) -> Result<(), Error>
     ensures same_reference { tx.new.conn.ghost_name ≡ tx.old.conn.ghost_name }
-    ensures ok { DoesInside (λ _. Remakes schema.now (λ _. after_changes (changes_view changes.now) empty))
-        (state S.Store tx.old.conn.now) (state S.Store tx.new.conn.now) result }
+    ensures ok { HasCleanDisk (state S.Store tx.new.conn.now) → IsTrue (state S.Store tx.old.conn.now).in_transaction → (text : _)
+        → MayHold in_cells text (state S.Store tx.old.conn.now)
+        → OnOk result (Remakes schema.now (after_cell_changes (changes_view changes.now) empty)
+        (state S.Store tx.old.conn.now) (state S.Store tx.new.conn.now)) }
     ensures goes_on { GoesOnInside (state S.Store tx.old.conn.now) (state S.Store tx.new.conn.now) result }
     ensures kept { CommitsNothing (state S.Store tx.old.conn.now) (state S.Store tx.new.conn.now) }
     ensures survives { Survives (state S.Store tx.old.conn.now) (state S.Store tx.new.conn.now) (λ _. ⊥) }
 {
-    set_schema(tx, schema)?;
-    replace_lines(tx, changes)
+    clear(tx, in_cells)?;
+    fill_meta(tx, schema)?;
+    apply_all(tx, changes)
 }
 
-/// Replaces the schema's text and all lines, in one transaction: removes every line, then makes the changes. After an error
-/// the connection is closed or shows what it did before. After an error at the commit itself the rewrite may be stored.
+/// Whether there is a table `head`, as in stored format 2 and not in format 1.
+fn has_heads(schema: &Schema) -> bool
+    ensures { result ≡ is_some (table_named schema.now (codes "head")) }
+{
+    schema.table_named(b"head").is_some()
+}
+
+/// Replaces the schema's text and all rows, in one transaction: empties the tables of either stored format, makes those of format
+/// 2 if they are not there, and makes the changes. After an error the connection is closed or shows what it did before. After an
+/// error at the commit itself the rewrite may be stored.
 pub fn rewrite_all<S: Alter>(
     conn: &mut Connection<S>,
     schema: &Text,
@@ -92,13 +158,13 @@ pub fn rewrite_all<S: Alter>(
     requires { conn.old.in_transaction ≡ false }
     ensures mode { conn.new.in_transaction ≡ false }
     ensures ok { HasCleanDisk (state S.Store conn.new) → (text : _) → MayBeStored text (state S.Store conn.old)
-        → OnOk result (Rewrites schema.now (after_changes (changes_view changes.now) empty)
+        → OnOk result (Rewrites schema.now (after_cell_changes (changes_view changes.now) empty)
         (state S.Store conn.old) (state S.Store conn.new)) }
     ensures before { IfErr result (λ s. IsBefore s
         → Survives (state S.Store conn.old) (state S.Store conn.new) (λ _. ⊥)) }
     ensures crash { Survives (state S.Store conn.old) (state S.Store conn.new)
         (λ trees. (text : _) → MayBeStored text (state S.Store conn.old)
-        → IsRewriteImage schema.now (after_changes (changes_view changes.now) empty) (state S.Store conn.old) trees) }
+        → IsRewriteImage schema.now (after_cell_changes (changes_view changes.now) empty) (state S.Store conn.old) trees) }
     ensures unmoved { HasCleanDisk (state S.Store conn.new)
         → OnErr result (KeepsCommit (state S.Store conn.old) (state S.Store conn.new)) }
     ensures same { HasCleanDisk (state S.Store conn.new)
@@ -107,8 +173,9 @@ pub fn rewrite_all<S: Alter>(
     if !conn.is_autocommit() {
         return Err(WriteError::Before(Error::InvalidQuery));
     }
+    let in_cells = has_heads(conn.schema());
     let mut tx = conn.transaction();
-    match rewrite(&mut tx, schema, changes) {
+    match rewrite(&mut tx, in_cells, schema, changes) {
         Ok(()) => {}
         Err(error) => return Err(WriteError::Before(error)),
     }

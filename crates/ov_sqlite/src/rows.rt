@@ -1,15 +1,15 @@
-//! Rows that were read from `line`: whether they are lines, and the lines.
+//! Tests of rows that were read.
 
-ghost use Rattle.std.specs.Prelude.{◌≡◌, ◌<ℤ◌, map, OnOk, IfOk, IfSome, IsTrue, Err};
+ghost use Rattle.std.specs.Prelude.{◌≡◌, ◌↔◌, ◌<ℤ◌, OnOk, IfSome, IsTrue, Err};
 ghost use Rattle.std.specs.List.{AllByRecursion};
-ghost use Rattle.ov_keeper.specs.Views.{line_entry};
-ghost use Rattle.ov_sqlite.specs.Format.{IsLine, entry};
+ghost use Rattle.ov_sqlite.specs.Format.{IsLine, IsHead, IsCell};
 ghost use Rattle.ov_sqlite.specs.Changing.{IsNumbered};
+ghost use Rattle.ov_sqlite.specs.Joining.{AreNumbered};
 
-use crate::line::line_columns_of;
-use ov_keeper::{KeepFault, Line};
+use crate::columns::{cell_columns_of, head_columns_of, line_columns_of};
+use crate::value::number_at;
+use ov_keeper::KeepFault;
 use sqlite::Row;
-use std::alloc::{AllocError, Global};
 
 /// Whether a row's number is greater than the last one.
 fn is_above(number: i64, last: Option<i64>) -> bool
@@ -21,37 +21,77 @@ fn is_above(number: i64, last: Option<i64>) -> bool
     }
 }
 
-/// Checks that each row is a line and that the numbers rise. Returns `Format` if a row is not a line. Numbers that do not
-/// rise are a wrong answer of the device, since a table is read in the order of its numbers.
-pub(crate) fn test_rows(rows: &[Row]) -> Result<(), KeepFault>
-    ensures lines { OnOk result (AllByRecursion IsLine rows.now) }
-    ensures numbered { OnOk result (IsNumbered rows.now) }
-    ensures format { result ≡ Err KeepFault.Format → ¬ AllByRecursion IsLine rows.now }
+/// Checks that the numbers of the rows rise. If they do not, that is a wrong answer of the device, since a table is read in the
+/// order of its numbers.
+pub(crate) fn test_numbers(rows: &[Row]) -> Result<(), KeepFault>
+    ensures numbered { OnOk result (IsNumbered (λ r. r) rows.now) }
+    ensures distinct { OnOk result (AreNumbered rows.now) }
+    ensures fault { result ≡ Err KeepFault.Format → ⊥ }
     ensures ours { result ≡ Err KeepFault.NotOurs → ⊥ }
 {
     let mut last = None;
     for row in rows {
-        let Some(parts) = line_columns_of(row) else {
-            return Err(KeepFault::Format);
+        let Some(number) = number_at(row, 0) else {
+            return Err(KeepFault::Device);
         };
-        if !is_above(parts.number, last) {
+        if !is_above(number, last) {
             return Err(KeepFault::Device);
         }
-        last = Some(parts.number);
+        last = Some(number);
     }
     Ok(())
 }
 
-/// The lines of the rows, if each row is one.
-pub fn lines_of(alloc: Global, rows: &[Row]) -> Result<Option<Vec<Line>>, AllocError>
-    ensures { IfOk result (λ all. IfSome all (λ lines. map line_entry lines.items ≡ map entry rows.now)) }
+/// Whether each row is a line.
+pub(crate) fn are_lines(rows: &[Row]) -> bool
+    ensures { IsTrue result ↔ AllByRecursion IsLine rows.now }
 {
-    let mut lines = Vec::with_capacity(alloc, rows.len())?;
     for row in rows {
-        let Some(parts) = line_columns_of(row) else {
-            return Ok(None);
-        };
-        lines.push(parts.to_line(alloc)?)?;
+        if !is_line(row) {
+            return false;
+        }
     }
-    Ok(Some(lines))
+    true
+}
+
+fn is_line(row: &Row) -> bool
+    ensures { IsTrue result ↔ IsLine row.now }
+{
+    line_columns_of(row).is_some()
+}
+
+/// Whether each row is a head.
+pub(crate) fn are_heads(rows: &[Row]) -> bool
+    ensures { IsTrue result ↔ AllByRecursion IsHead rows.now }
+{
+    for row in rows {
+        if !is_head(row) {
+            return false;
+        }
+    }
+    true
+}
+
+fn is_head(row: &Row) -> bool
+    ensures { IsTrue result ↔ IsHead row.now }
+{
+    head_columns_of(row).is_some()
+}
+
+/// Whether each row is a cell.
+pub(crate) fn are_cells(rows: &[Row]) -> bool
+    ensures { IsTrue result ↔ AllByRecursion IsCell rows.now }
+{
+    for row in rows {
+        if !is_cell(row) {
+            return false;
+        }
+    }
+    true
+}
+
+fn is_cell(row: &Row) -> bool
+    ensures { IsTrue result ↔ IsCell row.now }
+{
+    cell_columns_of(row).is_some()
 }

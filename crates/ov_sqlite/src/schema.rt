@@ -1,11 +1,13 @@
-//! Whether a database has the two tables of stored format 1.
+//! Whether a database has the tables of one of the stored formats.
 
-ghost use Rattle.std.specs.Prelude.{◌≡◌, ◌↔◌, ◌∷◌, ◌||◌, ◌&&◌, [], codes, IsTrue, Some, not, ◌==◌, option_map};
+ghost use Rattle.std.specs.Prelude.{◌≡◌, ◌↔◌, ◌∷◌, ◌||◌, [], codes, IsTrue, true, not, ◌==◌, option_map};
 ghost use Rattle.std.specs.List.{list_any, list_all};
 ghost use Rattle.sqlite_schema.specs.declared.schema.Kind.TheVariants as kind;
 ghost use Rattle.sqlite_schema.specs.Names.{same_name};
-ghost use Rattle.ov_sqlite.specs.Tables.{no_schema, HasOurTables, meta_table, line_table, loose, plain_table, table_of, points_to, is_key_of_ours};
+ghost use Rattle.ov_sqlite.specs.Tables.{no_schema, HasLineTables, HasCellTables, HasOurTables, HasTable, IsAlone, meta_table, line_table, head_table, cell_table};
+ghost use Rattle.ov_sqlite.specs.Tables.{loose, plain_table, table_of, tree_of, points_to, is_apart, is_allowed};
 
+use crate::room::{has_room_for, lacks_sequence};
 use sqlite::types::Value;
 use sqlite_items::Items;
 use sqlite_schema::names::same_name;
@@ -43,13 +45,45 @@ fn are_meta_columns(columns: &[Column]) -> bool
 
 /// Whether they are the columns of `line`.
 fn are_line_columns(columns: &[Column]) -> bool
-    ensures { IsTrue result ↔ (columns.now ≡ loose (codes "tbl") kind.Text ∷ loose (codes "id") kind.Any ∷ loose (codes "ver") kind.Any ∷ loose (codes "body") kind.Any ∷ []) }
+    ensures { IsTrue result ↔ (columns.now ≡ loose (codes "tbl") kind.Text ∷ loose (codes "id") kind.Any
+        ∷ loose (codes "ver") kind.Any ∷ loose (codes "body") kind.Any ∷ []) }
 {
     match columns {
         [tbl, id, version, body] => {
             is_loose(tbl, b"tbl", Kind::Text)
                 && is_loose(id, b"id", Kind::Any)
                 && is_loose(version, b"ver", Kind::Any)
+                && is_loose(body, b"body", Kind::Any)
+        }
+        _ => false,
+    }
+}
+
+/// Whether they are the columns of `head`.
+fn are_head_columns(columns: &[Column]) -> bool
+    ensures { IsTrue result ↔ (columns.now ≡ loose (codes "tbl") kind.Text ∷ loose (codes "id") kind.Any
+        ∷ loose (codes "ver") kind.Any ∷ []) }
+{
+    match columns {
+        [tbl, id, version] => {
+            is_loose(tbl, b"tbl", Kind::Text)
+                && is_loose(id, b"id", Kind::Any)
+                && is_loose(version, b"ver", Kind::Any)
+        }
+        _ => false,
+    }
+}
+
+/// Whether they are the columns of `cell`.
+fn are_cell_columns(columns: &[Column]) -> bool
+    ensures { IsTrue result ↔ (columns.now ≡ loose (codes "tbl") kind.Text ∷ loose (codes "id") kind.Any
+        ∷ loose (codes "col") kind.Text ∷ loose (codes "body") kind.Any ∷ []) }
+{
+    match columns {
+        [tbl, id, column, body] => {
+            is_loose(tbl, b"tbl", Kind::Text)
+                && is_loose(id, b"id", Kind::Any)
+                && is_loose(column, b"col", Kind::Text)
                 && is_loose(body, b"body", Kind::Any)
         }
         _ => false,
@@ -116,6 +150,24 @@ fn is_line(table: &Table) -> bool
         && table.primary.as_slice() == [1, 2].as_slice()
 }
 
+fn is_head(table: &Table) -> bool
+    ensures { IsTrue result ↔ (table.now ≡ head_table table.now.tree) }
+{
+    is_plain(table)
+        && table.name.as_slice() == b"head".as_slice()
+        && are_head_columns(table.columns.as_slice())
+        && table.primary.as_slice() == [1, 2].as_slice()
+}
+
+fn is_cell(table: &Table) -> bool
+    ensures { IsTrue result ↔ (table.now ≡ cell_table table.now.tree) }
+{
+    is_plain(table)
+        && table.name.as_slice() == b"cell".as_slice()
+        && are_cell_columns(table.columns.as_slice())
+        && table.primary.as_slice() == [1, 2, 3].as_slice()
+}
+
 /// The table of a name, as SQLite looks for it.
 fn table_of<'a>(schema: &'a Schema, name: &[u8]) -> Option<&'a Table>
     ensures { option_map (λ t. t.now) result ≡ table_of schema.now name.now }
@@ -128,7 +180,7 @@ fn table_of<'a>(schema: &'a Schema, name: &[u8]) -> Option<&'a Table>
 }
 
 /// Whether no table of another name has the tree of this one.
-fn is_alone(schema: &Schema, table: &Table) -> bool
+fn has_own_tree(schema: &Schema, table: &Table) -> bool
     ensures { result ≡ list_all (λ t. not (t.tree == table.now.tree) || same_name t.name table.now.name) schema.now.tables }
 {
     let tree = table.tree;
@@ -137,101 +189,126 @@ fn is_alone(schema: &Schema, table: &Table) -> bool
         || same_name(other.name.as_slice(), name))
 }
 
-/// The trees of our two tables.
-#[derive(Clone, Copy)]
-struct Trees {
-    meta: u32,
-    line: u32,
-}
-
-impl Trees {
-    fn have(self, tree: u32) -> bool
-        ensures { result ≡ ((tree == self.meta) || (tree == self.line)) }
-    {
-        tree == self.meta || tree == self.line
-    }
-
-    /// Whether the reference is a foreign key to one of the two.
-    fn are_referred(self, schema: &Schema, reference: &Reference) -> bool
-        ensures { result ≡ points_to self.meta self.line schema.now reference.now }
-    {
-        match table_of(schema, reference.parent.as_slice()) {
-            Some(table) => self.have(table.tree),
-            None => false,
-        }
-    }
-
-    /// Whether the table has a foreign key to one of them.
-    fn are_parents(self, schema: &Schema, table: &Table) -> bool
-        ensures { result ≡ list_any (points_to self.meta self.line schema.now) table.now.references }
-    {
-        table
-            .references
-            .as_slice()
-            .iter()
-            .any(|reference| self.are_referred(schema, reference))
-    }
-
-    /// Whether the index forbids no row of theirs, except by their primary keys.
-    fn allow(self, index: &Index) -> bool
-        ensures { result ≡ (not (index.now.is_unique && ((index.now.table == self.meta) || (index.now.table == self.line))) || is_key_of_ours index.now) }
-    {
-        !(index.is_unique && self.have(index.table)) || is_key_of_ours(index)
-    }
-}
-
-/// Whether the index is that of one of our primary keys.
-fn is_key_of_ours(index: &Index) -> bool
-    ensures { result ≡ is_key_of_ours index.now }
+/// Whether the foreign key points to the table with this tree.
+fn points_to(tree: u32, schema: &Schema, reference: &Reference) -> bool
+    ensures { result ≡ points_to tree schema.now reference.now }
 {
-    let name = index.name.as_slice();
-    same_name(b"sqlite_autoindex_meta_1", name) || same_name(b"sqlite_autoindex_line_1", name)
+    match table_of(schema, reference.parent.as_slice()) {
+        Some(table) => table.tree == tree,
+        None => false,
+    }
 }
 
-fn are_apart(schema: &Schema, trees: Trees) -> bool
-    ensures { result ≡ list_all (λ t. not (list_any (points_to trees.meta trees.line schema.now) t.references)) schema.now.tables }
+/// Whether the table has a foreign key to the one with this tree.
+fn refers_to(tree: u32, schema: &Schema, table: &Table) -> bool
+    ensures { result ≡ list_any (points_to tree schema.now) table.now.references }
+{
+    table
+        .references
+        .as_slice()
+        .iter()
+        .any(|reference| points_to(tree, schema, reference))
+}
+
+/// Whether no table has a foreign key to the one with this tree.
+fn are_apart(tree: u32, schema: &Schema) -> bool
+    ensures { result ≡ list_all (is_apart tree schema.now) schema.now.tables }
 {
     schema
         .tables
         .as_slice()
         .iter()
-        .all(|table| !trees.are_parents(schema, table))
+        .all(|table| !refers_to(tree, schema, table))
 }
 
-fn are_allowed(schema: &Schema, trees: Trees) -> bool
-    ensures { result ≡ list_all (λ i. not (i.is_unique && ((i.table == trees.meta) || (i.table == trees.line))) || is_key_of_ours i) schema.now.indexes }
+/// Whether the index forbids no row of the table with this tree, or is that of its primary key, which has this name.
+fn is_allowed(key: &[u8], tree: u32, index: &Index) -> bool
+    ensures { result ≡ is_allowed key.now tree index.now }
+{
+    !(index.is_unique && index.table == tree) || same_name(key, index.name.as_slice())
+}
+
+/// Whether no other index forbids rows of the table.
+fn are_allowed(key: &[u8], tree: u32, schema: &Schema) -> bool
+    ensures { result ≡ list_all (is_allowed key.now tree) schema.now.indexes }
 {
     schema
         .indexes
         .as_slice()
         .iter()
-        .all(|index| trees.allow(index))
+        .all(|index| is_allowed(key, tree, index))
 }
 
-/// Whether the two tables are those of stored format 1, and everything else leaves them alone.
-fn are_ours(schema: &Schema, meta: &Table, line: &Table) -> bool
-    requires meta { table_of schema.now (codes "meta") ≡ Some meta.now }
-    requires line { table_of schema.now (codes "line") ≡ Some line.now }
-    ensures { IsTrue result ↔ HasOurTables schema.now }
+/// Whether everything else leaves the table alone, where the index of its primary key has this name.
+fn is_alone(schema: &Schema, table: &Table, key: &[u8]) -> bool
+    ensures { IsTrue result ↔ IsAlone schema.now table.now key.now }
 {
-    let trees = Trees {
-        meta: meta.tree,
-        line: line.tree,
-    };
-    is_meta(meta)
-        && is_line(line)
-        && is_alone(schema, meta)
-        && is_alone(schema, line)
-        && are_apart(schema, trees)
-        && are_allowed(schema, trees)
+    has_own_tree(schema, table)
+        && are_apart(table.tree, schema)
+        && are_allowed(key, table.tree, schema)
 }
 
-/// Whether the database has the two tables of stored format 1, wherever they are in it. It may have others too.
+/// Whether the table `meta` is there as this program makes it, and everything else leaves it alone.
+fn has_meta(schema: &Schema) -> bool
+    ensures { IsTrue result ↔ HasTable schema.now (meta_table (tree_of schema.now (codes "meta"))) }
+{
+    match table_of(schema, b"meta") {
+        Some(table) => is_meta(table) && is_alone(schema, table, b"sqlite_autoindex_meta_1"),
+        None => false,
+    }
+}
+
+/// Whether the table `line` is there as this program makes it, and everything else leaves it alone.
+fn has_line(schema: &Schema) -> bool
+    ensures { IsTrue result ↔ HasTable schema.now (line_table (tree_of schema.now (codes "line"))) }
+{
+    match table_of(schema, b"line") {
+        Some(table) => is_line(table) && is_alone(schema, table, b"sqlite_autoindex_line_1"),
+        None => false,
+    }
+}
+
+/// Whether the table `head` is there as this program makes it, and everything else leaves it alone.
+fn has_head(schema: &Schema) -> bool
+    ensures { IsTrue result ↔ HasTable schema.now (head_table (tree_of schema.now (codes "head"))) }
+{
+    match table_of(schema, b"head") {
+        Some(table) => is_head(table) && is_alone(schema, table, b"sqlite_autoindex_head_1"),
+        None => false,
+    }
+}
+
+/// Whether the table `cell` is there as this program makes it, and everything else leaves it alone.
+fn has_cell(schema: &Schema) -> bool
+    ensures { IsTrue result ↔ HasTable schema.now (cell_table (tree_of schema.now (codes "cell"))) }
+{
+    match table_of(schema, b"cell") {
+        Some(table) => is_cell(table) && is_alone(schema, table, b"sqlite_autoindex_cell_1"),
+        None => false,
+    }
+}
+
+/// Whether the tables are those of stored format 1, with room for those of format 2.
+fn has_line_tables(schema: &Schema) -> bool
+    ensures { IsTrue result ↔ HasLineTables schema.now }
+{
+    has_meta(schema)
+        && has_line(schema)
+        && has_room_for(schema, b"head")
+        && has_room_for(schema, b"cell")
+        && !lacks_sequence(schema)
+}
+
+/// Whether the tables are those of stored format 2.
+pub(crate) fn has_cell_tables(schema: &Schema) -> bool
+    ensures { IsTrue result ↔ HasCellTables schema.now }
+{
+    has_meta(schema) && has_head(schema) && has_cell(schema)
+}
+
+/// Whether the database has the tables of one of the stored formats, wherever they are in it. It may have others too.
 pub fn is_ours(schema: &Schema) -> bool
     ensures { IsTrue result ↔ HasOurTables schema.now }
 {
-    match (table_of(schema, b"meta"), table_of(schema, b"line")) {
-        (Some(meta), Some(line)) => are_ours(schema, meta, line),
-        _ => false,
-    }
+    has_line_tables(schema) || has_cell_tables(schema)
 }

@@ -1,22 +1,26 @@
-ghost use Rattle.std.specs.Prelude.{◌≡◌, ◌<◌, length, false, IsTrue, OnOk, OnErr, IfOk, IfErr};
-ghost use Rattle.std.specs.FinMap.{insert, remove};
+//! Writing rows of stored format 2.
+
+ghost use Rattle.std.specs.Prelude.{◌≡◌, ◌<◌, length, false, IsTrue, OnOk, OnErr, IfErr};
+ghost use Rattle.std.specs.FinMap.{empty, insert, remove};
 ghost use Rattle.sqlite.specs.State.{HasCleanDisk, Survives, KeepsCommit, IsUnchanged};
 ghost use Rattle.sqlite.specs.Held.{state};
-ghost use Rattle.ov_specs.specs.rows.Lines.{after_change, after_changes};
-ghost use Rattle.ov_keeper.specs.Views.{change_view, changes_view, line_entry};
+ghost use Rattle.ov_specs.specs.rows.Cells.{after_cell_change, after_cell_changes};
+ghost use Rattle.ov_keeper.specs.Views.{cells_view, cell_line_entry, change_view, changes_view};
 ghost use Rattle.ov_sqlite.specs.WriteError.{IsBefore};
-ghost use Rattle.ov_sqlite.specs.Changing.{MayBeStored, Makes, AddsLine, after_update, Stores, IsCommitImage};
-ghost use Rattle.ov_sqlite.specs.Inside.{DoesInside, WasOpenInside, GoesOnInside, CommitsNothing};
+ghost use Rattle.ov_sqlite.specs.Changing.{MayHoldCells, Makes, Becomes, IsEmptied, IsAdded, IsRefilled};
+ghost use Rattle.ov_sqlite.specs.Changing.{MayHave, MayLack, MayBeEmpty, Stores, IsCommitImage};
+ghost use Rattle.ov_sqlite.specs.Inside.{DoesInside, DoesInsideIf, WasOpenInside, GoesOnInside, CommitsNothing};
 ghost use Rattle.ov_sqlite.specs.Querying.{IsAsBefore};
 
-use ov_keeper::{Change, Line};
+use ov_keeper::{Cell, CellLine, Change};
 use sqlite::types::ValueRef;
 use sqlite::{Alter, Connection, Error, Transaction};
 use uuid::Uuid;
 
-fn remove_line<S: Alter>(tx: &mut Transaction<'_, S>, table: &str, id: Uuid) -> Result<(), Error>
+/// Removes the cells of the row of this key.
+fn remove_cells<S: Alter>(tx: &mut Transaction<'_, S>, table: &str, id: Uuid) -> Result<(), Error>
     ensures same_reference { tx.new.conn.ghost_name ≡ tx.old.conn.ghost_name }
-    ensures ok { DoesInside (λ text. Makes text (λ m. remove m (table.now, id)))
+    ensures ok { DoesInside (λ text. Makes text (IsEmptied (table.now, id)))
         (state S.Store tx.old.conn.now) (state S.Store tx.new.conn.now) result }
     ensures opened { WasOpenInside (state S.Store tx.old.conn.now) (state S.Store tx.new.conn.now) result }
     ensures goes_on { GoesOnInside (state S.Store tx.old.conn.now) (state S.Store tx.new.conn.now) result }
@@ -27,8 +31,39 @@ fn remove_line<S: Alter>(tx: &mut Transaction<'_, S>, table: &str, id: Uuid) -> 
         ValueRef::Text(table.as_bytes()),
         ValueRef::Blob(id.as_bytes()),
     ];
-    tx.execute("DELETE FROM line WHERE tbl=?1 AND id=?2", &key)?;
+    tx.execute("DELETE FROM cell WHERE tbl=?1 AND id=?2", &key)?;
     Ok(())
+}
+
+/// Removes the head of the row of this key, which has no cells.
+fn remove_head<S: Alter>(tx: &mut Transaction<'_, S>, table: &str, id: Uuid) -> Result<(), Error>
+    ensures same_reference { tx.new.conn.ghost_name ≡ tx.old.conn.ghost_name }
+    ensures ok { DoesInsideIf (MayBeEmpty (table.now, id)) (λ text. Makes text (Becomes (λ m. remove m (table.now, id))))
+        (state S.Store tx.old.conn.now) (state S.Store tx.new.conn.now) result }
+    ensures goes_on { GoesOnInside (state S.Store tx.old.conn.now) (state S.Store tx.new.conn.now) result }
+    ensures kept { CommitsNothing (state S.Store tx.old.conn.now) (state S.Store tx.new.conn.now) }
+    ensures survives { Survives (state S.Store tx.old.conn.now) (state S.Store tx.new.conn.now) (λ _. ⊥) }
+{
+    let key = [
+        ValueRef::Text(table.as_bytes()),
+        ValueRef::Blob(id.as_bytes()),
+    ];
+    tx.execute("DELETE FROM head WHERE tbl=?1 AND id=?2", &key)?;
+    Ok(())
+}
+
+/// Removes the row of this key with all its cells.
+fn remove_row<S: Alter>(tx: &mut Transaction<'_, S>, table: &str, id: Uuid) -> Result<(), Error>
+    ensures same_reference { tx.new.conn.ghost_name ≡ tx.old.conn.ghost_name }
+    ensures ok { DoesInside (λ text. Makes text (Becomes (λ m. remove m (table.now, id))))
+        (state S.Store tx.old.conn.now) (state S.Store tx.new.conn.now) result }
+    ensures opened { WasOpenInside (state S.Store tx.old.conn.now) (state S.Store tx.new.conn.now) result }
+    ensures goes_on { GoesOnInside (state S.Store tx.old.conn.now) (state S.Store tx.new.conn.now) result }
+    ensures kept { CommitsNothing (state S.Store tx.old.conn.now) (state S.Store tx.new.conn.now) }
+    ensures survives { Survives (state S.Store tx.old.conn.now) (state S.Store tx.new.conn.now) (λ _. ⊥) }
+{
+    remove_cells(tx, table, id)?;
+    remove_head(tx, table, id)
 }
 
 /// The sixteen bytes of an identifier.
@@ -39,14 +74,12 @@ fn id_bytes(id: &Uuid) -> &[u8]
     id.as_bytes()
 }
 
-/// Sets the version and body of the row with the line's key. Returns whether there was such a row.
-fn update_line<S: Alter>(tx: &mut Transaction<'_, S>, line: &Line) -> Result<bool, Error>
+/// Adds the head of a row that is not there.
+fn insert_head<S: Alter>(tx: &mut Transaction<'_, S>, line: &CellLine) -> Result<(), Error>
     ensures same_reference { tx.new.conn.ghost_name ≡ tx.old.conn.ghost_name }
-    ensures ok { HasCleanDisk (state S.Store tx.new.conn.now) → IsTrue (state S.Store tx.old.conn.now).in_transaction
-        → (text : _) → MayBeStored text (state S.Store tx.old.conn.now) → IfOk result (λ is_found.
-        Makes text (after_update is_found (line_entry line.now).0 (line_entry line.now).1)
-        (state S.Store tx.old.conn.now) (state S.Store tx.new.conn.now)) }
-    ensures opened { WasOpenInside (state S.Store tx.old.conn.now) (state S.Store tx.new.conn.now) result }
+    ensures ok { DoesInsideIf (MayLack (line.now.table, line.now.id))
+        (λ text. Makes text (Becomes (λ m. insert m (line.now.table, line.now.id) (line.now.version, empty))))
+        (state S.Store tx.old.conn.now) (state S.Store tx.new.conn.now) result }
     ensures goes_on { GoesOnInside (state S.Store tx.old.conn.now) (state S.Store tx.new.conn.now) result }
     ensures kept { CommitsNothing (state S.Store tx.old.conn.now) (state S.Store tx.new.conn.now) }
     ensures survives { Survives (state S.Store tx.old.conn.now) (state S.Store tx.new.conn.now) (λ _. ⊥) }
@@ -55,20 +88,21 @@ fn update_line<S: Alter>(tx: &mut Transaction<'_, S>, line: &Line) -> Result<boo
         ValueRef::Text(line.table.as_str().as_bytes()),
         ValueRef::Blob(id_bytes(&line.id)),
         ValueRef::Blob(id_bytes(&line.version)),
-        ValueRef::Blob(line.body.as_slice()),
     ];
-    let changed = tx.execute(
-        "UPDATE line SET ver=?3,body=?4 WHERE tbl=?1 AND id=?2",
-        &values,
-    )?;
-    Ok(changed > 0)
+    tx.execute("INSERT INTO head(tbl,id,ver) VALUES(?1,?2,?3)", &values)?;
+    Ok(())
 }
 
-fn insert_line<S: Alter>(tx: &mut Transaction<'_, S>, line: &Line) -> Result<(), Error>
+/// Adds a cell to a row that is there. SQLite refuses a second cell of one column.
+fn insert_cell<S: Alter>(
+    tx: &mut Transaction<'_, S>,
+    line: &CellLine,
+    cell: &Cell,
+) -> Result<(), Error>
     ensures same_reference { tx.new.conn.ghost_name ≡ tx.old.conn.ghost_name }
-    ensures ok { DoesInside (λ text. AddsLine text (line_entry line.now).0 (line_entry line.now).1)
+    ensures ok { DoesInsideIf (MayHave (line.now.table, line.now.id) (λ _. Unit {0}))
+        (λ text. Makes text (IsAdded (line.now.table, line.now.id) cell.now.column cell.now.body))
         (state S.Store tx.old.conn.now) (state S.Store tx.new.conn.now) result }
-    ensures opened { WasOpenInside (state S.Store tx.old.conn.now) (state S.Store tx.new.conn.now) result }
     ensures goes_on { GoesOnInside (state S.Store tx.old.conn.now) (state S.Store tx.new.conn.now) result }
     ensures kept { CommitsNothing (state S.Store tx.old.conn.now) (state S.Store tx.new.conn.now) }
     ensures survives { Survives (state S.Store tx.old.conn.now) (state S.Store tx.new.conn.now) (λ _. ⊥) }
@@ -76,34 +110,50 @@ fn insert_line<S: Alter>(tx: &mut Transaction<'_, S>, line: &Line) -> Result<(),
     let values = [
         ValueRef::Text(line.table.as_str().as_bytes()),
         ValueRef::Blob(id_bytes(&line.id)),
-        ValueRef::Blob(id_bytes(&line.version)),
-        ValueRef::Blob(line.body.as_slice()),
+        ValueRef::Text(cell.column.as_str().as_bytes()),
+        ValueRef::Blob(cell.body.as_slice()),
     ];
     tx.execute(
-        "INSERT INTO line(tbl,id,ver,body) VALUES(?1,?2,?3,?4)",
+        "INSERT INTO cell(tbl,id,col,body) VALUES(?1,?2,?3,?4)",
         &values,
     )?;
     Ok(())
 }
 
-fn put_line<S: Alter>(tx: &mut Transaction<'_, S>, line: &Line) -> Result<(), Error>
+/// Adds the cells of a row, whose head is there without any.
+fn insert_cells<S: Alter>(tx: &mut Transaction<'_, S>, line: &CellLine) -> Result<(), Error>
     ensures same_reference { tx.new.conn.ghost_name ≡ tx.old.conn.ghost_name }
-    ensures ok { DoesInside (λ text. Makes text (λ m. insert m (line_entry line.now).0 (line_entry line.now).1))
+    ensures ok { DoesInsideIf (MayHave (line.now.table, line.now.id) (λ l. l ≡ (line.now.version, empty)))
+        (λ text. Makes text (IsRefilled (line.now.table, line.now.id) (line.now.version, cells_view line.now.cells.items)))
+        (state S.Store tx.old.conn.now) (state S.Store tx.new.conn.now) result }
+    ensures goes_on { GoesOnInside (state S.Store tx.old.conn.now) (state S.Store tx.new.conn.now) result }
+    ensures kept { CommitsNothing (state S.Store tx.old.conn.now) (state S.Store tx.new.conn.now) }
+    ensures survives { Survives (state S.Store tx.old.conn.now) (state S.Store tx.new.conn.now) (λ _. ⊥) }
+{
+    for cell in line.cells.as_slice() {
+        insert_cell(tx, line, cell)?;
+    }
+    Ok(())
+}
+
+/// Puts a row in place of the one with its key.
+fn put_row<S: Alter>(tx: &mut Transaction<'_, S>, line: &CellLine) -> Result<(), Error>
+    ensures same_reference { tx.new.conn.ghost_name ≡ tx.old.conn.ghost_name }
+    ensures ok { DoesInside (λ text. Makes text (Becomes (λ m. insert m (cell_line_entry line.now).0 (cell_line_entry line.now).1)))
         (state S.Store tx.old.conn.now) (state S.Store tx.new.conn.now) result }
     ensures opened { WasOpenInside (state S.Store tx.old.conn.now) (state S.Store tx.new.conn.now) result }
     ensures goes_on { GoesOnInside (state S.Store tx.old.conn.now) (state S.Store tx.new.conn.now) result }
     ensures kept { CommitsNothing (state S.Store tx.old.conn.now) (state S.Store tx.new.conn.now) }
     ensures survives { Survives (state S.Store tx.old.conn.now) (state S.Store tx.new.conn.now) (λ _. ⊥) }
 {
-    if update_line(tx, line)? {
-        return Ok(());
-    }
-    insert_line(tx, line)
+    remove_row(tx, line.table.as_str(), line.id)?;
+    insert_head(tx, line)?;
+    insert_cells(tx, line)
 }
 
 fn apply<S: Alter>(tx: &mut Transaction<'_, S>, change: &Change) -> Result<(), Error>
     ensures same_reference { tx.new.conn.ghost_name ≡ tx.old.conn.ghost_name }
-    ensures ok { DoesInside (λ text. Makes text (after_change (change_view change.now)))
+    ensures ok { DoesInside (λ text. Makes text (Becomes (after_cell_change (change_view change.now))))
         (state S.Store tx.old.conn.now) (state S.Store tx.new.conn.now) result }
     ensures opened { WasOpenInside (state S.Store tx.old.conn.now) (state S.Store tx.new.conn.now) result }
     ensures goes_on { GoesOnInside (state S.Store tx.old.conn.now) (state S.Store tx.new.conn.now) result }
@@ -111,8 +161,8 @@ fn apply<S: Alter>(tx: &mut Transaction<'_, S>, change: &Change) -> Result<(), E
     ensures survives { Survives (state S.Store tx.old.conn.now) (state S.Store tx.new.conn.now) (λ _. ⊥) }
 {
     match change {
-        Change::Put(line) => put_line(tx, line),
-        Change::Remove { table, id } => remove_line(tx, table.as_str(), *id),
+        Change::Put(line) => put_row(tx, line),
+        Change::Remove { table, id } => remove_row(tx, table.as_str(), *id),
     }
 }
 
@@ -121,7 +171,7 @@ pub(crate) fn apply_all<S: Alter>(
     changes: &[Change],
 ) -> Result<(), Error>
     ensures same_reference { tx.new.conn.ghost_name ≡ tx.old.conn.ghost_name }
-    ensures ok { DoesInside (λ text. Makes text (after_changes (changes_view changes.now)))
+    ensures ok { DoesInside (λ text. Makes text (Becomes (after_cell_changes (changes_view changes.now))))
         (state S.Store tx.old.conn.now) (state S.Store tx.new.conn.now) result }
     ensures opened { HasCleanDisk (state S.Store tx.new.conn.now) → IsTrue (state S.Store tx.old.conn.now).in_transaction
         → OnOk result (0 < length changes.now → IsTrue (state S.Store tx.old.conn.now).is_open) }
@@ -142,18 +192,22 @@ pub enum WriteError {
     AtCommit(Error),
 }
 
-/// Makes the changes in one transaction.
+/// Makes the changes in one transaction, in a database of stored format 2. After an error the connection is closed or shows what
+/// it did before. After an error at the commit itself the changes may be stored.
 pub fn write_all<S: Alter>(conn: &mut Connection<S>, changes: &[Change]) -> Result<(), WriteError>
     requires autocommit { conn.old.in_transaction ≡ false }
     requires some { 0 < length changes.now }
     ensures mode { conn.new.in_transaction ≡ false }
-    ensures ok { HasCleanDisk (state S.Store conn.new) → (text : _) → MayBeStored text (state S.Store conn.old)
-        → OnOk result (Stores text (after_changes (changes_view changes.now)) (state S.Store conn.old) (state S.Store conn.new)) }
+    ensures ok { HasCleanDisk (state S.Store conn.new) → (text : _) → MayHoldCells text (state S.Store conn.old)
+        → OnOk result (Stores text (after_cell_changes (changes_view changes.now)) (state S.Store conn.old) (state S.Store conn.new)) }
     ensures before { IfErr result (λ s. IsBefore s → Survives (state S.Store conn.old) (state S.Store conn.new) (λ _. ⊥)) }
     ensures crash { Survives (state S.Store conn.old) (state S.Store conn.new)
-        (λ trees. (text : _) → MayBeStored text (state S.Store conn.old) → IsCommitImage (after_changes (changes_view changes.now)) (state S.Store conn.old) trees) }
-    ensures unmoved { HasCleanDisk (state S.Store conn.new) → OnErr result (KeepsCommit (state S.Store conn.old) (state S.Store conn.new)) }
-    ensures kept { HasCleanDisk (state S.Store conn.new) → (text : _) → MayBeStored text (state S.Store conn.old) → MayBeStored text (state S.Store conn.new) }
+        (λ trees. (text : _) → MayHoldCells text (state S.Store conn.old)
+        → IsCommitImage (after_cell_changes (changes_view changes.now)) (state S.Store conn.old) trees) }
+    ensures unmoved { HasCleanDisk (state S.Store conn.new)
+        → OnErr result (KeepsCommit (state S.Store conn.old) (state S.Store conn.new)) }
+    ensures same { HasCleanDisk (state S.Store conn.new)
+        → OnErr result (IsAsBefore (state S.Store conn.old) (state S.Store conn.new)) }
 {
     if !conn.is_autocommit() {
         return Err(WriteError::Before(Error::InvalidQuery));
@@ -176,7 +230,6 @@ pub(crate) fn probe<S: Alter>(conn: &mut Connection<S>) -> Result<(), Error>
     ensures mode { conn.new.in_transaction ≡ false }
     ensures up { HasCleanDisk (state S.Store conn.new) → OnOk result (IsUnchanged (state S.Store conn.old) (state S.Store conn.new)) }
     ensures same { HasCleanDisk (state S.Store conn.new) → IsAsBefore (state S.Store conn.old) (state S.Store conn.new) }
-    ensures kept { HasCleanDisk (state S.Store conn.new) → (text : _) → MayBeStored text (state S.Store conn.old) → MayBeStored text (state S.Store conn.new) }
     ensures unmoved { HasCleanDisk (state S.Store conn.new) → KeepsCommit (state S.Store conn.old) (state S.Store conn.new) }
     ensures survives { Survives (state S.Store conn.old) (state S.Store conn.new) (λ _. ⊥) }
 {

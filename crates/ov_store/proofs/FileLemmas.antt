@@ -12,14 +12,15 @@ use Rattle.sqlite_disk.specs.declared.Disk as disk
 use Rattle.sqlite_store.specs.declared.store.FileStore.{FileStore}
 use Rattle.ov_keeper.specs.declared.fault.KeepFault.{KeepFault}
 use Rattle.sqlite_wal.specs.Recovery.{Image}
-use Rattle.ov_specs.specs.rows.Lines.{Contents}
+use Rattle.ov_specs.specs.rows.Cells.{Stored}
 use Rattle.ov_sqlite.specs.Tables.{no_schema, HasOurTables}
 use Rattle.ov_store.specs.StoreState.{StoreState, MayFind, text_in}
 use Rattle.ov_store.specs.Finding.{new_contents, IsNewStore, IsStoreOf, HasNoTable, IsStoredIn, IsRefused, IsPathRefused, IsFileRefused, IsMemoryRefused}
 use Rattle.ov_store.specs.Causes.{IsNobodyElses}
 
 pub no_tables : (schema : Schema) → schema ≡ no_schema → ¬ HasOurTables schema
-no_tables schema blank has = let none = (rw blank at has).meta.named in absurd cc
+no_tables schema blank (inl has) = let none = (rw blank at has).meta.named in absurd cc
+no_tables schema blank (inr has) = let none = (rw blank at has).meta.named in absurd cc
 
 -- what was opened and has a schema that passes is not foreign
 pub nobody_elses : (seen : Image) (log db : List ℕ) (s : State) → Opens s → IsLive s → AreFoundIn seen s.committed.trees → seen.log ≡ log → seen.db ≡ db
@@ -41,7 +42,7 @@ module _ {S : Type 0} (g : Ghosts S) where
 
   -- what an open finds is new, if the files had no table, or what they held
   pub found_in : (image : Image) (text : List ℕ) (c : Connected S) (s : StoreState S) → (HasCleanDisk (state g c) → Opens (state g c) × IsLive (state g c)) → (HasCleanDisk (state g c) → FindsIn image (state g c))
-      → IsStoreOf g text c s → HasCleanDisk (state g s.connection) → (contents : Contents) → MayFind g s.connection contents → (HasNoTable image × (contents ≡ new_contents text)) ⊎ IsStoredIn image contents
+      → IsStoreOf g text c s → HasCleanDisk (state g s.connection) → (contents : Stored) → MayFind g s.connection contents → (HasNoTable image × (contents ≡ new_contents text)) ⊎ IsStoredIn image contents
   found_in image text c s opens finds (inl new) clean contents found =
       let early = new.honest clean in
       let trees = (finds early).reads in

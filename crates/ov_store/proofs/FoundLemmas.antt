@@ -1,5 +1,5 @@
 -- From what a write leaves of the connection to what an open may find.
-use Rattle.std.proofs.Common.{◌≡◌, ◌≢◌, ◌⊎◌, inl, inr, ℕ, List, refl, sym, ap, subst, ◌∙◌, arith, IsTrue, true, ◌==◌}
+use Rattle.std.proofs.Common.{◌≡◌, ◌≢◌, ◌⊎◌, inl, inr, ℕ, List, [], map, refl, sym, ap, ap₂, subst, ◌∙◌, arith, IsTrue, true, ◌==◌}
 use Rattle.std.proofs.lemmas.Bool.Decides.{nat_tests}
 use Rattle.sqlite.specs.Store.{Ghosts}
 use Rattle.sqlite.specs.Tree.{Trees}
@@ -8,17 +8,18 @@ use Rattle.sqlite.specs.Schema.{Schema}
 use Rattle.sqlite.specs.Change.{KeepsRows}
 use Rattle.sqlite.specs.State.{State, HasCleanDisk, Survives, KeepsCommit, IsUnchanged}
 use Rattle.sqlite.specs.Held.{Held as Connected, state}
-use Rattle.ov_specs.specs.rows.Lines.{Contents, LineChange, Lines, after_changes}
-use Rattle.ov_keeper.specs.Keeping.{LeavesNoMore, LeavesMade, MayLeaveMade, LeavesRefused, IsCommitFault, changed, rewritten}
+use Rattle.ov_specs.specs.rows.Cells.{CellChange, CellLines, Stored, InCells, after_cell_changes, cell_lines, rewritten}
+use Rattle.ov_keeper.specs.Keeping.{LeavesNoMore, LeavesMade, MayLeaveMade, LeavesRefused, IsCommitFault, changed}
 use Rattle.ov_keeper.specs.declared.fault.KeepFault.{KeepFault}
 use Rattle.ov_keeper.specs.declared.fault.KeepFault.TheVariants.{Memory, Device, NotOurs, Format, TooLarge}
-use Rattle.ov_sqlite.specs.Format.{held, stored_schema, stored_lines, IsMeta, IsFormat, rows_of_meta, rows_of_line}
-use Rattle.ov_sqlite.specs.Changing.{MayBeStored, IsStored, KeepsOthers, Stores, IsCommitImage}
+use Rattle.ov_sqlite.specs.Tables.{row_trees, line_trees, cell_trees}
+use Rattle.ov_sqlite.specs.Format.{held, stored_cells, head_of, cell_of, IsMeta, rows_of_meta, rows_of_head, rows_of_cell}
+use Rattle.ov_sqlite.specs.Changing.{MayBeStored, MayHoldCells, KeepsOthers, Stores, IsCommitImage}
 use Rattle.ov_sqlite.specs.Rewriting.{KeepsRest, Rewrites, IsRewriteImage}
-use Rattle.ov_store.specs.StoreState.{MayFind, LeavesOthers, LeavesRest, LeavesTables, text_in}
+use Rattle.ov_store.specs.Finding.{new_contents}
+use Rattle.ov_store.specs.StoreState.{MayFind, LeavesOthers, LeavesRest, LeavesTables}
 use Rattle.ov_sqlite.specs.Making.{IsNew}
-use Rattle.ov_sqlite.proofs.OpenLemmas.{schema_is}
-use Rattle.ov_sqlite.proofs.RestLemmas.{rest_of_others}
+use Rattle.ov_sqlite.proofs.HeldLemmas.{held_cells, held_cells_meta}
 use Rattle.std.specs.FinMap.{empty}
 use Rattle.sqlite.proofs.StateLemmas.{survives_then}
 use Rattle.ov_sqlite.specs.declared.write.WriteError.{WriteError}
@@ -28,7 +29,7 @@ use Rattle.ov_sqlite.proofs.RunLemmas.{nothing_then, survives_as, others_now}
 pub is_zero : (n : ℕ) → true ≡ (n == 0) → n ≡ 0
 is_zero n e = grind (arith, nat_tests)
 
-pub refused : (made : Contents → Contents) (A B : Contents → Type 0) (fault : KeepFault) → IsCommitFault fault → fault ≢ Device → LeavesNoMore A B → LeavesRefused made A B fault
+pub refused : (made : Stored → Stored) (A B : Stored → Type 0) (fault : KeepFault) → IsCommitFault fault → fault ≢ Device → LeavesNoMore A B → LeavesRefused made A B fault
 refused made A B Memory kind other kept = kept
 refused made A B TooLarge kind other kept = kept
 refused made A B Device kind other kept = absurd (other refl)
@@ -42,59 +43,61 @@ device_or TooLarge = inr (λ e. absurd cc)
 device_or NotOurs = inr (λ e. absurd cc)
 device_or Format = inr (λ e. absurd cc)
 
--- the same rows of `meta`, and lines that are changed
-pub held_changed : (changes : List LineChange) (before after : Trees) → rows_of_meta after ≡ rows_of_meta before → stored_lines (rows_of_line after) ≡ after_changes changes (stored_lines (rows_of_line before)) → held after ≡ changed changes (held before)
-held_changed changes before after meta lines = λ i. record { schema = stored_schema (meta i); lines = lines i }
+-- the same rows of `meta`, in format 2, and rows that are changed
+pub held_changed : (text : List ℕ) (changes : List CellChange) (before after : Trees) → IsMeta 2 text (rows_of_meta before) → rows_of_meta after ≡ rows_of_meta before
+    → stored_cells after ≡ after_cell_changes changes (stored_cells before) → held after ≡ changed changes (held before)
+held_changed text changes before after named meta cells =
+    held_cells_meta text after (subst (IsMeta 2 text) (sym meta) named)
+    ∙ ap (λ (rows : CellLines). record { schema = text; lines = InCells rows }) cells
+    ∙ sym (ap (changed changes) (held_cells_meta text before named))
 
-pub held_is : (text : List ℕ) (trees : Trees) (lines : Lines) → IsMeta text (rows_of_meta trees) → stored_lines (rows_of_line trees) ≡ lines → held trees ≡ record { schema = text; lines = lines }
-held_is text trees lines meta is = λ i. record { schema = schema_is text (rows_of_meta trees) meta i; lines = is i }
+-- format 2 with these rows
+pub held_is : (text : List ℕ) (trees : Trees) (lines : CellLines) → IsMeta 2 text (rows_of_meta trees) → stored_cells trees ≡ lines → held trees ≡ record { schema = text; lines = InCells lines }
+held_is text trees lines named cells = held_cells_meta text trees named ∙ ap (λ (rows : CellLines). record { schema = text; lines = InCells rows }) cells
 
--- the text of stored format 1 is the one that `meta` has
-pub at_rest : (text : List ℕ) (s : State) → MayBeStored text s → MayBeStored (text_in s.now) s
-at_rest text s may up = let it = may up in subst (λ t. IsStored t s.now) (sym (schema_is text (rows_of_meta s.now.trees) it.format.meta)) it
-
-pub format_of : (text : List ℕ) (db : Database) → IsFormat text db → IsFormat (text_in db) db
-format_of text db format = subst (λ t. IsFormat t db) (sym (schema_is text (rows_of_meta db.trees) format.meta)) format
+-- format 2 without a row
+pub held_none : (text : List ℕ) (trees : Trees) → IsMeta 2 text (rows_of_meta trees) → rows_of_head trees ≡ [] → rows_of_cell trees ≡ [] → held trees ≡ new_contents text
+held_none text trees named heads cells = held_is text trees empty named (ap₂ (λ hs cs. cell_lines (map head_of hs) (map cell_of cs)) heads cells)
 
 rest_now : (schema : Schema) (trees : Trees) → KeepsRest schema trees trees
-rest_now schema trees = rest_of_others schema trees trees (others_now schema trees)
+rest_now schema trees = (λ _. (others_now (line_trees schema) schema trees).tables, λ _. others_now (cell_trees schema) schema trees)
 
 module _ {S : Type 0} (g : Ghosts S) (settled : (s : S) (db : Trees) → IsTrue (g.view s).is_open → g.recovers s db → db ≡ (g.view s).committed)
     (stays : (s : S) → IsTrue (g.view s).is_open → g.recovers s (g.view s).committed) where
   pub was_found : (c : Connected S) → IsTrue (state g c).is_open → (state g c).now ≡ (state g c).committed → MayFind g c (held (state g c).now.trees)
   was_found c up same = ((g.view c.store).committed, stays c.store up, ap (λ (d : Database). held d.trees) same)
 
-  pub found_is : (c : Connected S) → IsTrue (state g c).is_open → (state g c).now ≡ (state g c).committed → (contents : Contents) → MayFind g c contents → contents ≡ held (state g c).now.trees
+  pub found_is : (c : Connected S) → IsTrue (state g c).is_open → (state g c).now ≡ (state g c).committed → (contents : Stored) → MayFind g c contents → contents ≡ held (state g c).now.trees
   found_is c up same contents found = found.2 ∙ ap held (settled c.store found.0 up found.1) ∙ sym (ap (λ (d : Database). held d.trees) same)
 
   -- what is held became what `made` makes of it, and that is committed
-  pub leaves_made : (made : Contents → Contents) (old new : Connected S) → IsTrue (state g old).is_open × ((state g old).now ≡ (state g old).committed) × IsTrue (state g new).is_open × ((state g new).now ≡ (state g new).committed)
+  pub leaves_made : (made : Stored → Stored) (old new : Connected S) → IsTrue (state g old).is_open × ((state g old).now ≡ (state g old).committed) × IsTrue (state g new).is_open × ((state g new).now ≡ (state g new).committed)
       → held (state g new).now.trees ≡ made (held (state g old).now.trees) → LeavesMade made (MayFind g old) (MayFind g new)
   leaves_made made old new done is h found = (held (state g old).now.trees, was_found old done.0 done.1, found_is new done.2 done.3 h found ∙ is)
 
   -- what a commit may write is what `made` makes of what was held
-  pub may_leave_made : (made : Contents → Contents) (old new : Connected S) (P : Trees → Type 0) → HasCleanDisk (state g new) → Survives (state g old) (state g new) P
+  pub may_leave_made : (made : Stored → Stored) (old new : Connected S) (P : Trees → Type 0) → HasCleanDisk (state g new) → Survives (state g old) (state g new) P
       → ((trees : Trees) → P trees → IsTrue (state g old).is_open × ((state g old).now ≡ (state g old).committed) × (held trees ≡ made (held (state g old).now.trees))) → MayLeaveMade made (MayFind g old) (MayFind g new)
   may_leave_made made old new P clean s image h found = elim (s.crash clean found.0 found.1) [
     | inl before ↦ inl (found.0, before, found.2)
     | inr written ↦ let it = image found.0 written in inr (held (state g old).now.trees, was_found old it.0 it.1, found.2 ∙ it.2)
   ]
 
-  pub stores_changes : (text : List ℕ) (changes : List LineChange) (old new : Connected S) → Stores text (after_changes changes) (state g old) (state g new) → LeavesMade (changed changes) (MayFind g old) (MayFind g new)
+  pub stores_changes : (text : List ℕ) (changes : List CellChange) (old new : Connected S) → Stores text (after_cell_changes changes) (state g old) (state g new) → LeavesMade (changed changes) (MayFind g old) (MayFind g new)
   stores_changes text changes old new done =
-      leaves_made (changed changes) old new (done.was_open, done.was_settled, done.is_open, done.is_settled) (held_changed changes (state g old).now.trees (state g new).now.trees done.meta done.lines_are)
+      leaves_made (changed changes) old new (done.was_open, done.was_settled, done.is_open, done.is_settled) (held_changed text changes (state g old).now.trees (state g new).now.trees (subst (IsMeta 2 text) done.meta done.stored.format.meta) done.meta done.lines_are)
 
-  pub crash_changes : (text : List ℕ) (changes : List LineChange) (old new : Connected S) → HasCleanDisk (state g new) → MayBeStored text (state g old)
-      → Survives (state g old) (state g new) (λ trees. (text : List ℕ) → MayBeStored text (state g old) → IsCommitImage (after_changes changes) (state g old) trees) → MayLeaveMade (changed changes) (MayFind g old) (MayFind g new)
+  pub crash_changes : (text : List ℕ) (changes : List CellChange) (old new : Connected S) → HasCleanDisk (state g new) → MayHoldCells text (state g old)
+      → Survives (state g old) (state g new) (λ trees. (text : List ℕ) → MayHoldCells text (state g old) → IsCommitImage (after_cell_changes changes) (state g old) trees) → MayLeaveMade (changed changes) (MayFind g old) (MayFind g new)
   crash_changes text changes old new clean may s =
-      may_leave_made (changed changes) old new _ clean s (λ trees made. let it = made text may in (it.was_open, it.was_settled, held_changed changes (state g old).now.trees trees it.meta it.lines_are))
+      may_leave_made (changed changes) old new _ clean s (λ trees made. let it = made text may in (it.was_open, it.was_settled, held_changed text changes (state g old).now.trees trees (may it.was_open).format.meta it.meta it.lines_are))
 
-  pub rewrites_contents : (text : List ℕ) (changes : List LineChange) (old new : Connected S) → Rewrites text (after_changes changes empty) (state g old) (state g new) → LeavesMade (λ _. rewritten text changes) (MayFind g old) (MayFind g new)
+  pub rewrites_contents : (text : List ℕ) (changes : List CellChange) (old new : Connected S) → Rewrites text (after_cell_changes changes empty) (state g old) (state g new) → LeavesMade (λ _. rewritten text changes) (MayFind g old) (MayFind g new)
   rewrites_contents text changes old new done =
       leaves_made (λ _. rewritten text changes) old new (done.was_open, done.was_settled, done.is_open, done.is_settled) (held_is text (state g new).now.trees _ done.stored.format.meta done.lines_are)
 
-  pub crash_rewrites : (before text : List ℕ) (changes : List LineChange) (old new : Connected S) → HasCleanDisk (state g new) → MayBeStored before (state g old)
-      → Survives (state g old) (state g new) (λ trees. (before : List ℕ) → MayBeStored before (state g old) → IsRewriteImage text (after_changes changes empty) (state g old) trees) → MayLeaveMade (λ _. rewritten text changes) (MayFind g old) (MayFind g new)
+  pub crash_rewrites : (before text : List ℕ) (changes : List CellChange) (old new : Connected S) → HasCleanDisk (state g new) → MayBeStored before (state g old)
+      → Survives (state g old) (state g new) (λ trees. (before : List ℕ) → MayBeStored before (state g old) → IsRewriteImage text (after_cell_changes changes empty) (state g old) trees) → MayLeaveMade (λ _. rewritten text changes) (MayFind g old) (MayFind g new)
   crash_rewrites before text changes old new clean may s =
       may_leave_made (λ _. rewritten text changes) old new _ clean s (λ trees made. let it = made before may in (it.was_open, it.was_settled, held_is text trees _ it.meta it.lines_are))
 
@@ -130,23 +133,23 @@ module _ {S : Type 0} (g : Ghosts S) (settled : (s : S) (db : Trees) → IsTrue 
   ]
 
   pub others_same : (old new : Connected S) → ((db : Trees) → g.recovers new.store db → g.recovers old.store db) → LeavesOthers g old new
-  others_same old new found = keeps_same (KeepsOthers old.schema) (others_now old.schema) old new found
+  others_same old new found = keeps_same (KeepsOthers (row_trees old.schema) old.schema) (others_now (row_trees old.schema) old.schema) old new found
 
-  pub others_stored : (text : List ℕ) (f : Lines → Lines) (old new : Connected S) → Stores text f (state g old) (state g new) → LeavesOthers g old new
-  others_stored text f old new done = keeps_made (KeepsOthers old.schema) old new (done.was_open, done.was_settled, done.is_open, done.is_settled) done.others
+  pub others_stored : (text : List ℕ) (f : CellLines → CellLines) (old new : Connected S) → Stores text f (state g old) (state g new) → LeavesOthers g old new
+  others_stored text f old new done = keeps_made (KeepsOthers (row_trees old.schema) old.schema) old new (done.was_open, done.was_settled, done.is_open, done.is_settled) done.others
 
-  pub others_crashed : (text : List ℕ) (f : Lines → Lines) (old new : Connected S) → HasCleanDisk (state g new) → MayBeStored text (state g old)
-      → Survives (state g old) (state g new) (λ trees. (text : List ℕ) → MayBeStored text (state g old) → IsCommitImage f (state g old) trees) → LeavesOthers g old new
+  pub others_crashed : (text : List ℕ) (f : CellLines → CellLines) (old new : Connected S) → HasCleanDisk (state g new) → MayHoldCells text (state g old)
+      → Survives (state g old) (state g new) (λ trees. (text : List ℕ) → MayHoldCells text (state g old) → IsCommitImage f (state g old) trees) → LeavesOthers g old new
   others_crashed text f old new clean may s =
-      keeps_crashed (KeepsOthers old.schema) (others_now old.schema) old new _ clean s (λ trees made. let it = made text may in (it.was_open, it.was_settled, it.others))
+      keeps_crashed (KeepsOthers (row_trees old.schema) old.schema) (others_now (row_trees old.schema) old.schema) old new _ clean s (λ trees made. let it = made text may in (it.was_open, it.was_settled, it.others))
 
   pub rest_same : (old new : Connected S) → ((db : Trees) → g.recovers new.store db → g.recovers old.store db) → LeavesRest g old new
   rest_same old new found = keeps_same (KeepsRest old.schema) (rest_now old.schema) old new found
 
-  pub rest_rewritten : (text : List ℕ) (lines : Lines) (old new : Connected S) → Rewrites text lines (state g old) (state g new) → LeavesRest g old new
+  pub rest_rewritten : (text : List ℕ) (lines : CellLines) (old new : Connected S) → Rewrites text lines (state g old) (state g new) → LeavesRest g old new
   rest_rewritten text lines old new done = keeps_made (KeepsRest old.schema) old new (done.was_open, done.was_settled, done.is_open, done.is_settled) done.others
 
-  pub rest_crashed : (before text : List ℕ) (lines : Lines) (old new : Connected S) → HasCleanDisk (state g new) → MayBeStored before (state g old)
+  pub rest_crashed : (before text : List ℕ) (lines : CellLines) (old new : Connected S) → HasCleanDisk (state g new) → MayBeStored before (state g old)
       → Survives (state g old) (state g new) (λ trees. (before : List ℕ) → MayBeStored before (state g old) → IsRewriteImage text lines (state g old) trees) → LeavesRest g old new
   rest_crashed before text lines old new clean may s =
       keeps_crashed (KeepsRest old.schema) (rest_now old.schema) old new _ clean s (λ trees made. let it = made before may in (it.was_open, it.was_settled, it.others))
@@ -174,9 +177,8 @@ module _ {S : Type 0} (g : Ghosts S) (settled : (s : S) (db : Trees) → IsTrue 
   pub survives_left : (old new : Connected S) → HasCleanDisk (state g new) → Survives (state g old) (state g new) (λ _. ⊥) → (db : Trees) → g.recovers new.store db → g.recovers old.store db
   survives_left old new clean s db found = elim (s.crash clean db found) [ inl before ↦ before | inr none ↦ absurd none ]
 
-  pub new_found : (text : List ℕ) (old : State) (c : Connected S) → IsNew text old (state g c) → (contents : Contents) → MayFind g c contents → contents ≡ record { schema = text; lines = empty }
-  new_found text old c new contents found =
-      found_is c new.is_open new.settled contents found ∙ held_is text (state g c).now.trees empty new.stored.format.meta (ap stored_lines new.no_line)
+  pub new_found : (text : List ℕ) (old : State) (c : Connected S) → IsNew text old (state g c) → (contents : Stored) → MayFind g c contents → contents ≡ new_contents text
+  new_found text old c new contents found = found_is c new.is_open new.settled contents found ∙ held_none text (state g c).now.trees new.stored.format.meta new.no_head new.no_cell
 
   -- new tables beside others
   pub new_beside : (text : List ℕ) (old new : Connected S) → IsNew text (state g old) (state g new) → LeavesTables g old new

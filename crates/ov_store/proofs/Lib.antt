@@ -4,3 +4,4 @@ pub mod FoundLemmas
 pub mod EmptyLemmas
 pub mod FileLemmas
 pub mod CauseLemmas
+pub mod FormatLemmas

@@ -26,9 +26,9 @@ pub data Call : Type 0 where
   Connecting : (image : Image) → Call
   -- for a connection to files in memory that hold this
   OpeningCopy : (image : Image) → Call
-  -- for the two tables in a database that has none
+  -- for the tables in a database that has none
   Making : Call
-  -- for the schema's text of a database with the two tables
+  -- for the format, and the schema's text, of a database with the tables of a format
   Testing : Call
 
 -- the call was answered so

@@ -24,7 +24,7 @@ use Rattle.ov_sqlite.specs.Tables.{no_schema, HasOurTables}
 abbrev pub IsOpenable : Image → Type 0
 IsOpenable image = ((db : Trees) × HoldsDatabase image db) ⊎ IsNothing image
 
--- what the files recover to is foreign: it has a table, an index or a view, but not the tables of the format
+-- what the files recover to is foreign: it has a table, an index or a view, but not the tables of a format
 pub record IsSomebodyElses (image : Image) : Type 0 where
   pub db : Database
   pub sound : IsDatabase db
@@ -32,7 +32,7 @@ pub record IsSomebodyElses (image : Image) : Type 0 where
   pub some : db.schema ≢ no_schema
   pub foreign : ¬ HasOurTables db.schema
 
--- what the files recover to is not foreign: it has no table, index or view, or it has the tables of the format
+-- what the files recover to is not foreign: it has no table, index or view, or it has the tables of a format
 pub record IsNobodyElses (image : Image) : Type 0 where
   pub db : Database
   pub sound : IsDatabase db

@@ -1,5 +1,5 @@
 -- What the store of a connection that was just opened holds.
-use Rattle.std.specs.Prelude.{◌≡◌, ◌≢◌, ◌↔◌, ◌⊎◌, ℕ, List, [], Result, Ok, Err}
+use Rattle.std.specs.Prelude.{◌≡◌, ◌≢◌, ◌⊎◌, ℕ, List, [], Result, Ok, Err}
 use Rattle.std.specs.FinMap.{empty}
 use Rattle.sqlite.specs.Store.{Ghosts}
 use Rattle.sqlite.specs.declared.error.Error.{Error}
@@ -12,11 +12,11 @@ use Rattle.sqlite.specs.Steps.{IsEmpty}
 use Rattle.sqlite_disk.specs.declared.Disk as disk
 use Rattle.sqlite_store.specs.declared.store.FileStore.{FileStore}
 use Rattle.sqlite_wal.specs.Recovery.{Image}
-use Rattle.ov_specs.specs.rows.Lines.{Contents}
+use Rattle.ov_specs.specs.rows.Cells.{Stored, InCells}
 use Rattle.ov_keeper.specs.declared.fault.KeepFault.{KeepFault}
 use Rattle.ov_keeper.specs.declared.fault.KeepFault.TheVariants.{Device, NotOurs, Format}
 use Rattle.ov_sqlite.specs.Tables.{no_schema, HasOurTables}
-use Rattle.ov_sqlite.specs.Format.{IsFormat, held}
+use Rattle.ov_sqlite.specs.Format.{IsFormat, NamesOther, held}
 use Rattle.ov_sqlite.specs.Making.{IsNewFile}
 use Rattle.ov_sqlite.specs.Querying.{IsAsBefore}
 use Rattle.ov_store.specs.Refusing.{fault_of_open}
@@ -25,36 +25,44 @@ use Rattle.ov_store.specs.Causes.{IsErrorInMemory, IsUnopened, FailsToBegin}
 use Rattle.ov_store.specs.Looking.{IsLookRefused}
 use Rattle.ov_store.specs.StoreState.{StoreState, MayFind, text_in}
 
--- a schema text and no lines
-abbrev pub new_contents : List ℕ → Contents
-new_contents text = record { schema = text; lines = empty }
+-- a schema text and no rows, in format 2
+abbrev pub new_contents : List ℕ → Stored
+new_contents text = record { schema = text; lines = InCells empty }
 
 module _ {S : Type 0} (g : Ghosts S) where
   -- the connection had no table, index or view, and the store is new
   pub record IsNewStore (text : List ℕ) (c : Connected S) (s : StoreState S) : Type 0 where
     pub blank : c.schema ≡ no_schema
     pub honest : HasCleanDisk (state g s.connection) → HasCleanDisk (state g c)
-    pub holds : HasCleanDisk (state g s.connection) → (contents : Contents) → MayFind g s.connection contents → contents ≡ new_contents text
+    pub holds : HasCleanDisk (state g s.connection) → (contents : Stored) → MayFind g s.connection contents → contents ≡ new_contents text
 
-  -- the connection had stored format 1, and the store holds what was there
+  -- the connection had the tables of a stored format, and the store holds what was there
   pub record IsOldStore (c : Connected S) (s : StoreState S) : Type 0 where
     pub tables : HasOurTables c.schema
     pub honest : HasCleanDisk (state g s.connection) → HasCleanDisk (state g c)
     pub format : HasCleanDisk (state g s.connection) → IsFormat (text_in (state g c).now) (state g c).now
-    pub holds : HasCleanDisk (state g s.connection) → Opens (state g c) → (contents : Contents) → MayFind g s.connection contents → contents ≡ held (state g c).now.trees
+    pub holds : HasCleanDisk (state g s.connection) → Opens (state g c) → (contents : Stored) → MayFind g s.connection contents → contents ≡ held (state g c).now.trees
 
   -- the store is one of the two
   abbrev pub IsStoreOf : List ℕ → Connected S → StoreState S → Type 0
   IsStoreOf text c s = IsNewStore text c s ⊎ IsOldStore c s
 
-  -- a fault other than `NotOurs` is one with which the making or the testing of the tables stopped
+  -- a connection is foreign: it has the tables of no format, or these were tested, which left this, and `meta` names the format
+  -- whose tables are not there
+  abbrev pub IsForeign : Connected S → Connected S → Type 0
+  IsForeign c left = (¬ HasOurTables c.schema) ⊎ (HasOurTables c.schema × (HasCleanDisk (state g left) → NamesOther (state g c).now))
+
+  -- what is not told by the SQL schema alone is the fault with which the making or the testing of the tables stopped
   abbrev pub IsToldOf : Connected S → KeepFault → Type 0
-  IsToldOf c fault = (fault ≡ NotOurs) ⊎ (((c.schema ≡ no_schema) × WasAnswered Making fault) ⊎ (HasOurTables c.schema × WasAnswered Testing fault))
+  IsToldOf c fault =
+      ((fault ≡ NotOurs) × (c.schema ≢ no_schema) × (¬ HasOurTables c.schema))
+      ⊎ (((c.schema ≡ no_schema) × WasAnswered Making fault) ⊎ (HasOurTables c.schema × WasAnswered Testing fault))
 
   -- why a connection has no store, and what it still holds: what it held before, except that a device that failed while the
   -- tables were made may leave the whole new database
   pub record IsRefused (text : List ℕ) (c left : Connected S) (fault : KeepFault) : Type 0 where
-    pub ours : (fault ≡ NotOurs) ↔ ((c.schema ≢ no_schema) × (¬ HasOurTables c.schema))
+    pub ours : fault ≡ NotOurs → (c.schema ≢ no_schema) × IsForeign c left
+    pub foreign : c.schema ≢ no_schema → ¬ HasOurTables c.schema → fault ≡ NotOurs
     pub told : IsToldOf c fault
     pub tables : fault ≡ Format → HasOurTables c.schema
     pub format : fault ≡ Format → HasCleanDisk (state g left) → (any : List ℕ) → ¬ IsFormat any (state g c).now
@@ -65,7 +73,8 @@ module _ {S : Type 0} (g : Ghosts S) where
   pub record IsRefusedAgain (s : StoreState S) (left : Connected S) (fault : KeepFault) : Type 0 where
     pub again : Connected S
     pub opened : HasCleanDisk (state g again) → Opens (state g again) × MayFind g s.connection (held (state g again).now.trees)
-    pub ours : (fault ≡ NotOurs) ↔ (¬ HasOurTables again.schema)
+    pub ours : fault ≡ NotOurs → IsForeign again left
+    pub foreign : ¬ HasOurTables again.schema → fault ≡ NotOurs
     pub format : fault ≡ Format → HasCleanDisk (state g left) → (any : List ℕ) → ¬ IsFormat any (state g again).now
 
 -- what the files recover to has no table, index or view
@@ -75,8 +84,8 @@ pub record HasNoTable (image : Image) : Type 0 where
   pub found : AreFoundIn image db.trees
   pub blank : db.schema ≡ no_schema
 
--- what the files recover to has stored format 1, and these are its contents
-pub record IsStoredIn (image : Image) (contents : Contents) : Type 0 where
+-- what the files recover to is of a stored format, and these are its contents
+pub record IsStoredIn (image : Image) (contents : Stored) : Type 0 where
   pub db : Database
   pub sound : IsDatabase db
   pub found : AreFoundIn image db.trees

@@ -7,8 +7,7 @@ use Rattle.std.specs.declared.io.Error.{Error}
 use Rattle.std.specs.declared.io.ErrorKind.TheVariants as kind
 use Rattle.sqlite_wal.specs.Recovery.{Image}
 use Rattle.ov_keeper.specs.declared.fault.KeepFault.{KeepFault}
-use Rattle.ov_sqlite.specs.HasText.{HasText}
-use Rattle.ov_sqlite.specs.Tables.{create_meta, create_line}
+use Rattle.ov_sqlite.specs.HasText.{ListsOurs}
 use Rattle.ov_store.specs.Answers.{RealPath, Stat, Page, Bytes, Room, WasAnswered}
 use Rattle.ov_store.specs.Refusing.{IsSystemFault}
 use Rattle.ov_store.specs.Causes.{IsCopyRefused, IsNobodyElses}
@@ -35,15 +34,17 @@ HasNoSize path e =
 abbrev pub HasLogSize : List ℕ → ℕ → Type 0
 HasLogSize log size = HasSize log size ⊎ ((size ≡ 0) × ((e : Error) × HasNoSize log e × (error_kind e ≡ kind.NotFound)))
 
--- the first page has the texts of both tables
-abbrev pub ListsTables : List ℕ → Type 0
-ListsTables db = (page : List ℕ) × WasAnswered {A = Result (List ℕ) Error} (Page db) (Ok page) × HasText create_meta page × HasText create_line page
+-- the first page has the texts of the tables of a format
+pub record ListsTables (db : List ℕ) : Type 0 where
+  pub page : List ℕ
+  pub answer : WasAnswered {A = Result (List ℕ) Error} (Page db) (Ok page)
+  pub lists : ListsOurs page
 
 -- the first page was not read, and that not because the file is shorter
 abbrev pub HasNoPage : List ℕ → Error → Type 0
 HasNoPage db e = WasAnswered {A = Result (List ℕ) Error} (Page db) (Err e) × (error_kind e ≢ kind.UnexpectedEof)
 
--- the log has no commit, and the file is empty or lists the two tables
+-- the log has no commit, and the file is empty or lists the tables of a format
 pub record IsPlain (db : List ℕ) : Type 0 where
   pub size : ℕ
   pub log : HasLogSize (log_of db) size

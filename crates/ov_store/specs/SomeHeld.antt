@@ -2,9 +2,9 @@
 use Rattle.std.proofs.Common.{◌≡◌, refl}
 use Rattle.std.proofs.Math.Logic.{∥∥₁_map}
 use Rattle.sqlite.specs.Tree.{Trees}
-use Rattle.ov_specs.specs.rows.Lines.{Contents}
+use Rattle.ov_specs.specs.rows.Cells.{Stored}
 use Rattle.ov_sqlite.specs.Format.{held}
 
 -- if some trees are found, so are the contents that they hold
-pub some_held : (recovers : Trees → Type 0) → ∥ ((db : Trees) × recovers db) ∥₁ → ∥ ((contents : Contents) × ((trees : Trees) × recovers trees × (contents ≡ held trees))) ∥₁
+pub some_held : (recovers : Trees → Type 0) → ∥ ((db : Trees) × recovers db) ∥₁ → ∥ ((contents : Stored) × ((trees : Trees) × recovers trees × (contents ≡ held trees))) ∥₁
 some_held recovers some = ∥∥₁_map some (λ found. (held found.0, (found.0, found.1, refl)))

@@ -1,5 +1,5 @@
 -- What contracts see of a store.
-use Rattle.std.specs.Prelude.{◌≡◌, ℕ, List, false, refl}
+use Rattle.std.specs.Prelude.{◌≡◌, ◌⊎◌, ◌≤◌, ℕ, List, IsTrue, false, refl}
 use Rattle.std.specs.Coded.{Coded, code_by, coded×, coded_ℕ}
 use Rattle.sqlite.specs.Store.{Ghosts}
 use Rattle.sqlite.specs.Tree.{Trees}
@@ -7,39 +7,50 @@ use Rattle.sqlite.specs.Effect.{Database}
 use Rattle.sqlite.specs.State.{HasCleanDisk}
 use Rattle.sqlite.specs.Change.{KeepsRows}
 use Rattle.sqlite.specs.Held.{Held as Connected, held_code, state}
-use Rattle.ov_specs.specs.rows.Lines.{Contents}
+use Rattle.ov_specs.specs.rows.Cells.{Stored, format_of}
+use Rattle.ov_sqlite.specs.Tables.{row_trees}
 use Rattle.ov_sqlite.specs.Format.{held, stored_schema, rows_of_meta}
-use Rattle.ov_sqlite.specs.Changing.{MayBeStored, KeepsOthers}
+use Rattle.ov_sqlite.specs.Changing.{IsStoredAs, KeepsOthers}
 use Rattle.ov_sqlite.specs.Rewriting.{KeepsRest}
 
--- a connection, and how often the device has failed
+-- a connection, the format of its tables, and how often the device has failed
 pub record StoreState (S : Type 0) : Type 0 where
   pub connection : Connected S
+  pub format : ℕ
   pub failures : ℕ
 
--- the state of a store, as a pair
+-- the state of a store, as pairs
 abbrev pub store_code : {S : Type 0} → Coded S → Coded (StoreState S)
-store_code {S} code = code_by (Connected S × ℕ) (coded× (held_code code) coded_ℕ) (λ s. (s.connection, s.failures))
-    (λ p. record { connection = p.0; failures = p.1 }) (λ _. refl)
+store_code {S} code = code_by ((Connected S × ℕ) × ℕ) (coded× (coded× (held_code code) coded_ℕ) coded_ℕ) (λ s. ((s.connection, s.format), s.failures))
+    (λ p. record { connection = p.0.0; format = p.0.1; failures = p.1 }) (λ _. refl)
 
 -- the schema's text that `meta` has
 abbrev pub text_in : Database → List ℕ
 text_in db = stored_schema (rows_of_meta db.trees)
 
 module _ {S : Type 0} (g : Ghosts S) where
-  -- between calls no transaction is under way, and while the connection is open the tables are of stored format 1
-  abbrev pub IsAtRest : Connected S → Type 0
-  IsAtRest c = (c.in_transaction ≡ false) × (HasCleanDisk (state g c) → MayBeStored (text_in (state g c).now) (state g c))
-
   -- what an open at this moment may find
-  abbrev pub MayFind : Connected S → Contents → Type 0
+  abbrev pub MayFind : Connected S → Stored → Type 0
   MayFind c contents = (trees : Trees) × (state g c).may_leave trees × (contents ≡ held trees)
 
-  -- apart from the lines, whatever an open may find now might have been found before
-  abbrev pub LeavesOthers : Connected S → Connected S → Type 0
-  LeavesOthers old new = (trees : Trees) → (state g new).may_leave trees → (before : Trees) × (state g old).may_leave before × KeepsOthers old.schema before trees
+  -- between calls no transaction is under way. While the connection is open the tables are those of the format, and what an open
+  -- may find is of that format, or of a later one where the device failed in a rewrite
+  pub record IsAtRest (c : Connected S) (format : ℕ) : Type 0 where
+    pub mode : c.in_transaction ≡ false
+    pub known : (format ≡ 1) ⊎ (format ≡ 2)
+    pub stored : HasCleanDisk (state g c) → IsTrue (state g c).is_open → IsStoredAs format (text_in (state g c).now) (state g c).now
+    pub found : HasCleanDisk (state g c) → (contents : Stored) → MayFind c contents → format ≤ format_of contents.lines
 
-  -- apart from the two tables, whatever an open may find now might have been found before
+  -- whatever an open may find is of the store's format
+  abbrev pub IsOfItsFormat : StoreState S → Type 0
+  IsOfItsFormat s = HasCleanDisk (state g s.connection) → (contents : Stored) → MayFind s.connection contents → format_of contents.lines ≡ s.format
+
+  -- apart from the rows that are stored, whatever an open may find now might have been found before
+  abbrev pub LeavesOthers : Connected S → Connected S → Type 0
+  LeavesOthers old new =
+      (trees : Trees) → (state g new).may_leave trees → (before : Trees) × (state g old).may_leave before × KeepsOthers (row_trees old.schema) old.schema before trees
+
+  -- apart from the tables of the format, whatever an open may find now might have been found before
   abbrev pub LeavesRest : Connected S → Connected S → Type 0
   LeavesRest old new =
       (trees : Trees) → (state g new).may_leave trees → (before : Trees) × (state g old).may_leave before × KeepsRest old.schema before trees

@@ -21,7 +21,7 @@ pub(crate) struct Copies {
 }
 
 /// The bytes of the file at a path, in which there is no link, and of the log beside it. `None` if the file may be opened at
-/// once: if no log holds a commit, and the file is empty or lists the tables of stored format 1.
+/// once: if no log holds a commit, and the file is empty or lists the tables of a stored format.
 pub(crate) fn read_to_test(rt: &HostRuntime, db: &str) -> io::Result<Option<Copies>>
     ensures none { IfOk result (λ copies. IfNone copies (IsPlain db.now)) }
     ensures some { IfOk result (λ copies. IfSome copies (λ it. WasRead db.now (record { log = it.log.items; db = it.db.items }))) }
@@ -109,7 +109,7 @@ fn log_size_of(rt: &HostRuntime, log: &str) -> io::Result<u64>
     }
 }
 
-/// Whether a file has a whole first page that lists the tables of stored format 1.
+/// Whether a file has a whole first page that lists the tables of a stored format.
 fn lists_ours(rt: &HostRuntime, path: &str) -> io::Result<bool>
     ensures lists { IfOk result (λ lists. IsTrue lists → ListsTables path.now) }
     ensures failed { IfErr result (HasNoPage path.now) }

@@ -9,7 +9,7 @@ ghost use Rattle.sqlite.specs.State.{HasCleanDisk, Opens};
 ghost use Rattle.sqlite.specs.Held.{state};
 ghost use Rattle.ov_keeper.specs.Keeping.{IsLoadFault};
 ghost use Rattle.ov_sqlite.specs.Format.{held};
-ghost use Rattle.ov_store.specs.StoreState.{MayFind};
+ghost use Rattle.ov_store.specs.StoreState.{MayFind, IsOfItsFormat};
 ghost use Rattle.ov_store.specs.Finding.{IsRefusedAgain};
 
 use crate::store::Store;
@@ -65,7 +65,7 @@ fn crash_and_reopen<S: Alter + Reopen + Drop>(
 }
 
 /// The store of what a crash at this moment leaves. It may hold only what the former store might have held: after a commit
-/// that was answered, the former lines with all its changes, and never with a part of them.
+/// that was answered, the former rows with all its changes, and never with a part of them.
 ///
 /// Returns `Ok(Err(..))` if what the crash left was opened but is refused as by `Store::open`, and `Err(..)` if it was not
 /// opened, when out of memory or because the device failed.
@@ -74,6 +74,7 @@ pub fn reopen_after_crash<S: Alter + Reopen + Drop>(
     store: Store<S>,
 ) -> Result<Result<Store<S>, Unopened<S>>, (KeepFault, S)>
     ensures found { IfOk result (λ opened. IfOk opened (λ s. HasCleanDisk (state S.Store s.connection) → (contents : _) → MayFind S.Store s.connection contents → MayFind S.Store store.connection contents)) }
+    ensures of_format { IfOk result (λ opened. IfOk opened (IsOfItsFormat S.Store)) }
     ensures refused { IfOk result (λ opened. IfErr opened (λ e. IsRefusedAgain S.Store store e.connection e.fault)) }
     ensures kinds { IfErr result (λ e. IsLoadFault e.0) }
     ensures cause { IfErr result (λ e. IsClean (S.Store.view e.1) → e.0 ≡ KeepFault.Device → MoreFaults (S.Store.faults store.connection.store) (S.Store.faults e.1)) }

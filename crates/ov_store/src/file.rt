@@ -6,7 +6,7 @@ ghost use Rattle.sqlite.specs.Held.{IsNew};
 ghost use Rattle.sqlite.specs.Start.{FindsIn};
 ghost use Rattle.sqlite.specs.State.{HasCleanDisk};
 ghost use Rattle.ov_keeper.specs.Keeping.{IsCommitFault};
-ghost use Rattle.ov_store.specs.StoreState.{MayFind};
+ghost use Rattle.ov_store.specs.StoreState.{MayFind, IsOfItsFormat};
 ghost use Rattle.ov_store.specs.Finding.{new_contents, HasNoTable, IsStoredIn, IsFileRefused, IsPathRefused, IsMemoryRefused};
 ghost use Rattle.ov_store.specs.Looking.{MayBeOpened};
 ghost use Rattle.ov_store.specs.Causes.{FailsToConnect, IsUnopened};
@@ -104,6 +104,7 @@ pub fn store_in_file<S: Start>(
 ) -> Result<Store<FileStore<FileFrom<S>>>, KeepFault>
     ensures found { IfOk result (λ s. HasCleanDisk (file_state s.connection) → (contents : _) → MayFind over_files s.connection contents
         → (HasNoTable (image_at S.Start) × (contents ≡ new_contents schema)) ⊎ IsStoredIn (image_at S.Start) contents) }
+    ensures of_format { IfOk result (IsOfItsFormat over_files) }
     ensures fresh { IfOk result (λ s. s.failures ≡ 0) }
     ensures cause { IfErr result (IsPathRefused ⟦<FileFrom<S> as Disk>⟧ path.now (image_at S.Start) schema) }
     ensures refused { IsFileRefused (image_at S.Start) schema result }
@@ -113,14 +114,15 @@ pub fn store_in_file<S: Start>(
     store_over_files(rt.alloc(), connection, schema)
 }
 
-/// A new store in memory, with this schema text and no lines. Refused when out of memory, at a limit of SQLite, and by a
-/// device as `store_over` is. What is promised under an honest device needs no such premise here: in memory every store is
-/// honest, this one and what becomes of it.
+/// A new store in memory, with this schema text and no rows, in stored format 2. Refused when out of memory, at a limit of
+/// SQLite, and by a device as `store_over` is. What is promised under an honest device needs no such premise here: in memory
+/// every store is honest, this one and what becomes of it.
 pub fn store_in_memory(
     alloc: Global,
     schema: Text,
 ) -> Result<Store<FileStore<MemoryDisk>>, KeepFault>
     ensures found { IfOk result (λ s. (contents : _) → MayFind over_files s.connection contents → contents ≡ new_contents schema) }
+    ensures of_format { IfOk result (IsOfItsFormat over_files) }
     ensures fresh { IfOk result (λ s. s.failures ≡ 0) }
     ensures honest { (s : _) → ⟦<Store<FileStore<MemoryDisk>> as Keeper>⟧.is_honest s }
     ensures refused { IsMemoryRefused schema result }

@@ -16,10 +16,16 @@ impl<S: Alter> Keeper for Store<S> {
 
     ghost failed = { λ s. s.failures };
 
+    ghost format = { λ s. s.format };
+
     ghost leaves_some = { λ s clean. some_held _ (S.Store.survives s.connection.store clean) };
 
     fn failures(&self) -> u64 {
         self.failures()
+    }
+
+    fn format(&self) -> u8 {
+        self.format()
     }
 
     fn load(&mut self, alloc: Global) -> Result<Loaded, KeepFault> {

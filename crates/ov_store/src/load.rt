@@ -1,20 +1,21 @@
 ghost use Rattle.std.specs.Prelude.{◌≡◌, ◌⊎◌, ◌<◌, ◌≤◌, ◌-◌, ◌^◌, false, IfOk, IfErr, Err};
 ghost use Rattle.sqlite.specs.State.{HasCleanDisk, Survives};
 ghost use Rattle.sqlite.specs.Held.{state};
+ghost use Rattle.ov_specs.specs.rows.Cells.{format_of};
 ghost use Rattle.ov_keeper.specs.Keeping.{LeavesNoMore, IsLoadFault, loaded_contents};
+ghost use Rattle.ov_keeper.specs.Views.{lines_view};
 ghost use Rattle.ov_sqlite.specs.Changing.{MayBeStored};
 ghost use Rattle.ov_sqlite.specs.Querying.{IsAsBefore};
 ghost use Rattle.ov_store.specs.Loading.{HoldsLoaded};
 ghost use Rattle.ov_store.specs.StoreState.{MayFind};
 
-use crate::crash::fault_over;
 use crate::store::Store;
 use ov_keeper::{KeepFault, Loaded};
-use ov_sqlite::{line_rows, lines_of, read_meta};
+use ov_sqlite::read_all;
 use sqlite::{Alter, Connection};
 use std::alloc::Global;
 
-/// What the two tables hold. Returns `Format` if a row is not as in stored format 1.
+/// What the tables hold. Returns `Format` if a row is not as in their format.
 fn read_tables<S: Alter>(alloc: Global, conn: &mut Connection<S>) -> Result<Loaded, KeepFault>
     requires { conn.old.in_transaction ≡ false }
     ensures mode { conn.new.in_transaction ≡ false }
@@ -25,29 +26,20 @@ fn read_tables<S: Alter>(alloc: Global, conn: &mut Connection<S>) -> Result<Load
 {
     // Its contract says that everything is committed.
     let _before = conn.is_autocommit();
-    let schema = match read_meta(alloc, conn) {
-        Ok(schema) => schema,
-        Err(fault) => return Err(fault),
-    };
-    let rows = match line_rows(conn) {
-        Ok(rows) => rows,
-        Err(error) => return Err(fault_over(&error)),
-    };
-    match lines_of(alloc, rows.as_slice()) {
-        Ok(Some(lines)) => Ok(Loaded { schema, lines }),
-        Ok(None) => Err(KeepFault::Format),
-        Err(_) => Err(KeepFault::Memory),
-    }
+    read_all(alloc, conn)
 }
 
 impl<S: Alter> Store<S> {
-    /// The schema's text and all lines.
+    /// The schema's text and all rows, in the stored format.
     pub fn load_all(&mut self, alloc: Global) -> Result<Loaded, KeepFault>
         ensures ok { HasCleanDisk (state S.Store self.new.connection)
             → IfOk result (λ loaded. (contents : _) → MayFind S.Store self.old.connection contents
             → contents ≡ loaded_contents loaded) }
         ensures same { HasCleanDisk (state S.Store self.new.connection)
             → LeavesNoMore (MayFind S.Store self.old.connection) (MayFind S.Store self.new.connection) }
+        ensures same_format { self.new.format ≡ self.old.format }
+        ensures of_format { HasCleanDisk (state S.Store self.new.connection)
+            → IfOk result (λ loaded. format_of (lines_view loaded.lines) ≡ self.new.format) }
         ensures honest { HasCleanDisk (state S.Store self.new.connection)
             → HasCleanDisk (state S.Store self.old.connection) }
         // A failure of the device has a cause: the count rises, unless it is at its maximum.

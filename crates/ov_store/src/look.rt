@@ -20,7 +20,7 @@ use std::fs;
 use std::io::{self, ErrorKind};
 
 /// Refuses the file at a path if an open would refuse it as foreign, or if it cannot be read. Passes a path with no file, a
-/// file that has no table yet, and one that has the tables of stored format 1.
+/// file that has no table yet, and one that has the tables of a stored format. Rows are not looked at.
 ///
 /// Opening an SQLite file for writing switches it to write-ahead mode and begins a log beside it, whatever it holds. So the
 /// file is opened here as a copy in memory. If it lists its tables on its first page and has no log, it passes at once.

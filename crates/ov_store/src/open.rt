@@ -1,5 +1,4 @@
 ghost use Rattle.std.specs.Prelude.{◌≡◌, ◌≢◌, ◌⊎◌, ◌↔◌, false, IfOk, IfErr, OnOk, OnErr};
-ghost use Rattle.std.specs.FinMap.{empty};
 ghost use Rattle.sqlite.specs.State.{HasCleanDisk, Survives};
 ghost use Rattle.sqlite.specs.Held.{state};
 ghost use Rattle.ov_keeper.specs.Keeping.{IsCommitFault};
@@ -8,7 +7,8 @@ ghost use Rattle.ov_sqlite.specs.Format.{IsFormat};
 ghost use Rattle.ov_sqlite.specs.Making.{MayMake, IsNew, IsNewBeside};
 ghost use Rattle.ov_sqlite.specs.Querying.{IsAsBefore};
 ghost use Rattle.ov_store.specs.Answers.{Making, Testing, WasAnswered};
-ghost use Rattle.ov_store.specs.StoreState.{MayFind, LeavesTables, text_in};
+ghost use Rattle.ov_store.specs.Finding.{new_contents, IsForeign};
+ghost use Rattle.ov_store.specs.StoreState.{MayFind, IsOfItsFormat, LeavesTables, text_in};
 
 use crate::store::Store;
 use crate::unopened::Unopened;
@@ -39,15 +39,25 @@ fn make_new<S: Alter>(conn: &mut Connection<S>, schema: &Text) -> Result<(), Kee
     Err(fault)
 }
 
+/// The number of a format, also where a device that is not honest showed another one.
+fn known_format(number: u8) -> u8
+    ensures known { (result ≡ 1) ⊎ (result ≡ 2) }
+    ensures same { (number ≡ 1) ⊎ (number ≡ 2) → result ≡ number }
+{
+    if number == 1 { 1 } else { 2 }
+}
+
 impl<S: Alter + Drop> Store<S> {
-    /// Makes the tables of stored format 1, with this schema text and no lines, after everything else that is there, which
-    /// stays as it is. Refuses as `NotOurs` if a table, an index or a view has the name of one of the two, if a foreign key
+    /// Makes the tables of stored format 2, with this schema text and no rows, after everything else that is there, which
+    /// stays as it is. Refuses as `NotOurs` if a table, an index or a view has the name of one of the three, if a foreign key
     /// names one, or if rows are counted and SQLite's table of the counts is missing. A refusal leaves the connection with
-    /// what it held. After `Device` a crash may leave both tables, but never a part of them; after the other faults it
+    /// what it held. After `Device` a crash may leave all three tables, but never a part of them; after the other faults it
     /// leaves what it left before.
     pub fn create(mut connection: Connection<S>, schema: Text) -> Result<Store<S>, Unopened<S>>
         requires { connection.in_transaction ≡ false }
-        ensures ok { IfOk result (λ s. HasCleanDisk (state S.Store s.connection) → (contents : _) → MayFind S.Store s.connection contents → contents ≡ record { schema = schema; lines = empty }) }
+        ensures ok { IfOk result (λ s. HasCleanDisk (state S.Store s.connection)
+            → (contents : _) → MayFind S.Store s.connection contents → contents ≡ new_contents schema) }
+        ensures of_format { IfOk result (IsOfItsFormat S.Store) }
         ensures honest { IfOk result (λ s. HasCleanDisk (state S.Store s.connection) → HasCleanDisk (state S.Store connection)) }
         ensures fresh { IfOk result (λ s. s.failures ≡ 0) }
         ensures room { IfOk result (λ s. HasRoom connection.schema) }
@@ -68,16 +78,18 @@ impl<S: Alter + Drop> Store<S> {
         match make_new(&mut connection, &schema) {
             Ok(()) => Ok(Store {
                 connection,
+                format: 2,
                 failures: 0,
             }),
             Err(fault) => Err(Unopened { fault, connection }),
         }
     }
 
-    /// Opens the store of a database in stored format 1. Refuses as `NotOurs` if one of its two tables is missing or
-    /// differs, if another table has a foreign key to them, or if another index of theirs is unique; anything else beside
-    /// them is ignored. Refuses as `Format` if a row of `meta` or of `line` is not as in that format. Reads each row once. A
-    /// refusal leaves the connection with what it held, and a crash then leaves what it left before.
+    /// Opens the store of a database in stored format 1 or 2. Refuses as `NotOurs` if a table of the format is missing or
+    /// differs, if another table has a foreign key to them, if another index of theirs is unique, if `meta` names the other
+    /// format, or if format 1 has no room for the tables of format 2; anything else beside them is ignored. Refuses as
+    /// `Format` if a row of theirs is not as in the format. Reads each row once. A refusal leaves the connection with what it
+    /// held, and a crash then leaves what it left before.
     pub fn open(alloc: Global, mut connection: Connection<S>) -> Result<Store<S>, Unopened<S>>
         requires { connection.in_transaction ≡ false }
         ensures ok { IfOk result (λ s. HasCleanDisk (state S.Store s.connection)
@@ -86,10 +98,16 @@ impl<S: Alter + Drop> Store<S> {
         ensures survives { IfOk result (λ s. Survives (state S.Store connection) (state S.Store s.connection) (λ _. ⊥)) }
         ensures same_refused { IfErr result (λ e. HasCleanDisk (state S.Store e.connection) → IsAsBefore (state S.Store connection) (state S.Store e.connection)) }
         ensures survives_refused { IfErr result (λ e. Survives (state S.Store connection) (state S.Store e.connection) (λ _. ⊥)) }
+        ensures of_format { IfOk result (IsOfItsFormat S.Store) }
         ensures fresh { IfOk result (λ s. s.failures ≡ 0) }
         ensures tables { IfOk result (λ s. HasOurTables connection.schema) }
-        ensures ours { IfErr result (λ e. (e.fault ≡ KeepFault.NotOurs) ↔ (¬ HasOurTables connection.schema)) }
-        ensures told { IfErr result (λ e. (e.fault ≡ KeepFault.NotOurs) ⊎ (HasOurTables connection.schema × WasAnswered Testing e.fault)) }
+        ensures ours { IfErr result (λ e. e.fault ≡ KeepFault.NotOurs
+            → IsForeign S.Store connection e.connection) }
+        ensures foreign { IfErr result (λ e. ¬ HasOurTables connection.schema
+            → e.fault ≡ KeepFault.NotOurs) }
+        ensures told { IfErr result (λ e.
+            ((e.fault ≡ KeepFault.NotOurs) × (¬ HasOurTables connection.schema))
+            ⊎ (HasOurTables connection.schema × WasAnswered Testing e.fault)) }
         ensures format_tables { IfErr result (λ e. e.fault ≡ KeepFault.Format → HasOurTables connection.schema) }
         ensures format { IfErr result (λ e. HasCleanDisk (state S.Store e.connection) → e.fault ≡ KeepFault.Format → (text : _) → ¬ IsFormat text (state S.Store connection).now) }
     {
@@ -99,9 +117,12 @@ impl<S: Alter + Drop> Store<S> {
                 connection,
             });
         }
+        // Its contract says that everything is committed.
+        let _before = connection.is_autocommit();
         match test_format(alloc, &mut connection) {
-            Ok(_text) => Ok(Store {
+            Ok((format, _text)) => Ok(Store {
                 connection,
+                format: known_format(format),
                 failures: 0,
             }),
             Err(fault) => Err(Unopened { fault, connection }),

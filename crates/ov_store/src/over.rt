@@ -2,6 +2,7 @@ ghost use Rattle.std.specs.Prelude.{◌≡◌, ◌≢◌, false, IfOk, IfErr};
 ghost use Rattle.sqlite.specs.Files.{over_files};
 ghost use Rattle.ov_sqlite.specs.Tables.{no_schema};
 ghost use Rattle.ov_store.specs.Finding.{IsNewStore, IsOldStore, IsStoreOf, IsRefused};
+ghost use Rattle.ov_store.specs.StoreState.{IsOfItsFormat};
 
 use crate::store::Store;
 use crate::unopened::Unopened;
@@ -13,10 +14,10 @@ use sqlite_disk::Disk;
 use std::alloc::Global;
 
 /// The store over a connection that was just opened. If there is no table, index or view yet, it is a new one with this
-/// schema text and no lines; otherwise it is the one that is there, whose text may differ.
+/// schema text and no rows, in stored format 2; otherwise it is the one that is there, of either format, whose text may differ.
 ///
-/// Refuses as `NotOurs` if there is something but not the tables of stored format 1, and as `Format` if a row is not as in
-/// that format. A refusal gives the connection back.
+/// Refuses as `NotOurs` if there is something but not the tables of a stored format, or if `meta` names the format whose tables
+/// are not there, and as `Format` if a row is not as in the format. A refusal gives the connection back.
 pub fn store_over<S: Alter + Drop>(
     alloc: Global,
     connection: Connection<S>,
@@ -24,6 +25,7 @@ pub fn store_over<S: Alter + Drop>(
 ) -> Result<Store<S>, Unopened<S>>
     requires { connection.in_transaction ≡ false }
     ensures store { IfOk result (IsStoreOf S.Store schema connection) }
+    ensures of_format { IfOk result (IsOfItsFormat S.Store) }
     ensures fresh { IfOk result (λ s. s.failures ≡ 0) }
     ensures refused { IfErr result (λ e. IsRefused S.Store schema connection e.connection e.fault) }
 {
@@ -42,6 +44,7 @@ fn store_or_fault<S: Alter + Drop>(
 ) -> Result<Store<S>, KeepFault>
     requires { connection.in_transaction ≡ false }
     ensures store { IfOk result (IsStoreOf S.Store schema connection) }
+    ensures of_format { IfOk result (IsOfItsFormat S.Store) }
     ensures fresh { IfOk result (λ s. s.failures ≡ 0) }
     ensures refused { IfErr result (λ fault. (left : _) × IsRefused S.Store schema connection left fault) }
 {
@@ -62,6 +65,7 @@ pub(crate) fn store_over_files<D: Disk + Drop>(
 ) -> Result<Store<FileStore<D>>, KeepFault>
     requires { connection.in_transaction ≡ false }
     ensures store { IfOk result (IsStoreOf over_files schema connection) }
+    ensures of_format { IfOk result (IsOfItsFormat over_files) }
     ensures fresh { IfOk result (λ s. s.failures ≡ 0) }
     ensures refused { IfErr result (λ fault. (left : _) × IsRefused over_files schema connection left fault) }
 {
@@ -73,6 +77,7 @@ fn create<S: Alter + Drop>(connection: Connection<S>, schema: Text) -> Result<St
     requires autocommit { connection.in_transaction ≡ false }
     requires blank { connection.schema ≡ no_schema }
     ensures store { IfOk result (IsNewStore S.Store schema connection) }
+    ensures of_format { IfOk result (IsOfItsFormat S.Store) }
     ensures fresh { IfOk result (λ s. s.failures ≡ 0) }
     ensures refused { IfErr result (λ e. IsRefused S.Store schema connection e.connection e.fault) }
 {
@@ -84,6 +89,7 @@ fn open<S: Alter + Drop>(alloc: Global, connection: Connection<S>) -> Result<Sto
     requires autocommit { connection.in_transaction ≡ false }
     requires some { connection.schema ≢ no_schema }
     ensures store { IfOk result (IsOldStore S.Store connection) }
+    ensures of_format { IfOk result (IsOfItsFormat S.Store) }
     ensures fresh { IfOk result (λ s. s.failures ≡ 0) }
     ensures refused { IfErr result (λ e. (text : _) → IsRefused S.Store text connection e.connection e.fault) }
 {

@@ -1,14 +1,18 @@
 ghost use Rattle.std.specs.Prelude.{◌≡◌, ◌⊎◌, ◌<◌, ◌≤◌, ◌-◌, ◌^◌};
+ghost use Rattle.sqlite.specs.State.{HasCleanDisk};
+ghost use Rattle.sqlite.specs.Held.{state};
+ghost use Rattle.ov_specs.specs.rows.Cells.{format_of};
 ghost use Rattle.ov_keeper.specs.Keeping.{IsCommitFault};
-ghost use Rattle.ov_store.specs.StoreState.{StoreState, store_code, IsAtRest};
+ghost use Rattle.ov_store.specs.StoreState.{StoreState, store_code, IsAtRest, MayFind};
 
 use ov_keeper::KeepFault;
 use sqlite::{Alter, Connection};
 use std::marker::Model;
 
-/// Lines and the schema's text in the two tables of stored format 1, over a connection.
+/// The schema's text and the rows, in the tables of a stored format, over a connection. The format is 1 or 2.
 pub struct Store<S: Alter> {
     pub(crate) connection: Connection<S>,
+    pub(crate) format: u8,
     pub(crate) failures: u64,
 }
 
@@ -19,9 +23,9 @@ impl<S: Alter> Model for Store<S> {
 
     ghost coded = { store_code S.code };
 
-    ghost view = { λ s. record { connection = s.connection; failures = s.failures } };
+    ghost view = { λ s. record { connection = s.connection; format = s.format; failures = s.failures } };
 
-    ghost invariant = { λ s. IsAtRest S.Store s.connection };
+    ghost invariant = { λ s. IsAtRest S.Store s.connection s.format };
 }
 
 impl<S: Alter + Drop> Drop for Store<S> {
@@ -29,6 +33,7 @@ impl<S: Alter + Drop> Drop for Store<S> {
     fn drop(self) {
         let Store {
             connection,
+            format: _,
             failures: _,
         } = self;
         drop(connection);
@@ -43,11 +48,23 @@ impl<S: Alter> Store<S> {
         self.failures
     }
 
+    /// The stored format: 1 or 2. What an open finds is of this format, or of a later one where the device failed in a rewrite of
+    /// format 1.
+    pub fn format(&self) -> u8
+        ensures same { result ≡ self.now.format }
+        ensures kinds { (result ≡ 1) ⊎ (result ≡ 2) }
+        ensures found { HasCleanDisk (state S.Store self.now.connection) → (contents : _)
+            → MayFind S.Store self.now.connection contents → result ≤ format_of contents.lines }
+    {
+        self.format
+    }
+
     /// Counts a failure of the device.
     pub(crate) fn count_failure(&mut self) -> KeepFault
         ensures fault { result ≡ KeepFault.Device }
         ensures kind { IsCommitFault result }
         ensures same { self.new.connection ≡ self.old.connection }
+        ensures same_format { self.new.format ≡ self.old.format }
         ensures count { (self.old.failures < self.new.failures) ⊎ (self.old.failures ≡ 2 ^ 64 - 1) }
         ensures rises { self.old.failures ≤ self.new.failures }
     {
@@ -63,6 +80,7 @@ impl<S: Alter + Drop> Store<S> {
     {
         let Store {
             connection,
+            format: _,
             failures: _,
         } = self;
         connection

@@ -1,4 +1,4 @@
-ghost use Rattle.ov_specs.specs.rows.Lines.{Contents};
+ghost use Rattle.ov_specs.specs.rows.Cells.{Stored};
 
 use ov_base::Text;
 use ov_keeper::{Change, KeepFault, Keeper, Loaded};
@@ -54,10 +54,16 @@ impl<K: Keeper> Keeper for FailingKeeper<K> {
 
     ghost failed = { λ k. k.failures };
 
+    ghost format = { λ k. K.format k.inner };
+
     ghost leaves_some = { λ k honest. K.leaves_some k.inner honest };
 
     fn failures(&self) -> u64 {
         self.failures
+    }
+
+    fn format(&self) -> u8 {
+        self.inner.format()
     }
 
     fn load(&mut self, alloc: Global) -> Result<Loaded, KeepFault> {

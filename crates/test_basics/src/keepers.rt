@@ -1,6 +1,7 @@
 use crate::failing_keeper::FailingKeeper;
-use crate::lines::line_of;
+use crate::lines::{cell_line_of, lines_of};
 use crate::schemas::NET;
+use crate::whole_keeper::WholeKeeper;
 use ov_base::Text;
 use ov_keeper::{Change, Keeper, ListKeeper};
 use ov_schema::{Schema, text_of};
@@ -30,16 +31,22 @@ impl Faults {
     };
 }
 
-/// The changes that put these lines.
+/// The changes that put the rows of these lines.
 fn changes_of(alloc: Global, lines: &str) -> Result<Vec<Change>, Fail> {
     let mut changes = Vec::new(alloc);
     for line in lines.lines() {
-        changes.push(Change::Put(line_of(alloc, line)?))?;
+        changes.push(Change::Put(cell_line_of(alloc, line)?))?;
     }
     Ok(changes)
 }
 
-/// A keeper that holds this schema text and these lines.
+/// A keeper of format 1 that holds this schema text and these lines.
+pub fn whole_keeper_of(alloc: Global, schema: &str, lines: &str) -> Result<WholeKeeper, Fail> {
+    let schema = Text::from_str(alloc, schema)?;
+    Ok(WholeKeeper::new(alloc, schema, lines_of(alloc, lines)?))
+}
+
+/// A keeper of format 2 that holds this schema text and the rows of these lines.
 pub fn keeper_of(alloc: Global, schema: &str, lines: &str) -> Result<ListKeeper, Fail> {
     let changes = changes_of(alloc, lines)?;
     let mut keeper = ListKeeper::new(alloc, Text::from_str(alloc, schema)?);

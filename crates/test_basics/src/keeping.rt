@@ -1,13 +1,14 @@
-use crate::lines::{change_of, text_of_line};
+use crate::line_texts::text_of_lines;
+use crate::lines::change_of;
 use crate::scripts::Scripted;
 use ov_base::Text;
-use ov_keeper::{Change, KeepFault, Keeper, Line};
+use ov_keeper::{Change, KeepFault, Keeper};
 use std::alloc::Global;
 use std::test::Fail;
 
 /// A keeper driven by a script, and the changes of its next commit or rewrite.
 ///
-/// The commands are a change, `commit`, `rewrite TEXT`, `lines`, `schema` and `failures`.
+/// The commands are a change, `commit`, `rewrite TEXT`, `lines`, `schema`, `format` and `failures`.
 #[derive(Drop)]
 pub struct Keeping<K: Keeper> {
     keeper: K,
@@ -28,13 +29,16 @@ impl<K: Keeper + Drop> Keeping<K> {
         keeper
     }
 
-    /// Commits the changes: `made`, or why not, in which case they wait for the next commit.
+    /// Commits the changes: `made`, or why not, in which case they wait for the next commit. Nothing is committed to format 1.
     fn commit(&mut self, alloc: Global) -> Result<String, Fail> {
+        if self.keeper.format() != 2 {
+            return Ok(String::from_str(alloc, "an older format")?);
+        }
         let answer = self.keeper.commit(alloc, self.changes.as_slice());
         self.told(alloc, answer)
     }
 
-    /// Replaces the schema's text and all lines by this text and what the changes put; answers as a commit does.
+    /// Replaces the schema's text and all rows by this text and what the changes put; answers as a commit does.
     fn rewrite(&mut self, alloc: Global, schema: &str) -> Result<String, Fail> {
         let schema = Text::from_str(alloc, schema)?;
         let answer = self.keeper.rewrite(alloc, &schema, self.changes.as_slice());
@@ -52,10 +56,10 @@ impl<K: Keeper + Drop> Keeping<K> {
         }
     }
 
-    /// All lines, or why the load fails.
+    /// All rows, or why the load fails.
     fn lines(&mut self, alloc: Global) -> Result<String, Fail> {
         match self.keeper.load(alloc) {
-            Ok(loaded) => text_of_lines(alloc, loaded.lines.as_slice()),
+            Ok(loaded) => text_of_lines(alloc, &loaded.lines),
             Err(fault) => Ok(format!(in alloc; "{fault}")?),
         }
     }
@@ -78,6 +82,7 @@ impl<K: Keeper + Drop> Scripted for Keeping<K> {
             "commit" => self.commit(alloc),
             "lines" => self.lines(alloc),
             "schema" => self.schema(alloc),
+            "format" => Ok(format!(in alloc; "{}", self.keeper.format())?),
             "failures" => Ok(format!(in alloc; "{}", self.keeper.failures())?),
             change => {
                 self.changes.push(change_of(alloc, change)?)?;
@@ -85,24 +90,4 @@ impl<K: Keeper + Drop> Scripted for Keeping<K> {
             }
         }
     }
-}
-
-/// The texts of lines in ascending order, each followed by a semicolon.
-fn text_of_lines(alloc: Global, lines: &[Line]) -> Result<String, Fail> {
-    let mut texts = Vec::new(alloc);
-    for line in lines {
-        texts.push(text_of_line(alloc, line)?)?;
-    }
-    texts.sort()?;
-    joined(alloc, texts.as_slice())
-}
-
-/// Texts, each followed by a semicolon.
-fn joined(alloc: Global, texts: &[String]) -> Result<String, Fail> {
-    let mut all = String::new(alloc);
-    for text in texts {
-        all.push_str(text.as_str())?;
-        all.push_str(";")?;
-    }
-    Ok(all)
 }

@@ -1,5 +1,7 @@
+use crate::tree_texts::value;
 use ov_base::{Bytes, Text};
-use ov_keeper::{Change, Line};
+use ov_keeper::{Cell, CellLine, Change, Line};
+use serde_json::Value;
 use std::alloc::Global;
 use std::test::Fail;
 use uuid::Uuid;
@@ -9,7 +11,7 @@ pub fn number(text: &str) -> Result<Uuid, Fail> {
     Ok(Uuid::from_u128(text.parse::<u128>()?))
 }
 
-/// The line of a text: its table, its identifier and version as numbers, and its body.
+/// The line of a text, as format 1 has it: its table, its identifier and version as numbers, and its body.
 pub fn line_of(alloc: Global, text: &str) -> Result<Line, Fail> {
     let (table, rest) = text.split_once(" ").ok_or("no identifier")?;
     let (id, rest) = rest.split_once(" ").ok_or("no version")?;
@@ -25,7 +27,59 @@ pub fn line_of(alloc: Global, text: &str) -> Result<Line, Fail> {
     })
 }
 
-/// The removal of the line of a key's text: its table, and its identifier as a number.
+/// The lines of a text, one in a line.
+pub fn lines_of(alloc: Global, text: &str) -> Result<Vec<Line>, Fail> {
+    let mut lines = Vec::new(alloc);
+    for line in text.lines() {
+        lines.push(line_of(alloc, line)?)?;
+    }
+    Ok(lines)
+}
+
+/// A cell with this body.
+pub fn cell(alloc: Global, column: &str, body: &[u8]) -> Result<Cell, Fail> {
+    Ok(Cell {
+        column: Text::from_str(alloc, column)?,
+        body: Bytes::from_slice(alloc, body)?,
+    })
+}
+
+/// The cell of a member of an object.
+fn cell_of_member(alloc: Global, name: &str, member: &Value) -> Result<Cell, Fail> {
+    let body = member.to_vec(alloc)?;
+    cell(alloc, name, body.as_slice())
+}
+
+/// A cell for each member of the object with this text.
+pub fn cells_of(alloc: Global, text: &str) -> Result<Vec<Cell>, Fail> {
+    let Value::Object(members) = value(alloc, text)? else {
+        return Err(Fail::new("no object"));
+    };
+    let mut cells = Vec::new(alloc);
+    for (name, member) in members.iter() {
+        cells.push(cell_of_member(alloc, name.as_str(), member)?)?;
+    }
+    Ok(cells)
+}
+
+/// The row of a text, in cells: as its line, whose body is an object with a member for each cell.
+pub fn cell_line_of(alloc: Global, text: &str) -> Result<CellLine, Fail> {
+    let Line {
+        table,
+        id,
+        version,
+        body,
+    } = line_of(alloc, text)?;
+    let cells = cells_of(alloc, str::from_utf8(body.as_slice())?)?;
+    Ok(CellLine {
+        table,
+        id,
+        version,
+        cells,
+    })
+}
+
+/// The removal of the row of a key's text: its table, and its identifier as a number.
 fn removal_of(alloc: Global, key: &str) -> Result<Change, Fail> {
     let (table, id) = key.split_once(" ").ok_or("no identifier")?;
     let id = number(id)?;
@@ -33,20 +87,11 @@ fn removal_of(alloc: Global, key: &str) -> Result<Change, Fail> {
     Ok(Change::Remove { table, id })
 }
 
-/// The change of a text: `put` and a line, or `remove` and a key.
+/// The change of a text: `put` and a row, or `remove` and a key.
 pub fn change_of(alloc: Global, text: &str) -> Result<Change, Fail> {
     match text.split_once(" ").ok_or("no change")? {
-        ("put", line) => Ok(Change::Put(line_of(alloc, line)?)),
+        ("put", line) => Ok(Change::Put(cell_line_of(alloc, line)?)),
         ("remove", key) => removal_of(alloc, key),
         _ => Err(Fail::new("no change")),
     }
-}
-
-/// The text of a line.
-pub fn text_of_line(alloc: Global, line: &Line) -> Result<String, Fail> {
-    let table = line.table.as_str();
-    let id = line.id.as_u128();
-    let version = line.version.as_u128();
-    let body = str::from_utf8(line.body.as_slice())?;
-    Ok(format!(in alloc; "{table} {id} {version} {body}")?)
 }

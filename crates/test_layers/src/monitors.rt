@@ -1,8 +1,8 @@
 use crate::databases::{Database, new_database};
 use crate::texts::owned;
-use ov_base::{Text, Tree, Trees};
+use ov_base::{Tree, Trees};
 use ov_db::{Db, Delta, row_of};
-use ov_keeper::{Change, Line};
+use ov_keeper::Line;
 use ov_rows::RowKey;
 use ov_schema::Schema;
 use ov_stage::Stage;
@@ -104,6 +104,15 @@ monitor "n" {"Swich":[],"Switch":{"columns":["nam"]}} -> unknown table
 monitor "n" {"Switch":{"columns":["nam"]},"Twitch":[]} -> unknown column
 cancel "n" -> unknown monitor"#;
 
+/// A change of a switch.
+#[derive(Drop)]
+enum Change {
+    /// Puts the switch of a line.
+    Put(Line),
+    /// Removes the switch with this identifier.
+    Remove(Uuid),
+}
+
 /// A database Net and the monitors of a session, driven by a script.
 ///
 /// The commands are `monitor ID REQUESTS`, answered with the monitor's initial rows or why it is refused; `cancel ID`; the
@@ -141,13 +150,6 @@ fn line_of_switch(alloc: Global, put: &str) -> Result<Line, Fail> {
     line_of(alloc, text.as_str())
 }
 
-/// The removal of the switch with this number.
-fn removal_of(alloc: Global, id: &str) -> Result<Change, Fail> {
-    let table = Text::from_str(alloc, "Switch")?;
-    let id = number(id)?;
-    Ok(Change::Remove { table, id })
-}
-
 /// Puts a row within a transaction.
 fn stage_row(
     alloc: Global,
@@ -161,9 +163,9 @@ fn stage_row(
     Ok(())
 }
 
-/// Removes a row within a transaction.
-fn stage_removal(alloc: Global, stage: &mut Stage<'_>, table: &str, id: Uuid) -> Result<(), Fail> {
-    let key = RowKey::new(alloc, table, id)?;
+/// Removes a switch within a transaction.
+fn stage_removal(alloc: Global, stage: &mut Stage<'_>, id: Uuid) -> Result<(), Fail> {
+    let key = RowKey::new(alloc, "Switch", id)?;
     stage.remove(key)?;
     Ok(())
 }
@@ -177,7 +179,7 @@ fn stage_change(
 ) -> Result<(), Fail> {
     match change {
         Change::Put(line) => stage_row(alloc, db, stage, line),
-        Change::Remove { table, id } => stage_removal(alloc, stage, table.as_str(), *id),
+        Change::Remove(id) => stage_removal(alloc, stage, *id),
     }
 }
 
@@ -185,7 +187,7 @@ fn stage_change(
 fn commit_change(alloc: Global, db: &mut Db<NetKeeper>, change: &Change) -> Result<(), Fail> {
     match change {
         Change::Put(line) => put_line(alloc, db, line)?,
-        Change::Remove { table, id } => remove_row(alloc, db, table.as_str(), *id)?,
+        Change::Remove(id) => remove_row(alloc, db, "Switch", *id)?,
     };
     Ok(())
 }
@@ -274,7 +276,7 @@ impl Watching {
     }
 
     fn remove(&mut self, alloc: Global, id: &str) -> Result<String, Fail> {
-        self.changes.push(removal_of(alloc, id)?)?;
+        self.changes.push(Change::Remove(number(id)?))?;
         Ok(String::new(alloc))
     }
 

@@ -1,7 +1,7 @@
 //! Stops while a log of a thousand pages is copied into its database file.
 
 use crate::crashes::inserts;
-use crate::stops::{Case, grows, stops};
+use crate::stops::{Before, Case, grows, stops};
 use std::alloc::Global;
 use std::test::Fail;
 use test_basics::{NET, holds};
@@ -67,7 +67,7 @@ fn is_copied(alloc: Global, count: u64) -> Result<bool, Fail> {
     grows(
         alloc,
         &Case {
-            before: "",
+            before: Before::Messages(""),
             schema: NET,
             messages: messages.as_str(),
             look: LOADS,
@@ -101,7 +101,7 @@ fn copied(alloc: Global) -> Result<(), Fail> {
     let answers = loads(alloc, done, done.saturating_add(MORE))?;
     let wanted = each(alloc, MORE)?;
     let case = Case {
-        before: before.as_str(),
+        before: Before::Messages(before.as_str()),
         schema: NET,
         messages: messages.as_str(),
         look: LOADS,

@@ -1,14 +1,16 @@
-//! Machines that are opened with a newer schema than the stored one.
+//! Machines that are opened with a newer schema than the stored one, or over an older stored format.
 
-use crate::stops::{Case, fails_once, replies_of, stops};
+use crate::stops::{Before, Case, fails_once, replies_of, stops};
 use ov_core::Core;
-use ov_keeper::ListKeeper;
+use ov_keeper::Keeper;
 use std::alloc::Global;
 use std::test::Fail;
-use test_basics::{Counter, Keeping, NET, Scripted, is_text, keeper_of, schema_of_text};
+use test_basics::{
+    Counter, Keeping, NET, Scripted, is_text, keeper_of, schema_of_text, whole_keeper_of,
+};
 
 /// The schema Net in version 1.1.0, whose switches have a note.
-const NOTES: &str =
+pub(crate) const NOTES: &str =
     r#"{"name":"Net","tables":{"Port":{"columns":{"name":{"type":"string"},"peer":{"type":{"key":{"refTable":"Port","type":"uuid"},"max":1,"min":0}},"tag":{"type":{"key":{"maxInteger":4095,"minInteger":0,"type":"integer"},"max":1,"min":0}}}},"Switch":{"columns":{"load":{"type":"integer"},"main":{"type":{"key":{"refTable":"Port","refType":"weak","type":"uuid"},"max":1,"min":0}},"name":{"type":"string"},"note":{"type":"string"},"ports":{"type":{"key":{"refTable":"Port","type":"uuid"},"max":"unlimited","min":0}}},"indexes":[["name"]],"isRoot":true}},"version":"1.1.0"}"#;
 
 /// The same in a version before the stored one.
@@ -24,16 +26,21 @@ const LOADS: &str =
     r#"{"name":"Net","tables":{"Port":{"columns":{"name":{"type":"string"},"peer":{"type":{"key":{"refTable":"Port","type":"uuid"},"max":1,"min":0}},"tag":{"type":{"key":{"maxInteger":4095,"minInteger":0,"type":"integer"},"max":1,"min":0}}}},"Switch":{"columns":{"load":{"type":"integer"},"main":{"type":{"key":{"refTable":"Port","refType":"weak","type":"uuid"},"max":1,"min":0}},"name":{"type":"string"},"ports":{"type":{"key":{"refTable":"Port","type":"uuid"},"max":"unlimited","min":0}}},"indexes":[["name"],["load"]],"isRoot":true}},"version":"1.1.0"}"#;
 
 /// A switch.
-const ONE: &str = r#"Switch 2 1 {"load":0,"main":["set",[]],"name":"s1","ports":["set",[]]}"#;
+pub(crate) const ONE: &str =
+    r#"Switch 2 1 {"load":0,"main":["set",[]],"name":"s1","ports":["set",[]]}"#;
 
 /// Two switches with the same load.
 const TWO: &str = r#"Switch 2 1 {"load":0,"main":["set",[]],"name":"s1","ports":["set",[]]}
 Switch 4 3 {"load":0,"main":["set",[]],"name":"s2","ports":["set",[]]}"#;
 
-/// What a machine over a keeper with these lines of Net replies to a message, under another schema; the hundredth identifier is
-/// the next one. Why it is not opened, if it is not.
-fn reply(alloc: Global, lines: &str, schema: &str, message: &str) -> Result<String, Fail> {
-    let keeper = keeper_of(alloc, NET, lines)?;
+/// What a machine over a keeper replies to a message, under this schema; the hundredth identifier is the next one. Why it is not
+/// opened, if it is not.
+fn reply_over<K: Keeper + Drop>(
+    alloc: Global,
+    keeper: K,
+    schema: &str,
+    message: &str,
+) -> Result<String, Fail> {
     let schema = schema_of_text(alloc, schema)?;
     match Core::open(alloc, keeper, schema, Counter::after(99)) {
         Ok(mut core) => replies_of(alloc, &mut core, message),
@@ -41,16 +48,19 @@ fn reply(alloc: Global, lines: &str, schema: &str, message: &str) -> Result<Stri
     }
 }
 
-/// Fails unless that is the reply.
+/// Fails unless that is the reply over keepers of both formats that hold these lines of Net.
 fn replies(alloc: Global, case: [&str; 4]) -> Result<(), Fail> {
     let [lines, schema, message, wanted] = case;
-    let found = reply(alloc, lines, schema, message)?;
+    let in_cells = keeper_of(alloc, NET, lines)?;
+    let found = reply_over(alloc, in_cells, schema, message)?;
+    is_text(alloc, found.as_str(), wanted)?;
+    let whole = whole_keeper_of(alloc, NET, lines)?;
+    let found = reply_over(alloc, whole, schema, message)?;
     is_text(alloc, found.as_str(), wanted)
 }
 
-/// What the keeper holds after such an opening: its lines, and the text of its schema.
-fn stored(alloc: Global, lines: &str, schema: &str) -> Result<String, Fail> {
-    let keeper = keeper_of(alloc, NET, lines)?;
+/// What a keeper holds after such an opening: the format, its rows, and the text of its schema.
+fn stored_after<K: Keeper + Drop>(alloc: Global, keeper: K, schema: &str) -> Result<String, Fail> {
     let schema = schema_of_text(alloc, schema)?;
     let keeper = match Core::open(alloc, keeper, schema, Counter::after(99)) {
         Ok(core) => core.into_keeper(),
@@ -59,29 +69,39 @@ fn stored(alloc: Global, lines: &str, schema: &str) -> Result<String, Fail> {
     told(alloc, keeper)
 }
 
-/// The lines of a keeper, and the text of its schema.
-fn told(alloc: Global, keeper: ListKeeper) -> Result<String, Fail> {
+/// The format of a keeper, its rows, and the text of its schema.
+fn told<K: Keeper + Drop>(alloc: Global, keeper: K) -> Result<String, Fail> {
     let mut keeping = Keeping::new(alloc, keeper);
+    let format = keeping.answer(alloc, "format")?;
     let lines = keeping.answer(alloc, "lines")?;
     let schema = keeping.answer(alloc, "schema")?;
-    Ok(format!(in alloc; "{lines}{schema}")?)
+    Ok(format!(in alloc; "{format}: {lines}{schema}")?)
+}
+
+/// The same for a keeper of format 1 that holds these lines of Net, or else for one of format 2 with the same rows.
+fn stored(alloc: Global, is_whole: bool, lines: &str, schema: &str) -> Result<String, Fail> {
+    if is_whole {
+        stored_after(alloc, whole_keeper_of(alloc, NET, lines)?, schema)
+    } else {
+        stored_after(alloc, keeper_of(alloc, NET, lines)?, schema)
+    }
 }
 
 /// Selects all columns of all switches.
-const SELECT: &str =
+pub(crate) const SELECT: &str =
     r#"{"id":1,"method":"transact","params":["Net",{"op":"select","table":"Switch","where":[]}]}"#;
 
 /// The switch with a note, in the version of the conversion.
-const NOTED: &str =
+pub(crate) const NOTED: &str =
     r#"{"error":null,"id":1,"result":[{"rows":[{"_uuid":["uuid","00000000-0000-0000-0000-000000000002"],"_version":["uuid","00000000-0000-4000-8000-000000000064"],"load":0,"main":["set",[]],"name":"s1","note":"","ports":["set",[]]}]}]}
 "#;
 
 /// The switch as it was, in its own version.
-const SAME: &str =
+pub(crate) const SAME: &str =
     r#"{"error":null,"id":1,"result":[{"rows":[{"_uuid":["uuid","00000000-0000-0000-0000-000000000002"],"_version":["uuid","00000000-0000-0000-0000-000000000001"],"load":0,"main":["set",[]],"name":"s1","ports":["set",[]]}]}]}
 "#;
 
-/// The line of the switch with a note.
+/// The row of the switch with a note.
 const NOTED_LINE: &str =
     r#"Switch 2 302240678275694148452452 {"load":0,"main":["set",[]],"name":"s1","note":"","ports":["set",[]]};"#;
 
@@ -92,8 +112,20 @@ fn a_newer_schema_converts_the_rows(rt: HostRuntime) -> Result<(), Fail> {
 
 #[test]
 fn a_converted_database_is_stored(rt: HostRuntime) -> Result<(), Fail> {
-    let found = stored(rt.alloc(), ONE, NOTES)?;
-    let wanted = format!(in rt.alloc(); "{NOTED_LINE}{NOTES}")?;
+    let wanted = format!(in rt.alloc(); "2: {NOTED_LINE}{NOTES}")?;
+    let found = stored(rt.alloc(), false, ONE, NOTES)?;
+    is_text(rt.alloc(), found.as_str(), wanted.as_str())?;
+    let found = stored(rt.alloc(), true, ONE, NOTES)?;
+    is_text(rt.alloc(), found.as_str(), wanted.as_str())
+}
+
+/// The rows keep their versions.
+#[test]
+fn the_same_schema_stores_format_2(rt: HostRuntime) -> Result<(), Fail> {
+    let wanted = format!(in rt.alloc(); "2: {ONE};{NET}")?;
+    let found = stored(rt.alloc(), false, ONE, NET)?;
+    is_text(rt.alloc(), found.as_str(), wanted.as_str())?;
+    let found = stored(rt.alloc(), true, ONE, NET)?;
     is_text(rt.alloc(), found.as_str(), wanted.as_str())
 }
 
@@ -138,14 +170,19 @@ fn rows_that_do_not_fit_the_newer_schema_are_refused(rt: HostRuntime) -> Result<
 
 #[test]
 fn a_refused_conversion_changes_nothing(rt: HostRuntime) -> Result<(), Fail> {
-    let found = stored(rt.alloc(), ONE, TEXTS)?;
-    let wanted = format!(in rt.alloc(); "{ONE};{NET}")?;
+    let found = stored(rt.alloc(), false, ONE, TEXTS)?;
+    let wanted = format!(in rt.alloc(); "2: {ONE};{NET}")?;
+    is_text(rt.alloc(), found.as_str(), wanted.as_str())?;
+    let found = stored(rt.alloc(), true, ONE, TEXTS)?;
+    let wanted = format!(in rt.alloc(); "1: {ONE};{NET}")?;
     is_text(rt.alloc(), found.as_str(), wanted.as_str())
 }
 
 /// A conversion over files that fail. The look is at the stored schema.
 const CONVERSION: Case<'static> = Case {
-    before: r#"{"id":1,"method":"transact","params":["Net",{"op":"insert","table":"Switch","row":{"name":"s1"}}]}"#,
+    before: Before::Messages(
+        r#"{"id":1,"method":"transact","params":["Net",{"op":"insert","table":"Switch","row":{"name":"s1"}}]}"#,
+    ),
     schema: NOTES,
     messages: r#"{"id":2,"method":"transact","params":["Net",{"op":"select","table":"Switch","where":[],"columns":["name","note"]}]}"#,
     look: r#"{"id":9,"method":"transact","params":["Net",{"op":"select","table":"Switch","where":[],"columns":["name"]}]}"#,

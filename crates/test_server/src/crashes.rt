@@ -2,14 +2,14 @@
 //! opened again: after the program ended, where all that was written is there, and after the machine stopped, where what was not
 //! synced is lost.
 
-use crate::stops::{Case, fails_once, stops};
+use crate::stops::{Before, Case, fails_once, stops};
 use std::alloc::Global;
 use std::test::Fail;
 use test_basics::NET;
 
 /// Two switches, each in a transaction of its own. A file fails after each number of calls.
 const INSERTS: Case<'static> = Case {
-    before: "",
+    before: Before::Messages(""),
     schema: NET,
     messages: r#"{"id":1,"method":"transact","params":["Net",{"op":"insert","table":"Switch","row":{"name":"s1"}}]}
 {"id":2,"method":"transact","params":["Net",{"op":"insert","table":"Switch","row":{"name":"s2"}}]}"#,
@@ -63,7 +63,9 @@ const ONE: &str = "0 answered, 0 found
 
 /// A row gets another value.
 const UPDATE: Case<'static> = Case {
-    before: r#"{"id":1,"method":"transact","params":["Net",{"op":"insert","table":"Switch","row":{"name":"s1"}}]}"#,
+    before: Before::Messages(
+        r#"{"id":1,"method":"transact","params":["Net",{"op":"insert","table":"Switch","row":{"name":"s1"}}]}"#,
+    ),
     schema: NET,
     messages: r#"{"id":2,"method":"transact","params":["Net",{"op":"update","table":"Switch","where":[],"row":{"load":5}}]}"#,
     look: r#"{"id":9,"method":"transact","params":["Net",{"op":"select","table":"Switch","where":[],"columns":["load","name"]}]}"#,
@@ -80,7 +82,9 @@ fn a_stopped_update_is_found_whole_or_not_at_all(rt: HostRuntime) -> Result<(), 
 
 /// With a switch go its two ports, and the other switch loses its reference to one of them.
 const DELETE: Case<'static> = Case {
-    before: r#"{"id":1,"method":"transact","params":["Net",{"op":"insert","table":"Port","uuid-name":"p1","row":{"name":"p1"}},{"op":"insert","table":"Port","uuid-name":"p2","row":{"name":"p2"}},{"op":"insert","table":"Switch","row":{"name":"s1","ports":["set",[["named-uuid","p1"],["named-uuid","p2"]]]}},{"op":"insert","table":"Switch","row":{"main":["named-uuid","p1"],"name":"s2"}}]}"#,
+    before: Before::Messages(
+        r#"{"id":1,"method":"transact","params":["Net",{"op":"insert","table":"Port","uuid-name":"p1","row":{"name":"p1"}},{"op":"insert","table":"Port","uuid-name":"p2","row":{"name":"p2"}},{"op":"insert","table":"Switch","row":{"name":"s1","ports":["set",[["named-uuid","p1"],["named-uuid","p2"]]]}},{"op":"insert","table":"Switch","row":{"main":["named-uuid","p1"],"name":"s2"}}]}"#,
+    ),
     schema: NET,
     messages: r#"{"id":2,"method":"transact","params":["Net",{"op":"delete","table":"Switch","where":[["name","==","s1"]]}]}"#,
     look: r#"{"id":9,"method":"transact","params":["Net",{"op":"select","table":"Port","where":[],"columns":["name"]},{"op":"select","table":"Switch","where":[],"columns":["main","name"]}]}"#,
@@ -115,24 +119,24 @@ pub(crate) fn inserts(alloc: Global, count: u64) -> Result<String, Fail> {
 const COUNT: &str =
     r#"{"id":9,"method":"transact","params":["Net",{"op":"update","table":"Switch","where":[],"row":{}}]}"#;
 
-/// A transaction of a thousand rows. A file fails after each number of calls.
+/// A transaction of 250 rows, which have a thousand cells. A file fails after each number of calls.
 fn thousand(messages: &str) -> Case<'_> {
     Case {
-        before: "",
+        before: Before::Messages(""),
         schema: NET,
         messages,
         look: COUNT,
         answers: r#"{"error":null,"id":9,"result":[{"count":0}]}
-{"error":null,"id":9,"result":[{"count":1000}]}"#,
+{"error":null,"id":9,"result":[{"count":250}]}"#,
         is_in_full: false,
         is_opened: false,
     }
 }
 
 #[test]
-fn a_stopped_commit_of_a_thousand_rows_is_found_whole_or_not_at_all(
+fn a_stopped_commit_of_a_thousand_cells_is_found_whole_or_not_at_all(
     rt: HostRuntime,
 ) -> Result<(), Fail> {
-    let message = inserts(rt.alloc(), 1_000)?;
+    let message = inserts(rt.alloc(), 250)?;
     stops(rt.alloc(), &thousand(message.as_str()), ONE)
 }

@@ -21,6 +21,8 @@ mod many_frames;
 #[cfg(test)]
 mod monitor_rows;
 #[cfg(test)]
+mod old_files;
+#[cfg(test)]
 mod serve;
 #[cfg(test)]
 mod stops;

@@ -14,11 +14,20 @@ use std::test::Fail;
 use test_basics::{Counter, NET, is_text, schema_of_text};
 use test_support::session_of;
 
+/// How files that do not fail are prepared.
+#[derive(Clone, Copy)]
+pub(crate) enum Before<'a> {
+    /// By the messages that a machine under the schema Net takes, one in a line.
+    Messages(&'a str),
+    /// By statements of SQL.
+    Statements(&'a str),
+}
+
 /// Transactions over files that fail.
 #[derive(Clone, Copy)]
 pub(crate) struct Case<'a> {
-    /// The messages that are taken before, over files that do not fail, one in a line.
-    pub before: &'a str,
+    /// What was done before, over files that do not fail.
+    pub before: Before<'a>,
     /// The schema that the machine over files that fail is opened with: the compact text of its tree.
     pub schema: &'a str,
     /// The messages that are taken over files that fail.
@@ -133,13 +142,40 @@ fn replies_in<D: Failing>(
 }
 
 /// The image that messages leave over new files that do not fail, under the schema Net.
-fn image_after<D: Failing>(alloc: Global, messages: &str) -> Result<Image, Fail> {
+fn image_after_messages<D: Failing>(alloc: Global, messages: &str) -> Result<Image, Fail> {
     let files = files_of::<D>(alloc, &no_files(alloc), NEVER)?;
     let (files, replies) = replies_in(alloc, files, 1, NET, messages)?;
     if has_error(replies.as_str()) {
         return Err(Fail::new(replies));
     }
     image_of(alloc, &files)
+}
+
+/// Runs statements over a connection, and gives back what is below it.
+fn executed<S: Alter + Drop>(connection: Connection<S>, statements: &str) -> Result<S, Fail> {
+    let mut connection = connection;
+    connection.execute_batch(statements)?;
+    Ok(connection.into_store())
+}
+
+/// The image that statements leave over new files that do not fail.
+fn image_after_statements<D: Failing>(alloc: Global, statements: &str) -> Result<Image, Fail> {
+    let files = files_of::<D>(alloc, &no_files(alloc), NEVER)?;
+    if !files.may_be_used() {
+        return Err(Fail::new("not usable"));
+    }
+    match Connection::open_files(alloc, files, Options::new(1)) {
+        Ok(connection) => image_of(alloc, &executed(connection, statements)?.close()),
+        Err(_) => Err(Fail::new("not opened")),
+    }
+}
+
+/// The image with which the runs of a case begin.
+fn image_before<D: Failing>(alloc: Global, case: &Case<'_>) -> Result<Image, Fail> {
+    match case.before {
+        Before::Messages(messages) => image_after_messages::<D>(alloc, messages),
+        Before::Statements(statements) => image_after_statements::<D>(alloc, statements),
+    }
 }
 
 /// The reply of a machine over files that hold an image, under the schema Net.
@@ -278,7 +314,7 @@ fn first_calls(alloc: Global, case: &Case<'_>, image: &Image) -> Result<Calls, F
 
 /// All that may come of a case, each outcome once.
 fn outcomes_of<D: Failing>(alloc: Global, case: &Case<'_>) -> Result<String, Fail> {
-    let image = image_after::<D>(alloc, case.before)?;
+    let image = image_before::<D>(alloc, case)?;
     let first = first_calls(alloc, case, &image)?;
     let mut outcomes = Vec::new(alloc);
     for (is_log, calls) in [(true, first.log), (false, first.db)] {
@@ -299,7 +335,7 @@ fn joined(alloc: Global, texts: &[String]) -> Result<String, Fail> {
 
 /// Whether the database file is longer after the messages of a case, over files that do not fail.
 fn is_longer_after<D: Failing>(alloc: Global, case: &Case<'_>) -> Result<bool, Fail> {
-    let image = image_after::<D>(alloc, case.before)?;
+    let image = image_before::<D>(alloc, case)?;
     let files = files_of::<D>(alloc, &image, NEVER)?;
     let (files, _) = replies_in(alloc, files, 2, case.schema, case.messages)?;
     Ok(files.db.memory().bytes().len() > image.db.len())

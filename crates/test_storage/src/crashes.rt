@@ -5,49 +5,62 @@ use sqlite_disk::{Fuse, Memory};
 use sqlite_trees::store::Reopen;
 use std::alloc::Global;
 use std::test::Fail;
-use test_basics::{Keeping, NET, Scripted, is_text};
+use test_basics::{Keeping, NET, Scripted, whole_file};
 
 /// Two commits of several changes each, and a rewrite.
-const SCRIPT: &str = "put Switch 1 0 one
-put Switch 2 0 two
+const SCRIPT: &str = r#"put Switch 1 0 {"name":"one"}
+put Switch 2 0 {"load":2,"name":"two"}
 commit
 remove Switch 1
-put Switch 2 1 two again
-put Port 1 1 port
+put Switch 2 1 {"main":2}
+put Port 1 1 {"name":"port"}
 commit
-put Switch 3 0 three
-put Port 1 2 port again
-rewrite newer";
+put Switch 3 0 {"name":"three"}
+put Port 1 2 {"tag":2}
+rewrite newer"#;
 
-/// What may be found: the number of commits and rewrites made, then the lines of exactly these, or of the one that failed too,
-/// and the text of the schema if it is the newer one. After a refused create there is nothing, or the whole new store.
-const ALLOWED: &str = "no database
+/// What may be found before all is made: the number of commits and rewrites made, then the rows of exactly these, or of the one
+/// that failed too, and the text of the schema if it is the newer one. After a refused create there is nothing, or the whole new
+/// store.
+const ALLOWED: &str = r#"no database
 refused: nothing
 refused: a store
-made 0:
-made 0:Switch 1 0 one;Switch 2 0 two;
-made 1:Switch 1 0 one;Switch 2 0 two;
-made 1:Port 1 1 port;Switch 2 1 two again;
-made 2:Port 1 1 port;Switch 2 1 two again;
-made 2:Port 1 2 port again;Switch 3 0 three; newer
-made 3:Port 1 2 port again;Switch 3 0 three; newer";
+made 0 of 2:
+made 0 of 2:Switch 1 0 {"name":"one"};Switch 2 0 {"load":2,"name":"two"};
+made 1 of 2:Switch 1 0 {"name":"one"};Switch 2 0 {"load":2,"name":"two"};
+made 1 of 2:Port 1 1 {"name":"port"};Switch 2 1 {"main":2};
+made 2 of 2:Port 1 1 {"name":"port"};Switch 2 1 {"main":2};
+made 2 of 2:Port 1 2 {"tag":2};Switch 3 0 {"name":"three"}; newer"#;
 
-/// Whether a store whose create was refused has lines.
-fn lines_of_refused<S: Alter + Drop>(
-    alloc: Global,
-    store: &mut Store<S>,
-) -> Result<&'static str, Fail> {
-    if store.load_all(alloc)?.lines.is_empty() {
+/// A rewrite of a store of format 1, and a commit.
+const OLD_SCRIPT: &str = r#"put Switch 1 1 {"load":1,"name":"one"}
+put Switch 3 0 {"name":"three"}
+rewrite newer
+remove Switch 3
+put Switch 1 2 {"name":"one"}
+commit"#;
+
+/// The lines of the store of format 1.
+const OLD_LINES: &str = "Port 1 7 port\nSwitch 1 0 {}";
+
+/// What may be found in the store of format 1 before all is made: its lines as they were; or all that the rewrite puts, in format
+/// 2; or that with all of the commit. A file may also fail before there is such a store.
+const OLD_ALLOWED: &str = r#"no database
+not prepared
+refused: lines
+made 0 of 1:Port 1 7 port;Switch 1 0 {};
+made 0 of 2:Switch 1 1 {"load":1,"name":"one"};Switch 3 0 {"name":"three"}; newer
+made 1 of 2:Switch 1 1 {"load":1,"name":"one"};Switch 3 0 {"name":"three"}; newer
+made 1 of 2:Switch 1 2 {"name":"one"}; newer"#;
+
+/// Whether a store that was refused has rows.
+fn found_in_refused<S: Alter + Drop>(alloc: Global, store: Store<S>) -> Result<&'static str, Fail> {
+    let lines = Keeping::new(alloc, store).answer(alloc, "lines")?;
+    if lines.as_str().is_empty() {
         Ok("refused: a store")
     } else {
         Ok("refused: lines")
     }
-}
-
-/// The same for a store that is not used again.
-fn found_in_refused<S: Alter + Drop>(alloc: Global, store: Store<S>) -> Result<&'static str, Fail> {
-    let mut store = store;
-    lines_of_refused(alloc, &mut store)
 }
 
 /// What a database has that is not a store.
@@ -94,10 +107,10 @@ fn text_of_refused<S: Alter + Reopen + Drop>(
     Ok(String::from_str(alloc, found)?)
 }
 
-/// The number of commits and rewrites of the script that are made before the first that is not.
-fn made<S: Scripted>(alloc: Global, keeping: &mut S) -> Result<u64, Fail> {
+/// The number of commits and rewrites of a script that are made before the first that is not.
+fn made<S: Scripted>(alloc: Global, keeping: &mut S, script: &str) -> Result<u64, Fail> {
     let mut made: u64 = 0;
-    for line in SCRIPT.lines() {
+    for line in script.lines() {
         let answer = keeping.answer(alloc, line)?;
         if answer.as_str() == "made" {
             made = made.saturating_add(1);
@@ -115,6 +128,7 @@ fn found_in_store<S: Alter + Drop>(
     again: Store<S>,
 ) -> Result<String, Fail> {
     let mut keeping = Keeping::new(alloc, again);
+    let format = keeping.answer(alloc, "format")?;
     let lines = keeping.answer(alloc, "lines")?;
     let schema = keeping.answer(alloc, "schema")?;
     let newer = if schema.as_str() == "newer" {
@@ -122,7 +136,7 @@ fn found_in_store<S: Alter + Drop>(
     } else {
         ""
     };
-    Ok(format!(in alloc; "made {made}:{lines}{newer}")?)
+    Ok(format!(in alloc; "made {made} of {format}:{lines}{newer}")?)
 }
 
 /// What is found after `made` commits and rewrites, and a crash.
@@ -138,10 +152,14 @@ fn found_after<S: Alter + Reopen + Drop>(
     }
 }
 
-/// What is found after the script and a crash.
-fn found_of_made<S: Alter + Reopen + Drop>(alloc: Global, store: Store<S>) -> Result<String, Fail> {
+/// What is found after a script and a crash.
+fn found_of_made<S: Alter + Reopen + Drop>(
+    alloc: Global,
+    store: Store<S>,
+    script: &str,
+) -> Result<String, Fail> {
     let mut keeping = Keeping::new(alloc, store);
-    let made = made(alloc, &mut keeping)?;
+    let made = made(alloc, &mut keeping, script)?;
     found_after(alloc, made, keeping.into_keeper())
 }
 
@@ -155,27 +173,71 @@ fn found<S: Alter + Reopen + Drop>(
         return Err(Fail::new("in a transaction"));
     }
     match Store::create(connection, schema) {
-        Ok(store) => found_of_made(alloc, store),
+        Ok(store) => found_of_made(alloc, store, SCRIPT),
         Err(refused) => text_of_refused(alloc, refused.connection),
     }
 }
 
+/// The same for the store of format 1 that a connection has, and its script.
+fn found_of_old<S: Alter + Reopen + Drop>(
+    alloc: Global,
+    connection: Connection<S>,
+) -> Result<String, Fail> {
+    if !connection.is_autocommit() {
+        return Err(Fail::new("in a transaction"));
+    }
+    match Store::open(alloc, connection) {
+        Ok(store) => found_of_made(alloc, store, OLD_SCRIPT),
+        Err(refused) => text_of_refused(alloc, refused.connection),
+    }
+}
+
+/// Makes a store of format 1 in one transaction, and goes on as above.
+fn found_in_old<S: Alter + Reopen + Drop>(
+    alloc: Global,
+    connection: Connection<S>,
+) -> Result<String, Fail> {
+    let mut connection = connection;
+    let statements = whole_file(alloc, NET, OLD_LINES)?;
+    let prepared = format!(in alloc; "BEGIN;{statements}COMMIT;")?;
+    if connection.execute_batch(prepared.as_str()).is_err() {
+        return Ok(String::from_str(alloc, "not prepared")?);
+    }
+    found_of_old(alloc, connection)
+}
+
+/// What is found over a connection, from the making of a store on.
+fn found_from<S: Alter + Reopen + Drop>(
+    alloc: Global,
+    connection: Connection<S>,
+    is_old: bool,
+) -> Result<String, Fail> {
+    if is_old {
+        return found_in_old(alloc, connection);
+    }
+    found(alloc, connection, Text::from_str(alloc, NET)?)
+}
+
 /// The same over two files in memory, each of which fails after a number of calls.
-fn found_over_fuses(alloc: Global, log_calls: u64, file_calls: u64) -> Result<String, Fail> {
-    let schema = Text::from_str(alloc, NET)?;
+fn found_over_fuses(
+    alloc: Global,
+    is_old: bool,
+    log_calls: u64,
+    file_calls: u64,
+) -> Result<String, Fail> {
     let files = Files {
         log: Fuse::new(Memory::new(alloc), log_calls),
         db: Fuse::new(Memory::new(alloc), file_calls),
     };
     match Connection::open_files(alloc, files, Options::new(3)) {
-        Ok(connection) => found(alloc, connection, schema),
+        Ok(connection) => found_from(alloc, connection, is_old),
         Err(_) => Ok(String::from_str(alloc, "no database")?),
     }
 }
 
 /// Whether this may be found.
-fn is_allowed(found: &str) -> bool {
-    for line in ALLOWED.lines() {
+fn is_allowed(found: &str, is_old: bool) -> bool {
+    for line in (if is_old { OLD_ALLOWED } else { ALLOWED }).lines() {
         if line == found {
             return true;
         }
@@ -184,38 +246,60 @@ fn is_allowed(found: &str) -> bool {
 }
 
 /// What is found if the log, or else the file, fails after this number of calls.
-fn found_over_fuse(alloc: Global, is_log: bool, calls: u64) -> Result<String, Fail> {
+fn found_over_fuse(alloc: Global, is_old: bool, is_log: bool, calls: u64) -> Result<String, Fail> {
     if is_log {
-        found_over_fuses(alloc, calls, u64::MAX)
+        found_over_fuses(alloc, is_old, calls, u64::MAX)
     } else {
-        found_over_fuses(alloc, u64::MAX, calls)
+        found_over_fuses(alloc, is_old, u64::MAX, calls)
     }
 }
 
-/// Fails unless what is found is allowed.
-fn leaves_no_part(alloc: Global, is_log: bool, calls: u64) -> Result<(), Fail> {
-    let found = found_over_fuse(alloc, is_log, calls)?;
-    if is_allowed(found.as_str()) {
-        return Ok(());
+/// Whether all is found that the script makes. Fails unless that or something else that is allowed is found.
+fn leaves_all(
+    alloc: Global,
+    is_old: bool,
+    is_log: bool,
+    calls: u64,
+    whole: &str,
+) -> Result<bool, Fail> {
+    let found = found_over_fuse(alloc, is_old, is_log, calls)?;
+    if found.as_str() == whole {
+        return Ok(true);
+    }
+    if is_allowed(found.as_str(), is_old) {
+        return Ok(false);
     }
     Err(Fail::new(format!(in alloc; "{calls} {found}")?))
 }
 
-/// Fails unless what is found is allowed when the log, or else the file, fails after each number of calls in turn.
-fn leave_no_part(alloc: Global, is_log: bool) -> Result<(), Fail> {
-    for calls in 0..90u64 {
-        leaves_no_part(alloc, is_log, calls)?;
+/// The largest number of runs over one file.
+const RUNS: u64 = 400;
+
+/// Fails unless what is found is allowed when the log, or else the file, fails after each number of calls in turn, up to the
+/// first after which the whole script is made.
+fn leave_no_part(alloc: Global, is_old: bool, is_log: bool, whole: &str) -> Result<(), Fail> {
+    for calls in 0..RUNS {
+        if leaves_all(alloc, is_old, is_log, calls, whole)? {
+            return Ok(());
+        }
     }
-    Ok(())
+    Err(Fail::new("each run fails"))
 }
 
 /// What is found if nothing fails.
-const WHOLE: &str = "made 3:Port 1 2 port again;Switch 3 0 three; newer";
+const WHOLE: &str = r#"made 3 of 2:Port 1 2 {"tag":2};Switch 3 0 {"name":"three"}; newer"#;
 
 #[test]
 fn a_crash_leaves_no_part_of_a_commit(rt: HostRuntime) -> Result<(), Fail> {
-    leave_no_part(rt.alloc(), true)?;
-    leave_no_part(rt.alloc(), false)?;
-    let whole = found_over_fuses(rt.alloc(), u64::MAX, u64::MAX)?;
-    is_text(rt.alloc(), whole.as_str(), WHOLE)
+    leave_no_part(rt.alloc(), false, true, WHOLE)?;
+    leave_no_part(rt.alloc(), false, false, WHOLE)
+}
+
+/// The same for the store of format 1.
+const OLD_WHOLE: &str = r#"made 2 of 2:Switch 1 2 {"name":"one"}; newer"#;
+
+#[test]
+fn a_crash_leaves_no_part_of_a_rewrite_of_format_1(rt: HostRuntime) -> Result<(), Fail> {
+    leave_no_part(rt.alloc(), true, true, OLD_WHOLE)?;
+    leave_no_part(rt.alloc(), true, false, OLD_WHOLE)
 }

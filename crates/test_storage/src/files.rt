@@ -7,7 +7,7 @@ use ov_store::{close_in_file, store_in_file};
 use sqlite::{Connection, Unknown};
 use std::fs;
 use std::test::Fail;
-use test_basics::{holds, is_text};
+use test_basics::{holds, is_text, whole_file};
 
 const FOLDER: &str = "test_storage_files";
 
@@ -66,12 +66,47 @@ fn a_closed_file_has_all(rt: HostRuntime) -> Result<(), Fail> {
     Ok(())
 }
 
-/// Makes a foreign file, as SQLite leaves it without a log.
-fn make_foreign(rt: &HostRuntime) -> Result<(), Fail> {
+/// Makes a file by these statements, as SQLite leaves it without a log.
+fn make(rt: &HostRuntime, statements: &str) -> Result<(), Fail> {
     let mut connection = Connection::open(rt, PATH)?;
-    connection.execute_batch("CREATE TABLE other(a);")?;
+    connection.execute_batch(statements)?;
     connection.close()?;
     fs::remove_file(rt, LOG)?;
+    Ok(())
+}
+
+/// What an open finds in the file of format 1, and a rewrite of it.
+const FIRST: &str = r#"format -> 1
+schema -> old
+lines -> Port 1 7 port;Switch 1 0 {"name": "one"};
+put Switch 1 1 {"load":1,"name":"one"}
+put Port 1 8 {"tag":8}
+rewrite newer -> made
+format -> 2
+lines -> Port 1 8 {"tag":8};Switch 1 1 {"load":1,"name":"one"};
+failures -> 0"#;
+
+/// What the next open finds.
+const SECOND: &str = r#"format -> 2
+schema -> newer
+lines -> Port 1 8 {"tag":8};Switch 1 1 {"load":1,"name":"one"};
+put Switch 1 2 {"load":2}
+commit -> made"#;
+
+/// What the last open finds.
+const THIRD: &str = r#"format -> 2
+lines -> Port 1 8 {"tag":8};Switch 1 2 {"load":2};"#;
+
+#[test]
+fn a_file_of_format_1_is_rewritten(rt: HostRuntime) -> Result<(), Fail> {
+    clear(&rt)?;
+    let lines = "Port 1 7 port\nSwitch 1 0 {\"name\": \"one\"}";
+    make(&rt, whole_file(rt.alloc(), "old", lines)?.as_str())?;
+    served(&rt, FIRST)?;
+    has_no_log(&rt)?;
+    served(&rt, SECOND)?;
+    served(&rt, THIRD)?;
+    let _ = fs::remove_dir_all(&rt, FOLDER);
     Ok(())
 }
 
@@ -106,7 +141,7 @@ fn is_left_turned(rt: &HostRuntime, at: usize) -> Result<(), Fail> {
 #[test]
 fn a_foreign_file_is_left_as_it_is(rt: HostRuntime) -> Result<(), Fail> {
     clear(&rt)?;
-    make_foreign(&rt)?;
+    make(&rt, "CREATE TABLE other(a);")?;
     // The two bytes that name the mode: with a log, and without.
     is_left_turned(&rt, 18)?;
     is_left_turned(&rt, 19)?;

@@ -1,6 +1,8 @@
-//! Tests of storage: keepers, the disk in memory, the store, and stored lines opened as rows.
+//! Tests of storage: keepers, the disk in memory, the store, and stored rows of both formats that are opened.
 #![tactic(auto)]
 
+#[cfg(test)]
+mod cells;
 #[cfg(test)]
 mod crashes;
 #[cfg(test)]
@@ -17,5 +19,9 @@ mod opens;
 mod refusals;
 #[cfg(test)]
 mod stores;
+#[cfg(test)]
+mod tables;
+#[cfg(test)]
+mod upgrades;
 #[cfg(test)]
 mod volatile;

@@ -1,9 +1,13 @@
+//! Stored rows that are opened, or refused, in both formats.
+
 use ov_db::Db;
-use ov_keeper::{Line, ListKeeper};
+use ov_keeper::{Keeper, Line};
 use ov_rows::{Row, Rows, TableRows};
 use std::alloc::Global;
 use std::test::Fail;
-use test_basics::{NET, Scripted, agrees, is_text, keeper_of, line_of, net, schema_of_text};
+use test_basics::{
+    NET, Scripted, agrees, is_text, keeper_of, line_of, net, schema_of_text, whole_keeper_of,
+};
 use test_commits::put_line;
 use uuid::Uuid;
 
@@ -18,7 +22,7 @@ Switch 2 1 {"load":0,"main":["set",[]],"name":"s1","ports":["set",[]]}
 Switch 6 1 {"load":-9223372036854775808,"main":["uuid","00000000-0000-0000-0000-000000000003"],"name":"\"\u0001é","ports":["set",[["uuid","00000000-0000-0000-0000-000000000003"],["uuid","00000000-0000-0000-0000-000000000005"]]]}
 "#;
 
-/// Bodies of lines of Port that are or are not rows: not JSON, not an object, a column missing, added or repeated, another
+/// Bodies of lines of Port in format 1 that are or are not rows: not JSON, not an object, a column missing, added or repeated, another
 /// order, a space; values of another kind, out of range, too many, out of order, not as they are written; a real.
 const BODIES: &str = r#"x -> a stored row does not fit the schema
 [] -> a stored row does not fit the schema
@@ -40,10 +44,10 @@ const BODIES: &str = r#"x -> a stored row does not fit the schema
 {"name":"p1","peer":["set",[]],"tag":7} -> Port 2 1 {"name":"p1","peer":["set",[]],"tag":7}"#;
 
 /// A table with a column for each kind of value.
-const EVERY: &str =
+pub(crate) const EVERY: &str =
     r#"{"name":"Every","tables":{"All":{"columns":{"flag":{"type":"boolean"},"id":{"type":"uuid"},"ids":{"type":{"key":"uuid","max":"unlimited","min":0}},"name":{"type":"string"},"number":{"type":"integer"},"numbers":{"type":{"key":"integer","max":"unlimited","min":0}},"truths":{"type":{"key":"uuid","max":"unlimited","min":0,"value":"boolean"}},"words":{"type":{"key":"string","max":"unlimited","min":0,"value":"string"}}}}},"version":"1.0.0"}"#;
 
-/// Bodies of lines of All that are or are not rows: each kind of value, with no elements and with some, and texts with
+/// Bodies of lines of All in format 1 that are or are not rows: each kind of value, with no elements and with some, and texts with
 /// escapes; then other names, words and brackets, elements out of order or repeated, a repeated key, values of another kind,
 /// a U+0000, other numbers.
 const EVERY_BODIES: &str =
@@ -94,7 +98,7 @@ fn push_rows(alloc: Global, text: &mut String, table: &str, rows: &TableRows) ->
 }
 
 /// The texts of rows, each with a line feed.
-fn text_of_rows(alloc: Global, rows: &Rows) -> Result<String, Fail> {
+pub(crate) fn text_of_rows(alloc: Global, rows: &Rows) -> Result<String, Fail> {
     let mut text = String::new(alloc);
     for (table, rows) in rows.tables() {
         push_rows(alloc, &mut text, table.as_str(), rows)?;
@@ -103,7 +107,11 @@ fn text_of_rows(alloc: Global, rows: &Rows) -> Result<String, Fail> {
 }
 
 /// The rows that a keeper holds, each as the text of its line; or why they can't be opened under the schema.
-fn rows_of(alloc: Global, keeper: ListKeeper, schema: &str) -> Result<String, Fail> {
+pub(crate) fn rows_of<K: Keeper + Drop>(
+    alloc: Global,
+    keeper: K,
+    schema: &str,
+) -> Result<String, Fail> {
     let schema = schema_of_text(alloc, schema)?;
     match Db::open(alloc, keeper, schema) {
         Ok(db) => text_of_rows(alloc, db.rows()),
@@ -111,12 +119,17 @@ fn rows_of(alloc: Global, keeper: ListKeeper, schema: &str) -> Result<String, Fa
     }
 }
 
-/// The same for these lines and the schema text stored with them.
-fn opened(alloc: Global, stored: &str, lines: &str, schema: &str) -> Result<String, Fail> {
+/// The same for these lines of format 1 and the schema text stored with them.
+fn opened_whole(alloc: Global, stored: &str, lines: &str, schema: &str) -> Result<String, Fail> {
+    rows_of(alloc, whole_keeper_of(alloc, stored, lines)?, schema)
+}
+
+/// The same for the rows of these lines in format 2.
+fn opened_in_cells(alloc: Global, stored: &str, lines: &str, schema: &str) -> Result<String, Fail> {
     rows_of(alloc, keeper_of(alloc, stored, lines)?, schema)
 }
 
-/// Fails unless the result is this text.
+/// Fails unless the result is this text in both formats.
 fn opens_as(
     alloc: Global,
     stored: &str,
@@ -124,8 +137,10 @@ fn opens_as(
     schema: &str,
     want: &str,
 ) -> Result<(), Fail> {
-    let found = opened(alloc, stored, lines, schema)?;
-    is_text(alloc, found.as_str(), want)
+    let whole = opened_whole(alloc, stored, lines, schema)?;
+    is_text(alloc, whole.as_str(), want)?;
+    let in_cells = opened_in_cells(alloc, stored, lines, schema)?;
+    is_text(alloc, in_cells.as_str(), want)
 }
 
 #[test]
@@ -134,22 +149,22 @@ fn rows_are_opened_as_they_were_stored(rt: HostRuntime) -> Result<(), Fail> {
 }
 
 /// The line of a switch that refers to the port 2.
-const HOLDER: &str =
+pub(crate) const HOLDER: &str =
     r#"Switch 1 1 {"load":0,"main":["set",[]],"name":"s1","ports":["uuid","00000000-0000-0000-0000-000000000002"]}"#;
 
-/// What a line of Port with this body opens as, next to the switch that refers to the port.
+/// What a line of Port with this body opens as in format 1, next to the switch that refers to the port.
 #[derive(Drop)]
 struct Bodies;
 
 /// The first line of a text.
-fn first_line(alloc: Global, text: &str) -> Result<String, Fail> {
+pub(crate) fn first_line(alloc: Global, text: &str) -> Result<String, Fail> {
     let (first, _) = text.split_once("\n").unwrap_or((text, ""));
     Ok(String::from_str(alloc, first)?)
 }
 
 /// What the first of the lines opens as.
 fn first_opened(alloc: Global, lines: &str) -> Result<String, Fail> {
-    let text = opened(alloc, NET, lines, NET)?;
+    let text = opened_whole(alloc, NET, lines, NET)?;
     first_line(alloc, text.as_str())
 }
 
@@ -165,13 +180,13 @@ fn bodies_that_are_no_row_are_refused(rt: HostRuntime) -> Result<(), Fail> {
     agrees(rt.alloc(), Bodies, BODIES)
 }
 
-/// Whether a line of All with this body opens unchanged.
+/// Whether a line of All with this body opens unchanged in format 1.
 #[derive(Drop)]
 struct EveryBodies;
 
 /// Whether a line opens unchanged.
 fn is_kept(alloc: Global, line: &str) -> Result<bool, Fail> {
-    let text = opened(alloc, EVERY, line, EVERY)?;
+    let text = opened_whole(alloc, EVERY, line, EVERY)?;
     Ok(text.as_str().trim_end() == line)
 }
 
@@ -254,33 +269,49 @@ fn a_table_with_too_many_rows_is_refused(rt: HostRuntime) -> Result<(), Fail> {
 }
 
 /// What the keeper holds after its rows are opened and the row of a line is committed.
-fn committed(alloc: Global, keeper: ListKeeper, line: &Line) -> Result<ListKeeper, Fail> {
+fn committed<K: Keeper + Drop>(alloc: Global, keeper: K, line: &Line) -> Result<K, Fail> {
     let mut db = Db::open(alloc, keeper, net(alloc)?)?;
     put_line(alloc, &mut db, line)?;
     Ok(db.into_keeper())
 }
 
-/// What is opened after the row of a line is added to these lines.
+/// What is opened after the row of a line is added to these lines of format 1, which the first opening rewrites.
+fn whole_opened_again(alloc: Global, lines: &str, line: &str) -> Result<String, Fail> {
+    let keeper = whole_keeper_of(alloc, NET, lines)?;
+    let keeper = committed(alloc, keeper, &line_of(alloc, line)?)?;
+    rows_of(alloc, keeper, NET)
+}
+
+/// The same for the rows of these lines in format 2.
 fn opened_again(alloc: Global, lines: &str, line: &str) -> Result<String, Fail> {
     let keeper = keeper_of(alloc, NET, lines)?;
     let keeper = committed(alloc, keeper, &line_of(alloc, line)?)?;
     rows_of(alloc, keeper, NET)
 }
 
+/// Two rows that are there before a commit.
+const BEFORE: &str = r#"Port 3 1 {"name":"p1","peer":["set",[]],"tag":["set",[]]}
+Switch 6 1 {"load":0,"main":["set",[]],"name":"s1","ports":["uuid","00000000-0000-0000-0000-000000000003"]}"#;
+
+/// The row that is committed.
+const COMMITTED: &str =
+    r#"Switch 2 1 {"load":0,"main":["uuid","00000000-0000-0000-0000-000000000003"],"name":"s2","ports":["set",[]]}"#;
+
+/// What is found after it.
+const AFTER: &str = r#"Port 3 1 {"name":"p1","peer":["set",[]],"tag":["set",[]]}
+Switch 2 1 {"load":0,"main":["uuid","00000000-0000-0000-0000-000000000003"],"name":"s2","ports":["set",[]]}
+Switch 6 1 {"load":0,"main":["set",[]],"name":"s1","ports":["uuid","00000000-0000-0000-0000-000000000003"]}
+"#;
+
 /// What was committed is found again, with the table, the identifier, the version and the bytes of its line.
 #[test]
 fn committed_rows_are_opened_again(rt: HostRuntime) -> Result<(), Fail> {
-    let lines = r#"Port 3 1 {"name":"p1","peer":["set",[]],"tag":["set",[]]}
-Switch 6 1 {"load":0,"main":["set",[]],"name":"s1","ports":["uuid","00000000-0000-0000-0000-000000000003"]}"#;
-    let switch =
-        r#"Switch 2 1 {"load":0,"main":["uuid","00000000-0000-0000-0000-000000000003"],"name":"s2","ports":["set",[]]}"#;
-    let found = opened_again(rt.alloc(), lines, switch)?;
-    is_text(
-        rt.alloc(),
-        found.as_str(),
-        r#"Port 3 1 {"name":"p1","peer":["set",[]],"tag":["set",[]]}
-Switch 2 1 {"load":0,"main":["uuid","00000000-0000-0000-0000-000000000003"],"name":"s2","ports":["set",[]]}
-Switch 6 1 {"load":0,"main":["set",[]],"name":"s1","ports":["uuid","00000000-0000-0000-0000-000000000003"]}
-"#,
-    )
+    let found = opened_again(rt.alloc(), BEFORE, COMMITTED)?;
+    is_text(rt.alloc(), found.as_str(), AFTER)
+}
+
+#[test]
+fn rows_of_format_1_are_committed_to(rt: HostRuntime) -> Result<(), Fail> {
+    let found = whole_opened_again(rt.alloc(), BEFORE, COMMITTED)?;
+    is_text(rt.alloc(), found.as_str(), AFTER)
 }

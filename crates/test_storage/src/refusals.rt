@@ -1,107 +1,150 @@
-ghost use Rattle.std.specs.Prelude.{◌≡◌, false};
-
 use crate::stores::{created, kept, opened};
+use crate::tables::{statement, text_of_left, text_of_other_row};
 use ov_base::Text;
-use ov_keeper::KeepFault;
+use ov_keeper::{KeepFault, Lines};
 use ov_store::{Store, store_over};
-use sqlite::types::ValueRef;
 use sqlite::{Alter, Connection};
 use std::alloc::Global;
 use std::test::Fail;
 use test_basics::{Scripted, agrees};
 
-/// The statement for a word.
-fn statement(word: &str) -> &'static str {
-    match word {
-        "meta" => "CREATE TABLE meta(k TEXT PRIMARY KEY, v BLOB);",
-        "line" => {
-            "CREATE TABLE line(tbl TEXT, id BLOB, ver BLOB, body BLOB, PRIMARY KEY(tbl,id));"
-        }
-        "schema" => "INSERT INTO meta VALUES('schema',x'6f6c64');",
-        "format" => "INSERT INTO meta VALUES('format',x'31');",
-        "row" => {
-            "INSERT INTO line VALUES('Port',x'000102030405060708090a0b0c0d0e0f',x'000102030405060708090a0b0c0d0e0f',x'7b7d');"
-        }
-        "foreign" => "CREATE TABLE other(a);",
-        "view" => "CREATE VIEW v AS SELECT 1;",
-        "index" => "CREATE INDEX other ON line(ver);",
-        "unique" => "CREATE UNIQUE INDEX other ON line(ver);",
-        "key" => "CREATE TABLE other(a REFERENCES meta(k));",
-        "upper" => "CREATE TABLE META(a);",
-        "line_view" => "CREATE VIEW Line AS SELECT 1;",
-        "line_index" => "CREATE INDEX line ON other(a);",
-        "counted" => "CREATE TABLE counted(id INTEGER PRIMARY KEY AUTOINCREMENT);",
-        "seven_there" => "INSERT INTO other VALUES(7);",
-        "text_id" =>
-            "CREATE TABLE line(tbl TEXT, id TEXT, ver BLOB, body BLOB, PRIMARY KEY(tbl,id));",
-        "seven" => "UPDATE meta SET v=x'37' WHERE k='format';",
-        "third" => "INSERT INTO meta VALUES('more',x'31');",
-        "short" => "UPDATE line SET id=x'000102030405060708090a0b0c0d0e';",
-        "no_version" => "UPDATE line SET ver=NULL;",
-        _ => "UPDATE line SET tbl=x'ff';",
-    }
-}
-
-/// What an open of the database made by these statements returns.
-const OPENED: &str = "meta line schema format -> old 0
-meta line schema format row -> old 1
+/// What an open of the database of format 1 that these statements make returns.
+const OPENED_1: &str = "meta line schema one -> 1 old 0
+meta line schema one row -> 1 old 1
 line -> not a database of this program
-meta schema format -> not a database of this program
-line meta schema format -> old 0
-meta text_id schema format -> not a database of this program
-meta line schema format foreign -> old 0
-meta line foreign schema format row -> old 1
-meta line schema format index -> old 0
-meta line schema format view -> old 0
-meta line schema format row foreign view -> old 1
-meta line schema format unique -> not a database of this program
-meta line schema format key -> not a database of this program
-foreign meta line schema format -> old 0
-meta foreign line schema format -> old 0
+meta schema one -> not a database of this program
+line meta schema one -> 1 old 0
+meta text_id schema one -> not a database of this program
+meta line schema one foreign -> 1 old 0
+meta line foreign schema one row -> 1 old 1
+meta line schema one index -> 1 old 0
+meta line schema one view -> 1 old 0
+meta line schema one row foreign view -> 1 old 1
+meta line schema one unique -> not a database of this program
+meta line schema one key -> not a database of this program
+foreign meta line schema one -> 1 old 0
+meta foreign line schema one -> 1 old 0
 meta line -> another format
-meta line schema format third -> another format
-meta line schema format seven -> another format
-meta line schema format row short -> another format
-meta line schema format row no_version -> another format
-meta line schema format row no_text -> another format";
+meta line schema one third -> another format
+meta line schema one seven -> another format
+meta line schema one row short -> another format
+meta line schema one row no_version -> another format
+meta line schema one row no_text -> another format";
+
+/// The same for a database of format 2.
+const OPENED_2: &str = "meta head cell schema two -> 2 old 0
+meta head cell schema two head_row -> 2 old 1
+meta head cell schema two head_row cell_row -> 2 old 1
+cell meta head schema two cell_row head_row -> 2 old 1
+head cell -> not a database of this program
+meta head schema two -> not a database of this program
+meta cell schema two -> not a database of this program
+meta text_head cell schema two -> not a database of this program
+meta head keyless schema two -> not a database of this program
+foreign meta head view cell schema two head_row -> 2 old 1
+meta head cell schema two cell_index -> 2 old 0
+meta head cell schema two cell_unique -> not a database of this program
+meta head cell schema two key -> not a database of this program
+meta head cell schema two head_key -> not a database of this program
+meta head cell -> another format
+meta head cell schema two third -> another format
+meta head cell schema two seven -> another format
+meta head cell schema two cell_row -> another format
+meta head cell schema two head_row cell_row other_cell -> another format
+meta head cell schema two head_row cell_row short_cell -> another format
+meta head cell schema two head_row cell_row no_column -> another format
+meta head cell schema two head_row cell_row no_body -> another format
+meta head cell schema two head_row short_head -> another format
+meta head cell schema two head_row no_head_text -> another format";
+
+/// The same where there are tables of both formats, or `meta` names the one whose tables are not there. Format 1 has room for
+/// the tables of format 2, for which a table `line` is another one.
+const OPENED_MIXED: &str = "meta line schema two -> not a database of this program
+meta line schema two row -> not a database of this program
+meta head cell schema one -> not a database of this program
+meta head cell schema one head_row cell_row -> not a database of this program
+meta line head schema one -> not a database of this program
+meta line cell schema one -> not a database of this program
+meta line head schema two -> not a database of this program
+meta line head cell schema one -> not a database of this program
+meta line head cell schema one row -> not a database of this program
+meta line schema one head_view -> not a database of this program
+meta line schema one foreign index_cell -> not a database of this program
+meta line schema one head_key -> not a database of this program
+meta line head cell schema two -> 2 old 0
+meta line head cell schema two row head_row cell_row -> 2 old 1
+meta foreign_line head cell schema two -> 2 old 0
+meta head cell schema two line_view -> 2 old 0";
 
 /// What making or opening a store there returns; a new one has the text `new`.
-const MADE_OR_OPENED: &str = " -> new 0
-meta line format schema row -> old 1
-meta line format -> another format
-meta line schema format foreign -> old 0
-foreign line meta schema format row -> old 1
+const MADE_OR_OPENED: &str = " -> 2 new 0
+meta line one schema row -> 1 old 1
+meta head cell two schema head_row -> 2 old 1
+meta line one -> another format
+meta head cell two -> another format
+meta line schema two -> not a database of this program
+meta line schema one foreign -> 1 old 0
+foreign line meta schema one row -> 1 old 1
+foreign cell head meta schema two -> 2 old 0
 foreign -> not a database of this program
 view -> not a database of this program";
 
 /// What making a store there returns.
-const MADE: &str = " -> new 0
-foreign -> new 0
-foreign seven_there view -> new 0
-counted -> new 0
-meta line schema format -> not a database of this program
+const MADE: &str = " -> 2 new 0
+foreign -> 2 new 0
+foreign seven_there view -> 2 new 0
+counted -> 2 new 0
+foreign_line -> 2 new 0
+line_view -> 2 new 0
+meta line schema one -> not a database of this program
+meta head cell schema two -> not a database of this program
 upper -> not a database of this program
-foreign line_view -> not a database of this program
-foreign line_index -> not a database of this program
-key -> not a database of this program";
+head -> not a database of this program
+head_view -> not a database of this program
+foreign index_cell -> not a database of this program
+key -> not a database of this program
+head_key -> not a database of this program";
 
 /// What making a store returns if one was made there before.
 const MADE_AGAIN: &str = " -> not a database of this program";
 
 /// Whether the other table, made after those of the store, has its row after a commit.
-const KEPT_BEHIND: &str = "meta line schema format foreign seven_there -> true";
+const KEPT_BEHIND: &str = "meta head cell schema two foreign seven_there -> true";
 
 /// The same if it was made before them.
-const KEPT_BEFORE: &str = "foreign seven_there line meta format schema -> true";
+const KEPT_BEFORE: &str = "foreign seven_there cell meta head two schema -> true";
 
 /// The same for a new store.
 const KEPT_BY_NEW: &str = "foreign seven_there view -> true";
 
-/// The schema text of a store and its number of lines.
+/// The same after a rewrite of either format.
+const KEPT_BY_REWRITE: &str =
+    "meta head cell schema two head_row cell_row foreign seven_there -> true
+foreign seven_there cell meta head two schema -> true
+meta line schema one row foreign seven_there -> true
+foreign seven_there line meta one schema -> true
+meta foreign line schema one row seven_there view -> true";
+
+/// How many rows the table `line` has after a rewrite of either format. In one of format 2 it is another table.
+const LEFT_BY_REWRITE: &str = "meta line schema one -> 0
+meta line schema one row -> 0
+line index meta schema one row -> 0
+meta line head cell schema two row -> 1";
+
+/// The stored format, the schema text of a store and its number of rows.
 fn contents<S: Alter + Drop>(alloc: Global, store: &mut Store<S>) -> Result<String, Fail> {
+    let format = store.format();
     let loaded = store.load_all(alloc)?;
-    let lines = loaded.lines.len();
-    Ok(format!(in alloc; "{} {lines}", loaded.schema.as_str())?)
+    let rows = number_of(&loaded.lines);
+    Ok(format!(in alloc; "{format} {} {rows}", loaded.schema.as_str())?)
+}
+
+/// The number of rows that were loaded.
+fn number_of(lines: &Lines) -> usize {
+    match lines {
+        Lines::Whole(lines) => lines.len(),
+        Lines::InCells(lines) => lines.len(),
+    }
 }
 
 /// The same for a store that is not used again.
@@ -169,45 +212,37 @@ fn text_of_made_again<S: Alter + Drop>(
     text_of_made(alloc, store.close(), schema)
 }
 
-/// Whether the other table has its row.
-fn has_other_row<S: Alter + Drop>(connection: &mut Connection<S>) -> Result<bool, Fail>
-    requires { connection.old.in_transaction ≡ false }
-{
-    let rows = connection
-        .transaction()
-        .query_all("SELECT a FROM other", &[])?;
-    Ok(match rows.as_slice() {
-        [row] => matches!(row.get_ref(0), Ok(ValueRef::Int(7))),
-        _ => false,
-    })
-}
-
-/// The same, as text.
-fn text_of_other_row<S: Alter + Drop>(
-    alloc: Global,
-    connection: &mut Connection<S>,
-) -> Result<String, Fail>
-    requires { connection.old.in_transaction ≡ false }
-{
-    let has_row = has_other_row(connection)?;
-    Ok(format!(in alloc; "{has_row}")?)
-}
-
-/// Whether the other table has its row after a commit to the store.
-fn text_of_kept<S: Alter + Drop>(alloc: Global, store: Store<S>) -> Result<String, Fail> {
-    let script = "put Switch 1 0 one
+/// A commit of a row.
+const COMMIT: &str = r#"put Switch 1 0 {"name":"one"}
 commit -> made
-lines -> Switch 1 0 one;";
+lines -> Switch 1 0 {"name":"one"};"#;
+
+/// A rewrite with a row, and a commit of another.
+const REWRITE: &str = r#"put Switch 1 0 {"name":"one"}
+rewrite newer -> made
+format -> 2
+put Switch 2 0 {"name":"two"}
+commit -> made
+schema -> newer
+lines -> Switch 1 0 {"name":"one"};Switch 2 0 {"name":"two"};"#;
+
+/// Whether the other table has its row after a script over the store.
+fn text_of_kept<S: Alter + Drop>(
+    alloc: Global,
+    store: Store<S>,
+    script: &str,
+) -> Result<String, Fail> {
     let mut connection = kept(alloc, store, script)?.close();
     text_of_other_row(alloc, &mut connection)
 }
 
-/// The same for a commit to the store of the database.
+/// The same for a script over the store of the database.
 fn text_of_kept_by_opened<S: Alter + Drop>(
     alloc: Global,
     connection: Connection<S>,
+    script: &str,
 ) -> Result<String, Fail> {
-    text_of_kept(alloc, opened(alloc, connection)?)
+    text_of_kept(alloc, opened(alloc, connection)?, script)
 }
 
 /// The same for a commit to a new store.
@@ -215,7 +250,17 @@ fn text_of_kept_by_new<S: Alter + Drop>(
     alloc: Global,
     connection: Connection<S>,
 ) -> Result<String, Fail> {
-    text_of_kept(alloc, created(alloc, connection)?)
+    text_of_kept(alloc, created(alloc, connection)?, COMMIT)
+}
+
+/// The number of rows of the table `line` after a rewrite of the store of the database.
+fn text_of_left_by_rewrite<S: Alter + Drop>(
+    alloc: Global,
+    connection: Connection<S>,
+) -> Result<String, Fail> {
+    let store = opened(alloc, connection)?;
+    let mut connection = kept(alloc, store, REWRITE)?.close();
+    text_of_left(alloc, &mut connection)
 }
 
 /// What is done with a database.
@@ -227,6 +272,8 @@ enum Way {
     MakeAgain,
     CommitToOpened,
     CommitToNew,
+    Rewrite,
+    LookAtLine,
 }
 
 /// The answer for the database of a connection.
@@ -241,8 +288,10 @@ fn text_by<S: Alter + Drop>(
         Way::MakeOrOpen => text_of_made_or_opened(alloc, connection, schema),
         Way::Make => text_of_made(alloc, connection, schema),
         Way::MakeAgain => text_of_made_again(alloc, connection, schema),
-        Way::CommitToOpened => text_of_kept_by_opened(alloc, connection),
+        Way::CommitToOpened => text_of_kept_by_opened(alloc, connection, COMMIT),
         Way::CommitToNew => text_of_kept_by_new(alloc, connection),
+        Way::Rewrite => text_of_kept_by_opened(alloc, connection, REWRITE),
+        Way::LookAtLine => text_of_left_by_rewrite(alloc, connection),
     }
 }
 
@@ -287,8 +336,18 @@ fn are_found(alloc: Global, way: Way, script: &str) -> Result<(), Fail> {
 }
 
 #[test]
-fn an_open_tells_what_is_no_store(rt: HostRuntime) -> Result<(), Fail> {
-    are_found(rt.alloc(), Way::Open, OPENED)
+fn an_open_tells_what_is_no_store_of_format_1(rt: HostRuntime) -> Result<(), Fail> {
+    are_found(rt.alloc(), Way::Open, OPENED_1)
+}
+
+#[test]
+fn an_open_tells_what_is_no_store_of_format_2(rt: HostRuntime) -> Result<(), Fail> {
+    are_found(rt.alloc(), Way::Open, OPENED_2)
+}
+
+#[test]
+fn an_open_tells_the_formats_apart(rt: HostRuntime) -> Result<(), Fail> {
+    are_found(rt.alloc(), Way::Open, OPENED_MIXED)
 }
 
 #[test]
@@ -319,4 +378,14 @@ fn a_commit_keeps_the_tables_before(rt: HostRuntime) -> Result<(), Fail> {
 #[test]
 fn a_new_store_keeps_the_tables_before(rt: HostRuntime) -> Result<(), Fail> {
     are_found(rt.alloc(), Way::CommitToNew, KEPT_BY_NEW)
+}
+
+#[test]
+fn a_rewrite_keeps_the_other_tables(rt: HostRuntime) -> Result<(), Fail> {
+    are_found(rt.alloc(), Way::Rewrite, KEPT_BY_REWRITE)
+}
+
+#[test]
+fn a_rewrite_of_format_1_leaves_an_empty_table_of_lines(rt: HostRuntime) -> Result<(), Fail> {
+    are_found(rt.alloc(), Way::LookAtLine, LEFT_BY_REWRITE)
 }

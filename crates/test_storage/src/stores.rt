@@ -29,43 +29,46 @@ pub(crate) fn opened<S: Alter + Drop>(
     Ok(Store::open(alloc, connection)?)
 }
 
-/// Lines that are put, put again, and removed.
-pub(crate) const TWO_COMMITS: &str = "schema -> new
+/// Rows that are put, put again with other cells, and removed.
+pub(crate) const TWO_COMMITS: &str = r#"schema -> new
+format -> 2
 lines
-put Switch 1 0 one
-put Switch 2 0 two
-put Port 1 7 port
+put Switch 1 0 {"load":4,"name":"one"}
+put Switch 2 0 {"name":"two"}
+put Port 1 7 {"name":"port","tag":7}
 commit -> made
-put Switch 1 1 one again
+put Switch 1 1 {"name":"one again","ports":["set",[]]}
 remove Switch 2
 remove Switch 3
 commit -> made
-lines -> Port 1 7 port;Switch 1 1 one again;
-failures -> 0";
+lines -> Port 1 7 {"name":"port","tag":7};Switch 1 1 {"name":"one again","ports":["set",[]]};
+failures -> 0"#;
 
 /// What the next open finds.
-pub(crate) const FOUND: &str = "lines -> Port 1 7 port;Switch 1 1 one again;
+pub(crate) const FOUND: &str = r#"format -> 2
+lines -> Port 1 7 {"name":"port","tag":7};Switch 1 1 {"name":"one again","ports":["set",[]]};
 commit -> made
 remove Port 1
 commit -> made
-lines -> Switch 1 1 one again;";
+lines -> Switch 1 1 {"name":"one again","ports":["set",[]]};"#;
 
-/// Lines and text that are replaced, and replaced again by none.
-pub(crate) const TWO_REWRITES: &str = "put Switch 1 0 one
-put Port 1 7 port
+/// Rows and text that are replaced, and replaced again by none.
+pub(crate) const TWO_REWRITES: &str = r#"put Switch 1 0 {"name":"one"}
+put Port 1 7 {"name":"port"}
 commit -> made
-put Port 2 8 other
-put Port 2 9 at last
+put Port 2 8 {"name":"other"}
+put Port 2 9 {"tag":9}
 remove Switch 3
 rewrite newer -> made
 schema -> newer
-lines -> Port 2 9 at last;
-put Switch 1 0 one
+format -> 2
+lines -> Port 2 9 {"tag":9};
+put Switch 1 0 {"name":"one"}
 commit -> made
 rewrite newest -> made
 schema -> newest
 lines
-failures -> 0";
+failures -> 0"#;
 
 /// Runs a script over a keeper and returns the keeper.
 pub(crate) fn kept<K: Keeper + Drop>(alloc: Global, keeper: K, script: &str) -> Result<K, Fail> {
@@ -124,15 +127,15 @@ fn kept_in_memory(alloc: Global, faults: Faults, script: &str) -> Result<(), Fai
 }
 
 #[test]
-fn a_device_that_fails_leaves_the_former_lines(rt: HostRuntime) -> Result<(), Fail> {
-    let script = "put Switch 1 0 one
+fn a_device_that_fails_leaves_the_former_rows(rt: HostRuntime) -> Result<(), Fail> {
+    let script = r#"put Switch 1 0 {"name":"one"}
 commit -> made
-put Switch 1 0 two
+put Switch 1 0 {"load":2}
 commit -> the device failed
 failures -> 1
-lines -> Switch 1 0 one;
+lines -> Switch 1 0 {"name":"one"};
 commit -> made
-lines -> Switch 1 0 two;";
+lines -> Switch 1 0 {"load":2};"#;
     let faults = Faults {
         is_too_large: false,
         good: 1,
@@ -142,32 +145,56 @@ lines -> Switch 1 0 two;";
 }
 
 #[test]
-fn lines_of_long_table_names_are_put_and_removed(rt: HostRuntime) -> Result<(), Fail> {
-    let script = "put Logical_Switch_Port_Group_Address 1 0 one
-put Logical_Switch_Port_Group_Address 2 0 two
+fn rows_of_long_names_are_put_and_removed(rt: HostRuntime) -> Result<(), Fail> {
+    let script = r#"put Logical_Switch_Port_Group_Address 1 0 {"name":"one"}
+put Logical_Switch_Port_Group_Address 2 0 {"bidirectional_forwarding_detection_status_map":7}
 commit -> made
 remove Logical_Switch_Port_Group_Address 1
 commit -> made
-lines -> Logical_Switch_Port_Group_Address 2 0 two;
+lines -> Logical_Switch_Port_Group_Address 2 0 {"bidirectional_forwarding_detection_status_map":7};
 remove Logical_Switch_Port_Group_Address 2
 commit -> made
 failures -> 0
-lines";
+lines"#;
     kept_in_memory(rt.alloc(), Faults::NONE, script)
 }
 
 #[test]
 fn changes_that_are_too_large_are_not_made(rt: HostRuntime) -> Result<(), Fail> {
-    let script = "put Switch 1 0 one
+    let script = r#"put Switch 1 0 {"name":"one"}
 commit -> too large to be stored
 failures -> 0
 lines
 commit -> made
-lines -> Switch 1 0 one;";
+lines -> Switch 1 0 {"name":"one"};"#;
     let faults = Faults {
         is_too_large: true,
         good: 9,
         bad: 1,
     };
     kept_in_memory(rt.alloc(), faults, script)
+}
+
+/// A row without cells, one whose cells are put in several changes of a commit, and cells of the same column in rows of the same
+/// identifier and of the same table.
+const CELLS: &str = r#"put Switch 1 0 {}
+put Switch 2 0 {"name":"two"}
+put Switch 2 1 {"load":2}
+put Switch 3 0 {"load":3,"name":"three"}
+put Port 3 0 {"load":4,"name":"port"}
+commit -> made
+lines -> Port 3 0 {"load":4,"name":"port"};Switch 1 0 {};Switch 2 1 {"load":2};Switch 3 0 {"load":3,"name":"three"};
+put Switch 1 2 {"name":"one"}
+put Switch 3 2 {}
+remove Switch 2
+put Switch 2 3 {"main":5}
+commit -> made
+lines -> Port 3 0 {"load":4,"name":"port"};Switch 1 2 {"name":"one"};Switch 2 3 {"main":5};Switch 3 2 {};
+remove Port 3
+commit -> made
+lines -> Switch 1 2 {"name":"one"};Switch 2 3 {"main":5};Switch 3 2 {};"#;
+
+#[test]
+fn a_row_has_the_cells_that_were_put_last(rt: HostRuntime) -> Result<(), Fail> {
+    kept_in_memory(rt.alloc(), Faults::NONE, CELLS)
 }

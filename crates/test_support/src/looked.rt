@@ -71,7 +71,7 @@ impl Looked {
         self.lookups.told(alloc, &self.db)
     }
 
-    /// What a database that is opened from the lines of these rows reports for the keys.
+    /// What a database that is opened from these rows reports for the keys.
     fn told_again(&self, alloc: Global) -> Result<String, Fail> {
         let db = opened_from(alloc, self.db.schema(), self.db.rows())?;
         self.lookups.told(alloc, &db)

@@ -1,14 +1,14 @@
 use ov_base::Text;
 use ov_db::{Db, ListKeeper};
 use ov_index::IndexKey;
-use ov_keeper::{Change, Keeper, Line};
+use ov_keeper::{CellLine, Change, Keeper};
 use ov_refs::KeySet;
 use ov_rows::{Row, RowKey, Rows, TableRows};
 use ov_schema::{Schema, Table, text_of};
 use std::alloc::{AllocError, Global};
 use std::collections::BTreeSet;
 use std::test::Fail;
-use test_basics::schema_of_text;
+use test_basics::{cells_of, schema_of_text};
 use uuid::Uuid;
 
 /// The keys of rows, and the keys at which the rows stand in the indexes of their tables.
@@ -135,34 +135,35 @@ fn text_of_place<K: Keeper + Drop>(
     }
 }
 
-/// The line of a row.
-fn line_of_row(alloc: Global, table: &str, id: Uuid, row: &Row) -> Result<Line, AllocError> {
-    Ok(Line {
+/// A row in cells, which are the members of the text of all its columns.
+fn line_of_row(alloc: Global, table: &str, id: Uuid, row: &Row) -> Result<CellLine, Fail> {
+    let text = row.columns.text(alloc)?;
+    Ok(CellLine {
         table: Text::from_str(alloc, table)?,
         id,
         version: row.version,
-        body: row.columns.text(alloc)?,
+        cells: cells_of(alloc, str::from_utf8(text.as_slice())?)?,
     })
 }
 
-/// Adds the changes that put the lines of a table's rows.
-fn push_lines(
+/// Adds the changes that put a table's rows.
+fn push_rows(
     alloc: Global,
     changes: &mut Vec<Change>,
     table: &str,
     rows: &TableRows,
-) -> Result<(), AllocError> {
+) -> Result<(), Fail> {
     for (id, row) in rows.map() {
         changes.push(Change::Put(line_of_row(alloc, table, *id.as_uuid(), row)?))?;
     }
     Ok(())
 }
 
-/// A keeper of the lines of these rows.
+/// A keeper of these rows.
 fn keeper_of_rows(alloc: Global, schema: Text, rows: &Rows) -> Result<ListKeeper, Fail> {
     let mut changes = Vec::new(alloc);
     for (name, table) in rows.tables() {
-        push_lines(alloc, &mut changes, name.as_str(), table)?;
+        push_rows(alloc, &mut changes, name.as_str(), table)?;
     }
     let mut keeper = ListKeeper::new(alloc, schema);
     match keeper.commit(alloc, changes.as_slice()) {
@@ -171,7 +172,7 @@ fn keeper_of_rows(alloc: Global, schema: Text, rows: &Rows) -> Result<ListKeeper
     }
 }
 
-/// A database that is opened from the lines of these rows.
+/// A database that is opened from these rows.
 pub(crate) fn opened_from(
     alloc: Global,
     schema: &Schema,

@@ -16,4 +16,4 @@ returns c =
     let are : are_values_for (entries c.args.table.now.columns) (values columns) ≡ true = search rules in
     let read : AreOfKinds columns → tree_of c.args.line.now.body ≡ Some (body_of columns) =
     subst (λ (body : List ℕ). AreOfKinds columns → tree_of body ≡ Some (body_of columns)) c.as_slice.ensures c.in_ok-columns.ensures.reads_back in
-    guessed_row c.args.table.now columns (c.in_ok-columns.ensures.names ∙ c.names_of_row.ensures) are (c.args.line.now.version, c.args.line.now.body) (c.in_ok-columns.ensures.text ∙ c.as_slice.ensures) read
+    guessed_row c.args.table.now columns (c.in_ok-columns.ensures.names ∙ c.names_of_row.ensures) are c.args.line.now.version c.args.line.now.body (c.in_ok-columns.ensures.text ∙ c.as_slice.ensures) read

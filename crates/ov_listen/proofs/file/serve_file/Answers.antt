@@ -31,5 +31,5 @@ returns g c =
       core = c.serve_store-ending.result.1;
       opened = record { found = opened.found; fresh = opened.fresh; refused = opened.refused };
       ends = c.serve_store-ending.ensures;
-      closed = rw (c.in-Some.is, closes) (by_answer _ _ c.close_in_file.result (rw c.into_keeper.ensures at closing.whole) closing.kinds);
+      closed = rw (c.in-Some.is, closes) (by_answer _ _ c.close_in_file.result (rw c.into_keeper.ensures.same at closing.whole) closing.kinds);
     }

@@ -1,40 +1,52 @@
-use Rattle.std.proofs.Common.{◌≡◌, ap, sym, subst, arith, Result, Err}
-use Rattle.ov_keeper.specs.declared.fault.KeepFault.{KeepFault}
-use Rattle.std.specs.List.{AllByRecursion}
+use Rattle.std.proofs.Common.{◌≡◌, ◌∙◌, ◌==◌, ◌↔◌, inl, inr, sym, subst, arith, MatchBool, IsTrue}
 use Rattle.sqlite.specs.Effect.{Database}
 use Rattle.sqlite.specs.State.{HasCleanDisk}
 use Rattle.sqlite.specs.Held.{state}
-use Rattle.ov_sqlite.specs.Tables.{HasOurTables}
-use Rattle.ov_sqlite.specs.Format.{IsLine, rows_of_line}
-use Rattle.ov_sqlite.specs.Changing.{IsNumbered}
+use Rattle.ov_sqlite.specs.Tables.{HasLineTables, HasCellTables}
+use Rattle.ov_sqlite.specs.Format.{IsFormat}
+use Rattle.ov_sqlite.specs.Reading.{ReadsLines}
+use Rattle.ov_sqlite.proofs.OpenLemmas.{err_of}
+use Rattle.ov_sqlite.proofs.FormatLemmas.{meta_there, tables_by, told_same, told_apart, other_named, read_stored}
 use Rattle.ov_sqlite.proofs.format.test_format.Goals as goal
 
-same_fault : {X : Type 0} {a b : KeepFault} → ◌≡◌ {A = Result X KeepFault} (Err a) (Err b) → a ≡ b
-same_fault e = cc
-
 pub returns-in-Err-clause-format : goal.returns-in-Err-clause-format
-returns-in-Err-clause-format g c clean has err text f = c.in-Err.ensures.format clean has err text f.meta
+returns-in-Err-clause-format g c clean ours err text f =
+    let old = state g.S.Store c.args.conn.now in
+    let bad = c.in-Err.ensures.format clean (λ up. meta_there old.now.schema ours) (err_of _ _ err) in
+    elim f [ inl it ↦ bad 1 text it.meta | inr it ↦ bad 2 text it.meta ]
 
-pub returns-in-Err-test_lines-clause-format : goal.returns-in-Err-test_lines-clause-format
-returns-in-Err-test_lines-clause-format g c clean has err text f =
-    let mid = state g.S.Store c.read_meta.new.conn in
-    let early : HasCleanDisk mid = omega (arith, c.test_lines.ensures.survives.clean) in
-    let same = c.read_meta.ensures.same early in
-    let bad = c.in-Err-test_lines.ensures.format clean (λ up. subst HasOurTables (sym (ap (λ (d : Database). d.schema) (same.now up))) has) (ap Err (same_fault err)) in
-    bad.1 (subst (AllByRecursion IsLine) (sym (ap (λ (d : Database). rows_of_line d.trees) (same.now bad.0))) f.lines)
+pub returns-then-named-in_cells-clause-ours : goal.returns-then-named-in_cells-clause-ours
+returns-then-named-in_cells-clause-ours g c clean ours err =
+    let old = state g.S.Store c.args.conn.now in
+    let b = c.has_cell_tables-in_cells.result in
+    let test : IsTrue b ↔ HasCellTables old.now.schema = rw c.schema.ensures.value at c.has_cell_tables-in_cells.ensures in
+    let meta = c.in-Ok.ensures.ok clean (λ up. meta_there old.now.schema ours) in
+    other_named old.now c.in-Ok.named.format c.in-Ok.named.schema b (tables_by old.now.schema b test ours) meta.1 (told_apart (c.in-Ok.named.format == 2) b c.if-named-in_cells.true)
 
-pub returns-in-Ok-test_lines-clause-ok : goal.returns-in-Ok-test_lines-clause-ok
-returns-in-Ok-test_lines-clause-ok g c clean has =
+pub returns-in-Ok-read_rows-clause-ok : goal.returns-in-Ok-read_rows-clause-ok
+returns-in-Ok-read_rows-clause-ok g c clean ours =
+    let old = state g.S.Store c.args.conn.now in
     let mid = state g.S.Store c.read_meta.new.conn in
-    let early : HasCleanDisk mid = omega (arith, c.test_lines.ensures.survives.clean) in
-    let same = c.read_meta.ensures.same early in
-    let meta = c.in-Ok.ensures.ok early has in
-    let lines = c.in-Ok-test_lines.ensures.ok clean (λ up. subst HasOurTables (sym (ap (λ (d : Database). d.schema) (same.now up))) has) in
-    let rows = ap (λ (d : Database). rows_of_line d.trees) (same.now lines.0) in (
-      meta.0,
-      record {
-        format = record { schema = has; meta = meta.1; lines = subst (AllByRecursion IsLine) rows lines.1 };
-        numbered = subst IsNumbered rows lines.2;
-        sound = (c.schema-schema.ensures.live meta.0).0;
-      },
-    )
+    let b = c.has_cell_tables-in_cells.result in
+    let test : IsTrue b ↔ HasCellTables old.now.schema = rw c.schema.ensures.value at c.has_cell_tables-in_cells.ensures in
+    let tables = tables_by old.now.schema b test ours in
+    let first : HasCleanDisk mid = omega (arith, c.read_rows.ensures.survives.clean) in
+    let n = c.in-Ok.named.format in
+    let lines = c.in-Ok-read_rows.field-0 in
+    let meta = c.in-Ok.ensures.ok first (λ up. meta_there old.now.schema ours) in
+    let same = c.read_meta.ensures.same first in
+    let rows = c.in-Ok-read_rows.ensures.ok clean (λ up. subst (λ (d : Database). MatchBool b (HasCellTables d.schema) (HasLineTables d.schema)) (sym (same.now up)) tables) in
+    let named : b ≡ (n == 2) = told_same (n == 2) b c.if-named-in_cells.false in
+    (meta.0, read_stored old.now n c.in-Ok.named.schema lines meta.1 (rows.1 ∙ named) (subst (λ b. MatchBool b (HasCellTables old.now.schema) (HasLineTables old.now.schema)) (sym rows.1) tables) (subst (λ (d : Database). ReadsLines d lines) (same.now rows.0) rows.2) (c.schema.ensures.live meta.0).0)
+
+pub returns-in-Err-read_rows-clause-format : goal.returns-in-Err-read_rows-clause-format
+returns-in-Err-read_rows-clause-format g c clean ours err text f =
+    let old = state g.S.Store c.args.conn.now in
+    let mid = state g.S.Store c.read_meta.new.conn in
+    let b = c.has_cell_tables-in_cells.result in
+    let test : IsTrue b ↔ HasCellTables old.now.schema = rw c.schema.ensures.value at c.has_cell_tables-in_cells.ensures in
+    let tables = tables_by old.now.schema b test ours in
+    let first : HasCleanDisk mid = omega (arith, c.read_rows.ensures.survives.clean) in
+    let same = c.read_meta.ensures.same first in
+    let bad = c.in-Err-read_rows.ensures.format clean (λ up. subst (λ (d : Database). MatchBool b (HasCellTables d.schema) (HasLineTables d.schema)) (sym (same.now up)) tables) (err_of _ _ err) in
+    bad.1 text (subst (IsFormat text) (sym (same.now bad.0)) f)

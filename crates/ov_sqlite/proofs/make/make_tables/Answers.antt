@@ -4,7 +4,7 @@ use Rattle.sqlite.specs.State.{HasCleanDisk, Survives, KeepsCommit}
 use Rattle.sqlite.specs.Held.{state}
 use Rattle.sqlite.proofs.Callers.{survives_begin}
 use Rattle.ov_sqlite.specs.Making.{MayMake, IsNew, IsNewBeside}
-use Rattle.ov_sqlite.proofs.CreateLemmas.{filled_crash, filled_committed}
+use Rattle.ov_sqlite.proofs.MakeLemmas.{filled_crash, filled_committed, from_begun}
 use Rattle.ov_sqlite.proofs.RunLemmas.{nothing_then, survives_as, keeps_then, rolled_keeps, commit_fails_keeps}
 use Rattle.ov_sqlite.proofs.make.make_tables.Goals as goal
 
@@ -16,7 +16,7 @@ returns-in-Ok-commit-clause-crash g c =
     let same : c.commit.new.self.0 ≡ c.conn-2-1.given.0 = search rules in
     subst (λ h. Survives old (state g.S.Store h) (λ (trees : Trees). MayMake old → IsNewBeside c.args.schema.now old trees)) same
     (filled_crash c.args.schema.now old last (state g.S.Store c.commit.new.self.0) (survives_begin g.S.Store c.args.conn.now last _ (rw begun at c.make_all.ensures.survives)) c.commit.ensures.survives
-    (c.is_autocommit-before.ensures.settled (rw c.requires at c.is_autocommit-before.ensures.value)) (λ clean up. (rw begun at c.make_all.ensures.kept clean).was_open up) (λ clean may. (rw begun at c.in-Ok.ensures.ok) clean refl may))
+    (c.is_autocommit-before.ensures.settled (rw c.requires at c.is_autocommit-before.ensures.value)) (λ clean up. (rw begun at c.make_all.ensures.kept clean).was_open up) (λ clean may. from_begun g.S.Store c.args.conn.now c.args.schema.now last ((rw begun at c.in-Ok.ensures.ok) clean refl may)))
 
 pub returns-in-Err-commit-clause-crash : goal.returns-in-Err-commit-clause-crash
 returns-in-Err-commit-clause-crash g c =
@@ -26,7 +26,7 @@ returns-in-Err-commit-clause-crash g c =
     let same : c.commit.new.self.0 ≡ c.conn-2-1.given.0 = search rules in
     subst (λ h. Survives old (state g.S.Store h) (λ (trees : Trees). MayMake old → IsNewBeside c.args.schema.now old trees)) same
     (filled_crash c.args.schema.now old last (state g.S.Store c.commit.new.self.0) (survives_begin g.S.Store c.args.conn.now last _ (rw begun at c.make_all.ensures.survives)) c.commit.ensures.survives
-    (c.is_autocommit-before.ensures.settled (rw c.requires at c.is_autocommit-before.ensures.value)) (λ clean up. (rw begun at c.make_all.ensures.kept clean).was_open up) (λ clean may. (rw begun at c.in-Ok.ensures.ok) clean refl may))
+    (c.is_autocommit-before.ensures.settled (rw c.requires at c.is_autocommit-before.ensures.value)) (λ clean up. (rw begun at c.make_all.ensures.kept clean).was_open up) (λ clean may. from_begun g.S.Store c.args.conn.now c.args.schema.now last ((rw begun at c.in-Ok.ensures.ok) clean refl may)))
 
 pub returns-in-Ok-commit-clause-ok : goal.returns-in-Ok-commit-clause-ok
 returns-in-Ok-commit-clause-ok g c =
@@ -36,9 +36,9 @@ returns-in-Ok-commit-clause-ok g c =
     let same : c.commit.new.self.0 ≡ c.conn-2-1.given.0 = search rules in
     subst (λ h. HasCleanDisk (state g.S.Store h) → MayMake old → IsNew c.args.schema.now old (state g.S.Store h)) same (λ clean may.
     let late : HasCleanDisk last = omega (arith, c.commit.ensures.survives.clean) in
-    let filled = (rw begun at c.in-Ok.ensures.ok) late refl may in
+    let filled = from_begun g.S.Store c.args.conn.now c.args.schema.now last ((rw begun at c.in-Ok.ensures.ok) late refl may) in
     let shows = (c.in-Ok-commit.ensures.ok clean).1 in
-    let was = (rw begun at c.make_all.ensures.kept late).was_open filled.tables.is_open in
+    let was = (rw begun at c.make_all.ensures.kept late).was_open filled.is_open in
     filled_committed c.args.schema.now old last (state g.S.Store c.commit.new.self.0) filled was (c.is_autocommit-before.ensures.settled (rw c.requires at c.is_autocommit-before.ensures.value) was) shows.is_open shows.now_is shows.committed_is)
 
 pub returns-in-Ok-commit-clause-settled : goal.returns-in-Ok-commit-clause-settled

@@ -1,10 +1,12 @@
-use Rattle.std.proofs.Common.{◌≡◌, ℕ, List, inl, inr, refl, subst, arith, rules}
+use Rattle.std.proofs.Common.{◌≡◌, ◌∙◌, ℕ, List, codes, is_some, inl, inr, ap, refl, subst, arith, rules}
+use Rattle.sqlite_schema.specs.Names.{table_named}
+use Rattle.ov_sqlite.proofs.EmptyLemmas.{by_format}
 use Rattle.std.specs.FinMap.{empty}
 use Rattle.sqlite_trees.specs.Tree.{Trees}
 use Rattle.sqlite.specs.State.{HasCleanDisk, Survives, KeepsCommit}
 use Rattle.sqlite.specs.Held.{state}
 use Rattle.sqlite.proofs.Callers.{survives_begin}
-use Rattle.ov_specs.specs.rows.Lines.{after_changes}
+use Rattle.ov_specs.specs.rows.Cells.{after_cell_changes}
 use Rattle.ov_keeper.specs.Views.{changes_view}
 use Rattle.ov_sqlite.specs.Changing.{MayBeStored}
 use Rattle.ov_sqlite.specs.Querying.{IsAsBefore}
@@ -45,7 +47,7 @@ returns-in-Err-clause-crash g c =
     let last = state g.S.Store c.rewrite.new.tx.conn.now in
     let end = c.drop-tx.new.self.0 in
     let begun = c.transaction-tx.ensures.begun in
-    let P = λ (trees : Trees). (text : List ℕ) → MayBeStored text old → IsRewriteImage c.args.schema.now (after_changes (changes_view c.args.changes.now) empty) old trees in
+    let P = λ (trees : Trees). (text : List ℕ) → MayBeStored text old → IsRewriteImage c.args.schema.now (after_cell_changes (changes_view c.args.changes.now) empty) old trees in
     let same : end ≡ c.conn-1.given.0 = search rules in
     let whole = nothing_then _ _ _ (survives_begin g.S.Store c.args.conn.now last _ (rw begun at c.rewrite.ensures.survives)) c.drop-tx.ensures.survives in
     subst (λ h. Survives old (state g.S.Store h) P) same (survives_as old (state g.S.Store end) (λ _. ⊥) P whole (λ clean db h. elim (whole.crash clean db h) [ inl was ↦ inl was | inr none ↦ absurd none ]))
@@ -80,11 +82,11 @@ pub returns-in-Err-commit-clause-crash : goal.returns-in-Err-commit-clause-crash
 returns-in-Err-commit-clause-crash g c =
     let old = state g.S.Store c.args.conn.now in
     let begun = c.transaction-tx.ensures.begun in
-    let lines = after_changes (changes_view c.args.changes.now) empty in
+    let lines = after_cell_changes (changes_view c.args.changes.now) empty in
     let same : c.commit.new.self.0 ≡ c.conn-2-1.given.0 = search rules in
     subst (λ h. Survives old (state g.S.Store h) (λ (trees : Trees). (text : List ℕ) → MayBeStored text old → IsRewriteImage c.args.schema.now lines old trees)) same
     (rewritten_crash g.S.Store c.args.conn.now (state g.S.Store c.rewrite.new.tx.conn.now) (state g.S.Store c.commit.new.self.0) (c.is_autocommit.ensures.settled c.if-not-is_autocommit.false) c.args.schema.now lines
-    (rw begun at c.rewrite.ensures.survives) c.commit.ensures.survives (λ clean text may. (rw begun at c.in-Ok.ensures.ok) clean refl text may))
+    (rw begun at c.rewrite.ensures.survives) c.commit.ensures.survives (λ clean text may. (rw begun at c.in-Ok.ensures.ok) clean refl text (λ up. by_format text (state g.S.Store c.args.conn.now) _ (c.has_heads-in_cells.ensures ∙ ap (λ s. is_some (table_named s (codes "head"))) c.schema.ensures.value) (may up))))
 
 pub returns-in-Err-commit-clause-unmoved : goal.returns-in-Err-commit-clause-unmoved
 returns-in-Err-commit-clause-unmoved g c =
@@ -116,21 +118,21 @@ pub returns-in-Ok-commit-clause-crash : goal.returns-in-Ok-commit-clause-crash
 returns-in-Ok-commit-clause-crash g c =
     let old = state g.S.Store c.args.conn.now in
     let begun = c.transaction-tx.ensures.begun in
-    let lines = after_changes (changes_view c.args.changes.now) empty in
+    let lines = after_cell_changes (changes_view c.args.changes.now) empty in
     let same : c.commit.new.self.0 ≡ c.conn-2-1.given.0 = search rules in
     subst (λ h. Survives old (state g.S.Store h) (λ (trees : Trees). (text : List ℕ) → MayBeStored text old → IsRewriteImage c.args.schema.now lines old trees)) same
     (rewritten_crash g.S.Store c.args.conn.now (state g.S.Store c.rewrite.new.tx.conn.now) (state g.S.Store c.commit.new.self.0) (c.is_autocommit.ensures.settled c.if-not-is_autocommit.false) c.args.schema.now lines
-    (rw begun at c.rewrite.ensures.survives) c.commit.ensures.survives (λ clean text may. (rw begun at c.in-Ok.ensures.ok) clean refl text may))
+    (rw begun at c.rewrite.ensures.survives) c.commit.ensures.survives (λ clean text may. (rw begun at c.in-Ok.ensures.ok) clean refl text (λ up. by_format text (state g.S.Store c.args.conn.now) _ (c.has_heads-in_cells.ensures ∙ ap (λ s. is_some (table_named s (codes "head"))) c.schema.ensures.value) (may up))))
 
 pub returns-in-Ok-commit-clause-ok : goal.returns-in-Ok-commit-clause-ok
 returns-in-Ok-commit-clause-ok g c =
     let old = state g.S.Store c.args.conn.now in
     let last = state g.S.Store c.rewrite.new.tx.conn.now in
     let begun = c.transaction-tx.ensures.begun in
-    let lines = after_changes (changes_view c.args.changes.now) empty in
+    let lines = after_cell_changes (changes_view c.args.changes.now) empty in
     let same : c.commit.new.self.0 ≡ c.conn-2-1.given.0 = search rules in
     subst (λ h. HasCleanDisk (state g.S.Store h) → (text : List ℕ) → MayBeStored text old → Rewrites c.args.schema.now lines old (state g.S.Store h)) same (λ clean text may.
     let late : HasCleanDisk last = omega (arith, c.commit.ensures.survives.clean) in
     let shows = (c.in-Ok-commit.ensures.ok clean).1 in
     rewritten g.S.Store c.args.conn.now last (state g.S.Store c.commit.new.self.0) (c.is_autocommit.ensures.settled c.if-not-is_autocommit.false) c.args.schema.now lines
-    ((rw begun at c.in-Ok.ensures.ok) late refl text may) shows.was_open shows.is_open shows.now_is shows.committed_is)
+    ((rw begun at c.in-Ok.ensures.ok) late refl text (λ up. by_format text old _ (c.has_heads-in_cells.ensures ∙ ap (λ s. is_some (table_named s (codes "head"))) c.schema.ensures.value) (may up))) shows.was_open shows.is_open shows.now_is shows.committed_is)

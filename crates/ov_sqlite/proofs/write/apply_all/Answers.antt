@@ -1,11 +1,11 @@
-use Rattle.std.proofs.Common.{◌≡◌, ◌+◌, refl, subst, arith, take, ◌∙◌}
+use Rattle.std.proofs.Common.{◌≡◌, ◌+◌, ap, sym, refl, subst, arith, take, ◌∙◌}
 use Rattle.std.proofs.lemmas.List.{take_all}
-use Rattle.ov_sqlite.specs.Changing.{Makes}
+use Rattle.ov_sqlite.specs.Changing.{Makes, Becomes}
 use Rattle.sqlite.specs.State.{HasCleanDisk}
 use Rattle.sqlite.specs.Held.{state}
-use Rattle.ov_specs.specs.rows.Lines.{after_changes, after_change}
+use Rattle.ov_specs.specs.rows.Cells.{after_cell_changes, after_cell_change}
 use Rattle.ov_keeper.specs.Views.{change_view, changes_view}
-use Rattle.ov_keeper.proofs.LineLemmas.{after_changes-take}
+use Rattle.ov_keeper.proofs.LineLemmas.{after_cell_changes-take}
 use Rattle.ov_sqlite.proofs.RunLemmas.{makes_none, makes_then, keeps_now, keeps_then, nothing_now, nothing_then}
 use Rattle.ov_sqlite.proofs.write.apply_all.Goals as goal
 
@@ -16,7 +16,7 @@ loop-change-init g c = record {
   goes_on = λ clean mode. mode;
   kept = λ clean mode. keeps_now _;
   opened = λ clean mode none. absurd (omega arith);
-  makes = λ clean mode text may. makes_none text _ _ mode may (λ m. refl);
+  makes = λ clean mode text may. makes_none text _ _ mode may refl;
 }
 
 pub loop-change-preserved : goal.loop-change-preserved
@@ -37,8 +37,8 @@ loop-change-preserved g c =
           let early : HasCleanDisk mid = omega (arith, c.apply.ensures.survives.clean) in
           let one = c.loop-change.invariant.makes early mode text may in
           let two = c.in_ok-apply.ensures.ok clean one.mode text one.stored in
-          makes_then text (after_changes (changes_view (take i all))) (after_change (change_view c.change-item.result)) (after_changes (changes_view (take (i + 1) all))) _ _ _
-          (λ m. after_changes-take change_view all i c.change-item.result m c.loop-change-test.true c.change-item.is) one two;
+          makes_then text (Becomes (after_cell_changes (changes_view (take i all)))) (Becomes (after_cell_change (change_view c.change-item.result))) (Becomes (after_cell_changes (changes_view (take (i + 1) all)))) _ _ _
+          (λ k l m first then. then ∙ ap (after_cell_change (change_view c.change-item.result)) first ∙ sym (after_cell_changes-take change_view all i c.change-item.result k c.loop-change-test.true c.change-item.is)) one two;
     }
 
 pub returns-in_err-apply-clause-kept : goal.returns-in_err-apply-clause-kept
@@ -54,4 +54,4 @@ returns-clause-ok g c clean mode text may =
     let old = state g.S.Store c.args.tx.now.conn.now in
     let new = state g.S.Store c.loop-change.tx.conn.now in
     let whole : take i all ≡ all = take_all i all (omega (arith, c.loop-change-test.false)) in
-    subst (λ changes. Makes text (after_changes (changes_view changes)) old new) whole (c.loop-change.invariant.makes clean mode text may)
+    subst (λ changes. Makes text (Becomes (after_cell_changes (changes_view changes))) old new) whole (c.loop-change.invariant.makes clean mode text may)

@@ -2,9 +2,9 @@ use Rattle.std.proofs.Common.{◌≡◌, ◌<◌, take, IsTrue}
 use Rattle.sqlite.specs.State.{HasCleanDisk, Survives, KeepsCommit}
 use Rattle.sqlite.specs.Held.{state}
 use Rattle.std.specs.Prelude.{List, ℕ}
-use Rattle.ov_specs.specs.rows.Lines.{after_changes}
+use Rattle.ov_specs.specs.rows.Cells.{after_cell_changes}
 use Rattle.ov_keeper.specs.Views.{changes_view}
-use Rattle.ov_sqlite.specs.Changing.{MayBeStored, Makes}
+use Rattle.ov_sqlite.specs.Changing.{MayHoldCells, Makes, Becomes}
 use Rattle.ov_sqlite.proofs.write.apply_all.Given as goal
 
 abbrev pub invariant-loop-change : goal.invariant-loop-change
@@ -17,5 +17,5 @@ invariant-loop-change g l =
       goes_on : HasCleanDisk now → IsTrue old.in_transaction → IsTrue now.in_transaction;
       kept : HasCleanDisk now → IsTrue old.in_transaction → KeepsCommit old now;
       opened : HasCleanDisk now → IsTrue old.in_transaction → 0 < l.change-index → IsTrue old.is_open;
-      makes : HasCleanDisk now → IsTrue old.in_transaction → (text : List ℕ) → MayBeStored text old → Makes text (after_changes (changes_view (take l.change-index l.changes))) old now;
+      makes : HasCleanDisk now → IsTrue old.in_transaction → (text : List ℕ) → MayHoldCells text old → Makes text (Becomes (after_cell_changes (changes_view (take l.change-index l.changes)))) old now;
     }

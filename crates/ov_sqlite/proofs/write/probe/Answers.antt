@@ -1,12 +1,7 @@
 use Rattle.sqlite.specs.Held.{state}
-use Rattle.ov_sqlite.proofs.RunLemmas.{prepared_keeps, prepared_stored}
+use Rattle.ov_sqlite.proofs.RunLemmas.{prepared_keeps}
 use Rattle.ov_sqlite.proofs.ReadLemmas.{prepared_as_before}
 use Rattle.ov_sqlite.proofs.write.probe.Goals as goal
-
-pub returns-clause-kept : goal.returns-clause-kept
-returns-clause-kept g c clean text may =
-    prepared_stored text (λ s. _) (state g.S.Store c.args.conn.now) (state g.S.Store c.prepare.new.self) _ c.prepare.result (c.prepare.ensures.ok clean) (c.prepare.ensures.err clean) may
-    (c.is_autocommit.ensures.settled c.if-not-is_autocommit.false)
 
 pub returns-clause-unmoved : goal.returns-clause-unmoved
 returns-clause-unmoved g c clean =

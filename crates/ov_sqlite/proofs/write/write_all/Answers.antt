@@ -5,13 +5,16 @@ use Rattle.sqlite.specs.Held.{state}
 use Rattle.sqlite.proofs.StateLemmas.{survives_then}
 use Rattle.sqlite.proofs.Callers.{survives_begin}
 use Rattle.std.specs.Prelude.{List, ℕ}
-use Rattle.ov_specs.specs.rows.Lines.{after_changes}
+use Rattle.ov_specs.specs.rows.Cells.{after_cell_changes}
 use Rattle.ov_keeper.specs.Views.{changes_view}
-use Rattle.ov_sqlite.specs.Format.{stored_lines}
+use Rattle.ov_sqlite.specs.Format.{stored_cells}
 use Rattle.sqlite.specs.Effect.{Database}
-use Rattle.ov_sqlite.specs.Changing.{IsStored, MayBeStored, KeepsOthers, Stores, IsCommitImage}
-use Rattle.ov_sqlite.specs.Format.{rows_of_meta, rows_of_line}
-use Rattle.ov_sqlite.proofs.RunLemmas.{nothing_now, nothing_then, keeps_now, keeps_then, rolled_keeps, stored_again, survives_as, commit_fails_keeps, commit_fails_stored}
+use Rattle.ov_sqlite.specs.Changing.{HoldsCells, MayHoldCells, KeepsOthers, Stores, IsCommitImage}
+use Rattle.ov_sqlite.specs.Tables.{row_trees}
+use Rattle.ov_sqlite.specs.Querying.{IsAsBefore}
+use Rattle.ov_sqlite.proofs.RewriteLemmas.{rolled_same, refused_same}
+use Rattle.ov_sqlite.specs.Format.{rows_of_meta}
+use Rattle.ov_sqlite.proofs.RunLemmas.{nothing_now, nothing_then, keeps_now, keeps_then, rolled_keeps, survives_as, commit_fails_keeps}
 use Rattle.ov_sqlite.proofs.write.write_all.Goals as goal
 
 pub returns-in-Err-commit-clause-crash : goal.returns-in-Err-commit-clause-crash
@@ -20,13 +23,13 @@ returns-in-Err-commit-clause-crash g c =
     let last = c.apply_all.new.tx.conn.now in
     let end = c.commit.new.self.0 in
     let begun = c.transaction-tx.ensures.begun in
-    let P = λ (trees : Trees). (text : List ℕ) → MayBeStored text (state g.S.Store old) → IsCommitImage (after_changes (changes_view c.args.changes.now)) (state g.S.Store old) trees in
+    let P = λ (trees : Trees). (text : List ℕ) → MayHoldCells text (state g.S.Store old) → IsCommitImage (after_cell_changes (changes_view c.args.changes.now)) (state g.S.Store old) trees in
     let made = λ (clean : HasCleanDisk (state g.S.Store last)). (rw begun at c.in-Ok.ensures.ok) clean refl in
     let whole = survives_then (state g.S.Store old) (state g.S.Store last) (state g.S.Store end) (λ _. ⊥) (λ db. db ≡ (state g.S.Store last).now.trees) P (λ _ db none. absurd none)
     (λ clean db is text may.
     let late : HasCleanDisk (state g.S.Store last) = omega (arith, c.commit.ensures.survives.clean) in
     let was : IsTrue (state g.S.Store old).is_open = (rw begun at c.in-Ok.ensures.opened) late refl c.requires.some in
-    record { was_open = was; was_settled = c.is_autocommit.ensures.settled c.if-not-is_autocommit.false was; lines_are = ap (λ (t : Trees). stored_lines (rows_of_line t)) is ∙ (made late text may).lines_are; meta = ap (λ (t : Trees). rows_of_meta t) is ∙ (made late text may).meta; others = subst (KeepsOthers (state g.S.Store old).now.schema (state g.S.Store old).now.trees) (sym is) (made late text may).others })
+    record { was_open = was; was_settled = c.is_autocommit.ensures.settled c.if-not-is_autocommit.false was; lines_are = ap (λ (t : Trees). stored_cells t) is ∙ (made late text may).lines_are; meta = ap (λ (t : Trees). rows_of_meta t) is ∙ (made late text may).meta; others = subst (KeepsOthers (row_trees (state g.S.Store old).now.schema) (state g.S.Store old).now.schema (state g.S.Store old).now.trees) (sym is) (made late text may).others })
     (survives_begin g.S.Store old (state g.S.Store last) _ (rw begun at c.apply_all.ensures.survives)) c.commit.ensures.survives in
     let same : end ≡ c.conn-2-1.given.0 = search rules in
     subst (λ h. Survives (state g.S.Store old) (state g.S.Store h) P) same whole
@@ -37,13 +40,13 @@ returns-in-Ok-commit-clause-crash g c =
     let last = c.apply_all.new.tx.conn.now in
     let end = c.commit.new.self.0 in
     let begun = c.transaction-tx.ensures.begun in
-    let P = λ (trees : Trees). (text : List ℕ) → MayBeStored text (state g.S.Store old) → IsCommitImage (after_changes (changes_view c.args.changes.now)) (state g.S.Store old) trees in
+    let P = λ (trees : Trees). (text : List ℕ) → MayHoldCells text (state g.S.Store old) → IsCommitImage (after_cell_changes (changes_view c.args.changes.now)) (state g.S.Store old) trees in
     let made = λ (clean : HasCleanDisk (state g.S.Store last)). (rw begun at c.in-Ok.ensures.ok) clean refl in
     let whole = survives_then (state g.S.Store old) (state g.S.Store last) (state g.S.Store end) (λ _. ⊥) (λ db. db ≡ (state g.S.Store last).now.trees) P (λ _ db none. absurd none)
     (λ clean db is text may.
     let late : HasCleanDisk (state g.S.Store last) = omega (arith, c.commit.ensures.survives.clean) in
     let was : IsTrue (state g.S.Store old).is_open = (rw begun at c.in-Ok.ensures.opened) late refl c.requires.some in
-    record { was_open = was; was_settled = c.is_autocommit.ensures.settled c.if-not-is_autocommit.false was; lines_are = ap (λ (t : Trees). stored_lines (rows_of_line t)) is ∙ (made late text may).lines_are; meta = ap (λ (t : Trees). rows_of_meta t) is ∙ (made late text may).meta; others = subst (KeepsOthers (state g.S.Store old).now.schema (state g.S.Store old).now.trees) (sym is) (made late text may).others })
+    record { was_open = was; was_settled = c.is_autocommit.ensures.settled c.if-not-is_autocommit.false was; lines_are = ap (λ (t : Trees). stored_cells t) is ∙ (made late text may).lines_are; meta = ap (λ (t : Trees). rows_of_meta t) is ∙ (made late text may).meta; others = subst (KeepsOthers (row_trees (state g.S.Store old).now.schema) (state g.S.Store old).now.schema (state g.S.Store old).now.trees) (sym is) (made late text may).others })
     (survives_begin g.S.Store old (state g.S.Store last) _ (rw begun at c.apply_all.ensures.survives)) c.commit.ensures.survives in
     let same : end ≡ c.conn-2-1.given.0 = search rules in
     subst (λ h. Survives (state g.S.Store old) (state g.S.Store h) P) same whole
@@ -56,7 +59,7 @@ returns-in-Ok-commit-clause-ok g c =
     let begun = c.transaction-tx.ensures.begun in
     let made = λ (clean : HasCleanDisk (state g.S.Store last)). (rw begun at c.in-Ok.ensures.ok) clean refl in
     let same : end ≡ c.conn-2-1.given.0 = search rules in
-    subst (λ h. HasCleanDisk (state g.S.Store h) → (text : List ℕ) → MayBeStored text (state g.S.Store old) → Stores text (after_changes (changes_view c.args.changes.now)) (state g.S.Store old) (state g.S.Store h)) same (λ clean text may.
+    subst (λ h. HasCleanDisk (state g.S.Store h) → (text : List ℕ) → MayHoldCells text (state g.S.Store old) → Stores text (after_cell_changes (changes_view c.args.changes.now)) (state g.S.Store old) (state g.S.Store h)) same (λ clean text may.
     let late : HasCleanDisk (state g.S.Store last) = omega (arith, c.commit.ensures.survives.clean) in
     let was : IsTrue (state g.S.Store old).is_open = (rw begun at c.in-Ok.ensures.opened) late refl c.requires.some in
     let shows = (c.in-Ok-commit.ensures.ok clean).1 in
@@ -66,24 +69,11 @@ returns-in-Ok-commit-clause-ok g c =
       is_open = shows.is_open;
       was_settled = c.is_autocommit.ensures.settled c.if-not-is_autocommit.false was;
       is_settled = shows.now_is ∙ sym shows.committed_is;
-      stored = subst (IsStored text) (sym shows.now_is) (one.stored shows.was_open);
-      lines_are = ap (λ (d : Database). stored_lines (rows_of_line d.trees)) shows.now_is ∙ one.lines_are;
+      stored = subst (HoldsCells text) (sym shows.now_is) (one.stored shows.was_open);
+      lines_are = ap (λ (d : Database). stored_cells d.trees) shows.now_is ∙ one.lines_are;
       meta = ap (λ (d : Database). rows_of_meta d.trees) shows.now_is ∙ one.meta;
-      others = subst (λ (d : Database). KeepsOthers (state g.S.Store old).now.schema (state g.S.Store old).now.trees d.trees) (sym shows.now_is) one.others;
+      others = subst (λ (d : Database). KeepsOthers (row_trees (state g.S.Store old).now.schema) (state g.S.Store old).now.schema (state g.S.Store old).now.trees d.trees) (sym shows.now_is) one.others;
     })
-
-pub returns-in-Ok-commit-clause-kept : goal.returns-in-Ok-commit-clause-kept
-returns-in-Ok-commit-clause-kept g c =
-    let old = c.args.conn.now in
-    let last = c.apply_all.new.tx.conn.now in
-    let end = c.commit.new.self.0 in
-    let begun = c.transaction-tx.ensures.begun in
-    let made = λ (clean : HasCleanDisk (state g.S.Store last)). (rw begun at c.in-Ok.ensures.ok) clean refl in
-    let same : end ≡ c.conn-2-1.given.0 = search rules in
-    subst (λ h. HasCleanDisk (state g.S.Store h) → (text : List ℕ) → MayBeStored text (state g.S.Store old) → MayBeStored text (state g.S.Store h)) same (λ clean text may up.
-    let late : HasCleanDisk (state g.S.Store last) = omega (arith, c.commit.ensures.survives.clean) in
-    let shows = (c.in-Ok-commit.ensures.ok clean).1 in
-    subst (IsStored text) (sym shows.now_is) ((made late text may).stored shows.was_open))
 
 pub returns-then-not-is_autocommit-clause-before : goal.returns-then-not-is_autocommit-clause-before
 returns-then-not-is_autocommit-clause-before g c before = nothing_now _
@@ -96,9 +86,6 @@ returns-then-not-is_autocommit-clause-crash g c =
 pub returns-then-not-is_autocommit-clause-unmoved : goal.returns-then-not-is_autocommit-clause-unmoved
 returns-then-not-is_autocommit-clause-unmoved g c clean = keeps_now _
 
-pub returns-then-not-is_autocommit-clause-kept : goal.returns-then-not-is_autocommit-clause-kept
-returns-then-not-is_autocommit-clause-kept g c clean text may = may
-
 pub returns-in-Err-commit-clause-unmoved : goal.returns-in-Err-commit-clause-unmoved
 returns-in-Err-commit-clause-unmoved g c =
     let old = c.args.conn.now in
@@ -110,19 +97,6 @@ returns-in-Err-commit-clause-unmoved g c =
     let late : HasCleanDisk (state g.S.Store last) = omega (arith, c.commit.ensures.survives.clean) in
     let kept = (rw begun at c.apply_all.ensures.kept) late refl in
     keeps_then (state g.S.Store old) (state g.S.Store last) (state g.S.Store end) (record { was_open = kept.was_open; committed = kept.committed }) (commit_fails_keeps _ _ _ (c.in-Err-commit.ensures.err clean)))
-
-pub returns-in-Err-commit-clause-kept : goal.returns-in-Err-commit-clause-kept
-returns-in-Err-commit-clause-kept g c =
-    let old = c.args.conn.now in
-    let last = c.apply_all.new.tx.conn.now in
-    let end = c.commit.new.self.0 in
-    let begun = c.transaction-tx.ensures.begun in
-    let same : end ≡ c.conn-2-1.given.0 = search rules in
-    subst (λ h. HasCleanDisk (state g.S.Store h) → (text : List ℕ) → MayBeStored text (state g.S.Store old) → MayBeStored text (state g.S.Store h)) same (λ clean text may.
-    let late : HasCleanDisk (state g.S.Store last) = omega (arith, c.commit.ensures.survives.clean) in
-    let kept = (rw begun at c.apply_all.ensures.kept) late refl in
-    commit_fails_stored text (state g.S.Store old) (state g.S.Store last) (state g.S.Store end) _ may (c.is_autocommit.ensures.settled c.if-not-is_autocommit.false) (record { was_open = kept.was_open; committed = kept.committed })
-    ((rw begun at c.in-Ok.ensures.goes_on) late refl) (c.in-Err-commit.ensures.err clean))
 
 pub returns-in-Err-clause-before : goal.returns-in-Err-clause-before
 returns-in-Err-clause-before g c before =
@@ -139,7 +113,7 @@ returns-in-Err-clause-crash g c =
     let last = c.apply_all.new.tx.conn.now in
     let end = c.drop-tx.new.self.0 in
     let begun = c.transaction-tx.ensures.begun in
-    let P = λ (trees : Trees). (text : List ℕ) → MayBeStored text (state g.S.Store old) → IsCommitImage (after_changes (changes_view c.args.changes.now)) (state g.S.Store old) trees in
+    let P = λ (trees : Trees). (text : List ℕ) → MayHoldCells text (state g.S.Store old) → IsCommitImage (after_cell_changes (changes_view c.args.changes.now)) (state g.S.Store old) trees in
     let same : end ≡ c.conn-1.given.0 = search rules in
     let whole = nothing_then _ _ _ (survives_begin g.S.Store old (state g.S.Store last) _ (rw begun at c.apply_all.ensures.survives)) c.drop-tx.ensures.survives in
     subst (λ h. Survives (state g.S.Store old) (state g.S.Store h) P) same
@@ -157,14 +131,29 @@ returns-in-Err-clause-unmoved g c =
     let kept = (rw begun at c.apply_all.ensures.kept) late refl in
     keeps_then (state g.S.Store old) (state g.S.Store last) (state g.S.Store end) (record { was_open = kept.was_open; committed = kept.committed }) (rolled_keeps _ _ (c.drop-tx.ensures.undone clean)))
 
-pub returns-in-Err-clause-kept : goal.returns-in-Err-clause-kept
-returns-in-Err-clause-kept g c =
-    let old = c.args.conn.now in
-    let last = c.apply_all.new.tx.conn.now in
+pub returns-then-not-is_autocommit-clause-same : goal.returns-then-not-is_autocommit-clause-same
+returns-then-not-is_autocommit-clause-same g c clean = record { was_open = λ up. up; now = λ _. refl }
+
+pub returns-in-Err-clause-same : goal.returns-in-Err-clause-same
+returns-in-Err-clause-same g c =
+    let old = state g.S.Store c.args.conn.now in
+    let last = state g.S.Store c.apply_all.new.tx.conn.now in
     let end = c.drop-tx.new.self.0 in
     let begun = c.transaction-tx.ensures.begun in
     let same : end ≡ c.conn-1.given.0 = search rules in
-    subst (λ h. HasCleanDisk (state g.S.Store h) → (text : List ℕ) → MayBeStored text (state g.S.Store old) → MayBeStored text (state g.S.Store h)) same (λ clean text may.
-    let late : HasCleanDisk (state g.S.Store last) = omega (arith, c.drop-tx.ensures.survives.clean) in
+    subst (λ h. HasCleanDisk (state g.S.Store h) → IsAsBefore old (state g.S.Store h)) same (λ clean.
+    let late : HasCleanDisk last = omega (arith, c.drop-tx.ensures.survives.clean) in
     let kept = (rw begun at c.apply_all.ensures.kept) late refl in
-    stored_again text (state g.S.Store old) (state g.S.Store last) (state g.S.Store end) may (c.is_autocommit.ensures.settled c.if-not-is_autocommit.false) (record { was_open = kept.was_open; committed = kept.committed }) (c.drop-tx.ensures.undone clean))
+    rolled_same g.S.Store c.args.conn.now last (state g.S.Store end) (c.is_autocommit.ensures.settled c.if-not-is_autocommit.false) kept (c.drop-tx.ensures.undone clean))
+
+pub returns-in-Err-commit-clause-same : goal.returns-in-Err-commit-clause-same
+returns-in-Err-commit-clause-same g c =
+    let old = state g.S.Store c.args.conn.now in
+    let last = state g.S.Store c.apply_all.new.tx.conn.now in
+    let end = c.commit.new.self.0 in
+    let begun = c.transaction-tx.ensures.begun in
+    let same : end ≡ c.conn-2-1.given.0 = search rules in
+    subst (λ h. HasCleanDisk (state g.S.Store h) → IsAsBefore old (state g.S.Store h)) same (λ clean.
+    let late : HasCleanDisk last = omega (arith, c.commit.ensures.survives.clean) in
+    refused_same g.S.Store c.args.conn.now last (state g.S.Store end) (c.is_autocommit.ensures.settled c.if-not-is_autocommit.false) _ ((rw begun at c.apply_all.ensures.kept) late refl)
+    ((rw begun at c.in-Ok.ensures.goes_on) late refl) (c.in-Err-commit.ensures.err clean))

@@ -22,5 +22,6 @@ returns-in-Err-open-clause-refused g c =
       again = c.in-Ok.connection;
       opened = λ clean. (c.in-Ok.ensures.opens clean, c.in-Ok.ensures.found clean);
       ours = it.ours;
+      foreign = it.foreign;
       format = λ is clean. it.format clean is;
     }

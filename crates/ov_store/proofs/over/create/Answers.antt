@@ -19,8 +19,9 @@ returns-clause-refused g c =
     let blank = c.requires.blank in
     let old = state g.S.Store c.args.connection in
     IfErr-weaker r _ _ (λ e h. record {
-      ours = (λ is. absurd (h.0.0.0 is (room_of_blank c.args.connection.schema blank)), λ p. absurd (p.0 blank));
-      told = elim h.1.0.0 [ inl is ↦ inl is | inr made ↦ inr (inl (blank, made)) ];
+      ours = λ is. absurd (h.0.0.0 is (room_of_blank c.args.connection.schema blank));
+      foreign = λ some none. absurd (some blank);
+      told = elim h.1.0.0 [ inl is ↦ absurd (h.0.0.0 is (room_of_blank c.args.connection.schema blank)) | inr made ↦ inr (inl (blank, made)) ];
       tables = λ is. absurd (h.0.1 is);
       format = λ is. absurd (h.0.1 is);
       same = h.1.0.1;

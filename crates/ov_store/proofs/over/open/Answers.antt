@@ -27,10 +27,11 @@ returns-clause-refused g c =
     let some = c.requires.some in
     let old = state g.S.Store c.args.connection in
     IfErr-weaker r _ _ (λ e h text. record {
-      ours = (λ is. (some, h.0.0.0 is), λ p. h.0.0.1 p.1);
-      told = elim h.1.0.0 [ inl is ↦ inl is | inr tested ↦ inr (inr tested) ];
+      ours = λ is. (some, h.0.0.0 is);
+      foreign = λ _ none. h.0.0.1 none;
+      told = elim h.1.0.0 [ inl it ↦ inl (it.0, some, it.1) | inr tested ↦ inr (inr tested) ];
       tables = h.0.1;
       format = λ is clean. h.1.0.1 clean is;
       same = h.1.1.0;
       crash = survives_as old (state g.S.Store e.connection) _ _ h.1.1.1 (λ clean db found. elim (h.1.1.1.crash clean db found) [ inl was ↦ inl was | inr none ↦ absurd none ]);
-    }) (err_pair r _ _ (err_pair r _ _ it.ours it.format_tables) (err_pair r _ _ (err_pair r _ _ it.told it.format) (err_pair r _ _ it.same_refused it.survives_refused)))
+    }) (err_pair r _ _ (err_pair r _ _ (err_pair r _ _ it.ours it.foreign) it.format_tables) (err_pair r _ _ (err_pair r _ _ it.told it.format) (err_pair r _ _ it.same_refused it.survives_refused)))

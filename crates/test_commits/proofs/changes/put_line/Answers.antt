@@ -1,6 +1,6 @@
 use Rattle.std.proofs.Common.{◌≡◌, Some, sym, ap, subst, ◌∙◌}
 use Rattle.std.specs.FinMap.{insert}
-use Rattle.ov_keeper.specs.Views.{line_entry}
+use Rattle.ov_db.specs.Loading.{whole_entry}
 use Rattle.ov_db.specs.Stored.{row_stored}
 use Rattle.ov_specs.specs.rows.Database.{Database, Row, Columns}
 use Rattle.ov_specs.specs.rows.Lines.{LineKey}
@@ -14,7 +14,7 @@ use Rattle.test_commits.proofs.changes.put_line.Goals as goal
 pub finished-requires-clause-suits : goal.finished-requires-clause-suits
 finished-requires-clause-suits g c =
     let schema = c.args.db.now.schema in
-    let entry = line_entry c.args.line.now in
+    let entry = whole_entry c.args.line.now in
     let row : Row = c.in_ok-row.row in
     let stored = subst (λ (x : Schema). row_stored x entry.0 entry.1 ≡ Some row) c.schema.ensures c.in_ok-row.ensures in
     let key : c.in_ok-key.key ≡ entry.0 = c.in_ok-key.ensures ∙ ap (λ table. (table, c.args.line.now.id)) c.as_str.ensures in

@@ -1,4 +1,5 @@
 use Rattle.std.proofs.Common.{refl}
+use Rattle.ov_core.proofs.Opening.{unsealed_held}
 use Rattle.ov_core.proofs.Steps.{has_none, follows_none}
 use Rattle.ov_core.proofs.machine.Core.open.Goals as goal
 
@@ -15,5 +16,6 @@ returns-clause-opened g c =
       start = follows_none c.args.schema c.in_ok-database.database _ c.in_ok-database.ensures.rest.0 c.in_ok-database.ensures.rest.1 refl places.history refl;
       none_open = refl;
       schema_is = c.in_ok-database.ensures.rest.0;
-      opens = record { version = it.version; drawn = it.drawn; held = it.held; left = it.left; honest = it.honest };
+      opens = record { version = it.version; drawn = it.drawn; another = it.another; held = it.held; left = it.left; honest = it.honest };
+      found = λ now held here. unsealed_held c.args.schema c.in_ok-database.database held c.in_ok-database.ensures.rest.0 c.in_ok-database.ensures.rest.1 (c.shows_left.ensures.held now held here);
     })

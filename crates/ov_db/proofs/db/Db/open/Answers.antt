@@ -1,12 +1,5 @@
-use mathlib.Core.Logic.{inl}
-use Rattle.ov_db.proofs.Loads.{lines_of_rows}
 use Rattle.ov_db.proofs.db.Db.open.Goals as goal
 
 pub invariant_of-result : goal.invariant_of-result
-invariant_of-result g c = (
-  (λ honest held leaves.
-      let can = c.in-Ok.ensures.ok honest held (c.in-Ok.ensures.same honest held leaves) in
-      (can.same_schema, inl (lines_of_rows c.args.schema held.lines c.in-Ok.resident.rows can.rows))),
-  c.in-Ok.ensures.kept,
-  c.in-Ok.ensures.beside,
-)
+invariant_of-result g c =
+    (c.in-Ok.ensures.opens.format, c.in-Ok.ensures.opens.found, c.in-Ok.ensures.opens.kept, c.in-Ok.ensures.beside)

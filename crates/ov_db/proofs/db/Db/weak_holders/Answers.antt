@@ -11,18 +11,18 @@ returns-in_err-holders g c =
     let to = c.args.to.now in
     let unlisted = ap (λ (h : Holders). get h to) (sym c.weak.ensures) ∙ sym c.in_err-holders.ensures in
     ap (λ o. option_map keys (option_copied o)) c.from_residual.ensures
-    ∙ rw (← c.self.view_is) (weak_unlisted inside.schema inside.resident.rows inside.resident.links c.self.invariant.2.links to unlisted)
+    ∙ rw (← c.self.view_is) (weak_unlisted inside.schema inside.resident.rows inside.resident.links c.self.invariant.3.links to unlisted)
 
 pub returns-then-is_empty : goal.returns-then-is_empty
 returns-then-is_empty g c =
     let inside = c.self.inside in
     let to = c.args.to.now in
     let listed = ap (λ (h : Holders). get h to) (sym c.weak.ensures) ∙ sym c.in_ok-holders.ensures in
-    rw (← c.self.view_is) (weak_none inside.schema inside.resident.rows inside.resident.links c.self.invariant.2.links to c.in_ok-holders.holders.now listed (sym c.if-is_empty.ensures))
+    rw (← c.self.view_is) (weak_none inside.schema inside.resident.rows inside.resident.links c.self.invariant.3.links to c.in_ok-holders.holders.now listed (sym c.if-is_empty.ensures))
 
 pub returns-else-is_empty : goal.returns-else-is_empty
 returns-else-is_empty g c =
     let inside = c.self.inside in
     let to = c.args.to.now in
     let listed = ap (λ (h : Holders). get h to) (sym c.weak.ensures) ∙ sym c.in_ok-holders.ensures in
-    rw (← c.self.view_is) (weak_some inside.schema inside.resident.rows inside.resident.links c.self.invariant.2.links to c.in_ok-holders.holders.now listed (sym c.if-is_empty.ensures))
+    rw (← c.self.view_is) (weak_some inside.schema inside.resident.rows inside.resident.links c.self.invariant.3.links to c.in_ok-holders.holders.now listed (sym c.if-is_empty.ensures))

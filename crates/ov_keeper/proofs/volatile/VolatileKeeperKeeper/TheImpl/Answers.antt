@@ -1,11 +1,13 @@
 use Rattle.std.proofs.Common.{rules, refl, ◌∙◌}
 use Rattle.std.proofs.lemmas.Result.{on_ok_weaker}
+use Rattle.ov_keeper.specs.VolatileKeeper.{contents_of}
 use Rattle.ov_keeper.proofs.volatile.VolatileKeeperKeeper.TheImpl.Goals as goal
 
 pub commit-tells : goal.commit-tells
 commit-tells c = record {
-  ok = λ _. on_ok_weaker c.result (λ made held is. (c.args.self.now, refl, is ∙ made)) c.ensures.made;
+  ok = λ _. on_ok_weaker c.result (λ made held is. (contents_of c.args.self.now, refl, is ∙ made)) c.ensures.made;
   err = search rules;
+  same_format = search rules;
   kinds = search rules;
   cause = search rules;
   counts = search rules;
@@ -14,8 +16,10 @@ commit-tells c = record {
 
 pub rewrite-tells : goal.rewrite-tells
 rewrite-tells c = record {
-  ok = λ _. on_ok_weaker c.result (λ made held is. (c.args.self.now, refl, is ∙ made)) c.ensures.made;
+  ok = λ _. on_ok_weaker c.result (λ made held is. (contents_of c.args.self.now, refl, is ∙ made)) c.ensures.made;
   err = search rules;
+  new_format = search rules;
+  same_format = search rules;
   kinds = search rules;
   cause = search rules;
   counts = search rules;

@@ -1,9 +1,11 @@
-use Rattle.std.proofs.Common.{◌≡◌, inl, refl, sym, subst, IsTrue, false}
+use Rattle.std.proofs.Common.{◌≡◌, ◌≤◌, ℕ, inl, inr, refl, sym, ap, subst, arith, IsTrue, false}
 use Rattle.sqlite.specs.Held.{state}
+use Rattle.ov_specs.specs.rows.Cells.{Stored, format_of}
 use Rattle.ov_keeper.specs.Keeping.{IsCommitFault}
 use Rattle.ov_sqlite.specs.Tables.{HasRoom}
 use Rattle.ov_sqlite.specs.Making.{MayMake}
-use Rattle.ov_store.proofs.FoundLemmas.{at_rest, new_found, new_beside}
+use Rattle.ov_store.proofs.FoundLemmas.{new_found, new_beside}
+use Rattle.ov_store.proofs.FormatLemmas.{text_stored}
 use Rattle.ov_sqlite.proofs.RunLemmas.{nothing_now, survives_as}
 use Rattle.ov_store.proofs.store.Store.create.Goals as goal
 
@@ -13,6 +15,13 @@ returns-in-Ok-clause-ok g c clean contents found =
     let room : HasRoom c.args.connection.schema = subst HasRoom c.schema.ensures.value (c.has_room.ensures.0 c.if-not-has_room.false) in
     let may : MayMake old = λ up. (room, (c.schema.ensures.live up).0) in
     new_found g.S.Store g.met.S.Store.settled g.met.S.Store.stays c.args.schema old c.make_new.new.conn (c.in-Ok.ensures.ok clean may) contents found
+
+pub returns-in-Ok-clause-of_format : goal.returns-in-Ok-clause-of_format
+returns-in-Ok-clause-of_format g c clean contents found =
+    let old = state g.S.Store c.args.connection in
+    let room : HasRoom c.args.connection.schema = subst HasRoom c.schema.ensures.value (c.has_room.ensures.0 c.if-not-has_room.false) in
+    let may : MayMake old = λ up. (room, (c.schema.ensures.live up).0) in
+    ap (λ (s : Stored). format_of s.lines) (new_found g.S.Store g.met.S.Store.settled g.met.S.Store.stays c.args.schema old c.make_new.new.conn (c.in-Ok.ensures.ok clean may) contents found)
 
 pub returns-in-Ok-clause-beside : goal.returns-in-Ok-clause-beside
 returns-in-Ok-clause-beside g c clean =
@@ -45,7 +54,15 @@ pub invariant_of-result : goal.invariant_of-result
 invariant_of-result g c =
     let room : HasRoom c.args.connection.schema = subst HasRoom c.schema.ensures.value (c.has_room.ensures.0 c.if-not-has_room.false) in
     let may : MayMake (state g.S.Store c.args.connection) = λ up. (room, (c.schema.ensures.live up).0) in
-    (c.make_new.ensures.mode, λ clean. at_rest c.args.schema (state g.S.Store c.make_new.new.conn) (λ up. (c.in-Ok.ensures.ok clean may).stored))
+    let new = c.make_new.new.conn in
+    record {
+      mode = c.make_new.ensures.mode;
+      known = inr refl;
+      stored = λ clean up. text_stored 2 c.args.schema (state g.S.Store new).now (inr (refl, (c.in-Ok.ensures.ok clean may).stored));
+      found = λ clean s here.
+          let is = new_found g.S.Store g.met.S.Store.settled g.met.S.Store.stays c.args.schema (state g.S.Store c.args.connection) new (c.in-Ok.ensures.ok clean may) s here in
+          subst (λ (n : ℕ). 2 ≤ n) (sym (ap (λ (t : Stored). format_of t.lines) is)) (omega arith);
+    }
 
 pub returns-clause-honest : goal.returns-clause-honest
 returns-clause-honest g c = tt

@@ -1,0 +1,117 @@
+-- The columns that a body has, added one by one, are those of the row that it is.
+use Rattle.std.proofs.Common.{◌≡◌, ℕ, List, [], ◌∷◌, Bool, true, false, cond, T, Option, Some, None, option_map, option_and_then, refl, sym, ap, subst, ◌∙◌}
+use Rattle.std.specs.Prelude.{not}
+use Rattle.std.specs.List.{filter}
+use Rattle.std.specs.FinMap.{empty, find, is_sorted, get, insert, entries, entries_sorted, from_entries, get-empty, get-insert, get-from_entries, same_map}
+use Rattle.std.specs.FinMap.Entries.{below_all}
+use Rattle.ov_specs.specs.rows.Database.{Columns}
+use Rattle.ov_specs.specs.rows.Held.{Body, all_results, row_if_stored, row_of_body, value_held}
+use Rattle.ov_specs.specs.rows.RowNames.{is_own_column}
+use Rattle.ov_specs.specs.schema.SchemaTypes.{Column, Table, name_cmp}
+use Rattle.ov_specs.specs.values.Reading.{in_front}
+use Rattle.ov_specs.specs.values.Value.{Datum}
+use Rattle.ov_specs.proofs.laws.Names.{name_cmp_total, name_exact, same_name, find-first_not_later, sorted_rest}
+use Rattle.ov_specs.proofs.laws.Truths.{both_hold, left_holds, right_holds}
+use Rattle.ov_db.specs.Stored.{RowBody, columns_stored, row_of_table, value_stored}
+
+abbrev Values : Type 0
+Values = List (List ℕ × Datum)
+
+-- each value is put, in order
+abbrev put_all : Values → Columns → Columns
+put_all [] columns = columns
+put_all (v ∷ vs) columns = put_all vs (insert columns v.0 v.1)
+
+abbrev or_value : Option Datum → Option Datum → Option Datum
+or_value (Some datum) old = Some datum
+or_value None old = old
+
+in_turn : (b : Bool) (datum : Datum) (rest old : Option Datum) → (b ≡ true → rest ≡ None) → or_value rest (cond b (Some datum) old) ≡ or_value (cond b (Some datum) rest) old
+in_turn true datum rest old h = rw (h refl) refl
+in_turn false datum rest old h = refl
+
+get-put_all : (vs : Values) (columns : Columns) (q : List ℕ) → T (is_sorted name_cmp vs) → get (put_all vs columns) q ≡ or_value (find name_cmp q vs) (get columns q)
+get-put_all [] columns q h = refl
+get-put_all (v ∷ vs) columns q h =
+    get-put_all vs (insert columns v.0 v.1) q (sorted_rest v vs h) ∙ ap (or_value (find name_cmp q vs)) (get-insert name_cmp_total columns v.0 v.1 q)
+    ∙ in_turn (same_name q v.0) v.1 (find name_cmp q vs) (get columns q) (find-first_not_later v vs q h)
+
+or_nothing : (o : Option Datum) → or_value o None ≡ o
+or_nothing (Some datum) = refl
+or_nothing None = refl
+
+put_all-from : (vs : Values) → T (is_sorted name_cmp vs) → put_all vs empty ≡ from_entries vs
+put_all-from vs h = same_map name_cmp_total name_exact _ _ (λ q.
+    get-put_all vs empty q h ∙ ap (or_value (find name_cmp q vs)) (get-empty name_cmp q) ∙ or_nothing (find name_cmp q vs) ∙ sym (get-from_entries name_cmp_total vs q))
+
+module _ (body : Body) where
+  abbrev kept : List (List ℕ × Column) → List (List ℕ × Column)
+  kept cs = filter (λ c. not (is_own_column c.0)) cs
+
+  abbrev held_all : List (List ℕ × Column) → Option Values
+  held_all cs = all_results (value_held body) (kept cs)
+
+  -- ---- the values are those that were added
+
+  one_more : (c : List ℕ × Column) (cs : List (List ℕ × Column)) (before : Columns) → ((more : Columns) → columns_stored body cs more ≡ option_map (λ vs. put_all vs more) (held_all cs))
+      → columns_stored body (c ∷ cs) before ≡ option_map (λ vs. put_all vs before) (held_all (c ∷ cs))
+  one_more c cs before next = by (is_own_column c.0)
+    where
+      by_rest : (datum : Datum) (r : Option Values) → option_map (λ vs. put_all vs (insert before c.0 datum)) r ≡ option_map (λ vs. put_all vs before) (in_front (Some (c.0, datum)) r)
+      by_rest datum None = refl
+      by_rest datum (Some vs) = refl
+
+      by_value : (o : Option Datum) → option_and_then (λ datum. columns_stored body cs (insert before c.0 datum)) o ≡ option_map (λ vs. put_all vs before) (in_front (option_map (λ datum. (c.0, datum)) o) (held_all cs))
+      by_value None = refl
+      by_value (Some datum) = next (insert before c.0 datum) ∙ by_rest datum (held_all cs)
+
+      by : (b : Bool) → cond b (columns_stored body cs before) (option_and_then (λ datum. columns_stored body cs (insert before c.0 datum)) (value_stored body c))
+          ≡ option_map (λ vs. put_all vs before) (all_results (value_held body) (cond (not b) (c ∷ kept cs) (kept cs)))
+      by true = next before
+      by false = by_value (value_stored body c)
+
+  added_all : (cs : List (List ℕ × Column)) (before : Columns) → columns_stored body cs before ≡ option_map (λ vs. put_all vs before) (held_all cs)
+  added_all [] before = refl
+  added_all (c ∷ cs) before = one_more c cs before (λ more. added_all cs more)
+
+  -- ---- their names ascend
+
+  -- what holds of the values of a column in front and of the others
+  in_both : (c : List ℕ × Column) (cs : List (List ℕ × Column)) (vs : Values) (P : Values → Type 0) → held_all (c ∷ cs) ≡ Some vs → ((ws : Values) → held_all cs ≡ Some ws → P ws)
+      → ((ws : Values) (datum : Datum) → held_all cs ≡ Some ws → P ((c.0, datum) ∷ ws)) → P vs
+  in_both c cs vs P h others more = by (is_own_column c.0) h
+    where
+      by_rest : (datum : Datum) (r : Option Values) → held_all cs ≡ r → in_front (Some (c.0, datum)) r ≡ Some vs → P vs
+      by_rest datum None is k = cc
+      by_rest datum (Some ws) is k = let same : (c.0, datum) ∷ ws ≡ vs = cc in subst P same (more ws datum is)
+
+      by_value : (o : Option Datum) → in_front (option_map (λ datum. (c.0, datum)) o) (held_all cs) ≡ Some vs → P vs
+      by_value None k = cc
+      by_value (Some datum) k = by_rest datum (held_all cs) refl k
+
+      by : (b : Bool) → all_results (value_held body) (cond (not b) (c ∷ kept cs) (kept cs)) ≡ Some vs → P vs
+      by true k = others vs k
+      by false k = by_value (value_stored body c) k
+
+  below : (name : List ℕ) (cs : List (List ℕ × Column)) (vs : Values) → held_all cs ≡ Some vs → T (below_all name_cmp name cs) → T (below_all name_cmp name vs)
+  below name [] [] h k = tt
+  below name [] (v ∷ vs) h k = cc
+  below name (c ∷ cs) vs h k =
+      in_both c cs vs (λ ws. T (below_all name_cmp name ws)) h (λ ws is. below name cs ws is (right_holds _ _ k)) (λ ws datum is. both_hold _ _ (left_holds _ _ k) (below name cs ws is (right_holds _ _ k)))
+
+  ascend : (cs : List (List ℕ × Column)) (vs : Values) → held_all cs ≡ Some vs → T (is_sorted name_cmp cs) → T (is_sorted name_cmp vs)
+  ascend [] [] h k = tt
+  ascend [] (v ∷ vs) h k = cc
+  ascend (c ∷ cs) vs h k =
+      in_both c cs vs (λ ws. T (is_sorted name_cmp ws)) h (λ ws is. ascend cs ws is (right_holds _ _ k)) (λ ws datum is. both_hold _ _ (below c.0 cs ws is (left_holds _ _ k)) (ascend cs ws is (right_holds _ _ k)))
+
+-- ---- the row
+
+pub row_of_table_is : (table : Table) (stored : RowBody) → row_of_table table stored ≡ row_of_body table stored.0 stored.1
+row_of_table_is table stored =
+    ap (option_and_then (row_if_stored stored.0 stored.1)) (added_all stored.1 (entries table.columns) empty) ∙ by (held_all stored.1 (entries table.columns)) refl
+  where
+    by : (o : Option Values) → held_all stored.1 (entries table.columns) ≡ o
+        → option_and_then (row_if_stored stored.0 stored.1) (option_map (λ vs. put_all vs empty) o) ≡ option_and_then (λ values. row_if_stored stored.0 stored.1 (from_entries values)) o
+    by None is = refl
+    by (Some vs) is = ap (row_if_stored stored.0 stored.1) (put_all-from vs (ascend stored.1 (entries table.columns) vs is (entries_sorted table.columns)))

@@ -1,7 +1,0 @@
-use Rattle.std.proofs.Common.{◌≡◌, take, map}
-use Rattle.ov_keeper.specs.Views.{line_entry}
-use Rattle.ov_sqlite.specs.Format.{entry}
-use Rattle.ov_sqlite.proofs.rows.lines_of.Given as goal
-
-abbrev pub invariant-loop-row : goal.invariant-loop-row
-invariant-loop-row l = map line_entry l.lines.items ≡ map entry (take l.row-index l.rows)

@@ -1,0 +1,163 @@
+//! Machines that are opened over a database of stored format 1.
+
+ghost use Rattle.std.specs.Prelude.{◌≡◌, false};
+
+use crate::conversions::{NOTED, NOTES, ONE, SAME, SELECT};
+use crate::stops::{Before, Case, fails_once, replies_of, stops};
+use ov_core::Core;
+use ov_keeper::Keeper;
+use ov_store::Store;
+use sqlite::{Alter, Connection};
+use std::alloc::Global;
+use std::test::Fail;
+use test_basics::{Counter, NET, is_text, schema_of_text, whole_file};
+
+/// What a machine over a keeper replies when all switches are selected, and the keeper; the hundredth identifier is the next one.
+fn selected<K: Keeper + Drop>(alloc: Global, keeper: K, schema: &str) -> Result<(K, String), Fail> {
+    let schema = schema_of_text(alloc, schema)?;
+    let mut core = Core::open(alloc, keeper, schema, Counter::after(99))?;
+    let replies = replies_of(alloc, &mut core, SELECT)?;
+    Ok((core.into_keeper(), replies))
+}
+
+/// The number of rows that a query gives.
+fn count<S: Alter + Drop>(connection: &mut Connection<S>, query: &str) -> Result<usize, Fail>
+    requires { connection.old.in_transaction ≡ false }
+{
+    Ok(connection.transaction().query_all(query, &[])?.len())
+}
+
+/// The number of rows that a query gives, and the connection.
+fn counted<S: Alter + Drop>(
+    connection: Connection<S>,
+    query: &str,
+) -> Result<(Connection<S>, usize), Fail> {
+    let mut connection = connection;
+    if !connection.is_autocommit() {
+        return Err(Fail::new("in a transaction"));
+    }
+    let rows = count(&mut connection, query)?;
+    Ok((connection, rows))
+}
+
+/// How many rows the tables `line`, `head` and `cell` have.
+fn counts<S: Alter + Drop>(alloc: Global, connection: Connection<S>) -> Result<String, Fail> {
+    let (connection, lines) = counted(connection, "SELECT tbl FROM line")?;
+    let (connection, heads) = counted(connection, "SELECT tbl FROM head")?;
+    let (_, cells) = counted(connection, "SELECT tbl FROM cell")?;
+    Ok(format!(in alloc; "{lines} {heads} {cells}")?)
+}
+
+/// The store of a connection.
+fn store_of<S: Alter + Drop>(alloc: Global, connection: Connection<S>) -> Result<Store<S>, Fail> {
+    if !connection.is_autocommit() {
+        return Err(Fail::new("in a transaction"));
+    }
+    Ok(Store::open(alloc, connection)?)
+}
+
+/// The switches under this schema in the database that these statements make, and how many rows its tables have then.
+fn found<S: Alter + Drop>(
+    alloc: Global,
+    connection: Connection<S>,
+    statements: &str,
+    schema: &str,
+) -> Result<String, Fail> {
+    let mut connection = connection;
+    connection.execute_batch(statements)?;
+    let store = store_of(alloc, connection)?;
+    let (store, replies) = selected(alloc, store, schema)?;
+    let counts = counts(alloc, store.close())?;
+    Ok(format!(in alloc; "{replies}{counts}")?)
+}
+
+/// Fails unless the database of format 1 with one switch under Net replies this under the schema, and then has this many rows.
+fn opens_as(alloc: Global, schema: &str, reply: &str, counts: &str) -> Result<(), Fail> {
+    let statements = whole_file(alloc, NET, ONE)?;
+    let connection = Connection::open_in_memory(alloc)?;
+    let found = found(alloc, connection, statements.as_str(), schema)?;
+    let wanted = format!(in alloc; "{reply}{counts}")?;
+    is_text(alloc, found.as_str(), wanted.as_str())
+}
+
+#[test]
+fn the_same_schema_stores_a_cell_for_each_column(rt: HostRuntime) -> Result<(), Fail> {
+    opens_as(rt.alloc(), NET, SAME, "0 1 4")
+}
+
+#[test]
+fn a_newer_schema_stores_a_cell_for_the_new_column_too(rt: HostRuntime) -> Result<(), Fail> {
+    opens_as(rt.alloc(), NOTES, NOTED, "0 1 5")
+}
+
+/// The first opening of a file of format 1 under a schema, over files that fail. The look is at the rows under Net.
+fn first_opening<'a>(statements: &'a str, schema: &'a str, messages: &'a str) -> Case<'a> {
+    Case {
+        before: Before::Statements(statements),
+        schema,
+        messages,
+        look: r#"{"id":9,"method":"transact","params":["Net",{"op":"select","table":"Switch","where":[],"columns":["_version","name"]}]}"#,
+        answers: "",
+        is_in_full: true,
+        is_opened: false,
+    }
+}
+
+/// The machine is not opened, or it is opened: the row is found in either format, in its own version.
+const KEPT: &str =
+    r#"{"error":null,"id":9,"result":[{"rows":[{"_version":["uuid","00000000-0000-0000-0000-000000000001"],"name":"s1"}]}]}
+
+{"error":null,"id":2,"result":[{"rows":[{"name":"s1"}]}]}
+{"error":null,"id":9,"result":[{"rows":[{"_version":["uuid","00000000-0000-0000-0000-000000000001"],"name":"s1"}]}]}
+
+"#;
+
+/// The message that is taken under the schema Net.
+const NAMES: &str =
+    r#"{"id":2,"method":"transact","params":["Net",{"op":"select","table":"Switch","where":[],"columns":["name"]}]}"#;
+
+#[test]
+fn a_stopped_first_opening_leaves_the_rows(rt: HostRuntime) -> Result<(), Fail> {
+    let statements = whole_file(rt.alloc(), NET, ONE)?;
+    let case = first_opening(statements.as_str(), NET, NAMES);
+    stops(rt.alloc(), &case, KEPT)
+}
+
+#[test]
+fn a_first_opening_that_fails_once_leaves_the_rows(rt: HostRuntime) -> Result<(), Fail> {
+    let statements = whole_file(rt.alloc(), NET, ONE)?;
+    let case = first_opening(statements.as_str(), NET, NAMES);
+    fails_once(rt.alloc(), &case, KEPT)
+}
+
+/// The machine is not opened, and the database is the stored one, or the converted one, which Net does not open; or the machine
+/// is opened.
+const CONVERTED: &str =
+    r#"{"error":null,"id":9,"result":[{"rows":[{"_version":["uuid","00000000-0000-0000-0000-000000000001"],"name":"s1"}]}]}
+
+
+{"error":null,"id":2,"result":[{"rows":[{"name":"s1","note":""}]}]}
+
+"#;
+
+/// The message that is taken under the newer schema.
+const NAMES_AND_NOTES: &str =
+    r#"{"id":2,"method":"transact","params":["Net",{"op":"select","table":"Switch","where":[],"columns":["name","note"]}]}"#;
+
+#[test]
+fn a_stopped_conversion_of_format_1_leaves_the_stored_or_the_converted_database(
+    rt: HostRuntime,
+) -> Result<(), Fail> {
+    let statements = whole_file(rt.alloc(), NET, ONE)?;
+    let case = first_opening(statements.as_str(), NOTES, NAMES_AND_NOTES);
+    stops(rt.alloc(), &case, CONVERTED)
+}
+
+#[test]
+fn a_conversion_of_format_1_that_fails_once_leaves_the_stored_or_the_converted_database(
+    rt: HostRuntime,
+) -> Result<(), Fail> {
+    let statements = whole_file(rt.alloc(), NET, ONE)?;
+    let case = first_opening(statements.as_str(), NOTES, NAMES_AND_NOTES);
+    fails_once(rt.alloc(), &case, CONVERTED)
+}
