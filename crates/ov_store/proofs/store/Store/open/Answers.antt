@@ -80,3 +80,9 @@ invariant_of-result g c =
           let of = ap (λ (t : Stored). format_of t.lines) (found_is g.S.Store g.met.S.Store.settled g.met.S.Store.stays old it.0 settled s before) ∙ stored_format c.in-Ok.format c.in-Ok._text (state g.S.Store old).now it.1 in
           omega (arith, is, of);
     }
+
+pub returns-in-Ok-clause-tables : goal.returns-in-Ok-clause-tables
+returns-in-Ok-clause-tables g c = subst HasOurTables c.schema.ensures.value (c.is_ours.ensures.0 c.if-not-is_ours.false)
+
+pub returns-in-Err-clause-format_tables : goal.returns-in-Err-clause-format_tables
+returns-in-Err-clause-format_tables g c is = subst HasOurTables c.schema.ensures.value (c.is_ours.ensures.0 c.if-not-is_ours.false)
