@@ -1,29 +1,28 @@
 -- The rows that `head` and `cell` are, as a map, and what a change of either table makes of it.
-use Rattle.std.proofs.Common.{◌≡◌, ℕ, ℤ, List, [], ◌∷◌, map, filter, find, cond, Bool, true, false, not, ◌&&◌, ◌||◌, Option, Some, None, IfSome, option_map, refl, sym, ap, ap₂, subst, ◌∙◌}
-use Rattle.std.specs.List.{AllByRecursion, list_any, list_all}
-use Rattle.std.specs.Ordering.{nat_cmp, eq_by_cmp}
+use Rattle.std.proofs.Common.{◌≡◌, ℕ, List, [], ◌∷◌, map, filter, find, cond, Bool, true, false, not, ◌&&◌, ◌||◌, Option, Some, None, IfSome, option_map, refl, sym, ap, ap₂, subst, ◌∙◌}
+use Rattle.std.specs.List.{AllByRecursion, list_any}
+use Rattle.std.specs.Ordering.{eq_by_cmp}
 use Rattle.std.specs.Cmp.{IsTotalOrder, eq_by_cmp_equiv}
-use Rattle.std.specs.Cmp.Lexicographic.{slice_cmp, nat_list_cmp_total}
-use Rattle.std.specs.FinMap.{FinMap, empty, get, insert, remove, from_entries, find as entry_at, get-empty, get-from_entries, get-insert, get-remove, same_map, nat_cmp-IsAntisymmetric, slice_cmp-IsAntisymmetric}
+use Rattle.std.specs.Cmp.Lexicographic.{nat_list_cmp_total}
+use Rattle.std.specs.FinMap.{empty, get, insert, remove, find as entry_at, get-empty, get-from_entries, get-insert, get-remove, same_map, nat_cmp-IsAntisymmetric, slice_cmp-IsAntisymmetric}
 use Rattle.std.proofs.lemmas.Bool.{and_parts, and_from}
 use Rattle.std.proofs.lemmas.Map.Lookups.{CmpEqualImpliesEq}
 use Rattle.sqlite.specs.Order.{Row, column}
 use Rattle.sqlite_value.specs.Order.{bytes}
 use Rattle.sqlite_trees.specs.Tree.{put_row}
-use Rattle.sqlite_trees.proofs.ListLemmas.{all_weaker, all_both}
+use Rattle.sqlite_trees.proofs.ListLemmas.{all_weaker}
 use Rattle.sqlite_rules.specs.Edit.{is_taken}
 use Rattle.sqlite_rules.specs.Lists.{Has}
 use Rattle.sqlite_rules.proofs.ListLemmas.{all_has, all_from}
 use Rattle.ov_specs.specs.rows.Database.{same_key}
 use Rattle.ov_specs.specs.rows.Lines.{LineKey, line_cmp}
-use Rattle.ov_specs.specs.rows.Cells.{Cells, CellLine, CellLines, cells_at, cell_lines, have_heads}
+use Rattle.ov_specs.specs.rows.Cells.{CellLine, cells_at, cell_lines, have_heads}
 use Rattle.ov_specs.specs.schema.SchemaTypes.{name_cmp}
-use Rattle.ov_specs.specs.values.Uuid.{Uuid}
 use Rattle.ov_specs.proofs.laws.LineKeys.{key_total, key_exact, tied_same, same_tied, same_key-tied}
 use Rattle.ov_specs.proofs.laws.Truths.{equal_is}
-use Rattle.ov_sqlite.specs.Format.{row_key, head_of, cell_of}
-use Rattle.ov_sqlite.proofs.RowLemmas.{has_key}
-use Rattle.ov_sqlite.proofs.PutLemmas.{find_put, find_kept, find_gone, none_passes, passes_none, any_put}
+use Rattle.ov_tables.specs.Format.{row_key, head_of, cell_of}
+use Rattle.ov_tables.proofs.RowLemmas.{has_key}
+use Rattle.ov_sqlite.proofs.PutLemmas.{find_put, find_kept, find_gone, none_passes, passes_none}
 
 -- ---- the order of names
 

@@ -1,32 +1,31 @@
 -- What the statements make of a database of stored format 2.
-use Rattle.std.proofs.Common.{◌≡◌, ℕ, ℤ, List, [], ◌∷◌, map, filter, find, length, Bool, true, false, not, ◌&&◌, ◌||◌, Option, Some, None, IfSome, IsTrue, IsUtf8, Ok, codes, refl, sym, ap, subst, ◌∙◌, option_map}
-use Rattle.std.specs.List.{AllByRecursion, list_any}
+use Rattle.std.proofs.Common.{◌≡◌, ℕ, ℤ, List, [], ◌∷◌, map, find, length, Bool, true, false, ◌||◌, Option, Some, None, IfSome, IsTrue, IsUtf8, Ok, codes, refl, sym, ap, subst, ◌∙◌}
+use Rattle.std.specs.List.{AllByRecursion}
 use Rattle.std.specs.FinMap.{empty, get, insert, remove}
 use Rattle.sqlite.specs.declared.types.Value.TheVariants.{Text, Blob}
 use Rattle.sqlite.specs.Order.{Row, column}
-use Rattle.sqlite_value.specs.Order.{bytes}
 use Rattle.sqlite_trees.specs.Tree.{put_row}
 use Rattle.sqlite_trees.proofs.TreeLemmas.{all-put_row}
 use Rattle.sqlite_trees.proofs.ListLemmas.{all_weaker, all_both, all-filter}
-use Rattle.sqlite.specs.Effect.{Database, IsDatabase}
 use Rattle.sqlite.specs.State.{State, Executes}
 use Rattle.ov_specs.specs.rows.Lines.{LineKey}
 use Rattle.ov_specs.specs.rows.Cells.{CellLine, CellLines, cell_lines}
-use Rattle.ov_sqlite.specs.Tables.{meta_table, head_table, cell_table, tree_of, row_trees, HasCellTables, cell_insert_text, cell_delete_text, head_insert_text, head_delete_text}
-use Rattle.ov_sqlite.specs.Format.{IsMeta, IsKeyed, IsHead, IsCell, row_key, head_of, cell_of, stored_cells, rows_of_meta, rows_of_head, rows_of_cell}
-use Rattle.ov_sqlite.specs.Changing.{HoldsCells, IsNumbered, Makes, Becomes, IsEmptied, IsAdded, is_among}
-use Rattle.ov_sqlite.proofs.ListingLemmas.{Touches, rows_beside, others_kept}
-use Rattle.ov_sqlite.proofs.Statements.{key_terms, head_insert_terms, cell_insert_terms, head_insert_parsed, cell_insert_parsed, head_delete_parsed, cell_delete_parsed}
-use Rattle.ov_sqlite.proofs.HeadTexts.{head_insert_is, head_delete_is}
-use Rattle.ov_sqlite.proofs.CellTexts.{cell_insert_is, cell_delete_is}
-use Rattle.ov_sqlite.proofs.RowLemmas.{has_key}
-use Rattle.ov_sqlite.proofs.DeleteLemmas.{deletes}
-use Rattle.ov_sqlite.proofs.InsertLemmas.{inserts, head_row, cell_row, head_adds, cell_adds}
-use Rattle.ov_sqlite.proofs.RemoveLemmas.{left_keyed, filter_numbered, numbered_part}
+use Rattle.ov_tables.specs.Tables.{meta_table, head_table, cell_table, tree_of, row_trees, HasCellTables, cell_insert_text, cell_delete_text, head_insert_text, head_delete_text}
+use Rattle.ov_tables.specs.Format.{IsMeta, IsKeyed, IsHead, IsCell, row_key, head_of, cell_of, stored_cells, rows_of_head, rows_of_cell}
+use Rattle.ov_tables.specs.Holding.{HoldsCells, IsNumbered, is_among}
+use Rattle.ov_sqlite.specs.Changing.{Makes, Becomes, IsEmptied, IsAdded}
+use Rattle.ov_tables.proofs.ListingLemmas.{Touches, rows_beside, others_kept}
+use Rattle.ov_tables.proofs.Statements.{key_terms, head_insert_terms, cell_insert_terms, head_insert_parsed, cell_insert_parsed, head_delete_parsed, cell_delete_parsed}
+use Rattle.ov_tables.proofs.HeadTexts.{head_insert_is, head_delete_is}
+use Rattle.ov_tables.proofs.CellTexts.{cell_insert_is, cell_delete_is}
+use Rattle.ov_tables.proofs.RowLemmas.{has_key}
+use Rattle.ov_tables.proofs.DeleteLemmas.{deletes}
+use Rattle.ov_tables.proofs.InsertLemmas.{inserts, head_row, cell_row, head_adds, cell_adds}
+use Rattle.ov_tables.proofs.RemoveLemmas.{left_keyed, filter_numbered, numbered_part}
 use Rattle.ov_sqlite.proofs.PutLemmas.{not_taken, put_numbered, any_put, none_passes}
 use Rattle.ov_sqlite.proofs.CellLemmas.{others, others_all, IsAbsent, HasHead, heads_each, each_heads, head_stays, head_there, bare, emptied, removed, headed, celled, get_lines, line_at}
 use Rattle.ov_sqlite.proofs.KeyLemmas.{apart_by_key, new_cell}
-use Rattle.ov_sqlite.proofs.MetaLemmas.{first_among, head_not_meta, cell_not_meta, head_not_cell, cell_not_head, meta_not_head, meta_not_cell, itself}
+use Rattle.ov_tables.proofs.MetaLemmas.{first_among, head_not_cell, cell_not_head, meta_not_head, meta_not_cell, itself}
 
 module _ (text : List ℕ) (old new : State) (stored : HoldsCells text old.now) (mode : IsTrue new.in_transaction) (was : IsTrue old.is_open) (committed : new.committed ≡ old.committed) where
   abbrev H : List Row
@@ -158,7 +157,7 @@ module _ (text : List ℕ) (old new : State) (stored : HoldsCells text old.now) 
         let x = cell_row t i name body d.number in
         let fresh = not_taken C x d.fresh in
         let is : IsCell x = record { keyed = keyed_row x d.number refl refl refl; col = name; body = body; col_is = refl; body_is = refl; col_named = col_named } in
-        let table = subst (λ s. Rattle.ov_sqlite.specs.Tables.HasTable s (cell_table c)) (sym d.only.schema) has.cell in
+        let table = subst (λ s. Rattle.ov_tables.specs.Tables.HasTable s (cell_table c)) (sym d.only.schema) has.cell in
         let apart = subst (Rattle.ov_sqlite.proofs.KeyLemmas.AreApart (1 ∷ 2 ∷ 3 ∷ [])) d.rows (apart_by_key new.now (codes "cell") c _ (1 ∷ 2 ∷ 3 ∷ []) table d.only.sound) in
         let free = new_cell x C d.fresh stored.format.cells is apart in
         cell_changed (IsAdded (t, i) name body) (put_row x C) d.only d.rows (all-put_row IsCell x C is stored.format.cells) (put_numbered cell_of x C fresh stored.cells_numbered)

@@ -8,9 +8,9 @@ use Rattle.ov_specs.specs.rows.Cells.{Whole as WholeLines, InCells as LinesInCel
 use Rattle.ov_keeper.specs.declared.keeper.Lines.{Lines}
 use Rattle.ov_keeper.specs.declared.keeper.Lines.TheVariants.{Whole, InCells}
 use Rattle.ov_keeper.specs.Views.{lines_view}
-use Rattle.ov_sqlite.specs.Tables.{meta_table, tree_of, HasTable, HasLineTables, HasCellTables, HasOurTables}
-use Rattle.ov_sqlite.specs.Format.{IsMeta, IsFormatRow, IsSchemaRow, NamesOther, held, rows_of_meta}
-use Rattle.ov_sqlite.specs.Changing.{IsStored, IsStoredAs}
+use Rattle.ov_tables.specs.Tables.{meta_table, tree_of, HasTable, HasLineTables, HasCellTables, HasOurTables}
+use Rattle.ov_tables.specs.Format.{IsMeta, IsFormatRow, IsSchemaRow, NamesOther, held, rows_of_meta}
+use Rattle.ov_tables.specs.Holding.{IsStored, IsStoredAs}
 use Rattle.ov_sqlite.specs.Reading.{ReadsLines, are_cells}
 use Rattle.ov_sqlite.proofs.HeldLemmas.{schema_is, names_cells, names_lines, held_cells_meta}
 

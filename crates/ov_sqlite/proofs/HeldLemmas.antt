@@ -19,13 +19,13 @@ use Rattle.sqlite.specs.Effect.{Database, IsDatabase}
 use Rattle.ov_specs.specs.rows.Lines.{LineKey, LineBody, line_cmp}
 use Rattle.ov_specs.specs.rows.Cells.{Head, Cell, Whole, InCells, cell_lines, cells_at, have_heads}
 use Rattle.ov_specs.proofs.laws.LineKeys.{key_total, key_exact}
-use Rattle.ov_sqlite.specs.Tables.{line_table, HasTable, HasCellTables}
-use Rattle.ov_sqlite.specs.Format.{IsKeyed, IsLine, IsHead, IsCell, IsMeta, IsFormatRow, IsSchemaRow, row_key, entry, head_of, cell_of, is_cells_row, stored_schema, stored_lines, stored_cells, held, rows_of_meta, rows_of_line, rows_of_head, rows_of_cell}
-use Rattle.ov_sqlite.specs.Changing.{IsNumbered, HoldsLines, HoldsCells}
+use Rattle.ov_tables.specs.Tables.{line_table, HasTable, HasCellTables}
+use Rattle.ov_tables.specs.Format.{IsKeyed, IsLine, IsHead, IsCell, IsMeta, IsFormatRow, IsSchemaRow, row_key, entry, head_of, cell_of, is_cells_row, stored_schema, stored_lines, stored_cells, held, rows_of_meta, rows_of_line, rows_of_head, rows_of_cell}
+use Rattle.ov_tables.specs.Holding.{IsNumbered, HoldsLines, HoldsCells}
 use Rattle.ov_sqlite.specs.Joining.{AreDistinct, AreNumbered}
-use Rattle.ov_sqlite.specs.Reading.{meta_selected, head_selected, row_selected}
+use Rattle.ov_tables.specs.Querying.{meta_selected, head_selected, row_selected}
 use Rattle.ov_sqlite.proofs.OpenLemmas.{every_shuffled}
-use Rattle.ov_sqlite.proofs.RowLemmas.{has_key}
+use Rattle.ov_tables.proofs.RowLemmas.{has_key}
 use Rattle.ov_sqlite.proofs.CellLemmas.{names_total, names_exact, HasHead, heads_each, each_heads, has_cell, keyed, same_name_is, get_cells, get_lines, line_at}
 use Rattle.ov_sqlite.proofs.KeyLemmas.{Agree, AreApart, Apart, same_found, selected_found, apart_by_key, key_number, cell_number}
 

@@ -12,8 +12,8 @@ use Rattle.ov_specs.proofs.laws.LineKeys.{same_key-is, same_key-itself}
 use Rattle.ov_keeper.specs.declared.cell_line.CellLine.{CellLine}
 use Rattle.ov_keeper.specs.declared.cell_line.Cell.{Cell as KeptCell}
 use Rattle.ov_keeper.specs.Views.{cell_line_entry, cell_entry}
-use Rattle.ov_sqlite.specs.Format.{row_key, head_of, cell_of}
-use Rattle.ov_sqlite.proofs.RowLemmas.{has_key}
+use Rattle.ov_tables.specs.Format.{row_key, head_of, cell_of}
+use Rattle.ov_tables.proofs.RowLemmas.{has_key}
 use Rattle.ov_sqlite.proofs.CellLemmas.{HasHead, heads_each, is_row_of}
 use Rattle.ov_sqlite.proofs.NumberLemmas.{all_front}
 use Rattle.ov_sqlite.specs.Joining.{Entry, Parts, line_parts, entries_of, head_parts, with_cell, entry_in, AreDistinct}

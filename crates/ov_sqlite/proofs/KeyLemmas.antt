@@ -1,5 +1,5 @@
 -- Rows with one key are one, so that the order in which they are read does not matter.
-use Rattle.std.proofs.Common.{◌≡◌, ◌⊎◌, inl, inr, ℕ, ℤ, List, [], ◌∷◌, map, find, slice_get, cond, Bool, true, false, not, ◌&&◌, ◌||◌, ◌==◌, arith, Option, Some, None, option_map, refl, sym, ap, ap₂, subst, ◌∙◌}
+use Rattle.std.proofs.Common.{◌≡◌, ◌⊎◌, inl, inr, ℕ, ℤ, List, [], ◌∷◌, map, find, cond, Bool, true, false, not, ◌&&◌, ◌||◌, ◌==◌, arith, Option, Some, None, option_map, refl, sym, ap, ap₂, subst, ◌∙◌}
 use Rattle.std.specs.List.{AllByRecursion, list_any, list_all}
 use Rattle.std.specs.List.Sorted.{IsPermutation}
 use Rattle.std.proofs.lemmas.List.Sorted.{IsPermutation-sym}
@@ -13,7 +13,6 @@ use Rattle.std.specs.Cmp.Lexicographic.{nat_list_cmp_total}
 use Rattle.sqlite.specs.declared.types.Value.{Value}
 use Rattle.sqlite.specs.declared.types.Value.TheVariants.{Int, Text, Blob}
 use Rattle.sqlite.specs.Order.{Row, column, value_cmp}
-use Rattle.sqlite.specs.Table.{Table}
 use Rattle.sqlite_value.specs.Order.{bytes}
 use Rattle.sqlite_value.specs.Keys.{first_key}
 use Rattle.sqlite_value.proofs.OrderLemmas.{value_cmp_total}
@@ -32,11 +31,11 @@ use Rattle.sqlite_rules.specs.Edit.{is_taken, are_fresh}
 use Rattle.sqlite_rules.proofs.ListLemmas.{all_has, all_from, some_from}
 use Rattle.sqlite_rules.proofs.TableLemmas.{put_all_keeps, put_all_adds}
 use Rattle.ov_specs.specs.rows.Lines.{LineKey}
-use Rattle.ov_sqlite.specs.Tables.{plain_table, HasTable}
-use Rattle.ov_sqlite.specs.Format.{HasNumber, IsKeyed, IsCell, row_key, rows_of}
-use Rattle.ov_sqlite.proofs.TableLemmas.{found_has}
-use Rattle.ov_sqlite.proofs.ListingLemmas.{rows_are}
-use Rattle.ov_sqlite.proofs.RowLemmas.{has_key, keyed_number, equal_texts, equal_blobs, truth_of, same_number}
+use Rattle.ov_tables.specs.Tables.{plain_table, HasTable}
+use Rattle.ov_tables.specs.Format.{HasNumber, IsKeyed, IsCell, row_key, rows_of}
+use Rattle.ov_tables.proofs.TableLemmas.{found_has}
+use Rattle.ov_tables.proofs.ListingLemmas.{rows_are}
+use Rattle.ov_tables.proofs.RowLemmas.{keyed_number, equal_texts, equal_blobs, truth_of, same_number}
 use Rattle.ov_sqlite.proofs.PutLemmas.{not_taken, none_passes, passes_none}
 use Rattle.ov_sqlite.proofs.CellLemmas.{has_cell, IsNewCell, keyed, same_name_is}
 use Rattle.ov_sqlite.proofs.OpenLemmas.{every_shuffled}

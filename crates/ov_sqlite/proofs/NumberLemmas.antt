@@ -9,7 +9,7 @@ use Rattle.sqlite.specs.declared.types.Value.TheVariants.{Null, Int, Real, Text,
 use Rattle.sqlite.specs.Order.{Row, column}
 use Rattle.sqlite_trees.proofs.ListLemmas.{all_weaker, all_both}
 use Rattle.sqlite_trees.specs.Tree.{IsAscending}
-use Rattle.ov_sqlite.specs.Changing.{IsNumbered}
+use Rattle.ov_tables.specs.Holding.{IsNumbered}
 use Rattle.ov_sqlite.specs.Joining.{AreNumbered}
 
 pub all_push : {X : Type 0} (P : X → Type 0) (xs : List X) (x : X) → AllByRecursion P xs → P x → AllByRecursion P (xs ++ x ∷ [])

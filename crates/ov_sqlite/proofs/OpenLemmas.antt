@@ -1,5 +1,5 @@
 -- From the rows that are read to what the tables hold.
-use Rattle.std.proofs.Common.{◌≡◌, List, [], ◌∷◌, map, Result, Err, ap}
+use Rattle.std.proofs.Common.{◌≡◌, List, Result, Err, ap}
 use Rattle.std.specs.List.{AllByRecursion}
 use Rattle.std.specs.List.Sorted.{IsPermutation}
 use Rattle.std.proofs.lemmas.List.Sorted.{All-permutation}

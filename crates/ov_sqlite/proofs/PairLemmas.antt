@@ -1,7 +1,7 @@
 -- Two rows of `meta`, as they are read.
 use Rattle.std.proofs.Common.{◌≡◌, ◌⊎◌, inl, inr, ℕ, List, [], ◌∷◌, length, get_or, sym, ap, ap₂, subst, ◌∙◌, arith}
 use Rattle.sqlite.specs.Order.{Row}
-use Rattle.ov_sqlite.specs.Format.{IsFormatRow, IsSchemaRow, IsMeta}
+use Rattle.ov_tables.specs.Format.{IsFormatRow, IsSchemaRow, IsMeta}
 
 -- two rows, by their places
 pub two_rows : (rows : List Row) (a b : Row) → length rows ≡ 2 → a ≡ get_or rows 0 a → b ≡ get_or rows 1 b → rows ≡ a ∷ b ∷ []

@@ -12,7 +12,7 @@ use Rattle.sqlite_trees.proofs.ListLemmas.{all_weaker, all_both}
 use Rattle.sqlite_value.proofs.OrderLemmas.{value_cmp_total}
 use Rattle.sqlite_rules.specs.Edit.{is_taken, are_fresh}
 use Rattle.ov_specs.proofs.laws.Truths.{equal_is, right_fails}
-use Rattle.ov_sqlite.specs.Changing.{IsNumbered}
+use Rattle.ov_tables.specs.Holding.{IsNumbered}
 
 pub not_taken : (rows : List Row) (new : Row) → are_fresh rows (new ∷ []) ≡ true → is_taken rows new ≡ false
 not_taken rows new h = elim (is_taken rows new) as (λ b. (not b && true) ≡ true → b ≡ false) [ true ↦ λ e. absurd cc | false ↦ λ e. refl ] h

@@ -7,11 +7,10 @@ use Rattle.std.proofs.lemmas.List.{map-append}
 use Rattle.std.proofs.Math.Seq.{take-suc}
 use Rattle.ov_specs.specs.rows.Lines.{LineKey, line_cmp}
 use Rattle.ov_specs.specs.rows.Cells.{CellLine, CellLines, Cells}
-use Rattle.ov_specs.specs.schema.SchemaTypes.{name_cmp}
 use Rattle.ov_specs.proofs.laws.LineKeys.{key_total, key_exact, tied_same, same_tied}
 use Rattle.ov_keeper.specs.declared.cell_line.Cell.{Cell}
 use Rattle.ov_keeper.specs.Views.{cell_entry, cells_view}
-use Rattle.ov_keeper.proofs.LineLemmas.{not_found, insert-remove}
+use Rattle.ov_keeper.proofs.LineLemmas.{insert-remove}
 use Rattle.ov_sqlite.specs.Changing.{IsEmptied, IsAdded, IsRefilled}
 use Rattle.ov_sqlite.proofs.CellLemmas.{names_total, names_exact, bared}
 

@@ -1,5 +1,6 @@
--- How a rewrite ends.
-use Rattle.std.proofs.Common.{◌≡◌, inl, inr, ℕ, List, IsTrue, true, false, ap, sym, subst, ◌∙◌, arith}
+-- How a rewrite begins and ends.
+use Rattle.std.proofs.Common.{◌≡◌, inl, inr, ℕ, Bool, List, codes, is_some, IsTrue, MatchBool, true, false, ap, refl, sym, subst, ◌∙◌, arith}
+use Rattle.std.specs.FinMap.{empty}
 use Rattle.sqlite.specs.Effect.{Database}
 use Rattle.sqlite.specs.Held.{Held as Connected, state}
 use Rattle.sqlite.specs.Store.{Ghosts}
@@ -8,13 +9,45 @@ use Rattle.sqlite.specs.State.{State, HasCleanDisk, Survives, KeepsCommit, IsRol
 use Rattle.sqlite.specs.Steps.{FailsToCommit}
 use Rattle.sqlite.proofs.StateLemmas.{survives_then}
 use Rattle.sqlite.proofs.Callers.{survives_begin}
-use Rattle.sqlite_trees.specs.Tree.{Trees}
 use Rattle.ov_specs.specs.rows.Cells.{CellLines}
-use Rattle.ov_sqlite.specs.Format.{IsMeta, stored_cells, rows_of_meta}
-use Rattle.ov_sqlite.specs.Changing.{HoldsCells, MayBeStored}
-use Rattle.ov_sqlite.specs.Querying.{IsAsBefore}
-use Rattle.ov_sqlite.specs.Rewriting.{KeepsRest, Remakes, Rewrites, IsRewriteImage}
-use Rattle.ov_sqlite.proofs.ReadLemmas.{rolled_as_before}
+use Rattle.sqlite_schema.specs.Names.{same_name, table_named}
+use Rattle.ov_tables.specs.Tables.{row_trees, cell_trees}
+use Rattle.ov_tables.specs.Format.{IsMeta, stored_cells, rows_of_meta}
+use Rattle.ov_tables.specs.Holding.{IsStored, HoldsLines, HoldsCells, MayBeStored, KeepsOthers}
+use Rattle.ov_sqlite.specs.Changing.{Makes, Becomes}
+use Rattle.ov_tables.specs.Making.{Fills}
+use Rattle.ov_tables.specs.Querying.{IsAsBefore}
+use Rattle.ov_tables.specs.Emptying.{Empties, KeepsRest}
+use Rattle.ov_sqlite.specs.Rewriting.{Remakes, Rewrites, IsRewriteImage}
+use Rattle.ov_tables.proofs.TableLemmas.{found_place}
+use Rattle.ov_tables.proofs.RoomLemmas.{is_free}
+use Rattle.ov_tables.proofs.EmptyLemmas.{not_first, not_rows}
+use Rattle.ov_tables.proofs.KeepLemmas.{others_then, others_wider}
+use Rattle.ov_tables.proofs.ReadLemmas.{rolled_as_before}
+
+-- `head` is there in format 2 alone
+pub by_format : (text : List ℕ) (s : State) (b : Bool) → b ≡ is_some (table_named s.now.schema (codes "head")) → IsStored text s.now → MatchBool b (HoldsCells text s.now) (HoldsLines text s.now)
+by_format text s true is (inr cells) = cells
+by_format text s false is (inl lines) = lines
+by_format text s true is (inl lines) = absurd (let none = ap is_some (is_free s.now.schema (codes "head") lines.format.schema.head.free).table in let clash : true ≡ false = is ∙ none in cc)
+by_format text s false is (inr cells) =
+    absurd (let there = (found_place (λ t. same_name t.name (codes "head")) 0 s.now.schema.tables _ cells.format.schema.head.named).1 in let clash : false ≡ true = is ∙ ap is_some there in cc)
+
+pub remade : (text : List ℕ) (f : CellLines → CellLines) (old a b new : State) → Empties old a → Fills text a b → Makes text (Becomes f) b new → Remakes text (f empty) old new
+remade text f old a b new e filled made =
+    let schema = a.now.schema in
+    let trees = cell_trees schema in
+    let none : stored_cells b.now.trees ≡ empty = rw filled.no_head refl in
+    let fill = others_wider _ trees schema a.now.trees b.now.trees (λ t free. not_first _ _ _ t free) filled.others in
+    let change = others_wider _ trees schema b.now.trees new.now.trees (λ t free. not_rows _ _ _ t free) (subst (λ s. KeepsOthers (row_trees s) s b.now.trees new.now.trees) filled.schema made.others) in
+    record {
+      mode = made.mode;
+      was_open = e.was_open;
+      stored = made.stored;
+      meta = subst (IsMeta 2 text) (sym made.meta) filled.stored.format.meta;
+      lines_are = made.lines_are ∙ ap f none;
+      others = e.rest new.now.trees (others_then trees schema a.now.trees b.now.trees new.now.trees fill change);
+    }
 
 module _ {S : Type 0} (g : Ghosts S) (held : Connected S) (last end : State) (settled : IsTrue (state g held).is_open → (state g held).now ≡ (state g held).committed) where
   abbrev old : State

@@ -1,5 +1,5 @@
 -- Heads with their cells, as they are read.
-use Rattle.std.specs.Prelude.{◌≡◌, ◌≢◌, ◌++◌, ℕ, zero, suc, List, [], ◌∷◌, map, filter}
+use Rattle.std.specs.Prelude.{◌≢◌, ◌++◌, ℕ, zero, suc, List, [], ◌∷◌, map, filter}
 use Rattle.sqlite.specs.Order.{Row, column}
 use Rattle.sqlite_value.specs.Order.{bytes}
 use Rattle.sqlite_trees.specs.Tree.{IsAscending}
@@ -8,7 +8,7 @@ use Rattle.ov_specs.specs.rows.Database.{same_key}
 use Rattle.ov_specs.specs.values.Uuid.{Uuid}
 use Rattle.ov_keeper.specs.declared.cell_line.CellLine.{CellLine}
 use Rattle.ov_keeper.specs.Views.{cell_entry}
-use Rattle.ov_sqlite.specs.Format.{row_key, cell_of}
+use Rattle.ov_tables.specs.Format.{row_key, cell_of}
 
 -- the name of a column, and the body of a cell
 abbrev pub Entry : Type 0
@@ -24,7 +24,8 @@ line_parts line = ((line.table, line.id), (line.version, map cell_entry line.cel
 
 -- the cells of this key among the rows of `cell`
 abbrev pub entries_of : List Row → LineKey → List Entry
-entries_of cells key = map (λ c. (c.column, c.body)) (filter (λ c. same_key c.key key) (map cell_of cells))
+entries_of cells key =
+    map (λ c. (c.column, c.body)) (filter (λ c. same_key c.key key) (map cell_of cells))
 
 -- the cell that a row is
 abbrev pub entry_in : Row → Entry

@@ -1,11 +1,4 @@
-pub mod Tables
-pub mod Format
 pub mod Changing
-pub mod Inside
-pub mod WriteError
-pub mod HasText
-pub mod Querying
-pub mod Making
 pub mod Rewriting
 pub mod Joining
 pub mod Reading

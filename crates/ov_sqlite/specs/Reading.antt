@@ -1,12 +1,11 @@
 -- The rows of the tables, as they are read.
-use Rattle.std.specs.Prelude.{◌≡◌, ◌≢◌, ℕ, ℤ, List, [], ◌∷◌, map, Bool, true, false, IsTrue, MatchBool, IsUtf8, length}
+use Rattle.std.specs.Prelude.{◌≡◌, ◌≢◌, ℕ, ℤ, List, map, Bool, true, false, IsTrue, MatchBool, IsUtf8, length}
 use Rattle.std.specs.List.{AllByRecursion}
 use Rattle.std.specs.List.Sorted.{IsPermutation}
 use Rattle.sqlite.specs.declared.types.Value.{Value}
 use Rattle.sqlite.specs.declared.types.Value.TheVariants.{Int, Text, Blob}
-use Rattle.sqlite.specs.Order.{Row, column}
+use Rattle.sqlite.specs.Order.{Row}
 use Rattle.sqlite.specs.State.{State}
-use Rattle.sqlite.specs.Table.{Table}
 use Rattle.std.specs.FinMap.{from_entries}
 use Rattle.sqlite.specs.Effect.{Database}
 use Rattle.ov_specs.specs.rows.Cells.{have_heads}
@@ -14,25 +13,10 @@ use Rattle.ov_keeper.specs.declared.cell_line.CellLine.{CellLine}
 use Rattle.ov_keeper.specs.declared.keeper.Lines.{Lines}
 use Rattle.ov_keeper.specs.declared.keeper.Lines.TheVariants.{Whole, InCells}
 use Rattle.ov_keeper.specs.Views.{line_entry, cell_line_entry}
-use Rattle.ov_sqlite.specs.Tables.{tree_of, HasTable, HasLineTables, HasCellTables}
-use Rattle.ov_sqlite.specs.Format.{IsLine, IsHead, IsCell, entry, head_of, cell_of, stored_lines, stored_cells, rows_of_line, rows_of_head, rows_of_cell}
-use Rattle.ov_sqlite.specs.Changing.{IsNumbered}
+use Rattle.ov_tables.specs.Tables.{HasLineTables, HasCellTables}
+use Rattle.ov_tables.specs.Format.{IsLine, IsHead, IsCell, entry, head_of, cell_of, stored_lines, stored_cells, rows_of_line, rows_of_head, rows_of_cell}
+use Rattle.ov_tables.specs.Holding.{IsNumbered}
 use Rattle.ov_sqlite.specs.Joining.{AreNumbered}
-
--- a row of `meta` or of `head` as it is read: its number and its columns, in their places
-abbrev pub meta_selected : Row → Row
-meta_selected r = column r 0 ∷ column r 1 ∷ column r 2 ∷ []
-
-abbrev pub head_selected : Row → Row
-head_selected r = column r 0 ∷ column r 1 ∷ column r 2 ∷ column r 3 ∷ []
-
--- a row of `line` or of `cell` as it is read
-abbrev pub row_selected : Row → Row
-row_selected r = column r 0 ∷ column r 1 ∷ column r 2 ∷ column r 3 ∷ column r 4 ∷ []
-
--- while the connection is open, the table of this name is there
-abbrev pub MayRead : (ℕ → Table) → List ℕ → State → Type 0
-MayRead table name s = IsTrue s.is_open → HasTable s.now.schema (table (tree_of s.now.schema name))
 
 -- the value is no number
 abbrev pub IsNoNumber : Value → Type 0
@@ -51,7 +35,8 @@ abbrev pub IsNoUuid : Value → Type 0
 IsNoUuid v = (b : List ℕ) → v ≡ Blob b → length b ≢ 16
 
 -- the rows that were read are those of the table; each is of this kind, and no two have one number
-pub record ReadsRows {X : Type 0} (Is : Row → Type 0) (is : Row → X) (selected : Row → Row) (stored read : List Row) : Type 0 where
+pub record ReadsRows {X : Type 0} (Is : Row → Type 0) (is : Row → X) (selected : Row → Row)
+    (stored read : List Row) : Type 0 where
   pub same : IsPermutation (map selected stored) read
   pub are : AllByRecursion Is stored
   pub numbered : IsNumbered is stored
@@ -65,18 +50,22 @@ MayReadCells s = IsTrue s.is_open → HasCellTables s.now.schema
 pub record ReadsCells (db : Database) (lines : List CellLine) : Type 0 where
   pub heads : AllByRecursion IsHead (rows_of_head db.trees)
   pub cells : AllByRecursion IsCell (rows_of_cell db.trees)
-  pub owned : have_heads (map head_of (rows_of_head db.trees)) (map cell_of (rows_of_cell db.trees)) ≡ true
+  pub owned : have_heads (map head_of (rows_of_head db.trees)) (map cell_of (rows_of_cell db.trees))
+      ≡ true
   pub heads_numbered : IsNumbered head_of (rows_of_head db.trees)
   pub cells_numbered : IsNumbered cell_of (rows_of_cell db.trees)
   pub joined : stored_cells db.trees ≡ from_entries (map cell_line_entry lines)
 
 -- while the connection is open, the tables of this format are there
 abbrev pub MayReadRows : Bool → State → Type 0
-MayReadRows in_cells s = IsTrue s.is_open → MatchBool in_cells (HasCellTables s.now.schema) (HasLineTables s.now.schema)
+MayReadRows in_cells s =
+    IsTrue s.is_open → MatchBool in_cells (HasCellTables s.now.schema) (HasLineTables s.now.schema)
 
 -- the rows of this format were read, and these are what they stand for
 abbrev pub ReadsLines : Database → Lines → Type 0
-ReadsLines db (Whole lines) = AllByRecursion IsLine (rows_of_line db.trees) × IsNumbered entry (rows_of_line db.trees) × (stored_lines (rows_of_line db.trees) ≡ from_entries (map line_entry lines.items))
+ReadsLines db (Whole lines) =
+    AllByRecursion IsLine (rows_of_line db.trees) × IsNumbered entry (rows_of_line db.trees)
+    × (stored_lines (rows_of_line db.trees) ≡ from_entries (map line_entry lines.items))
 ReadsLines db (InCells lines) = ReadsCells db lines.items
 
 -- in cells, or whole

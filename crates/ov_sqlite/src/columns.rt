@@ -1,8 +1,7 @@
 //! The columns of rows that were read.
 
-ghost use Rattle.std.specs.Prelude.{◌≡◌, MatchOption, IfOk, [], IsTrue};
-ghost use Rattle.ov_keeper.specs.Views.{line_entry, cell_entry};
-ghost use Rattle.ov_sqlite.specs.Format.{IsKeyed, IsLine, IsHead, IsCell, row_key, entry};
+ghost use Rattle.std.specs.Prelude.{◌≡◌, MatchOption};
+ghost use Rattle.ov_tables.specs.Format.{IsKeyed, IsLine, IsHead, IsCell, row_key, entry};
 ghost use Rattle.sqlite_value.specs.Order.{bytes};
 ghost use Rattle.sqlite.specs.Order.{column};
 
@@ -22,7 +21,8 @@ pub(crate) struct RowKey<'a> {
 
 /// The row's key, if it begins with its number and a key.
 pub(crate) fn key_of(row: &Row) -> Option<RowKey<'_>>
-    ensures { MatchOption result (¬ IsKeyed row.now) (λ key. IsKeyed row.now × ((key.table.now, key.id) ≡ row_key row.now)) }
+    ensures { MatchOption result (¬ IsKeyed row.now)
+        (λ key. IsKeyed row.now × ((key.table.now, key.id) ≡ row_key row.now)) }
 {
     let _number = number_at(row, 0)?;
     let table = text_at(row, 1)?;
@@ -68,7 +68,8 @@ pub(crate) struct HeadColumns<'a> {
 /// The row's columns, if it is a head.
 pub(crate) fn head_columns_of(row: &Row) -> Option<HeadColumns<'_>>
     ensures { MatchOption result (¬ IsHead row.now) (λ parts. IsHead row.now
-        × ((parts.table.now, parts.id) ≡ row_key row.now) × (parts.version ≡ bytes (column row.now 3))) }
+        × ((parts.table.now, parts.id) ≡ row_key row.now)
+        × (parts.version ≡ bytes (column row.now 3))) }
 {
     let Some(key) = key_of(row) else {
         return None;
@@ -94,7 +95,8 @@ pub(crate) struct CellColumns<'a> {
 pub(crate) fn cell_columns_of(row: &Row) -> Option<CellColumns<'_>>
     ensures { MatchOption result (¬ IsCell row.now) (λ parts. IsCell row.now
         × ((parts.table.now, parts.id) ≡ row_key row.now)
-        × (parts.column.now ≡ bytes (column row.now 3)) × (parts.body.now ≡ bytes (column row.now 4))) }
+        × (parts.column.now ≡ bytes (column row.now 3))
+        × (parts.body.now ≡ bytes (column row.now 4))) }
 {
     let Some(key) = key_of(row) else {
         return None;

@@ -4,16 +4,18 @@ ghost use Rattle.std.specs.Prelude.{◌≡◌, ◌⊎◌, ◌≢◌, false, IfSo
 ghost use Rattle.sqlite.specs.State.{HasCleanDisk, Survives, KeepsCommit, IsUnchanged};
 ghost use Rattle.sqlite.specs.Held.{state};
 ghost use Rattle.ov_keeper.specs.Keeping.{IsCommitFault};
-ghost use Rattle.ov_sqlite.specs.WriteError.{IsBefore};
-ghost use Rattle.ov_sqlite.specs.Querying.{IsAsBefore};
+ghost use Rattle.ov_tables.specs.WriteError.{IsBefore};
+ghost use Rattle.ov_tables.specs.Querying.{IsAsBefore};
 
-use crate::write::{WriteError, probe};
+use crate::write::probe;
 use ov_keeper::KeepFault;
+use ov_tables::WriteError;
 use sqlite::{Alter, Connection, Error, ErrorCode};
 
 /// Which refusal an error is, if the device is not to blame.
 pub fn refusal(error: &Error) -> Option<KeepFault>
-    ensures which { IfSome result (λ fault. (fault ≡ KeepFault.Memory) ⊎ (fault ≡ KeepFault.TooLarge)) }
+    ensures which { IfSome result (λ fault. (fault ≡ KeepFault.Memory)
+        ⊎ (fault ≡ KeepFault.TooLarge)) }
     ensures kind { IfSome result IsCommitFault }
 {
     match error {
@@ -40,8 +42,10 @@ pub fn fault_at<S: Alter>(conn: &mut Connection<S>, failure: &WriteError) -> Kee
     ensures kind { IsCommitFault result }
     ensures shown { HasCleanDisk (state S.Store conn.new) → result ≢ KeepFault.Device
         → IsBefore failure.now ⊎ IsUnchanged (state S.Store conn.old) (state S.Store conn.new) }
-    ensures unmoved { HasCleanDisk (state S.Store conn.new) → KeepsCommit (state S.Store conn.old) (state S.Store conn.new) }
-    ensures same { HasCleanDisk (state S.Store conn.new) → IsAsBefore (state S.Store conn.old) (state S.Store conn.new) }
+    ensures unmoved { HasCleanDisk (state S.Store conn.new)
+        → KeepsCommit (state S.Store conn.old) (state S.Store conn.new) }
+    ensures same { HasCleanDisk (state S.Store conn.new)
+        → IsAsBefore (state S.Store conn.old) (state S.Store conn.new) }
     ensures survives { Survives (state S.Store conn.old) (state S.Store conn.new) (λ _. ⊥) }
 {
     let error = match failure {

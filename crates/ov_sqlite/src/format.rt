@@ -6,20 +6,22 @@ ghost use Rattle.sqlite.specs.State.{HasCleanDisk, Survives};
 ghost use Rattle.sqlite.specs.Held.{state};
 ghost use Rattle.ov_keeper.specs.Keeping.{loaded_contents};
 ghost use Rattle.ov_keeper.specs.Views.{line_entry};
-ghost use Rattle.ov_sqlite.specs.Tables.{HasOurTables};
-ghost use Rattle.ov_sqlite.specs.Format.{IsFormat, IsCellFormat, IsLine, NamesOther, entry, held, rows_of_line};
-ghost use Rattle.ov_sqlite.specs.Changing.{IsStoredAs, MayBeStored};
-ghost use Rattle.ov_sqlite.specs.Querying.{IsAsBefore};
-ghost use Rattle.ov_sqlite.specs.Reading.{MayReadCells, MayReadRows, ReadsCells, ReadsLines, are_cells};
+ghost use Rattle.ov_tables.specs.Tables.{HasOurTables};
+ghost use Rattle.ov_tables.specs.Format.{IsFormat, IsCellFormat, IsLine, NamesOther, entry, held};
+ghost use Rattle.ov_tables.specs.Format.{rows_of_line};
+ghost use Rattle.ov_tables.specs.Holding.{IsStoredAs, MayBeStored};
+ghost use Rattle.ov_tables.specs.Querying.{IsAsBefore};
+ghost use Rattle.ov_sqlite.specs.Reading.{MayReadCells, MayReadRows, ReadsCells, ReadsLines};
+ghost use Rattle.ov_sqlite.specs.Reading.{are_cells};
 
 use crate::columns::line_columns_of;
 use crate::fault::fault_of;
 use crate::join::join;
-use crate::schema::has_cell_tables;
-use crate::tables::{read_cells, read_heads, read_lines, read_meta};
+use crate::read::{read_cells, read_heads, read_lines, read_meta};
 use crate::write::probe;
 use ov_base::{Bytes, Text};
 use ov_keeper::{CellLine, KeepFault, Line, Lines, Loaded};
+use ov_tables::has_cell_tables;
 use sqlite::{Alter, Connection, Row};
 use std::alloc::{AllocError, Global};
 
@@ -31,12 +33,14 @@ fn read_joined<S: Alter>(
     requires { conn.old.in_transaction ≡ false }
     ensures mode { conn.new.in_transaction ≡ false }
     ensures ok { HasCleanDisk (state S.Store conn.new) → MayReadCells (state S.Store conn.old)
-        → IfOk result (λ lines. IsTrue (state S.Store conn.old).is_open × ReadsCells (state S.Store conn.old).now lines.items) }
+        → IfOk result (λ lines. IsTrue (state S.Store conn.old).is_open
+        × ReadsCells (state S.Store conn.old).now lines.items) }
     ensures format { HasCleanDisk (state S.Store conn.new) → MayReadCells (state S.Store conn.old)
         → result ≡ Err KeepFault.Format → IsTrue (state S.Store conn.old).is_open
         × ((text : _) → ¬ IsCellFormat text (state S.Store conn.old).now) }
     ensures ours { result ≢ Err KeepFault.NotOurs }
-    ensures same { HasCleanDisk (state S.Store conn.new) → IsAsBefore (state S.Store conn.old) (state S.Store conn.new) }
+    ensures same { HasCleanDisk (state S.Store conn.new)
+        → IsAsBefore (state S.Store conn.old) (state S.Store conn.new) }
     ensures survives { Survives (state S.Store conn.old) (state S.Store conn.new) (λ _. ⊥) }
 {
     // Its contract says that the rows obey the schema.
@@ -58,7 +62,8 @@ fn read_joined<S: Alter>(
 
 /// The lines of the rows, if each row is one.
 fn lines_of(alloc: Global, rows: &[Row]) -> Result<Option<Vec<Line>>, AllocError>
-    ensures { IfOk result (λ all. IfSome all (λ lines. map line_entry lines.items ≡ map entry rows.now)) }
+    ensures { IfOk result (λ all. IfSome all (λ lines. map line_entry lines.items
+        ≡ map entry rows.now)) }
 {
     let mut lines = Vec::with_capacity(alloc, rows.len())?;
     for row in rows {
@@ -80,12 +85,15 @@ fn read_whole<S: Alter>(alloc: Global, conn: &mut Connection<S>) -> Result<Vec<L
     requires { conn.old.in_transaction ≡ false }
     ensures mode { conn.new.in_transaction ≡ false }
     ensures ok { HasCleanDisk (state S.Store conn.new) → MayReadRows false (state S.Store conn.old)
-        → IfOk result (λ lines. IsTrue (state S.Store conn.old).is_open × ReadsLines (state S.Store conn.old).now (Lines.Whole lines)) }
-    ensures format { HasCleanDisk (state S.Store conn.new) → MayReadRows false (state S.Store conn.old)
+        → IfOk result (λ lines. IsTrue (state S.Store conn.old).is_open
+        × ReadsLines (state S.Store conn.old).now (Lines.Whole lines)) }
+    ensures format { HasCleanDisk (state S.Store conn.new)
+        → MayReadRows false (state S.Store conn.old)
         → result ≡ Err KeepFault.Format → IsTrue (state S.Store conn.old).is_open
         × (¬ AllByRecursion IsLine (rows_of_line (state S.Store conn.old).now.trees)) }
     ensures ours { result ≢ Err KeepFault.NotOurs }
-    ensures same { HasCleanDisk (state S.Store conn.new) → IsAsBefore (state S.Store conn.old) (state S.Store conn.new) }
+    ensures same { HasCleanDisk (state S.Store conn.new)
+        → IsAsBefore (state S.Store conn.old) (state S.Store conn.new) }
     ensures survives { Survives (state S.Store conn.old) (state S.Store conn.new) (λ _. ⊥) }
 {
     // Its contract says that the rows obey the schema.
@@ -110,14 +118,17 @@ fn read_rows<S: Alter>(
 ) -> Result<Lines, KeepFault>
     requires { conn.old.in_transaction ≡ false }
     ensures mode { conn.new.in_transaction ≡ false }
-    ensures ok { HasCleanDisk (state S.Store conn.new) → MayReadRows in_cells (state S.Store conn.old)
+    ensures ok { HasCleanDisk (state S.Store conn.new)
+        → MayReadRows in_cells (state S.Store conn.old)
         → IfOk result (λ lines. IsTrue (state S.Store conn.old).is_open
         × (are_cells lines ≡ in_cells) × ReadsLines (state S.Store conn.old).now lines) }
-    ensures format { HasCleanDisk (state S.Store conn.new) → MayReadRows in_cells (state S.Store conn.old)
+    ensures format { HasCleanDisk (state S.Store conn.new)
+        → MayReadRows in_cells (state S.Store conn.old)
         → result ≡ Err KeepFault.Format → IsTrue (state S.Store conn.old).is_open
         × ((text : _) → ¬ IsFormat text (state S.Store conn.old).now) }
     ensures ours { result ≢ Err KeepFault.NotOurs }
-    ensures same { HasCleanDisk (state S.Store conn.new) → IsAsBefore (state S.Store conn.old) (state S.Store conn.new) }
+    ensures same { HasCleanDisk (state S.Store conn.new)
+        → IsAsBefore (state S.Store conn.old) (state S.Store conn.new) }
     ensures survives { Survives (state S.Store conn.old) (state S.Store conn.new) (λ _. ⊥) }
 {
     if in_cells {
@@ -141,13 +152,19 @@ pub fn test_format<S: Alter>(
 ) -> Result<(u8, Text), KeepFault>
     requires { conn.old.in_transaction ≡ false }
     ensures mode { conn.new.in_transaction ≡ false }
-    ensures ok { HasCleanDisk (state S.Store conn.new) → HasOurTables (state S.Store conn.old).now.schema
-        → IfOk result (λ p. IsTrue (state S.Store conn.old).is_open × IsStoredAs p.0 p.1 (state S.Store conn.old).now) }
-    ensures format { HasCleanDisk (state S.Store conn.new) → HasOurTables (state S.Store conn.old).now.schema
-        → result ≡ Err KeepFault.Format → (text : _) → ¬ IsFormat text (state S.Store conn.old).now }
-    ensures ours { HasCleanDisk (state S.Store conn.new) → HasOurTables (state S.Store conn.old).now.schema
+    ensures ok { HasCleanDisk (state S.Store conn.new)
+        → HasOurTables (state S.Store conn.old).now.schema
+        → IfOk result (λ p. IsTrue (state S.Store conn.old).is_open
+        × IsStoredAs p.0 p.1 (state S.Store conn.old).now) }
+    ensures format { HasCleanDisk (state S.Store conn.new)
+        → HasOurTables (state S.Store conn.old).now.schema
+        → result ≡ Err KeepFault.Format → (text : _)
+        → ¬ IsFormat text (state S.Store conn.old).now }
+    ensures ours { HasCleanDisk (state S.Store conn.new)
+        → HasOurTables (state S.Store conn.old).now.schema
         → result ≡ Err KeepFault.NotOurs → NamesOther (state S.Store conn.old).now }
-    ensures same { HasCleanDisk (state S.Store conn.new) → IsAsBefore (state S.Store conn.old) (state S.Store conn.new) }
+    ensures same { HasCleanDisk (state S.Store conn.new)
+        → IsAsBefore (state S.Store conn.old) (state S.Store conn.new) }
     ensures survives { Survives (state S.Store conn.old) (state S.Store conn.new) (λ _. ⊥) }
 {
     // Its contract says that the rows obey the schema.
@@ -169,10 +186,12 @@ pub fn test_format<S: Alter>(
 pub fn read_all<S: Alter>(alloc: Global, conn: &mut Connection<S>) -> Result<Loaded, KeepFault>
     requires { conn.old.in_transaction ≡ false }
     ensures mode { conn.new.in_transaction ≡ false }
-    ensures ok { HasCleanDisk (state S.Store conn.new) → (text : _) → MayBeStored text (state S.Store conn.old)
+    ensures ok { HasCleanDisk (state S.Store conn.new) → (text : _)
+        → MayBeStored text (state S.Store conn.old)
         → IfOk result (λ loaded. IsTrue (state S.Store conn.old).is_open
         × (held (state S.Store conn.old).now.trees ≡ loaded_contents loaded)) }
-    ensures same { HasCleanDisk (state S.Store conn.new) → IsAsBefore (state S.Store conn.old) (state S.Store conn.new) }
+    ensures same { HasCleanDisk (state S.Store conn.new)
+        → IsAsBefore (state S.Store conn.old) (state S.Store conn.new) }
     ensures survives { Survives (state S.Store conn.old) (state S.Store conn.new) (λ _. ⊥) }
 {
     let named = match read_meta(alloc, conn) {

@@ -1,11 +1,12 @@
 //! The heads with their cells.
 
-ghost use Rattle.std.specs.Prelude.{◌≡◌, ◌<◌, [], length, slice_get, map, true, false, IfOk, IfSome, IfNone, MatchOption, OnOk};
+ghost use Rattle.std.specs.Prelude.{◌≡◌, ◌<◌, [], length, slice_get, map, true, false, IfOk};
+ghost use Rattle.std.specs.Prelude.{IfSome, IfNone, MatchOption, OnOk};
 ghost use Rattle.std.specs.List.{AllByRecursion, list_any};
 ghost use Rattle.ov_specs.specs.rows.Cells.{have_heads};
 ghost use Rattle.ov_specs.specs.rows.Database.{same_key};
 ghost use Rattle.ov_keeper.specs.Views.{cell_entry};
-ghost use Rattle.ov_sqlite.specs.Format.{IsHead, IsCell, row_key, head_of, cell_of};
+ghost use Rattle.ov_tables.specs.Format.{IsHead, IsCell, row_key, head_of, cell_of};
 ghost use Rattle.ov_sqlite.specs.Joining.{AreDistinct, line_parts, head_parts, with_cell, entry_in};
 
 use crate::columns::{cell_columns_of, head_columns_of};
@@ -17,7 +18,8 @@ use uuid::Uuid;
 
 /// The rows of the heads, without cells. `None` if a row is no head.
 fn lines_of_heads(alloc: Global, heads: &[Row]) -> Result<Option<Vec<CellLine>>, AllocError>
-    ensures some { IfOk result (λ all. IfSome all (λ lines. map line_parts lines.items ≡ map (head_parts []) heads.now)) }
+    ensures some { IfOk result (λ all. IfSome all
+        (λ lines. map line_parts lines.items ≡ map (head_parts []) heads.now)) }
     ensures none { IfOk result (λ all. IfNone all (¬ AllByRecursion IsHead heads.now)) }
 {
     let mut lines = Vec::with_capacity(alloc, heads.len())?;
@@ -45,7 +47,8 @@ fn is_at(line: &CellLine, table: &str, id: Uuid) -> bool
 /// The place of the row with this key, looked for from a place on, and then from the start: the cells of rows mostly stand in the
 /// order of the rows, since both are written together.
 fn place_of(lines: &[CellLine], from: usize, table: &str, id: Uuid) -> Option<usize>
-    ensures { MatchOption result (list_any (λ l. same_key (line_parts l).0 (table.now, id)) lines.now ≡ false)
+    ensures { MatchOption result (list_any
+        (λ l. same_key (line_parts l).0 (table.now, id)) lines.now ≡ false)
         (λ at. (at < length lines.now)
         × IfSome (slice_get lines.now at) (λ l. same_key (line_parts l).0 (table.now, id) ≡ true)) }
 {
@@ -60,7 +63,8 @@ fn place_of(lines: &[CellLine], from: usize, table: &str, id: Uuid) -> Option<us
 /// Adds a cell to the row at a place.
 fn add_cell(lines: &mut Vec<CellLine>, at: usize, cell: Cell) -> Result<(), AllocError>
     requires { at < length lines.old.items }
-    ensures { OnOk result (map line_parts lines.new.items ≡ with_cell at (cell_entry cell) (map line_parts lines.old.items)) }
+    ensures { OnOk result (map line_parts lines.new.items
+        ≡ with_cell at (cell_entry cell) (map line_parts lines.old.items)) }
 {
     lines[at].cells.push(cell)?;
     Ok(())
@@ -84,8 +88,10 @@ fn put_cell(
     cell: &Row,
 ) -> Result<Option<usize>, AllocError>
     ensures put { IfOk result (λ o. IfSome o (λ at. (at < length lines.old.items)
-        × IfSome (slice_get lines.old.items at) (λ l. same_key (line_parts l).0 (row_key cell.now) ≡ true)
-        × (map line_parts lines.new.items ≡ with_cell at (entry_in cell.now) (map line_parts lines.old.items)))) }
+        × IfSome (slice_get lines.old.items at)
+        (λ l. same_key (line_parts l).0 (row_key cell.now) ≡ true)
+        × (map line_parts lines.new.items
+        ≡ with_cell at (entry_in cell.now) (map line_parts lines.old.items)))) }
     ensures none { IfOk result (λ o. IfNone o (IsCell cell.now
         → list_any (λ l. same_key (line_parts l).0 (row_key cell.now)) lines.old.items ≡ false)) }
 {

@@ -1,7 +1,7 @@
 //! The rows of `meta`.
 
-ghost use Rattle.std.specs.Prelude.{◌≡◌, MatchOption};
-ghost use Rattle.ov_sqlite.specs.Format.{IsFormatRow, IsSchemaRow, IsMeta};
+ghost use Rattle.std.specs.Prelude.{MatchOption};
+ghost use Rattle.ov_tables.specs.Format.{IsFormatRow, IsSchemaRow, IsMeta};
 
 use crate::value::{blob_at, is_blob_at, is_text_at, number_at};
 use sqlite::Row;
@@ -26,7 +26,8 @@ fn format_in(row: &Row) -> Option<u8>
 
 /// The schema's text, if this is its row.
 fn schema_in(row: &Row) -> Option<&str>
-    ensures { MatchOption result ((text : _) → ¬ IsSchemaRow text row.now) (λ text. IsSchemaRow text.now row.now) }
+    ensures { MatchOption result ((text : _) → ¬ IsSchemaRow text row.now)
+        (λ text. IsSchemaRow text.now row.now) }
 {
     let _number = number_at(row, 0)?;
     if !is_text_at(row, 1, b"schema") {
@@ -44,7 +45,8 @@ pub(crate) struct Meta<'a> {
 
 /// The two in this order.
 fn in_order<'a>(format: &Row, schema: &'a Row) -> Option<Meta<'a>>
-    ensures { MatchOption result ((n : _) → (text : _) → IsFormatRow n format.now → ¬ IsSchemaRow text schema.now)
+    ensures { MatchOption result ((n : _) → (text : _) → IsFormatRow n format.now
+        → ¬ IsSchemaRow text schema.now)
         (λ meta. IsFormatRow meta.format format.now × IsSchemaRow meta.schema.now schema.now) }
 {
     let format = format_in(format)?;

@@ -1,123 +1,25 @@
 //! Replacing the schema's text and all rows, from either stored format, by rows of format 2.
 
-ghost use Rattle.std.specs.Prelude.{◌≡◌, ◌↔◌, codes, false, is_some, IsTrue, OnOk, OnErr, IfErr};
+ghost use Rattle.std.specs.Prelude.{◌≡◌, codes, false, is_some, IsTrue, OnOk, OnErr, IfErr};
 ghost use Rattle.std.specs.FinMap.{empty};
 ghost use Rattle.sqlite.specs.State.{HasCleanDisk, Survives, KeepsCommit};
 ghost use Rattle.sqlite.specs.Held.{state};
 ghost use Rattle.sqlite_schema.specs.Names.{table_named};
 ghost use Rattle.ov_specs.specs.rows.Cells.{after_cell_changes};
 ghost use Rattle.ov_keeper.specs.Views.{changes_view};
-ghost use Rattle.ov_sqlite.specs.WriteError.{IsBefore};
-ghost use Rattle.ov_sqlite.specs.Tables.{meta_table, line_table, head_table, cell_table};
-ghost use Rattle.ov_sqlite.specs.Changing.{HoldsLines, MayBeStored};
-ghost use Rattle.ov_sqlite.specs.Querying.{IsAsBefore};
-ghost use Rattle.ov_sqlite.specs.Making.{MayClear, Clears};
-ghost use Rattle.ov_sqlite.specs.Inside.{Within, DoesInside, GoesOnInside, CommitsNothing};
-ghost use Rattle.ov_sqlite.specs.Rewriting.{MayHold, Empties, Remakes, Rewrites, IsRewriteImage};
+ghost use Rattle.ov_tables.specs.WriteError.{IsBefore};
+ghost use Rattle.ov_tables.specs.Holding.{MayBeStored};
+ghost use Rattle.ov_tables.specs.Querying.{IsAsBefore};
+ghost use Rattle.ov_tables.specs.Inside.{GoesOnInside, CommitsNothing};
+ghost use Rattle.ov_tables.specs.Emptying.{MayHold};
+ghost use Rattle.ov_sqlite.specs.Rewriting.{Remakes, Rewrites, IsRewriteImage};
 
-use crate::make::{fill_meta, make_rows};
-use crate::write::{WriteError, apply_all};
+use crate::write::apply_all;
 use ov_base::Text;
 use ov_keeper::Change;
+use ov_tables::{WriteError, clear_tables, fill_meta};
 use sqlite::{Alter, Connection, Error, Transaction};
 use sqlite_schema::schema::Schema;
-
-/// Removes every row of `meta`.
-fn clear_meta<S: Alter>(tx: &mut Transaction<'_, S>) -> Result<(), Error>
-    ensures same_reference { tx.new.conn.ghost_name ≡ tx.old.conn.ghost_name }
-    ensures ok { Within (MayClear meta_table (codes "meta")) (Clears (codes "meta"))
-        (state S.Store tx.old.conn.now) (state S.Store tx.new.conn.now) result }
-    ensures goes_on { GoesOnInside (state S.Store tx.old.conn.now) (state S.Store tx.new.conn.now) result }
-    ensures kept { CommitsNothing (state S.Store tx.old.conn.now) (state S.Store tx.new.conn.now) }
-    ensures survives { Survives (state S.Store tx.old.conn.now) (state S.Store tx.new.conn.now) (λ _. ⊥) }
-{
-    tx.execute("DELETE FROM meta", &[])?;
-    Ok(())
-}
-
-/// Removes every row of `line`.
-fn clear_line<S: Alter>(tx: &mut Transaction<'_, S>) -> Result<(), Error>
-    ensures same_reference { tx.new.conn.ghost_name ≡ tx.old.conn.ghost_name }
-    ensures ok { Within (MayClear line_table (codes "line")) (Clears (codes "line"))
-        (state S.Store tx.old.conn.now) (state S.Store tx.new.conn.now) result }
-    ensures goes_on { GoesOnInside (state S.Store tx.old.conn.now) (state S.Store tx.new.conn.now) result }
-    ensures kept { CommitsNothing (state S.Store tx.old.conn.now) (state S.Store tx.new.conn.now) }
-    ensures survives { Survives (state S.Store tx.old.conn.now) (state S.Store tx.new.conn.now) (λ _. ⊥) }
-{
-    tx.execute("DELETE FROM line", &[])?;
-    Ok(())
-}
-
-/// Removes every row of `head`.
-fn clear_head<S: Alter>(tx: &mut Transaction<'_, S>) -> Result<(), Error>
-    ensures same_reference { tx.new.conn.ghost_name ≡ tx.old.conn.ghost_name }
-    ensures ok { Within (MayClear head_table (codes "head")) (Clears (codes "head"))
-        (state S.Store tx.old.conn.now) (state S.Store tx.new.conn.now) result }
-    ensures goes_on { GoesOnInside (state S.Store tx.old.conn.now) (state S.Store tx.new.conn.now) result }
-    ensures kept { CommitsNothing (state S.Store tx.old.conn.now) (state S.Store tx.new.conn.now) }
-    ensures survives { Survives (state S.Store tx.old.conn.now) (state S.Store tx.new.conn.now) (λ _. ⊥) }
-{
-    tx.execute("DELETE FROM head", &[])?;
-    Ok(())
-}
-
-/// Removes every row of `cell`.
-fn clear_cell<S: Alter>(tx: &mut Transaction<'_, S>) -> Result<(), Error>
-    ensures same_reference { tx.new.conn.ghost_name ≡ tx.old.conn.ghost_name }
-    ensures ok { Within (MayClear cell_table (codes "cell")) (Clears (codes "cell"))
-        (state S.Store tx.old.conn.now) (state S.Store tx.new.conn.now) result }
-    ensures goes_on { GoesOnInside (state S.Store tx.old.conn.now) (state S.Store tx.new.conn.now) result }
-    ensures kept { CommitsNothing (state S.Store tx.old.conn.now) (state S.Store tx.new.conn.now) }
-    ensures survives { Survives (state S.Store tx.old.conn.now) (state S.Store tx.new.conn.now) (λ _. ⊥) }
-{
-    tx.execute("DELETE FROM cell", &[])?;
-    Ok(())
-}
-
-/// Empties the tables of stored format 2.
-fn clear_cells<S: Alter>(tx: &mut Transaction<'_, S>) -> Result<(), Error>
-    ensures same_reference { tx.new.conn.ghost_name ≡ tx.old.conn.ghost_name }
-    ensures ok { DoesInside (λ _. Empties) (state S.Store tx.old.conn.now) (state S.Store tx.new.conn.now) result }
-    ensures goes_on { GoesOnInside (state S.Store tx.old.conn.now) (state S.Store tx.new.conn.now) result }
-    ensures kept { CommitsNothing (state S.Store tx.old.conn.now) (state S.Store tx.new.conn.now) }
-    ensures survives { Survives (state S.Store tx.old.conn.now) (state S.Store tx.new.conn.now) (λ _. ⊥) }
-{
-    clear_cell(tx)?;
-    clear_head(tx)?;
-    clear_meta(tx)
-}
-
-/// Empties the tables of stored format 1, and makes `head` and `cell`. The empty `line` stays.
-fn clear_lines<S: Alter>(tx: &mut Transaction<'_, S>) -> Result<(), Error>
-    ensures same_reference { tx.new.conn.ghost_name ≡ tx.old.conn.ghost_name }
-    ensures ok { HasCleanDisk (state S.Store tx.new.conn.now) → IsTrue (state S.Store tx.old.conn.now).in_transaction → (text : _)
-        → (IsTrue (state S.Store tx.old.conn.now).is_open → HoldsLines text (state S.Store tx.old.conn.now).now)
-        → OnOk result (Empties (state S.Store tx.old.conn.now) (state S.Store tx.new.conn.now)) }
-    ensures goes_on { GoesOnInside (state S.Store tx.old.conn.now) (state S.Store tx.new.conn.now) result }
-    ensures kept { CommitsNothing (state S.Store tx.old.conn.now) (state S.Store tx.new.conn.now) }
-    ensures survives { Survives (state S.Store tx.old.conn.now) (state S.Store tx.new.conn.now) (λ _. ⊥) }
-{
-    clear_line(tx)?;
-    clear_meta(tx)?;
-    make_rows(tx)
-}
-
-/// Leaves the tables of stored format 2 without rows, from either format.
-fn clear<S: Alter>(tx: &mut Transaction<'_, S>, in_cells: bool) -> Result<(), Error>
-    ensures same_reference { tx.new.conn.ghost_name ≡ tx.old.conn.ghost_name }
-    ensures ok { HasCleanDisk (state S.Store tx.new.conn.now) → IsTrue (state S.Store tx.old.conn.now).in_transaction → (text : _)
-        → MayHold in_cells text (state S.Store tx.old.conn.now)
-        → OnOk result (Empties (state S.Store tx.old.conn.now) (state S.Store tx.new.conn.now)) }
-    ensures goes_on { GoesOnInside (state S.Store tx.old.conn.now) (state S.Store tx.new.conn.now) result }
-    ensures kept { CommitsNothing (state S.Store tx.old.conn.now) (state S.Store tx.new.conn.now) }
-    ensures survives { Survives (state S.Store tx.old.conn.now) (state S.Store tx.new.conn.now) (λ _. ⊥) }
-{
-    if in_cells {
-        clear_cells(tx)
-    } else {
-        clear_lines(tx)
-    }
-}
 
 /// Replaces the schema's text and all rows.
 fn rewrite<S: Alter>(
@@ -127,15 +29,18 @@ fn rewrite<S: Alter>(
     changes: &[Change],
 ) -> Result<(), Error>
     ensures same_reference { tx.new.conn.ghost_name ≡ tx.old.conn.ghost_name }
-    ensures ok { HasCleanDisk (state S.Store tx.new.conn.now) → IsTrue (state S.Store tx.old.conn.now).in_transaction → (text : _)
+    ensures ok { HasCleanDisk (state S.Store tx.new.conn.now)
+        → IsTrue (state S.Store tx.old.conn.now).in_transaction → (text : _)
         → MayHold in_cells text (state S.Store tx.old.conn.now)
         → OnOk result (Remakes schema.now (after_cell_changes (changes_view changes.now) empty)
         (state S.Store tx.old.conn.now) (state S.Store tx.new.conn.now)) }
-    ensures goes_on { GoesOnInside (state S.Store tx.old.conn.now) (state S.Store tx.new.conn.now) result }
+    ensures goes_on { GoesOnInside (state S.Store tx.old.conn.now)
+        (state S.Store tx.new.conn.now) result }
     ensures kept { CommitsNothing (state S.Store tx.old.conn.now) (state S.Store tx.new.conn.now) }
-    ensures survives { Survives (state S.Store tx.old.conn.now) (state S.Store tx.new.conn.now) (λ _. ⊥) }
+    ensures survives { Survives (state S.Store tx.old.conn.now) (state S.Store tx.new.conn.now)
+        (λ _. ⊥) }
 {
-    clear(tx, in_cells)?;
+    clear_tables(tx, in_cells)?;
     fill_meta(tx, schema)?;
     apply_all(tx, changes)
 }
@@ -157,14 +62,16 @@ pub fn rewrite_all<S: Alter>(
 ) -> Result<(), WriteError>
     requires { conn.old.in_transaction ≡ false }
     ensures mode { conn.new.in_transaction ≡ false }
-    ensures ok { HasCleanDisk (state S.Store conn.new) → (text : _) → MayBeStored text (state S.Store conn.old)
+    ensures ok { HasCleanDisk (state S.Store conn.new) → (text : _)
+        → MayBeStored text (state S.Store conn.old)
         → OnOk result (Rewrites schema.now (after_cell_changes (changes_view changes.now) empty)
         (state S.Store conn.old) (state S.Store conn.new)) }
     ensures before { IfErr result (λ s. IsBefore s
         → Survives (state S.Store conn.old) (state S.Store conn.new) (λ _. ⊥)) }
     ensures crash { Survives (state S.Store conn.old) (state S.Store conn.new)
         (λ trees. (text : _) → MayBeStored text (state S.Store conn.old)
-        → IsRewriteImage schema.now (after_cell_changes (changes_view changes.now) empty) (state S.Store conn.old) trees) }
+        → IsRewriteImage schema.now (after_cell_changes (changes_view changes.now) empty)
+        (state S.Store conn.old) trees) }
     ensures unmoved { HasCleanDisk (state S.Store conn.new)
         → OnErr result (KeepsCommit (state S.Store conn.old) (state S.Store conn.new)) }
     ensures same { HasCleanDisk (state S.Store conn.new)

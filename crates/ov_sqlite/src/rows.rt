@@ -2,8 +2,8 @@
 
 ghost use Rattle.std.specs.Prelude.{◌≡◌, ◌↔◌, ◌<ℤ◌, OnOk, IfSome, IsTrue, Err};
 ghost use Rattle.std.specs.List.{AllByRecursion};
-ghost use Rattle.ov_sqlite.specs.Format.{IsLine, IsHead, IsCell};
-ghost use Rattle.ov_sqlite.specs.Changing.{IsNumbered};
+ghost use Rattle.ov_tables.specs.Format.{IsLine, IsHead, IsCell};
+ghost use Rattle.ov_tables.specs.Holding.{IsNumbered};
 ghost use Rattle.ov_sqlite.specs.Joining.{AreNumbered};
 
 use crate::columns::{cell_columns_of, head_columns_of, line_columns_of};

@@ -39,7 +39,8 @@ pub(crate) fn is_blob_at(row: &Row, at: usize, blob: &[u8]) -> bool
 }
 
 pub(crate) fn text_at(row: &Row, at: usize) -> Option<&str>
-    ensures { MatchOption result (IsNoText (column row.now at)) (λ t. (column row.now at ≡ Text t.now) × IsUtf8 t.now) }
+    ensures { MatchOption result (IsNoText (column row.now at))
+        (λ t. (column row.now at ≡ Text t.now) × IsUtf8 t.now) }
 {
     match row.get_ref(at) {
         Ok(ValueRef::Text(bytes)) => std::str::from_utf8(bytes).ok(),
@@ -48,7 +49,8 @@ pub(crate) fn text_at(row: &Row, at: usize) -> Option<&str>
 }
 
 pub(crate) fn blob_at(row: &Row, at: usize) -> Option<&[u8]>
-    ensures { MatchOption result (IsNoBlob (column row.now at)) (λ b. column row.now at ≡ Blob b.now) }
+    ensures { MatchOption result (IsNoBlob (column row.now at))
+        (λ b. column row.now at ≡ Blob b.now) }
 {
     match row.get_ref(at) {
         Ok(ValueRef::Blob(bytes)) => Some(bytes),
@@ -57,7 +59,8 @@ pub(crate) fn blob_at(row: &Row, at: usize) -> Option<&[u8]>
 }
 
 pub(crate) fn uuid_at(row: &Row, at: usize) -> Option<Uuid>
-    ensures { MatchOption result (IsNoUuid (column row.now at)) (λ id. (column row.now at ≡ Blob id) × (length id ≡ 16)) }
+    ensures { MatchOption result (IsNoUuid (column row.now at))
+        (λ id. (column row.now at ≡ Blob id) × (length id ≡ 16)) }
 {
     let bytes = blob_at(row, at)?;
     Uuid::from_slice(bytes).ok()

@@ -6,13 +6,16 @@ ghost use Rattle.sqlite.specs.State.{HasCleanDisk, Survives, KeepsCommit, IsUnch
 ghost use Rattle.sqlite.specs.Held.{state};
 ghost use Rattle.ov_specs.specs.rows.Cells.{after_cell_change, after_cell_changes};
 ghost use Rattle.ov_keeper.specs.Views.{cells_view, cell_line_entry, change_view, changes_view};
-ghost use Rattle.ov_sqlite.specs.WriteError.{IsBefore};
-ghost use Rattle.ov_sqlite.specs.Changing.{MayHoldCells, Makes, Becomes, IsEmptied, IsAdded, IsRefilled};
-ghost use Rattle.ov_sqlite.specs.Changing.{MayHave, MayLack, MayBeEmpty, Stores, IsCommitImage};
-ghost use Rattle.ov_sqlite.specs.Inside.{DoesInside, DoesInsideIf, WasOpenInside, GoesOnInside, CommitsNothing};
-ghost use Rattle.ov_sqlite.specs.Querying.{IsAsBefore};
+ghost use Rattle.ov_tables.specs.WriteError.{IsBefore};
+ghost use Rattle.ov_tables.specs.Holding.{MayHoldCells};
+ghost use Rattle.ov_sqlite.specs.Changing.{Makes, Becomes, IsEmptied, IsAdded, IsRefilled, MayHave};
+ghost use Rattle.ov_sqlite.specs.Changing.{MayLack, MayBeEmpty, Stores, IsCommitImage};
+ghost use Rattle.ov_tables.specs.Inside.{DoesInside, DoesInsideIf, WasOpenInside, GoesOnInside};
+ghost use Rattle.ov_tables.specs.Inside.{CommitsNothing};
+ghost use Rattle.ov_tables.specs.Querying.{IsAsBefore};
 
 use ov_keeper::{Cell, CellLine, Change};
+use ov_tables::WriteError;
 use sqlite::types::ValueRef;
 use sqlite::{Alter, Connection, Error, Transaction};
 use uuid::Uuid;
@@ -22,10 +25,13 @@ fn remove_cells<S: Alter>(tx: &mut Transaction<'_, S>, table: &str, id: Uuid) ->
     ensures same_reference { tx.new.conn.ghost_name ≡ tx.old.conn.ghost_name }
     ensures ok { DoesInside (λ text. Makes text (IsEmptied (table.now, id)))
         (state S.Store tx.old.conn.now) (state S.Store tx.new.conn.now) result }
-    ensures opened { WasOpenInside (state S.Store tx.old.conn.now) (state S.Store tx.new.conn.now) result }
-    ensures goes_on { GoesOnInside (state S.Store tx.old.conn.now) (state S.Store tx.new.conn.now) result }
+    ensures opened { WasOpenInside (state S.Store tx.old.conn.now)
+        (state S.Store tx.new.conn.now) result }
+    ensures goes_on { GoesOnInside (state S.Store tx.old.conn.now)
+        (state S.Store tx.new.conn.now) result }
     ensures kept { CommitsNothing (state S.Store tx.old.conn.now) (state S.Store tx.new.conn.now) }
-    ensures survives { Survives (state S.Store tx.old.conn.now) (state S.Store tx.new.conn.now) (λ _. ⊥) }
+    ensures survives { Survives (state S.Store tx.old.conn.now) (state S.Store tx.new.conn.now)
+        (λ _. ⊥) }
 {
     let key = [
         ValueRef::Text(table.as_bytes()),
@@ -38,11 +44,14 @@ fn remove_cells<S: Alter>(tx: &mut Transaction<'_, S>, table: &str, id: Uuid) ->
 /// Removes the head of the row of this key, which has no cells.
 fn remove_head<S: Alter>(tx: &mut Transaction<'_, S>, table: &str, id: Uuid) -> Result<(), Error>
     ensures same_reference { tx.new.conn.ghost_name ≡ tx.old.conn.ghost_name }
-    ensures ok { DoesInsideIf (MayBeEmpty (table.now, id)) (λ text. Makes text (Becomes (λ m. remove m (table.now, id))))
+    ensures ok { DoesInsideIf (MayBeEmpty (table.now, id))
+        (λ text. Makes text (Becomes (λ m. remove m (table.now, id))))
         (state S.Store tx.old.conn.now) (state S.Store tx.new.conn.now) result }
-    ensures goes_on { GoesOnInside (state S.Store tx.old.conn.now) (state S.Store tx.new.conn.now) result }
+    ensures goes_on { GoesOnInside (state S.Store tx.old.conn.now)
+        (state S.Store tx.new.conn.now) result }
     ensures kept { CommitsNothing (state S.Store tx.old.conn.now) (state S.Store tx.new.conn.now) }
-    ensures survives { Survives (state S.Store tx.old.conn.now) (state S.Store tx.new.conn.now) (λ _. ⊥) }
+    ensures survives { Survives (state S.Store tx.old.conn.now) (state S.Store tx.new.conn.now)
+        (λ _. ⊥) }
 {
     let key = [
         ValueRef::Text(table.as_bytes()),
@@ -57,10 +66,13 @@ fn remove_row<S: Alter>(tx: &mut Transaction<'_, S>, table: &str, id: Uuid) -> R
     ensures same_reference { tx.new.conn.ghost_name ≡ tx.old.conn.ghost_name }
     ensures ok { DoesInside (λ text. Makes text (Becomes (λ m. remove m (table.now, id))))
         (state S.Store tx.old.conn.now) (state S.Store tx.new.conn.now) result }
-    ensures opened { WasOpenInside (state S.Store tx.old.conn.now) (state S.Store tx.new.conn.now) result }
-    ensures goes_on { GoesOnInside (state S.Store tx.old.conn.now) (state S.Store tx.new.conn.now) result }
+    ensures opened { WasOpenInside (state S.Store tx.old.conn.now)
+        (state S.Store tx.new.conn.now) result }
+    ensures goes_on { GoesOnInside (state S.Store tx.old.conn.now)
+        (state S.Store tx.new.conn.now) result }
     ensures kept { CommitsNothing (state S.Store tx.old.conn.now) (state S.Store tx.new.conn.now) }
-    ensures survives { Survives (state S.Store tx.old.conn.now) (state S.Store tx.new.conn.now) (λ _. ⊥) }
+    ensures survives { Survives (state S.Store tx.old.conn.now) (state S.Store tx.new.conn.now)
+        (λ _. ⊥) }
 {
     remove_cells(tx, table, id)?;
     remove_head(tx, table, id)
@@ -78,11 +90,14 @@ fn id_bytes(id: &Uuid) -> &[u8]
 fn insert_head<S: Alter>(tx: &mut Transaction<'_, S>, line: &CellLine) -> Result<(), Error>
     ensures same_reference { tx.new.conn.ghost_name ≡ tx.old.conn.ghost_name }
     ensures ok { DoesInsideIf (MayLack (line.now.table, line.now.id))
-        (λ text. Makes text (Becomes (λ m. insert m (line.now.table, line.now.id) (line.now.version, empty))))
+        (λ text. Makes text (Becomes
+        (λ m. insert m (line.now.table, line.now.id) (line.now.version, empty))))
         (state S.Store tx.old.conn.now) (state S.Store tx.new.conn.now) result }
-    ensures goes_on { GoesOnInside (state S.Store tx.old.conn.now) (state S.Store tx.new.conn.now) result }
+    ensures goes_on { GoesOnInside (state S.Store tx.old.conn.now)
+        (state S.Store tx.new.conn.now) result }
     ensures kept { CommitsNothing (state S.Store tx.old.conn.now) (state S.Store tx.new.conn.now) }
-    ensures survives { Survives (state S.Store tx.old.conn.now) (state S.Store tx.new.conn.now) (λ _. ⊥) }
+    ensures survives { Survives (state S.Store tx.old.conn.now) (state S.Store tx.new.conn.now)
+        (λ _. ⊥) }
 {
     let values = [
         ValueRef::Text(line.table.as_str().as_bytes()),
@@ -103,9 +118,11 @@ fn insert_cell<S: Alter>(
     ensures ok { DoesInsideIf (MayHave (line.now.table, line.now.id) (λ _. Unit {0}))
         (λ text. Makes text (IsAdded (line.now.table, line.now.id) cell.now.column cell.now.body))
         (state S.Store tx.old.conn.now) (state S.Store tx.new.conn.now) result }
-    ensures goes_on { GoesOnInside (state S.Store tx.old.conn.now) (state S.Store tx.new.conn.now) result }
+    ensures goes_on { GoesOnInside (state S.Store tx.old.conn.now)
+        (state S.Store tx.new.conn.now) result }
     ensures kept { CommitsNothing (state S.Store tx.old.conn.now) (state S.Store tx.new.conn.now) }
-    ensures survives { Survives (state S.Store tx.old.conn.now) (state S.Store tx.new.conn.now) (λ _. ⊥) }
+    ensures survives { Survives (state S.Store tx.old.conn.now) (state S.Store tx.new.conn.now)
+        (λ _. ⊥) }
 {
     let values = [
         ValueRef::Text(line.table.as_str().as_bytes()),
@@ -123,12 +140,16 @@ fn insert_cell<S: Alter>(
 /// Adds the cells of a row, whose head is there without any.
 fn insert_cells<S: Alter>(tx: &mut Transaction<'_, S>, line: &CellLine) -> Result<(), Error>
     ensures same_reference { tx.new.conn.ghost_name ≡ tx.old.conn.ghost_name }
-    ensures ok { DoesInsideIf (MayHave (line.now.table, line.now.id) (λ l. l ≡ (line.now.version, empty)))
-        (λ text. Makes text (IsRefilled (line.now.table, line.now.id) (line.now.version, cells_view line.now.cells.items)))
+    ensures ok { DoesInsideIf (MayHave (line.now.table, line.now.id)
+        (λ l. l ≡ (line.now.version, empty)))
+        (λ text. Makes text (IsRefilled
+        (line.now.table, line.now.id) (line.now.version, cells_view line.now.cells.items)))
         (state S.Store tx.old.conn.now) (state S.Store tx.new.conn.now) result }
-    ensures goes_on { GoesOnInside (state S.Store tx.old.conn.now) (state S.Store tx.new.conn.now) result }
+    ensures goes_on { GoesOnInside (state S.Store tx.old.conn.now)
+        (state S.Store tx.new.conn.now) result }
     ensures kept { CommitsNothing (state S.Store tx.old.conn.now) (state S.Store tx.new.conn.now) }
-    ensures survives { Survives (state S.Store tx.old.conn.now) (state S.Store tx.new.conn.now) (λ _. ⊥) }
+    ensures survives { Survives (state S.Store tx.old.conn.now) (state S.Store tx.new.conn.now)
+        (λ _. ⊥) }
 {
     for cell in line.cells.as_slice() {
         insert_cell(tx, line, cell)?;
@@ -139,12 +160,16 @@ fn insert_cells<S: Alter>(tx: &mut Transaction<'_, S>, line: &CellLine) -> Resul
 /// Puts a row in place of the one with its key.
 fn put_row<S: Alter>(tx: &mut Transaction<'_, S>, line: &CellLine) -> Result<(), Error>
     ensures same_reference { tx.new.conn.ghost_name ≡ tx.old.conn.ghost_name }
-    ensures ok { DoesInside (λ text. Makes text (Becomes (λ m. insert m (cell_line_entry line.now).0 (cell_line_entry line.now).1)))
+    ensures ok { DoesInside (λ text. Makes text (Becomes
+        (λ m. insert m (cell_line_entry line.now).0 (cell_line_entry line.now).1)))
         (state S.Store tx.old.conn.now) (state S.Store tx.new.conn.now) result }
-    ensures opened { WasOpenInside (state S.Store tx.old.conn.now) (state S.Store tx.new.conn.now) result }
-    ensures goes_on { GoesOnInside (state S.Store tx.old.conn.now) (state S.Store tx.new.conn.now) result }
+    ensures opened { WasOpenInside (state S.Store tx.old.conn.now)
+        (state S.Store tx.new.conn.now) result }
+    ensures goes_on { GoesOnInside (state S.Store tx.old.conn.now)
+        (state S.Store tx.new.conn.now) result }
     ensures kept { CommitsNothing (state S.Store tx.old.conn.now) (state S.Store tx.new.conn.now) }
-    ensures survives { Survives (state S.Store tx.old.conn.now) (state S.Store tx.new.conn.now) (λ _. ⊥) }
+    ensures survives { Survives (state S.Store tx.old.conn.now) (state S.Store tx.new.conn.now)
+        (λ _. ⊥) }
 {
     remove_row(tx, line.table.as_str(), line.id)?;
     insert_head(tx, line)?;
@@ -153,12 +178,16 @@ fn put_row<S: Alter>(tx: &mut Transaction<'_, S>, line: &CellLine) -> Result<(),
 
 fn apply<S: Alter>(tx: &mut Transaction<'_, S>, change: &Change) -> Result<(), Error>
     ensures same_reference { tx.new.conn.ghost_name ≡ tx.old.conn.ghost_name }
-    ensures ok { DoesInside (λ text. Makes text (Becomes (after_cell_change (change_view change.now))))
+    ensures ok { DoesInside (λ text. Makes text (Becomes
+        (after_cell_change (change_view change.now))))
         (state S.Store tx.old.conn.now) (state S.Store tx.new.conn.now) result }
-    ensures opened { WasOpenInside (state S.Store tx.old.conn.now) (state S.Store tx.new.conn.now) result }
-    ensures goes_on { GoesOnInside (state S.Store tx.old.conn.now) (state S.Store tx.new.conn.now) result }
+    ensures opened { WasOpenInside (state S.Store tx.old.conn.now)
+        (state S.Store tx.new.conn.now) result }
+    ensures goes_on { GoesOnInside (state S.Store tx.old.conn.now)
+        (state S.Store tx.new.conn.now) result }
     ensures kept { CommitsNothing (state S.Store tx.old.conn.now) (state S.Store tx.new.conn.now) }
-    ensures survives { Survives (state S.Store tx.old.conn.now) (state S.Store tx.new.conn.now) (λ _. ⊥) }
+    ensures survives { Survives (state S.Store tx.old.conn.now) (state S.Store tx.new.conn.now)
+        (λ _. ⊥) }
 {
     match change {
         Change::Put(line) => put_row(tx, line),
@@ -171,25 +200,22 @@ pub(crate) fn apply_all<S: Alter>(
     changes: &[Change],
 ) -> Result<(), Error>
     ensures same_reference { tx.new.conn.ghost_name ≡ tx.old.conn.ghost_name }
-    ensures ok { DoesInside (λ text. Makes text (Becomes (after_cell_changes (changes_view changes.now))))
+    ensures ok { DoesInside (λ text. Makes text (Becomes
+        (after_cell_changes (changes_view changes.now))))
         (state S.Store tx.old.conn.now) (state S.Store tx.new.conn.now) result }
-    ensures opened { HasCleanDisk (state S.Store tx.new.conn.now) → IsTrue (state S.Store tx.old.conn.now).in_transaction
+    ensures opened { HasCleanDisk (state S.Store tx.new.conn.now)
+        → IsTrue (state S.Store tx.old.conn.now).in_transaction
         → OnOk result (0 < length changes.now → IsTrue (state S.Store tx.old.conn.now).is_open) }
-    ensures goes_on { GoesOnInside (state S.Store tx.old.conn.now) (state S.Store tx.new.conn.now) result }
+    ensures goes_on { GoesOnInside (state S.Store tx.old.conn.now)
+        (state S.Store tx.new.conn.now) result }
     ensures kept { CommitsNothing (state S.Store tx.old.conn.now) (state S.Store tx.new.conn.now) }
-    ensures survives { Survives (state S.Store tx.old.conn.now) (state S.Store tx.new.conn.now) (λ _. ⊥) }
+    ensures survives { Survives (state S.Store tx.old.conn.now) (state S.Store tx.new.conn.now)
+        (λ _. ⊥) }
 {
     for change in changes {
         apply(tx, change)?;
     }
     Ok(())
-}
-
-/// Where a write stopped: before the commit, so that it changed nothing, or at the commit.
-#[derive(Debug, Drop)]
-pub enum WriteError {
-    Before(Error),
-    AtCommit(Error),
 }
 
 /// Makes the changes in one transaction, in a database of stored format 2. After an error the connection is closed or shows what
@@ -198,12 +224,16 @@ pub fn write_all<S: Alter>(conn: &mut Connection<S>, changes: &[Change]) -> Resu
     requires autocommit { conn.old.in_transaction ≡ false }
     requires some { 0 < length changes.now }
     ensures mode { conn.new.in_transaction ≡ false }
-    ensures ok { HasCleanDisk (state S.Store conn.new) → (text : _) → MayHoldCells text (state S.Store conn.old)
-        → OnOk result (Stores text (after_cell_changes (changes_view changes.now)) (state S.Store conn.old) (state S.Store conn.new)) }
-    ensures before { IfErr result (λ s. IsBefore s → Survives (state S.Store conn.old) (state S.Store conn.new) (λ _. ⊥)) }
+    ensures ok { HasCleanDisk (state S.Store conn.new) → (text : _)
+        → MayHoldCells text (state S.Store conn.old)
+        → OnOk result (Stores text (after_cell_changes (changes_view changes.now))
+        (state S.Store conn.old) (state S.Store conn.new)) }
+    ensures before { IfErr result (λ s. IsBefore s
+        → Survives (state S.Store conn.old) (state S.Store conn.new) (λ _. ⊥)) }
     ensures crash { Survives (state S.Store conn.old) (state S.Store conn.new)
         (λ trees. (text : _) → MayHoldCells text (state S.Store conn.old)
-        → IsCommitImage (after_cell_changes (changes_view changes.now)) (state S.Store conn.old) trees) }
+        → IsCommitImage (after_cell_changes (changes_view changes.now))
+        (state S.Store conn.old) trees) }
     ensures unmoved { HasCleanDisk (state S.Store conn.new)
         → OnErr result (KeepsCommit (state S.Store conn.old) (state S.Store conn.new)) }
     ensures same { HasCleanDisk (state S.Store conn.new)
@@ -228,9 +258,12 @@ pub fn write_all<S: Alter>(conn: &mut Connection<S>, changes: &[Change]) -> Resu
 pub(crate) fn probe<S: Alter>(conn: &mut Connection<S>) -> Result<(), Error>
     requires { conn.old.in_transaction ≡ false }
     ensures mode { conn.new.in_transaction ≡ false }
-    ensures up { HasCleanDisk (state S.Store conn.new) → OnOk result (IsUnchanged (state S.Store conn.old) (state S.Store conn.new)) }
-    ensures same { HasCleanDisk (state S.Store conn.new) → IsAsBefore (state S.Store conn.old) (state S.Store conn.new) }
-    ensures unmoved { HasCleanDisk (state S.Store conn.new) → KeepsCommit (state S.Store conn.old) (state S.Store conn.new) }
+    ensures up { HasCleanDisk (state S.Store conn.new)
+        → OnOk result (IsUnchanged (state S.Store conn.old) (state S.Store conn.new)) }
+    ensures same { HasCleanDisk (state S.Store conn.new)
+        → IsAsBefore (state S.Store conn.old) (state S.Store conn.new) }
+    ensures unmoved { HasCleanDisk (state S.Store conn.new)
+        → KeepsCommit (state S.Store conn.old) (state S.Store conn.new) }
     ensures survives { Survives (state S.Store conn.old) (state S.Store conn.new) (λ _. ⊥) }
 {
     if !conn.is_autocommit() {

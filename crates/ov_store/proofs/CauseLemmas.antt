@@ -10,7 +10,7 @@ use Rattle.sqlite.specs.Opening.{FailsAs}
 use Rattle.sqlite.specs.State.{State, Opens, IsLive, store_error}
 use Rattle.sqlite.specs.Effect.{Database}
 use Rattle.sqlite.specs.Schema.{Schema}
-use Rattle.ov_sqlite.specs.Tables.{no_schema, HasOurTables}
+use Rattle.ov_tables.specs.Tables.{no_schema, HasOurTables}
 use Rattle.sqlite_disk.specs.declared.Disk as disk
 use Rattle.sqlite_disk.specs.declared.Files.{Files}
 use Rattle.sqlite_disk.specs.declared.tally.Tally.{Tally}

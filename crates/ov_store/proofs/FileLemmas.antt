@@ -13,7 +13,7 @@ use Rattle.sqlite_store.specs.declared.store.FileStore.{FileStore}
 use Rattle.ov_keeper.specs.declared.fault.KeepFault.{KeepFault}
 use Rattle.sqlite_wal.specs.Recovery.{Image}
 use Rattle.ov_specs.specs.rows.Cells.{Stored}
-use Rattle.ov_sqlite.specs.Tables.{no_schema, HasOurTables}
+use Rattle.ov_tables.specs.Tables.{no_schema, HasOurTables}
 use Rattle.ov_store.specs.StoreState.{StoreState, MayFind, text_in}
 use Rattle.ov_store.specs.Finding.{new_contents, IsNewStore, IsStoreOf, HasNoTable, IsStoredIn, IsRefused, IsPathRefused, IsFileRefused, IsMemoryRefused}
 use Rattle.ov_store.specs.Causes.{IsNobodyElses}

@@ -6,9 +6,9 @@ use Rattle.sqlite.specs.State.{HasCleanDisk}
 use Rattle.sqlite.specs.Held.{Held as Connected, state}
 use Rattle.ov_specs.specs.rows.Cells.{Stored, StoredLines, Whole, InCells, format_of}
 use Rattle.ov_keeper.specs.Keeping.{LeavesNoMore, LeavesMade, MayLeaveMade, changed}
-use Rattle.ov_sqlite.specs.Format.{IsFormat, IsLineFormat, IsCellFormat, held, rows_of_meta}
-use Rattle.ov_sqlite.specs.Changing.{HoldsLines, HoldsCells, IsStored, IsStoredAs}
-use Rattle.ov_sqlite.specs.Querying.{IsAsBefore}
+use Rattle.ov_tables.specs.Format.{IsFormat, held, rows_of_meta}
+use Rattle.ov_tables.specs.Holding.{HoldsLines, HoldsCells, IsStored, IsStoredAs}
+use Rattle.ov_tables.specs.Querying.{IsAsBefore}
 use Rattle.ov_sqlite.proofs.HeldLemmas.{schema_is, held_lines, held_cells}
 use Rattle.ov_store.specs.StoreState.{MayFind, IsAtRest, text_in}
 

@@ -12,19 +12,21 @@ use Rattle.ov_specs.specs.rows.Cells.{CellChange, CellLines, Stored, InCells, af
 use Rattle.ov_keeper.specs.Keeping.{LeavesNoMore, LeavesMade, MayLeaveMade, LeavesRefused, IsCommitFault, changed}
 use Rattle.ov_keeper.specs.declared.fault.KeepFault.{KeepFault}
 use Rattle.ov_keeper.specs.declared.fault.KeepFault.TheVariants.{Memory, Device, NotOurs, Format, TooLarge}
-use Rattle.ov_sqlite.specs.Tables.{row_trees, line_trees, cell_trees}
-use Rattle.ov_sqlite.specs.Format.{held, stored_cells, head_of, cell_of, IsMeta, rows_of_meta, rows_of_head, rows_of_cell}
-use Rattle.ov_sqlite.specs.Changing.{MayBeStored, MayHoldCells, KeepsOthers, Stores, IsCommitImage}
-use Rattle.ov_sqlite.specs.Rewriting.{KeepsRest, Rewrites, IsRewriteImage}
+use Rattle.ov_tables.specs.Tables.{row_trees, line_trees, cell_trees}
+use Rattle.ov_tables.specs.Format.{held, stored_cells, head_of, cell_of, IsMeta, rows_of_meta, rows_of_head, rows_of_cell}
+use Rattle.ov_tables.specs.Holding.{MayBeStored, MayHoldCells, KeepsOthers}
+use Rattle.ov_sqlite.specs.Changing.{Stores, IsCommitImage}
+use Rattle.ov_tables.specs.Emptying.{KeepsRest}
+use Rattle.ov_sqlite.specs.Rewriting.{Rewrites, IsRewriteImage}
 use Rattle.ov_store.specs.Finding.{new_contents}
 use Rattle.ov_store.specs.StoreState.{MayFind, LeavesOthers, LeavesRest, LeavesTables}
-use Rattle.ov_sqlite.specs.Making.{IsNew}
-use Rattle.ov_sqlite.proofs.HeldLemmas.{held_cells, held_cells_meta}
+use Rattle.ov_tables.specs.Making.{IsNew}
+use Rattle.ov_sqlite.proofs.HeldLemmas.{held_cells_meta}
 use Rattle.std.specs.FinMap.{empty}
 use Rattle.sqlite.proofs.StateLemmas.{survives_then}
-use Rattle.ov_sqlite.specs.declared.write.WriteError.{WriteError}
-use Rattle.ov_sqlite.specs.WriteError.{IsBefore}
-use Rattle.ov_sqlite.proofs.RunLemmas.{nothing_then, survives_as, others_now}
+use Rattle.ov_tables.specs.declared.write_error.WriteError.{WriteError}
+use Rattle.ov_tables.specs.WriteError.{IsBefore}
+use Rattle.ov_tables.proofs.KeepLemmas.{nothing_then, survives_as, others_now}
 
 pub is_zero : (n : ℕ) → true ≡ (n == 0) → n ≡ 0
 is_zero n e = grind (arith, nat_tests)

@@ -18,7 +18,7 @@ use Rattle.ov_keeper.specs.declared.fault.KeepFault.{KeepFault}
 use Rattle.ov_keeper.specs.declared.fault.KeepFault.TheVariants.{Memory, Device, NotOurs}
 use Rattle.ov_store.specs.Answers.{Opening, Random, Connecting, OpeningCopy, WasAnswered}
 use Rattle.ov_store.specs.Refusing.{fault_of_open, IsPathFault}
-use Rattle.ov_sqlite.specs.Tables.{no_schema, HasOurTables}
+use Rattle.ov_tables.specs.Tables.{no_schema, HasOurTables}
 
 -- the files hold a database, or none has been made yet
 abbrev pub IsOpenable : Image → Type 0

@@ -15,10 +15,10 @@ use Rattle.sqlite_wal.specs.Recovery.{Image}
 use Rattle.ov_specs.specs.rows.Cells.{Stored, InCells}
 use Rattle.ov_keeper.specs.declared.fault.KeepFault.{KeepFault}
 use Rattle.ov_keeper.specs.declared.fault.KeepFault.TheVariants.{Device, NotOurs, Format}
-use Rattle.ov_sqlite.specs.Tables.{no_schema, HasOurTables}
-use Rattle.ov_sqlite.specs.Format.{IsFormat, NamesOther, held}
-use Rattle.ov_sqlite.specs.Making.{IsNewFile}
-use Rattle.ov_sqlite.specs.Querying.{IsAsBefore}
+use Rattle.ov_tables.specs.Tables.{no_schema, HasOurTables}
+use Rattle.ov_tables.specs.Format.{IsFormat, NamesOther, held}
+use Rattle.ov_tables.specs.Making.{IsNewFile}
+use Rattle.ov_tables.specs.Querying.{IsAsBefore}
 use Rattle.ov_store.specs.Refusing.{fault_of_open}
 use Rattle.ov_store.specs.Answers.{Making, Testing, WasAnswered}
 use Rattle.ov_store.specs.Causes.{IsErrorInMemory, IsUnopened, FailsToBegin}

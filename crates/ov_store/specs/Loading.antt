@@ -3,7 +3,7 @@ use Rattle.std.specs.Prelude.{◌≡◌, IsTrue}
 use Rattle.sqlite.specs.State.{State}
 use Rattle.ov_keeper.specs.declared.keeper.Loaded.{Loaded}
 use Rattle.ov_keeper.specs.Keeping.{loaded_contents}
-use Rattle.ov_sqlite.specs.Format.{held}
+use Rattle.ov_tables.specs.Format.{held}
 
 -- the connection is open and everything is committed, and this is what its tables hold
 pub record HoldsLoaded (s : State) (loaded : Loaded) : Type 0 where

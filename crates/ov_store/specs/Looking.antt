@@ -7,7 +7,7 @@ use Rattle.std.specs.declared.io.Error.{Error}
 use Rattle.std.specs.declared.io.ErrorKind.TheVariants as kind
 use Rattle.sqlite_wal.specs.Recovery.{Image}
 use Rattle.ov_keeper.specs.declared.fault.KeepFault.{KeepFault}
-use Rattle.ov_sqlite.specs.HasText.{ListsOurs}
+use Rattle.ov_tables.specs.HasText.{ListsOurs}
 use Rattle.ov_store.specs.Answers.{RealPath, Stat, Page, Bytes, Room, WasAnswered}
 use Rattle.ov_store.specs.Refusing.{IsSystemFault}
 use Rattle.ov_store.specs.Causes.{IsCopyRefused, IsNobodyElses}

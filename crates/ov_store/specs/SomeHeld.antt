@@ -3,7 +3,7 @@ use Rattle.std.proofs.Common.{◌≡◌, refl}
 use Rattle.std.proofs.Math.Logic.{∥∥₁_map}
 use Rattle.sqlite.specs.Tree.{Trees}
 use Rattle.ov_specs.specs.rows.Cells.{Stored}
-use Rattle.ov_sqlite.specs.Format.{held}
+use Rattle.ov_tables.specs.Format.{held}
 
 -- if some trees are found, so are the contents that they hold
 pub some_held : (recovers : Trees → Type 0) → ∥ ((db : Trees) × recovers db) ∥₁ → ∥ ((contents : Stored) × ((trees : Trees) × recovers trees × (contents ≡ held trees))) ∥₁

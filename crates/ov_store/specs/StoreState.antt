@@ -8,10 +8,10 @@ use Rattle.sqlite.specs.State.{HasCleanDisk}
 use Rattle.sqlite.specs.Change.{KeepsRows}
 use Rattle.sqlite.specs.Held.{Held as Connected, held_code, state}
 use Rattle.ov_specs.specs.rows.Cells.{Stored, format_of}
-use Rattle.ov_sqlite.specs.Tables.{row_trees}
-use Rattle.ov_sqlite.specs.Format.{held, stored_schema, rows_of_meta}
-use Rattle.ov_sqlite.specs.Changing.{IsStoredAs, KeepsOthers}
-use Rattle.ov_sqlite.specs.Rewriting.{KeepsRest}
+use Rattle.ov_tables.specs.Tables.{row_trees}
+use Rattle.ov_tables.specs.Format.{held, stored_schema, rows_of_meta}
+use Rattle.ov_tables.specs.Holding.{IsStoredAs, KeepsOthers}
+use Rattle.ov_tables.specs.Emptying.{KeepsRest}
 
 -- a connection, the format of its tables, and how often the device has failed
 pub record StoreState (S : Type 0) : Type 0 where

@@ -9,7 +9,7 @@ use Rattle.sqlite_store.specs.declared.store.FileStore.{FileStore}
 use Rattle.sqlite_trees.specs.Tree.{Trees}
 use Rattle.sqlite.specs.Files.{HoldsDatabase, image_of, over_files}
 use Rattle.ov_specs.specs.rows.Cells.{Stored}
-use Rattle.ov_sqlite.specs.Format.{held}
+use Rattle.ov_tables.specs.Format.{held}
 use Rattle.ov_store.specs.StoreState.{StoreState, MayFind}
 
 module _ {D : Type 0} {g : disk.Ghosts D} where

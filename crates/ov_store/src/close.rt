@@ -4,7 +4,7 @@ ghost use Rattle.std.specs.Prelude.{◌≡◌, IfOk, OnOk, IfErr, IsTrue};
 ghost use Rattle.sqlite_wal.specs.Reads.{AreClean};
 ghost use Rattle.sqlite.specs.Held.{state};
 ghost use Rattle.ov_keeper.specs.Keeping.{IsLoadFault};
-ghost use Rattle.ov_sqlite.specs.Format.{held};
+ghost use Rattle.ov_tables.specs.Format.{held};
 ghost use Rattle.ov_store.specs.StoreState.{MayFind};
 ghost use Rattle.ov_store.specs.Whole.{IsWhole, WasWhole};
 

@@ -5,7 +5,7 @@ ghost use Rattle.std.specs.IoError.{error_kind};
 ghost use Rattle.ov_store.specs.Answers.{Page, WasAnswered};
 ghost use Rattle.ov_store.specs.Looking.{log_of, HasBytes, HasFailed, HasLogSize, HasNoPage, HasNoRoom, HasNoSize, HasSize, IsPlain, IsUnread, ListsTables, WasRead};
 
-use ov_sqlite::lists_tables;
+use ov_tables::lists_tables;
 use std::alloc::Global;
 use std::fs;
 use std::io::{self, ErrorKind, Read};

@@ -8,7 +8,7 @@ ghost use Rattle.sqlite.specs.declared.error.ErrorCode.TheVariants.{OutOfMemory}
 ghost use Rattle.sqlite.specs.State.{HasCleanDisk, Opens};
 ghost use Rattle.sqlite.specs.Held.{state};
 ghost use Rattle.ov_keeper.specs.Keeping.{IsLoadFault};
-ghost use Rattle.ov_sqlite.specs.Format.{held};
+ghost use Rattle.ov_tables.specs.Format.{held};
 ghost use Rattle.ov_store.specs.StoreState.{MayFind, IsOfItsFormat};
 ghost use Rattle.ov_store.specs.Finding.{IsRefusedAgain};
 

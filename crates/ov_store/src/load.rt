@@ -4,8 +4,8 @@ ghost use Rattle.sqlite.specs.Held.{state};
 ghost use Rattle.ov_specs.specs.rows.Cells.{format_of};
 ghost use Rattle.ov_keeper.specs.Keeping.{LeavesNoMore, IsLoadFault, loaded_contents};
 ghost use Rattle.ov_keeper.specs.Views.{lines_view};
-ghost use Rattle.ov_sqlite.specs.Changing.{MayBeStored};
-ghost use Rattle.ov_sqlite.specs.Querying.{IsAsBefore};
+ghost use Rattle.ov_tables.specs.Holding.{MayBeStored};
+ghost use Rattle.ov_tables.specs.Querying.{IsAsBefore};
 ghost use Rattle.ov_store.specs.Loading.{HoldsLoaded};
 ghost use Rattle.ov_store.specs.StoreState.{MayFind};
 

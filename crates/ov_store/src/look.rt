@@ -4,14 +4,14 @@ ghost use Rattle.std.specs.Prelude.{◌≡◌, ◌≢◌, ◌⊎◌, IfErr, IfOk
 ghost use Rattle.ov_store.specs.Causes.{IsCopyRefused, IsNobodyElses};
 ghost use Rattle.ov_store.specs.Looking.{IsLookRefused, IsRefusedAt, MayBeOpened, MayBeOpenedAt};
 ghost use Rattle.ov_store.specs.Refusing.{IsSystemFault};
-ghost use Rattle.ov_sqlite.specs.Tables.{no_schema, HasOurTables};
+ghost use Rattle.ov_tables.specs.Tables.{no_schema, HasOurTables};
 
 use crate::copies::{Copies, is_absent, read_to_test};
 use crate::file::fault_of_open;
 use crate::memory::open_memory_files;
 use crate::memory_disk::MemoryDisk;
 use ov_keeper::KeepFault;
-use ov_sqlite::{is_blank, is_ours};
+use ov_tables::{is_blank, is_ours};
 use sqlite::{Alter, Connection, FileStore, Files};
 use sqlite_disk::Disk;
 use sqlite_schema::schema::Schema;

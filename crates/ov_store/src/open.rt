@@ -2,10 +2,10 @@ ghost use Rattle.std.specs.Prelude.{◌≡◌, ◌≢◌, ◌⊎◌, ◌↔◌, 
 ghost use Rattle.sqlite.specs.State.{HasCleanDisk, Survives};
 ghost use Rattle.sqlite.specs.Held.{state};
 ghost use Rattle.ov_keeper.specs.Keeping.{IsCommitFault};
-ghost use Rattle.ov_sqlite.specs.Tables.{with_ours, HasRoom, HasOurTables};
-ghost use Rattle.ov_sqlite.specs.Format.{IsFormat};
-ghost use Rattle.ov_sqlite.specs.Making.{MayMake, IsNew, IsNewBeside};
-ghost use Rattle.ov_sqlite.specs.Querying.{IsAsBefore};
+ghost use Rattle.ov_tables.specs.Tables.{with_ours, HasRoom, HasOurTables};
+ghost use Rattle.ov_tables.specs.Format.{IsFormat};
+ghost use Rattle.ov_tables.specs.Making.{MayMake, IsNew, IsNewBeside};
+ghost use Rattle.ov_tables.specs.Querying.{IsAsBefore};
 ghost use Rattle.ov_store.specs.Answers.{Making, Testing, WasAnswered};
 ghost use Rattle.ov_store.specs.Finding.{new_contents, IsForeign};
 ghost use Rattle.ov_store.specs.StoreState.{MayFind, IsOfItsFormat, LeavesTables, text_in};
@@ -14,7 +14,8 @@ use crate::store::Store;
 use crate::unopened::Unopened;
 use ov_base::Text;
 use ov_keeper::KeepFault;
-use ov_sqlite::{fault_at, has_room, is_ours, make_tables, test_format};
+use ov_sqlite::{fault_at, test_format};
+use ov_tables::{has_room, is_ours, make_tables};
 use sqlite::{Alter, Connection};
 use std::alloc::Global;
 

@@ -1,6 +1,6 @@
 ghost use Rattle.std.specs.Prelude.{◌≡◌, ◌≢◌, false, IfOk, IfErr};
 ghost use Rattle.sqlite.specs.Files.{over_files};
-ghost use Rattle.ov_sqlite.specs.Tables.{no_schema};
+ghost use Rattle.ov_tables.specs.Tables.{no_schema};
 ghost use Rattle.ov_store.specs.Finding.{IsNewStore, IsOldStore, IsStoreOf, IsRefused};
 ghost use Rattle.ov_store.specs.StoreState.{IsOfItsFormat};
 
@@ -8,7 +8,7 @@ use crate::store::Store;
 use crate::unopened::Unopened;
 use ov_base::Text;
 use ov_keeper::KeepFault;
-use ov_sqlite::is_blank;
+use ov_tables::is_blank;
 use sqlite::{Alter, Connection, FileStore};
 use sqlite_disk::Disk;
 use std::alloc::Global;

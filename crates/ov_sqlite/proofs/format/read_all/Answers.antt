@@ -2,7 +2,7 @@ use Rattle.std.proofs.Common.{◌==◌, sym, subst, arith, MatchBool}
 use Rattle.sqlite.specs.Effect.{Database}
 use Rattle.sqlite.specs.State.{HasCleanDisk}
 use Rattle.sqlite.specs.Held.{state}
-use Rattle.ov_sqlite.specs.Tables.{HasLineTables, HasCellTables}
+use Rattle.ov_tables.specs.Tables.{HasLineTables, HasCellTables}
 use Rattle.ov_sqlite.specs.Reading.{ReadsLines}
 use Rattle.ov_sqlite.proofs.FormatLemmas.{meta_there, our_tables, tables_named, read_held}
 use Rattle.ov_sqlite.proofs.format.read_all.Goals as goal

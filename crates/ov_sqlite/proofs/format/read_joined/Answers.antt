@@ -3,9 +3,10 @@ use Rattle.std.specs.List.{AllByRecursion}
 use Rattle.sqlite.specs.Effect.{Database}
 use Rattle.sqlite.specs.State.{HasCleanDisk}
 use Rattle.sqlite.specs.Held.{state}
-use Rattle.ov_sqlite.specs.Tables.{HasCellTables}
-use Rattle.ov_sqlite.specs.Format.{IsHead, IsCell, cell_of, rows_of_head, rows_of_cell}
-use Rattle.ov_sqlite.specs.Reading.{ReadsRows, head_selected, row_selected}
+use Rattle.ov_tables.specs.Tables.{HasCellTables}
+use Rattle.ov_tables.specs.Format.{IsHead, IsCell, cell_of, rows_of_head, rows_of_cell}
+use Rattle.ov_sqlite.specs.Reading.{ReadsRows}
+use Rattle.ov_tables.specs.Querying.{head_selected, row_selected}
 use Rattle.ov_sqlite.proofs.HeldLemmas.{read_all, head_shown, cell_shown, heads_distinct, joined_same, owned_stored, owned_read}
 use Rattle.ov_sqlite.proofs.OpenLemmas.{err_of}
 use Rattle.ov_sqlite.proofs.JoinLemmas.{joined_entries}

@@ -1,8 +1,8 @@
 use Rattle.std.proofs.Common.{inl, inr, subst, MatchBool, false}
 use Rattle.sqlite.specs.Held.{state}
-use Rattle.ov_sqlite.specs.Tables.{HasLineTables, HasCellTables}
+use Rattle.ov_tables.specs.Tables.{HasLineTables, HasCellTables}
 use Rattle.ov_sqlite.specs.Reading.{MayReadCells, MayReadRows}
-use Rattle.ov_sqlite.proofs.EmptyLemmas.{not_both}
+use Rattle.ov_tables.proofs.EmptyLemmas.{not_both}
 use Rattle.ov_sqlite.proofs.OpenLemmas.{err_of}
 use Rattle.ov_sqlite.proofs.format.read_rows.Goals as goal
 

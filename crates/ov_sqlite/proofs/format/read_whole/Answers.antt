@@ -1,7 +1,7 @@
 use Rattle.std.proofs.Common.{◌∙◌, sym, ap}
 use Rattle.std.specs.FinMap.{from_entries}
 use Rattle.sqlite.specs.Held.{state}
-use Rattle.ov_sqlite.specs.Tables.{HasLineTables}
+use Rattle.ov_tables.specs.Tables.{HasLineTables}
 use Rattle.ov_sqlite.proofs.HeldLemmas.{lines_same}
 use Rattle.ov_sqlite.proofs.format.read_whole.Goals as goal
 

@@ -2,8 +2,8 @@ use Rattle.std.proofs.Common.{◌≡◌, ◌∙◌, ◌==◌, ◌↔◌, inl, in
 use Rattle.sqlite.specs.Effect.{Database}
 use Rattle.sqlite.specs.State.{HasCleanDisk}
 use Rattle.sqlite.specs.Held.{state}
-use Rattle.ov_sqlite.specs.Tables.{HasLineTables, HasCellTables}
-use Rattle.ov_sqlite.specs.Format.{IsFormat}
+use Rattle.ov_tables.specs.Tables.{HasLineTables, HasCellTables}
+use Rattle.ov_tables.specs.Format.{IsFormat}
 use Rattle.ov_sqlite.specs.Reading.{ReadsLines}
 use Rattle.ov_sqlite.proofs.OpenLemmas.{err_of}
 use Rattle.ov_sqlite.proofs.FormatLemmas.{meta_there, tables_by, told_same, told_apart, other_named, read_stored}

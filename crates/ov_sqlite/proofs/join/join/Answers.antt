@@ -1,7 +1,7 @@
 use Rattle.std.proofs.Common.{◌≡◌, ◌∙◌, ap, sym, subst, take, map}
 use Rattle.std.proofs.lemmas.List.{take_all}
 use Rattle.std.specs.List.{AllByRecursion}
-use Rattle.ov_sqlite.specs.Format.{IsCell, row_key}
+use Rattle.ov_tables.specs.Format.{IsCell, row_key}
 use Rattle.ov_sqlite.specs.Joining.{head_parts, with_cell, entry_in}
 use Rattle.ov_sqlite.proofs.NumberLemmas.{all_push, all_front, taken_more}
 use Rattle.ov_sqlite.proofs.CellLemmas.{HasHead, each_heads}

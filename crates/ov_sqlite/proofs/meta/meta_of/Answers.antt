@@ -1,5 +1,5 @@
 use Rattle.std.proofs.Common.{ℕ, ◌≡◌, List, [], ◌∷◌, length, Option, Some, None, MatchOption, inr, arith}
-use Rattle.ov_sqlite.specs.Format.{IsFormatRow, IsSchemaRow, IsMeta}
+use Rattle.ov_tables.specs.Format.{IsFormatRow, IsSchemaRow, IsMeta}
 use Rattle.ov_sqlite.specs.declared.meta.Meta.{Meta}
 use Rattle.ov_sqlite.proofs.PairLemmas.{two_rows, not_meta}
 use Rattle.ov_sqlite.proofs.meta.meta_of.Goals as goal

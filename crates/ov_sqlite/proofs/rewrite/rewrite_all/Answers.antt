@@ -1,6 +1,6 @@
 use Rattle.std.proofs.Common.{◌≡◌, ◌∙◌, ℕ, List, codes, is_some, inl, inr, ap, refl, subst, arith, rules}
 use Rattle.sqlite_schema.specs.Names.{table_named}
-use Rattle.ov_sqlite.proofs.EmptyLemmas.{by_format}
+use Rattle.ov_sqlite.proofs.RewriteLemmas.{by_format, rolled_same, refused_same, rewritten_crash, rewritten}
 use Rattle.std.specs.FinMap.{empty}
 use Rattle.sqlite_trees.specs.Tree.{Trees}
 use Rattle.sqlite.specs.State.{HasCleanDisk, Survives, KeepsCommit}
@@ -8,11 +8,10 @@ use Rattle.sqlite.specs.Held.{state}
 use Rattle.sqlite.proofs.Callers.{survives_begin}
 use Rattle.ov_specs.specs.rows.Cells.{after_cell_changes}
 use Rattle.ov_keeper.specs.Views.{changes_view}
-use Rattle.ov_sqlite.specs.Changing.{MayBeStored}
-use Rattle.ov_sqlite.specs.Querying.{IsAsBefore}
+use Rattle.ov_tables.specs.Holding.{MayBeStored}
+use Rattle.ov_tables.specs.Querying.{IsAsBefore}
 use Rattle.ov_sqlite.specs.Rewriting.{Rewrites, IsRewriteImage}
-use Rattle.ov_sqlite.proofs.RunLemmas.{nothing_now, nothing_then, keeps_now, keeps_then, rolled_keeps, survives_as, commit_fails_keeps}
-use Rattle.ov_sqlite.proofs.RewriteLemmas.{rolled_same, refused_same, rewritten_crash, rewritten}
+use Rattle.ov_tables.proofs.KeepLemmas.{nothing_now, nothing_then, keeps_now, keeps_then, rolled_keeps, survives_as, commit_fails_keeps}
 use Rattle.ov_sqlite.proofs.rewrite.rewrite_all.Goals as goal
 
 -- ---- nothing was begun

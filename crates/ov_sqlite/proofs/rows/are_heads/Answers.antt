@@ -1,7 +1,7 @@
 use Rattle.std.proofs.Common.{◌≡◌, true, false, refl, sym, subst, take, arith}
 use Rattle.std.proofs.lemmas.List.{take_all}
 use Rattle.std.specs.List.{AllByRecursion}
-use Rattle.ov_sqlite.specs.Format.{IsHead}
+use Rattle.ov_tables.specs.Format.{IsHead}
 use Rattle.ov_sqlite.proofs.NumberLemmas.{all_push, all_front, taken_more}
 use Rattle.ov_sqlite.proofs.rows.are_heads.Goals as goal
 

@@ -3,7 +3,7 @@ use Rattle.std.specs.List.{AllByRecursion}
 use Rattle.sqlite.specs.declared.types.Value.TheVariants.{Int}
 use Rattle.sqlite.specs.Order.{column}
 use Rattle.ov_sqlite.specs.Joining.{AreNumbered}
-use Rattle.ov_sqlite.specs.Changing.{IsNumbered}
+use Rattle.ov_tables.specs.Holding.{IsNumbered}
 use Rattle.ov_sqlite.proofs.rows.test_numbers.Given as goal
 
 abbrev pub invariant-loop-row : goal.invariant-loop-row

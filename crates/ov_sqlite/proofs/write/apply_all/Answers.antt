@@ -6,7 +6,8 @@ use Rattle.sqlite.specs.Held.{state}
 use Rattle.ov_specs.specs.rows.Cells.{after_cell_changes, after_cell_change}
 use Rattle.ov_keeper.specs.Views.{change_view, changes_view}
 use Rattle.ov_keeper.proofs.LineLemmas.{after_cell_changes-take}
-use Rattle.ov_sqlite.proofs.RunLemmas.{makes_none, makes_then, keeps_now, keeps_then, nothing_now, nothing_then}
+use Rattle.ov_sqlite.proofs.RunLemmas.{makes_none, makes_then}
+use Rattle.ov_tables.proofs.KeepLemmas.{keeps_now, keeps_then, nothing_now, nothing_then}
 use Rattle.ov_sqlite.proofs.write.apply_all.Goals as goal
 
 pub loop-change-init : goal.loop-change-init

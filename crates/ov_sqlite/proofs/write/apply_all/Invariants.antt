@@ -4,7 +4,8 @@ use Rattle.sqlite.specs.Held.{state}
 use Rattle.std.specs.Prelude.{List, ℕ}
 use Rattle.ov_specs.specs.rows.Cells.{after_cell_changes}
 use Rattle.ov_keeper.specs.Views.{changes_view}
-use Rattle.ov_sqlite.specs.Changing.{MayHoldCells, Makes, Becomes}
+use Rattle.ov_tables.specs.Holding.{MayHoldCells}
+use Rattle.ov_sqlite.specs.Changing.{Makes, Becomes}
 use Rattle.ov_sqlite.proofs.write.apply_all.Given as goal
 
 abbrev pub invariant-loop-change : goal.invariant-loop-change

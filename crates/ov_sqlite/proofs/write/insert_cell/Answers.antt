@@ -1,6 +1,6 @@
 use Rattle.std.proofs.Common.{◌≡◌, ℕ, List, length, IsUtf8, subst, ◌∙◌}
 use Rattle.sqlite.specs.Held.{state}
-use Rattle.ov_sqlite.proofs.RunLemmas.{inside_keeps}
+use Rattle.ov_tables.proofs.KeepLemmas.{inside_keeps}
 use Rattle.ov_sqlite.proofs.ChangeLemmas.{cell_inserted}
 use Rattle.ov_sqlite.proofs.write.insert_cell.Goals as goal
 

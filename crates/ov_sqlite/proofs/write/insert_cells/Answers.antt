@@ -1,5 +1,5 @@
 use Rattle.ov_keeper.specs.declared.cell_line.Cell.{Cell}
-use Rattle.std.proofs.Common.{◌≡◌, ◌<◌, length, get_or, ◌+◌, ◌∙◌, ap, sym, refl, subst, arith, take, ℕ, List}
+use Rattle.std.proofs.Common.{◌≡◌, ◌<◌, length, get_or, ◌+◌, ◌∙◌, ap, sym, refl, subst, arith, take, List}
 use Rattle.std.proofs.lemmas.List.{take_all}
 use Rattle.std.specs.FinMap.{empty, get}
 use Rattle.sqlite.specs.State.{HasCleanDisk}
@@ -7,9 +7,10 @@ use Rattle.sqlite.specs.Held.{state}
 use Rattle.ov_specs.specs.rows.Lines.{LineKey}
 use Rattle.ov_specs.specs.rows.Cells.{CellLines}
 use Rattle.ov_keeper.specs.Views.{cells_view}
-use Rattle.ov_sqlite.specs.Format.{stored_cells}
+use Rattle.ov_tables.specs.Format.{stored_cells}
 use Rattle.ov_sqlite.specs.Changing.{Makes, IsRefilled, IsAdded, MayHave}
-use Rattle.ov_sqlite.proofs.RunLemmas.{makes_none, makes_then, keeps_now, keeps_then, nothing_now, nothing_then}
+use Rattle.ov_sqlite.proofs.RunLemmas.{makes_none, makes_then}
+use Rattle.ov_tables.proofs.KeepLemmas.{keeps_now, keeps_then, nothing_now, nothing_then}
 use Rattle.ov_sqlite.proofs.RefillLemmas.{put_found, put_back, refilled_more}
 use Rattle.ov_sqlite.proofs.write.insert_cells.Goals as goal
 

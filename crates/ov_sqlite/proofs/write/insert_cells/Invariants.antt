@@ -4,7 +4,8 @@ use Rattle.std.specs.FinMap.{empty}
 use Rattle.sqlite.specs.State.{HasCleanDisk, Survives, KeepsCommit}
 use Rattle.sqlite.specs.Held.{state}
 use Rattle.ov_keeper.specs.Views.{cells_view}
-use Rattle.ov_sqlite.specs.Changing.{MayHoldCells, MayHave, Makes, IsRefilled}
+use Rattle.ov_tables.specs.Holding.{MayHoldCells}
+use Rattle.ov_sqlite.specs.Changing.{MayHave, Makes, IsRefilled}
 use Rattle.ov_sqlite.proofs.write.insert_cells.Given as goal
 
 abbrev pub invariant-loop-cell : goal.invariant-loop-cell

@@ -1,6 +1,6 @@
 use Rattle.sqlite.specs.Held.{state}
-use Rattle.ov_sqlite.proofs.RunLemmas.{prepared_keeps}
-use Rattle.ov_sqlite.proofs.ReadLemmas.{prepared_as_before}
+use Rattle.ov_tables.proofs.KeepLemmas.{prepared_keeps}
+use Rattle.ov_tables.proofs.ReadLemmas.{prepared_as_before}
 use Rattle.ov_sqlite.proofs.write.probe.Goals as goal
 
 pub returns-clause-unmoved : goal.returns-clause-unmoved

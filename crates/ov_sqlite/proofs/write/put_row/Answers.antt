@@ -3,12 +3,13 @@ use Rattle.std.specs.FinMap.{empty, get, insert, remove}
 use Rattle.sqlite.specs.State.{HasCleanDisk}
 use Rattle.sqlite.specs.Held.{state}
 use Rattle.ov_specs.specs.rows.Lines.{LineKey}
-use Rattle.ov_specs.specs.rows.Cells.{CellLine, CellLines}
+use Rattle.ov_specs.specs.rows.Cells.{CellLines}
 use Rattle.ov_keeper.specs.Views.{cells_view}
 use Rattle.ov_keeper.proofs.LineLemmas.{not_found}
-use Rattle.ov_sqlite.specs.Format.{stored_cells}
+use Rattle.ov_tables.specs.Format.{stored_cells}
 use Rattle.ov_sqlite.specs.Changing.{Becomes, IsRefilled, Makes}
-use Rattle.ov_sqlite.proofs.RunLemmas.{on_ok, makes_then}
+use Rattle.ov_tables.proofs.KeepLemmas.{on_ok}
+use Rattle.ov_sqlite.proofs.RunLemmas.{makes_then}
 use Rattle.ov_sqlite.proofs.RefillLemmas.{put_found, put_again}
 use Rattle.ov_sqlite.proofs.write.put_row.Goals as goal
 

@@ -1,5 +1,5 @@
 use Rattle.sqlite.specs.Held.{state}
-use Rattle.ov_sqlite.proofs.RunLemmas.{inside_keeps}
+use Rattle.ov_tables.proofs.KeepLemmas.{inside_keeps}
 use Rattle.ov_sqlite.proofs.ChangeLemmas.{head_removed}
 use Rattle.ov_sqlite.proofs.write.remove_head.Goals as goal
 

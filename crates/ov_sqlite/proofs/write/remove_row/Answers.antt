@@ -4,7 +4,8 @@ use Rattle.sqlite.specs.State.{HasCleanDisk}
 use Rattle.sqlite.specs.Held.{state}
 use Rattle.ov_specs.specs.rows.Lines.{LineKey}
 use Rattle.ov_sqlite.specs.Changing.{IsEmptied, Becomes}
-use Rattle.ov_sqlite.proofs.RunLemmas.{on_ok, makes_then}
+use Rattle.ov_tables.proofs.KeepLemmas.{on_ok}
+use Rattle.ov_sqlite.proofs.RunLemmas.{makes_then}
 use Rattle.ov_sqlite.proofs.RefillLemmas.{is_empty, gone_after}
 use Rattle.ov_sqlite.proofs.write.remove_row.Goals as goal
 

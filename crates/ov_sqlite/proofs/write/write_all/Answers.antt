@@ -7,14 +7,14 @@ use Rattle.sqlite.proofs.Callers.{survives_begin}
 use Rattle.std.specs.Prelude.{List, ℕ}
 use Rattle.ov_specs.specs.rows.Cells.{after_cell_changes}
 use Rattle.ov_keeper.specs.Views.{changes_view}
-use Rattle.ov_sqlite.specs.Format.{stored_cells}
+use Rattle.ov_tables.specs.Format.{stored_cells, rows_of_meta}
 use Rattle.sqlite.specs.Effect.{Database}
-use Rattle.ov_sqlite.specs.Changing.{HoldsCells, MayHoldCells, KeepsOthers, Stores, IsCommitImage}
-use Rattle.ov_sqlite.specs.Tables.{row_trees}
-use Rattle.ov_sqlite.specs.Querying.{IsAsBefore}
+use Rattle.ov_tables.specs.Holding.{HoldsCells, MayHoldCells, KeepsOthers}
+use Rattle.ov_sqlite.specs.Changing.{Stores, IsCommitImage}
+use Rattle.ov_tables.specs.Tables.{row_trees}
+use Rattle.ov_tables.specs.Querying.{IsAsBefore}
 use Rattle.ov_sqlite.proofs.RewriteLemmas.{rolled_same, refused_same}
-use Rattle.ov_sqlite.specs.Format.{rows_of_meta}
-use Rattle.ov_sqlite.proofs.RunLemmas.{nothing_now, nothing_then, keeps_now, keeps_then, rolled_keeps, survives_as, commit_fails_keeps}
+use Rattle.ov_tables.proofs.KeepLemmas.{nothing_now, nothing_then, keeps_now, keeps_then, rolled_keeps, survives_as, commit_fails_keeps}
 use Rattle.ov_sqlite.proofs.write.write_all.Goals as goal
 
 pub returns-in-Err-commit-clause-crash : goal.returns-in-Err-commit-clause-crash

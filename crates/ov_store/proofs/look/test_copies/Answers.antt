@@ -5,7 +5,7 @@ use Rattle.sqlite.specs.State.{HasCleanDisk}
 use Rattle.sqlite.specs.Files.{file_state}
 use Rattle.ov_store.proofs.CauseLemmas.{copy_refused, foreign_refused}
 use Rattle.ov_store.proofs.FileLemmas.{nobody_elses}
-use Rattle.ov_sqlite.proofs.RunLemmas.{on_ok}
+use Rattle.ov_tables.proofs.KeepLemmas.{on_ok}
 use Rattle.ov_store.proofs.look.test_copies.Goals as goal
 
 pub returns-in-Ok-clause-passes : goal.returns-in-Ok-clause-passes

@@ -1,6 +1,6 @@
 use Rattle.std.proofs.Common.{◌≡◌, inl, inr, true, false, subst, ℕ, List}
 use Rattle.std.proofs.lemmas.Result.{IfErr-weaker}
-use Rattle.ov_sqlite.proofs.RunLemmas.{on_ok}
+use Rattle.ov_tables.proofs.KeepLemmas.{on_ok}
 use Rattle.std.specs.Path.{path_buf_bytes}
 use Rattle.ov_store.specs.Answers.{RealPath}
 use Rattle.ov_store.specs.Looking.{MayBeOpenedAt, IsRefusedAt}

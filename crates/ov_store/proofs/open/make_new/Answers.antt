@@ -1,8 +1,8 @@
 use Rattle.std.proofs.Common.{inl, inr}
 use Rattle.sqlite.specs.Held.{state}
 use Rattle.sqlite_trees.specs.Tree.{Trees}
-use Rattle.ov_sqlite.specs.Making.{IsNewBeside}
-use Rattle.ov_sqlite.proofs.RunLemmas.{survives_as}
+use Rattle.ov_tables.specs.Making.{IsNewBeside}
+use Rattle.ov_tables.proofs.KeepLemmas.{survives_as}
 use Rattle.ov_store.specs.Answers.{Making, told}
 use Rattle.ov_store.proofs.FoundLemmas.{refused_left}
 use Rattle.ov_store.proofs.open.make_new.Goals as goal

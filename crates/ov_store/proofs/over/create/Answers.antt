@@ -2,8 +2,8 @@ use Rattle.std.proofs.Common.{inl, inr}
 use Rattle.std.proofs.lemmas.Result.{IfOk-weaker, IfErr-weaker}
 use Rattle.sqlite.specs.Held.{state}
 use Rattle.ov_store.proofs.ResultLemmas.{ok_pair, err_pair}
-use Rattle.ov_sqlite.proofs.RoomLemmas.{room_of_blank}
-use Rattle.ov_sqlite.proofs.RunLemmas.{survives_as}
+use Rattle.ov_tables.proofs.RoomLemmas.{room_of_blank}
+use Rattle.ov_tables.proofs.KeepLemmas.{survives_as}
 use Rattle.ov_store.proofs.over.create.Goals as goal
 
 pub returns-clause-store : goal.returns-clause-store

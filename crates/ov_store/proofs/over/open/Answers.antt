@@ -3,7 +3,7 @@ use Rattle.std.proofs.lemmas.Result.{IfOk-weaker, IfErr-weaker}
 use Rattle.sqlite.specs.Held.{state}
 use Rattle.ov_store.proofs.ResultLemmas.{ok_pair, err_pair}
 use Rattle.ov_store.proofs.FoundLemmas.{found_is, survives_found}
-use Rattle.ov_sqlite.proofs.RunLemmas.{survives_as}
+use Rattle.ov_tables.proofs.KeepLemmas.{survives_as}
 use Rattle.ov_store.proofs.over.open.Goals as goal
 
 pub returns-clause-store : goal.returns-clause-store

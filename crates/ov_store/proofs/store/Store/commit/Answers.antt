@@ -6,11 +6,12 @@ use Rattle.ov_keeper.specs.Keeping.{LeavesNoMore, LeavesMade, MayLeaveMade, chan
 use Rattle.ov_keeper.specs.Views.{changes_view}
 use Rattle.sqlite.specs.Tree.{Trees}
 use Rattle.sqlite.proofs.StateLemmas.{survives_then}
-use Rattle.ov_sqlite.specs.Changing.{MayHoldCells, IsCommitImage}
+use Rattle.ov_tables.specs.Holding.{MayHoldCells}
+use Rattle.ov_sqlite.specs.Changing.{IsCommitImage}
 use Rattle.ov_store.specs.StoreState.{StoreState, MayFind, LeavesOthers, text_in}
 use Rattle.ov_store.proofs.FoundLemmas.{is_zero, refused, stores_changes, crash_changes, kept_found, kept_left, survives_found, survives_left, others_same, others_stored, others_crashed}
 use Rattle.ov_store.proofs.FormatLemmas.{changed_none, cells_stored, text_stored, found_made, all_made, still_at_rest, as_before_then}
-use Rattle.ov_sqlite.proofs.RunLemmas.{nothing_then}
+use Rattle.ov_tables.proofs.KeepLemmas.{nothing_then}
 use Rattle.ov_keeper.specs.declared.fault.KeepFault.TheVariants.{Device}
 use Rattle.ov_store.proofs.store.Store.commit.Goals as goal
 use Rattle.std.proofs.lemmas.List.{nil_from_length}

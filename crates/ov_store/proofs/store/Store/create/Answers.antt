@@ -2,11 +2,11 @@ use Rattle.std.proofs.Common.{◌≡◌, ◌≤◌, ℕ, inl, inr, refl, sym, ap
 use Rattle.sqlite.specs.Held.{state}
 use Rattle.ov_specs.specs.rows.Cells.{Stored, format_of}
 use Rattle.ov_keeper.specs.Keeping.{IsCommitFault}
-use Rattle.ov_sqlite.specs.Tables.{HasRoom}
-use Rattle.ov_sqlite.specs.Making.{MayMake}
+use Rattle.ov_tables.specs.Tables.{HasRoom}
+use Rattle.ov_tables.specs.Making.{MayMake}
 use Rattle.ov_store.proofs.FoundLemmas.{new_found, new_beside}
 use Rattle.ov_store.proofs.FormatLemmas.{text_stored}
-use Rattle.ov_sqlite.proofs.RunLemmas.{nothing_now, survives_as}
+use Rattle.ov_tables.proofs.KeepLemmas.{nothing_now, survives_as}
 use Rattle.ov_store.proofs.store.Store.create.Goals as goal
 
 pub returns-in-Ok-clause-ok : goal.returns-in-Ok-clause-ok

@@ -3,7 +3,7 @@ use Rattle.sqlite.specs.State.{HasCleanDisk}
 use Rattle.sqlite.specs.Held.{state}
 use Rattle.ov_specs.specs.rows.Cells.{Stored, format_of}
 use Rattle.ov_keeper.specs.Keeping.{LeavesNoMore}
-use Rattle.ov_sqlite.specs.Changing.{MayBeStored}
+use Rattle.ov_tables.specs.Holding.{MayBeStored}
 use Rattle.ov_store.specs.StoreState.{StoreState, MayFind, text_in}
 use Rattle.ov_store.proofs.FoundLemmas.{found_is, survives_found}
 use Rattle.ov_store.proofs.FormatLemmas.{any_stored, stored_format, found_same, still_at_rest}

@@ -2,9 +2,9 @@ use Rattle.std.proofs.Common.{◌≡◌, ◌∙◌, inl, inr, ap, refl, sym, sub
 use Rattle.sqlite.specs.Held.{state}
 use Rattle.sqlite.specs.Effect.{Database}
 use Rattle.ov_specs.specs.rows.Cells.{Stored, format_of}
-use Rattle.ov_sqlite.specs.Tables.{HasOurTables}
-use Rattle.ov_sqlite.specs.Changing.{IsStoredAs}
-use Rattle.ov_sqlite.proofs.RunLemmas.{nothing_now}
+use Rattle.ov_tables.specs.Tables.{HasOurTables}
+use Rattle.ov_tables.specs.Holding.{IsStoredAs}
+use Rattle.ov_tables.proofs.KeepLemmas.{nothing_now}
 use Rattle.ov_store.specs.Answers.{Testing}
 use Rattle.ov_store.specs.StoreState.{text_in}
 use Rattle.ov_store.proofs.AnswerLemmas.{refusal_told}

@@ -8,9 +8,9 @@ use Rattle.ov_specs.specs.rows.Cells.{after_cell_changes, rewritten}
 use Rattle.ov_keeper.specs.Keeping.{LeavesNoMore, LeavesMade, MayLeaveMade}
 use Rattle.ov_keeper.specs.Views.{changes_view}
 use Rattle.ov_keeper.specs.declared.fault.KeepFault.TheVariants.{Device}
-use Rattle.ov_sqlite.specs.Changing.{MayBeStored}
+use Rattle.ov_tables.specs.Holding.{MayBeStored}
 use Rattle.ov_sqlite.specs.Rewriting.{IsRewriteImage}
-use Rattle.ov_sqlite.proofs.RunLemmas.{nothing_then}
+use Rattle.ov_tables.proofs.KeepLemmas.{nothing_then}
 use Rattle.ov_store.specs.StoreState.{StoreState, MayFind, LeavesRest, text_in}
 use Rattle.ov_store.proofs.FoundLemmas.{refused, rewrites_contents, crash_rewrites, kept_found, kept_left, survives_found, survives_left, rest_same, rest_rewritten, rest_crashed}
 use Rattle.ov_store.proofs.FormatLemmas.{any_stored, text_stored, found_made, all_made, still_at_rest, as_before_then}

@@ -1,9 +1,0 @@
--- Where a write stopped.
-use Rattle.std.specs.Prelude.{⊤}
-use Rattle.ov_sqlite.specs.declared.write.WriteError.{WriteError}
-use Rattle.ov_sqlite.specs.declared.write.WriteError.TheVariants.{Before, AtCommit}
-
--- before the commit
-abbrev pub IsBefore : WriteError → Type 0
-IsBefore (Before e) = ⊤
-IsBefore (AtCommit e) = ⊥

@@ -1,0 +1,159 @@
+//! The rows of the tables, read and tested.
+
+ghost use Rattle.std.specs.Prelude.{◌≡◌, ◌≢◌, codes, false, IfOk, IsTrue, Err};
+ghost use Rattle.std.specs.List.{AllByRecursion};
+ghost use Rattle.sqlite.specs.State.{HasCleanDisk, Survives};
+ghost use Rattle.sqlite.specs.Held.{state};
+ghost use Rattle.ov_tables.specs.Tables.{meta_table, line_table, head_table, cell_table};
+ghost use Rattle.ov_tables.specs.Format.{IsMeta, IsLine, IsHead, IsCell, entry, head_of, cell_of};
+ghost use Rattle.ov_tables.specs.Format.{rows_of_meta, rows_of_line, rows_of_head, rows_of_cell};
+ghost use Rattle.ov_tables.specs.Querying.{IsAsBefore, MayRead, head_selected, row_selected};
+ghost use Rattle.ov_sqlite.specs.Reading.{ReadsRows};
+
+use crate::fault::fault_of;
+use crate::meta::meta_of;
+use crate::rows::{are_cells, are_heads, are_lines, test_numbers};
+use ov_base::Text;
+use ov_keeper::KeepFault;
+use ov_tables::{cell_rows, head_rows, line_rows, meta_rows};
+use sqlite::{Alter, Connection, Row};
+use std::alloc::Global;
+
+/// What `meta` says: the number of the format, and the text of the schema.
+#[derive(Drop)]
+pub(crate) struct Named {
+    pub format: u8,
+    pub schema: Text,
+}
+
+/// What `meta` says. Returns `Format` if its rows are not those of a stored format.
+pub(crate) fn read_meta<S: Alter>(
+    alloc: Global,
+    conn: &mut Connection<S>,
+) -> Result<Named, KeepFault>
+    requires { conn.old.in_transaction ≡ false }
+    ensures mode { conn.new.in_transaction ≡ false }
+    ensures ok { HasCleanDisk (state S.Store conn.new)
+        → MayRead meta_table (codes "meta") (state S.Store conn.old)
+        → IfOk result (λ named. IsTrue (state S.Store conn.old).is_open
+        × IsMeta named.format named.schema (rows_of_meta (state S.Store conn.old).now.trees)) }
+    ensures format { HasCleanDisk (state S.Store conn.new)
+        → MayRead meta_table (codes "meta") (state S.Store conn.old)
+        → result ≡ Err KeepFault.Format → (n : _) → (text : _)
+        → ¬ IsMeta n text (rows_of_meta (state S.Store conn.old).now.trees) }
+    ensures ours { result ≢ Err KeepFault.NotOurs }
+    ensures same { HasCleanDisk (state S.Store conn.new)
+        → IsAsBefore (state S.Store conn.old) (state S.Store conn.new) }
+    ensures survives { Survives (state S.Store conn.old) (state S.Store conn.new) (λ _. ⊥) }
+{
+    let rows = match meta_rows(conn) {
+        Ok(rows) => rows,
+        Err(error) => return Err(fault_of(&error)),
+    };
+    let Some(meta) = meta_of(rows.as_slice()) else {
+        return Err(KeepFault::Format);
+    };
+    match Text::from_str(alloc, meta.schema) {
+        Ok(schema) => Ok(Named {
+            format: meta.format,
+            schema,
+        }),
+        Err(_) => Err(KeepFault::Memory),
+    }
+}
+
+/// The rows of `line`. Returns `Format` if one of them is no line.
+pub(crate) fn read_lines<S: Alter>(conn: &mut Connection<S>) -> Result<Vec<Row>, KeepFault>
+    requires { conn.old.in_transaction ≡ false }
+    ensures mode { conn.new.in_transaction ≡ false }
+    ensures ok { HasCleanDisk (state S.Store conn.new)
+        → MayRead line_table (codes "line") (state S.Store conn.old)
+        → IfOk result (λ rows. IsTrue (state S.Store conn.old).is_open
+        × ReadsRows IsLine entry row_selected
+        (rows_of_line (state S.Store conn.old).now.trees) rows.items) }
+    ensures format { HasCleanDisk (state S.Store conn.new)
+        → MayRead line_table (codes "line") (state S.Store conn.old)
+        → result ≡ Err KeepFault.Format → IsTrue (state S.Store conn.old).is_open
+        × (¬ AllByRecursion IsLine (rows_of_line (state S.Store conn.old).now.trees)) }
+    ensures ours { result ≢ Err KeepFault.NotOurs }
+    ensures same { HasCleanDisk (state S.Store conn.new)
+        → IsAsBefore (state S.Store conn.old) (state S.Store conn.new) }
+    ensures survives { Survives (state S.Store conn.old) (state S.Store conn.new) (λ _. ⊥) }
+{
+    let rows = match line_rows(conn) {
+        Ok(rows) => rows,
+        Err(error) => return Err(fault_of(&error)),
+    };
+    match test_numbers(rows.as_slice()) {
+        Ok(()) => {}
+        Err(fault) => return Err(fault),
+    }
+    if !are_lines(rows.as_slice()) {
+        return Err(KeepFault::Format);
+    }
+    Ok(rows)
+}
+
+/// The rows of `head`. Returns `Format` if one of them is no head.
+pub(crate) fn read_heads<S: Alter>(conn: &mut Connection<S>) -> Result<Vec<Row>, KeepFault>
+    requires { conn.old.in_transaction ≡ false }
+    ensures mode { conn.new.in_transaction ≡ false }
+    ensures ok { HasCleanDisk (state S.Store conn.new)
+        → MayRead head_table (codes "head") (state S.Store conn.old)
+        → IfOk result (λ rows. IsTrue (state S.Store conn.old).is_open
+        × ReadsRows IsHead head_of head_selected
+        (rows_of_head (state S.Store conn.old).now.trees) rows.items) }
+    ensures format { HasCleanDisk (state S.Store conn.new)
+        → MayRead head_table (codes "head") (state S.Store conn.old)
+        → result ≡ Err KeepFault.Format → IsTrue (state S.Store conn.old).is_open
+        × (¬ AllByRecursion IsHead (rows_of_head (state S.Store conn.old).now.trees)) }
+    ensures ours { result ≢ Err KeepFault.NotOurs }
+    ensures same { HasCleanDisk (state S.Store conn.new)
+        → IsAsBefore (state S.Store conn.old) (state S.Store conn.new) }
+    ensures survives { Survives (state S.Store conn.old) (state S.Store conn.new) (λ _. ⊥) }
+{
+    let rows = match head_rows(conn) {
+        Ok(rows) => rows,
+        Err(error) => return Err(fault_of(&error)),
+    };
+    match test_numbers(rows.as_slice()) {
+        Ok(()) => {}
+        Err(fault) => return Err(fault),
+    }
+    if !are_heads(rows.as_slice()) {
+        return Err(KeepFault::Format);
+    }
+    Ok(rows)
+}
+
+/// The rows of `cell`. Returns `Format` if one of them is no cell.
+pub(crate) fn read_cells<S: Alter>(conn: &mut Connection<S>) -> Result<Vec<Row>, KeepFault>
+    requires { conn.old.in_transaction ≡ false }
+    ensures mode { conn.new.in_transaction ≡ false }
+    ensures ok { HasCleanDisk (state S.Store conn.new)
+        → MayRead cell_table (codes "cell") (state S.Store conn.old)
+        → IfOk result (λ rows. IsTrue (state S.Store conn.old).is_open
+        × ReadsRows IsCell cell_of row_selected
+        (rows_of_cell (state S.Store conn.old).now.trees) rows.items) }
+    ensures format { HasCleanDisk (state S.Store conn.new)
+        → MayRead cell_table (codes "cell") (state S.Store conn.old)
+        → result ≡ Err KeepFault.Format → IsTrue (state S.Store conn.old).is_open
+        × (¬ AllByRecursion IsCell (rows_of_cell (state S.Store conn.old).now.trees)) }
+    ensures ours { result ≢ Err KeepFault.NotOurs }
+    ensures same { HasCleanDisk (state S.Store conn.new)
+        → IsAsBefore (state S.Store conn.old) (state S.Store conn.new) }
+    ensures survives { Survives (state S.Store conn.old) (state S.Store conn.new) (λ _. ⊥) }
+{
+    let rows = match cell_rows(conn) {
+        Ok(rows) => rows,
+        Err(error) => return Err(fault_of(&error)),
+    };
+    match test_numbers(rows.as_slice()) {
+        Ok(()) => {}
+        Err(fault) => return Err(fault),
+    }
+    if !are_cells(rows.as_slice()) {
+        return Err(KeepFault::Format);
+    }
+    Ok(rows)
+}

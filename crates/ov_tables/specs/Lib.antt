@@ -1,0 +1,9 @@
+pub mod Tables
+pub mod Format
+pub mod Holding
+pub mod Inside
+pub mod WriteError
+pub mod HasText
+pub mod Querying
+pub mod Making
+pub mod Emptying
