@@ -1,4 +1,4 @@
--- A row whose values are those of a table's columns, and whose text is the body of a line, is what the line stores.
+-- A row whose values are those of a table's columns is what is stored as its text, or as its cells.
 use Rattle.std.proofs.Common.{◌≡◌, ℕ, List, [], ◌∷◌, map, zip, ◌&&◌, Bool, true, false, cond, T, Option, Some, None, option_map, option_and_then, refl, sym, ap, ◌∙◌}
 use Rattle.std.specs.Prelude.{not}
 use Rattle.std.proofs.lemmas.Bool.{and_parts}
@@ -9,7 +9,8 @@ use Rattle.serde_json.specs.Find as json
 use Rattle.serde_json.specs.Written.{compact_text}
 use Rattle.ov_specs.specs.rows.RowNames.{is_own_column}
 use Rattle.ov_specs.specs.rows.Database.{Columns}
-use Rattle.ov_specs.specs.rows.Held.{OneText, tree_stored}
+use Rattle.ov_specs.specs.rows.Cells.{Cells, cells_of}
+use Rattle.ov_specs.specs.rows.Held.{OneText, OfCells, tree_stored}
 use Rattle.ov_specs.specs.rows.RowNames.{row_names, without_own}
 use Rattle.ov_specs.specs.rows.Suits.{is_value_for, suits_column, SuitsTable}
 use Rattle.ov_specs.specs.schema.SchemaTypes.{Column, Table, name_cmp}
@@ -24,8 +25,8 @@ use Rattle.ov_rows.specs.Body.{body_of, AreOfKinds}
 use Rattle.ov_rows.specs.Named.{alone, DoAscend}
 use Rattle.ov_rows.proofs.Names.{zip-entries}
 use Rattle.ov_db.specs.Guessed.{are_values_for}
-use Rattle.ov_db.specs.Stored.{row_of_table}
-use Rattle.ov_db.proofs.ReadsBack.{row_is_stored, values_of_kinds}
+use Rattle.ov_db.specs.Stored.{AreCellsRead, row_of_table}
+use Rattle.ov_db.proofs.ReadsBack.{cells_are_stored, row_is_stored, values_of_kinds}
 use Rattle.ov_db.proofs.Same.{text-same}
 
 -- ---- the names of a table's rows ascend
@@ -123,3 +124,8 @@ module _ (table : Table) (columns : Columns) (named : keys columns ≡ row_names
     where
       holds : (name : List ℕ) (datum : Datum) → get columns name ≡ Some datum → tree_stored (OneText text) name ≡ Some (tree datum)
       holds name datum found = ap (option_and_then (json.get name)) (read (values_of_kinds table columns guessed_suit)) ∙ get-body columns name ∙ ap (option_map tree) found
+
+  -- ---- the row that the cells are
+
+  pub guessed_cells : (version : Uuid) (cells : Cells) → cells ≡ cells_of columns → AreCellsRead columns → row_of_table table (version, OfCells cells) ≡ Some (record { version = version; columns = columns })
+  guessed_cells version cells is read = ap (λ (c : Cells). row_of_table table (version, OfCells c)) is ∙ cells_are_stored table version columns guessed_suit read

@@ -12,6 +12,7 @@ pub mod HeldBy
 pub mod IndexedRow
 pub mod Putting
 pub mod CellMaps
+pub mod CellTexts
 pub mod WrittenCells
 pub mod BodyRows
 pub mod Answers

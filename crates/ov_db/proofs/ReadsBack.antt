@@ -146,14 +146,21 @@ row_is_stored table version columns body suits holds exact =
     row : Row
     row = record { version = version; columns = columns }
 
+-- a row of a table, stored as its cells, if these read back as written
+pub cells_are_stored : (table : Table) (version : Uuid) (columns : Columns) → SuitsTable table columns → AreCellsRead columns
+    → row_of_table table (version, OfCells (cells_of columns)) ≡ Some (record { version = version; columns = columns })
+cells_are_stored table version columns suits read = row_is_stored table version columns body suits holds (are_stored columns)
+  where
+    body : Body
+    body = OfCells (cells_of columns)
+
+    holds : (name : List ℕ) (datum : Datum) → get columns name ≡ Some datum → tree_stored body name ≡ Some (tree datum)
+    holds name datum is =
+        let of = values_of_kinds table columns suits name datum is in
+        ap (option_and_then tree_of) (get-cells_of columns name ∙ ap (option_map cell_body) is) ∙ (read name datum is).reads of.0 of.1
+
 -- if its cells read back as written, they read back as the row
 pub reads_back : (schema : Schema) (key : LineKey) (row : Row) → SuitsRow schema key row → AreCellsRead row.columns → row_stored schema key (row_cells row) ≡ Some row
 reads_back schema key row suits read =
-    ap (option_and_then (λ (table : Table). row_of_body table row.version body)) suits.named ∙ sym (row_of_table_is suits.table (row.version, body))
-    ∙ row_is_stored suits.table row.version row.columns body suits.columns holds (are_stored row.columns)
-  where
-    body : Body
-    body = OfCells (cells_of row.columns)
-
-    holds : (name : List ℕ) (datum : Datum) → get row.columns name ≡ Some datum → tree_stored body name ≡ Some (tree datum)
-    holds name datum is = ap (option_and_then tree_of) (get-cells_of row.columns name ∙ ap (option_map cell_body) is) ∙ read name datum is
+    ap (option_and_then (λ (table : Table). row_of_body table row.version (OfCells (cells_of row.columns)))) suits.named
+    ∙ sym (row_of_table_is suits.table (row.version, OfCells (cells_of row.columns))) ∙ cells_are_stored suits.table row.version row.columns suits.columns read

@@ -1,21 +1,14 @@
 -- Cells in a list, and cells that are written.
-use Rattle.std.proofs.Common.{◌≡◌, ℕ, ◌+◌, ◌<◌, ◌≤◌, List, [], ◌∷◌, ◌++◌, map, length, drop, get_or, Bool, true, false, cond, Some, None, sym, ap, subst, ◌∙◌, arith, append_assoc}
-use Rattle.std.specs.Prelude.{Result, Ok, Err, IfOk}
+use Rattle.std.proofs.Common.{◌≡◌, ℕ, ◌+◌, ◌<◌, ◌≤◌, List, [], ◌∷◌, ◌++◌, map, length, drop, get_or, Bool, true, false, cond, Some, None, sym, ap, subst, ◌∙◌, append_assoc}
 use Rattle.std.proofs.lemmas.List.{at_drop_more, at_drop_all, map-append}
 use Rattle.std.proofs.lemmas.Map.Text.{is_eq-slice_cmp}
 use Rattle.std.specs.FinMap.{find, from_entries, get-entries, entries}
 use Rattle.std.specs.Str.{bytes_eq}
-use Rattle.serde_json.specs.Data.{Data, depth}
-use Rattle.serde_json.specs.Read.{max_depth}
-use Rattle.serde_json.specs.Written.{compact_text}
 use Rattle.ov_specs.specs.rows.Cells.{cell_body, cells_of}
 use Rattle.ov_specs.specs.rows.Database.{Columns}
 use Rattle.ov_specs.specs.schema.SchemaTypes.{name_cmp}
 use Rattle.ov_specs.specs.values.Value.{Datum}
-use Rattle.ov_specs.specs.values.Writing.{tree}
-use Rattle.ov_specs.specs.wire.Message.{tree_of}
 use Rattle.ov_specs.proofs.laws.Names.{EachEntry, same_name}
-use Rattle.ov_specs.proofs.laws.Nesting.{body_depth}
 use Rattle.ov_keeper.specs.declared.cell_line.Cell.{Cell}
 use Rattle.ov_keeper.specs.Views.{cell_entry, cells_view}
 use Rattle.ov_db.specs.Stored.{AreCellsRead, IsCellRead}
@@ -38,17 +31,6 @@ cell_later q cells i cell h at other = at_cell q cells i cell false h at other
 
 pub no_cell : (q : List ℕ) (cells : List Cell) (i : ℕ) → length cells ≤ i → find name_cmp q (map cell_entry (drop i cells)) ≡ None
 no_cell q cells i h = at_drop_all (λ (cs : List Cell). find name_cmp q (map cell_entry cs)) cells i h
-
--- ---- a cell that is written
-
-shallow : (datum : Datum) → depth (tree datum) ≤ max_depth
-shallow datum = let whole = body_depth (([], datum) ∷ []) in omega arith
-
-pub cell_read : {E : Type 0} (datum : Datum) (d : Data) (result : Result (List ℕ) E) → d ≡ tree datum → IfOk result (λ b. b ≡ compact_text d) → (depth d ≤ max_depth → IfOk result (λ b. tree_of b ≡ Some d))
-    → IfOk result (λ b. IsCellRead datum)
-cell_read datum d (Err e) is text reads_back = tt
-cell_read datum d (Ok b) is text reads_back =
-    sym (ap tree_of (text ∙ ap compact_text is)) ∙ reads_back (subst (λ (x : Data). depth x ≤ max_depth) (sym is) (shallow datum)) ∙ ap Some is
 
 -- ---- the cells of a row, one by one
 

@@ -1,5 +1,5 @@
 -- The row that is stored under a key, and which rows read back from their cells.
-use Rattle.std.specs.Prelude.{◌≡◌, ℕ, List, [], ◌∷◌, if◌then◌else◌, Option, Some, None, option_and_then}
+use Rattle.std.specs.Prelude.{◌≡◌, ℕ, List, [], ◌∷◌, true, if◌then◌else◌, Option, Some, None, option_and_then}
 use Rattle.std.specs.FinMap.{empty, get, insert, entries}
 use Rattle.serde_json.specs.Data.{Data}
 use Rattle.serde_json.specs.Find as find
@@ -12,7 +12,7 @@ use Rattle.ov_specs.specs.rows.Suits.{Suits}
 use Rattle.ov_specs.specs.schema.SchemaTypes.{Column, Table, Schema, kinds_of}
 use Rattle.ov_specs.specs.values.Reading.{reads}
 use Rattle.ov_specs.specs.values.Uuid.{Uuid, no_names}
-use Rattle.ov_specs.specs.values.Value.{Datum}
+use Rattle.ov_specs.specs.values.Value.{Datum, Kinds, is_of}
 use Rattle.ov_specs.specs.values.Writing.{tree}
 use Rattle.ov_specs.specs.wire.Message.{tree_of}
 
@@ -41,9 +41,9 @@ pub record KeepsRows (schema : Schema) (database : Database) : Type 0 where
 
 -- ---- for private clauses
 
--- the text of the cell reads as what was written
-abbrev pub IsCellRead : Datum → Type 0
-IsCellRead datum = tree_of (cell_body datum) ≡ Some (tree datum)
+-- the text of the cell reads as what was written, if that is a value of any kinds
+pub record IsCellRead (datum : Datum) : Type 0 where
+  pub reads : (kinds : Kinds) → is_of kinds datum ≡ true → tree_of (cell_body datum) ≡ Some (tree datum)
 
 -- so do the texts of all cells of a row
 abbrev pub AreCellsRead : Columns → Type 0

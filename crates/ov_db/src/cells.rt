@@ -1,4 +1,4 @@
-ghost use Rattle.std.specs.Prelude.{◌≡◌, map, IfOk, option_copied};
+ghost use Rattle.std.specs.Prelude.{◌≡◌, [], map, IfOk, IsTrue, option_copied};
 ghost use Rattle.std.specs.Cmp.Lexicographic.{pointwise};
 ghost use Rattle.std.specs.FinMap.{get, entries};
 ghost use Rattle.ov_specs.specs.rows.Cells.{cell_body, cells_of};
@@ -7,19 +7,26 @@ ghost use Rattle.ov_keeper.specs.Views.{cell_entry, cells_view};
 ghost use Rattle.ov_db.specs.CellLists.{agree, same_body};
 ghost use Rattle.ov_db.specs.Stored.{AreCellsRead, IsCellRead};
 
-use ov_atoms::{Datum, write_datum};
-use ov_base::{Bytes, Text, Tree};
+use json::Writer;
+use ov_atoms::{Datum, put_datum};
+use ov_base::{Bytes, Text};
 use ov_keeper::Cell;
 use ov_rows::Columns;
 use std::alloc::{AllocError, Global};
 
-/// The body of a cell that stores this value. It reads back as written.
-fn cell_body(alloc: Global, datum: &Datum) -> Result<Bytes, AllocError>
+/// The room that a new body is given, in bytes. Most have fewer.
+const BODY_ROOM: usize = 32;
+
+/// The body of a cell that stores this value, in this buffer, which must be empty and grows only if it is too small. It reads
+/// back as written.
+fn body_in(buffer: Vec<u8>, datum: &Datum) -> Result<Bytes, AllocError>
+    requires { buffer.items ≡ [] }
     ensures body { IfOk result (λ body. body ≡ cell_body datum.now) }
     ensures read { IfOk result (λ body. IsCellRead datum.now) }
 {
-    let tree = Tree::new(write_datum(alloc, datum)?);
-    tree.to_bytes(alloc)
+    let mut out = Writer::new(buffer);
+    put_datum(&mut out, datum)?;
+    Ok(Bytes::from_vec(out.into_inner()))
 }
 
 /// The cells of a row with these columns, in ascending order of the columns' names. Each reads back.
@@ -31,10 +38,48 @@ pub(crate) fn cells_of(alloc: Global, columns: &Columns) -> Result<Vec<Cell>, Al
     for (name, datum) in columns.names().iter().zip(columns.values()) {
         cells.push(Cell {
             column: Text::from_str(alloc, name.as_str())?,
-            body: cell_body(alloc, datum)?,
+            body: body_in(Vec::with_capacity(alloc, BODY_ROOM)?, datum)?,
         })?;
     }
     Ok(cells)
+}
+
+/// Whether these are the cells of a row with these columns, in ascending order of the columns' names. Each cell is written once.
+pub(crate) fn are_cells_of(
+    alloc: Global,
+    columns: &Columns,
+    cells: &[Cell],
+) -> Result<bool, AllocError>
+    ensures cells { IfOk result (λ are. IsTrue are → cells_view cells.now ≡ cells_of columns.now) }
+    ensures read { IfOk result (λ are. IsTrue are → AreCellsRead columns.now) }
+{
+    let mut rest = cells;
+    for (name, datum) in columns.names().iter().zip(columns.values()) {
+        let Some((cell, others)) = rest.split_first() else {
+            return Ok(false);
+        };
+        if !is_cell_of(alloc, name.as_str(), datum, cell)? {
+            return Ok(false);
+        }
+        rest = others;
+    }
+    Ok(rest.is_empty())
+}
+
+/// Whether this is the cell of a column of this name with this value.
+fn is_cell_of(alloc: Global, name: &str, datum: &Datum, cell: &Cell) -> Result<bool, AllocError>
+    ensures cell { IfOk result (λ is. IsTrue is
+        → cell_entry cell.now ≡ (name.now, cell_body datum.now)) }
+    ensures read { IfOk result (λ is. IsTrue is → IsCellRead datum.now) }
+{
+    if name != cell.column.as_str() {
+        return Ok(false);
+    }
+    let written = body_in(
+        Vec::with_capacity(alloc, cell.body.as_slice().len())?,
+        datum,
+    )?;
+    Ok(written.as_slice() == cell.body.as_slice())
 }
 
 /// The body of the first cell of this column.

@@ -89,9 +89,10 @@ fn rows_in_cells(alloc: Global, schema: &Schema, lines: &[CellLine]) -> Result<R
         (map cells_entry lines.now) empty) result }
     ensures kept { IfOk result (KeepsRows schema.now) }
 {
+    let mut reader = BodyReader::new(alloc);
     let mut rows = Rows::new(alloc);
     for line in lines {
-        add_cells(alloc, schema, line, &mut rows)?;
+        add_cells(alloc, &mut reader, schema, line, &mut rows)?;
     }
     Ok(rows)
 }
@@ -99,6 +100,7 @@ fn rows_in_cells(alloc: Global, schema: &Schema, lines: &[CellLine]) -> Result<R
 /// Adds the row that is stored in these cells, if its key has none yet.
 fn add_cells(
     alloc: Global,
+    reader: &mut BodyReader,
     schema: &Schema,
     line: &CellLine,
     rows: &mut Rows,
@@ -113,7 +115,7 @@ fn add_cells(
     if rows.contains(&key) {
         return Ok(());
     }
-    let row = match row_of_cells(alloc, schema, line) {
+    let row = match row_of_cells(alloc, reader, schema, line) {
         Ok(row) => row,
         Err(fault) => return Err(fault),
     };

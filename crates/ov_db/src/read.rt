@@ -82,7 +82,7 @@ fn row_by_guess(
 }
 
 /// Whether these are values for the columns except those that every row has by itself, one for each and in their order.
-fn are_values_for(columns: &[(Text, Column)], values: &[Datum]) -> bool
+pub(crate) fn are_values_for(columns: &[(Text, Column)], values: &[Datum]) -> bool
     ensures { result ≡ are_values_for columns.now values.now }
 {
     let mut rest = values;
